@@ -19,7 +19,7 @@ use text_lines::count_lines;
 /// in place of each `ret`, and one before each tail jump.
 ///
 /// A text that can't be assembled is refused by its first fault; see `AsmFault`. `NoMemory` may
-/// come in place of any answer. Line numbers are of type `u32`.
+/// come in place of any answer. The text has to have fewer than `u32::MAX` lines.
 pub fn assemble(alloc: Global, text: &[u8], threshold: u32) -> Result<Vec<u8>, AsmFault>
     requires { length (lines text.now) < u32.MAX }
     ensures made { (result ≡ Err NoMemory) ⊎ (seen result ≡ assembled text.now threshold) }

@@ -17,9 +17,9 @@ use crate::totals::Totals;
 use std::alloc::{AllocError, Global};
 use text_lines::{Line, Lines};
 
-/// A line that says something.
+/// What a line says, with the line's number.
 #[derive(Clone, Copy)]
-pub(crate) struct Entry<'a> {
+pub(crate) struct NumberedStatement<'a> {
     /// Its number, from 1.
     pub(crate) line: u32,
     pub(crate) statement: Statement<'a>,
@@ -28,7 +28,7 @@ pub(crate) struct Entry<'a> {
 /// What was read of the lines so far.
 #[derive(Drop)]
 pub(crate) struct FirstPass<'a> {
-    pub(crate) entries: Vec<Entry<'a>>,
+    pub(crate) entries: Vec<NumberedStatement<'a>>,
     pub(crate) names: NameTable<'a>,
     pub(crate) totals: Totals,
 }
@@ -103,7 +103,7 @@ impl<'a> FirstPass<'a> {
     {
         let name = statement.defined_name();
         let place = self.entries.len();
-        self.entries.push(Entry { line, statement })?;
+        self.entries.push(NumberedStatement { line, statement })?;
         define_name(&mut self.names, name, place)?;
         self.totals = totals;
         Ok(())

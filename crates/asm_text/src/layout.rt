@@ -5,7 +5,7 @@ ghost use Rattle.asm_text.specs.Layout.{widths, all_parts, by_threshold, placed,
 ghost use Rattle.asm_text.specs.private.{FirstPass.{lines_in}, Views.{statement_said}};
 ghost use Rattle.asm_text.specs.private.Laying.{owner_in, placed_in};
 
-use crate::first_pass::Entry;
+use crate::first_pass::NumberedStatement;
 use crate::statement::{Choice, Statement};
 use crate::width::line_width;
 use std::alloc::{AllocError, Global};
@@ -35,7 +35,7 @@ pub(crate) struct Laid<'a> {
 }
 
 /// How many instruction lines there are before the next function.
-fn instruction_lines(entries: &[Entry]) -> usize
+fn instruction_lines(entries: &[NumberedStatement]) -> usize
     ensures { result ≡ instruction_lines (lines_in entries.now) }
 {
     let mut count = 0;
@@ -50,7 +50,7 @@ fn instruction_lines(entries: &[Entry]) -> usize
 }
 
 /// Whether a function is instrumented, by what it says and by the lines after it.
-fn is_traced(threshold: u32, choice: Choice, following: &[Entry]) -> bool
+fn is_traced(threshold: u32, choice: Choice, following: &[NumberedStatement]) -> bool
     ensures { result ≡ by_threshold threshold choice (instruction_lines (lines_in following.now)) }
 {
     match choice {
@@ -66,7 +66,7 @@ fn line_owner(
     place: u32,
     owner: Owner,
     statement: &Statement,
-    following: &[Entry],
+    following: &[NumberedStatement],
 ) -> Owner
     requires { place ≤ CODE_LIMIT }
     ensures { owner_in result ≡ owner_of (by_threshold threshold) place (owner_in owner)
@@ -90,7 +90,7 @@ fn line_owner(
 pub(crate) fn lay_out<'a>(
     alloc: Global,
     threshold: u32,
-    entries: &[Entry<'a>],
+    entries: &[NumberedStatement<'a>],
 ) -> Result<Vec<Laid<'a>>, AllocError>
     requires { widths (all_parts (by_threshold threshold) (lines_in entries.now)) ≤ CODE_LIMIT }
     ensures { IfOk result (λ laid. placed_in laid.items

@@ -19,6 +19,7 @@ impl Protocol<Buffer, View> for PoolRule {
     ghost first = { opener };
 }
 
+/// The queue of a pool, which keeps its rule.
 pub(crate) type Queue = RuledArrayQueue<Buffer, View, PoolRule>;
 
 /// The setup that a pool is opened with. The call that opens the pool chooses it.

@@ -2,7 +2,7 @@
 use Rattle.std.proofs.Common.{◌≡◌, ◌∙◌, ◌&&◌, ℕ, Bool, true, false, List, [], ◌∷◌, Option, Some, None, refl, sym, ap, arith}
 use Rattle.std.specs.Prelude.{if◌then◌else◌, option_and_then, option_map}
 use Rattle.std.specs.Str.{bytes_eq}
-use Rattle.xray_io.specs.declared.faults.Wall.{Wall}
+use Rattle.xray_io.specs.declared.wall.Wall.{Wall}
 use Rattle.command_words.specs.Files.{AreOfTheirRows, IsOfItsRow, OutputsAreOfTheRow, named_in, names_of, row_of}
 use Rattle.command_words.specs.Items.{Item, files_of, items_of}
 use Rattle.command_words.specs.Lines.{Line, is_cut, line_by, line_of, number_in, outputs_differ}

@@ -1,6 +1,6 @@
 -- The files that a command names, by its row in the table.
 use Rattle.std.specs.Prelude.{◌≡◌, ℕ, List, [], ◌∷◌, if◌then◌else◌, Option, Some, None}
-use Rattle.xray_io.specs.declared.faults.Wall.{Wall}
+use Rattle.xray_io.specs.declared.wall.Wall.{Wall}
 use Rattle.command_words.specs.Items.{files_of, items_of}
 use Rattle.command_words.specs.Lines.{outputs_in}
 use Rattle.command_words.specs.Rows.{CommandRow, FileRow, is_output, names_file}

@@ -2,7 +2,7 @@
 use Rattle.std.specs.Prelude.{ℕ, ◌&&◌, ◌+◌, ◌*◌, List, [], ◌∷◌, Bool, nat_le, if◌then◌else◌, Option, Some, None, option_and_then, option_map}
 use Rattle.std.specs.Option.{option_map_or}
 use Rattle.std.specs.Str.{bytes_eq}
-use Rattle.xray_io.specs.declared.faults.Wall.{Wall}
+use Rattle.xray_io.specs.declared.wall.Wall.{Wall}
 use Rattle.command_words.specs.Items.{items_of}
 use Rattle.command_words.specs.Limits.{trace_limit}
 use Rattle.command_words.specs.Lines.{Line, line_of, number_in, value_in}

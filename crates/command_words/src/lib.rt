@@ -5,7 +5,7 @@
 //! (`rows`). By the row of a command, `clap` cuts the words after it into file names and options
 //! (`cutting`). That gives a line (`line`): the names in order, and a value for each option that is
 //! given. The numbers, listed words, defaults and rules of options are read from the line
-//! (`run_options`, `words`).
+//! (`run_options`, `report_options`, `words`).
 //!
 //! The meaning of words is one definition: `reading` of `specs/Words.antt`. `read_words` answers
 //! exactly that. For another command, add a row to the tables and a case to `Command` and `Verb`.

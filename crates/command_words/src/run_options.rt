@@ -14,11 +14,12 @@ use xray_io::Wall;
 /// The most bytes that a trace file may have.
 pub const TRACE_LIMIT: u64 = 67_108_864;
 
-/// How many bytes of a trace file come before its buffers.
-const TRACE_HEADER: u64 = 32;
+/// How many bytes of a trace file come before its buffers: its header (`HEADER_BYTES` of `fdr_file`).
+const HEADER_BYTES: u64 = 32;
 
-/// How many bytes of a trace file come before each buffer.
-const BUFFER_HEADER: u64 = 16;
+/// How many bytes of a trace file come before each buffer: its `BufferExtents` record
+/// (`METADATA_BYTES` of `fdr_record`).
+const EXTENTS_BYTES: u64 = 16;
 
 /// The limits of a run's threads.
 #[derive(Clone, Copy, Debug, PartialEq, Eq)]
@@ -80,7 +81,7 @@ impl RunOptions {
         let max = u64::from(self.buffers.max);
         let size = u64::from(self.buffers.size);
         self.bounds.threads <= self.buffers.max
-            && max * (size + BUFFER_HEADER) + TRACE_HEADER <= TRACE_LIMIT
+            && max * (size + EXTENTS_BYTES) + HEADER_BYTES <= TRACE_LIMIT
     }
 }
 

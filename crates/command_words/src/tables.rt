@@ -20,14 +20,17 @@ pub(crate) const FUEL: OptionRow = OptionRow {
     default: Some(10_000_000),
 };
 
+/// The most that `passings` may be.
+const MOST_PASSINGS: u64 = 1_048_576;
+
 /// The most passings that a thread makes.
 pub(crate) const PASSINGS: OptionRow = OptionRow {
     name: "passings",
     values: Values::Number {
         least: 0,
-        most: 1_048_576,
+        most: MOST_PASSINGS,
     },
-    default: Some(1_048_576),
+    default: Some(MOST_PASSINGS),
 };
 
 /// The size of a buffer of events in bytes.
@@ -90,14 +93,17 @@ pub(crate) const CPUS: OptionRow = OptionRow {
     default: Some(1),
 };
 
+/// The most that `migrate` may be.
+const MOST_STAY: u64 = 1_048_576;
+
 /// How many passings a thread makes before it moves to the next CPU.
 pub(crate) const MIGRATE: OptionRow = OptionRow {
     name: "migrate",
     values: Values::Number {
         least: 1,
-        most: 1_048_576,
+        most: MOST_STAY,
     },
-    default: Some(1_048_576),
+    default: Some(MOST_STAY),
 };
 
 /// The number of the process.
@@ -174,6 +180,25 @@ pub(crate) const CONVERT_FORMAT: OptionRow = OptionRow {
     values: Values::Listed(&["yaml"]),
     default: Some(0),
 };
+
+/// The options of a plain run.
+const BOUNDS_OPTIONS: &[OptionRow] = &[THREADS, FUEL, PASSINGS];
+
+/// The options of the commands that run traced threads.
+const RUN_OPTIONS: &[OptionRow] = &[
+    THREADS,
+    FUEL,
+    PASSINGS,
+    BUFFER_SIZE,
+    BUFFER_MAX,
+    TICK,
+    TSC,
+    FREQUENCY,
+    CPUS,
+    MIGRATE,
+    PID,
+    WALL,
+];
 
 /// An image that is read.
 const IMAGE: FileRow = FileRow {
@@ -274,7 +299,7 @@ pub(crate) const ASM: CommandRow = CommandRow {
 pub(crate) const PLAIN: CommandRow = CommandRow {
     word: "plain",
     files: &[IMAGE],
-    options: &[THREADS, FUEL, PASSINGS],
+    options: BOUNDS_OPTIONS,
 };
 
 /// `extract IMAGE`: prints the sled map of an image.
@@ -289,20 +314,7 @@ pub(crate) const EXTRACT: CommandRow = CommandRow {
 pub(crate) const SIM: CommandRow = CommandRow {
     word: "sim",
     files: &[IMAGE, SCRIPT, SCHEDULE, MADE_TRACE, AUDIT],
-    options: &[
-        THREADS,
-        FUEL,
-        PASSINGS,
-        BUFFER_SIZE,
-        BUFFER_MAX,
-        TICK,
-        TSC,
-        FREQUENCY,
-        CPUS,
-        MIGRATE,
-        PID,
-        WALL,
-    ],
+    options: RUN_OPTIONS,
 };
 
 /// `run IMAGE SCRIPT TRACE AUDIT`: runs threads over an image while a script patches it, and writes the trace
@@ -310,20 +322,7 @@ pub(crate) const SIM: CommandRow = CommandRow {
 pub(crate) const RUN: CommandRow = CommandRow {
     word: "run",
     files: &[IMAGE, SCRIPT, MADE_TRACE, AUDIT],
-    options: &[
-        THREADS,
-        FUEL,
-        PASSINGS,
-        BUFFER_SIZE,
-        BUFFER_MAX,
-        TICK,
-        TSC,
-        FREQUENCY,
-        CPUS,
-        MIGRATE,
-        PID,
-        WALL,
-    ],
+    options: RUN_OPTIONS,
 };
 
 /// `soak SEED`: replays a schedule over a large image and a script, all drawn from a number, and

@@ -6,7 +6,7 @@ use Rattle.std.proofs.lemmas.List.{length-append, length-take, with_items_is}
 use Rattle.std.specs.Vec.{vec_len, with_items}
 use Rattle.std.proofs.lemmas.List.Concat.{flat_map-append}
 use Rattle.std.proofs.lemmas.List.Elements.{All-from_recursion, All-push}
-use Rattle.xray_io.specs.declared.faults.Wall.{Wall}
+use Rattle.xray_io.specs.declared.wall.Wall.{Wall}
 use Rattle.fdr_record.specs.declared.event.Event.{Event}
 use Rattle.fdr_record.specs.Records.{record_bytes}
 use Rattle.fdr_buffer.specs.declared.buffer.TheConstants.{LEAST_SIZE, LARGEST_SIZE}

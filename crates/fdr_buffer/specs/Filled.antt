@@ -1,6 +1,6 @@
 -- A buffer, as contracts see it.
 use Rattle.std.specs.Prelude.{ℕ, Bool, false, List, [], if◌then◌else◌, length, nat_lt}
-use Rattle.xray_io.specs.declared.faults.Wall.{Wall}
+use Rattle.xray_io.specs.declared.wall.Wall.{Wall}
 use Rattle.fdr_record.specs.declared.event.Event.{Event}
 use Rattle.fdr_buffer.specs.Segments.{body}
 

@@ -2,7 +2,7 @@
 
 ghost use Rattle.std.specs.Prelude.{◌≡◌, ◌≢◌, ◌≤◌, [], ◌∷◌, ◌++◌, List, ℕ, All, IsTrue, IsFalse, length};
 ghost use Rattle.std.specs.List.{flat_map};
-ghost use Rattle.xray_io.specs.declared.faults.Wall.{Wall};
+ghost use Rattle.xray_io.specs.declared.wall.Wall.{Wall};
 ghost use Rattle.fdr_record.specs.declared.event.Event.{Event};
 ghost use Rattle.fdr_buffer.specs.declared.buffer.TheConstants.{LEAST_SIZE};
 ghost use Rattle.fdr_buffer.specs.Segments.{body, has_room, segments};

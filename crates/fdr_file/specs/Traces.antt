@@ -3,7 +3,7 @@ use Rattle.std.specs.Prelude.{ℕ, zero, suc, ◌+◌, ◌/◌, ◌%◌, ◌==�
 use Rattle.std.specs.List.{filter_map, list_any}
 use Rattle.byteorder.specs.Endian.{little_number}
 use Rattle.xray_io.specs.Rows.{First, InTurn, ◌>>=◌}
-use Rattle.xray_io.specs.declared.faults.Wall.{Wall}
+use Rattle.xray_io.specs.declared.wall.Wall.{Wall}
 use Rattle.fdr_record.specs.declared.rec.Rec.{Rec}
 use Rattle.fdr_record.specs.declared.rec.Rec.TheVariants.{NewBuffer, NewCpu, TscWrap, WallTime, Pid, Extents, Function}
 use Rattle.fdr_record.specs.declared.fault.RecFault.{RecFault}

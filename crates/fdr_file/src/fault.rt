@@ -3,9 +3,12 @@
 use fdr_record::RecFault;
 use thiserror::Error;
 
-/// Why `read_trace` gives no trace. The answer is the first of the header's faults. If the header
-/// has none, it is the fault of the first place that has one. A place is the byte offset of a
-/// record, counted from the file's start.
+/// Why `read_trace` gives no trace. The answer is the first of the header's faults: `Short`,
+/// `Version`, `Form`. If the header has none, it is the fault of the first place that has one. If
+/// several apply at one place, the first of these is the answer. Where a block begins: `Short` for
+/// fewer than 16 bytes, `Bad`, `Order`, `Extents`, and `Short` for extents beyond the file's end.
+/// Within a block: `Extents`, `Bad`, `Order`, `NoBase`. A place is the byte offset of a record,
+/// counted from the file's start.
 #[derive(Clone, Copy, Debug, PartialEq, Eq, Error)]
 pub enum TraceFault {
     /// The file ends too early. If it has fewer bytes than a header, the place is 0. Otherwise a

@@ -17,15 +17,19 @@ pub const VERSION: u16 = 3;
 /// The type of files of the Flight Data Recorder mode.
 pub(crate) const FDR: u16 = 1;
 
-/// The places of a header's fields. Bytes from 24 on are reserved.
+/// The place of the version in a header.
 const VERSION_AT: usize = 0;
 
+/// The place of the file's type.
 const TYPE_AT: usize = 2;
 
+/// The place of the flags.
 const FLAGS_AT: usize = 4;
 
+/// The place of the counter's frequency.
 const FREQUENCY_AT: usize = 8;
 
+/// The place of the size of a buffer. Bytes from 24 on are reserved.
 const SIZE_AT: usize = 16;
 
 /// The flag that the counter runs at a constant frequency. Flags are bits of their number.

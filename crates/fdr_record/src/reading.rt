@@ -103,9 +103,10 @@ fn record(bytes: &[u8]) -> Result<Rec, RecFault>
     }
 }
 
-/// Reads the record at the place `at` of the bytes. Answers it and the place after it. Places are
-/// byte offsets from the start of `bytes`. Bytes after the record don't matter, nor do those of a
-/// metadata record after its fields. `RecFault` says why there is no record.
+/// Reads the record at the place `at` of the bytes, which may be their end, and not beyond it.
+/// Answers it and the place after it. Places are byte offsets from the start of `bytes`. Bytes
+/// after the record don't matter, nor do those of a metadata record after its fields. `RecFault`
+/// says why there is no record.
 pub fn take_rec(bytes: &[u8], at: usize) -> Result<(Rec, usize), RecFault>
     requires { at ≤ length bytes.now }
     // What is read stands there.

@@ -17,7 +17,7 @@ pub(crate) const MARKS_IN_BYTE: u32 = 4;
 const BITS_OF_MARK: u32 = 2;
 
 /// The bits of the first mark of a byte.
-const FIRST_MARK: u8 = 0b11;
+const MARK_MASK: u8 = 0b11;
 
 /// What the bits of a mark are multiplied by for a byte whose four marks are this one.
 const EACH_MARK: u8 = 0b0101_0101;
@@ -91,13 +91,13 @@ impl Marks {
         self.len == self.room
     }
 
-    /// The mark of this passing, counted from 0.
+    /// The mark of this passing, counted from 0. There has to be one: `n` is below `len`.
     pub fn get(&self, n: u32) -> Mark
         requires { n < length self.now.items }
         ensures { slice_get self.now.items n ≡ Some result }
     {
         let byte = self.bytes[(n / MARKS_IN_BYTE) as usize];
-        Mark::from_bits((byte >> (n % MARKS_IN_BYTE * BITS_OF_MARK)) & FIRST_MARK)
+        Mark::from_bits((byte >> (n % MARKS_IN_BYTE * BITS_OF_MARK)) & MARK_MASK)
     }
 
     /// How many marks from number `first` on are `mark`: at least 1, and perhaps not all of them. If

@@ -198,8 +198,8 @@ impl<'a> Cpu<'a> {
         self.thread
     }
 
-    /// The value of the general register of this number, numbered as in `Reg`. rsp and r10, which
-    /// no instruction names, are 0.
+    /// The value of the general register of this number, below 16, numbered as in `Reg`. rsp and
+    /// r10, which no instruction names, are 0.
     pub fn reg(&self, n: u8) -> u64
         requires { n < REGISTERS }
         ensures { result ≡ slice_index self.now.registers n }

@@ -1,4 +1,10 @@
 //! The machine: what a thread does, step by step.
+//!
+//! `steps` turns the units of an image into steps (`step`). `machine` makes one step of a thread,
+//! over its `registers`, `stack` and `output`. `running` makes a plain run, which ends with a
+//! `PlainEnd`. `cpu` is a traced thread: `stand` says where it is and runs it from one sled to the
+//! next, `stage` says what it loads in a passing, `allowed` which values it may find, and `stamp`
+//! which event comes of it. `plain_text` and `state_text` print threads that have ended.
 #![tactic(auto)]
 
 mod allowed;

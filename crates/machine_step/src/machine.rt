@@ -90,7 +90,7 @@ impl Machine {
         ensures within { IsWithin limits self.new }
     {
         match *step {
-            Step::Mov { dst, imm } => self.load(place + 1, dst, u64::from(imm)),
+            Step::Mov { dst, imm } => self.set_register(place + 1, dst, u64::from(imm)),
             Step::Add { dst, src } => {
                 let sum = self
                     .registers
@@ -173,9 +173,9 @@ impl Machine {
         Way::To(place)
     }
 
-    /// Gives a register a value.
+    /// Gives a register a value, and goes on.
     #[inline]
-    fn load(&mut self, next: usize, dst: Reg, value: u64) -> Way
+    fn set_register(&mut self, next: usize, dst: Reg, value: u64) -> Way
         requires fuel { self.old.instructions + 1 < 2 ^ 64 }
         ensures way { result ≡ (loading next dst value self.old).way }
         ensures left { self.new ≡ (loading next dst value self.old).left }
@@ -219,7 +219,7 @@ impl Machine {
     {
         match self.stack.pop() {
             None => Way::Ends(End::StackEmpty),
-            Some(value) => self.load(next, reg, value),
+            Some(value) => self.set_register(next, reg, value),
         }
     }
 

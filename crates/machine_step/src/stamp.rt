@@ -42,8 +42,9 @@ pub(crate) fn event_at(
     })
 }
 
-/// The number of the CPU on which a thread is in its passing of this number. It divides only if the
-/// thread has moved, or if there are fewer CPUs than threads.
+/// The number of the CPU on which a thread is in its passing of this number. It is the thread's
+/// number plus how often the thread has moved, modulo the number of CPUs. It divides only if the
+/// thread has moved, or if its number isn't below that of the CPUs.
 fn cpu_at(thread: u32, passing: u32, limits: Limits) -> u16
     requires stamps { (1 ≤ limits.cpus) × (1 ≤ limits.migrate) }
     ensures { result ≡ (thread + passing / limits.migrate) % limits.cpus }

@@ -20,12 +20,14 @@ use xray_image::Image;
 /// How many stores patch a sled: one for each part.
 const PATCH_STORES: u64 = PARTS as u64;
 
-/// The parts of a sled, in the order in which patching stores them.
+/// The parts of a sled, in the order in which patching stores them, the head last
+/// (`patchFunctionEntry` of `xray_x86_64.cpp`).
 const PATCH_ORDER: [Part; PARTS as usize] = [Part::Id, Part::Opcode, Part::Offset, Part::Head];
 
-/// The states that `init` and `finalize` store, in the order of their micro steps.
+/// The states that `init` stores, in the order of its micro steps.
 const INIT_STATES: [LogState; 2] = [LogState::Initializing, LogState::Initialized];
 
+/// The states that `finalize` stores, in the order of its micro steps.
 const FINALIZE_STATES: [LogState; 2] = [LogState::Finalizing, LogState::Finalized];
 
 /// A command with its place.

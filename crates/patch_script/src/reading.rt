@@ -154,9 +154,9 @@ fn read_lines(alloc: Global, text: &[u8], image: &Image, threads: u32) -> Result
     Ok(draft)
 }
 
-/// Reads a script for an image and a number of threads. If the text isn't a script, the answer is
-/// its first refusal; see `ScriptFault`. `NoMemory` may come in place of any answer. Line numbers
-/// are of type `u32`.
+/// Reads a script for an image and a number of threads, which is from 1 to 16. If the text isn't a
+/// script, the answer is its first refusal; see `ScriptFault`. `NoMemory` may come in place of any
+/// answer. The text has to have fewer than `u32::MAX` lines.
 pub fn read_script(
     alloc: Global,
     text: &[u8],

@@ -1,4 +1,4 @@
-//! The table, how it begins, and how it ends.
+//! The table: its words and its script.
 
 ghost use Rattle.std.specs.Prelude.{◌≡◌, ◌+◌, ◌*◌, ◌<◌, ◌≤◌};
 ghost use Rattle.patch_script.specs.Limits.{most_micros};

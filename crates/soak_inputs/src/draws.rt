@@ -4,9 +4,10 @@ ghost use Rattle.soak_inputs.specs.Draws.{drawn, next};
 
 use std::marker::Model;
 
-/// The multiplier of the generator, and what it adds: those of Knuth's MMIX.
+/// The multiplier of the generator: that of Knuth's MMIX.
 const MULTIPLIER: u64 = 6_364_136_223_846_793_005;
 
+/// What the generator adds: that of Knuth's MMIX.
 const INCREMENT: u64 = 1_442_695_040_888_963_407;
 
 /// How many low bits of a state are dropped. They repeat soon.

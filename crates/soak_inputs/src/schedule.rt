@@ -15,9 +15,10 @@ const LINES: u32 = 4000;
 /// Who may have turns: the patcher, and each thread.
 const PARTIES: u64 = 1 + SOAK_THREADS as u64;
 
-/// The most turns of the patcher in a line, and of a thread.
+/// The most turns of the patcher in a line.
 const STEPS: u64 = 8;
 
+/// The most turns of a thread in a line.
 const LOADS: u64 = 200;
 
 /// The schedule that is drawn next.

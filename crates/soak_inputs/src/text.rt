@@ -16,9 +16,9 @@ const LAST: u64 = SOAK_FUNCTIONS - 1;
 const REACH: u64 = 4;
 
 /// How many values a byte has.
-const BYTES: u64 = 256;
+const BYTE_VALUES: u64 = 256;
 
-/// A function has at most as many rounds.
+/// The most rounds of a function.
 const ROUNDS: u64 = 2;
 
 /// The assembler text that is drawn next.
@@ -57,7 +57,7 @@ fn add_round(text: &mut Vec<u8>, function: u64, draws: &mut Draws) -> Result<(),
     ensures after { OnOk result (draws.new ≡ after_round function draws.old) }
 {
     let callee = draw_callee(function, draws);
-    add_number(text, b"mov eax, ", draws.draw(BYTES), b"\nout 1\n")?;
+    add_number(text, b"mov eax, ", draws.draw(BYTE_VALUES), b"\nout 1\n")?;
     add_call(text, callee)
 }
 

@@ -51,7 +51,8 @@ impl ThreadCalls {
         self.calls.depth()
     }
 
-    /// Takes the thread's next event, and answers the pair that it makes. After `NoMemory` no
+    /// Takes the thread's next event, and answers the pair that it makes. `NoMemory` means that an
+    /// allocation was refused, or that there are more events than a `usize` counts. After it no
     /// clause says where the thread is.
     pub fn take(&mut self, event: &Event) -> Result<Option<Pair>, NoMemory>
         ensures pair { IfOk result (λ pair.

@@ -1,4 +1,9 @@
 //! The calls that a trace's events make: which are open, and which entry each exit belongs to.
+//!
+//! The stacks of a trace, too. `calls` takes the events of a thread, and keeps its open calls
+//! (`open_calls`, `counts`). For stacks, `scan` takes each thread's blocks (`thread_blocks`), and
+//! `thread_stack` adds each pair to the `tally` of its path. `path_sums` has the paths as a tree
+//! (`node`). `stacks_of` makes the rows, and `stack_text` prints them.
 #![tactic(auto)]
 
 mod call;

@@ -27,7 +27,8 @@ pub(crate) struct Node {
     parent: usize,
     /// The number of the first path that went on from this one, or 0.
     child: usize,
-    /// The number of another path with the same parent, or 0.
+    /// The next path with the same parent: after the first the latest one, and after any other the
+    /// one before it. 0 if there is none.
     sibling: usize,
     /// The id of the last function.
     func: u32,

@@ -70,7 +70,8 @@ impl PathSums {
         }
     }
 
-    /// The number of a step's path, if it is among the first ones that go on from its parent.
+    /// The number of a step's path, if it is among those that are looked at: the first that went on
+    /// from its parent, and the latest ones.
     fn among_first(&self, step: Step) -> Option<usize>
         ensures { IfSome result (λ n.
             HasNumber (path_by self.now.paths step) n self.now.paths self.now.paths) }

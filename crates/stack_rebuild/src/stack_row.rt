@@ -3,7 +3,6 @@
 ghost use Rattle.std.specs.Prelude.{◌≡◌};
 ghost use Rattle.stack_rebuild.specs.declared.stack_row.StackFault.TheVariants.{NoMemory};
 
-use std::alloc::{AllocError, AllocFailed};
 use thiserror::Error;
 
 /// What a trace says of a path, over all threads. Durations are in cycles.
@@ -36,22 +35,6 @@ impl From<xray_io::NoMemory> for StackFault {
     ghost from_gives = { λ _ e. e ≡ NoMemory };
 
     fn from(_error: xray_io::NoMemory) -> StackFault {
-        StackFault::NoMemory
-    }
-}
-
-impl From<AllocError> for StackFault {
-    ghost from_gives = { λ _ e. e ≡ NoMemory };
-
-    fn from(_error: AllocError) -> StackFault {
-        StackFault::NoMemory
-    }
-}
-
-impl<T: Drop> From<AllocFailed<T>> for StackFault {
-    ghost from_gives = { λ _ e. e ≡ NoMemory };
-
-    fn from(_error: AllocFailed<T>) -> StackFault {
         StackFault::NoMemory
     }
 }

@@ -1,4 +1,8 @@
 //! Schedules, and replays: a stated order of loads and stores.
+//!
+//! `schedule` reads a text, whose lines `line` reads as `turns`. `start` takes all memory of a
+//! replay. `replay` takes the turns: `thread` makes loads, and `patcher` micro steps. Events go to
+//! the buffers of `pool`, whose queue is a `ring`.
 #![tactic(auto)]
 
 mod along;

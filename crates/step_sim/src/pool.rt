@@ -14,8 +14,8 @@ use std::alloc::Global;
 use xray_io::{NoMemory, Wall};
 
 /// The buffers of all threads. Each thread has one in its hand, and the others are in a queue. A
-/// thread whose hand is full puts it at the end of the queue and takes the first one, whose segment
-/// is lost.
+/// thread whose hand is full puts it at the end of the queue and takes the first one. If that holds
+/// a segment, the segment is lost.
 #[derive(Drop)]
 pub(crate) struct Pool {
     /// The buffer that each thread fills, in the order of the threads.

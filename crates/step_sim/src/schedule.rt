@@ -40,9 +40,10 @@ impl Schedule {
     }
 }
 
-/// The schedule that a text gives to `threads` threads, numbered from 1. A line `t T K` is K turns
-/// of thread T, each of which is a load. A line `p K` is K turns of the patcher, each of which is a
-/// micro step. K is at least 1 and fits 32 bits. A line without words is skipped.
+/// The schedule that a text gives to `threads` threads, 1 to 16 of them, numbered from 1. A line `t
+/// T K` is K turns of thread T, each of which is a load. A line `p K` is K turns of the patcher,
+/// each of which is a micro step. K is at least 1 and fits 32 bits. A line without words is
+/// skipped.
 ///
 /// A text that isn't a schedule is refused by its first fault; see `ScheduleFault`. `NoMemory` may
 /// come in place of any answer.

@@ -162,9 +162,10 @@ fn instr(bytes: &[u8]) -> Result<(Instr, &[u8]), DecodeFault>
     }
 }
 
-/// Reads the instruction at the place `at` of the bytes. Answers it and the place after it. Places
-/// are byte offsets from the start of `bytes`. What follows the instruction doesn't matter. The
-/// fault is that of the shortest prefix of the bytes from `at` on that decides; see `DecodeFault`.
+/// Reads the instruction at the place `at` of the bytes, which may be their end, and not beyond it.
+/// Answers it and the place after it. Places are byte offsets from the start of `bytes`. What
+/// follows the instruction doesn't matter. The fault is that of the shortest prefix of the bytes
+/// from `at` on that decides; see `DecodeFault`.
 pub fn decode(bytes: &[u8], at: usize) -> Result<(Instr, usize), DecodeFault>
     requires { at ≤ length bytes.now }
     // What is read stands there.

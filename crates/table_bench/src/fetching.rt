@@ -7,6 +7,7 @@ ghost use Rattle.table_bench.specs.private.Fetchers.{IsFresh};
 
 use sled_patch::run_script;
 use sled_rule::{CodeTable, PatchSeat, WorkSeat};
+use sled_words::MAX_THREADS;
 use std::alloc::{AllocError, Global};
 use std::sync::Wait;
 use std::thread::{self, Threads};
@@ -90,15 +91,12 @@ fn fetch_all<R: Threads + Sync>(rt: &R, table: &CodeTable, fetchers: &mut [Fetch
     thread::for_each_mut(
         rt,
         fetchers,
-        MOST_AT_ONCE,
+        MAX_THREADS as usize,
         &|_, fetcher| {
             fetch_rounds(table, fetcher, rounds);
         },
     );
 }
-
-/// As many as there may be threads.
-const MOST_AT_ONCE: usize = 16;
 
 /// Fetches all words again and again, and counts each round as a passing.
 fn fetch_rounds(table: &CodeTable, fetcher: &mut Fetcher, rounds: u32)

@@ -2,9 +2,9 @@
 ghost use Rattle.std.specs.Prelude.{◌≡◌, ◌≤◌};
 ghost use Rattle.text_lines.specs.Numbers.{numeral, number_of};
 
-/// The number that `word` writes in digits of a radix. Leading zeros are allowed. Letters of either
-/// case are the digits above nine. The answer is `None` if the word is empty, if a byte isn't a
-/// digit (a sign, for example), or if the number is above `u64::MAX`.
+/// The number that `word` writes in digits of a radix from 2 to 36. Leading zeros are allowed.
+/// Letters of either case are the digits above nine. The answer is `None` if the word is empty, if
+/// a byte isn't a digit (a sign, for example), or if the number is above `u64::MAX`.
 #[tactic(auto, using(crate::proofs::NumberLemmas::numeral_from_zero, crate::proofs::NumberLemmas::numeral_step))]
 pub fn parse_digits(radix: u32, word: &[u8]) -> Option<u64>
     requires two { 2 ≤ radix }

@@ -4,7 +4,7 @@ use Rattle.std.specs.Prelude.{All, IsTrue, slice_get}
 use Rattle.std.specs.List.{AllByRecursion, enumerate_from, flat_map}
 use Rattle.std.proofs.lemmas.List.Concat.{flat_map-cons}
 use Rattle.std.proofs.lemmas.List.Elements.{All-append, All-drop, All-from_recursion, All-map, All-nil, recursion_from_All}
-use Rattle.xray_io.specs.declared.faults.Wall.{Wall}
+use Rattle.xray_io.specs.declared.wall.Wall.{Wall}
 use Rattle.xray_image.specs.Program.{IsAccepted, Program}
 use Rattle.handler_word.specs.declared.mark.Mark.{Mark}
 use Rattle.fdr_record.specs.declared.event.Event.{Event}

@@ -1,7 +1,7 @@
 -- The segments of a run's events, and the buffers of those that are left.
 use Rattle.std.specs.Prelude.{ℕ, List, length, drop, map, true}
 use Rattle.std.specs.List.{enumerate_from, flat_map}
-use Rattle.xray_io.specs.declared.faults.Wall.{Wall}
+use Rattle.xray_io.specs.declared.wall.Wall.{Wall}
 use Rattle.fdr_record.specs.declared.event.Event.{Event}
 use Rattle.fdr_buffer.specs.Filled.{Filled}
 use Rattle.fdr_buffer.specs.Segments.{segments}

@@ -4,18 +4,20 @@
 use std::process::ExitCode;
 use std::time::{SystemTime, UNIX_EPOCH};
 use std::{env, io};
-use xray_io::{ErrSink, FileDesk, OpenGate, OutSink, Wall, write_all};
-use xray_program::{may_wait, xray, xray_still};
+use xray_io::{ErrSink, FileDesk, OpenGate, OutSink, Wall};
+use xray_program::{may_wait, out_of_memory, xray, xray_still};
 
 /// Does what the words of the command line say, over files and the standard streams, and ends with
 /// the status. Only a command that may wait is given leave to wait.
 ///
 /// Words that aren't UTF-8 say no command. If memory for the words is refused, the report is that
-/// of `xray` for want of memory.
+/// of a call for whose words there is no memory.
 fn main(rt: HostRuntime) -> ExitCode {
     let words = match words_after_name(&rt) {
         Ok(words) => words,
-        Err(error) if error.kind() == io::ErrorKind::OutOfMemory => return out_of_memory(&rt),
+        Err(error) if error.kind() == io::ErrorKind::OutOfMemory => {
+            return ExitCode::from(out_of_memory(&mut ErrSink::new(rt.stderr())));
+        }
         Err(_) => Vec::new(rt.alloc()),
     };
     let (alloc, wall) = (rt.alloc(), wall_time(&rt));
@@ -38,15 +40,6 @@ fn words_after_name(rt: &HostRuntime) -> io::Result<Vec<String>> {
     let words = env::args(rt)?.skip(1).collect(rt.alloc())?;
     Ok(words)
 }
-
-/// Reports that memory ran out. If err fails, nothing is reported.
-fn out_of_memory(rt: &HostRuntime) -> ExitCode {
-    let _ = write_all(&mut ErrSink::new(rt.stderr()), b"xray: out of memory\n");
-    ExitCode::from(OUT_OF_MEMORY)
-}
-
-/// The status if memory runs out.
-const OUT_OF_MEMORY: u8 = 5;
 
 /// The time of the clock. It is 1970-01-01 00:00:00 UTC if there is no clock, or if the clock is set
 /// before that.

@@ -3,7 +3,7 @@
 use subset_decode::DecodeFault;
 use thiserror::Error;
 
-/// Which field of the header is out of range.
+/// Which field of the header is out of range. If several are, the first in this order is named.
 #[derive(Clone, Copy, Debug, PartialEq, Eq)]
 pub enum Which {
     /// The code is longer than 1,048,576 bytes.
@@ -19,7 +19,8 @@ pub enum Which {
 }
 
 /// Why `read_image` gives no image. If several of these apply, the first in this order is the
-/// answer.
+/// answer, with one exception: in a file of 64 bytes or more, `Magic`, `Version` and `Limit` come
+/// before `Short`, since the header's counts say how long the file has to be.
 #[derive(Clone, Copy, Debug, PartialEq, Eq, Error)]
 pub enum ImageFault {
     /// The file has fewer than 64 bytes, or ends before the parts that its counts announce.

@@ -102,7 +102,8 @@ impl Image {
         self.units.len() as u32
     }
 
-    /// The unit of this number, counted from 0 in ascending address.
+    /// The unit of this number, counted from 0 in ascending address. There has to be one: `i` is below
+    /// `unit_count`.
     pub fn unit(&self, i: u32) -> Unit
         requires { i < length self.now.units }
         ensures { slice_get self.now.units i ≡ Some result }
@@ -127,7 +128,8 @@ impl Image {
         self.sleds.len() as u32
     }
 
-    /// The sled of this number, counted from 0 in ascending address.
+    /// The sled of this number, counted from 0 in ascending address. There has to be one: `k` is below
+    /// `sled_count`.
     pub fn sled(&self, k: u32) -> Sled
         requires { k < length self.now.sleds }
         ensures { slice_get self.now.sleds k ≡ Some result }

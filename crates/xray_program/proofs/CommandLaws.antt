@@ -3,7 +3,7 @@
 use Rattle.std.proofs.Common.{◌≡◌, ◌∙◌, ℕ, List, ◌∷◌, map, Option, Some, None, true, arith, codes, refl, sym}
 use Rattle.command_words.specs.Files.{AreOfTheirRows, inputs_in, names_of, row_of}
 use Rattle.xray_io.specs.Desk.{Entry}
-use Rattle.xray_io.specs.declared.faults.Wall.{Wall}
+use Rattle.xray_io.specs.declared.wall.Wall.{Wall}
 use Rattle.xray_program.specs.Commands.{Comes, IsDecided, IsStill, Means, TellsAll, inputs_of, is_decided}
 use Rattle.xray_program.specs.Outcomes.{Outcome, BadLine, written_by}
 use Rattle.xray_program.specs.Setups.{setup_of}

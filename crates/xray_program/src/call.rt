@@ -3,7 +3,7 @@ ghost use Rattle.std.specs.Prelude.{◌≡◌, ◌↔◌, IfErr, IfOk, IsFalse, 
 ghost use Rattle.command_words.specs.{Items.{texts}, Ranges.{HasRanges}, Views.{command_view}};
 ghost use Rattle.command_words.specs.Words.{reading};
 ghost use Rattle.xray_io.specs.World.{desk_view, sink_view};
-ghost use Rattle.xray_program.specs.{Answers.{Answered, Says}, Commands.{IsStill, is_report}};
+ghost use Rattle.xray_program.specs.{Answers.{Answered, Says}, Commands.{IsStill, is_report}, Outcomes.{NoMemory, line_at}};
 ghost use Rattle.xray_program.specs.private.CallLaws.{CallLaws};
 ghost use Rattle.xray_program.specs.private.Stops.{answer_of, told_of, IsUnsaid};
 ghost use Rattle.xray_program.specs.private.Works.{Ends, FitsTraces, IsOther, SaidFits};
@@ -33,8 +33,8 @@ use trace_flush::{a_run_is_traced, a_trace_is_short};
 use traced_run::a_whole_run_executes_to_its_end;
 use xray_io::{Desk, Gate, Sink, Wall};
 
-/// Does what `words` say, with the files of `desk`. `words` don't hold the program's own name.
-/// Answers the program's status.
+/// Does what `words` say, with the files of `desk`. `words` don't hold the program's own name, and
+/// don't say a `run`: `may_wait` answers `false` for them. Answers the program's status.
 ///
 /// Status 0: all is done. 1: the words say no command. 2: an input is refused. 3: an input can't be
 /// read. 4: an output of the command, or `out`, failed. 5: memory ran out. 6: an input has more
@@ -42,7 +42,7 @@ use xray_io::{Desk, Gate, Sink, Wall};
 ///
 /// On 1 to 7 a line on `err` says so. Outputs and `out` are written only on 0, 4 and 7. On 4
 /// everything before what failed is whole, and nothing after it is touched. No other name of the
-/// desk changes. The call waits for nobody.
+/// desk changes. The call waits for nobody, and always returns.
 pub fn xray_still<D: Desk, O: Sink, E: Sink>(
     alloc: Global,
     words: &[String],
@@ -103,6 +103,15 @@ pub fn may_wait(words: &[String]) -> bool
         Some((word, _)) => word.as_str() == "run",
         None => false,
     }
+}
+
+/// Answers a call for whose words there is no memory: its status, 5. A line on `err` says so.
+pub fn out_of_memory<E: Sink>(err: &mut E) -> u8
+    ensures status { result ≡ 5 }
+    ensures says { let heard = sink_view E.written E.faults in
+        Says (heard err.old) (heard err.new) (line_at NoMemory) }
+{
+    answer(Err(Stop::NoMemory), err)
 }
 
 /// A law. No thread of a replay decodes a torn sled, and none of a run does. So each thread that
@@ -166,10 +175,8 @@ fn perform_any_words<'a, T: Threads + Wait + Sync, D: Desk, O: Sink, G: Gate + S
         (D.along desk.old desk.new) (answer_of result) (told_of result) }
     ensures fits { OnOk result (SaidFits (reading wall (texts words.now))) }
 {
-    match command_said(alloc, wall, words) {
-        Ok(command) => perform_any(rt, alloc, command, desk, out, gate),
-        Err(stop) => Err(stop),
-    }
+    let command = command_said(alloc, wall, words)?;
+    perform_any(rt, alloc, command, desk, out, gate)
 }
 
 /// Does what any command says.
@@ -229,10 +236,8 @@ fn perform_words<'a, D: Desk, O: Sink>(
         (D.along desk.old desk.new) (answer_of result) (told_of result) }
     ensures fits { OnOk result (SaidFits (reading wall (texts words.now))) }
 {
-    match command_said(alloc, wall, words) {
-        Ok(command) => perform_command(alloc, command, desk, out),
-        Err(stop) => Err(stop),
-    }
+    let command = command_said(alloc, wall, words)?;
+    perform_command(alloc, command, desk, out)
 }
 
 /// Does what a command says that waits for nobody.

@@ -40,5 +40,5 @@ mod summary;
 mod traced;
 mod work;
 
-pub use call::{may_wait, xray, xray_still};
+pub use call::{may_wait, out_of_memory, xray, xray_still};
 pub use laws::{inputs_follow_the_rows, one_meaning, refusal_is_the_only_meaning, some_meaning};

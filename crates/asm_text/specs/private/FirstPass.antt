@@ -9,9 +9,9 @@ use Rattle.asm_text.specs.declared.totals.Standing.{Standing}
 use Rattle.asm_text.specs.declared.totals.Standing.TheVariants.{Outside, Bare}
 use Rattle.asm_text.specs.declared.totals.Totals.{Totals}
 use Rattle.asm_text.specs.declared.name_table.NameTable.{NameTable}
-use Rattle.asm_text.specs.declared.first_pass.Entry.{Entry}
+use Rattle.asm_text.specs.declared.first_pass.NumberedStatement.{NumberedStatement}
 use Rattle.asm_text.specs.declared.first_pass.FirstPass.{FirstPass}
-use Rattle.asm_text.specs.Statements.{Statement, Base, Entry as EntryLine, Func, Label, Does}
+use Rattle.asm_text.specs.Statements.{Statement, Base, Entry, Func, Label, Does}
 use Rattle.asm_text.specs.Layout.{Lines, unless_never, is_function, is_instruction, base_in, entry_in_line, defines, widths, sleds_of, parts_of, all_parts, owner_of}
 use Rattle.asm_text.specs.private.NameTables.{line_named}
 use Rattle.asm_text.specs.Refusals.{has_function, is_bare, exceeds_limits, repeats}
@@ -69,10 +69,10 @@ pub record IsWithin (t : Totals) : Type 0 where
   pub sleds : t.sleds ≤ most_sleds
 
 -- the lines of the entries
-abbrev pub line_in : Entry → ℕ × Statement
+abbrev pub line_in : NumberedStatement → ℕ × Statement
 line_in entry = (entry.line, statement_said entry.statement)
 
-abbrev pub lines_in : List Entry → Lines
+abbrev pub lines_in : List NumberedStatement → Lines
 lines_in entries = map line_in entries
 
 -- the line that defines a name, counted from 0
@@ -93,7 +93,7 @@ pub record IsFirstPass (pass : FirstPass) : Type 0 where
 -- the name that a statement defines, if it defines one
 abbrev pub name_defined : Statement → Option (List ℕ)
 name_defined (Base address) = None
-name_defined (EntryLine name) = None
+name_defined (Entry name) = None
 name_defined (Func name choice) = Some name
 name_defined (Label name) = Some name
 name_defined (Does operation) = None

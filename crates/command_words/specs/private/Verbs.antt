@@ -1,7 +1,7 @@
 -- What a command does, as its first word says.
 use Rattle.std.specs.Prelude.{ℕ, List, Option, Some, None, if◌then◌else◌}
 use Rattle.std.specs.Str.{bytes_eq}
-use Rattle.xray_io.specs.declared.faults.Wall.{Wall}
+use Rattle.xray_io.specs.declared.wall.Wall.{Wall}
 use Rattle.command_words.specs.Lines.{Line}
 use Rattle.command_words.specs.Rows.{CommandRow}
 use Rattle.command_words.specs.Tables.{account_row, asm_row, convert_row, extract_row, plain_row, run_row, sim_row}

@@ -1,7 +1,8 @@
 use Rattle.std.proofs.Common.{[], refl}
-use Rattle.xray_program.proofs.Endings.{unsaid}
+use Rattle.xray_program.proofs.Endings.{unsaid_on}
 use Rattle.xray_program.proofs.call.perform_any_words.Goals as goal
 
-pub returns-in-Err-clause-ends : goal.returns-in-Err-clause-ends
-returns-in-Err-clause-ends g c =
-    unsaid _ _ _ c.in-Err.stop c.in-Err.ensures.stops (record { calls = []; way = g.met.D.Desk.along_none c.args.desk.now; are = refl })
+pub returns-in_err-command-clause-ends : goal.returns-in_err-command-clause-ends
+returns-in_err-command-clause-ends g c =
+    unsaid_on _ _ _ c.from_residual.result _ c.from_residual.ensures.1 c.in_err-command.ensures.stops
+    (record { calls = []; way = g.met.D.Desk.along_none c.args.desk.now; are = refl })
