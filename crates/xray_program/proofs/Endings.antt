@@ -282,5 +282,5 @@ unsaid said desk out (stops.Unwritten name) is none = absurd is
 -- so the stop that a `?` passes on
 pub unsaid_on : {X : Type 0} (said : Option Command) (desk : DeskView) (out : SinkView) {Way : List Call → Type 0} (result : Result X Stop) (stop : Stop)
     → IsErrAnd result (λ s. s ≡ stop) → IsUnsaid said stop → Went Way IsNoCall → Ends said desk desk out out Way (answer_of result) (told_of result)
-unsaid_on said desk out {Way = Way} (Ok value) stop is no none = absurd is
-unsaid_on said desk out {Way = Way} (Err s) stop is no none = unsaid said desk out s (rw is no) none
+unsaid_on said desk out {Way = Way} (Ok value) stop is why none = absurd is
+unsaid_on said desk out {Way = Way} (Err s) stop is why none = unsaid said desk out s (rw is why) none
