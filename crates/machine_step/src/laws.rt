@@ -46,9 +46,10 @@ pub fn one_state_before_a_passing()
 {}
 
 /// Let code change in a way that keeps sleds whole. However the loads of a thread fall between the
-/// changes, each value that it has loaded is allowed, and so is the next one. Each of its passings
-/// decodes its sled whole. This holds for the loads of a replay and for those of running threads.
-/// Nothing is asked of the thread, of the sleds that it passes, or of the bounds.
+/// changes, each load is of the word that the thread wanted next, each value that it has loaded is
+/// allowed, and so is the value of its next load. Each of its passings that has its mark decodes
+/// its sled whole. This holds for the loads of a replay and for those of running threads. Nothing
+/// is asked of the thread, of the sleds that it passes, or of the bounds.
 pub fn what_follows_is_allowed()
     ensures wanted { (program : Program) (code : ℕ → ℕ → ℕ) (start : ℕ) (bound : ℕ → ℕ) (thread : ℕ) (hold : Option ℕ)
         (sleds : List ℕ) (loads : List Load) (place : ℕ)

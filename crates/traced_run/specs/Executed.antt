@@ -53,7 +53,7 @@ to_trampoline trampolines sled s = pos (trampoline_of trampolines sled.kind) -�
 -- return returns, and needs fuel. The move of the sled's id to r10 comes before a call of its trampoline or a jump to it.
 -- A trampoline gives the id to the handler, keeps all registers, the zero flag and the stack, and returns to the address
 -- on top of the stack: after a call to the address after the sled, and after a jump to the caller of the function. With
--- all other bytes there is no step: a torn sled, one that has another id, and one that goes elsewhere.
+-- all other bytes there is no step: those of a sled that is patched in part, with another id, or with another target.
 pub data SledStep (trampolines : Trampolines) (limits : Limits) (sled : Sled) (s : State) (bytes : List ℕ) : Next → Type 0 where
   jumps : bytes ≡ 0xEB ∷ 0x09 ∷ [] → SledStep trampolines limits sled s bytes (Goes (past 11 s))
   returned : (second : ℕ) → bytes ≡ 0xC3 ∷ second ∷ [] → SledStep trampolines limits sled s bytes (fuelled limits s (returns s s.stack))

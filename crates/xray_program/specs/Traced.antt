@@ -43,8 +43,8 @@ pub record Traces (Lawful : List ThreadRun → Type 0) (program : Program) (setu
 -- is read for it and for the number of threads. There are runs of the threads, and loads of each thread by its number,
 -- which are lawful, such that:
 -- - each thread goes as its plain run does;
--- - each load of a thread is of the word that it wanted next, by its loads no passing decodes a torn sled, and its marks are
---   those of its loads;
+-- - each load of a thread is of the word that it wanted next, by its loads no passing decodes a torn sled, and its marks
+--   are those of its loads;
 -- - a thread that executes the code, each sled with the bytes that it loaded there, always comes to the same end as the
 --   plain run, with the same registers except r10, zero flag, stack, output and counts;
 -- - each thread that has segments of events keeps its last one; if there are more other segments than spare buffers,
