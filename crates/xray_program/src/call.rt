@@ -34,7 +34,7 @@ use traced_run::a_whole_run_executes_to_its_end;
 use xray_io::{Desk, Gate, Sink, Wall};
 
 /// Does what `words` say, with the files of `desk`. `words` don't hold the program's own name, and
-/// don't say a `run`: `may_wait` answers `false` for them. Answers the program's status.
+/// don't say a `run`. If `may_wait` answers `false`, they say none. Answers the program's status.
 ///
 /// Status 0: all is done. 1: the words say no command. 2: an input is refused. 3: an input can't be
 /// read. 4: an output of the command, or `out`, failed. 5: memory ran out. 6: an input has more
