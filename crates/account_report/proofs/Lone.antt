@@ -17,7 +17,7 @@ use Rattle.fdr_record.specs.declared.event.Kind.TheVariants.{Entry, Exit, TailEx
 use Rattle.stack_rebuild.specs.declared.call.Call.{Call}
 use Rattle.stack_rebuild.specs.declared.call.Pair.{Pair}
 use Rattle.stack_rebuild.specs.Calls.{from_innermost, open_calls, pair_at, pair_at_kind, pair_of_call, pairs_in, pairs_of}
-use Rattle.stack_rebuild.specs.Histories.{Logged, of_thread}
+use Rattle.stack_rebuild.specs.Histories.{Logged, history_of_thread}
 use Rattle.stack_rebuild.specs.PairLaws.{IsWholeCall, event_at, no_event}
 use Rattle.account_report.specs.Account.{count_placed, durations_of, enters, is_entry_in_pair, is_entry_of, is_exit_in_pair, is_exit_of, leaves, lone_entries, lone_exits}
 use Rattle.account_report.specs.private.Tallies.{durations_in}
@@ -210,28 +210,28 @@ exit_past (e ∷ es) i past =
 -- ---- the events of all threads
 
 -- one more event, of this thread or of another one, before the part of a thread
-own_part : (thread : ℕ) (l : Logged) (h : List Logged) → nat_eq l.thread thread ≡ true → of_thread thread (l ∷ h) ≡ l.event ∷ of_thread thread h
-own_part thread l h is = ap (λ (b : Bool). cond b (l.event ∷ of_thread thread h) (of_thread thread h)) is
+own_part : (thread : ℕ) (l : Logged) (h : List Logged) → nat_eq l.thread thread ≡ true → history_of_thread thread (l ∷ h) ≡ l.event ∷ history_of_thread thread h
+own_part thread l h is = ap (λ (b : Bool). cond b (l.event ∷ history_of_thread thread h) (history_of_thread thread h)) is
 
-other_part : (thread : ℕ) (l : Logged) (h : List Logged) → nat_eq l.thread thread ≡ false → of_thread thread (l ∷ h) ≡ of_thread thread h
-other_part thread l h is = ap (λ (b : Bool). cond b (l.event ∷ of_thread thread h) (of_thread thread h)) is
+other_part : (thread : ℕ) (l : Logged) (h : List Logged) → nat_eq l.thread thread ≡ false → history_of_thread thread (l ∷ h) ≡ history_of_thread thread h
+other_part thread l h is = ap (λ (b : Bool). cond b (l.event ∷ history_of_thread thread h) (history_of_thread thread h)) is
 
-part_grows : (thread : ℕ) (l : Logged) (h : List Logged) → length (of_thread thread h) ≤ length (of_thread thread (l ∷ h))
+part_grows : (thread : ℕ) (l : Logged) (h : List Logged) → length (history_of_thread thread h) ≤ length (history_of_thread thread (l ∷ h))
 part_grows thread l h = by_first (nat_eq l.thread thread)
   where
-    by_first : (b : Bool) → length (of_thread thread h) ≤ length (cond b (l.event ∷ of_thread thread h) (of_thread thread h))
+    by_first : (b : Bool) → length (history_of_thread thread h) ≤ length (cond b (l.event ∷ history_of_thread thread h) (history_of_thread thread h))
     by_first true = omega arith
     by_first false = omega arith
 
-part_grows_own : (l : Logged) (h : List Logged) → length (of_thread l.thread (l ∷ h)) ≡ suc (length (of_thread l.thread h))
+part_grows_own : (l : Logged) (h : List Logged) → length (history_of_thread l.thread (l ∷ h)) ≡ suc (length (history_of_thread l.thread h))
 part_grows_own l h = ap (λ (es : List Event). length es) (own_part l.thread l h (eq-eqb l.thread l.thread refl))
 
 -- tests that agree on the events of a history count the same
-agree : (s t : Logged → ℕ → Bool) (h : List Logged) → ((l : Logged) (i : ℕ) → i < length (of_thread l.thread h) → s l i ≡ t l i)
+agree : (s t : Logged → ℕ → Bool) (h : List Logged) → ((l : Logged) (i : ℕ) → i < length (history_of_thread l.thread h) → s l i ≡ t l i)
     → count_placed s h ≡ count_placed t h
 agree s t [] same = refl
 agree s t (l ∷ h) same =
-    let i = length (of_thread l.thread h) in
+    let i = length (history_of_thread l.thread h) in
     let first : s l i ≡ t l i = same l i (omega (arith, part_grows_own l h)) in
     let rest : count_placed s h ≡ count_placed t h = agree s t h (λ x j below. same x j (omega (arith, below, part_grows x.thread l h))) in
     ap (λ (b : Bool). cond b 1 0 + count_placed s h) first ∙ ap (λ (n : ℕ). cond (t l i) 1 0 + n) rest
@@ -253,18 +253,18 @@ or_true false = refl
 
 -- if one more position is taken, one entry fewer is free, provided that it is an entry of the function
 one_taken : (func thread k : ℕ) (old new : ℕ → ℕ → Bool) → ((t i : ℕ) → new t i ≡ (old t i || (nat_eq t thread && nat_eq k i)))
-    → old thread k ≡ false → (h : List Logged) → k < length (of_thread thread h)
-    → count_placed (free_entry func new) h + cond (entry_at func (of_thread thread h) k) 1 0 ≡ count_placed (free_entry func old) h
+    → old thread k ≡ false → (h : List Logged) → k < length (history_of_thread thread h)
+    → count_placed (free_entry func new) h + cond (entry_at func (history_of_thread thread h) k) 1 0 ≡ count_placed (free_entry func old) h
 one_taken func thread k old new more was [] within = absurd (omega arith)
 one_taken func thread k old new more was (l ∷ h) within = by_thread (nat_eq l.thread thread) refl (one_taken func thread k old new more was h)
   where
     i : ℕ
-    i = length (of_thread l.thread h)
+    i = length (history_of_thread l.thread h)
 
     Before : Type 0
     Before =
-        k < length (of_thread thread h)
-        → count_placed (free_entry func new) h + cond (entry_at func (of_thread thread h) k) 1 0 ≡ count_placed (free_entry func old) h
+        k < length (history_of_thread thread h)
+        → count_placed (free_entry func new) h + cond (entry_at func (history_of_thread thread h) k) 1 0 ≡ count_placed (free_entry func old) h
 
     -- any other position is taken as before
     as_before : (t j : ℕ) → (nat_eq t thread && nat_eq k j) ≡ false → new t j ≡ old t j
@@ -274,24 +274,24 @@ one_taken func thread k old new more was (l ∷ h) within = by_thread (nat_eq l.
     same_head is = ap {B = ℕ} (λ (b : Bool). cond (is_entry_of func l && not b) 1 0) (as_before l.thread i is)
 
     other : nat_eq l.thread thread ≡ false → Before
-        → count_placed (free_entry func new) (l ∷ h) + cond (entry_at func (of_thread thread (l ∷ h)) k) 1 0 ≡ count_placed (free_entry func old) (l ∷ h)
+        → count_placed (free_entry func new) (l ∷ h) + cond (entry_at func (history_of_thread thread (l ∷ h)) k) 1 0 ≡ count_placed (free_entry func old) (l ∷ h)
     other is following =
         let part = other_part thread l h is in
-        let inside : k < length (of_thread thread h) = subst (λ (es : List Event). k < length es) part within in
-        let at : cond (entry_at func (of_thread thread (l ∷ h)) k) 1 0 ≡ cond (entry_at func (of_thread thread h) k) 1 0 =
+        let inside : k < length (history_of_thread thread h) = subst (λ (es : List Event). k < length es) part within in
+        let at : cond (entry_at func (history_of_thread thread (l ∷ h)) k) 1 0 ≡ cond (entry_at func (history_of_thread thread h) k) 1 0 =
         ap {B = ℕ} (λ (es : List Event). cond (entry_at func es k) 1 0) part in
         omega (arith, same_head (ap (λ (b : Bool). b && nat_eq k i) is), following inside, at)
 
-    later : nat_eq l.thread thread ≡ true → nat_eq i k ≡ false → i ≡ length (of_thread thread h) → Before
-        → count_placed (free_entry func new) (l ∷ h) + cond (entry_at func (of_thread thread (l ∷ h)) k) 1 0 ≡ count_placed (free_entry func old) (l ∷ h)
+    later : nat_eq l.thread thread ≡ true → nat_eq i k ≡ false → i ≡ length (history_of_thread thread h) → Before
+        → count_placed (free_entry func new) (l ∷ h) + cond (entry_at func (history_of_thread thread (l ∷ h)) k) 1 0 ≡ count_placed (free_entry func old) (l ∷ h)
     later is not_here size following =
         let part = own_part thread l h is in
-        let under : k < suc (length (of_thread thread h)) = subst (λ (es : List Event). k < length es) part within in
-        let not_it : nat_eq (length (of_thread thread h)) k ≡ false = ap (λ (n : ℕ). nat_eq n k) (sym size) ∙ not_here in
-        let inside : k < length (of_thread thread h) = grind (arith, nat_tests) in
-        let at : cond (entry_at func (of_thread thread (l ∷ h)) k) 1 0 ≡ cond (entry_at func (of_thread thread h) k) 1 0 =
+        let under : k < suc (length (history_of_thread thread h)) = subst (λ (es : List Event). k < length es) part within in
+        let not_it : nat_eq (length (history_of_thread thread h)) k ≡ false = ap (λ (n : ℕ). nat_eq n k) (sym size) ∙ not_here in
+        let inside : k < length (history_of_thread thread h) = grind (arith, nat_tests) in
+        let at : cond (entry_at func (history_of_thread thread (l ∷ h)) k) 1 0 ≡ cond (entry_at func (history_of_thread thread h) k) 1 0 =
         ap {B = ℕ} (λ (es : List Event). cond (entry_at func es k) 1 0) part
-        ∙ ap {B = ℕ} (λ (b : Bool). cond (cond b (nat_eq l.event.func func && enters l.event.kind) (entry_at func (of_thread thread h) k)) 1 0) not_it in
+        ∙ ap {B = ℕ} (λ (b : Bool). cond (cond b (nat_eq l.event.func func && enters l.event.kind) (entry_at func (history_of_thread thread h) k)) 1 0) not_it in
         let flip : nat_eq k i ≡ false = grind (arith, nat_tests) in
         omega (
           arith,
@@ -300,14 +300,14 @@ one_taken func thread k old new more was (l ∷ h) within = by_thread (nat_eq l.
           at,
         )
 
-    here : nat_eq l.thread thread ≡ true → nat_eq i k ≡ true → i ≡ length (of_thread thread h)
-        → count_placed (free_entry func new) (l ∷ h) + cond (entry_at func (of_thread thread (l ∷ h)) k) 1 0 ≡ count_placed (free_entry func old) (l ∷ h)
+    here : nat_eq l.thread thread ≡ true → nat_eq i k ≡ true → i ≡ length (history_of_thread thread h)
+        → count_placed (free_entry func new) (l ∷ h) + cond (entry_at func (history_of_thread thread (l ∷ h)) k) 1 0 ≡ count_placed (free_entry func old) (l ∷ h)
     here is it size =
         let same_thread : l.thread ≡ thread = eqb-true l.thread thread is in
         let same_place : i ≡ k = eqb-true i k it in
-        let at : cond (entry_at func (of_thread thread (l ∷ h)) k) 1 0 ≡ cond (is_entry_of func l) 1 0 =
+        let at : cond (entry_at func (history_of_thread thread (l ∷ h)) k) 1 0 ≡ cond (is_entry_of func l) 1 0 =
         ap {B = ℕ} (λ (es : List Event). cond (entry_at func es k) 1 0) (own_part thread l h is)
-        ∙ ap {B = ℕ} (λ (b : Bool). cond (cond b (nat_eq l.event.func func && enters l.event.kind) (entry_at func (of_thread thread h) k)) 1 0)
+        ∙ ap {B = ℕ} (λ (b : Bool). cond (cond b (nat_eq l.event.func func && enters l.event.kind) (entry_at func (history_of_thread thread h) k)) 1 0)
         (ap (λ (n : ℕ). nat_eq n k) (sym size) ∙ it) in
         let taken : new l.thread i ≡ true =
         more l.thread i ∙ (ap (λ (b : Bool). old l.thread i || (b && nat_eq k i)) is ∙ (ap (λ (b : Bool). old l.thread i || b) (eq-eqb k i (sym same_place)) ∙ or_true (old l.thread i))) in
@@ -325,22 +325,22 @@ one_taken func thread k old new more was (l ∷ h) within = by_thread (nat_eq l.
         and_true true = refl
         and_true false = refl
 
-        elsewhere : (x : Logged) (j : ℕ) → j < length (of_thread x.thread h) → (b : Bool) → nat_eq x.thread thread ≡ b → i ≡ length (of_thread thread h) → i ≡ k
+        elsewhere : (x : Logged) (j : ℕ) → j < length (history_of_thread x.thread h) → (b : Bool) → nat_eq x.thread thread ≡ b → i ≡ length (history_of_thread thread h) → i ≡ k
             → (nat_eq x.thread thread && nat_eq k j) ≡ false
         elsewhere x j below true e size place =
             let same : x.thread ≡ thread = eqb-true x.thread thread e in
-            let short : j < length (of_thread thread h) = subst (λ (t : ℕ). j < length (of_thread t h)) same below in
+            let short : j < length (history_of_thread thread h) = subst (λ (t : ℕ). j < length (history_of_thread t h)) same below in
             ap (λ (b : Bool). nat_eq x.thread thread && b) (apart_too j k (omega (arith, short, size, place))) ∙ and_none (nat_eq x.thread thread)
         elsewhere x j below false e size place = ap (λ (b : Bool). b && nat_eq k j) e
 
-    by_place : nat_eq l.thread thread ≡ true → i ≡ length (of_thread thread h) → (b : Bool) → nat_eq i k ≡ b → Before
-        → count_placed (free_entry func new) (l ∷ h) + cond (entry_at func (of_thread thread (l ∷ h)) k) 1 0 ≡ count_placed (free_entry func old) (l ∷ h)
+    by_place : nat_eq l.thread thread ≡ true → i ≡ length (history_of_thread thread h) → (b : Bool) → nat_eq i k ≡ b → Before
+        → count_placed (free_entry func new) (l ∷ h) + cond (entry_at func (history_of_thread thread (l ∷ h)) k) 1 0 ≡ count_placed (free_entry func old) (l ∷ h)
     by_place is size true e following = here is e size
     by_place is size false e following = later is e size following
 
     by_thread : (b : Bool) → nat_eq l.thread thread ≡ b → Before
-        → count_placed (free_entry func new) (l ∷ h) + cond (entry_at func (of_thread thread (l ∷ h)) k) 1 0 ≡ count_placed (free_entry func old) (l ∷ h)
-    by_thread true is following = by_place is (ap (λ (t : ℕ). length (of_thread t h)) (eqb-true l.thread thread is)) (nat_eq i k) refl following
+        → count_placed (free_entry func new) (l ∷ h) + cond (entry_at func (history_of_thread thread (l ∷ h)) k) 1 0 ≡ count_placed (free_entry func old) (l ∷ h)
+    by_thread true is following = by_place is (ap (λ (t : ℕ). length (history_of_thread t h)) (eqb-true l.thread thread is)) (nat_eq i k) refl following
     by_thread false is following = other is following
 
 -- ---- what is left
@@ -353,10 +353,10 @@ entry_in_pair l h pair some t i = by_thread (nat_eq l.thread t) refl
     by_thread : (b : Bool) → nat_eq l.thread t ≡ b → is_entry_in_pair (l ∷ h) t i ≡ (is_entry_in_pair h t i || (nat_eq t l.thread && nat_eq pair.entry i))
     by_thread true is =
         let same : l.thread ≡ t = eqb-true l.thread t is in
-        let made_so : pair_at l.event (length (of_thread t h)) (open_calls (of_thread t h)) ≡ Some pair =
-        ap (λ (u : ℕ). pair_at l.event (length (of_thread u h)) (open_calls (of_thread u h))) (sym same) ∙ some in
+        let made_so : pair_at l.event (length (history_of_thread t h)) (open_calls (history_of_thread t h)) ≡ Some pair =
+        ap (λ (u : ℕ). pair_at l.event (length (history_of_thread u h)) (open_calls (history_of_thread u h))) (sym same) ∙ some in
         ap (λ (es : List Event). has_entry (pairs_in es) i) (own_part t l h is)
-        ∙ (paired l.event (of_thread t h) i pair made_so
+        ∙ (paired l.event (history_of_thread t h) i pair made_so
         ∙ ap (λ (b : Bool). is_entry_in_pair h t i || (b && nat_eq pair.entry i)) (sym (eq-eqb t l.thread (sym same))))
     by_thread false is =
         let differs : nat_eq t l.thread ≡ false = flip (nat_eq t l.thread) refl in
@@ -377,9 +377,9 @@ no_entry_more l h none t i = by_thread (nat_eq l.thread t) refl
     by_thread : (b : Bool) → nat_eq l.thread t ≡ b → is_entry_in_pair (l ∷ h) t i ≡ is_entry_in_pair h t i
     by_thread true is =
         let same : l.thread ≡ t = eqb-true l.thread t is in
-        let none_so : pair_at l.event (length (of_thread t h)) (open_calls (of_thread t h)) ≡ None =
-        ap (λ (u : ℕ). pair_at l.event (length (of_thread u h)) (open_calls (of_thread u h))) (sym same) ∙ none in
-        ap (λ (es : List Event). has_entry (pairs_in es) i) (own_part t l h is) ∙ unpaired l.event (of_thread t h) i none_so
+        let none_so : pair_at l.event (length (history_of_thread t h)) (open_calls (history_of_thread t h)) ≡ None =
+        ap (λ (u : ℕ). pair_at l.event (length (history_of_thread u h)) (open_calls (history_of_thread u h))) (sym same) ∙ none in
+        ap (λ (es : List Event). has_entry (pairs_in es) i) (own_part t l h is) ∙ unpaired l.event (history_of_thread t h) i none_so
     by_thread false is = ap (λ (es : List Event). has_entry (pairs_in es) i) (other_part t l h is)
 
 length_cond : (b : Bool) (n : ℕ) → length (cond b (n ∷ []) (let none : List ℕ = [] in none)) ≡ cond b 1 0
@@ -413,7 +413,7 @@ each_entry laws func [] = refl
 each_entry laws func (l ∷ h) = by_pair (pair_after l h) refl (each_entry laws func h)
   where
     own : List Event
-    own = of_thread l.thread h
+    own = history_of_thread l.thread h
 
     old : ℕ → ℕ → Bool
     old = is_entry_in_pair h
@@ -456,11 +456,11 @@ abbrev free_exit : ℕ → (ℕ → ℕ → Bool) → Logged → ℕ → Bool
 free_exit func taken l i = is_exit_of func l && not (taken l.thread i)
 
 -- earlier positions are in a pair if they were before
-exit_before : (l : Logged) (h : List Logged) (t i : ℕ) → i < length (of_thread t h) → is_exit_in_pair (l ∷ h) t i ≡ is_exit_in_pair h t i
+exit_before : (l : Logged) (h : List Logged) (t i : ℕ) → i < length (history_of_thread t h) → is_exit_in_pair (l ∷ h) t i ≡ is_exit_in_pair h t i
 exit_before l h t i below = by_thread (nat_eq l.thread t) refl
   where
     own : List Event
-    own = of_thread t h
+    own = history_of_thread t h
 
     p_new : Option Pair
     p_new = pair_at l.event (length own) (open_calls own)
@@ -480,9 +480,9 @@ exit_before l h t i below = by_thread (nat_eq l.thread t) refl
 
 -- the event's own position is in a pair if it makes one
 exit_here : (l : Logged) (h : List Logged)
-    → is_exit_in_pair (l ∷ h) l.thread (length (of_thread l.thread h)) ≡ has_exit (option_to_list (pair_after l h)) (length (of_thread l.thread h))
+    → is_exit_in_pair (l ∷ h) l.thread (length (history_of_thread l.thread h)) ≡ has_exit (option_to_list (pair_after l h)) (length (history_of_thread l.thread h))
 exit_here l h =
-    let own = of_thread l.thread h in
+    let own = history_of_thread l.thread h in
     ap (λ (es : List Event). has_exit (pairs_in es) (length own)) (own_part l.thread l h (eq-eqb l.thread l.thread refl))
     ∙ (list_any-append (λ pair. nat_eq pair.exit (length own)) (pairs_in own) (option_to_list (pair_after l h))
     ∙ ap (λ (b : Bool). b || has_exit (option_to_list (pair_after l h)) (length own)) (exit_past own (length own) (omega arith)))
@@ -493,7 +493,7 @@ each_exit func [] = refl
 each_exit func (l ∷ h) = by_pair (pair_after l h) refl (each_exit func h)
   where
     own : List Event
-    own = of_thread l.thread h
+    own = history_of_thread l.thread h
 
     new : ℕ → ℕ → Bool
     new = is_exit_in_pair (l ∷ h)

@@ -18,7 +18,7 @@ use Rattle.stack_rebuild.specs.Histories.{Logged}
 use Rattle.stack_rebuild.proofs.Ascents.{is_each_once, strict-each_once}
 use Rattle.stack_rebuild.proofs.Items.{IsIn, any-in, any-mapped, in-any, in_permutation, mapped-any}
 use Rattle.account_report.specs.declared.row.AccountRow.{AccountRow}
-use Rattle.account_report.specs.Account.{durations_of, functions_in, is_entry_of, is_exit_of, lone_entries, lone_exits, row_from, row_of}
+use Rattle.account_report.specs.Account.{durations_of, functions_in, is_entry_of, is_exit_of, lone_entries, lone_exits, row_from, function_row}
 use Rattle.account_report.specs.Ascending.{ascending}
 use Rattle.account_report.specs.private.Tallies.{Tallied, has_event, row_of_entry, tally_of}
 use Rattle.account_report.proofs.Lone.{Laws, each_entry, each_exit}
@@ -31,7 +31,7 @@ abbrev event_func : Logged → ℕ
 event_func l = l.event.func
 
 -- the row of an entry
-entry_told : Laws → (history : List Logged) (func : ℕ) (tally : Tallied) → tally ≡ tally_of history func → row_of_entry (func, tally) ≡ row_of history func
+entry_told : Laws → (history : List Logged) (func : ℕ) (tally : Tallied) → tally ≡ tally_of history func → row_of_entry (func, tally) ≡ function_row history func
 entry_told laws history func tally told =
     let durations = ascending (durations_of func history) in
     let many = length-ascending (durations_of func history) in
@@ -54,13 +54,13 @@ found_after k v e es distinct found = by_first (nat_eq k e.0) refl
     by_first false is = found
 
 pub entries_told : Laws → (history : List Logged) (es : Entries) → IsDistinct nat_eq (keys_of es)
-    → ((k : ℕ) (v : Tallied) → lookup (nat_eq k) es ≡ Some v → v ≡ tally_of history k) → map row_of_entry es ≡ map (row_of history) (keys_of es)
+    → ((k : ℕ) (v : Tallied) → lookup (nat_eq k) es ≡ Some v → v ≡ tally_of history k) → map row_of_entry es ≡ map (function_row history) (keys_of es)
 entries_told laws history [] distinct told = refl
 entries_told laws history ((func, tally) ∷ es) distinct told =
-    let first : row_of_entry (func, tally) ≡ row_of history func = entry_told laws history func tally (told func tally (found_here func tally es)) in
-    let following : map row_of_entry es ≡ map (row_of history) (keys_of es) =
+    let first : row_of_entry (func, tally) ≡ function_row history func = entry_told laws history func tally (told func tally (found_here func tally es)) in
+    let following : map row_of_entry es ≡ map (function_row history) (keys_of es) =
     entries_told laws history es (IsDistinct-tail nat_eq func (keys_of es) distinct) (λ k v found. told k v (found_after k v (func, tally) es distinct found)) in
-    ap (λ (row : AccountRow). row ∷ map row_of_entry es) first ∙ ap (λ (rows : List AccountRow). row_of history func ∷ rows) following
+    ap (λ (row : AccountRow). row ∷ map row_of_entry es) first ∙ ap (λ (rows : List AccountRow). function_row history func ∷ rows) following
 
 -- the functions of a table
 found_key : (k : ℕ) (es : Entries) → is_some (lookup (nat_eq k) es) ≡ true → IsIn k (keys_of es)
@@ -81,18 +81,18 @@ flipped a b = by_first (nat_eq a b) refl (nat_eq b a) refl
     by_first false is true also = let e : nat_eq a b ≡ true = eq-eqb a b (sym (eqb-true b a also)) in cc
 
 -- if each row is that of its function, the rows are those of their functions
-rows_of_functions : (history : List Logged) (rows : List AccountRow) → All (λ (r : AccountRow). r ≡ row_of history r.func) rows
-    → rows ≡ map (row_of history) (map (λ (r : AccountRow). r.func) rows)
+rows_of_functions : (history : List Logged) (rows : List AccountRow) → All (λ (r : AccountRow). r ≡ function_row history r.func) rows
+    → rows ≡ map (function_row history) (map (λ (r : AccountRow). r.func) rows)
 rows_of_functions history [] all = refl
 rows_of_functions history (r ∷ rows) all =
-    ap (λ (x : AccountRow). x ∷ rows) (All-head (λ (x : AccountRow). x ≡ row_of history x.func) r rows all)
-    ∙ ap (λ (xs : List AccountRow). row_of history r.func ∷ xs) (rows_of_functions history rows (All-tail (λ (x : AccountRow). x ≡ row_of history x.func) r rows all))
+    ap (λ (x : AccountRow). x ∷ rows) (All-head (λ (x : AccountRow). x ≡ function_row history x.func) r rows all)
+    ∙ ap (λ (xs : List AccountRow). function_row history r.func ∷ xs) (rows_of_functions history rows (All-tail (λ (x : AccountRow). x ≡ function_row history x.func) r rows all))
 
-each_its_own : (history : List Logged) (funcs : List ℕ) → All (λ (r : AccountRow). r ≡ row_of history r.func) (map (row_of history) funcs)
-each_its_own history [] = All-nil (λ (r : AccountRow). r ≡ row_of history r.func)
-each_its_own history (f ∷ funcs) = All-cons (λ (r : AccountRow). r ≡ row_of history r.func) (row_of history f) (map (row_of history) funcs) refl (each_its_own history funcs)
+each_its_own : (history : List Logged) (funcs : List ℕ) → All (λ (r : AccountRow). r ≡ function_row history r.func) (map (function_row history) funcs)
+each_its_own history [] = All-nil (λ (r : AccountRow). r ≡ function_row history r.func)
+each_its_own history (f ∷ funcs) = All-cons (λ (r : AccountRow). r ≡ function_row history r.func) (function_row history f) (map (function_row history) funcs) refl (each_its_own history funcs)
 
-functions_again : (history : List Logged) (funcs : List ℕ) → map (λ (r : AccountRow). r.func) (map (row_of history) funcs) ≡ funcs
+functions_again : (history : List Logged) (funcs : List ℕ) → map (λ (r : AccountRow). r.func) (map (function_row history) funcs) ≡ funcs
 functions_again history [] = refl
 functions_again history (f ∷ funcs) = ap (λ (fs : List ℕ). f ∷ fs) (functions_again history funcs)
 
@@ -101,12 +101,12 @@ pub rows_sorted : Laws → (history : List Logged) (es : Entries) (rows : List A
     → ((k : ℕ) (v : Tallied) → lookup (nat_eq k) es ≡ Some v → v ≡ tally_of history k)
     → ((k : ℕ) → is_some (lookup (nat_eq k) es) ≡ has_event history k)
     → IsPermutation (map row_of_entry es) rows → IsNonDecreasingBy (λ (r : AccountRow). r.func) rows
-    → rows ≡ map (row_of history) (functions_in history)
+    → rows ≡ map (function_row history) (functions_in history)
 rows_sorted laws history es rows distinct told present same up =
     let func : AccountRow → ℕ = λ r. r.func in
-    let listed : IsPermutation (map (row_of history) (keys_of es)) rows =
+    let listed : IsPermutation (map (function_row history) (keys_of es)) rows =
     subst (λ (rs : List AccountRow). IsPermutation rs rows) (entries_told laws history es distinct told) same in
-    let own = All-permutation (λ (r : AccountRow). r ≡ row_of history r.func) _ rows listed (each_its_own history (keys_of es)) in
+    let own = All-permutation (λ (r : AccountRow). r ≡ function_row history r.func) _ rows listed (each_its_own history (keys_of es)) in
     let keys : IsPermutation (keys_of es) (map func rows) =
     subst (λ (fs : List ℕ). IsPermutation fs (map func rows)) (functions_again history (keys_of es)) (IsPermutation-map func _ rows listed) in
     let funcs : map func rows ≡ functions_in history =
@@ -114,9 +114,9 @@ rows_sorted laws history es rows distinct told present same up =
     (strict_from_rising (map func rows) (rises_from_sorted func rows up) (IsDistinct-IsPermutation nat_eq flipped (keys_of es) (map func rows) keys distinct))
     (λ z is. any-mapped event_func history z (sym (present z) ∙ key_found z es (in_permutation (map func rows) (keys_of es) (IsPermutation-sym (keys_of es) (map func rows) keys) z is)))
     (λ z is. in_permutation (keys_of es) (map func rows) keys z (found_key z es (present z ∙ mapped-any event_func history z is))) in
-    rows_of_functions history rows own ∙ ap (map (row_of history)) funcs
+    rows_of_functions history rows own ∙ ap (map (function_row history)) funcs
 
 -- no function has two rows
-pub own_rows : (history : List Logged) → IsDistinct nat_eq (map (λ (r : AccountRow). r.func) (map (row_of history) (functions_in history)))
+pub own_rows : (history : List Logged) → IsDistinct nat_eq (map (λ (r : AccountRow). r.func) (map (function_row history) (functions_in history)))
 own_rows history =
     subst (IsDistinct nat_eq) (sym (functions_again history (functions_in history))) (distinct_from_strict (functions_in history) (strict-each_once nat_cmp nat_cmp_total (map event_func history)))

@@ -7,33 +7,33 @@ use Rattle.std.proofs.lemmas.Bool.{eqb-true, eq-eqb}
 use Rattle.fdr_record.specs.declared.event.Event.{Event}
 use Rattle.fdr_file.specs.declared.trace.Block.{Block}
 use Rattle.stack_rebuild.specs.Calls.{Standing, standing_after}
-use Rattle.stack_rebuild.specs.Histories.{Logged, all_events, logged, of_thread}
+use Rattle.stack_rebuild.specs.Histories.{Logged, all_events, logged, history_of_thread}
 use Rattle.account_report.specs.private.Tallies.{AreStanding, Table, going_on, standing_in}
 
-of_thread-append : (thread : ℕ) (ls later : List Logged) → of_thread thread (ls ++ later) ≡ of_thread thread ls ++ of_thread thread later
+of_thread-append : (thread : ℕ) (ls later : List Logged) → history_of_thread thread (ls ++ later) ≡ history_of_thread thread ls ++ history_of_thread thread later
 of_thread-append thread [] later = refl
 of_thread-append thread (l ∷ ls) later = by_thread (nat_eq l.thread thread) (of_thread-append thread ls later)
   where
-    by_thread : (b : Bool) → of_thread thread (ls ++ later) ≡ of_thread thread ls ++ of_thread thread later
-        → cond b (l.event ∷ of_thread thread (ls ++ later)) (of_thread thread (ls ++ later))
-        ≡ cond b (l.event ∷ of_thread thread ls) (of_thread thread ls) ++ of_thread thread later
+    by_thread : (b : Bool) → history_of_thread thread (ls ++ later) ≡ history_of_thread thread ls ++ history_of_thread thread later
+        → cond b (l.event ∷ history_of_thread thread (ls ++ later)) (history_of_thread thread (ls ++ later))
+        ≡ cond b (l.event ∷ history_of_thread thread ls) (history_of_thread thread ls) ++ history_of_thread thread later
     by_thread true following = ap (λ (es : List Event). l.event ∷ es) following
     by_thread false following = following
 
 -- events of one thread aren't events of another
-none_of_other : (thread other : ℕ) (events : List Event) → nat_eq thread other ≡ false → of_thread other (reverse (map (logged thread) events)) ≡ []
+none_of_other : (thread other : ℕ) (events : List Event) → nat_eq thread other ≡ false → history_of_thread other (reverse (map (logged thread) events)) ≡ []
 none_of_other thread other [] apart = refl
 none_of_other thread other (e ∷ events) apart =
-    ap (of_thread other) (reverse-append (logged thread e ∷ []) (map (logged thread) events))
+    ap (history_of_thread other) (reverse-append (logged thread e ∷ []) (map (logged thread) events))
     ∙ (of_thread-append other (reverse (map (logged thread) events)) (logged thread e ∷ [])
-    ∙ (ap (λ (es : List Event). es ++ of_thread other (logged thread e ∷ [])) (none_of_other thread other events apart)
+    ∙ (ap (λ (es : List Event). es ++ history_of_thread other (logged thread e ∷ [])) (none_of_other thread other events apart)
     ∙ ap (λ b. cond b (e ∷ []) (let none : List Event = [] in none)) apart))
 
 of_thread-other : (thread other : ℕ) (events : List Event) (h : List Logged) → nat_eq thread other ≡ false
-    → of_thread other (going_on thread events h) ≡ of_thread other h
+    → history_of_thread other (going_on thread events h) ≡ history_of_thread other h
 of_thread-other thread other events h apart =
     of_thread-append other (reverse (map (logged thread) events)) h
-    ∙ ap (λ (es : List Event). es ++ of_thread other h) (none_of_other thread other events apart)
+    ∙ ap (λ (es : List Event). es ++ history_of_thread other h) (none_of_other thread other events apart)
 
 different : (thread other : ℕ) → nat_eq thread other ≡ false → thread ≡ other → ⊥
 different thread other apart same = let is : nat_eq thread other ≡ true = eq-eqb thread other same in cc
@@ -42,13 +42,13 @@ different thread other apart same = let is : nat_eq thread other ≡ true = eq-e
 pub stands_after : (thread : ℕ) (events : List Event) (h : List Logged) (threads rest following : Table Standing) (calls : Standing)
     → AreStanding threads h → ((other : ℕ) → (thread ≡ other → ⊥) → standing_in rest other ≡ standing_in threads other)
     → ((other : ℕ) → get nat_eq following other ≡ cond (nat_eq thread other) (Some calls) (get nat_eq rest other))
-    → calls ≡ standing_after (of_thread thread (going_on thread events h)) → AreStanding following (going_on thread events h)
+    → calls ≡ standing_after (history_of_thread thread (going_on thread events h)) → AreStanding following (going_on thread events h)
 stands_after thread events h threads rest following calls stand others put stands = record { each = λ other. each other (nat_eq thread other) refl }
   where
-    each : (other : ℕ) (b : Bool) → nat_eq thread other ≡ b → standing_in following other ≡ standing_after (of_thread other (going_on thread events h))
+    each : (other : ℕ) (b : Bool) → nat_eq thread other ≡ b → standing_in following other ≡ standing_after (history_of_thread other (going_on thread events h))
     each other true is =
         ap (λ (o : Option Standing). unwrap_or o (standing_after [])) (put other ∙ ap (λ b. cond b (Some calls) (get nat_eq rest other)) is)
-        ∙ (stands ∙ ap (λ t. standing_after (of_thread t (going_on thread events h))) (eqb-true thread other is))
+        ∙ (stands ∙ ap (λ t. standing_after (history_of_thread t (going_on thread events h))) (eqb-true thread other is))
     each other false is =
         ap (λ (o : Option Standing). unwrap_or o (standing_after [])) (put other ∙ ap (λ b. cond b (Some calls) (get nat_eq rest other)) is)
         ∙ (others other (different thread other is)

@@ -13,13 +13,13 @@ use Rattle.fdr_record.specs.declared.event.Kind.TheVariants.{Entry, Exit, TailEx
 use Rattle.stack_rebuild.specs.declared.call.Call.{Call}
 use Rattle.stack_rebuild.specs.declared.call.Pair.{Pair}
 use Rattle.stack_rebuild.specs.Calls.{Standing, from_innermost, open_calls, pair_at, pair_at_kind, pair_of_call, standing_after, next_standing}
-use Rattle.stack_rebuild.specs.Histories.{Logged, logged, of_thread, all_pairs}
+use Rattle.stack_rebuild.specs.Histories.{Logged, logged, history_of_thread, all_pairs}
 use Rattle.account_report.specs.Account.{durations_of, enters, leaves, is_entry_of, is_exit_of}
 use Rattle.account_report.specs.private.Tallies.{Reached, Table, Tallied, durations_in, going_on, tally_in, tally_of, with_event}
 
 -- the pair that an event makes after a history
 abbrev pub pair_after : Logged → List Logged → Option Pair
-pair_after l before = let own = of_thread l.thread before in pair_at l.event (length own) (open_calls own)
+pair_after l before = let own = history_of_thread l.thread before in pair_at l.event (length own) (open_calls own)
 
 -- a pair is of the function of its event
 abbrev is_pair_of : ℕ → Pair → Bool
@@ -49,7 +49,7 @@ pub durations_of-cons : (func : ℕ) (l : Logged) (h : List Logged)
 durations_of-cons func l h =
     let made = option_to_list (pair_after l h) in
     let duration : Pair → ℕ = λ pair. pair.duration in
-    let own = of_thread l.thread h in
+    let own = history_of_thread l.thread h in
     ap (map duration) (filter-append (is_pair_of func) (all_pairs h) made)
     ∙ (map-append duration (filter (is_pair_of func) (all_pairs h)) (filter (is_pair_of func) made)
     ∙ ap (λ (ds : List ℕ). durations_of func h ++ ds)
@@ -78,8 +78,8 @@ tally_of-cons l h func =
     (sum_by-cons (λ x. cond (is_entry_of func x) 1 0) l h) (sum_by-cons (λ x. cond (is_exit_of func x) 1 0) l h)
 
 -- an event of the thread is added to its part of a history, and one of another thread isn't
-pub of_thread-own : (thread : ℕ) (e : Event) (h : List Logged) → of_thread thread (logged thread e ∷ h) ≡ e ∷ of_thread thread h
-of_thread-own thread e h = ap (λ b. cond b (e ∷ of_thread thread h) (of_thread thread h)) (eq-eqb thread thread refl)
+pub of_thread-own : (thread : ℕ) (e : Event) (h : List Logged) → history_of_thread thread (logged thread e ∷ h) ≡ e ∷ history_of_thread thread h
+of_thread-own thread e h = ap (λ b. cond b (e ∷ history_of_thread thread h) (history_of_thread thread h)) (eq-eqb thread thread refl)
 
 -- a history that goes on with events goes on with one more
 going_on-more : (thread : ℕ) (events : List Event) (i : ℕ) (d : Event) (h : List Logged) → i < length events

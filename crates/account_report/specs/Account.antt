@@ -7,7 +7,7 @@ use Rattle.fdr_record.specs.declared.event.Kind.TheVariants.{Entry, Exit, TailEx
 use Rattle.fdr_file.specs.declared.trace.Trace.{Trace}
 use Rattle.stack_rebuild.specs.Ascending.{each_once}
 use Rattle.stack_rebuild.specs.Calls.{pairs_in}
-use Rattle.stack_rebuild.specs.Histories.{Logged, history_of, of_thread, all_pairs}
+use Rattle.stack_rebuild.specs.Histories.{Logged, history_of, history_of_thread, all_pairs}
 use Rattle.account_report.specs.declared.row.AccountRow.{AccountRow}
 use Rattle.account_report.specs.Ascending.{ascending}
 
@@ -35,16 +35,16 @@ durations_of func history = map (λ pair. pair.duration) (filter (λ pair. pair.
 
 -- whether the event of a thread at a position is the entry of one of the thread's pairs
 abbrev pub is_entry_in_pair : List Logged → (thread position : ℕ) → Bool
-is_entry_in_pair history thread position = list_any (λ pair. pair.entry == position) (pairs_in (of_thread thread history))
+is_entry_in_pair history thread position = list_any (λ pair. pair.entry == position) (pairs_in (history_of_thread thread history))
 
 -- whether it is the exit of one of these pairs
 abbrev pub is_exit_in_pair : List Logged → (thread position : ℕ) → Bool
-is_exit_in_pair history thread position = list_any (λ pair. pair.exit == position) (pairs_in (of_thread thread history))
+is_exit_in_pair history thread position = list_any (λ pair. pair.exit == position) (pairs_in (history_of_thread thread history))
 
 -- how many events of a history pass a test, which looks at the event and at its position among the events of its thread
 abbrev pub count_placed : (Logged → ℕ → Bool) → List Logged → ℕ
 count_placed test [] = 0
-count_placed test (l ∷ before) = (if test l (length (of_thread l.thread before)) then 1 else 0) + count_placed test before
+count_placed test (l ∷ before) = (if test l (length (history_of_thread l.thread before)) then 1 else 0) + count_placed test before
 
 -- how many entries of a function aren't in a pair
 abbrev pub lone_entries : List Logged → ℕ → ℕ
@@ -72,8 +72,8 @@ row_from func durations entries exits = let n = length durations in record {
   exits = exits;
 }
 
-abbrev pub row_of : List Logged → ℕ → AccountRow
-row_of history func = row_from func (ascending (durations_of func history)) (lone_entries history func) (lone_exits history func)
+abbrev pub function_row : List Logged → ℕ → AccountRow
+function_row history func = row_from func (ascending (durations_of func history)) (lone_entries history func) (lone_exits history func)
 
 -- the functions that have an event, in ascending order
 abbrev pub functions_in : List Logged → List ℕ
@@ -81,4 +81,4 @@ functions_in history = each_once nat_cmp (map (λ l. l.event.func) history)
 
 -- a row for each function that has an event, in ascending order
 abbrev pub account_of : Trace → List AccountRow
-account_of trace = map (row_of (history_of trace)) (functions_in (history_of trace))
+account_of trace = map (function_row (history_of trace)) (functions_in (history_of trace))

@@ -20,8 +20,8 @@ abbrev pub duration_word : AccountRow → ℕ → List ℕ
 duration_word row n = if row.count == 0 then codes "-" else decimal n
 
 -- the ten words of a row
-abbrev pub words_of : AccountRow → List (List ℕ)
-words_of row =
+abbrev pub column_words : AccountRow → List (List ℕ)
+column_words row =
     decimal row.func ∷ decimal row.count
     ∷ duration_word row row.min ∷ duration_word row row.med ∷ duration_word row row.p90 ∷ duration_word row row.p99
     ∷ duration_word row row.max ∷ duration_word row row.sum
@@ -34,9 +34,9 @@ head_words =
     ∷ codes "entries" ∷ codes "exits" ∷ []
 
 -- a word in its column: at the right end of ten places, or whole if it is longer; csv has no columns
-abbrev pub placed : AccountFormat → List ℕ → List ℕ
-placed Text word = replicate (10 - length word) 32 ++ word
-placed Csv word = word
+abbrev pub in_column : AccountFormat → List ℕ → List ℕ
+in_column Text word = replicate (10 - length word) 32 ++ word
+in_column Csv word = word
 
 -- the text between columns
 abbrev pub separator_text : AccountFormat → List ℕ
@@ -44,15 +44,15 @@ separator_text Text = codes " "
 separator_text Csv = codes ","
 
 abbrev pub column_text : AccountFormat → List ℕ → List ℕ
-column_text format word = placed format word ++ separator_text format
+column_text format word = in_column format word ++ separator_text format
 
 -- a line of ten words and a name
 abbrev pub line_text : AccountFormat → List (List ℕ) → List ℕ → List ℕ
 line_text format words name = flat_map (column_text format) words ++ name ++ codes "\n"
 
 -- the line of a row, with the name of its function in a program
-abbrev pub row_text : AccountFormat → Option Program → AccountRow → List ℕ
-row_text format program row = line_text format (words_of row) (name_text program row.func)
+abbrev pub function_row_text : AccountFormat → Option Program → AccountRow → List ℕ
+function_row_text format program row = line_text format (column_words row) (name_text program row.func)
 
 -- the first line, which csv doesn't have
 abbrev pub first_line : AccountFormat → ℕ → List ℕ
@@ -62,4 +62,4 @@ first_line Csv latencies = []
 -- the first line, the head line, and a line for each row
 abbrev pub account_text : AccountFormat → ℕ → Option Program → List AccountRow → List ℕ
 account_text format latencies program rows =
-    first_line format latencies ++ line_text format head_words (codes "function") ++ flat_map (row_text format program) rows
+    first_line format latencies ++ line_text format head_words (codes "function") ++ flat_map (function_row_text format program) rows

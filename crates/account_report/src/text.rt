@@ -3,7 +3,7 @@
 ghost use Rattle.std.specs.Prelude.{◌≡◌, ◌++◌, ◌==◌, ⊤, codes, decimal, if◌then◌else◌};
 ghost use Rattle.std.specs.{List.{flat_map}, Option.{option_map}};
 ghost use Rattle.xray_io.specs.{Piece.{piece_text}, Text.{AddsText}};
-ghost use Rattle.account_report.specs.AccountText.{account_text, column_text, duration_word, first_line, head_words, line_text, placed, row_text, separator_text, words_of};
+ghost use Rattle.account_report.specs.AccountText.{account_text, column_text, duration_word, first_line, head_words, line_text, in_column, function_row_text, separator_text, column_words};
 
 use crate::row::AccountRow;
 use function_names::add_name;
@@ -91,7 +91,7 @@ fn add_rows<S: Sink>(
     format: AccountFormat,
 ) -> Result<(), WriteFault>
     ensures { AddsText S.written S.faults S.along text.old text.new
-        (flat_map (row_text format (option_map (λ image. image.now) image.entry)) rows.now) result }
+        (flat_map (function_row_text format (option_map (λ image. image.now) image.entry)) rows.now) result }
 {
     'rows: for row in rows {
         add_row(text, row, image, format)?;
@@ -107,7 +107,7 @@ fn add_row<S: Sink>(
     format: AccountFormat,
 ) -> Result<(), WriteFault>
     ensures { AddsText S.written S.faults S.along text.old text.new
-        (row_text format (option_map (λ image. image.now) image.entry) row.now) result }
+        (function_row_text format (option_map (λ image. image.now) image.entry) row.now) result }
 {
     add_columns(text, row, format)?;
     add_name(text, image, row.func)?;
@@ -121,7 +121,7 @@ fn add_columns<S: Sink>(
     format: AccountFormat,
 ) -> Result<(), WriteFault>
     ensures { AddsText S.written S.faults S.along text.old text.new
-        (flat_map (column_text format) (words_of row.now)) result }
+        (flat_map (column_text format) (column_words row.now)) result }
 {
     let gap = Piece::Bytes(separator(format));
     text.pieces(&[
@@ -160,7 +160,7 @@ fn separator(format: AccountFormat) -> &'static [u8]
 
 /// A number, in its column.
 fn number(n: u128, format: AccountFormat) -> Piece<'static>
-    ensures { piece_text result ≡ placed format (decimal n) }
+    ensures { piece_text result ≡ in_column format (decimal n) }
 {
     match format {
         AccountFormat::Text => Piece::Right {
@@ -173,7 +173,7 @@ fn number(n: u128, format: AccountFormat) -> Piece<'static>
 
 /// A number of a row that comes from durations, in its column. If there is no pair, it is a dash.
 fn duration(row: &AccountRow, n: u128, format: AccountFormat) -> Piece<'static>
-    ensures { piece_text result ≡ placed format (duration_word row.now n) }
+    ensures { piece_text result ≡ in_column format (duration_word row.now n) }
 {
     if row.count > 0 {
         return number(n, format);

@@ -16,10 +16,10 @@ use Rattle.xray_image.specs.Program.{addresses, branch_target, BranchesReach}
 use Rattle.asm_text.specs.declared.statement.Branch.{Branch}
 use Rattle.asm_text.specs.declared.statement.Branch.TheVariants as branches
 use Rattle.asm_text.specs.Statements.{Operation, Plain, Go, TailJump, Return, Statement, Base, Entry, Func, Label, Does}
-use Rattle.asm_text.specs.Layout.{Lines, Fixed, Jump, Placed, Owner, Choosing, by_threshold, is_function, is_instruction, defines, owner_of, no_owner, parts_of, aligned, placed_from, placed, widths, branch_width, sled_shift, piece_of, own_place, next_place, place_of, line_pieces, pieces, base_of}
+use Rattle.asm_text.specs.Layout.{StatementLines, Fixed, Jump, Placed, Owner, Choosing, by_threshold, is_function, is_instruction, defines, owner_of, no_owner, parts_of_line, aligned, placed_from, lines_placed, widths, branch_width, sled_shift, piece_of, own_place, next_place, place_of, line_pieces, pieces, base_of}
 use Rattle.asm_text.specs.private.Laying.{earlier, lines_of}
-use Rattle.asm_text.specs.Refusals.{is_defined, is_missing, name_in, is_unresolved}
-use Rattle.asm_text.specs.Assembling.{said_by}
+use Rattle.asm_text.specs.Refusals.{is_defined, is_missing, target_name, is_unresolved}
+use Rattle.asm_text.specs.Assembling.{statements_said}
 use Rattle.asm_text.proofs.Fitting.{NamesNoPlace, IsShort}
 use Rattle.asm_text.proofs.TargetLemmas.{next_place-cons}
 use Rattle.asm_text.proofs.EndingLemmas.{label_unresolved}
@@ -54,7 +54,7 @@ name_has P (p ∷ following) has name place e =
     by_definition P (defines name p.statement) (next_place (p ∷ following)) (place_of name following) place (next_has P (p ∷ following) has place) (name_has P following has.1 name place) e
 
 -- a line that defines a name has a place, or a later line has
-defined_here : (lines : Lines) (name : List ℕ) (p : Placed) (s : Statement) (following : List Placed) → s ≡ p.statement → defines name s ≡ true → is_unresolved lines s (lines_of following) ≡ false
+defined_here : (lines : StatementLines) (name : List ℕ) (p : Placed) (s : Statement) (following : List Placed) → s ≡ p.statement → defines name s ≡ true → is_unresolved lines s (lines_of following) ≡ false
     → is_some (next_place (p ∷ following)) ≡ true
 defined_here lines name p (Base address) following is here settled = absurd (cc here)
 defined_here lines name p (Entry other) following is here settled = absurd (cc here)
@@ -72,13 +72,13 @@ defined_first name p following rest true here there e = here refl
 defined_first name p following rest false here there e = there e
 
 -- a name that lines define has a place
-defined_has_place : (all : Lines) (name : List ℕ) (chosen : Choosing) (place : ℕ) (owner : Owner) (lines : Lines) → Settled all lines → is_defined name lines ≡ true
+defined_has_place : (all : StatementLines) (name : List ℕ) (chosen : Choosing) (place : ℕ) (owner : Owner) (lines : StatementLines) → Settled all lines → is_defined name lines ≡ true
     → is_some (place_of name (placed_from chosen place owner lines)) ≡ true
 defined_has_place all name chosen place owner [] settled e = absurd (cc e)
 defined_has_place all name chosen place owner (line ∷ following) settled e =
     let here = owner_of chosen place owner line.1 following in
     let p : Placed = record { line = line.0; statement = line.1; owner = here; place = place } in
-    let next = place + widths (parts_of here.traced place line.1) in
+    let next = place + widths (parts_of_line here.traced place line.1) in
     let left = placed_from chosen next here following in
     let known : is_unresolved all line.1 (lines_of left) ≡ false = subst (λ ls. is_unresolved all line.1 ls ≡ false) (sym (lines_of-placed chosen next here following)) settled.0 in
     defined_first name p left (is_defined name following) (defines name line.1) (λ t. defined_here all name p line.1 left refl t known)
@@ -182,13 +182,13 @@ module _ (all : List Placed) (base : ℕ) (begins : List ℕ) where
 
   -- the name that an operation goes to has its place among the addresses
   abbrev GoesThere : Operation → Type 0
-  GoesThere operation = (name : List ℕ) → name_in operation ≡ Some name → Contains begins (base + target name)
+  GoesThere operation = (name : List ℕ) → target_name operation ≡ Some name → Contains begins (base + target name)
 
   one_jump : (place : ℕ) (branch : Branch) (name : List ℕ) → Contains begins (base + target name) → Reach begins (base + place) (piece_of all (place + widths (Jump branch name ∷ [])) (Jump branch name) ∷ [])
   one_jump place branch name there = (jump_reaches (place + widths (Jump branch name ∷ [])) (base + place) branch name (omega arith) there, tt)
 
   operation_reaches : (traced : Bool) (place : ℕ) (operation : Operation) → IsShort (Does operation) → GoesThere operation
-      → let xs = parts_of traced place (Does operation) in Reach begins (base + place) (map (piece_of all (place + widths xs)) xs)
+      → let xs = parts_of_line traced place (Does operation) in Reach begins (base + place) (map (piece_of all (place + widths xs)) xs)
   operation_reaches true place (Plain instr) short there = (plain_reaches (place + widths (Fixed (Instruction instr) ∷ [])) (base + place) instr short.1, tt)
   operation_reaches true place (Go branch name) short there = one_jump place branch name (there name refl)
   operation_reaches true place (TailJump name) short there = tail_reaches place name (there name refl)
@@ -199,30 +199,30 @@ module _ (all : List Placed) (base : ℕ) (begins : List ℕ) where
   operation_reaches false place Return short there = (tt, tt)
 
   -- what is known of the names that are defined
-  abbrev KnowsPlaces : Lines → Type 0
+  abbrev KnowsPlaces : StatementLines → Type 0
   KnowsPlaces said = (name : List ℕ) → is_defined name said ≡ true → Contains begins (base + target name)
 
-  found : (said : Lines) (o : Option (List ℕ)) → KnowsPlaces said → is_missing said o ≡ false → (name : List ℕ) → o ≡ Some name → Contains begins (base + target name)
+  found : (said : StatementLines) (o : Option (List ℕ)) → KnowsPlaces said → is_missing said o ≡ false → (name : List ℕ) → o ≡ Some name → Contains begins (base + target name)
   found said None knows settled name e = absurd (cc e)
   found said (Some other) knows settled name e =
       let same : other ≡ name = cc e in
       subst (λ n. Contains begins (base + target n)) same (knows other (not-false (is_defined other said) settled))
 
-  line_reaches : (said before : Lines) (traced : Bool) (place : ℕ) (s : Statement) (following : Lines) → KnowsPlaces said → IsAllowed before s → is_unresolved said s following ≡ false
-      → let xs = parts_of traced place s in Reach begins (base + place) (map (piece_of all (place + widths xs)) xs)
+  line_reaches : (said before : StatementLines) (traced : Bool) (place : ℕ) (s : Statement) (following : StatementLines) → KnowsPlaces said → IsAllowed before s → is_unresolved said s following ≡ false
+      → let xs = parts_of_line traced place s in Reach begins (base + place) (map (piece_of all (place + widths xs)) xs)
   line_reaches said before traced place (Base address) following knows may settled = tt
   line_reaches said before traced place (Entry name) following knows may settled = tt
   line_reaches said before true place (Func name choice) following knows may settled = sled_reaches (place + widths (aligned place (JumpSled sled_shift))) (base + place) place (JumpSled sled_shift) (λ _. tt)
   line_reaches said before false place (Func name choice) following knows may settled = tt
   line_reaches said before traced place (Label name) following knows may settled = tt
-  line_reaches said before traced place (Does operation) following knows may settled = operation_reaches traced place operation may.short (found said (name_in operation) knows settled)
+  line_reaches said before traced place (Does operation) following knows may settled = operation_reaches traced place operation may.short (found said (target_name operation) knows settled)
 
-  lines_reach : (said : Lines) (chosen : Choosing) (place : ℕ) (owner : Owner) (before lines : Lines) → KnowsPlaces said → Allowed before lines → Settled said lines
+  lines_reach : (said : StatementLines) (chosen : Choosing) (place : ℕ) (owner : Owner) (before lines : StatementLines) → KnowsPlaces said → Allowed before lines → Settled said lines
       → Reach begins (base + place) (flat_map (line_pieces all) (placed_from chosen place owner lines))
   lines_reach said chosen place owner before [] knows may settled = tt
   lines_reach said chosen place owner before (line ∷ following) knows may settled =
       let here = owner_of chosen place owner line.1 following in
-      let xs = parts_of here.traced place line.1 in
+      let xs = parts_of_line here.traced place line.1 in
       let next = place + widths xs in
       let first = map (piece_of all next) xs in
       let same : base + next ≡ base + place + length (flat_map piece_bytes first) = sym (ap (λ w. base + place + w) (parts_length all next xs) ∙ add_assoc base place (widths xs)) in
@@ -233,9 +233,9 @@ module _ (all : List Placed) (base : ℕ) (begins : List ℕ) where
 -- ---- all together
 
 -- the branches of lines that were read
-said_reach : (base : ℕ) (chosen : Choosing) (said : Lines) → AreSaid said → BranchesReach (units_from base 0 (pieces (placed chosen said)))
+said_reach : (base : ℕ) (chosen : Choosing) (said : StatementLines) → AreSaid said → BranchesReach (units_from base 0 (pieces (lines_placed chosen said)))
 said_reach base chosen said are u within =
-    let all = placed chosen said in
+    let all = lines_placed chosen said in
     let units = units_from base 0 (pieces all) in
     let begins = addresses units in
     let stands = own_places all base chosen 0 no_owner said (all_filled [] said are.allowed are.whole) in
@@ -249,6 +249,6 @@ said_reach base chosen said are u within =
     All-contains (UnitReaches begins) units u (All-from_recursion (UnitReaches begins) units (units_reach begins base 0 (pieces all) reach_there)) within
 
 -- the branches of a text
-pub branches_reach : (text : List ℕ) (threshold : ℕ) (said : Lines) → said_by text ≡ Ok said
-    → BranchesReach (units_from (base_of said) 0 (pieces (placed (by_threshold threshold) said)))
+pub branches_reach : (text : List ℕ) (threshold : ℕ) (said : StatementLines) → statements_said text ≡ Ok said
+    → BranchesReach (units_from (base_of said) 0 (pieces (lines_placed (by_threshold threshold) said)))
 branches_reach text threshold said read = said_reach (base_of said) (by_threshold threshold) said (are_said text said read)

@@ -10,7 +10,7 @@ use Rattle.asm_text.specs.declared.fault.AsmFault.TheVariants.{Label as Unresolv
 use Rattle.asm_text.specs.declared.layout.Laid.{Laid}
 use Rattle.asm_text.specs.declared.name_table.NameTable.{NameTable}
 use Rattle.asm_text.specs.Statements.{Statement}
-use Rattle.asm_text.specs.Layout.{Lines, Placed, defines, is_function, is_instruction, own_place, next_place, place_of}
+use Rattle.asm_text.specs.Layout.{StatementLines, Placed, defines, is_function, is_instruction, own_place, next_place, place_of}
 use Rattle.asm_text.specs.private.NameTables.{line_named}
 use Rattle.asm_text.specs.private.FirstPass.{IsNames, defined_at}
 use Rattle.asm_text.specs.Refusals.{is_defined, is_unresolved, resolved}
@@ -42,7 +42,7 @@ pub label_unresolved : (p : Placed) (following : List Placed) → own_place p �
 label_unresolved p following none = ap (λ o. not (is_some o)) (next_place-cons p following ∙ ap (λ o. earlier o (next_place following)) none) ∙ none_next following
 
 -- a name that isn't in the table
-pub missing_name : (lines : Lines) (names : NameTable) (name : List ℕ) → IsNames lines names → not (is_some (line_named names name)) ≡ not (is_defined name lines)
+pub missing_name : (lines : StatementLines) (names : NameTable) (name : List ℕ) → IsNames lines names → not (is_some (line_named names name)) ≡ not (is_defined name lines)
 missing_name lines names name is = ap (λ o. not (is_some o)) (is name) ∙ ap not (sym (is_defined-at name lines))
 
 -- a test with the opposite answer
@@ -114,7 +114,7 @@ target_at laid i d e table next are within =
     ∙ ap next_place (drop-map line_placed i laid ∙ ap placed_in (drop-cons laid i e within))
 
 -- one line of the search
-pub resolved_step : (lines : Lines) (laid : List Laid) (i : ℕ) (e : Laid) → i < length laid
+pub resolved_step : (lines : StatementLines) (laid : List Laid) (i : ℕ) (e : Laid) → i < length laid
     → resolved lines (lines_of (placed_in (drop i laid)))
     ≡ cond (is_unresolved lines (statement_said (get_or laid i e).statement) (lines_of (placed_in (drop (suc i) laid)))) (Err (Unresolved (get_or laid i e).line)) (resolved lines (lines_of (placed_in (drop (suc i) laid))))
 resolved_step lines laid i e within = ap (λ ls. resolved lines (lines_of (placed_in ls))) (drop-cons laid i e within)

@@ -7,7 +7,7 @@ use Rattle.std.proofs.lemmas.Bool.{not-false}
 use Rattle.std.proofs.lemmas.List.Folds.{find_at}
 use Rattle.xray_image.specs.Container.{Function}
 use Rattle.asm_text.specs.Statements.{Statement, Base, Entry, Func, Label, Does}
-use Rattle.asm_text.specs.Layout.{Lines, Placed, Owner, Choosing, owner_of, no_owner, parts_of, placed_from, placed, widths, is_function, names_function, functions, function_in, entry_in_line, number_of_function, entry_of}
+use Rattle.asm_text.specs.Layout.{StatementLines, Placed, Owner, Choosing, owner_of, no_owner, parts_of_line, placed_from, lines_placed, widths, is_function, names_function, functions, function_in, entry_in_line, number_of_function, entry_of}
 use Rattle.asm_text.specs.Refusals.{has_function, is_unresolved}
 use Rattle.asm_text.specs.Programs.{entry_function}
 use Rattle.asm_text.proofs.SaidLines.{AreSaid, Settled}
@@ -22,12 +22,12 @@ some_first base p (Func name choice) fs t h rest = omega arith
 some_first base p (Label name) fs t h rest = rest h
 some_first base p (Does operation) fs t h rest = rest h
 
-some_function : (base : ℕ) (chosen : Choosing) (place : ℕ) (owner : Owner) (lines : Lines) → has_function lines ≡ true → 0 < length (functions base (placed_from chosen place owner lines))
+some_function : (base : ℕ) (chosen : Choosing) (place : ℕ) (owner : Owner) (lines : StatementLines) → has_function lines ≡ true → 0 < length (functions base (placed_from chosen place owner lines))
 some_function base chosen place owner [] h = absurd (cc h)
 some_function base chosen place owner (line ∷ following) h =
     let here = owner_of chosen place owner line.1 following in
     let p : Placed = record { line = line.0; statement = line.1; owner = here; place = place } in
-    let next = place + widths (parts_of here.traced place line.1) in
+    let next = place + widths (parts_of_line here.traced place line.1) in
     some_first base p line.1 (functions base (placed_from chosen next here following)) (has_function following) h (some_function base chosen next here following)
 
 named_first : (name : List ℕ) (base : ℕ) (p : Placed) (s : Statement) (fs : List Function)
@@ -39,13 +39,13 @@ named_first name base p (Label other) fs = refl
 named_first name base p (Does operation) fs = refl
 
 -- by its name
-named_function : (name : List ℕ) (base : ℕ) (chosen : Choosing) (place : ℕ) (owner : Owner) (lines : Lines)
+named_function : (name : List ℕ) (base : ℕ) (chosen : Choosing) (place : ℕ) (owner : Owner) (lines : StatementLines)
     → list_any (λ f. bytes_eq f.name name) (functions base (placed_from chosen place owner lines)) ≡ list_any (λ line. names_function name line.1) lines
 named_function name base chosen place owner [] = refl
 named_function name base chosen place owner (line ∷ following) =
     let here = owner_of chosen place owner line.1 following in
     let p : Placed = record { line = line.0; statement = line.1; owner = here; place = place } in
-    let next = place + widths (parts_of here.traced place line.1) in
+    let next = place + widths (parts_of_line here.traced place line.1) in
     named_first name base p line.1 (functions base (placed_from chosen next here following))
     ∙ ap (λ t. names_function name line.1 || t) (named_function name base chosen next here following)
 
@@ -61,7 +61,7 @@ place_found test (x ∷ xs) h = first_place (test x) (list_any test xs) (positio
 
 -- ---- the entry
 
-entry_first : (all : Lines) (s : Statement) (following : Lines) (names : List (List ℕ)) (name : List ℕ) → is_unresolved all s following ≡ false
+entry_first : (all : StatementLines) (s : Statement) (following : StatementLines) (names : List (List ℕ)) (name : List ℕ) → is_unresolved all s following ≡ false
     → (slice_get names 0 ≡ Some name → list_any (λ line. names_function name line.1) all ≡ true)
     → slice_get (cons_option (entry_in_line s) names) 0 ≡ Some name → list_any (λ line. names_function name line.1) all ≡ true
 entry_first all (Base address) following names name free rest h = rest h
@@ -73,20 +73,20 @@ entry_first all (Label other) following names name free rest h = rest h
 entry_first all (Does operation) following names name free rest h = rest h
 
 -- an entry names a function
-entry_named : (all lines : Lines) → Settled all lines → (name : List ℕ) → slice_get (filter_map (λ line. entry_in_line line.1) lines) 0 ≡ Some name
+entry_named : (all lines : StatementLines) → Settled all lines → (name : List ℕ) → slice_get (filter_map (λ line. entry_in_line line.1) lines) 0 ≡ Some name
     → list_any (λ line. names_function name line.1) all ≡ true
 entry_named all [] settled name h = absurd (cc h)
 entry_named all (line ∷ following) settled name h =
     entry_first all line.1 following (filter_map (λ line. entry_in_line line.1) following) name settled.0 (entry_named all following settled.1 name) h
 
 -- the number of the entry is a function's
-pub entry_exists : (base : ℕ) (chosen : Choosing) (said : Lines) → AreSaid said → entry_of said (functions base (placed chosen said)) < length (functions base (placed chosen said))
+pub entry_exists : (base : ℕ) (chosen : Choosing) (said : StatementLines) → AreSaid said → entry_of said (functions base (lines_placed chosen said)) < length (functions base (lines_placed chosen said))
 entry_exists base chosen said are = by_name (slice_get (filter_map (λ line. entry_in_line line.1) said) 0) refl
   where
-    by_name : (o : Option (List ℕ)) → slice_get (filter_map (λ line. entry_in_line line.1) said) 0 ≡ o → number_of_function o (functions base (placed chosen said)) < length (functions base (placed chosen said))
+    by_name : (o : Option (List ℕ)) → slice_get (filter_map (λ line. entry_in_line line.1) said) 0 ≡ o → number_of_function o (functions base (lines_placed chosen said)) < length (functions base (lines_placed chosen said))
     by_name None is = some_function base chosen 0 no_owner said are.some
     by_name (Some name) is =
-        place_found (λ (f : Function). bytes_eq f.name name) (functions base (placed chosen said))
+        place_found (λ (f : Function). bytes_eq f.name name) (functions base (lines_placed chosen said))
         (named_function name base chosen 0 no_owner said ∙ entry_named said said are.settled name is)
 
 -- the function of that number is the entry function

@@ -9,7 +9,7 @@ use Rattle.xray_image.specs.Units.{Piece, IsUnits, units_from, places_from}
 use Rattle.xray_image.specs.Container.{magic, version, base_address, code_length, function_count, entry_count, entry_index, number8_at}
 use Rattle.xray_image.specs.Program.{Program, AreFunctions, EachSled, IsEntryOf, Reaches, BranchesReach, IsAccepted, program_of, sled_of}
 use Rattle.asm_text.specs.Programs.{trampolines_at}
-use Rattle.asm_text.specs.Writing.{File, header_bytes, function_bytes, entry_bytes, file_bytes}
+use Rattle.asm_text.specs.Writing.{File, image_header_bytes, function_bytes, entry_bytes, image_bytes}
 use Rattle.asm_text.proofs.ReadBack.{FileFits, parts_back}
 
 -- the fields of the header, as they are read
@@ -26,7 +26,7 @@ pub record IsReadHeader (f : File) (bytes : List ℕ) : Type 0 where
   pub exit_trampoline : number8_at bytes 40 ≡ f.base + 0x200010
   pub tail_trampoline : number8_at bytes 48 ≡ f.base + 0x200020
 
-header_front : (f : File) (rest : List ℕ) → FileFits f → f.base ≤ 0x7FFF00000000 → f.entry < 256 ^ 4 → IsReadHeader f (header_bytes f ++ rest)
+header_front : (f : File) (rest : List ℕ) → FileFits f → f.base ≤ 0x7FFF00000000 → f.entry < 256 ^ 4 → IsReadHeader f (image_header_bytes f ++ rest)
 header_front f rest fits low entry_fits =
     let second = little_bytes 8 (f.base + 0x200010) in
     let third = little_bytes 8 (f.base + 0x200020) in
@@ -49,12 +49,12 @@ header_front f rest fits low entry_fits =
       tail_trampoline = little_number-reads_back 8 (f.base + 0x200020) (last ++ rest) (omega arith);
     }
 
-pub header_back : (f : File) → FileFits f → f.base ≤ 0x7FFF00000000 → f.entry < 256 ^ 4 → IsReadHeader f (file_bytes f)
+pub header_back : (f : File) → FileFits f → f.base ≤ 0x7FFF00000000 → f.entry < 256 ^ 4 → IsReadHeader f (image_bytes f)
 header_back f fits low entry_fits =
     let functions_part = flat_map function_bytes f.functions in
     let entries_part = flat_map entry_bytes f.entries in
-    let shape : file_bytes f ≡ header_bytes f ++ (f.code ++ (functions_part ++ entries_part)) =
-    append_assoc (header_bytes f ++ f.code) functions_part entries_part ∙ append_assoc (header_bytes f) f.code (functions_part ++ entries_part) in
+    let shape : image_bytes f ≡ image_header_bytes f ++ (f.code ++ (functions_part ++ entries_part)) =
+    append_assoc (image_header_bytes f ++ f.code) functions_part entries_part ∙ append_assoc (image_header_bytes f) f.code (functions_part ++ entries_part) in
     subst (IsReadHeader f) (sym shape) (header_front f (f.code ++ (functions_part ++ entries_part)) fits low entry_fits)
 
 -- the program of a file with these pieces in its code
@@ -90,13 +90,13 @@ module _ (f : File) (pieces : List Piece) (ordered : IsInOrder f pieces) where
   small_entry : f.entry < 256 ^ 4
   small_entry = omega (arith, ordered.entry_exists, ordered.functions_limit)
 
-  header : IsReadHeader f (file_bytes f)
+  header : IsReadHeader f (image_bytes f)
   header = header_back f ordered.fits ordered.base_limit small_entry
 
   -- what the bytes say
-  program_read : program_in f pieces ≡ program_of (file_bytes f) (record { code = f.code; functions = f.functions; entries = f.entries; rest = [] }) pieces
+  program_read : program_in f pieces ≡ program_of (image_bytes f) (record { code = f.code; functions = f.functions; entries = f.entries; rest = [] }) pieces
   program_read =
-      let bytes = file_bytes f in
+      let bytes = image_bytes f in
       let made : ℕ → ℕ → ℕ → ℕ → ℕ → Program = λ base number entry exit tail. record {
         base = base;
         entry = option_map_or (λ g. g.start) (slice_get f.functions number) 0;
@@ -113,7 +113,7 @@ module _ (f : File) (pieces : List Piece) (ordered : IsInOrder f pieces) where
       ∙ ap (λ n. made f.base f.entry (f.base + 0x200000) n (number8_at bytes 48)) header.exit_trampoline
       ∙ ap (λ n. made f.base f.entry (f.base + 0x200000) (f.base + 0x200010) n) header.tail_trampoline)
 
-  pub accepted_file : IsAccepted (file_bytes f) (program_in f pieces)
+  pub accepted_file : IsAccepted (image_bytes f) (program_in f pieces)
   accepted_file =
       let back = sym header.base in
       record {

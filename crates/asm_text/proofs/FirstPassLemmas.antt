@@ -5,26 +5,26 @@ use Rattle.std.proofs.lemmas.Bool.{ltb-false}
 use Rattle.asm_text.specs.declared.fault.AsmFault.TheVariants as faults
 use Rattle.asm_text.specs.declared.totals.Totals.{Totals}
 use Rattle.asm_text.specs.Statements.{Statement}
-use Rattle.asm_text.specs.Layout.{Lines}
+use Rattle.asm_text.specs.Layout.{StatementLines}
 use Rattle.asm_text.specs.Refusals.{repeats, exceeds_limits}
 use Rattle.asm_text.specs.private.FirstPass.{IsTotals, IsWithin, totals_exceed, taken}
 
-totals_exceed-is : (lines : Lines) (t : Totals) → IsTotals lines t → totals_exceed t ≡ exceeds_limits lines
+totals_exceed-is : (lines : StatementLines) (t : Totals) → IsTotals lines t → totals_exceed t ≡ exceeds_limits lines
 totals_exceed-is lines t is = rw (is.functions, is.code, is.sleds) refl
 
-pub taken_limit : (lines : Lines) (number : ℕ) (statement : Statement) (t : Totals) → repeats lines statement ≡ false → IsTotals (lines ++ (number, statement) ∷ []) t
+pub taken_limit : (lines : StatementLines) (number : ℕ) (statement : Statement) (t : Totals) → repeats lines statement ≡ false → IsTotals (lines ++ (number, statement) ∷ []) t
     → totals_exceed t ≡ true → taken lines number statement ≡ Err (faults.Limit number)
 taken_limit lines number statement t free is much =
     let over : exceeds_limits (lines ++ (number, statement) ∷ []) ≡ true = sym (totals_exceed-is (lines ++ (number, statement) ∷ []) t is) ∙ much in
     rw (free, over) refl
 
-pub taken_ok : (lines : Lines) (number : ℕ) (statement : Statement) (t : Totals) → repeats lines statement ≡ false → IsTotals (lines ++ (number, statement) ∷ []) t
+pub taken_ok : (lines : StatementLines) (number : ℕ) (statement : Statement) (t : Totals) → repeats lines statement ≡ false → IsTotals (lines ++ (number, statement) ∷ []) t
     → totals_exceed t ≡ false → taken lines number statement ≡ Ok (lines ++ (number, statement) ∷ [])
 taken_ok lines number statement t free is few =
     let under : exceeds_limits (lines ++ (number, statement) ∷ []) ≡ false = sym (totals_exceed-is (lines ++ (number, statement) ∷ []) t is) ∙ few in
     rw (free, under) refl
 
-pub taken_repeat : (lines : Lines) (number : ℕ) (statement : Statement) → repeats lines statement ≡ true → taken lines number statement ≡ Err (faults.Repeat number)
+pub taken_repeat : (lines : StatementLines) (number : ℕ) (statement : Statement) → repeats lines statement ≡ true → taken lines number statement ≡ Err (faults.Repeat number)
 taken_repeat lines number statement again = rw again refl
 
 or_parts : (a b : Bool) → (a || b) ≡ false → (a ≡ false) × (b ≡ false)

@@ -19,18 +19,18 @@ use Rattle.subset_decode.specs.Registers.{is_reserved, IsRegister}
 use Rattle.subset_decode.specs.Encoding.{registers, reserved_register, IsNamed}
 use Rattle.asm_text.proofs.NameLemmas.{position_within}
 use Rattle.asm_text.specs.declared.statement.Branch.TheVariants as branches
-use Rattle.asm_text.specs.Numbers.{number_of}
+use Rattle.asm_text.specs.Numbers.{number_written}
 use Rattle.asm_text.specs.Registers.{register32, register64, before_comma, names32, names64, number_in, reserved, either}
-use Rattle.asm_text.specs.Names.{is_name, is_decimal, name_of, before_end}
+use Rattle.asm_text.specs.Names.{is_name, is_decimal, name_written, before_end}
 use Rattle.asm_text.specs.Statements.{Operation, Plain, Go, TailJump, Return, Statement, Base, Entry, Func, Label, Does}
-use Rattle.asm_text.specs.Language.{says, label_of, line_of, keyword_of, statement_of, choice_of}
+use Rattle.asm_text.specs.Language.{keyword_says, label_of, statement_of_line, statement_keyword_of, statement_of, choice_of}
 use Rattle.asm_text.specs.declared.layout.Laid.{Laid}
-use Rattle.asm_text.specs.Layout.{Lines, base_in, base_of}
+use Rattle.asm_text.specs.Layout.{StatementLines, base_in, base_of}
 use Rattle.asm_text.specs.private.Views.{statement_said}
 use Rattle.asm_text.specs.private.Laying.{lines_of, placed_in}
 use Rattle.asm_text.specs.private.Files.{HasShortName}
 use Rattle.asm_text.specs.private.Fits.{Fits, OperationFits, AllFit}
-use Rattle.asm_text.specs.Refusals.{judged, spoken, with_words, with_line, read_lines, is_misplaced, names_reserved, operation_reserves, operation_exceeds, is_wide, is_out_of_range, repeats, exceeds_limits}
+use Rattle.asm_text.specs.Refusals.{statement_judged, statement_spoken, with_words, statement_with_line, read_statements, is_statement_misplaced, names_reserved, operation_reserves, operation_exceeds, is_wide, is_out_of_range, repeats, exceeds_limits}
 
 -- none of the instructions that go to no name is a branch
 abbrev pub NamesNoPlace : Instr → Type 0
@@ -113,27 +113,27 @@ name_short word h =
     let b = and_parts (leb 1 (length word) && leb (length word) 255) (not (is_decimal (get_or word 0 0))) a.0 in
     leb-true (length word) 255 (and_parts (leb 1 (length word)) (leb (length word) 255) b.0).1
 
-named : (word : List ℕ) (choice : Choice) → SaysShort (option_map (λ n. Func n choice) (name_of word))
+named : (word : List ℕ) (choice : Choice) → SaysShort (option_map (λ n. Func n choice) (name_written word))
 named word choice = by_name (is_name word) refl
   where
     by_name : (t : Bool) → is_name word ≡ t → SaysShort (option_map (λ n. Func n choice) (cond t (Some word) None))
     by_name true h = h
     by_name false h = tt
 
-chosen : (word : List ℕ) (choice : Option Choice) → SaysShort (option_and_then (λ n. option_map (λ c. Func n c) choice) (name_of word))
+chosen : (word : List ℕ) (choice : Option Choice) → SaysShort (option_and_then (λ n. option_map (λ c. Func n c) choice) (name_written word))
 chosen word choice = by_name (is_name word) refl
   where
     by_name : (t : Bool) → is_name word ≡ t → SaysShort (option_and_then (λ n. option_map (λ c. Func n c) choice) (cond t (Some word) None))
     by_name true h = mapped (λ c. Func word c) choice (λ _ _. h)
     by_name false h = tt
 
-says_short : (keyword : Keyword) (following : List (List ℕ)) → SaysShort (says keyword following)
-says_short words.Base (number ∷ []) = mapped Base (number_of number) (λ _ _. tt)
-says_short words.Entry (name ∷ []) = mapped Entry (name_of name) (λ _ _. tt)
+says_short : (keyword : Keyword) (following : List (List ℕ)) → SaysShort (keyword_says keyword following)
+says_short words.Base (number ∷ []) = mapped Base (number_written number) (λ _ _. tt)
+says_short words.Entry (name ∷ []) = mapped Entry (name_written name) (λ _ _. tt)
 says_short words.Function (name ∷ []) = named name ByLength
 says_short words.Function (name ∷ choice ∷ []) = chosen name (choice_of choice)
 says_short words.Mov (dst ∷ number ∷ []) =
-    chained (λ r n. Does (Plain (instrs.Mov r n))) (number_of number) (option_and_then register32 (before_comma dst))
+    chained (λ r n. Does (Plain (instrs.Mov r n))) (number_written number) (option_and_then register32 (before_comma dst))
     (λ r n at _. ((before_comma_small register32 small32 (before_comma dst) r at, tt), tt))
 says_short words.Add (dst ∷ src ∷ []) =
     chained (λ r s. Does (Plain (instrs.Add r s))) (register64 src) (option_and_then register64 (before_comma dst))
@@ -143,20 +143,20 @@ says_short words.Sub (dst ∷ src ∷ []) =
     (λ r s at to. ((before_comma_small register64 small64 (before_comma dst) r at, (small64 src s to, tt)), tt))
 says_short words.Push (reg ∷ []) = mapped (λ r. Does (Plain (instrs.Push r))) (register64 reg) (λ r at. ((small64 reg r at, tt), tt))
 says_short words.Pop (reg ∷ []) = mapped (λ r. Does (Plain (instrs.Pop r))) (register64 reg) (λ r at. ((small64 reg r at, tt), tt))
-says_short words.Call (name ∷ []) = mapped (λ n. Does (Go branches.Call n)) (name_of name) (λ _ _. tt)
-says_short words.Jmp (name ∷ []) = mapped (λ n. Does (Go branches.Jmp n)) (name_of name) (λ _ _. tt)
-says_short words.Jnz (name ∷ []) = mapped (λ n. Does (Go branches.Jnz n)) (name_of name) (λ _ _. tt)
-says_short words.TailJump (name ∷ []) = mapped (λ n. Does (TailJump n)) (name_of name) (λ _ _. tt)
+says_short words.Call (name ∷ []) = mapped (λ n. Does (Go branches.Call n)) (name_written name) (λ _ _. tt)
+says_short words.Jmp (name ∷ []) = mapped (λ n. Does (Go branches.Jmp n)) (name_written name) (λ _ _. tt)
+says_short words.Jnz (name ∷ []) = mapped (λ n. Does (Go branches.Jnz n)) (name_written name) (λ _ _. tt)
+says_short words.TailJump (name ∷ []) = mapped (λ n. Does (TailJump n)) (name_written name) (λ _ _. tt)
 says_short words.Ret [] = tt
-says_short words.Out (number ∷ []) = mapped (λ n. Does (Plain (instrs.Out n))) (number_of number) (λ _ _. (tt, tt))
+says_short words.Out (number ∷ []) = mapped (λ n. Does (Plain (instrs.Out n))) (number_written number) (λ _ _. (tt, tt))
 says_short keyword following = tt
 
 label_short : (word : List ℕ) (following : List (List ℕ)) → SaysShort (label_of word following)
-label_short word [] = mapped Label (option_and_then name_of (before_end 58 word)) (λ _ _. tt)
+label_short word [] = mapped Label (option_and_then name_written (before_end 58 word)) (λ _ _. tt)
 label_short word (next ∷ following) = tt
 
 -- the statement of a line
-pub line_short : (keyword : Option Keyword) (word : List ℕ) (following : List (List ℕ)) → SaysShort (line_of keyword word following)
+pub line_short : (keyword : Option Keyword) (word : List ℕ) (following : List (List ℕ)) → SaysShort (statement_of_line keyword word following)
 line_short None word following = label_short word following
 line_short (Some keyword) word following = says_short keyword following
 
@@ -203,17 +203,17 @@ fits_from (Func name choice) short free range = name_short name short
 fits_from (Label name) short free range = tt
 fits_from (Does operation) short free range = operation_fits operation short free range
 
-AllFit-more : (lines : Lines) (number : ℕ) (s : Statement) → AllFit lines → Fits s → AllFit (lines ++ (number, s) ∷ [])
+AllFit-more : (lines : StatementLines) (number : ℕ) (s : Statement) → AllFit lines → Fits s → AllFit (lines ++ (number, s) ∷ [])
 AllFit-more [] number s fit h = (h, tt)
 AllFit-more (line ∷ following) number s fit h = (fit.0, AllFit-more following number s fit.1 h)
 
-abbrev pub Good : Result Lines AsmFault → Type 0
+abbrev pub Good : Result StatementLines AsmFault → Type 0
 Good (Ok lines) = AllFit lines
 Good (Err fault) = ⊤
 
-judged_good : (before : Lines) (number : ℕ) (s : Statement) → AllFit before → IsShort s → Good (judged before number s)
+judged_good : (before : StatementLines) (number : ℕ) (s : Statement) → AllFit before → IsShort s → Good (statement_judged before number s)
 judged_good before number s fit short =
-    by_tests (is_misplaced before s) (names_reserved s) (is_out_of_range s) (repeats before s) (exceeds_limits (before ++ (number, s) ∷ [])) refl refl
+    by_tests (is_statement_misplaced before s) (names_reserved s) (is_out_of_range s) (repeats before s) (exceeds_limits (before ++ (number, s) ∷ [])) refl refl
   where
     by_tests : (m r o p e : Bool) → names_reserved s ≡ r → is_out_of_range s ≡ o
         → Good (cond m (Err (faults.Syntax number)) (cond r (Err (faults.Register number)) (cond o (Err (faults.Range number)) (cond p (Err (faults.Repeat number)) (cond e (Err (faults.Limit number)) (Ok (before ++ (number, s) ∷ [])))))))
@@ -224,29 +224,29 @@ judged_good before number s fit short =
     by_tests false false false false true free range = tt
     by_tests false false false false false free range = AllFit-more before number s fit (fits_from s short free range)
 
-spoken_good : (before : Lines) (number : ℕ) (o : Option Statement) → AllFit before → SaysShort o → Good (spoken before number o)
+spoken_good : (before : StatementLines) (number : ℕ) (o : Option Statement) → AllFit before → SaysShort o → Good (statement_spoken before number o)
 spoken_good before number None fit short = tt
 spoken_good before number (Some s) fit short = judged_good before number s fit short
 
-words_good : (before : Lines) (number : ℕ) (words : List (List ℕ)) → AllFit before → Good (with_words before number words)
+words_good : (before : StatementLines) (number : ℕ) (words : List (List ℕ)) → AllFit before → Good (with_words before number words)
 words_good before number [] fit = fit
-words_good before number (word ∷ following) fit = spoken_good before number (statement_of (word ∷ following)) fit (line_short (keyword_of word) word following)
+words_good before number (word ∷ following) fit = spoken_good before number (statement_of (word ∷ following)) fit (line_short (statement_keyword_of word) word following)
 
-line_good : (before : Lines) (line : ℕ × List ℕ) → AllFit before → Good (with_line before line)
+line_good : (before : StatementLines) (line : ℕ × List ℕ) → AllFit before → Good (statement_with_line before line)
 line_good before (number, line) fit = by_clean (is_clean line)
   where
     by_clean : (t : Bool) → Good (cond (not t) (Err (faults.Syntax number)) (with_words before number (words_of line)))
     by_clean true = words_good before number (words_of line) fit
     by_clean false = tt
 
-then_good : (r : Result Lines AsmFault) (f : Lines → Result Lines AsmFault) → Good r → ((lines : Lines) → AllFit lines → Good (f lines)) → Good (r >>= f)
+then_good : (r : Result StatementLines AsmFault) (f : StatementLines → Result StatementLines AsmFault) → Good r → ((lines : StatementLines) → AllFit lines → Good (f lines)) → Good (r >>= f)
 then_good (Ok lines) f good more = more lines good
 then_good (Err fault) f good more = tt
 
 -- all that was read fits
-pub read_good : (before : Lines) (lines : List (ℕ × List ℕ)) → AllFit before → Good (read_lines before lines)
+pub read_good : (before : StatementLines) (lines : List (ℕ × List ℕ)) → AllFit before → Good (read_statements before lines)
 read_good before [] fit = fit
-read_good before (line ∷ following) fit = then_good (with_line before line) (λ lines. read_lines lines following) (line_good before line fit) (λ lines more. read_good lines following more)
+read_good before (line ∷ following) fit = then_good (statement_with_line before line) (λ lines. read_statements lines following) (line_good before line fit) (λ lines more. read_good lines following more)
 
 abbrev pub BaseFits : Option ℕ → Type 0
 BaseFits None = ⊤
@@ -259,7 +259,7 @@ base_first (Func name choice) bases fit h = h
 base_first (Label name) bases fit h = h
 base_first (Does operation) bases fit h = h
 
-first_base : (lines : Lines) → AllFit lines → BaseFits (slice_get (filter_map (λ line. base_in line.1) lines) 0)
+first_base : (lines : StatementLines) → AllFit lines → BaseFits (slice_get (filter_map (λ line. base_in line.1) lines) 0)
 first_base [] fit = tt
 first_base (line ∷ following) fit = base_first line.1 (filter_map (λ line. base_in line.1) following) fit.0 (first_base following fit.1)
 
@@ -268,10 +268,10 @@ or_default None h = (refl, omega arith)
 or_default (Some n) h = h
 
 -- the base of statements that fit
-pub base_fits : (lines : Lines) → AllFit lines → base_of lines ≤ 0x7FFF00000000
+pub base_fits : (lines : StatementLines) → AllFit lines → base_of lines ≤ 0x7FFF00000000
 base_fits lines fit = (or_default (slice_get (filter_map (λ line. base_in line.1) lines) 0) (first_base lines fit)).1
 
-pub base_aligned : (lines : Lines) → AllFit lines → base_of lines % 16 ≡ 0
+pub base_aligned : (lines : StatementLines) → AllFit lines → base_of lines % 16 ≡ 0
 base_aligned lines fit = (or_default (slice_get (filter_map (λ line. base_in line.1) lines) 0) (first_base lines fit)).0
 
 short_from : (s : Statement) → Fits s → HasShortName s

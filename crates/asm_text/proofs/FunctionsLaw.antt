@@ -12,9 +12,9 @@ use Rattle.xray_image.specs.Program.{addresses, is_name_byte, BeginsAfter, IsFun
 use Rattle.asm_text.specs.declared.statement.Choice.{Choice}
 use Rattle.asm_text.specs.Names.{is_name, is_decimal}
 use Rattle.asm_text.specs.Statements.{Statement, Base, Entry, Func, Label, Does}
-use Rattle.asm_text.specs.Layout.{Lines, Placed, Owner, Choosing, by_threshold, is_function, is_instruction, defines, owner_of, no_owner, function_at, instruction_lines, parts_at, placed_from, placed, widths, own_place, pieces, functions, function_in, base_of}
+use Rattle.asm_text.specs.Layout.{StatementLines, Placed, Owner, Choosing, by_threshold, is_function, is_instruction, defines, owner_of, no_owner, owner_at, instruction_lines, parts_at, placed_from, lines_placed, widths, own_place, pieces, functions, function_in, base_of}
 use Rattle.asm_text.specs.Refusals.{has_function, is_bare, is_defined}
-use Rattle.asm_text.specs.Assembling.{said_by}
+use Rattle.asm_text.specs.Assembling.{statements_said}
 use Rattle.asm_text.proofs.WidthLemmas.{operation_width}
 use Rattle.asm_text.proofs.Owners.{start_from, start_to}
 use Rattle.asm_text.proofs.SaidLines.{IsAllowed, Allowed, AreSaid, are_said, all_filled, is_bare-more, has_function-more, is_defined-more}
@@ -50,7 +50,7 @@ ascend_at base o (g ∷ fs) zero f ascend e = let at : g ≡ f = cc e in subst (
 ascend_at base o (g ∷ fs) (suc i) f ascend e = ascend_at base (Some g) fs i f ascend.1 e
 
 -- where lines come: before all functions and all code, or not before the start of the last function
-abbrev pub Stood : ℕ → ℕ → Lines → Option Function → Type 0
+abbrev pub Stood : ℕ → ℕ → StatementLines → Option Function → Type 0
 Stood base place before None = (place ≡ 0) × (has_function before ≡ false)
 Stood base place before (Some f) = (f.start ≤ base + place) × (is_bare before ≡ false → f.start < base + place)
 
@@ -68,7 +68,7 @@ ascend_first base o None fs begins rest = rest
 ascend_first base o (Some f) fs begins rest = (begins, rest)
 
 -- a line that begins no function and isn't an instruction line
-stood_same : (base place : ℕ) (before : Lines) (number : ℕ) (s : Statement) (o : Option Function) → is_function s ≡ false → is_instruction s ≡ false
+stood_same : (base place : ℕ) (before : StatementLines) (number : ℕ) (s : Statement) (o : Option Function) → is_function s ≡ false → is_instruction s ≡ false
     → Stood base place before o → Stood base (place + 0) (before ++ (number, s) ∷ []) o
 stood_same base place before number s None f i stood =
     let more : has_function (before ++ (number, s) ∷ []) ≡ (has_function before || is_function s) = has_function-more before (number, s) in
@@ -79,16 +79,16 @@ stood_same base place before number s (Some g) f i stood =
     (omega (arith, stood.0), λ h. omega (arith, stood.1 (sym (more ∙ same) ∙ h)))
 
 -- where a function starts
-first_start : (chosen : Choosing) (base place : ℕ) (owner : Owner) (name : List ℕ) (choice : Choice) (following : Lines) → place ≡ 0
+first_start : (chosen : Choosing) (base place : ℕ) (owner : Owner) (name : List ℕ) (choice : Choice) (following : StatementLines) → place ≡ 0
     → base + (owner_of chosen place owner (Func name choice) following).start ≡ base
 first_start chosen base place owner name choice following h = by_traced (chosen choice (instruction_lines following))
   where
-    by_traced : (t : Bool) → base + (function_at t choice place).start ≡ base
+    by_traced : (t : Bool) → base + (owner_at t choice place).start ≡ base
     by_traced true = omega (arith, h)
     by_traced false = omega (arith, h)
 
 -- one line
-line_ascends : (chosen : Choosing) (base place : ℕ) (owner : Owner) (before : Lines) (number : ℕ) (s : Statement) (following : Lines) (o : Option Function)
+line_ascends : (chosen : Choosing) (base place : ℕ) (owner : Owner) (before : StatementLines) (number : ℕ) (s : Statement) (following : StatementLines) (o : Option Function)
     → IsAllowed before s → Stood base place before o
     → let p : Placed = record { line = number; statement = s; owner = owner_of chosen place owner s following; place = place } in
     MayBegin base o (function_in base p s) × Stood base (place + widths (parts_at p)) (before ++ (number, s) ∷ []) (latest (function_in base p s) o)
@@ -107,7 +107,7 @@ line_ascends chosen base place owner before number (Does operation) following No
 line_ascends chosen base place owner before number (Does operation) following (Some f) may stood =
     (tt, (omega (arith, stood.0), λ h. omega (arith, stood.0, operation_width owner.traced place operation)))
 
-pub ascending : (base : ℕ) (chosen : Choosing) (place : ℕ) (owner : Owner) (before lines : Lines) (o : Option Function) → Allowed before lines → Stood base place before o
+pub ascending : (base : ℕ) (chosen : Choosing) (place : ℕ) (owner : Owner) (before lines : StatementLines) (o : Option Function) → Allowed before lines → Stood base place before o
     → Ascend base o (functions base (placed_from chosen place owner lines))
 ascending base chosen place owner before [] o all stood = tt
 ascending base chosen place owner before (line ∷ following) o all stood =
@@ -124,14 +124,14 @@ ascending base chosen place owner before (line ∷ following) o all stood =
 abbrev pub HasName : Function → Type 0
 HasName f = is_name f.name ≡ true
 
-names_first : (base : ℕ) (before : Lines) (p : Placed) (s : Statement) (fs : List Function) → IsAllowed before s → AllByRecursion HasName fs → AllByRecursion HasName (cons_option (function_in base p s) fs)
+names_first : (base : ℕ) (before : StatementLines) (p : Placed) (s : Statement) (fs : List Function) → IsAllowed before s → AllByRecursion HasName fs → AllByRecursion HasName (cons_option (function_in base p s) fs)
 names_first base before p (Base address) fs may rest = rest
 names_first base before p (Entry name) fs may rest = rest
 names_first base before p (Func name choice) fs may rest = (may.short, rest)
 names_first base before p (Label name) fs may rest = rest
 names_first base before p (Does operation) fs may rest = rest
 
-have_names : (base : ℕ) (chosen : Choosing) (place : ℕ) (owner : Owner) (before lines : Lines) → Allowed before lines → AllByRecursion HasName (functions base (placed_from chosen place owner lines))
+have_names : (base : ℕ) (chosen : Choosing) (place : ℕ) (owner : Owner) (before lines : StatementLines) → Allowed before lines → AllByRecursion HasName (functions base (placed_from chosen place owner lines))
 have_names base chosen place owner before [] all = tt
 have_names base chosen place owner before (line ∷ following) all =
     let here = owner_of chosen place owner line.1 following in
@@ -159,18 +159,18 @@ name_of_bytes name h = All-from_recursion (λ b. is_name_byte b ≡ true) name (
 -- ---- no name twice
 
 -- a defined name isn't one of the names that aren't
-abbrev pub Knows : List ℕ → Lines → Type 0
+abbrev pub Knows : List ℕ → StatementLines → Type 0
 Knows name before = (other : List ℕ) → is_defined other before ≡ false → bytes_eq name other ≡ false
 
-knows-more : (name : List ℕ) (before : Lines) (line : ℕ × Statement) → Knows name before → Knows name (before ++ line ∷ [])
+knows-more : (name : List ℕ) (before : StatementLines) (line : ℕ × Statement) → Knows name before → Knows name (before ++ line ∷ [])
 knows-more name before line knows other free = knows other (or_parts (is_defined other before) (defines other line.1) (sym (is_defined-more other before line) ∙ free)).0
 
-knows_itself : (before : Lines) (number : ℕ) (name : List ℕ) (choice : Choice) → Knows name (before ++ (number, Func name choice) ∷ [])
+knows_itself : (before : StatementLines) (number : ℕ) (name : List ℕ) (choice : Choice) → Knows name (before ++ (number, Func name choice) ∷ [])
 knows_itself before number name choice other free =
     let here = (or_parts (is_defined other before) (bytes_eq name other || false) (sym (is_defined-more other before (number, Func name choice)) ∙ free)).1 in
     (or_parts (bytes_eq name other) false here).0
 
-apart_first : (base : ℕ) (before : Lines) (p : Placed) (s : Statement) (fs : List Function) (name : List ℕ) → IsAllowed before s → Knows name before
+apart_first : (base : ℕ) (before : StatementLines) (p : Placed) (s : Statement) (fs : List Function) (name : List ℕ) → IsAllowed before s → Knows name before
     → AllByRecursion (λ g. bytes_eq name g.name ≡ false) fs → AllByRecursion (λ g. bytes_eq name g.name ≡ false) (cons_option (function_in base p s) fs)
 apart_first base before p (Base address) fs name may knows rest = rest
 apart_first base before p (Entry other) fs name may knows rest = rest
@@ -178,7 +178,7 @@ apart_first base before p (Func other choice) fs name may knows rest = (knows ot
 apart_first base before p (Label other) fs name may knows rest = rest
 apart_first base before p (Does operation) fs name may knows rest = rest
 
-apart : (base : ℕ) (chosen : Choosing) (place : ℕ) (owner : Owner) (before lines : Lines) (name : List ℕ) → Allowed before lines → Knows name before
+apart : (base : ℕ) (chosen : Choosing) (place : ℕ) (owner : Owner) (before lines : StatementLines) (name : List ℕ) → Allowed before lines → Knows name before
     → AllByRecursion (λ g. bytes_eq name g.name ≡ false) (functions base (placed_from chosen place owner lines))
 apart base chosen place owner before [] name all knows = tt
 apart base chosen place owner before (line ∷ following) name all knows =
@@ -201,7 +201,7 @@ own_first base p (Func name choice) fs first rest = (first name choice refl, res
 own_first base p (Label name) fs first rest = rest
 own_first base p (Does operation) fs first rest = rest
 
-own_names : (base : ℕ) (chosen : Choosing) (place : ℕ) (owner : Owner) (before lines : Lines) → Allowed before lines → OwnNames (functions base (placed_from chosen place owner lines))
+own_names : (base : ℕ) (chosen : Choosing) (place : ℕ) (owner : Owner) (before lines : StatementLines) → Allowed before lines → OwnNames (functions base (placed_from chosen place owner lines))
 own_names base chosen place owner before [] all = tt
 own_names base chosen place owner before (line ∷ following) all =
     let here = owner_of chosen place owner line.1 following in
@@ -228,21 +228,21 @@ own_at (g ∷ fs) (suc i) f own e = (differ g f (each_at (λ x. bytes_eq g.name 
 
 -- ---- all together
 
-module _ (base : ℕ) (chosen : Choosing) (said : Lines) (are : AreSaid said) where
-  begins_at : AllByRecursion (λ f. Contains (addresses (units_from base 0 (pieces (placed chosen said)))) f.start) (functions base (placed chosen said))
+module _ (base : ℕ) (chosen : Choosing) (said : StatementLines) (are : AreSaid said) where
+  begins_at : AllByRecursion (λ f. Contains (addresses (units_from base 0 (pieces (lines_placed chosen said)))) f.start) (functions base (lines_placed chosen said))
   begins_at =
-      let all = placed chosen said in
+      let all = lines_placed chosen said in
       let stands = own_places all base chosen 0 no_owner said (all_filled [] said are.allowed are.whole) in
       let at : addresses_from (base + 0) (pieces all) ≡ addresses (units_from base 0 (pieces all)) = ap (λ n. addresses_from n (pieces all)) (add-zero base) ∙ sym (addresses-units base 0 (pieces all)) in
       starts_at_units base (addresses (units_from base 0 (pieces all))) all (subst (λ ns. AllByRecursion (Stands base ns) all) at stands)
 
-  function_at_place : (i : ℕ) (f : Function) → slice_get (functions base (placed chosen said)) i ≡ Some f
-      → IsFunction base (units_from base 0 (pieces (placed chosen said))) (take i (functions base (placed chosen said))) f
+  function_at_place : (i : ℕ) (f : Function) → slice_get (functions base (lines_placed chosen said)) i ≡ Some f
+      → IsFunction base (units_from base 0 (pieces (lines_placed chosen said))) (take i (functions base (lines_placed chosen said))) f
   function_at_place i f e =
-      let fs = functions base (placed chosen said) in
+      let fs = functions base (lines_placed chosen said) in
       let named = each_at HasName fs i f (have_names base chosen 0 no_owner [] said are.allowed) e in
       record {
-        at_unit = each_at (λ g. Contains (addresses (units_from base 0 (pieces (placed chosen said)))) g.start) fs i f begins_at e;
+        at_unit = each_at (λ g. Contains (addresses (units_from base 0 (pieces (lines_placed chosen said)))) g.start) fs i f begins_at e;
         in_order = ascend_at base None fs i f (ascending base chosen 0 no_owner [] said None are.allowed (refl, refl)) e;
         has_name = name_some f.name named;
         name_bytes = name_of_bytes f.name named;
@@ -250,6 +250,6 @@ module _ (base : ℕ) (chosen : Choosing) (said : Lines) (are : AreSaid said) wh
       }
 
 -- the functions of a text
-pub are_functions : (text : List ℕ) (threshold : ℕ) (said : Lines) → said_by text ≡ Ok said
-    → AreFunctions (base_of said) (units_from (base_of said) 0 (pieces (placed (by_threshold threshold) said))) (functions (base_of said) (placed (by_threshold threshold) said))
+pub are_functions : (text : List ℕ) (threshold : ℕ) (said : StatementLines) → statements_said text ≡ Ok said
+    → AreFunctions (base_of said) (units_from (base_of said) 0 (pieces (lines_placed (by_threshold threshold) said))) (functions (base_of said) (lines_placed (by_threshold threshold) said))
 are_functions text threshold said read = function_at_place (base_of said) (by_threshold threshold) said (are_said text said read)

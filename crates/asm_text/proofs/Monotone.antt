@@ -7,18 +7,18 @@ use Rattle.xray_image.specs.Units.{JumpSled, ReturnSled}
 use Rattle.asm_text.specs.declared.statement.Choice.TheVariants.{ByLength, Always, Never}
 use Rattle.asm_text.specs.declared.statement.Branch.TheVariants as branches
 use Rattle.asm_text.specs.Statements.{Plain, Go, TailJump, Return, Statement, Base, Entry, Func, Label, Does}
-use Rattle.asm_text.specs.Layout.{Lines, Part, Owner, by_threshold, unless_never, owner_of, no_owner, parts_of, parts_at, placed_from, all_parts, width, widths, sleds_of, sled_shift}
+use Rattle.asm_text.specs.Layout.{StatementLines, Part, Owner, by_threshold, unless_never, owner_of, no_owner, parts_of_line, parts_at, placed_from, all_parts, width, widths, sleds_of_part, sled_shift}
 use Rattle.asm_text.proofs.WidthLemmas.{widths_aligned, sleds_aligned, widths_aligned_branch, sleds_aligned_branch}
 
 -- no more bytes up to the end, and no more sleds
 abbrev pub NoMore : ℕ → List Part → ℕ → List Part → Type 0
-NoMore p xs q ys = (p + widths xs ≤ q + widths ys) × (sum_by sleds_of xs ≤ sum_by sleds_of ys)
+NoMore p xs q ys = (p + widths xs ≤ q + widths ys) × (sum_by sleds_of_part xs ≤ sum_by sleds_of_part ys)
 
 round_up : (p q : ℕ) → p ≤ q → p + p % 2 ≤ q + q % 2
 round_up p q h = omega arith
 
 -- one line
-line_no_more : (traced counted : Bool) (p q : ℕ) (s : Statement) → p ≤ q → (traced ≡ true → counted ≡ true) → NoMore p (parts_of traced p s) q (parts_of counted q s)
+line_no_more : (traced counted : Bool) (p q : ℕ) (s : Statement) → p ≤ q → (traced ≡ true → counted ≡ true) → NoMore p (parts_of_line traced p s) q (parts_of_line counted q s)
 line_no_more traced counted p q (Base address) h i = (omega arith, omega arith)
 line_no_more traced counted p q (Entry name) h i = (omega arith, omega arith)
 line_no_more true true p q (Func name choice) h i =
@@ -46,7 +46,7 @@ line_no_more false true p q (Does Return) h i =
 line_no_more false false p q (Does operation) h i = (omega arith, omega arith)
 
 -- what is instrumented is counted so
-counted_too : (threshold p q : ℕ) (o c : Owner) (s : Statement) (xs ys : Lines) → (o.traced ≡ true → c.traced ≡ true)
+counted_too : (threshold p q : ℕ) (o c : Owner) (s : Statement) (xs ys : StatementLines) → (o.traced ≡ true → c.traced ≡ true)
     → (owner_of (by_threshold threshold) p o s xs).traced ≡ true → (owner_of unless_never q c s ys).traced ≡ true
 counted_too threshold p q o c (Base address) xs ys i h = i h
 counted_too threshold p q o c (Entry name) xs ys i h = i h
@@ -56,7 +56,7 @@ counted_too threshold p q o c (Func name Never) xs ys i h = h
 counted_too threshold p q o c (Label name) xs ys i h = i h
 counted_too threshold p q o c (Does operation) xs ys i h = i h
 
-lines_no_more : (threshold p q : ℕ) (o c : Owner) (lines : Lines) → p ≤ q → (o.traced ≡ true → c.traced ≡ true)
+lines_no_more : (threshold p q : ℕ) (o c : Owner) (lines : StatementLines) → p ≤ q → (o.traced ≡ true → c.traced ≡ true)
     → NoMore p (flat_map parts_at (placed_from (by_threshold threshold) p o lines)) q (flat_map parts_at (placed_from unless_never q c lines))
 lines_no_more threshold p q o c [] h i = (omega arith, omega arith)
 lines_no_more threshold p q o c (line ∷ following) h i =
@@ -64,15 +64,15 @@ lines_no_more threshold p q o c (line ∷ following) h i =
     let counted = owner_of unless_never q c line.1 following in
     let traced : here.traced ≡ true → counted.traced ≡ true = counted_too threshold p q o c line.1 following following i in
     let one = line_no_more here.traced counted.traced p q line.1 h traced in
-    let xs = parts_of here.traced p line.1 in
-    let ys = parts_of counted.traced q line.1 in
+    let xs = parts_of_line here.traced p line.1 in
+    let ys = parts_of_line counted.traced q line.1 in
     let left = placed_from (by_threshold threshold) (p + widths xs) here following in
     let left_counted = placed_from unless_never (q + widths ys) counted following in
     let more = lines_no_more threshold (p + widths xs) (q + widths ys) here counted following one.0 traced in (
       omega (arith, more.0, sum_by-append width xs (flat_map parts_at left), sum_by-append width ys (flat_map parts_at left_counted)),
-      omega (arith, one.1, more.1, sum_by-append sleds_of xs (flat_map parts_at left), sum_by-append sleds_of ys (flat_map parts_at left_counted)),
+      omega (arith, one.1, more.1, sum_by-append sleds_of_part xs (flat_map parts_at left), sum_by-append sleds_of_part ys (flat_map parts_at left_counted)),
     )
 
 -- all lines
-pub no_more : (threshold : ℕ) (lines : Lines) → NoMore 0 (all_parts (by_threshold threshold) lines) 0 (all_parts unless_never lines)
+pub no_more : (threshold : ℕ) (lines : StatementLines) → NoMore 0 (all_parts (by_threshold threshold) lines) 0 (all_parts unless_never lines)
 no_more threshold lines = lines_no_more threshold 0 0 no_owner no_owner lines (omega arith) (λ h. h)

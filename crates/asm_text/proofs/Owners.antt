@@ -8,7 +8,7 @@ use Rattle.xray_image.specs.Container.{Function}
 use Rattle.asm_text.specs.declared.statement.Choice.{Choice}
 use Rattle.asm_text.specs.declared.statement.Branch.TheVariants as branches
 use Rattle.asm_text.specs.Statements.{Plain, Go, TailJump, Return, Statement, Base, Entry, Func, Label, Does}
-use Rattle.asm_text.specs.Layout.{Lines, Placed, Owner, Choosing, owner_of, function_at, instruction_lines, no_owner, parts_of, parts_at, placed_from, placed, widths, sled_shift, sled_kind, functions, function_in}
+use Rattle.asm_text.specs.Layout.{StatementLines, Placed, Owner, Choosing, owner_of, owner_at, instruction_lines, no_owner, parts_of_line, parts_at, placed_from, lines_placed, widths, sled_shift, sled_kind, functions, function_in}
 use Rattle.asm_text.proofs.WidthLemmas.{widths_aligned, widths_aligned_branch}
 
 -- the last start at or below an address, or else another
@@ -26,23 +26,23 @@ last_below o address f fs below =
     ap (λ t. last_or o (map (λ (g : Function). g.start) (cond t (f ∷ filter (λ g. leb g.start address) fs) (filter (λ g. leb g.start address) fs)))) (le-leb f.start address below)
 
 -- a start isn't before its line's place, and a line with a sled is longer than its alignment
-pub start_from : (chosen : Choosing) (place : ℕ) (owner : Owner) (name : List ℕ) (choice : Choice) (following : Lines)
+pub start_from : (chosen : Choosing) (place : ℕ) (owner : Owner) (name : List ℕ) (choice : Choice) (following : StatementLines)
     → place ≤ (owner_of chosen place owner (Func name choice) following).start
 start_from chosen place owner name choice following = by_traced (chosen choice (instruction_lines following))
   where
-    by_traced : (t : Bool) → place ≤ (function_at t choice place).start
+    by_traced : (t : Bool) → place ≤ (owner_at t choice place).start
     by_traced true = omega arith
     by_traced false = omega arith
 
-pub start_to : (chosen : Choosing) (place : ℕ) (owner : Owner) (name : List ℕ) (choice : Choice) (following : Lines)
-    → let here = owner_of chosen place owner (Func name choice) following in here.start ≤ place + widths (parts_of here.traced place (Func name choice))
+pub start_to : (chosen : Choosing) (place : ℕ) (owner : Owner) (name : List ℕ) (choice : Choice) (following : StatementLines)
+    → let here = owner_of chosen place owner (Func name choice) following in here.start ≤ place + widths (parts_of_line here.traced place (Func name choice))
 start_to chosen place owner name choice following = by_traced (chosen choice (instruction_lines following))
   where
-    by_traced : (t : Bool) → (function_at t choice place).start ≤ place + widths (parts_of t place (Func name choice))
+    by_traced : (t : Bool) → (owner_at t choice place).start ≤ place + widths (parts_of_line t place (Func name choice))
     by_traced true = omega (arith, widths_aligned place (JumpSled sled_shift))
     by_traced false = omega arith
 
-sled_width : (place : ℕ) (s : Statement) (k : ℕ) → sled_kind s ≡ Some k → place % 2 < widths (parts_of true place s)
+sled_width : (place : ℕ) (s : Statement) (k : ℕ) → sled_kind s ≡ Some k → place % 2 < widths (parts_of_line true place s)
 sled_width place (Base address) k e = absurd (cc e)
 sled_width place (Entry name) k e = absurd (cc e)
 sled_width place (Func name choice) k e = omega (arith, widths_aligned place (JumpSled sled_shift))
@@ -60,7 +60,7 @@ above : (base address n : ℕ) (fs : List Function) → address < base + n → A
 above base address n [] h all = tt
 above base address n (f ∷ fs) h all = (omega (arith, all.0), above base address n fs h all.1)
 
-start_first : (chosen : Choosing) (base place : ℕ) (owner : Owner) (number : ℕ) (s : Statement) (following : Lines) (fs : List Function)
+start_first : (chosen : Choosing) (base place : ℕ) (owner : Owner) (number : ℕ) (s : Statement) (following : StatementLines) (fs : List Function)
     → AllByRecursion (λ f. base + place ≤ f.start) fs
     → AllByRecursion (λ f. base + place ≤ f.start) (cons_option (function_in base (record { line = number; statement = s; owner = owner_of chosen place owner s following; place = place }) s) fs)
 start_first chosen base place owner number (Base address) following fs all = all
@@ -70,21 +70,21 @@ start_first chosen base place owner number (Label name) following fs all = all
 start_first chosen base place owner number (Does operation) following fs all = all
 
 -- functions start where their lines begin, or after that
-starts_from : (chosen : Choosing) (base place : ℕ) (owner : Owner) (lines : Lines) → AllByRecursion (λ f. base + place ≤ f.start) (functions base (placed_from chosen place owner lines))
+starts_from : (chosen : Choosing) (base place : ℕ) (owner : Owner) (lines : StatementLines) → AllByRecursion (λ f. base + place ≤ f.start) (functions base (placed_from chosen place owner lines))
 starts_from chosen base place owner [] = tt
 starts_from chosen base place owner (line ∷ following) =
     let here = owner_of chosen place owner line.1 following in
-    let w = widths (parts_of here.traced place line.1) in
+    let w = widths (parts_of_line here.traced place line.1) in
     let left = placed_from chosen (place + w) here following in
     start_first chosen base place owner line.0 line.1 following (functions base left)
     (weaker base place (place + w) (functions base left) (omega arith) (starts_from chosen base (place + w) here following))
 
 -- lines begin where those before them end, or after that
-places_from_next : (chosen : Choosing) (place : ℕ) (owner : Owner) (lines : Lines) (n : ℕ) → n ≤ place → AllByRecursion (λ p. n ≤ p.place) (placed_from chosen place owner lines)
+places_from_next : (chosen : Choosing) (place : ℕ) (owner : Owner) (lines : StatementLines) (n : ℕ) → n ≤ place → AllByRecursion (λ p. n ≤ p.place) (placed_from chosen place owner lines)
 places_from_next chosen place owner [] n h = tt
 places_from_next chosen place owner (line ∷ following) n h =
     let here = owner_of chosen place owner line.1 following in
-    (h, places_from_next chosen (place + widths (parts_of here.traced place line.1)) here following n (omega (arith, h)))
+    (h, places_from_next chosen (place + widths (parts_of_line here.traced place line.1)) here following n (omega (arith, h)))
 
 -- the address of a line's sled
 abbrev pub sled_address : ℕ → Placed → ℕ
@@ -124,7 +124,7 @@ more_among base next o p (Func name choice) fs (q ∷ lines) h places among = (
 more_among base next o p (Label name) fs (q ∷ lines) h places among = (among.0, more_among base next o p (Label name) fs lines h places.1 among.1)
 more_among base next o p (Does operation) fs (q ∷ lines) h places among = (among.0, more_among base next o p (Does operation) fs lines h places.1 among.1)
 
-head_among : (chosen : Choosing) (base place : ℕ) (owner : Owner) (number : ℕ) (s : Statement) (following : Lines) (o : Option ℕ) (fs : List Function)
+head_among : (chosen : Choosing) (base place : ℕ) (owner : Owner) (number : ℕ) (s : Statement) (following : StatementLines) (o : Option ℕ) (fs : List Function)
     → (owner.traced ≡ true → o ≡ Some (base + owner.start))
     → let p : Placed = record { line = number; statement = s; owner = owner_of chosen place owner s following; place = place } in
     AllByRecursion (λ f. base + (place + widths (parts_at p)) ≤ f.start) fs → LiesAmong base o (cons_option (function_in base p s) fs) p
@@ -132,22 +132,22 @@ head_among chosen base place owner number (Base address) following o fs h all k 
 head_among chosen base place owner number (Entry name) following o fs h all k traced kind = absurd (cc kind)
 head_among chosen base place owner number (Func name choice) following o fs h all k traced kind = by_traced (chosen choice (instruction_lines following)) all traced
   where
-    by_traced : (t : Bool) → AllByRecursion (λ f. base + (place + widths (parts_of t place (Func name choice))) ≤ f.start) fs → t ≡ true
-        → last_start o (base + (place + place % 2)) (record { start = base + (function_at t choice place).start; name = name } ∷ fs) ≡ Some (base + (function_at t choice place).start)
+    by_traced : (t : Bool) → AllByRecursion (λ f. base + (place + widths (parts_of_line t place (Func name choice))) ≤ f.start) fs → t ≡ true
+        → last_start o (base + (place + place % 2)) (record { start = base + (owner_at t choice place).start; name = name } ∷ fs) ≡ Some (base + (owner_at t choice place).start)
     by_traced true all traced =
         last_below o (base + (place + place % 2)) (record { start = base + (place + place % 2); name = name }) fs (omega arith)
         ∙ last_above (Some (base + (place + place % 2))) (base + (place + place % 2)) fs
-        (above base (base + (place + place % 2)) (place + widths (parts_of true place (Func name choice))) fs (omega (arith, sled_width place (Func name choice) 0 refl)) all)
+        (above base (base + (place + place % 2)) (place + widths (parts_of_line true place (Func name choice))) fs (omega (arith, sled_width place (Func name choice) 0 refl)) all)
     by_traced false all traced = absurd (cc traced)
 head_among chosen base place owner number (Label name) following o fs h all k traced kind = absurd (cc kind)
 head_among chosen base place owner number (Does operation) following o fs h all k traced kind =
-    let whole : AllByRecursion (λ f. base + (place + widths (parts_of true place (Does operation))) ≤ f.start) fs =
-    subst (λ t. AllByRecursion (λ (f : Function). base + (place + widths (parts_of t place (Does operation))) ≤ f.start) fs) traced all in
+    let whole : AllByRecursion (λ f. base + (place + widths (parts_of_line true place (Does operation))) ≤ f.start) fs =
+    subst (λ t. AllByRecursion (λ (f : Function). base + (place + widths (parts_of_line t place (Does operation))) ≤ f.start) fs) traced all in
     last_above o (base + (place + place % 2)) fs
-    (above base (base + (place + place % 2)) (place + widths (parts_of true place (Does operation))) fs (omega (arith, sled_width place (Does operation) k kind)) whole)
+    (above base (base + (place + place % 2)) (place + widths (parts_of_line true place (Does operation))) fs (omega (arith, sled_width place (Does operation) k kind)) whole)
     ∙ h traced
 
-keeps_start : (chosen : Choosing) (base place : ℕ) (owner : Owner) (number : ℕ) (s : Statement) (following : Lines) (o : Option ℕ)
+keeps_start : (chosen : Choosing) (base place : ℕ) (owner : Owner) (number : ℕ) (s : Statement) (following : StatementLines) (o : Option ℕ)
     → (owner.traced ≡ true → o ≡ Some (base + owner.start))
     → let p : Placed = record { line = number; statement = s; owner = owner_of chosen place owner s following; place = place } in
     p.owner.traced ≡ true → start_after base p s o ≡ Some (base + p.owner.start)
@@ -157,7 +157,7 @@ keeps_start chosen base place owner number (Func name choice) following o h = λ
 keeps_start chosen base place owner number (Label name) following o h = h
 keeps_start chosen base place owner number (Does operation) following o h = h
 
-starts_to : (chosen : Choosing) (place : ℕ) (owner : Owner) (number : ℕ) (s : Statement) (following : Lines)
+starts_to : (chosen : Choosing) (place : ℕ) (owner : Owner) (number : ℕ) (s : Statement) (following : StatementLines)
     → let p : Placed = record { line = number; statement = s; owner = owner_of chosen place owner s following; place = place } in StartsTo p (place + widths (parts_at p)) s
 starts_to chosen place owner number (Base address) following = tt
 starts_to chosen place owner number (Entry name) following = tt
@@ -165,7 +165,7 @@ starts_to chosen place owner number (Func name choice) following = start_to chos
 starts_to chosen place owner number (Label name) following = tt
 starts_to chosen place owner number (Does operation) following = tt
 
-all_among : (chosen : Choosing) (base place : ℕ) (owner : Owner) (lines : Lines) (o : Option ℕ) → (owner.traced ≡ true → o ≡ Some (base + owner.start))
+all_among : (chosen : Choosing) (base place : ℕ) (owner : Owner) (lines : StatementLines) (o : Option ℕ) → (owner.traced ≡ true → o ≡ Some (base + owner.start))
     → AllByRecursion (LiesAmong base o (functions base (placed_from chosen place owner lines))) (placed_from chosen place owner lines)
 all_among chosen base place owner [] o h = tt
 all_among chosen base place owner (line ∷ following) o h =
@@ -179,5 +179,5 @@ all_among chosen base place owner (line ∷ following) o h =
     )
 
 -- each line with a sled is in its function
-pub lines_lie : (chosen : Choosing) (base : ℕ) (said : Lines) → AllByRecursion (LiesAmong base None (functions base (placed chosen said))) (placed chosen said)
+pub lines_lie : (chosen : Choosing) (base : ℕ) (said : StatementLines) → AllByRecursion (LiesAmong base None (functions base (lines_placed chosen said))) (lines_placed chosen said)
 lines_lie chosen base said = all_among chosen base 0 no_owner said None (λ h. absurd (cc h))

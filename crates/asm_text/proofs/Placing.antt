@@ -1,4 +1,4 @@
--- Lines and names within the code, and the length of the code.
+-- StatementLines and names within the code, and the length of the code.
 use Rattle.std.proofs.Common.{◌≡◌, ℕ, zero, suc, ◌+◌, ◌%◌, ◌<◌, ◌≤◌, ◌-ℤ◌, pos, ℤ, Bool, true, false, cond, List, [], ◌∷◌, length, get_or, Option, Some, None, refl, sym, ap, subst, ◌∙◌, arith, map, length-append}
 use Rattle.std.specs.Prelude.{sum_by, count_by, unwrap_or, option_map}
 use Rattle.std.specs.List.{flat_map, cons_option}
@@ -12,31 +12,31 @@ use Rattle.asm_text.specs.declared.statement.Branch.{Branch}
 use Rattle.asm_text.specs.declared.statement.Branch.TheVariants as branches
 use Rattle.asm_text.specs.declared.layout.Laid.{Laid}
 use Rattle.asm_text.specs.Statements.{Plain, Go, TailJump, Return, Statement, Base, Entry, Func, Label, Does}
-use Rattle.asm_text.specs.Layout.{Lines, Part, Fixed, Jump, Placed, Owner, Choosing, owner_of, instruction_lines, function_at, parts_of, parts_at, placed_from, width, widths, sleds_of, sled_shift, own_place, next_place, place_of, defines, is_function, is_instruction, branch_to, branch_width, piece_of, line_pieces, pieces, functions, function_in, map_entries, entry_in, sled_kind}
+use Rattle.asm_text.specs.Layout.{StatementLines, Part, Fixed, Jump, Placed, Owner, Choosing, owner_of, instruction_lines, owner_at, parts_of_line, parts_at, placed_from, width, widths, sleds_of_part, sled_shift, own_place, next_place, place_of, defines, is_function, is_instruction, branch_to, branch_width, piece_of, line_pieces, pieces, functions, function_in, map_entries, entry_in, sled_kind}
 use Rattle.asm_text.specs.private.Laying.{earlier, line_placed, placed_in, lines_of}
 use Rattle.asm_text.proofs.TargetLemmas.{next_place-cons}
 use Rattle.asm_text.proofs.WidthLemmas.{widths_aligned, sleds_aligned, sleds_aligned_branch}
 
 -- the lines that were placed
-pub lines_of-placed : (chosen : Choosing) (place : ℕ) (owner : Owner) (lines : Lines) → lines_of (placed_from chosen place owner lines) ≡ lines
+pub lines_of-placed : (chosen : Choosing) (place : ℕ) (owner : Owner) (lines : StatementLines) → lines_of (placed_from chosen place owner lines) ≡ lines
 lines_of-placed chosen place owner [] = refl
 lines_of-placed chosen place owner (line ∷ following) =
     let here = owner_of chosen place owner line.1 following in
-    ap (λ ls. line ∷ ls) (lines_of-placed chosen (place + widths (parts_of here.traced place line.1)) here following)
+    ap (λ ls. line ∷ ls) (lines_of-placed chosen (place + widths (parts_of_line here.traced place line.1)) here following)
 
 -- a line, and the place that it gives, are within
 abbrev pub Lies : ℕ → Placed → Type 0
 Lies n p = (p.place ≤ n) × ((own : ℕ) → own_place p ≡ Some own → own ≤ n)
 
-start_within : (chosen : Choosing) (place : ℕ) (owner : Owner) (s : Statement) (following : Lines) (n own : ℕ)
-    → let here = owner_of chosen place owner s following in place + widths (parts_of here.traced place s) ≤ n
+start_within : (chosen : Choosing) (place : ℕ) (owner : Owner) (s : Statement) (following : StatementLines) (n own : ℕ)
+    → let here = owner_of chosen place owner s following in place + widths (parts_of_line here.traced place s) ≤ n
     → cond (is_function s) (Some here.start) (cond (is_instruction s) (Some place) None) ≡ Some own → own ≤ n
 start_within chosen place owner (Base address) following n own h e = absurd (cc e)
 start_within chosen place owner (Entry name) following n own h e = absurd (cc e)
 start_within chosen place owner (Func name choice) following n own h e =
     by_traced (chosen choice (instruction_lines following)) h e
   where
-    by_traced : (t : Bool) → place + widths (parts_of t place (Func name choice)) ≤ n → Some (function_at t choice place).start ≡ Some own → own ≤ n
+    by_traced : (t : Bool) → place + widths (parts_of_line t place (Func name choice)) ≤ n → Some (owner_at t choice place).start ≡ Some own → own ≤ n
     by_traced true h e = let at : place + place % 2 ≡ own = cc e in omega (arith, at, widths_aligned place (JumpSled sled_shift))
     by_traced false h e = let at : place ≡ own = cc e in omega arith
 start_within chosen place owner (Label name) following n own h e = absurd (cc e)
@@ -47,12 +47,12 @@ abbrev pub AllLie : ℕ → List Placed → Type 0
 AllLie n [] = Unit {0}
 AllLie n (p ∷ following) = Lies n p × AllLie n following
 
-pub all_lie : (chosen : Choosing) (n place : ℕ) (owner : Owner) (lines : Lines)
+pub all_lie : (chosen : Choosing) (n place : ℕ) (owner : Owner) (lines : StatementLines)
     → place + widths (flat_map parts_at (placed_from chosen place owner lines)) ≤ n → AllLie n (placed_from chosen place owner lines)
 all_lie chosen n place owner [] h = tt
 all_lie chosen n place owner (line ∷ following) h =
     let here = owner_of chosen place owner line.1 following in
-    let xs = parts_of here.traced place line.1 in
+    let xs = parts_of_line here.traced place line.1 in
     let left = placed_from chosen (place + widths xs) here following in
     let sums = sum_by-append width xs (flat_map parts_at left) in
     let next : place + widths xs + widths (flat_map parts_at left) ≤ n = omega (arith, h, sums) in
@@ -117,14 +117,14 @@ code_length all = lines_length all all
 
 -- ---- the number of functions and sleds
 
-pub functions_count : (chosen : Choosing) (place : ℕ) (owner : Owner) (lines : Lines) → length (functions 0 (placed_from chosen place owner lines)) ≡ count_by (λ line. is_function line.1) lines
+pub functions_count : (chosen : Choosing) (place : ℕ) (owner : Owner) (lines : StatementLines) → length (functions 0 (placed_from chosen place owner lines)) ≡ count_by (λ line. is_function line.1) lines
 functions_count chosen place owner [] = refl
 functions_count chosen place owner (line ∷ following) =
     let here = owner_of chosen place owner line.1 following in
     let p : Placed = record { line = line.0; statement = line.1; owner = here; place = place } in
-    let left = placed_from chosen (place + widths (parts_of here.traced place line.1)) here following in
+    let left = placed_from chosen (place + widths (parts_of_line here.traced place line.1)) here following in
     one p line.1 (functions 0 left)
-    ∙ omega (arith, functions_count chosen (place + widths (parts_of here.traced place line.1)) here following, sum_by-append (λ (line : ℕ × Statement). cond (is_function line.1) 1 0) (line ∷ []) following)
+    ∙ omega (arith, functions_count chosen (place + widths (parts_of_line here.traced place line.1)) here following, sum_by-append (λ (line : ℕ × Statement). cond (is_function line.1) 1 0) (line ∷ []) following)
   where
     one : (p : Placed) (s : Statement) (fs : List Function) → length (cons_option (function_in 0 p s) fs) ≡ cond (is_function s) 1 0 + length fs
     one p (Base address) fs = omega arith
@@ -135,7 +135,7 @@ functions_count chosen place owner (line ∷ following) =
 
 -- a line's sled is among its parts
 entry_length : (traced : Bool) (place : ℕ) (s : Statement) (entry : ℕ → MapEntry) (es : List MapEntry)
-    → length (cons_option (cond traced (option_map entry (sled_kind s)) None) es) ≡ sum_by sleds_of (parts_of traced place s) + length es
+    → length (cons_option (cond traced (option_map entry (sled_kind s)) None) es) ≡ sum_by sleds_of_part (parts_of_line traced place s) + length es
 entry_length true place (Base address) entry es = omega arith
 entry_length true place (Entry name) entry es = omega arith
 entry_length true place (Func name choice) entry es = omega (arith, sleds_aligned place (JumpSled sled_shift))
@@ -153,11 +153,11 @@ entry_length false place (Does (Go branch name)) entry es = omega arith
 entry_length false place (Does (TailJump name)) entry es = omega arith
 entry_length false place (Does Return) entry es = omega arith
 
-one_entry : (p : Placed) (es : List MapEntry) → length (cons_option (entry_in 0 p) es) ≡ sum_by sleds_of (parts_at p) + length es
+one_entry : (p : Placed) (es : List MapEntry) → length (cons_option (entry_in 0 p) es) ≡ sum_by sleds_of_part (parts_at p) + length es
 one_entry p es =
     entry_length p.owner.traced p.place p.statement (λ kind. record { sled = 0 + (p.place + p.place % 2); function = 0 + p.owner.start; kind = kind; always = cond p.owner.always 1 0; version = 0 }) es
 
-pub sleds_count : (all : List Placed) → length (map_entries 0 all) ≡ sum_by sleds_of (flat_map parts_at all)
+pub sleds_count : (all : List Placed) → length (map_entries 0 all) ≡ sum_by sleds_of_part (flat_map parts_at all)
 sleds_count [] = refl
 sleds_count (p ∷ following) =
-    one_entry p (map_entries 0 following) ∙ omega (arith, sleds_count following, sum_by-append sleds_of (parts_at p) (flat_map parts_at following))
+    one_entry p (map_entries 0 following) ∙ omega (arith, sleds_count following, sum_by-append sleds_of_part (parts_at p) (flat_map parts_at following))

@@ -7,10 +7,10 @@ use Rattle.xray_image.specs.declared.sled.Sled.{Sled}
 use Rattle.xray_image.specs.Container.{MapEntry}
 use Rattle.xray_image.specs.Units.{piece_bytes, units_from, places_from}
 use Rattle.xray_image.specs.Program.{Program, IsAccepted, sled_of}
-use Rattle.asm_text.specs.Layout.{Lines, Placed, Choosing, by_threshold, placed, no_owner, base_of, entry_in_line, all_parts, sleds_of, widths, pieces, functions, map_entries}
+use Rattle.asm_text.specs.Layout.{StatementLines, Placed, Choosing, by_threshold, lines_placed, no_owner, base_of, entry_in_line, all_parts, sleds_of_part, widths, pieces, functions, map_entries}
 use Rattle.xray_io.specs.Rows.{◌>>=◌}
-use Rattle.asm_text.specs.Writing.{file_bytes}
-use Rattle.asm_text.specs.Assembling.{said_by, image_of, assembled}
+use Rattle.asm_text.specs.Writing.{image_bytes}
+use Rattle.asm_text.specs.Assembling.{statements_said, image_of, assembled}
 use Rattle.asm_text.specs.Programs.{sled_said, entry_address, trampolines_at, program_said, IsProgramOf}
 use Rattle.asm_text.proofs.Placing.{all_lie, code_length, functions_count, sleds_count}
 use Rattle.asm_text.proofs.Monotone.{no_more}
@@ -33,10 +33,10 @@ sleds_by_lines : (base : ℕ) (entries : List MapEntry) (lines : List (Placed ×
 sleds_by_lines base entries [] = refl
 sleds_by_lines base entries (line ∷ following) = ap (λ ss. sled_said entries (entry_for base line) ∷ ss) (sleds_by_lines base entries following)
 
-sleds_told : (base : ℕ) (chosen : Choosing) (said : Lines) → let es = map_entries base (placed chosen said) in
-    map (sled_of es) (zip (places_from base (pieces (placed chosen said))) es) ≡ map (sled_said es) es
+sleds_told : (base : ℕ) (chosen : Choosing) (said : StatementLines) → let es = map_entries base (lines_placed chosen said) in
+    map (sled_of es) (zip (places_from base (pieces (lines_placed chosen said))) es) ≡ map (sled_said es) es
 sleds_told base chosen said =
-    let all = placed chosen said in
+    let all = lines_placed chosen said in
     let es = map_entries base all in
     let lines = sled_lines all in
     ap (λ ps. map (sled_of es) (zip ps es)) (places_by_lines base chosen said)
@@ -45,11 +45,11 @@ sleds_told base chosen said =
     ∙ ap (map (sled_said es)) (sym (map_by_lines base all))
 
 -- what the file holds is what the text says
-same_program : (threshold : ℕ) (said : Lines) → program_in (image_of threshold said) (pieces (placed (by_threshold threshold) said)) ≡ program_said threshold said
+same_program : (threshold : ℕ) (said : StatementLines) → program_in (image_of threshold said) (pieces (lines_placed (by_threshold threshold) said)) ≡ program_said threshold said
 same_program threshold said =
     let base = base_of said in
     let chosen = by_threshold threshold in
-    let all = placed chosen said in
+    let all = lines_placed chosen said in
     let es = map_entries base all in
     let made : ℕ → List Sled → Program = λ entry sleds. record {
       base = base;
@@ -63,16 +63,16 @@ same_program threshold said =
     ap (λ o. made (option_map_or (λ f. f.start) o 0) (map (sled_of es) (zip (places_from base (pieces all)) es))) (entry_is (slice_get (filter_map (λ line. entry_in_line line.1) said) 0) (functions base all))
     ∙ ap (made (entry_address said (functions base all))) (sleds_told base chosen said)
 
-module _ (text : List ℕ) (threshold : ℕ) (said : Lines) (read : said_by text ≡ Ok said) where
-  in_order : IsInOrder (image_of threshold said) (pieces (placed (by_threshold threshold) said))
+module _ (text : List ℕ) (threshold : ℕ) (said : StatementLines) (read : statements_said text ≡ Ok said) where
+  in_order : IsInOrder (image_of threshold said) (pieces (lines_placed (by_threshold threshold) said))
   in_order =
       let fit = said_fits text said read in
       let within = said_within text said read in
       let chosen = by_threshold threshold in
       let base = base_of said in
-      let all = placed chosen said in
+      let all = lines_placed chosen said in
       let few : widths (all_parts chosen said) ≤ 1048576 = omega (arith, (no_more threshold said).0, within.code) in
-      let sleds : sum_by sleds_of (all_parts chosen said) ≤ 4096 = omega (arith, (no_more threshold said).1, within.sleds) in
+      let sleds : sum_by sleds_of_part (all_parts chosen said) ≤ 4096 = omega (arith, (no_more threshold said).1, within.sleds) in
       let lie = all_lie chosen 1048576 0 no_owner said (omega (arith, few)) in
       let each = image_fits base chosen said (base_fits said fit) fit few in
       let file : FileFits (image_of threshold said) = record {
@@ -100,14 +100,14 @@ module _ (text : List ℕ) (threshold : ℕ) (said : Lines) (read : said_by text
       }
 
   -- the file of the text is accepted
-  pub accepted_image : IsAccepted (file_bytes (image_of threshold said)) (program_said threshold said)
+  pub accepted_image : IsAccepted (image_bytes (image_of threshold said)) (program_said threshold said)
   accepted_image =
-      subst (IsAccepted (file_bytes (image_of threshold said))) (same_program threshold said)
-      (accepted_file (image_of threshold said) (pieces (placed (by_threshold threshold) said)) in_order)
+      subst (IsAccepted (image_bytes (image_of threshold said))) (same_program threshold said)
+      (accepted_file (image_of threshold said) (pieces (lines_placed (by_threshold threshold) said)) in_order)
 
   -- the same for the file that is assembled of the text
   pub holds_program : (file : List ℕ) → assembled text threshold ≡ Ok file → IsProgramOf text threshold file
   holds_program file is =
-      let made : Ok (file_bytes (image_of threshold said)) ≡ Ok file = sym (ap (λ r. r >>= λ lines. Ok (file_bytes (image_of threshold lines))) read) ∙ is in
-      let same : file_bytes (image_of threshold said) ≡ file = cc made in
+      let made : Ok (image_bytes (image_of threshold said)) ≡ Ok file = sym (ap (λ r. r >>= λ lines. Ok (image_bytes (image_of threshold lines))) read) ∙ is in
+      let same : image_bytes (image_of threshold said) ≡ file = cc made in
       record { said = said; read = read; accepted = subst (λ bytes. IsAccepted bytes (program_said threshold said)) same accepted_image }

@@ -6,8 +6,8 @@ use Rattle.std.proofs.lemmas.Bool.{le-ltb}
 use Rattle.std.proofs.Math.Seq.{take-append_seam, drop-append_seam}
 use Rattle.byteorder.specs.Endian.{little_bytes}
 use Rattle.byteorder.specs.Numbers.{little_number-reads_back}
-use Rattle.xray_image.specs.Container.{Function, MapEntry, Parts, function_at, map_entry_at, several, parts_of, code_length, function_count, entry_count, number8_at}
-use Rattle.asm_text.specs.Writing.{File, header_bytes, trampolines_of, function_bytes, entry_bytes, file_bytes}
+use Rattle.xray_image.specs.Container.{Function, MapEntry, Parts, function_entry_at, map_entry_at, several, parts_of, code_length, function_count, entry_count, number8_at}
+use Rattle.asm_text.specs.Writing.{File, image_header_bytes, trampolines_of, function_bytes, entry_bytes, image_bytes}
 
 -- what fits the fields of each kind of entry
 abbrev pub FunctionFits : Function → Type 0
@@ -25,7 +25,7 @@ drop_more zero n xs = let same : 0 + n ≡ n = omega arith in ap (λ m. drop m x
 drop_more (suc a) n [] = drop_none (suc a + n) ∙ sym (drop_none n)
 drop_more (suc a) n (x ∷ xs) = let same : suc a + n ≡ suc (a + n) = omega arith in ap (λ m. drop m (x ∷ xs)) same ∙ drop_more a n xs
 
-function_back : (f : Function) (rest : List ℕ) → FunctionFits f → function_at (function_bytes f ++ rest) ≡ Some (f, rest)
+function_back : (f : Function) (rest : List ℕ) → FunctionFits f → function_entry_at (function_bytes f ++ rest) ≡ Some (f, rest)
 function_back f rest fits =
     let bytes = function_bytes f ++ rest in
     let n = length f.name in
@@ -58,8 +58,8 @@ several_back {X = X} item bytes_of Fits back (x ∷ xs) rest fits =
     ∙ ap (λ o. option_and_then (λ (first : X × List ℕ). option_map (λ (others : List X × List ℕ). (first.0 ∷ others.0, others.1)) (next first.1)) o) (back x (flat_map bytes_of xs ++ rest) fits.0)
     ∙ ap (λ o. option_map (λ (others : List X × List ℕ). (x ∷ others.0, others.1)) o) (several_back item bytes_of Fits back xs rest fits.1)
 
-functions_back : (fs : List Function) (rest : List ℕ) → AllByRecursion FunctionFits fs → several function_at (length fs) (flat_map function_bytes fs ++ rest) ≡ Some (fs, rest)
-functions_back = several_back function_at function_bytes FunctionFits function_back
+functions_back : (fs : List Function) (rest : List ℕ) → AllByRecursion FunctionFits fs → several function_entry_at (length fs) (flat_map function_bytes fs ++ rest) ≡ Some (fs, rest)
+functions_back = several_back function_entry_at function_bytes FunctionFits function_back
 
 entries_back : (es : List MapEntry) (rest : List ℕ) → AllByRecursion EntryFits es → several map_entry_at (length es) (flat_map entry_bytes es ++ rest) ≡ Some (es, rest)
 entries_back = several_back map_entry_at entry_bytes EntryFits entry_back
@@ -68,7 +68,7 @@ entries_back = several_back map_entry_at entry_bytes EntryFits entry_back
 abbrev pub parts_with : (n m k : ℕ) → List ℕ → Option Parts
 parts_with n m k b =
     cond (ltb (length b) (64 + n)) None
-    (option_and_then (λ (fs : List Function × List ℕ). option_map (λ (es : List MapEntry × List ℕ). record { code = take n (drop 64 b); functions = fs.0; entries = es.0; rest = es.1 }) (several map_entry_at k fs.1)) (several function_at m (drop (64 + n) b)))
+    (option_and_then (λ (fs : List Function × List ℕ). option_map (λ (es : List MapEntry × List ℕ). record { code = take n (drop 64 b); functions = fs.0; entries = es.0; rest = es.1 }) (several map_entry_at k fs.1)) (several function_entry_at m (drop (64 + n) b)))
 
 -- what fits the fields of a file
 pub record FileFits (f : File) : Type 0 where
@@ -78,9 +78,9 @@ pub record FileFits (f : File) : Type 0 where
   pub each_function : AllByRecursion FunctionFits f.functions
   pub each_entry : AllByRecursion EntryFits f.entries
 
-counts_back : (f : File) (rest : List ℕ) → FileFits f → parts_of (header_bytes f ++ rest) ≡ parts_with (length f.code) (length f.functions) (length f.entries) (header_bytes f ++ rest)
+counts_back : (f : File) (rest : List ℕ) → FileFits f → parts_of (image_header_bytes f ++ rest) ≡ parts_with (length f.code) (length f.functions) (length f.entries) (image_header_bytes f ++ rest)
 counts_back f rest fits =
-    let b = header_bytes f ++ rest in
+    let b = image_header_bytes f ++ rest in
     let trampolines = flat_map (little_bytes 8) (trampolines_of f.base) ++ rest in
     let c : code_length b ≡ length f.code = little_number-reads_back 4 (length f.code) (little_bytes 4 (length f.functions) ++ little_bytes 4 (length f.entries) ++ little_bytes 4 f.entry ++ trampolines) fits.code in
     let m : function_count b ≡ length f.functions = little_number-reads_back 4 (length f.functions) (little_bytes 4 (length f.entries) ++ little_bytes 4 f.entry ++ trampolines) fits.function_count in
@@ -90,15 +90,15 @@ counts_back f rest fits =
     ∙ ap (λ n. parts_with (length f.code) (length f.functions) n b) k
 
 -- the parts of a file
-pub parts_back : (f : File) → FileFits f → parts_of (file_bytes f) ≡ Some (record { code = f.code; functions = f.functions; entries = f.entries; rest = [] })
+pub parts_back : (f : File) → FileFits f → parts_of (image_bytes f) ≡ Some (record { code = f.code; functions = f.functions; entries = f.entries; rest = [] })
 parts_back f fits =
     let functions_part = flat_map function_bytes f.functions in
     let entries_part = flat_map entry_bytes f.entries in
     let rest = f.code ++ (functions_part ++ entries_part) in
-    let b = header_bytes f ++ rest in
+    let b = image_header_bytes f ++ rest in
     let n = length f.code in
-    let shape : file_bytes f ≡ b =
-    append_assoc (header_bytes f ++ f.code) functions_part entries_part ∙ append_assoc (header_bytes f) f.code (functions_part ++ entries_part) in
+    let shape : image_bytes f ≡ b =
+    append_assoc (image_header_bytes f ++ f.code) functions_part entries_part ∙ append_assoc (image_header_bytes f) f.code (functions_part ++ entries_part) in
     let long : ltb (length b) (64 + n) ≡ false = le-ltb (length b) (64 + n) (omega (arith, length-append f.code (functions_part ++ entries_part))) in
     let following : drop (64 + n) b ≡ functions_part ++ entries_part = drop_more 64 n b ∙ drop-append_seam f.code (functions_part ++ entries_part) in
     let code : take n (drop 64 b) ≡ f.code = take-append_seam f.code (functions_part ++ entries_part) in
@@ -107,8 +107,8 @@ parts_back f fits =
     let with_code : List ℕ → List MapEntry × List ℕ → List Function × List ℕ → Parts = λ c es fs. record { code = c; functions = fs.0; entries = es.0; rest = es.1 } in
     ap parts_of shape
     ∙ counts_back f rest fits
-    ∙ ap (λ t. cond t None (option_and_then (λ (fs : List Function × List ℕ). option_map (λ (es : List MapEntry × List ℕ). with_code (take n (drop 64 b)) es fs) (several map_entry_at (length f.entries) fs.1)) (several function_at (length f.functions) (drop (64 + n) b)))) long
-    ∙ ap (λ xs. option_and_then (λ (fs : List Function × List ℕ). option_map (λ (es : List MapEntry × List ℕ). with_code (take n (drop 64 b)) es fs) (several map_entry_at (length f.entries) fs.1)) (several function_at (length f.functions) xs)) following
+    ∙ ap (λ t. cond t None (option_and_then (λ (fs : List Function × List ℕ). option_map (λ (es : List MapEntry × List ℕ). with_code (take n (drop 64 b)) es fs) (several map_entry_at (length f.entries) fs.1)) (several function_entry_at (length f.functions) (drop (64 + n) b)))) long
+    ∙ ap (λ xs. option_and_then (λ (fs : List Function × List ℕ). option_map (λ (es : List MapEntry × List ℕ). with_code (take n (drop 64 b)) es fs) (several map_entry_at (length f.entries) fs.1)) (several function_entry_at (length f.functions) xs)) following
     ∙ ap (λ o. option_and_then (λ (fs : List Function × List ℕ). option_map (λ (es : List MapEntry × List ℕ). with_code (take n (drop 64 b)) es fs) (several map_entry_at (length f.entries) fs.1)) o) (functions_back f.functions entries_part fits.each_function)
     ∙ ap (λ o. option_map (λ (es : List MapEntry × List ℕ). with_code (take n (drop 64 b)) es (f.functions, entries_part)) o) last
     ∙ ap (λ c. Some (with_code c (f.entries, []) (f.functions, entries_part))) code

@@ -11,7 +11,7 @@ use Rattle.xray_image.specs.Program.{EachSled, KindFits, LiesIn, IsEntryOf, Reac
 use Rattle.asm_text.specs.declared.statement.Branch.{Branch}
 use Rattle.asm_text.specs.declared.statement.Branch.TheVariants as branches
 use Rattle.asm_text.specs.Statements.{Plain, Go, TailJump, Return, Statement, Base, Entry, Func, Label, Does}
-use Rattle.asm_text.specs.Layout.{Lines, Part, Fixed, Jump, Placed, Owner, Choosing, owner_of, no_owner, parts_of, parts_at, aligned, placed_from, placed, widths, sled_shift, piece_of, line_pieces, pieces, sled_kind, entry_in, map_entries, functions}
+use Rattle.asm_text.specs.Layout.{StatementLines, Part, Fixed, Jump, Placed, Owner, Choosing, owner_of, no_owner, parts_of_line, parts_at, aligned, placed_from, lines_placed, widths, sled_shift, piece_of, line_pieces, pieces, sled_kind, entry_in, map_entries, functions}
 use Rattle.asm_text.proofs.Placing.{AllLie, parts_length}
 use Rattle.asm_text.specs.Programs.{trampolines_at}
 use Rattle.asm_text.proofs.Owners.{LiesAmong, lines_lie}
@@ -105,7 +105,7 @@ no_sled base false p = refl
 
 -- the parts of a line, from its place on
 line_places : (all : List Placed) (base following : ℕ) (p : Placed) (traced : Bool) (s : Statement)
-    → places_from (base + p.place) (map (piece_of all following) (parts_of traced p.place s)) ≡ places_of base (sled_line traced p (sled_kind s))
+    → places_from (base + p.place) (map (piece_of all following) (parts_of_line traced p.place s)) ≡ places_of base (sled_line traced p (sled_kind s))
 line_places all base following p traced (Base address) = no_sled base traced p
 line_places all base following p traced (Entry name) = no_sled base traced p
 line_places all base following p true (Func name choice) = sled_only all following base p.place (JumpSled sled_shift)
@@ -127,7 +127,7 @@ places_first : (base : ℕ) (o : Option (Placed × ℕ)) (lines : List (Placed �
 places_first base None lines = refl
 places_first base (Some line) lines = refl
 
-code_places : (all : List Placed) (base : ℕ) (chosen : Choosing) (place : ℕ) (owner : Owner) (lines : Lines)
+code_places : (all : List Placed) (base : ℕ) (chosen : Choosing) (place : ℕ) (owner : Owner) (lines : StatementLines)
     → places_from (base + place) (flat_map (line_pieces all) (placed_from chosen place owner lines)) ≡ map (place_for base) (sled_lines (placed_from chosen place owner lines))
 code_places all base chosen place owner [] = refl
 code_places all base chosen place owner (line ∷ following) =
@@ -144,9 +144,9 @@ code_places all base chosen place owner (line ∷ following) =
     ∙ places_first base (sled_line here.traced p (sled_kind line.1)) (sled_lines left)
 
 -- the sleds of the whole code
-pub places_by_lines : (base : ℕ) (chosen : Choosing) (said : Lines) → places_from base (pieces (placed chosen said)) ≡ map (place_for base) (sled_lines (placed chosen said))
+pub places_by_lines : (base : ℕ) (chosen : Choosing) (said : StatementLines) → places_from base (pieces (lines_placed chosen said)) ≡ map (place_for base) (sled_lines (lines_placed chosen said))
 places_by_lines base chosen said =
-    ap (λ n. places_from n (pieces (placed chosen said))) (sym (add_zero base)) ∙ code_places (placed chosen said) base chosen 0 no_owner said
+    ap (λ n. places_from n (pieces (lines_placed chosen said))) (sym (add_zero base)) ∙ code_places (lines_placed chosen said) base chosen 0 no_owner said
 
 -- ---- what the map says of the code
 
@@ -163,14 +163,14 @@ same_order base [] = refl
 same_order base (line ∷ following) = ap (λ ns. (base + (line.0.place + line.0.place % 2)) ∷ ns) (same_order base following)
 
 -- sleds stand at even addresses
-pub even_sleds : (base : ℕ) (chosen : Choosing) (said : Lines) → base % 16 ≡ 0 → All (λ place. place.address % 2 ≡ 0) (places_from base (pieces (placed chosen said)))
+pub even_sleds : (base : ℕ) (chosen : Choosing) (said : StatementLines) → base % 16 ≡ 0 → All (λ place. place.address % 2 ≡ 0) (places_from base (pieces (lines_placed chosen said)))
 even_sleds base chosen said aligned =
-    subst (λ ps. All (λ place. place.address % 2 ≡ 0) ps) (sym (places_by_lines base chosen said)) (even_lines base (sled_lines (placed chosen said)) aligned)
+    subst (λ ps. All (λ place. place.address % 2 ≡ 0) ps) (sym (places_by_lines base chosen said)) (even_lines base (sled_lines (lines_placed chosen said)) aligned)
 
 -- the map's entries are those of the sleds, in their order
-pub map_order : (base : ℕ) (chosen : Choosing) (said : Lines) → map (λ e. e.sled) (map_entries base (placed chosen said)) ≡ map (λ p. p.address) (places_from base (pieces (placed chosen said)))
+pub map_order : (base : ℕ) (chosen : Choosing) (said : StatementLines) → map (λ e. e.sled) (map_entries base (lines_placed chosen said)) ≡ map (λ p. p.address) (places_from base (pieces (lines_placed chosen said)))
 map_order base chosen said =
-    ap (map (λ e. e.sled)) (map_by_lines base (placed chosen said)) ∙ same_order base (sled_lines (placed chosen said)) ∙ sym (ap (map (λ p. p.address)) (places_by_lines base chosen said))
+    ap (map (λ e. e.sled)) (map_by_lines base (lines_placed chosen said)) ∙ same_order base (sled_lines (lines_placed chosen said)) ∙ sym (ap (map (λ p. p.address)) (places_by_lines base chosen said))
 
 -- ---- each entry and its sled
 
@@ -225,23 +225,23 @@ near_line base fs line facts =
     (distance_near base 0x200020 line.0.place (omega arith) (omega arith) facts.0)
     line.0.statement line.1 facts.1
 
-each_sled : (base : ℕ) (chosen : Choosing) (said : Lines) (P : SledPlace → MapEntry → Type 0) → AllLie 1048576 (placed chosen said)
-    → ((line : Placed × ℕ) → SledFacts base (functions base (placed chosen said)) line → P (place_for base line) (entry_for base line))
-    → EachSled (places_from base (pieces (placed chosen said))) (map_entries base (placed chosen said)) P
+each_sled : (base : ℕ) (chosen : Choosing) (said : StatementLines) (P : SledPlace → MapEntry → Type 0) → AllLie 1048576 (lines_placed chosen said)
+    → ((line : Placed × ℕ) → SledFacts base (functions base (lines_placed chosen said)) line → P (place_for base line) (entry_for base line))
+    → EachSled (places_from base (pieces (lines_placed chosen said))) (map_entries base (lines_placed chosen said)) P
 each_sled base chosen said P lie h =
-    let fs = functions base (placed chosen said) in
-    subst (λ ps. EachSled ps (map_entries base (placed chosen said)) P) (sym (places_by_lines base chosen said))
-    (subst (λ es. EachSled (map (place_for base) (sled_lines (placed chosen said))) es P) (sym (map_by_lines base (placed chosen said)))
-    (each_line base fs P (sled_lines (placed chosen said)) (sled_facts base fs (placed chosen said) lie (lines_lie chosen base said)) h))
+    let fs = functions base (lines_placed chosen said) in
+    subst (λ ps. EachSled ps (map_entries base (lines_placed chosen said)) P) (sym (places_by_lines base chosen said))
+    (subst (λ es. EachSled (map (place_for base) (sled_lines (lines_placed chosen said))) es P) (sym (map_by_lines base (lines_placed chosen said)))
+    (each_line base fs P (sled_lines (lines_placed chosen said)) (sled_facts base fs (lines_placed chosen said) lie (lines_lie chosen base said)) h))
 
 -- a patched sled reaches its trampoline
-pub near_sleds : (base : ℕ) (chosen : Choosing) (said : Lines) → AllLie 1048576 (placed chosen said)
-    → EachSled (places_from base (pieces (placed chosen said))) (map_entries base (placed chosen said)) (Reaches (trampolines_at base))
-near_sleds base chosen said lie = each_sled base chosen said (Reaches (trampolines_at base)) lie (near_line base (functions base (placed chosen said)))
+pub near_sleds : (base : ℕ) (chosen : Choosing) (said : StatementLines) → AllLie 1048576 (lines_placed chosen said)
+    → EachSled (places_from base (pieces (lines_placed chosen said))) (map_entries base (lines_placed chosen said)) (Reaches (trampolines_at base))
+near_sleds base chosen said lie = each_sled base chosen said (Reaches (trampolines_at base)) lie (near_line base (functions base (lines_placed chosen said)))
 
 -- an entry agrees with the code about its sled
-pub entries_tell : (base : ℕ) (chosen : Choosing) (said : Lines) → AllLie 1048576 (placed chosen said)
-    → EachSled (places_from base (pieces (placed chosen said))) (map_entries base (placed chosen said)) (IsEntryOf (functions base (placed chosen said)))
+pub entries_tell : (base : ℕ) (chosen : Choosing) (said : StatementLines) → AllLie 1048576 (lines_placed chosen said)
+    → EachSled (places_from base (pieces (lines_placed chosen said))) (map_entries base (lines_placed chosen said)) (IsEntryOf (functions base (lines_placed chosen said)))
 entries_tell base chosen said lie =
-    each_sled base chosen said (IsEntryOf (functions base (placed chosen said))) lie
+    each_sled base chosen said (IsEntryOf (functions base (lines_placed chosen said))) lie
     (λ line facts. record { in_function = facts.2; kind = kind_fits line.0.statement line.1 facts.1; known_version = omega arith })

@@ -9,8 +9,8 @@ use Rattle.xray_image.specs.Container.{Function, MapEntry}
 use Rattle.xray_image.specs.Program.{Program, distinct}
 use Rattle.xray_image.specs.Ids.{sledded_functions, name_at, name_of}
 use Rattle.asm_text.specs.Statements.{Statement, Base, Entry, Func, Label, Does}
-use Rattle.asm_text.specs.Layout.{Lines, Placed, Owner, Choosing, by_threshold, owner_of, no_owner, parts_at, placed_from, placed, widths, base_of, functions, function_in, sled_kind, entry_in, map_entries}
-use Rattle.asm_text.specs.Assembling.{said_by}
+use Rattle.asm_text.specs.Layout.{StatementLines, Placed, Owner, Choosing, by_threshold, owner_of, no_owner, parts_at, placed_from, lines_placed, widths, base_of, functions, function_in, sled_kind, entry_in, map_entries}
+use Rattle.asm_text.specs.Assembling.{statements_said}
 use Rattle.asm_text.specs.Programs.{sled_said, program_said, function_named, function_over, sled_at_line}
 use Rattle.asm_text.proofs.SaidLines.{are_said}
 use Rattle.asm_text.proofs.FunctionsLaw.{Ascend, ascending}
@@ -112,7 +112,7 @@ OwnerIs all base (Some name) owner = IsFound all (record { start = base + owner.
 
 module _ (all : List Function) (base : ℕ) (chosen : Choosing) where
   -- one line
-  owner_first : (place : ℕ) (owner : Owner) (number : ℕ) (s : Statement) (following : Lines) (name : Option (List ℕ)) (fs : List Function) → OwnerIs all base name owner
+  owner_first : (place : ℕ) (owner : Owner) (number : ℕ) (s : Statement) (following : StatementLines) (name : Option (List ℕ)) (fs : List Function) → OwnerIs all base name owner
       → let p : Placed = record { line = number; statement = s; owner = owner_of chosen place owner s following; place = place } in
       AllByRecursion (IsFound all) (cons_option (function_in base p s) fs)
       → OwnerIs all base (last_or name (cons_option (function_named s) [])) p.owner × AllByRecursion (IsFound all) fs
@@ -130,7 +130,7 @@ module _ (all : List Function) (base : ℕ) (chosen : Choosing) where
   name_first (Label other) name names = refl
   name_first (Does operation) name names = refl
 
-  owner_at : (place : ℕ) (owner : Owner) (lines : Lines) (name : Option (List ℕ)) (i : ℕ) (p : Placed) → OwnerIs all base name owner
+  owner_at : (place : ℕ) (owner : Owner) (lines : StatementLines) (name : Option (List ℕ)) (i : ℕ) (p : Placed) → OwnerIs all base name owner
       → AllByRecursion (IsFound all) (functions base (placed_from chosen place owner lines)) → slice_get (placed_from chosen place owner lines) i ≡ Some p
       → OwnerIs all base (last_or name (filter_map (λ line. function_named line.1) (take (suc i) lines))) p.owner
   owner_at place owner [] name i p is found e = absurd (cc e)
@@ -151,19 +151,19 @@ module _ (all : List Function) (base : ℕ) (chosen : Choosing) where
 
 -- ---- all together
 
-module _ (text : List ℕ) (threshold : ℕ) (said : Lines) (read : said_by text ≡ Ok said) where
-  found_starts : AllByRecursion (IsFound (functions (base_of said) (placed (by_threshold threshold) said))) (functions (base_of said) (placed (by_threshold threshold) said))
+module _ (text : List ℕ) (threshold : ℕ) (said : StatementLines) (read : statements_said text ≡ Ok said) where
+  found_starts : AllByRecursion (IsFound (functions (base_of said) (lines_placed (by_threshold threshold) said))) (functions (base_of said) (lines_placed (by_threshold threshold) said))
   found_starts =
-      all_found (base_of said) None (functions (base_of said) (placed (by_threshold threshold) said))
+      all_found (base_of said) None (functions (base_of said) (lines_placed (by_threshold threshold) said))
       (ascending (base_of said) (by_threshold threshold) 0 no_owner [] said None (are_said text said read).allowed (refl, refl))
 
   -- the entry of a line, by its function's id
-  entry_named : (i : ℕ) (p : Placed) (entry : MapEntry) → slice_get (placed (by_threshold threshold) said) i ≡ Some p → entry_in (base_of said) p ≡ Some entry
-      → name_of (program_said threshold said) (sled_said (map_entries (base_of said) (placed (by_threshold threshold) said)) entry).id ≡ function_over said i
+  entry_named : (i : ℕ) (p : Placed) (entry : MapEntry) → slice_get (lines_placed (by_threshold threshold) said) i ≡ Some p → entry_in (base_of said) p ≡ Some entry
+      → name_of (program_said threshold said) (sled_said (map_entries (base_of said) (lines_placed (by_threshold threshold) said)) entry).id ≡ function_over said i
   entry_named i p entry e h =
       let base = base_of said in
       let chosen = by_threshold threshold in
-      let all = placed chosen said in
+      let all = lines_placed chosen said in
       let es = map_entries base all in
       let fs = functions base all in
       let program = program_said threshold said in
@@ -186,17 +186,17 @@ module _ (text : List ℕ) (threshold : ℕ) (said : Lines) (read : said_by text
 
   -- the sled of a line
   pub sled_named : (i : ℕ) (sled : Sled) → sled_at_line threshold said i ≡ Some sled → name_of (program_said threshold said) sled.id ≡ function_over said i
-  sled_named i sled e = by_line (slice_get (placed (by_threshold threshold) said) i) refl e
+  sled_named i sled e = by_line (slice_get (lines_placed (by_threshold threshold) said) i) refl e
     where
-      by_entry : (p : Placed) (o : Option MapEntry) → slice_get (placed (by_threshold threshold) said) i ≡ Some p → entry_in (base_of said) p ≡ o
-          → option_map (sled_said (map_entries (base_of said) (placed (by_threshold threshold) said))) o ≡ Some sled → name_of (program_said threshold said) sled.id ≡ function_over said i
+      by_entry : (p : Placed) (o : Option MapEntry) → slice_get (lines_placed (by_threshold threshold) said) i ≡ Some p → entry_in (base_of said) p ≡ o
+          → option_map (sled_said (map_entries (base_of said) (lines_placed (by_threshold threshold) said))) o ≡ Some sled → name_of (program_said threshold said) sled.id ≡ function_over said i
       by_entry p None at is e = absurd (cc e)
       by_entry p (Some entry) at is e =
-          let same : sled_said (map_entries (base_of said) (placed (by_threshold threshold) said)) entry ≡ sled = cc e in
+          let same : sled_said (map_entries (base_of said) (lines_placed (by_threshold threshold) said)) entry ≡ sled = cc e in
           subst (λ (s : Sled). name_of (program_said threshold said) s.id ≡ function_over said i) same (entry_named i p entry at is)
 
-      by_line : (o : Option Placed) → slice_get (placed (by_threshold threshold) said) i ≡ o
-          → option_map (sled_said (map_entries (base_of said) (placed (by_threshold threshold) said))) (option_and_then (entry_in (base_of said)) o) ≡ Some sled
+      by_line : (o : Option Placed) → slice_get (lines_placed (by_threshold threshold) said) i ≡ o
+          → option_map (sled_said (map_entries (base_of said) (lines_placed (by_threshold threshold) said))) (option_and_then (entry_in (base_of said)) o) ≡ Some sled
           → name_of (program_said threshold said) sled.id ≡ function_over said i
       by_line None at e = absurd (cc e)
       by_line (Some p) at e = by_entry p (entry_in (base_of said) p) at refl e

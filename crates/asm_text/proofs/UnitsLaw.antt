@@ -10,7 +10,7 @@ use Rattle.asm_text.specs.declared.statement.Branch.{Branch}
 use Rattle.asm_text.specs.declared.statement.Branch.TheVariants as branches
 use Rattle.asm_text.specs.Statements.{Operation, Plain, Go, TailJump, Return, Statement, Base, Entry, Func, Label, Does}
 use Rattle.asm_text.specs.private.Fits.{Fits, OperationFits, AllFit}
-use Rattle.asm_text.specs.Layout.{Lines, Part, Fixed, Jump, Placed, Owner, Choosing, owner_of, no_owner, parts_of, parts_at, plain_parts, traced_parts, aligned, placed_from, placed, all_parts, width, widths, sled_shift, branch_to, piece_of, line_pieces, pieces, place_of}
+use Rattle.asm_text.specs.Layout.{StatementLines, Part, Fixed, Jump, Placed, Owner, Choosing, owner_of, no_owner, parts_of_line, parts_at, plain_parts, traced_parts, aligned, placed_from, lines_placed, all_parts, width, widths, sled_shift, branch_to, piece_of, line_pieces, pieces, place_of}
 use Rattle.asm_text.proofs.Placing.{AllLie, all_lie, name_within}
 
 all_both : {X : Type 0} (P : X → Type 0) (xs ys : List X) → AllByRecursion P xs → AllByRecursion P ys → AllByRecursion P (xs ++ ys)
@@ -71,7 +71,7 @@ module _ (all : List Placed) (lie : AllLie 1048576 all) where
   traced_fits following place (TailJump name) fit within = sled_jump_fits following place (JumpSled sled_shift) branches.Jmp name shift_fits within
   traced_fits following place Return fit within = sled_fits following place (ReturnSled sled_shift) shift_fits
 
-  line_fits : (traced : Bool) (following place : ℕ) (s : Statement) → Fits s → following ≤ 1048576 → Fit following (parts_of traced place s)
+  line_fits : (traced : Bool) (following place : ℕ) (s : Statement) → Fits s → following ≤ 1048576 → Fit following (parts_of_line traced place s)
   unfolding Fit
   line_fits traced following place (Base address) fit within = tt
   line_fits traced following place (Entry name) fit within = tt
@@ -81,21 +81,21 @@ module _ (all : List Placed) (lie : AllLie 1048576 all) where
   line_fits true following place (Does operation) fit within = traced_fits following place operation fit within
   line_fits false following place (Does operation) fit within = plain_fits following operation fit within
 
-  lines_fit : (chosen : Choosing) (place : ℕ) (owner : Owner) (lines : Lines) → AllFit lines → place + widths (flat_map parts_at (placed_from chosen place owner lines)) ≤ 1048576
+  lines_fit : (chosen : Choosing) (place : ℕ) (owner : Owner) (lines : StatementLines) → AllFit lines → place + widths (flat_map parts_at (placed_from chosen place owner lines)) ≤ 1048576
       → AllByRecursion IsPiece (flat_map (line_pieces all) (placed_from chosen place owner lines))
   unfolding Fit
   lines_fit chosen place owner [] fit within = tt
   lines_fit chosen place owner (line ∷ following) fit within =
       let here = owner_of chosen place owner line.1 following in
-      let xs = parts_of here.traced place line.1 in
+      let xs = parts_of_line here.traced place line.1 in
       let left = placed_from chosen (place + widths xs) here following in
       let more : place + widths xs + widths (flat_map parts_at left) ≤ 1048576 = omega (arith, within, sum_by-append width xs (flat_map parts_at left)) in
       let first : Fit (place + widths xs) xs = line_fits here.traced (place + widths xs) place line.1 fit.0 (omega (arith, more)) in
       all_both IsPiece (map (piece_of all (place + widths xs)) xs) (flat_map (line_pieces all) left) first (lines_fit chosen (place + widths xs) here following fit.1 more)
 
 -- the whole code
-pub code_is_units : (chosen : Choosing) (said : Lines) → AllFit said → widths (all_parts chosen said) ≤ 1048576
-    → IsUnits (flat_map piece_bytes (pieces (placed chosen said))) (pieces (placed chosen said))
+pub code_is_units : (chosen : Choosing) (said : StatementLines) → AllFit said → widths (all_parts chosen said) ≤ 1048576
+    → IsUnits (flat_map piece_bytes (pieces (lines_placed chosen said))) (pieces (lines_placed chosen said))
 code_is_units chosen said fit few =
     let lie = all_lie chosen 1048576 0 no_owner said (omega (arith, few)) in
-    record { whole = refl; pieces_fit = lines_fit (placed chosen said) lie chosen 0 no_owner said fit (omega (arith, few)) }
+    record { whole = refl; pieces_fit = lines_fit (lines_placed chosen said) lie chosen 0 no_owner said fit (omega (arith, few)) }

@@ -9,7 +9,7 @@ use Rattle.xray_image.specs.Units.{Piece, JumpSled, ReturnSled, Align, piece_byt
 use Rattle.asm_text.specs.declared.statement.Branch.{Branch}
 use Rattle.asm_text.specs.declared.statement.Branch.TheVariants as branches
 use Rattle.asm_text.specs.Statements.{Operation, Plain, Go, TailJump, Return, Does}
-use Rattle.asm_text.specs.Layout.{Part, Fixed, Jump, parts_of, aligned, widths, sleds_of, sled_shift, branch_width}
+use Rattle.asm_text.specs.Layout.{Part, Fixed, Jump, parts_of_line, aligned, widths, sleds_of_part, sled_shift, branch_width}
 
 -- a sled after its alignment byte, by the parity of its place
 abbrev pub at_parity : ℕ → Piece → List Part
@@ -20,7 +20,7 @@ widths_at_parity zero sled h = omega arith
 widths_at_parity (suc zero) sled h = omega arith
 widths_at_parity (suc (suc r)) sled h = absurd (omega arith)
 
-sleds_at_parity : (r : ℕ) (sled : Piece) → r < 2 → sum_by sleds_of (at_parity r sled) ≡ sleds_in sled
+sleds_at_parity : (r : ℕ) (sled : Piece) → r < 2 → sum_by sleds_of_part (at_parity r sled) ≡ sleds_in sled
 sleds_at_parity zero sled h = omega arith
 sleds_at_parity (suc zero) sled h = omega arith
 sleds_at_parity (suc (suc r)) sled h = absurd (omega arith)
@@ -31,7 +31,7 @@ widths_before_branch zero sled branch name h = omega arith
 widths_before_branch (suc zero) sled branch name h = omega arith
 widths_before_branch (suc (suc r)) sled branch name h = absurd (omega arith)
 
-sleds_before_branch : (r : ℕ) (sled : Piece) (branch : Branch) (name : List ℕ) → r < 2 → sum_by sleds_of (at_parity r sled ++ Jump branch name ∷ []) ≡ sleds_in sled
+sleds_before_branch : (r : ℕ) (sled : Piece) (branch : Branch) (name : List ℕ) → r < 2 → sum_by sleds_of_part (at_parity r sled ++ Jump branch name ∷ []) ≡ sleds_in sled
 sleds_before_branch zero sled branch name h = omega arith
 sleds_before_branch (suc zero) sled branch name h = omega arith
 sleds_before_branch (suc (suc r)) sled branch name h = absurd (omega arith)
@@ -40,7 +40,7 @@ sleds_before_branch (suc (suc r)) sled branch name h = absurd (omega arith)
 pub widths_aligned : (place : ℕ) (sled : Piece) → widths (aligned place sled) ≡ place % 2 + length (piece_bytes sled)
 widths_aligned place sled = widths_at_parity (place % 2) sled (omega arith)
 
-pub sleds_aligned : (place : ℕ) (sled : Piece) → sum_by sleds_of (aligned place sled) ≡ sleds_in sled
+pub sleds_aligned : (place : ℕ) (sled : Piece) → sum_by sleds_of_part (aligned place sled) ≡ sleds_in sled
 sleds_aligned place sled = sleds_at_parity (place % 2) sled (omega arith)
 
 -- the same with a branch after it
@@ -49,7 +49,7 @@ pub widths_aligned_branch : (place : ℕ) (sled : Piece) (branch : Branch) (name
 widths_aligned_branch place sled branch name = widths_before_branch (place % 2) sled branch name (omega arith)
 
 pub sleds_aligned_branch : (place : ℕ) (sled : Piece) (branch : Branch) (name : List ℕ)
-    → sum_by sleds_of (aligned place sled ++ Jump branch name ∷ []) ≡ sleds_in sled
+    → sum_by sleds_of_part (aligned place sled ++ Jump branch name ∷ []) ≡ sleds_in sled
 sleds_aligned_branch place sled branch name = sleds_before_branch (place % 2) sled branch name (omega arith)
 
 -- ---- an instruction line has a byte
@@ -78,13 +78,13 @@ branch_has_byte branches.Call = omega arith
 branch_has_byte branches.Jmp = omega arith
 branch_has_byte branches.Jnz = omega arith
 
-plain_width : (place : ℕ) (operation : Operation) → 0 < widths (parts_of false place (Does operation))
+plain_width : (place : ℕ) (operation : Operation) → 0 < widths (parts_of_line false place (Does operation))
 plain_width place (Plain instr) = omega (arith, instr_has_byte instr)
 plain_width place (Go branch name) = omega (arith, branch_has_byte branch)
 plain_width place (TailJump name) = omega arith
 plain_width place Return = omega arith
 
-pub operation_width : (traced : Bool) (place : ℕ) (operation : Operation) → 0 < widths (parts_of traced place (Does operation))
+pub operation_width : (traced : Bool) (place : ℕ) (operation : Operation) → 0 < widths (parts_of_line traced place (Does operation))
 operation_width true place (Plain instr) = plain_width place (Plain instr)
 operation_width true place (Go branch name) = plain_width place (Go branch name)
 operation_width true place (TailJump name) = omega (arith, widths_aligned_branch place (JumpSled sled_shift) branches.Jmp name)

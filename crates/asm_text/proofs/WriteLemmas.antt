@@ -10,7 +10,7 @@ use Rattle.asm_text.specs.private.Laying.{lines_of}
 use Rattle.xray_image.specs.Units.{piece_bytes}
 use Rattle.std.specs.List.{flat_map}
 use Rattle.asm_text.specs.declared.header.Header.{Header}
-use Rattle.asm_text.specs.Writing.{header_of, function_bytes, entry_bytes, file_bytes}
+use Rattle.asm_text.specs.Writing.{image_header, function_bytes, entry_bytes, image_bytes}
 use Rattle.asm_text.specs.private.Files.{IsHeaderOf, image_laid}
 
 -- one more function and map entry at the start, counted and searched, whatever the base is
@@ -74,8 +74,8 @@ number_same (Some name) base all = position-functions name base all
 
 -- the parts of the file, one after the other
 pub file_parts : (all : List Placed) (code : List ℕ) (h : Header) → code ≡ flat_map piece_bytes (pieces all) → IsHeaderOf all (length code) h
-    → header_of h.base h.code h.functions h.entries h.entry ++ code ++ flat_map function_bytes (functions h.base all) ++ flat_map entry_bytes (map_entries h.base all)
-    ≡ file_bytes (image_laid all)
+    → image_header h.base h.code h.functions h.entries h.entry ++ code ++ flat_map function_bytes (functions h.base all) ++ flat_map entry_bytes (map_entries h.base all)
+    ≡ image_bytes (image_laid all)
 file_parts all code h same is =
     let base = base_of (lines_of all) in
     rw (is.base, is.code ∙ ap length same, is.count ∙ sym (length-functions base all), is.sleds ∙ sym (length-map_entries base all), is.entry ∙ sym (number_same (slice_get (filter_map (λ line. entry_in_line line.1) (lines_of all)) 0) base all), same) refl

@@ -9,7 +9,7 @@ use Rattle.xray_image.specs.Program.{distinct}
 use Rattle.xray_image.specs.Units.{JumpSled}
 use Rattle.asm_text.specs.declared.statement.Choice.TheVariants.{ByLength, Always, Never}
 use Rattle.asm_text.specs.Statements.{Plain, Go, TailJump, Return, Statement, Base, Entry, Func, Label, Does}
-use Rattle.asm_text.specs.Layout.{Lines, Owner, by_threshold, owner_of, no_owner, is_function, parts_of, placed_from, placed, widths, sled_shift, map_entries, base_of}
+use Rattle.asm_text.specs.Layout.{StatementLines, Owner, by_threshold, owner_of, no_owner, is_function, parts_of_line, placed_from, lines_placed, widths, sled_shift, map_entries, base_of}
 use Rattle.asm_text.specs.Programs.{sled_said}
 use Rattle.asm_text.specs.WrittenTexts.{is_always_function, AllHaveIds}
 use Rattle.asm_text.proofs.WidthLemmas.{widths_aligned}
@@ -56,21 +56,21 @@ further base place more owner seen known =
     record { own = known.own; below = weaker (base + place) (base + (place + more)) seen (omega arith) known.below }
 
 module _ (threshold base : ℕ) where
-  abbrev counted : (place : ℕ) → Owner → List ℕ → Lines → ℕ
+  abbrev counted : (place : ℕ) → Owner → List ℕ → StatementLines → ℕ
   counted place owner seen said = length (distinct seen (functions_in (map_entries base (placed_from (by_threshold threshold) place owner said))))
 
-  abbrev function_count : Lines → ℕ
+  abbrev function_count : StatementLines → ℕ
   function_count said = count_by (λ line. is_function line.1) said
 
   -- what is counted in the rest of the lines, wherever they begin
-  abbrev Counts : Lines → Type 0
+  abbrev Counts : StatementLines → Type 0
   Counts said = (place : ℕ) (owner : Owner) (seen : List ℕ) → IsKnown base place owner seen → counted place owner seen said ≡ function_count said
 
   -- the entries of the lines after a line, and the sled's entry of a line that has one
-  abbrev entries_after : (place : ℕ) → Owner → Statement → Lines → List MapEntry
+  abbrev entries_after : (place : ℕ) → Owner → Statement → StatementLines → List MapEntry
   entries_after place owner s following =
       let here = owner_of (by_threshold threshold) place owner s following in
-      map_entries base (placed_from (by_threshold threshold) (place + widths (parts_of here.traced place s)) here following)
+      map_entries base (placed_from (by_threshold threshold) (place + widths (parts_of_line here.traced place s)) here following)
 
   abbrev entry_at : (place : ℕ) → Owner → (kind : ℕ) → MapEntry
   entry_at place owner kind = record {
@@ -86,7 +86,7 @@ module _ (threshold base : ℕ) where
       → length (distinct seen (functions_in (cons_option made entries))) ≡ length (distinct seen (functions_in entries))
   adds_none place owner seen made entries e = ap (λ m. length (distinct seen (functions_in (cons_option m entries)))) e
 
-  one : (place : ℕ) (owner : Owner) (seen : List ℕ) (number : ℕ) (s : Statement) (following : Lines) → IsKnown base place owner seen
+  one : (place : ℕ) (owner : Owner) (seen : List ℕ) (number : ℕ) (s : Statement) (following : StatementLines) → IsKnown base place owner seen
       → is_always_function s ≡ true → Counts following
       → counted place owner seen ((number, s) ∷ following) ≡ cond (is_function s) 1 0 + function_count following
   one place owner seen number (Base address) following known always rest =
@@ -103,7 +103,7 @@ module _ (threshold base : ℕ) where
   one place owner seen number (Func name Always) following known always rest =
       let start = base + (place + place % 2) in
       let here : Owner = record { traced = true; always = true; start = place + place % 2 } in
-      let width = widths (parts_of true place (Func name Always)) in
+      let width = widths (parts_of_line true place (Func name Always)) in
       let left = functions_in (entries_after place owner (Func name Always) following) in
       let fresh : list_any (λ y. y == start) seen ≡ false = not_seen start seen (weaker (base + place) start seen (omega arith) known.below) in
       let known_then : IsKnown base (place + width) here (start ∷ seen) = record {
@@ -113,23 +113,23 @@ module _ (threshold base : ℕ) where
       ap (λ t. length (cond t (distinct seen left) (start ∷ distinct (start ∷ seen) left))) fresh
       ∙ (let more = rest (place + width) here (start ∷ seen) known_then in omega (arith, more))
   one place owner seen number (Does (Plain instr)) following known always rest =
-      let width = widths (parts_of owner.traced place (Does (Plain instr))) in
+      let width = widths (parts_of_line owner.traced place (Does (Plain instr))) in
       adds_none place owner seen (cond owner.traced (option_map (λ kind. entry_at place owner kind) None) None) (entries_after place owner (Does (Plain instr)) following) (no_entry owner.traced (λ kind. entry_at place owner kind))
       ∙ rest (place + width) owner seen (further base place width owner seen known) ∙ omega arith
   one place owner seen number (Does (Go branch name)) following known always rest =
-      let width = widths (parts_of owner.traced place (Does (Go branch name))) in
+      let width = widths (parts_of_line owner.traced place (Does (Go branch name))) in
       adds_none place owner seen (cond owner.traced (option_map (λ kind. entry_at place owner kind) None) None) (entries_after place owner (Does (Go branch name)) following) (no_entry owner.traced (λ kind. entry_at place owner kind))
       ∙ rest (place + width) owner seen (further base place width owner seen known) ∙ omega arith
   one place owner seen number (Does (TailJump name)) following known always rest =
-      let width = widths (parts_of owner.traced place (Does (TailJump name))) in
+      let width = widths (parts_of_line owner.traced place (Does (TailJump name))) in
       ap length (maybe_seen owner.traced seen (entry_at place owner 2) (entries_after place owner (Does (TailJump name)) following) known.own)
       ∙ rest (place + width) owner seen (further base place width owner seen known) ∙ omega arith
   one place owner seen number (Does Return) following known always rest =
-      let width = widths (parts_of owner.traced place (Does Return)) in
+      let width = widths (parts_of_line owner.traced place (Does Return)) in
       ap length (maybe_seen owner.traced seen (entry_at place owner 1) (entries_after place owner (Does Return) following) known.own)
       ∙ rest (place + width) owner seen (further base place width owner seen known) ∙ omega arith
 
-  ids : (said : Lines) → list_all (λ line. is_always_function line.1) said ≡ true → Counts said
+  ids : (said : StatementLines) → list_all (λ line. is_always_function line.1) said ≡ true → Counts said
   ids [] always place owner seen known = omega arith
   ids ((number, s) ∷ following) always place owner seen known =
       let parts = and_parts (is_always_function s) (list_all (λ line. is_always_function line.1) following) always in
@@ -138,6 +138,6 @@ module _ (threshold base : ℕ) where
 
 pub all_have_ids : AllHaveIds
 all_have_ids threshold said always =
-    let entries = map_entries (base_of said) (placed (by_threshold threshold) said) in
+    let entries = map_entries (base_of said) (lines_placed (by_threshold threshold) said) in
     ap (λ fs. length (distinct [] fs)) (functions_of_sleds entries entries)
     ∙ ids threshold (base_of said) said always 0 no_owner [] (record { own = λ h. absurd (cc h); below = tt })

@@ -7,15 +7,15 @@ use Rattle.xray_io.specs.Rows.{◌>>=◌}
 use Rattle.text_lines.specs.Lines.{numbered_lines}
 use Rattle.xray_image.specs.Units.{piece_bytes}
 use Rattle.asm_text.specs.declared.fault.AsmFault.{AsmFault}
-use Rattle.asm_text.specs.Layout.{Lines, by_threshold, placed, pieces, functions, map_entries, base_of, entry_of}
-use Rattle.asm_text.specs.Refusals.{read_lines, ended}
-use Rattle.asm_text.specs.Writing.{File, file_bytes}
+use Rattle.asm_text.specs.Layout.{StatementLines, by_threshold, lines_placed, pieces, functions, map_entries, base_of, entry_of}
+use Rattle.asm_text.specs.Refusals.{read_statements, text_ended}
+use Rattle.asm_text.specs.Writing.{File, image_bytes}
 
 -- the image of lines that are in order
-abbrev pub image_of : ℕ → Lines → File
+abbrev pub image_of : ℕ → StatementLines → File
 image_of threshold said =
     let base = base_of said in
-    let all = placed (by_threshold threshold) said in
+    let all = lines_placed (by_threshold threshold) said in
     record {
       base = base;
       entry = entry_of said (functions base all);
@@ -25,12 +25,12 @@ image_of threshold said =
     }
 
 -- what a text says, line after line, or its first refusal
-abbrev pub said_by : List ℕ → Result Lines AsmFault
-said_by text = read_lines [] (numbered_lines text) >>= λ said. ended (length (lines text) + 1) said
+abbrev pub statements_said : List ℕ → Result StatementLines AsmFault
+statements_said text = read_statements [] (numbered_lines text) >>= λ said. text_ended (length (lines text) + 1) said
 
 -- the image file of a text, or its first refusal
 abbrev pub assembled : List ℕ → ℕ → Result (List ℕ) AsmFault
-assembled text threshold = said_by text >>= λ said. Ok (file_bytes (image_of threshold said))
+assembled text threshold = statements_said text >>= λ said. Ok (image_bytes (image_of threshold said))
 
 -- an answer, with the bytes of its image
 abbrev pub seen : Result (Vec ℕ Global) AsmFault → Result (List ℕ) AsmFault

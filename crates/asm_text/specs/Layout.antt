@@ -13,8 +13,8 @@ use Rattle.asm_text.specs.declared.statement.Branch.TheVariants as branches
 use Rattle.asm_text.specs.Statements.{Operation, Plain, Go, TailJump, Return, Statement, Base, Entry, Func, Label, Does}
 
 -- the lines of a text that say something, with their numbers
-abbrev pub Lines : Type 0
-Lines = List (ℕ × Statement)
+abbrev pub StatementLines : Type 0
+StatementLines = List (ℕ × Statement)
 
 -- ---- the parts of the code
 
@@ -58,12 +58,12 @@ traced_parts place (TailJump name) = aligned place (JumpSled sled_shift) ++ Jump
 traced_parts place Return = aligned place (ReturnSled sled_shift)
 
 -- the parts of a line, by whether its function is instrumented and where the line begins
-abbrev pub parts_of : Bool → ℕ → Statement → List Part
-parts_of traced place (Base address) = []
-parts_of traced place (Entry name) = []
-parts_of traced place (Func name choice) = if traced then aligned place (JumpSled sled_shift) else []
-parts_of traced place (Label name) = []
-parts_of traced place (Does operation) = if traced then traced_parts place operation else plain_parts operation
+abbrev pub parts_of_line : Bool → ℕ → Statement → List Part
+parts_of_line traced place (Base address) = []
+parts_of_line traced place (Entry name) = []
+parts_of_line traced place (Func name choice) = if traced then aligned place (JumpSled sled_shift) else []
+parts_of_line traced place (Label name) = []
+parts_of_line traced place (Does operation) = if traced then traced_parts place operation else plain_parts operation
 
 -- ---- which functions are instrumented
 
@@ -76,7 +76,7 @@ is_instruction (Does operation) = true
 is_instruction statement = false
 
 -- how many instruction lines there are before the next function
-abbrev pub instruction_lines : Lines → ℕ
+abbrev pub instruction_lines : StatementLines → ℕ
 instruction_lines [] = 0
 instruction_lines (line ∷ following) =
     if is_function line.1 then 0 else if is_instruction line.1 then suc (instruction_lines following) else instruction_lines following
@@ -114,15 +114,15 @@ is_always Always = true
 is_always Never = false
 
 -- a function that begins at a place; an instrumented one starts with its entry sled, after any alignment byte
-abbrev pub function_at : Bool → Choice → ℕ → Owner
-function_at traced choice place =
+abbrev pub owner_at : Bool → Choice → ℕ → Owner
+owner_at traced choice place =
     record { traced = traced; always = is_always choice; start = if traced then place + place % 2 else place }
 
 -- the function that a line belongs to, by that of the line before it and by the lines after it
-abbrev pub owner_of : Choosing → ℕ → Owner → Statement → Lines → Owner
+abbrev pub owner_of : Choosing → ℕ → Owner → Statement → StatementLines → Owner
 owner_of chosen place owner (Base address) following = owner
 owner_of chosen place owner (Entry name) following = owner
-owner_of chosen place owner (Func name choice) following = function_at (chosen choice (instruction_lines following)) choice place
+owner_of chosen place owner (Func name choice) following = owner_at (chosen choice (instruction_lines following)) choice place
 owner_of chosen place owner (Label name) following = owner
 owner_of chosen place owner (Does operation) following = owner
 
@@ -134,26 +134,26 @@ pub record Placed : Type 0 where
   pub place : ℕ
 
 abbrev pub parts_at : Placed → List Part
-parts_at p = parts_of p.owner.traced p.place p.statement
+parts_at p = parts_of_line p.owner.traced p.place p.statement
 
 -- the first line begins at 0, and each other one after the parts of the line before it
-abbrev pub placed_from : Choosing → ℕ → Owner → Lines → List Placed
+abbrev pub placed_from : Choosing → ℕ → Owner → StatementLines → List Placed
 placed_from chosen place owner [] = []
 placed_from chosen place owner (line ∷ following) =
     let here = owner_of chosen place owner line.1 following in
     record { line = line.0; statement = line.1; owner = here; place = place }
-    ∷ placed_from chosen (place + widths (parts_of here.traced place line.1)) here following
+    ∷ placed_from chosen (place + widths (parts_of_line here.traced place line.1)) here following
 
-abbrev pub placed : Choosing → Lines → List Placed
-placed chosen lines = placed_from chosen 0 no_owner lines
+abbrev pub lines_placed : Choosing → StatementLines → List Placed
+lines_placed chosen lines = placed_from chosen 0 no_owner lines
 
 -- all parts, one after the other
-abbrev pub all_parts : Choosing → Lines → List Part
-all_parts chosen lines = flat_map parts_at (placed chosen lines)
+abbrev pub all_parts : Choosing → StatementLines → List Part
+all_parts chosen lines = flat_map parts_at (lines_placed chosen lines)
 
-abbrev pub sleds_of : Part → ℕ
-sleds_of (Fixed piece) = sleds_in piece
-sleds_of (Jump branch name) = 0
+abbrev pub sleds_of_part : Part → ℕ
+sleds_of_part (Fixed piece) = sleds_in piece
+sleds_of_part (Jump branch name) = 0
 
 -- ---- names
 
@@ -269,12 +269,12 @@ entry_in_line (Does operation) = None
 abbrev pub default_base : ℕ
 default_base = 4096
 
-abbrev pub base_of : Lines → ℕ
+abbrev pub base_of : StatementLines → ℕ
 base_of lines = unwrap_or (slice_get (filter_map (λ line. base_in line.1) lines) 0) default_base
 
 abbrev pub number_of_function : Option (List ℕ) → List Function → ℕ
 number_of_function None all = 0
 number_of_function (Some name) all = position_or_len (λ f. bytes_eq f.name name) all
 
-abbrev pub entry_of : Lines → List Function → ℕ
+abbrev pub entry_of : StatementLines → List Function → ℕ
 entry_of lines all = number_of_function (slice_get (filter_map (λ line. entry_in_line line.1) lines) 0) all

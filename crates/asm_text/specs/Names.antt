@@ -11,8 +11,8 @@ is_decimal b = nat_le 48 b && nat_le b 57
 abbrev pub is_name : List ℕ → Bool
 is_name word = nat_le 1 (length word) && nat_le (length word) 255 && not (is_decimal (slice_index word 0)) && list_all is_name_byte word
 
-abbrev pub name_of : List ℕ → Option (List ℕ)
-name_of word = if is_name word then Some word else None
+abbrev pub name_written : List ℕ → Option (List ℕ)
+name_written word = if is_name word then Some word else None
 
 -- the word without its last byte, if it ends with this byte
 abbrev pub before_end : ℕ → List ℕ → Option (List ℕ)

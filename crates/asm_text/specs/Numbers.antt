@@ -4,5 +4,5 @@ use Rattle.std.specs.Str.{bytes_eq}
 use Rattle.text_lines.specs.Numbers.{numeral}
 
 -- the number that a word writes: hexadecimal after 0x, and otherwise decimal
-abbrev pub number_of : List ℕ → Option ℕ
-number_of word = if bytes_eq (take 2 word) (codes "0x") then numeral 16 (drop 2 word) else numeral 10 word
+abbrev pub number_written : List ℕ → Option ℕ
+number_written word = if bytes_eq (take 2 word) (codes "0x") then numeral 16 (drop 2 word) else numeral 10 word

@@ -8,8 +8,8 @@ use Rattle.xray_image.specs.Container.{Function, MapEntry}
 use Rattle.xray_image.specs.Units.{piece_bytes, units_from}
 use Rattle.xray_image.specs.Program.{Program, Trampolines, IsAccepted, id_of, kind_of}
 use Rattle.asm_text.specs.Statements.{Statement, Base, Entry, Func, Label, Does}
-use Rattle.asm_text.specs.Layout.{Lines, by_threshold, placed, pieces, functions, map_entries, entry_in, base_of, entry_in_line, sled_shift}
-use Rattle.asm_text.specs.Assembling.{said_by}
+use Rattle.asm_text.specs.Layout.{StatementLines, by_threshold, lines_placed, pieces, functions, map_entries, entry_in, base_of, entry_in_line, sled_shift}
+use Rattle.asm_text.specs.Assembling.{statements_said}
 
 -- the function that an entry line names, or else the first function
 abbrev pub entry_function : Option (List ℕ) → List Function → Option Function
@@ -17,7 +17,7 @@ entry_function None all = slice_get all 0
 entry_function (Some name) all = find (λ f. bytes_eq f.name name) all
 
 -- the address at which threads start: that of the entry function
-abbrev pub entry_address : Lines → List Function → ℕ
+abbrev pub entry_address : StatementLines → List Function → ℕ
 entry_address said all =
     option_map_or (λ f. f.start) (entry_function (slice_get (filter_map (λ line. entry_in_line line.1) said) 0) all) 0
 
@@ -37,10 +37,10 @@ abbrev pub trampolines_at : ℕ → Trampolines
 trampolines_at base = record { entry = base + 0x200000; exit = base + 0x200010; tail = base + 0x200020 }
 
 -- the program that lines say, with a sled for each line of an instrumented function that has one
-abbrev pub program_said : ℕ → Lines → Program
+abbrev pub program_said : ℕ → StatementLines → Program
 program_said threshold said =
     let base = base_of said in
-    let all = placed (by_threshold threshold) said in
+    let all = lines_placed (by_threshold threshold) said in
     let entries = map_entries base all in
     record {
       base = base;
@@ -54,8 +54,8 @@ program_said threshold said =
 
 -- the file is accepted by the definition of image files, and holds the program that the text says
 pub record IsProgramOf (text : List ℕ) (threshold : ℕ) (file : List ℕ) : Type 0 where
-  pub said : Lines
-  pub read : said_by text ≡ Ok said
+  pub said : StatementLines
+  pub read : statements_said text ≡ Ok said
   pub accepted : IsAccepted file (program_said threshold said)
 
 -- ---- the function that a line belongs to
@@ -69,11 +69,11 @@ function_named (Label name) = None
 function_named (Does operation) = None
 
 -- the name of the function that this line belongs to: that of the last function line up to it
-abbrev pub function_over : Lines → ℕ → Option (List ℕ)
+abbrev pub function_over : StatementLines → ℕ → Option (List ℕ)
 function_over said i = last_or None (filter_map (λ line. function_named line.1) (take (i + 1) said))
 
 -- the sled of this line, if it has one
-abbrev pub sled_at_line : ℕ → Lines → ℕ → Option Sled
+abbrev pub sled_at_line : ℕ → StatementLines → ℕ → Option Sled
 sled_at_line threshold said i =
-    let all = placed (by_threshold threshold) said in
+    let all = lines_placed (by_threshold threshold) said in
     option_map (sled_said (map_entries (base_of said) all)) (option_and_then (entry_in (base_of said)) (slice_get all i))

@@ -12,26 +12,26 @@ use Rattle.asm_text.specs.declared.fault.AsmFault.{AsmFault}
 use Rattle.asm_text.specs.declared.fault.AsmFault.TheVariants.{Syntax, Register, Range, Repeat, Limit, Label as Unresolved}
 use Rattle.asm_text.specs.Statements.{Operation, Plain, Go, TailJump, Return, Statement, Base, Entry, Func, Label, Does}
 use Rattle.asm_text.specs.Language.{statement_of}
-use Rattle.asm_text.specs.Layout.{Lines, is_function, is_instruction, base_in, entry_in_line, defines, names_function, unless_never, all_parts, widths, sleds_of}
+use Rattle.asm_text.specs.Layout.{StatementLines, is_function, is_instruction, base_in, entry_in_line, defines, names_function, unless_never, all_parts, widths, sleds_of_part}
 
 -- ---- the rows of a line, by the lines before it
 
-abbrev pub has_function : Lines → Bool
+abbrev pub has_function : StatementLines → Bool
 has_function lines = list_any (λ line. is_function line.1) lines
 
 -- the last function has no instruction line
-abbrev pub is_bare : Lines → Bool
+abbrev pub is_bare : StatementLines → Bool
 is_bare lines =
     fold (λ bare line. if is_function line.1 then true else if is_instruction line.1 then false else bare) false lines
 
 -- A base or an entry that is repeated or comes after a function; an instruction or a label before any function; a
 -- function after one without an instruction line.
-abbrev pub is_misplaced : Lines → Statement → Bool
-is_misplaced before (Base address) = list_any (λ line. is_some (base_in line.1)) before || has_function before
-is_misplaced before (Entry name) = list_any (λ line. is_some (entry_in_line line.1)) before || has_function before
-is_misplaced before (Func name choice) = is_bare before
-is_misplaced before (Label name) = not (has_function before)
-is_misplaced before (Does operation) = not (has_function before)
+abbrev pub is_statement_misplaced : StatementLines → Statement → Bool
+is_statement_misplaced before (Base address) = list_any (λ line. is_some (base_in line.1)) before || has_function before
+is_statement_misplaced before (Entry name) = list_any (λ line. is_some (entry_in_line line.1)) before || has_function before
+is_statement_misplaced before (Func name choice) = is_bare before
+is_statement_misplaced before (Label name) = not (has_function before)
+is_statement_misplaced before (Does operation) = not (has_function before)
 
 -- a register that instructions can't name
 abbrev pub operation_reserves : Operation → Bool
@@ -75,10 +75,10 @@ is_out_of_range (Label name) = false
 is_out_of_range (Does operation) = operation_exceeds operation
 
 -- a name that an earlier line defines
-abbrev pub is_defined : List ℕ → Lines → Bool
+abbrev pub is_defined : List ℕ → StatementLines → Bool
 is_defined name lines = list_any (λ line. defines name line.1) lines
 
-abbrev pub repeats : Lines → Statement → Bool
+abbrev pub repeats : StatementLines → Statement → Bool
 repeats before (Base address) = false
 repeats before (Entry name) = false
 repeats before (Func name choice) = is_defined name before
@@ -86,16 +86,16 @@ repeats before (Label name) = is_defined name before
 repeats before (Does operation) = false
 
 -- more functions, code or sleds than an image file may have, if each function that doesn't say never is instrumented
-abbrev pub exceeds_limits : Lines → Bool
+abbrev pub exceeds_limits : StatementLines → Bool
 exceeds_limits lines =
     nat_lt most_functions (count_by (λ line. is_function line.1) lines)
     || nat_lt most_code (widths (all_parts unless_never lines))
-    || nat_lt most_sleds (sum_by sleds_of (all_parts unless_never lines))
+    || nat_lt most_sleds (sum_by sleds_of_part (all_parts unless_never lines))
 
 -- the lines with one more, or the first row that refuses it
-abbrev pub judged : Lines → ℕ → Statement → Result Lines AsmFault
-judged before number statement =
-    First (is_misplaced before statement) (Err (Syntax number))
+abbrev pub statement_judged : StatementLines → ℕ → Statement → Result StatementLines AsmFault
+statement_judged before number statement =
+    First (is_statement_misplaced before statement) (Err (Syntax number))
     (First (names_reserved statement) (Err (Register number))
     (First (is_out_of_range statement) (Err (Range number))
     (First (repeats before statement) (Err (Repeat number))
@@ -103,50 +103,50 @@ judged before number statement =
     (Ok (before ++ (number, statement) ∷ []))))))
 
 -- words that say nothing are refused before anything else is checked
-abbrev pub spoken : Lines → ℕ → Option Statement → Result Lines AsmFault
-spoken before number said = NeedsPart said (Err (Syntax number)) (λ statement. judged before number statement)
+abbrev pub statement_spoken : StatementLines → ℕ → Option Statement → Result StatementLines AsmFault
+statement_spoken before number said = NeedsPart said (Err (Syntax number)) (λ statement. statement_judged before number statement)
 
 -- a line without words is skipped
-abbrev pub with_words : Lines → ℕ → List (List ℕ) → Result Lines AsmFault
+abbrev pub with_words : StatementLines → ℕ → List (List ℕ) → Result StatementLines AsmFault
 with_words before number [] = Ok before
-with_words before number (word ∷ words) = spoken before number (statement_of (word ∷ words))
+with_words before number (word ∷ words) = statement_spoken before number (statement_of (word ∷ words))
 
-abbrev pub with_line : Lines → ℕ × List ℕ → Result Lines AsmFault
-with_line before (number, line) = First (not (is_clean line)) (Err (Syntax number)) (with_words before number (words_of line))
+abbrev pub statement_with_line : StatementLines → ℕ × List ℕ → Result StatementLines AsmFault
+statement_with_line before (number, line) = First (not (is_clean line)) (Err (Syntax number)) (with_words before number (words_of line))
 
 -- what all lines say, after those before them, or the first refusal
-abbrev pub read_lines : Lines → List (ℕ × List ℕ) → Result Lines AsmFault
-read_lines before lines = InTurn with_line before lines
+abbrev pub read_statements : StatementLines → List (ℕ × List ℕ) → Result StatementLines AsmFault
+read_statements before lines = InTurn statement_with_line before lines
 
 -- ---- the rows at the end of the text
 
 -- there is no function, or the last one has no instruction line
-abbrev pub ends_early : Lines → Bool
+abbrev pub ends_early : StatementLines → Bool
 ends_early lines = not (has_function lines) || is_bare lines
 
 -- the name that an instruction line goes to
-abbrev pub name_in : Operation → Option (List ℕ)
-name_in (Plain instr) = None
-name_in (Go branch name) = Some name
-name_in (TailJump name) = Some name
-name_in Return = None
+abbrev pub target_name : Operation → Option (List ℕ)
+target_name (Plain instr) = None
+target_name (Go branch name) = Some name
+target_name (TailJump name) = Some name
+target_name Return = None
 
-abbrev pub is_missing : Lines → Option (List ℕ) → Bool
+abbrev pub is_missing : StatementLines → Option (List ℕ) → Bool
 is_missing lines None = false
 is_missing lines (Some name) = not (is_defined name lines)
 
 -- an entry that names no function, a label with no instruction line or function after it, or a name that isn't defined
-abbrev pub is_unresolved : Lines → Statement → Lines → Bool
+abbrev pub is_unresolved : StatementLines → Statement → StatementLines → Bool
 is_unresolved lines (Base address) following = false
 is_unresolved lines (Entry name) following = not (list_any (λ line. names_function name line.1) lines)
 is_unresolved lines (Func name choice) following = false
 is_unresolved lines (Label name) following = not (list_any (λ line. is_function line.1 || is_instruction line.1) following)
-is_unresolved lines (Does operation) following = is_missing lines (name_in operation)
+is_unresolved lines (Does operation) following = is_missing lines (target_name operation)
 
 -- all lines, or the refusal of the first line among those left that is unresolved
-abbrev pub resolved : Lines → Lines → Result Lines AsmFault
+abbrev pub resolved : StatementLines → StatementLines → Result StatementLines AsmFault
 resolved lines [] = Ok lines
 resolved lines (line ∷ following) = First (is_unresolved lines line.1 following) (Err (Unresolved line.0)) (resolved lines following)
 
-abbrev pub ended : ℕ → Lines → Result Lines AsmFault
-ended number lines = First (ends_early lines) (Err (Syntax number)) (resolved lines lines)
+abbrev pub text_ended : ℕ → StatementLines → Result StatementLines AsmFault
+text_ended number lines = First (ends_early lines) (Err (Syntax number)) (resolved lines lines)

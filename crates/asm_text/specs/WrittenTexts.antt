@@ -6,9 +6,9 @@ use Rattle.xray_image.specs.Ids.{id_count}
 use Rattle.xray_image.specs.Limits.{most_functions}
 use Rattle.asm_text.specs.Statements.{Statement, Base, Entry, Func, Label, Does}
 use Rattle.asm_text.specs.Language.{statement_of}
-use Rattle.asm_text.specs.Layout.{Lines, is_always, is_function}
-use Rattle.asm_text.specs.Refusals.{ends_early, is_misplaced, is_out_of_range, is_unresolved, names_reserved, repeats}
-use Rattle.asm_text.specs.Assembling.{said_by}
+use Rattle.asm_text.specs.Layout.{StatementLines, is_always, is_function}
+use Rattle.asm_text.specs.Refusals.{ends_early, is_statement_misplaced, is_out_of_range, is_unresolved, names_reserved, repeats}
+use Rattle.asm_text.specs.Assembling.{statements_said}
 use Rattle.asm_text.specs.Programs.{program_said}
 
 -- words that can be written, and that say this
@@ -17,24 +17,24 @@ pub record Says (words : List (List ℕ)) (statement : Statement) : Type 0 where
   pub said : statement_of words ≡ Some statement
 
 -- a statement may follow these lines, and all its operands are in range
-pub record MayFollow (before : Lines) (statement : Statement) : Type 0 where
-  pub place : is_misplaced before statement ≡ false
+pub record MayFollow (before : StatementLines) (statement : Statement) : Type 0 where
+  pub place : is_statement_misplaced before statement ≡ false
   pub registers : names_reserved statement ≡ false
   pub range : is_out_of_range statement ≡ false
   pub name : repeats before statement ≡ false
 
 -- each line may follow those before it, each name is defined, and the last function has an instruction line
-pub record IsOrderly (said : Lines) : Type 0 where
-  pub follows : (before : Lines) (line : ℕ × Statement) (following : Lines) → said ≡ before ++ line ∷ following → MayFollow before line.1
-  pub resolved : (before : Lines) (line : ℕ × Statement) (following : Lines) → said ≡ before ++ line ∷ following → is_unresolved said line.1 following ≡ false
+pub record IsOrderly (said : StatementLines) : Type 0 where
+  pub follows : (before : StatementLines) (line : ℕ × Statement) (following : StatementLines) → said ≡ before ++ line ∷ following → MayFollow before line.1
+  pub resolved : (before : StatementLines) (line : ℕ × Statement) (following : StatementLines) → said ≡ before ++ line ∷ following → is_unresolved said line.1 following ≡ false
   pub ends : ends_early said ≡ false
 
--- Lines in order say what is written in them, if there are no more of them than functions may be. So few lines exceed no
+-- StatementLines in order say what is written in them, if there are no more of them than functions may be. So few lines exceed no
 -- limit.
 abbrev pub WrittenTextsRead : Type 0
 WrittenTextsRead = (all : List (List (List ℕ))) (statements : List Statement) → AllZip Says all statements
     → IsOrderly (enumerate_from 1 statements) → length statements ≤ most_functions
-    → said_by (written_text all) ≡ Ok (enumerate_from 1 statements)
+    → statements_said (written_text all) ≡ Ok (enumerate_from 1 statements)
 
 -- a function, if the line begins one, says always
 abbrev pub is_always_function : Statement → Bool
@@ -46,5 +46,5 @@ is_always_function (Does operation) = true
 
 -- if each function says always, then each has an id
 abbrev pub AllHaveIds : Type 0
-AllHaveIds = (threshold : ℕ) (said : Lines) → list_all (λ line. is_always_function line.1) said ≡ true
+AllHaveIds = (threshold : ℕ) (said : StatementLines) → list_all (λ line. is_always_function line.1) said ≡ true
     → id_count (program_said threshold said) ≡ count_by (λ line. is_function line.1) said

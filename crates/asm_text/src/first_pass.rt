@@ -3,7 +3,7 @@
 ghost use Rattle.std.specs.Prelude.{◌≡◌, ◌<◌, ℕ, List, [], ◌∷◌, ◌++◌, Some, option_copied, OnOk, IfOk, length, if◌then◌else◌};
 ghost use Rattle.std.specs.Str.Lines.{lines};
 ghost use Rattle.text_lines.specs.Lines.{numbered_lines};
-ghost use Rattle.asm_text.specs.{Refusals.{repeats, with_line, read_lines}, Layout.{Lines as Said}};
+ghost use Rattle.asm_text.specs.{Refusals.{repeats, statement_with_line, read_statements}, Layout.{StatementLines as Said}};
 ghost use Rattle.asm_text.specs.private.{NameTables.{line_named}, Views.{statement_said}};
 ghost use Rattle.asm_text.specs.private.Fits.{AllFit};
 ghost use Rattle.asm_text.specs.private.FirstPass.{lines_in, IsFirstPass, IsNames, Takes, Admits, Reads, is_named};
@@ -112,7 +112,7 @@ impl<'a> FirstPass<'a> {
     /// Takes a line of the text, or refuses it.
     fn take_line(&mut self, line: &Line<'a>) -> Result<(), AsmFault>
         requires { IsFirstPass self.old }
-        ensures { Takes result (with_line (lines_in self.old.entries.items)
+        ensures { Takes result (statement_with_line (lines_in self.old.entries.items)
             (line.now.number, line.now.bytes.now)) self.new }
     {
         let spoken = match read_line(line) {
@@ -133,7 +133,7 @@ impl<'a> FirstPass<'a> {
 /// Reads all lines. The answer is the first refusal, if there is one.
 pub(crate) fn read_text<'a>(alloc: Global, text: &'a [u8]) -> Result<FirstPass<'a>, AsmFault>
     requires { length (lines text.now) < u32.MAX }
-    ensures reads { Reads result (read_lines [] (numbered_lines text.now)) }
+    ensures reads { Reads result (read_statements [] (numbered_lines text.now)) }
     ensures fit { IfOk result (λ pass. AllFit (lines_in pass.entries.items)) }
 {
     let mut pass = FirstPass::new(alloc);

@@ -2,7 +2,7 @@
 
 ghost use Rattle.std.specs.{Prelude.{◌≡◌, ◌≤◌, ◌++◌, OnOk, codes}, List.{flat_map}};
 ghost use Rattle.byteorder.specs.Endian.{little_bytes};
-ghost use Rattle.asm_text.specs.Writing.{header_of, trampolines_of};
+ghost use Rattle.asm_text.specs.Writing.{image_header, trampolines_of};
 
 use crate::fields::{push_u32, push_u32s, push_u64, push_u64s};
 use std::alloc::AllocError;
@@ -78,7 +78,7 @@ fn push_trampolines(out: &mut Vec<u8>, base: u64) -> Result<(), AllocError>
 pub(crate) fn push_header(out: &mut Vec<u8>, header: &Header) -> Result<(), AllocError>
     requires { header.now.base ≤ BASE_LIMIT }
     ensures { OnOk result (out.new.items ≡ out.old.items
-        ++ header_of header.now.base header.now.code header.now.functions header.now.entries
+        ++ image_header header.now.base header.now.code header.now.functions header.now.entries
         header.now.entry) }
 {
     push_header_start(out, header.base)?;

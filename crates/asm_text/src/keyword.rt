@@ -1,7 +1,7 @@
 //! The first words of lines.
 
 ghost use Rattle.std.specs.Prelude.{◌≡◌};
-ghost use Rattle.asm_text.specs.Language.{keyword_of, choice_of};
+ghost use Rattle.asm_text.specs.Language.{statement_keyword_of, choice_of};
 
 use crate::statement::Choice;
 use text_lines::keyword_in;
@@ -45,7 +45,7 @@ const KEYWORDS: [(&[u8], Keyword); 14] = [
 
 /// The keyword that a word is, if it is one.
 pub(crate) fn keyword_of(word: &[u8]) -> Option<Keyword>
-    ensures { result ≡ keyword_of word.now }
+    ensures { result ≡ statement_keyword_of word.now }
 {
     keyword_in(&KEYWORDS, word)
 }

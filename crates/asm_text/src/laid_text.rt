@@ -1,7 +1,7 @@
 //! A text whose lines have their places.
 
 ghost use Rattle.std.specs.Prelude.{◌≡◌, ◌≤◌, unwrap_or, IfOk};
-ghost use Rattle.asm_text.specs.Layout.{place_of, by_threshold, placed};
+ghost use Rattle.asm_text.specs.Layout.{place_of, by_threshold, lines_placed};
 
 use crate::first_pass::FirstPass;
 use crate::layout::{Laid, lay_out};
@@ -45,7 +45,7 @@ impl<'a> LaidText<'a> {
         requires pass { IsFirstPass pass }
         requires fit { AllFit (lines_in pass.entries.items) }
         ensures lines { IfOk result (λ text. all_in text
-            ≡ placed (by_threshold threshold) (lines_in pass.entry.entries.items)) }
+            ≡ lines_placed (by_threshold threshold) (lines_in pass.entry.entries.items)) }
         ensures writable { IfOk result IsWritable }
     {
         let FirstPass { entries, names, .. } = pass;

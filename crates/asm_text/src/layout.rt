@@ -1,7 +1,7 @@
 //! Where the lines begin.
 
 ghost use Rattle.std.specs.Prelude.{◌≡◌, ◌≤◌, IfOk};
-ghost use Rattle.asm_text.specs.Layout.{widths, all_parts, by_threshold, placed, owner_of, instruction_lines};
+ghost use Rattle.asm_text.specs.Layout.{widths, all_parts, by_threshold, lines_placed, owner_of, instruction_lines};
 ghost use Rattle.asm_text.specs.private.{FirstPass.{lines_in}, Views.{statement_said}};
 ghost use Rattle.asm_text.specs.private.Laying.{owner_in, placed_in};
 
@@ -94,7 +94,7 @@ pub(crate) fn lay_out<'a>(
 ) -> Result<Vec<Laid<'a>>, AllocError>
     requires { widths (all_parts (by_threshold threshold) (lines_in entries.now)) ≤ CODE_LIMIT }
     ensures { IfOk result (λ laid. placed_in laid.items
-        ≡ placed (by_threshold threshold) (lines_in entries.now)) }
+        ≡ lines_placed (by_threshold threshold) (lines_in entries.now)) }
 {
     let mut laid = Vec::new(alloc);
     let mut place = 0;

@@ -1,8 +1,8 @@
 //! A line as what it says.
 
 ghost use Rattle.std.specs.Prelude.{◌≡◌, ◌∷◌, [], option_map, option_and_then};
-ghost use Rattle.asm_text.specs.{Names.{name_of}, Registers.{register64, before_comma}};
-ghost use Rattle.asm_text.specs.{Statements.{Go, Does}, Language.{says, label_of}};
+ghost use Rattle.asm_text.specs.{Names.{name_written}, Registers.{register64, before_comma}};
+ghost use Rattle.asm_text.specs.{Statements.{Go, Does}, Language.{keyword_says, label_of}};
 ghost use Rattle.asm_text.specs.private.Views.{statement_spoken, LineGives};
 
 use crate::fault::AsmFault;
@@ -22,7 +22,7 @@ const COMMA: u8 = b',';
 /// An instruction line that goes to a name.
 fn branch_line<'a>(branch: Branch, word: &'a [u8]) -> Option<RawStatement<'a>>
     ensures { option_map statement_spoken result
-        ≡ option_map (λ n. Does (Go branch n)) (name_of word.now) }
+        ≡ option_map (λ n. Does (Go branch n)) (name_written word.now) }
 {
     let name = name_of(word)?;
     Some(RawStatement::Does(RawOperation::Go { branch, name }))
@@ -30,7 +30,7 @@ fn branch_line<'a>(branch: Branch, word: &'a [u8]) -> Option<RawStatement<'a>>
 
 /// What a keyword says by itself.
 fn says_alone<'a>(keyword: Keyword) -> Option<RawStatement<'a>>
-    ensures { option_map statement_spoken result ≡ says keyword [] }
+    ensures { option_map statement_spoken result ≡ keyword_says keyword [] }
 {
     match keyword {
         Keyword::Ret => Some(RawStatement::Does(RawOperation::Return)),
@@ -40,7 +40,7 @@ fn says_alone<'a>(keyword: Keyword) -> Option<RawStatement<'a>>
 
 /// What a keyword says with one word.
 fn says_one<'a>(keyword: Keyword, word: &'a [u8]) -> Option<RawStatement<'a>>
-    ensures { option_map statement_spoken result ≡ says keyword (word.now ∷ []) }
+    ensures { option_map statement_spoken result ≡ keyword_says keyword (word.now ∷ []) }
 {
     match keyword {
         Keyword::Base => Some(RawStatement::Base(number_of(word)?)),
@@ -81,7 +81,7 @@ fn two_registers(first: &[u8], second: &[u8]) -> Option<(RegisterWord, RegisterW
 
 /// What a keyword says with two words.
 fn says_two<'a>(keyword: Keyword, first: &'a [u8], second: &'a [u8]) -> Option<RawStatement<'a>>
-    ensures { option_map statement_spoken result ≡ says keyword (first.now ∷ second.now ∷ []) }
+    ensures { option_map statement_spoken result ≡ keyword_says keyword (first.now ∷ second.now ∷ []) }
 {
     match keyword {
         Keyword::Function => Some(RawStatement::Function {
@@ -107,7 +107,7 @@ fn says_two<'a>(keyword: Keyword, first: &'a [u8], second: &'a [u8]) -> Option<R
 
 /// What a keyword says with the words after it.
 fn says<'a>(keyword: Keyword, words: Words<'a>) -> Option<RawStatement<'a>>
-    ensures { option_map statement_spoken result ≡ says keyword words.entry }
+    ensures { option_map statement_spoken result ≡ keyword_says keyword words.entry }
 {
     match read_operands(words) {
         Operands::Zero => says_alone(keyword),

@@ -2,7 +2,7 @@
 
 ghost use Rattle.std.specs.{Prelude.{◌≡◌, option_copied}, List.{list_all}};
 ghost use Rattle.xray_image.specs.Program.{is_name_byte};
-ghost use Rattle.asm_text.specs.Names.{is_name, name_of, before_end};
+ghost use Rattle.asm_text.specs.Names.{is_name, name_written, before_end};
 
 use xray_image::format::{NAME_LIMIT, is_name_byte};
 
@@ -26,7 +26,7 @@ fn is_name(word: &[u8]) -> bool
 
 /// The word, if it is a name.
 pub(crate) fn name_of(word: &[u8]) -> Option<&[u8]>
-    ensures { option_copied result ≡ name_of word.now }
+    ensures { option_copied result ≡ name_written word.now }
 {
     if is_name(word) { Some(word) } else { None }
 }

@@ -132,12 +132,12 @@ pub(crate) enum Operation<'a> {
 }
 
 impl<'a> Operation<'a> {
-    ghost use Rattle.asm_text.specs.Refusals.{name_in};
+    ghost use Rattle.asm_text.specs.Refusals.{target_name};
     ghost use Rattle.asm_text.specs.private.Views.{operation_checked};
 
     /// The name that the operation goes to.
     pub(crate) fn target_name(&self) -> Option<&'a [u8]>
-        ensures { option_copied result ≡ name_in (operation_checked self.now) }
+        ensures { option_copied result ≡ target_name (operation_checked self.now) }
     {
         match self {
             Operation::Go { name, .. } => Some(*name),

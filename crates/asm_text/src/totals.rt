@@ -81,7 +81,7 @@ pub(crate) struct Totals {
 
 impl Totals {
     ghost use Rattle.std.specs.Prelude.{[]};
-    ghost use Rattle.asm_text.specs.{Refusals.{is_misplaced, ends_early}, Layout.{Lines}};
+    ghost use Rattle.asm_text.specs.{Refusals.{is_statement_misplaced, ends_early}, Layout.{StatementLines}};
     ghost use Rattle.asm_text.specs.private.FirstPass.{traced_after, Follows, IsTotals, IsWithin, totals_exceed};
     ghost use Rattle.asm_text.specs.private.Views.{statement_spoken};
 
@@ -103,8 +103,8 @@ impl Totals {
 
     /// Whether a line may not come after those so far.
     pub(crate) fn misplaces(&self, spoken: &RawStatement) -> bool
-        ensures { (lines : Lines) → IsTotals lines self.now
-            → result ≡ is_misplaced lines (statement_spoken spoken.now) }
+        ensures { (lines : StatementLines) → IsTotals lines self.now
+            → result ≡ is_statement_misplaced lines (statement_spoken spoken.now) }
     {
         match spoken {
             RawStatement::Base(_) => self.has_base || self.standing.has_begun(),
@@ -145,7 +145,7 @@ impl Totals {
     /// Whether the text may not end here: no function has begun, or the last one has no instruction
     /// line.
     pub(crate) fn end_early(&self) -> bool
-        ensures { (lines : Lines) → IsTotals lines self.now → result ≡ ends_early lines }
+        ensures { (lines : StatementLines) → IsTotals lines self.now → result ≡ ends_early lines }
     {
         !self.standing.has_begun() || self.standing.lacks_lines()
     }

@@ -1,7 +1,7 @@
 //! How many bytes and sleds a line makes.
 
 ghost use Rattle.std.specs.Prelude.{◌≡◌, ◌≤◌, ◌+◌, ◌%◌, ℕ, sum_by};
-ghost use Rattle.asm_text.specs.Layout.{widths, sleds_of, parts_of, traced_parts, plain_parts, branch_width};
+ghost use Rattle.asm_text.specs.Layout.{widths, sleds_of_part, parts_of_line, traced_parts, plain_parts, branch_width};
 ghost use Rattle.asm_text.specs.private.Views.{statement_said, operation_checked};
 
 use crate::statement::{Branch, Operation, Statement};
@@ -59,7 +59,7 @@ fn traced_width(place: u32, operation: &Operation) -> u32
 /// instrumented.
 #[tactic(auto, using(crate::proofs::WidthLemmas::widths_aligned))]
 pub(crate) fn line_width(traced: bool, place: u32, statement: &Statement) -> u32
-    ensures width { result ≡ widths (parts_of traced place (statement_said statement.now)) }
+    ensures width { result ≡ widths (parts_of_line traced place (statement_said statement.now)) }
     ensures few { result ≤ SLED_LENGTH + 1 + NEAR_LENGTH }
 {
     match statement {
@@ -77,7 +77,7 @@ pub(crate) fn line_width(traced: bool, place: u32, statement: &Statement) -> u32
 #[tactic(auto, using(crate::proofs::WidthLemmas::sleds_aligned, crate::proofs::WidthLemmas::sleds_aligned_branch))]
 pub(crate) fn line_sleds(traced: bool, statement: &Statement) -> u32
     ensures sleds { (place : ℕ) → result
-        ≡ sum_by sleds_of (parts_of traced place (statement_said statement.now)) }
+        ≡ sum_by sleds_of_part (parts_of_line traced place (statement_said statement.now)) }
     ensures few { result ≤ 1 }
 {
     match statement {

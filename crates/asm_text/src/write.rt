@@ -4,7 +4,7 @@ ghost use Rattle.std.specs.Prelude.{◌≡◌, ◌≤◌, ◌<◌, IfOk, length,
 ghost use Rattle.std.specs.{List.{position_or_len, filter_map}, Str.{bytes_eq}};
 ghost use Rattle.xray_image.specs.Limits.{most_code, most_functions, most_sleds};
 ghost use Rattle.asm_text.specs.Layout.{functions, map_entries, base_of, entry_of, entry_in_line};
-ghost use Rattle.asm_text.specs.Writing.{file_bytes};
+ghost use Rattle.asm_text.specs.Writing.{image_bytes};
 ghost use Rattle.asm_text.specs.private.{Laying.{placed_in, lines_of}, LaidTexts.{all_in}};
 ghost use Rattle.asm_text.specs.private.Files.{image_laid, IsWritable, IsHeaderOf};
 
@@ -114,7 +114,7 @@ fn header_of(text: &LaidText, code: &[u8]) -> Header
 /// The image file.
 pub(crate) fn write_file(alloc: Global, text: &LaidText) -> Result<Vec<u8>, AllocError>
     requires { IsWritable text.now }
-    ensures { IfOk result (λ file. file.items ≡ file_bytes (image_laid (all_in text.now))) }
+    ensures { IfOk result (λ file. file.items ≡ image_bytes (image_laid (all_in text.now))) }
 {
     let mut code = Vec::new(alloc);
     push_code(&mut code, text)?;

@@ -16,7 +16,7 @@ use Rattle.fdr_file.specs.declared.fault.TraceFault.{TraceFault}
 use Rattle.fdr_file.specs.declared.trace.Block.{Block}
 use Rattle.fdr_file.specs.declared.trace.Trace.{Trace}
 use Rattle.fdr_file.specs.Places.{starts}
-use Rattle.fdr_file.specs.Traces.{Standing, block_in, block_length, block_standings, extents_in, header_in, names_cpu, record_in, records_of, standings, trace_of}
+use Rattle.fdr_file.specs.Traces.{Standing, block_in, block_length, block_standings, extents_in, header_in, names_cpu, record_in, records_among, standings, trace_of}
 use Rattle.fdr_file.specs.private.Faults.{by_places, block_faults, header_faults, standing_faults}
 use Rattle.fdr_file.specs.Grammar.{AreBlocks, AreSpelled, BeginWithCpu, IsBlock, IsHeader, IsInner, IsTrace, block_records}
 use Rattle.fdr_file.proofs.TraceRows.{rows_decide}
@@ -57,7 +57,7 @@ spelled_stand at (r ∷ records) bytes (front, following, parts, fits, spells, r
     ∙ stands_first at (front ++ following) some
     ∙ rw (is, long, drop_at front following (length_of r) spells.whole) (ap (λ (x : List Standing). (at, Ok r) ∷ x) (spelled_stand (at + length_of r) records following rest))
 
-pub stand_records : (at : ℕ) (records : List Rec) → records_of (stand_from at records) ≡ records
+pub stand_records : (at : ℕ) (records : List Rec) → records_among (stand_from at records) ≡ records
 stand_records at [] = refl
 stand_records at (r ∷ records) = ap (λ (x : List Rec). r ∷ x) (stand_records (at + length_of r) records)
 

@@ -19,12 +19,12 @@ use Rattle.fdr_record.specs.declared.event.Event.{Event}
 use Rattle.fdr_record.specs.declared.rec.Rec.{Rec}
 use Rattle.fdr_record.specs.declared.rec.Rec.TheVariants.{NewBuffer, NewCpu, TscWrap, WallTime, Pid, Extents, Function}
 use Rattle.fdr_record.specs.declared.fault.RecFault.{RecFault}
-use Rattle.fdr_record.specs.Reading.{function_at, metadata_at}
+use Rattle.fdr_record.specs.Reading.{function_record_at, metadata_record_at}
 use Rattle.fdr_file.specs.declared.events.Base.{Base}
 use Rattle.fdr_file.specs.declared.fault.TraceFault.{TraceFault}
 use Rattle.fdr_file.specs.declared.fault.TraceFault.TheVariants as faults
 use Rattle.fdr_file.specs.Events.{counter_at, cpu_of, deltas_since, events_after, whole_counter}
-use Rattle.fdr_file.specs.Traces.{extents_in, names_cpu, needs_cpu, record_in, records_of, Standing, block_in, block_of, block_standings, pid_named, block_length, record_length, standings, thread_named, wall_named}
+use Rattle.fdr_file.specs.Traces.{extents_in, names_cpu, needs_cpu, record_in, records_among, Standing, block_in, block_of, block_standings, pid_named, block_length, record_length, standings, thread_named, wall_named}
 use Rattle.fdr_file.specs.private.Faults.{decided, record_faults, standing_faults, block_faults, unless}
 use Rattle.fdr_file.specs.private.Reading.{Left, blocks_read, body_on, end_named, end_on, events_on, left_at, named_on, preamble_on, read_first, record_on, step_on}
 
@@ -36,7 +36,7 @@ chosen true x y z e = inl (refl, e)
 chosen false x y z e = inr (refl, e)
 
 pub extents_is : (bytes : List ℕ) (size : ℕ) → record_in bytes ≡ Ok (Extents size) → extents_in bytes ≡ size
-unfolding record_in function_at metadata_at
+unfolding record_in function_record_at metadata_record_at
 extents_is bytes size e = grind (arith, common_steps)
 
 -- ---- events
@@ -59,13 +59,13 @@ or_true true = refl
 or_true false = refl
 
 abbrev Decides : Option Base → List Rec → List Standing → Type 0
-Decides base before said = events_on base said ≡ decided (standing_faults before said) (events_after before (records_of said))
+Decides base before said = events_on base said ≡ decided (standing_faults before said) (events_after before (records_among said))
 
 one_more : (base : Option Base) (before : List Rec) (at : ℕ) (r : Rec) (following : List Standing) (next : Base) (event : Option Event) → step_on at r base ≡ Ok (next, event) → record_faults before at r ≡ []
-    → events_after before (r ∷ records_of following) ≡ option_to_list event ++ events_after (r ∷ before) (records_of following) → Decides (Some next) (r ∷ before) following → Decides base before ((at, Ok r) ∷ following)
+    → events_after before (r ∷ records_among following) ≡ option_to_list event ++ events_after (r ∷ before) (records_among following) → Decides (Some next) (r ∷ before) following → Decides base before ((at, Ok r) ∷ following)
 unfolding events_on
 one_more base before at r following next event stepped clean told rest =
-    rw (stepped, rest, clean, told) (decided_more (option_to_list event) (standing_faults (r ∷ before) following) (events_after (r ∷ before) (records_of following)))
+    rw (stepped, rest, clean, told) (decided_more (option_to_list event) (standing_faults (r ∷ before) following) (events_after (r ∷ before) (records_among following)))
 
 no_more : (base : Option Base) (before : List Rec) (at : ℕ) (r : Rec) (following : List Standing) (e : TraceFault) (later : List TraceFault) → step_on at r base ≡ Err e → record_faults before at r ≡ e ∷ later
     → Decides base before ((at, Ok r) ∷ following)
@@ -107,7 +107,7 @@ events_decided (Some base) before ((at, Ok (Function kind func delta)) ∷ follo
     let told : make (cpu_of before) (counter_at (Function kind func delta ∷ before)) ≡ event =
     ap (λ (c : ℕ). make c (counter_at (Function kind func delta ∷ before))) (sym is.1) ∙ ap (make base.cpu) (sym counter) in
     one_more (Some base) before at (Function kind func delta) following next (Some event) refl (rw (many.1, is.0) refl)
-    (ap (λ (e : Event). e ∷ events_after (Function kind func delta ∷ before) (records_of following)) told)
+    (ap (λ (e : Event). e ∷ events_after (Function kind func delta ∷ before) (records_among following)) told)
     (events_decided (Some next) (Function kind func delta ∷ before) following (one_after before (Function kind func delta) many) (is.0, is.1, twice (base.tsc + delta) ∙ counter))
 events_decided base before ((at, Ok (NewBuffer thread)) ∷ following) many is = no_more base before at (NewBuffer thread) following (faults.Order at) (unless (list_any names_cpu before || true) (faults.NoBase at)) refl (rw (many.1) refl)
 events_decided base before ((at, Ok (WallTime wall)) ∷ following) many is = no_more base before at (WallTime wall) following (faults.Order at) (unless (list_any names_cpu before || true) (faults.NoBase at)) refl (rw (many.1) refl)
@@ -191,7 +191,7 @@ decided_in : {A B : Type 0} (make : A → B) (found : List TraceFault) (x : A) �
 decided_in make [] x = refl
 decided_in make (fault ∷ later) x = refl
 
-pub body_decided : (at : ℕ) (bytes : List ℕ) → 48 ≤ length bytes → body_on (at, bytes) ≡ decided (standing_faults [] (standings at bytes)) (block_of (records_of (standings at bytes)))
+pub body_decided : (at : ℕ) (bytes : List ℕ) → 48 ≤ length bytes → body_on (at, bytes) ≡ decided (standing_faults [] (standings at bytes)) (block_of (records_among (standings at bytes)))
 unfolding body_on preamble_on
 body_decided at bytes long =
     elim (found thread_named NewBuffer [] at bytes thread_is (λ r none. ap (λ (o : Option ℕ). unless (is_some o) (faults.Order at) ++ unless (false || not (needs_cpu r)) (faults.NoBase at)) none) (omega arith)) [
@@ -206,7 +206,7 @@ body_decided at bytes long =
                       let before : List Rec = Pid pid ∷ WallTime wall ∷ NewBuffer thread ∷ [] in
                       let said = standings left''.0 left''.1 in
                       let make : List Event → Block = λ events. record { thread = thread; wall = wall; pid = pid; events = events } in
-                      rw (on, on', on'', first.stands, second.stands, third.stands, events_decided None before said (0, refl) refl) (decided_in make (standing_faults before said) (events_after before (records_of said)))
+                      rw (on, on', on'', first.stands, second.stands, third.stands, events_decided None before said (0, refl) refl) (decided_in make (standing_faults before said) (events_after before (records_among said)))
                 ]
           ]
     ]

@@ -12,7 +12,7 @@ use Rattle.fdr_record.specs.declared.rec.Rec.TheVariants.{NewBuffer, NewCpu, Tsc
 use Rattle.fdr_record.specs.declared.fault.RecFault.{RecFault}
 use Rattle.fdr_record.specs.Records.{action_of, head_of, told_by, length_of, FieldsFit, BeginsWith}
 use Rattle.fdr_record.specs.Refusals.{Refuses}
-use Rattle.fdr_record.specs.Reading.{function_at, kind_read, metadata_at}
+use Rattle.fdr_record.specs.Reading.{function_record_at, kind_read, metadata_record_at}
 use Rattle.fdr_file.specs.Traces.{record_in, record_length}
 use Rattle.fdr_file.specs.private.Reading.{TakenAt}
 use Rattle.std.specs.Prelude.{IfOk, IfErr}
@@ -52,7 +52,7 @@ abbrev Comes : Rec → List ℕ → Type 0
 Comes r bytes = record_in bytes ≡ Ok r
 
 pub told_again : (r : Rec) (bytes : List ℕ) → FieldsFit r → BeginsWith r bytes → record_in bytes ≡ Ok r
-unfolding record_in function_at metadata_at
+unfolding record_in function_record_at metadata_record_at
 told_again (NewBuffer thread) bytes fits is =
     let e = unspelled 16 (told_by (NewBuffer thread)) is.filler bytes is.told in
     let rest = little_bytes 4 thread ++ (is.filler ++ drop 16 bytes) in
@@ -113,7 +113,7 @@ length_told (Function kind func delta) bytes fits is =
     subst (HasLength 8) (sym (unspelled 8 (told_by (Function kind func delta)) is.filler bytes is.told)) (rw even refl)
 
 pub refused_again : (f : RecFault) (bytes : List ℕ) → Refuses bytes f → record_in bytes ≡ Err f
-unfolding record_in function_at metadata_at
+unfolding record_in function_record_at metadata_record_at
 refused_again f bytes is = grind (arith, common_steps)
 
 -- the decoder's answer at a place

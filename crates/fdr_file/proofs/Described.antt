@@ -19,7 +19,7 @@ use Rattle.fdr_file.specs.declared.fault.TraceFault.{TraceFault}
 use Rattle.fdr_file.specs.declared.fault.TraceFault.TheVariants as faults
 use Rattle.fdr_file.specs.declared.trace.Trace.{Trace}
 use Rattle.fdr_file.specs.Places.{starts}
-use Rattle.fdr_file.specs.Traces.{Standing, block_in, block_length, block_of, block_standings, extents_in, fault_at, flags_in, header_in, may_be, names_cpu, needs_cpu, pid_named, record_in, records_of, standings, thread_named, trace_of, type_in, version_in, wall_named}
+use Rattle.fdr_file.specs.Traces.{Standing, block_in, block_length, block_of, block_standings, extents_in, fault_at, flags_in, header_in, may_be, names_cpu, needs_cpu, pid_named, record_in, records_among, standings, thread_named, trace_of, type_in, version_in, wall_named}
 use Rattle.fdr_file.specs.private.Faults.{block_faults, extents_faults, faults_of, header_faults, record_faults, standing_faults, told_by, unless}
 use Rattle.fdr_file.specs.Grammar.{AreBlocks, AreSpelled, BeginWithCpu, IsBlock, IsHeader, IsInner, IsTrace}
 use Rattle.fdr_file.proofs.TraceRows.{rows_decide}
@@ -228,7 +228,7 @@ block_described decodes at bytes all clean =
     let said = spelled decodes (length body) [] (at + 16) body (omega arith) (All-take (λ x. x < 256) n (drop 16 bytes) (All-drop (λ x. x < 256) 16 bytes all)) fit.clean in
     let shape = shaped (at + 16) said.records body (omega (arith, long, named, fit.least)) said.spelled (sym (ap (standing_faults []) said.stand) ∙ fit.clean) in
     let told : block_in (at, bytes) ≡ block_of (NewBuffer shape.thread ∷ WallTime shape.wall ∷ Pid shape.pid ∷ shape.inner) =
-    ap (λ (x : List Standing). block_of (records_of x)) said.stand ∙ ap block_of (stand_records (at + 16) said.records ∙ shape.are) in (
+    ap (λ (x : List Standing). block_of (records_among x)) said.stand ∙ ap block_of (stand_records (at + 16) said.records ∙ shape.are) in (
       subst (IsBlock (take (16 + n) bytes)) (sym told) (record {
         extents = take 16 bytes;
         body = body;

@@ -40,5 +40,5 @@ events_after before (Function kind func delta ∷ records) =
 events_after before (r ∷ records) = events_after (r ∷ before) records
 
 -- the events of a block's records
-abbrev pub events_of : List Rec → List Event
-events_of records = events_after [] records
+abbrev pub events_said : List Rec → List Event
+events_said records = events_after [] records

@@ -8,7 +8,7 @@ use Rattle.fdr_record.specs.Records.{FieldsFit, Spells}
 use Rattle.fdr_file.specs.declared.header.Header.{Header}
 use Rattle.fdr_file.specs.declared.trace.Block.{Block}
 use Rattle.fdr_file.specs.declared.trace.Trace.{Trace}
-use Rattle.fdr_file.specs.Events.{events_of}
+use Rattle.fdr_file.specs.Events.{events_said}
 use Rattle.fdr_file.specs.Traces.{names_cpu, needs_cpu}
 
 -- The bytes are a header with these fields, of version 3 and of the type of the Flight Data Recorder mode. The flags
@@ -56,7 +56,7 @@ pub record IsBlock (bytes : List ℕ) (block : Block) : Type 0 where
   pub spelled : AreSpelled (block_records block records) body
   pub inner : AllByRecursion IsInner records
   pub based : BeginWithCpu records
-  pub told : block.events ≡ events_of (block_records block records)
+  pub told : block.events ≡ events_said (block_records block records)
 
 -- the bytes are these blocks, one after the other
 abbrev pub AreBlocks : List Block → List ℕ → Type 0

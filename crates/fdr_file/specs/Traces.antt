@@ -9,14 +9,14 @@ use Rattle.fdr_record.specs.declared.rec.Rec.TheVariants.{NewBuffer, NewCpu, Tsc
 use Rattle.fdr_record.specs.declared.fault.RecFault.{RecFault}
 use Rattle.fdr_record.specs.declared.fault.RecFault.TheVariants as decoder_faults
 use Rattle.fdr_record.specs.Refusals.{length_by}
-use Rattle.fdr_record.specs.Reading.{function_at, metadata_at}
+use Rattle.fdr_record.specs.Reading.{function_record_at, metadata_record_at}
 use Rattle.fdr_file.specs.declared.header.Header.{Header}
 use Rattle.fdr_file.specs.declared.fault.TraceFault.{TraceFault}
 use Rattle.fdr_file.specs.declared.fault.TraceFault.TheVariants as faults
 use Rattle.fdr_file.specs.declared.trace.Block.{Block}
 use Rattle.fdr_file.specs.declared.trace.Trace.{Trace}
 use Rattle.fdr_file.specs.Places.{starts}
-use Rattle.fdr_file.specs.Events.{events_of}
+use Rattle.fdr_file.specs.Events.{events_said}
 
 -- ---- the header
 
@@ -53,7 +53,7 @@ header_rows bytes follows =
 -- the record that bytes begin with, or why there is none
 unfoldable pub record_in : List ℕ → Result Rec RecFault
 record_in [] = Err decoder_faults.Short
-record_in (first ∷ rest) = if first % 2 == 0 then function_at first (first ∷ rest) else metadata_at (first / 2) rest
+record_in (first ∷ rest) = if first % 2 == 0 then function_record_at first (first ∷ rest) else metadata_record_at (first / 2) rest
 
 -- the length of the record that bytes begin with, by its first byte
 abbrev pub record_length : List ℕ → ℕ
@@ -71,10 +71,10 @@ abbrev pub standings : ℕ → List ℕ → List Standing
 standings at bytes = map standing_at (starts record_length 0 at bytes)
 
 -- the records among these
-abbrev pub records_of : List Standing → List Rec
-records_of [] = []
-records_of ((at, Ok r) ∷ following) = r ∷ records_of following
-records_of ((at, Err fault) ∷ following) = records_of following
+abbrev pub records_among : List Standing → List Rec
+records_among [] = []
+records_among ((at, Ok r) ∷ following) = r ∷ records_among following
+records_among ((at, Err fault) ∷ following) = records_among following
 
 -- the thread that a record names, if a buffer begins with it
 abbrev pub thread_named : Rec → Option ℕ
@@ -148,12 +148,12 @@ block_of records = record {
   thread = first_or 0 (filter_map thread_named records);
   wall = first_or (record { secs = 0; micros = 0 }) (filter_map wall_named records);
   pid = first_or 0 (filter_map pid_named records);
-  events = events_of records;
+  events = events_said records;
 }
 
 -- the block that begins at a place
 abbrev pub block_in : ℕ × List ℕ → Block
-block_in start = block_of (records_of (block_standings start))
+block_in start = block_of (records_among (block_standings start))
 
 -- The block that begins at a place: its first record, the number of bytes that it names, and its records.
 abbrev pub extents_rows : ℕ × List ℕ → Result Rec RecFault → Result Block TraceFault

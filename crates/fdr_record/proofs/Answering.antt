@@ -14,7 +14,7 @@ use Rattle.fdr_record.specs.declared.fault.RecFault.{RecFault}
 use Rattle.fdr_record.specs.declared.fault.RecFault.TheVariants as faults
 use Rattle.fdr_record.specs.Records.{BeginsWith, action_of, first_of, head_of, length_of, told_by}
 use Rattle.fdr_record.specs.Refusals.{Answers}
-use Rattle.fdr_record.specs.Reading.{function_at, fields_read, metadata_at}
+use Rattle.fdr_record.specs.Reading.{function_record_at, fields_read, metadata_record_at}
 use Rattle.fdr_record.proofs.Fields.{IsBytes, field_2, field_4, field_8}
 
 -- the first bytes of a function record
@@ -42,8 +42,8 @@ function_spelled kind first rest fits even is long =
       },
     )
 
-function_holds : (first : ℕ) (rest : List ℕ) → IsBytes (first ∷ rest) → first % 2 ≡ 0 → Answers (first ∷ rest) (function_at first (first ∷ rest))
-unfolding function_at
+function_holds : (first : ℕ) (rest : List ℕ) → IsBytes (first ∷ rest) → first % 2 ≡ 0 → Answers (first ∷ rest) (function_record_at first (first ∷ rest))
+unfolding function_record_at
 function_holds first rest fits even =
     elim (cases_Bool (ltb (length (first ∷ rest)) 8)) [
       | inl short ↦
@@ -116,8 +116,8 @@ fields_hold kind first rest fits is long =
       ]
     ]
 
-metadata_holds : (first : ℕ) (rest : List ℕ) → IsBytes (first ∷ rest) → first % 2 ≢ 0 → Answers (first ∷ rest) (metadata_at (first / 2) rest)
-unfolding metadata_at
+metadata_holds : (first : ℕ) (rest : List ℕ) → IsBytes (first ∷ rest) → first % 2 ≢ 0 → Answers (first ∷ rest) (metadata_record_at (first / 2) rest)
+unfolding metadata_record_at
 metadata_holds first rest fits odd =
     elim (cases_Bool (ltb (length rest) 15)) [
       | inl short ↦
@@ -130,11 +130,11 @@ metadata_holds first rest fits odd =
     ]
 
 -- what is read from bytes, by their first byte
-pub function_answers : (bytes : List ℕ) → IsBytes bytes → 1 ≤ length bytes → get_or bytes 0 0 % 2 ≡ 0 → Answers bytes (function_at (get_or bytes 0 0) bytes)
+pub function_answers : (bytes : List ℕ) → IsBytes bytes → 1 ≤ length bytes → get_or bytes 0 0 % 2 ≡ 0 → Answers bytes (function_record_at (get_or bytes 0 0) bytes)
 function_answers [] fits some even = absurd (omega arith)
 function_answers (first ∷ rest) fits some even = function_holds first rest fits even
 
-pub metadata_answers : (bytes : List ℕ) → IsBytes bytes → 1 ≤ length bytes → get_or bytes 0 0 % 2 ≢ 0 → Answers bytes (metadata_at (get_or bytes 0 0 / 2) (drop 1 bytes))
+pub metadata_answers : (bytes : List ℕ) → IsBytes bytes → 1 ≤ length bytes → get_or bytes 0 0 % 2 ≢ 0 → Answers bytes (metadata_record_at (get_or bytes 0 0 / 2) (drop 1 bytes))
 metadata_answers [] fits some odd = absurd (omega arith)
 metadata_answers (first ∷ rest) fits some odd = metadata_holds first rest fits odd
 
@@ -142,6 +142,6 @@ pub some_answer : (bytes : List ℕ) → IsBytes bytes → (a : Result Rec RecFa
 some_answer [] fits = (Err faults.Short, tt)
 some_answer (first ∷ rest) fits =
     elim (eqb_tells (first % 2) 0) [
-      | inl even ↦ (function_at first (first ∷ rest), function_holds first rest fits even.1)
-      | inr odd ↦ (metadata_at (first / 2) rest, metadata_holds first rest fits odd.1)
+      | inl even ↦ (function_record_at first (first ∷ rest), function_holds first rest fits even.1)
+      | inr odd ↦ (metadata_record_at (first / 2) rest, metadata_holds first rest fits odd.1)
     ]

@@ -19,8 +19,8 @@ kind_read action =
     if action == 0 then Ok Entry else if action == 1 then Ok Exit else if action == 2 then Ok TailExit else Err (faults.Action action)
 
 -- the function record that the bytes begin with, by their first byte
-unfoldable pub function_at : ℕ → List ℕ → Result Rec RecFault
-function_at first bytes =
+unfoldable pub function_record_at : ℕ → List ℕ → Result Rec RecFault
+function_record_at first bytes =
     if nat_lt (length bytes) 8 then Err faults.Short else (do
       kind ← kind_read (first / 2 % 8)
       Ok (Function kind (little_number 4 bytes / 16) (little_number 4 (drop 4 bytes))))
@@ -37,5 +37,5 @@ fields_read kind fields =
     else Err (faults.Kind kind)
 
 -- a metadata record of this kind, from the bytes after its first byte
-unfoldable pub metadata_at : ℕ → List ℕ → Result Rec RecFault
-metadata_at kind fields = if nat_lt (length fields) 15 then Err faults.Short else fields_read kind fields
+unfoldable pub metadata_record_at : ℕ → List ℕ → Result Rec RecFault
+metadata_record_at kind fields = if nat_lt (length fields) 15 then Err faults.Short else fields_read kind fields

@@ -5,7 +5,7 @@ ghost use Rattle.fdr_record.specs.declared.rec.Rec.{Rec};
 ghost use Rattle.fdr_record.specs.declared.fault.RecFault.{RecFault};
 ghost use Rattle.fdr_record.specs.Records.{length_of, FieldsFit, BeginsWith};
 ghost use Rattle.fdr_record.specs.Refusals.{Answers, Refuses};
-ghost use Rattle.fdr_record.specs.Reading.{kind_read, function_at, metadata_at};
+ghost use Rattle.fdr_record.specs.Reading.{kind_read, function_record_at, metadata_record_at};
 
 use crate::layout::{
     ACTION_SHIFT, ACTIONS, BUFFER_EXTENTS, CPU_BYTES, ENTER, EXIT, FIELDS, FUNCTION,
@@ -32,7 +32,7 @@ fn kind(action: u8) -> Result<Kind, RecFault>
 /// The function record that the bytes begin with. `first` is their first byte.
 #[tactic(auto, unfolding(crate::specs::Reading::function_at))]
 fn function(first: u8, bytes: &[u8]) -> Result<Rec, RecFault>
-    ensures { result ≡ function_at first bytes.now }
+    ensures { result ≡ function_record_at first bytes.now }
 {
     if bytes.len() < FUNCTION_BYTES {
         return Err(RecFault::Short);
@@ -49,7 +49,7 @@ fn function(first: u8, bytes: &[u8]) -> Result<Rec, RecFault>
 /// The metadata record of this kind, from the bytes after its first byte.
 #[tactic(auto, unfolding(crate::specs::Reading::metadata_at))]
 fn metadata(kind: u8, fields: &[u8]) -> Result<Rec, RecFault>
-    ensures { result ≡ metadata_at kind fields.now }
+    ensures { result ≡ metadata_record_at kind fields.now }
 {
     if fields.len() < METADATA_BYTES - FIELDS {
         return Err(RecFault::Short);

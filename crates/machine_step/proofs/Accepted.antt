@@ -7,7 +7,7 @@ use Rattle.std.proofs.lemmas.List.{length-take, length-map}
 use Rattle.std.proofs.lemmas.Slice.Zip.{length-zip}
 use Rattle.xray_image.specs.declared.unit.Unit.{Unit}
 use Rattle.xray_image.specs.declared.unit.What.TheVariants as whats
-use Rattle.xray_image.specs.Container.{Function, MapEntry, Parts, code_length, function_count, entry_count, base_address, several, function_at, map_entry_at, parts_of}
+use Rattle.xray_image.specs.Container.{Function, MapEntry, Parts, code_length, function_count, entry_count, base_address, several, function_entry_at, map_entry_at, parts_of}
 use Rattle.xray_image.specs.Layout.{width_of}
 use Rattle.xray_image.specs.Units.{Piece, Instruction, JumpSled, ReturnSled, Align, piece_bytes, sleds_in, what_of, units_from, places_from}
 use Rattle.xray_image.specs.Program.{Program, IsAccepted, sled_of}
@@ -39,7 +39,7 @@ code_of_file false code (Some found) n parts is = code_of_parts code found (seve
 
 code_is : (bytes : List ℕ) (parts : Parts) → parts_of bytes ≡ Some parts → parts.code ≡ take (code_length bytes) (drop 64 bytes)
 code_is bytes parts is =
-    code_of_file _ (take (code_length bytes) (drop 64 bytes)) (several function_at (function_count bytes) (drop (64 + code_length bytes) bytes))
+    code_of_file _ (take (code_length bytes) (drop 64 bytes)) (several function_entry_at (function_count bytes) (drop (64 + code_length bytes) bytes))
     (entry_count bytes) parts is
 
 -- units begin within the code

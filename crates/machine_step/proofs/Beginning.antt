@@ -12,7 +12,7 @@ use Rattle.machine_step.specs.private.Inside.{traced, want_at, IsSetUp, IsSound,
 use Rattle.machine_step.specs.Loads.{Load, next_from}
 use Rattle.machine_step.specs.private.Machine.{state_at, first_machine, IsWithin}
 use Rattle.machine_step.specs.private.Standing.{RunsBy}
-use Rattle.machine_step.specs.Traced.{HasLoaded, IsFresh, IsLoad, sleds_of, wanted_after}
+use Rattle.machine_step.specs.Traced.{HasLoaded, IsFresh, IsLoad, sleds_passed, wanted_after}
 use Rattle.machine_step.proofs.Accepted.{are_in_order}
 use Rattle.machine_step.proofs.Giving.{IsBetween, is_between, wants_at}
 use Rattle.machine_step.proofs.Loading.{no_marks}
@@ -89,9 +89,9 @@ loads_begun a begun all end last run =
       run = run;
       wanted = λ i load found. absurd cc;
       allowed = all_none (λ (load : Load). IsAllowed a.steps.now a.thread load.word load.value);
-      marks = begun.unmarked ∙ sym (no_marks a.steps.now a.thread a.hold 0 (sleds_of all));
+      marks = begun.unmarked ∙ sym (no_marks a.steps.now a.thread a.hold 0 (sleds_passed all));
       wants = wants_at a sound [] all all end last (wanted_after (traced a) all []) run refl none
-          (ap (λ n. next_from a.steps.now a.thread a.hold n (sleds_of all) []) (sym none))
+          (ap (λ n. next_from a.steps.now a.thread a.hold n (sleds_passed all) []) (sym none))
           a.stand sound.stands
           (is_between a.steps.now a.limits a.thread a.steps.now.entry (first_machine a.thread) a.machine [] a.stand begun.runs);
     }

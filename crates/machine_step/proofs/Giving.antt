@@ -22,7 +22,7 @@ use Rattle.machine_step.specs.Loads.{Load, marks_of, next_from}
 use Rattle.machine_step.specs.private.Machine.{state_at, IsWithin}
 use Rattle.machine_step.specs.private.Stages.{word_at, first_stage, after_load}
 use Rattle.machine_step.specs.private.Standing.{RunsBy}
-use Rattle.machine_step.specs.Traced.{Traced, HasLoaded, IsWant, sleds_of, wanted_after}
+use Rattle.machine_step.specs.Traced.{Traced, HasLoaded, IsWant, sleds_passed, wanted_after}
 use Rattle.machine_step.proofs.Accepted.{are_in_order}
 use Rattle.machine_step.proofs.OneUnit.{accepted_units}
 use Rattle.machine_step.proofs.OneEnd.{same_run}
@@ -39,8 +39,8 @@ use Rattle.machine_step.proofs.WordsAt.{same_stage}
 pub record LoadsHere (a : Inside) (k : ℕ) (at_stage : Stage) (passed : List Passing) (next : Passing) (all : List Passing) (loads : List Load) : Type 0 where
   pub later : List Passing
   pub goes_on : all ≡ passed ++ next ∷ later
-  pub adds : (load : Load) → Adds a.steps.now a.thread a.hold 0 k (sleds_of later) a.marks.items
-      (marks_of a.steps.now a.thread a.hold (sleds_of all) (loads ++ load ∷ []))
+  pub adds : (load : Load) → Adds a.steps.now a.thread a.hold 0 k (sleds_passed later) a.marks.items
+      (marks_of a.steps.now a.thread a.hold (sleds_passed all) (loads ++ load ∷ []))
       (wanted_after (traced a) all (loads ++ load ∷ [])) (after_load at_stage load.value)
 
 wanted_word : (a : Inside) (place k : ℕ) (at_stage : Stage) → a.stand ≡ Loading place k at_stage → (all : List Passing) (loads : List Load)
@@ -54,13 +54,13 @@ pub loads_here : (a : Inside) → IsSound a → (place k : ℕ) (at_stage : Stag
 loads_here a sound place k at_stage is at all loads has =
     let before = before_of a sound place k at in
     let on = goes_on_by a sound place k at all has.end has.last has.run in
-    let here = in_passing a.steps.now a.thread a.hold 0 (sleds_of all) loads (word_at a.steps.now a.thread k at_stage) (wanted_word a place k at_stage is all loads has) in
+    let here = in_passing a.steps.now a.thread a.hold 0 (sleds_passed all) loads (word_at a.steps.now a.thread k at_stage) (wanted_word a place k at_stage is all loads has) in
     let within = slice_get_within a.steps.now.sleds k before.sled before.found in
     let next_sled : at.next.sled ≡ k = ap (λ (p : Passing). p.sled) before.next_is in
-    let long : length here.before ≡ length (sleds_of at.passed) =
+    let long : length here.before ≡ length (sleds_passed at.passed) =
     here.count ∙ (sym (ap length has.marks) ∙ (sound.made ∙ (sym at.count ∙ sym (sleds_length at.passed)))) in
-    let split = same_split here.before (sleds_of at.passed) here.sled at.next.sled here.rest (sleds_of on.later) long
-    (sym here.passed ∙ (ap sleds_of on.is ∙ sleds_split at.passed at.next on.later)) in
+    let split = same_split here.before (sleds_passed at.passed) here.sled at.next.sled here.rest (sleds_passed on.later) long
+    (sym here.passed ∙ (ap sleds_passed on.is ∙ sleds_split at.passed at.next on.later)) in
     let sled : here.sled ≡ k = split.0 ∙ next_sled in
     let same : at_stage ≡ here.at = same_stage a.steps.now a.thread k at_stage here.at within sound.setup.some_thread
     (here.word_is ∙ ap (λ j. word_at a.steps.now a.thread j here.at) sled) in
@@ -68,10 +68,10 @@ loads_here a sound place k at_stage is at all loads has =
       later = on.later;
       goes_on = on.is;
       adds = λ load.
-          let all_marks = marks_of a.steps.now a.thread a.hold (sleds_of all) (loads ++ load ∷ []) in
+          let all_marks = marks_of a.steps.now a.thread a.hold (sleds_passed all) (loads ++ load ∷ []) in
           let wanted = wanted_after (traced a) all (loads ++ load ∷ []) in
-          subst (λ (s : Stage). Adds a.steps.now a.thread a.hold 0 k (sleds_of on.later) a.marks.items all_marks wanted (after_load s load.value)) (sym same)
-          (subst (λ j. Adds a.steps.now a.thread a.hold 0 j (sleds_of on.later) a.marks.items all_marks wanted (after_load here.at load.value)) sled
+          subst (λ (s : Stage). Adds a.steps.now a.thread a.hold 0 k (sleds_passed on.later) a.marks.items all_marks wanted (after_load s load.value)) (sym same)
+          (subst (λ j. Adds a.steps.now a.thread a.hold 0 j (sleds_passed on.later) a.marks.items all_marks wanted (after_load here.at load.value)) sled
           (subst (λ (ks : List ℕ). Adds a.steps.now a.thread a.hold 0 here.sled ks a.marks.items all_marks wanted (after_load here.at load.value)) split.1
           (subst (λ (ms : List Mark). Adds a.steps.now a.thread a.hold 0 here.sled here.rest ms all_marks wanted (after_load here.at load.value)) (sym has.marks)
           (here.adds load))));
@@ -124,7 +124,7 @@ loaded_more : (a : Inside) (m : Machine) (ms : MarkList) (stand : Stand) (place 
     → IsAllowed a.steps.now a.thread (word_at a.steps.now a.thread k at_stage) value
     → (all : List Passing) (loads : List Load) (has : HasLoaded (traced a) all loads)
     → let more = loads ++ record { word = word_at a.steps.now a.thread k at_stage; value = value } ∷ [] in
-    ms.items ≡ marks_of a.steps.now a.thread a.hold (sleds_of all) more
+    ms.items ≡ marks_of a.steps.now a.thread a.hold (sleds_passed all) more
     → IsWant (traced (passed_on a m ms stand)) all (wanted_after (traced a) all more) has.end (want_at a.steps.now a.thread m.passings stand)
     → HasLoaded (traced (passed_on a m ms stand)) all more
 loaded_more a m ms stand place k at_stage value is allowed all loads has marks wants =
@@ -149,8 +149,8 @@ goes_on_loads a sound place k at_stage next value is following allowed all loads
     let at = loading_at a sound place k at_stage is in
     let load : Load = record { word = word_at a.steps.now a.thread k at_stage; value = value } in
     let here = loads_here a sound place k at_stage is at all loads has in
-    let adds = subst (λ (n : Next). Adds a.steps.now a.thread a.hold 0 k (sleds_of here.later) a.marks.items
-    (marks_of a.steps.now a.thread a.hold (sleds_of all) (loads ++ load ∷ [])) (wanted_after (traced a) all (loads ++ load ∷ [])) n) following (here.adds load) in
+    let adds = subst (λ (n : Next). Adds a.steps.now a.thread a.hold 0 k (sleds_passed here.later) a.marks.items
+    (marks_of a.steps.now a.thread a.hold (sleds_passed all) (loads ++ load ∷ [])) (wanted_after (traced a) all (loads ++ load ∷ [])) n) following (here.adds load) in
     loaded_more a a.machine a.marks (Loading place k next) place k at_stage value is allowed all loads has (sym adds.0) adds.1
 
 -- ---- a passing that ends
@@ -242,7 +242,7 @@ is_between program limits thread address before after passed (Ended end) run = t
 -- what it wants after these passings
 pub wants_at : (b : Inside) → IsSound b → (passed rest all : List Passing) (end : End) (last : State) (wanted : Option ℕ)
     → PlainRun b.steps.now b.limits b.thread all end last → all ≡ passed ++ rest → length b.marks.items ≡ length passed
-    → wanted ≡ next_from b.steps.now b.thread b.hold (length b.marks.items) (sleds_of rest) []
+    → wanted ≡ next_from b.steps.now b.thread b.hold (length b.marks.items) (sleds_passed rest) []
     → (stand : Stand) → StandsSo b stand → IsBetween stand
     → IsWant (traced b) all wanted end (want_at b.steps.now b.thread b.machine.passings stand)
 wants_at b sound passed rest all end last wanted run is long wants (Gate place k) at between =
@@ -254,8 +254,8 @@ wants_at b sound passed rest all end last wanted run is long wants (Gate place k
         passing = at.next;
         found = ap (slice_get all) here ∙ (ap (λ (ps : List Passing). slice_get ps (length at.passed)) on.is ∙ found_after at.passed at.next on.later);
         first = wants
-            ∙ (ap (λ (ps : List Passing). next_from b.steps.now b.thread b.hold (length b.marks.items) (sleds_of ps) []) rest_is
-            ∙ (first_next b.steps.now b.thread b.hold (length b.marks.items) at.next.sled (sleds_of on.later)
+            ∙ (ap (λ (ps : List Passing). next_from b.steps.now b.thread b.hold (length b.marks.items) (sleds_passed ps) []) rest_is
+            ∙ (first_next b.steps.now b.thread b.hold (length b.marks.items) at.next.sled (sleds_passed on.later)
             ∙ (ap (λ n. Some (word_at b.steps.now b.thread at.next.sled (first_stage b.hold n))) sound.made
             ∙ sym (ap Some (first_word_is b sound at.next.sled)))));
       },
@@ -267,7 +267,7 @@ wants_at b sound passed rest all end last wanted run is long wants (Ended e) pas
     let count : length all ≡ length passed = ap length same.passings ∙ (past.count ∙ (sym sound.made ∙ long)) in
     let both : length all ≡ length passed + length rest = ap length is ∙ length-append passed rest in
     let none : rest ≡ [] = no_more rest (omega arith) in (
-      wants ∙ ap (λ (ps : List Passing). next_from b.steps.now b.thread b.hold (length b.marks.items) (sleds_of ps) []) none,
+      wants ∙ ap (λ (ps : List Passing). next_from b.steps.now b.thread b.hold (length b.marks.items) (sleds_passed ps) []) none,
       sym same.ends,
     )
 
@@ -279,8 +279,8 @@ pub ends_loads : (a : Inside) → IsSound a → (place k : ℕ) (at_stage : Stag
 ends_loads a sound place k at_stage value is mark following allowed m ms stand at ending all loads has =
     let load : Load = record { word = word_at a.steps.now a.thread k at_stage; value = value } in
     let here = loads_here a sound place k at_stage is at all loads has in
-    let adds = subst (λ (n : Next). Adds a.steps.now a.thread a.hold 0 k (sleds_of here.later) a.marks.items
-    (marks_of a.steps.now a.thread a.hold (sleds_of all) (loads ++ load ∷ [])) (wanted_after (traced a) all (loads ++ load ∷ [])) n) following (here.adds load) in
+    let adds = subst (λ (n : Next). Adds a.steps.now a.thread a.hold 0 k (sleds_passed here.later) a.marks.items
+    (marks_of a.steps.now a.thread a.hold (sleds_passed all) (loads ++ load ∷ [])) (wanted_after (traced a) all (loads ++ load ∷ [])) n) following (here.adds load) in
     let after = sound_after a sound place k at m ms stand mark ending in
     let long : length ms.items ≡ length a.marks.items + 1 = ap length ending.items ∙ length-append a.marks.items (mark ∷ []) in
     let here_long : length a.marks.items ≡ length at.passed = sound.made ∙ sym at.count in
@@ -290,5 +290,5 @@ ends_loads a sound place k at_stage value is mark following allowed m ms stand a
     (wants_at (passed_on a m ms stand) after (at.passed ++ at.next ∷ []) here.later all has.end has.last
     (wanted_after (traced a) all (loads ++ load ∷ [])) has.run
     (here.goes_on ∙ sym (append_assoc at.passed (at.next ∷ []) here.later)) (omega arith)
-    (adds.1 ∙ ap (λ n. next_from a.steps.now a.thread a.hold n (sleds_of here.later) []) number)
+    (adds.1 ∙ ap (λ n. next_from a.steps.now a.thread a.hold n (sleds_passed here.later) []) number)
     stand after.stands (is_between a.steps.now a.limits a.thread at.address a.machine m (ending.made ∷ []) stand ending.runs))

@@ -18,7 +18,7 @@ use Rattle.machine_step.specs.Follows.{Follows, MarksFollow, none as no_loads, l
 use Rattle.machine_step.specs.Loads.{Load, Marked, Reading, Wants, from_start, is_held_at, marks_from, marks_of, next_from, next_load}
 use Rattle.machine_step.specs.PlainStep.{Passing, PlainRun, RunsTo, State}
 use Rattle.machine_step.specs.private.Stages.{after_load, word_at}
-use Rattle.machine_step.specs.Traced.{sleds_of, steps_left}
+use Rattle.machine_step.specs.Traced.{sleds_passed, steps_left}
 use Rattle.machine_step.proofs.EachPassing.{steps_each}
 use Rattle.machine_step.proofs.LoadFacts.{left_at, next_left, some_left, steps_left_at}
 use Rattle.machine_step.proofs.Loading.{Adds, InPassing, in_passing, marks_step, next_step, no_marks}
@@ -36,13 +36,13 @@ run_sleds program limits thread n s passed end last run =
 
 -- the passing of a sled in such a list
 pub sled_within : (program : Program) (passed : List Passing) → All (IsSled program) passed → (before rest : List ℕ) (sled : ℕ)
-    → sleds_of passed ≡ before ++ sled ∷ rest → sled < length program.sleds
+    → sleds_passed passed ≡ before ++ sled ∷ rest → sled < length program.sleds
 sled_within program [] all [] rest sled is = absurd cc
 sled_within program [] all (b ∷ before) rest sled is = absurd cc
 sled_within program (p ∷ passed) all [] rest sled is =
     let same : p.sled ≡ sled = cc in subst (λ (k : ℕ). k < length program.sleds) same (All-head (IsSled program) p passed all)
 sled_within program (p ∷ passed) all (b ∷ before) rest sled is =
-    sled_within program passed (All-tail (IsSled program) p passed all) before rest sled (let same : sleds_of passed ≡ before ++ sled ∷ rest = cc in same)
+    sled_within program passed (All-tail (IsSled program) p passed all) before rest sled (let same : sleds_passed passed ≡ before ++ sled ∷ rest = cc in same)
 
 -- ---- a thread that wants no word
 
@@ -80,8 +80,8 @@ module _ (program : Program) (code : ℕ → ℕ → ℕ) (start total : ℕ) (b
 
   -- loads that follow the code up to the bound of a passing, and mark all passings before it
   record Reached (passing : ℕ) (loads : List Load) : Type 0 where
-    marks : length (marks_of program thread hold (sleds_of passed) loads) ≡ passing
-    follow : Follows program code start bound thread hold (sleds_of passed) loads (bound passing)
+    marks : length (marks_of program thread hold (sleds_passed passed) loads) ≡ passing
+    follow : Follows program code start bound thread hold (sleds_passed passed) loads (bound passing)
     free : All IsFree loads
 
   abbrev Lets : Type 0
@@ -89,12 +89,12 @@ module _ (program : Program) (code : ℕ → ℕ → ℕ) (start total : ℕ) (b
 
   -- a release word that is wanted holds the thread no more
   is_free : Lets → 0 < thread → All (IsSled program) passed → (passing : ℕ) (loads : List Load) (word : ℕ)
-      → length (marks_of program thread hold (sleds_of passed) loads) ≡ passing
-      → (here : InPassing program thread hold 0 (sleds_of passed) loads word) → word ≡ release_word program thread → code (bound passing) word ≢ 0
+      → length (marks_of program thread hold (sleds_passed passed) loads) ≡ passing
+      → (here : InPassing program thread hold 0 (sleds_passed passed) loads word) → word ≡ release_word program thread → code (bound passing) word ≢ 0
   is_free lets some sleds passing loads word count here is unset =
       let within = sled_within program passed sleds here.before here.rest here.sled here.passed in
       let at = same_stage program thread here.sled here.at stages.Release within some (sym here.word_is ∙ is) in
-      let there : 0 + length (marks_from program thread hold 0 (sleds_of passed) loads) ≡ passing = omega (arith, count) in
+      let there : 0 + length (marks_from program thread hold 0 (sleds_passed passed) loads) ≡ passing = omega (arith, count) in
       let held = held_passing hold passing (subst (λ n. is_held_at hold n ≡ true) there (here.held at)) in
       let set = lets.releases passing held in
       let same : code (bound passing) word ≡ code (bound passing) (release_word program thread) = ap (code (bound passing)) is in
@@ -102,21 +102,21 @@ module _ (program : Program) (code : ℕ → ℕ → ℕ) (start total : ℕ) (b
 
   -- one more load of an open passing, at its bound
   record Longer (passing : ℕ) (loads : List Load) (word : ℕ) : Type 0 where
-    here : InPassing program thread hold 0 (sleds_of passed) loads word
+    here : InPassing program thread hold 0 (sleds_passed passed) loads word
     within : here.sled < length program.sleds
     load : Load
     word_is : load.word ≡ word
     free : IsFree load
     all_free : All IsFree (loads ++ load ∷ [])
-    follow : Follows program code start bound thread hold (sleds_of passed) (loads ++ load ∷ []) (bound passing)
+    follow : Follows program code start bound thread hold (sleds_passed passed) (loads ++ load ∷ []) (bound passing)
 
   longer : Lets → 0 < thread → All (IsSled program) passed → (passing : ℕ) (loads : List Load) (word : ℕ)
-      → next_load program thread hold (sleds_of passed) loads ≡ Some word → Reached passing loads → Longer passing loads word
+      → next_load program thread hold (sleds_passed passed) loads ≡ Some word → Reached passing loads → Longer passing loads word
   longer lets some sleds passing loads word wanted reached =
-      let here = in_passing program thread hold 0 (sleds_of passed) loads word wanted in
+      let here = in_passing program thread hold 0 (sleds_passed passed) loads word wanted in
       let load : Load = record { word = word; value = code (bound passing) word } in
       let free : IsFree load = is_free lets some sleds passing loads word reached.marks here in
-      let low : bound passing ≤ bound (length (marks_of program thread hold (sleds_of passed) loads)) =
+      let low : bound passing ≤ bound (length (marks_of program thread hold (sleds_passed passed) loads)) =
       subst (λ n. bound passing ≤ bound n) (sym reached.marks) (omega arith) in
       record {
         here = here;
@@ -138,12 +138,12 @@ module _ (program : Program) (code : ℕ → ℕ → ℕ) (start total : ℕ) (b
   by_next : Lets → 0 < thread → (most passing : ℕ) (loads : List Load) (word : ℕ) → steps_left program (wants.Load word) ≤ suc most
       → Reached passing loads → (one : Longer passing loads word)
       → ((more : List Load) (other : ℕ) → steps_left program (wants.Load other) ≤ most
-      → next_load program thread hold (sleds_of passed) more ≡ Some other → Reached passing more → (all : List Load) × Reached (passing + 1) all)
+      → next_load program thread hold (sleds_passed passed) more ≡ Some other → Reached passing more → (all : List Load) × Reached (passing + 1) all)
       → (next : Next) → after_load one.here.at one.load.value ≡ next → (all : List Load) × Reached (passing + 1) all
   by_next lets some most passing loads word near reached one goes_on (nexts.Ends mark) following =
-      let Marks : List Load → List Mark = marks_of program thread hold (sleds_of passed) in
+      let Marks : List Load → List Mark = marks_of program thread hold (sleds_passed passed) in
       let all = loads ++ one.load ∷ [] in
-      let adds = subst (Adds program thread hold 0 one.here.sled one.here.rest (Marks loads) (Marks all) (next_load program thread hold (sleds_of passed) all))
+      let adds = subst (Adds program thread hold 0 one.here.sled one.here.rest (Marks loads) (Marks all) (next_load program thread hold (sleds_passed passed) all))
       following (one.here.adds one.load) in (
         all,
         record {
@@ -153,9 +153,9 @@ module _ (program : Program) (code : ℕ → ℕ → ℕ) (start total : ℕ) (b
         },
       )
   by_next lets some most passing loads word near reached one goes_on (nexts.Loads stage) following =
-      let Marks : List Load → List Mark = marks_of program thread hold (sleds_of passed) in
+      let Marks : List Load → List Mark = marks_of program thread hold (sleds_passed passed) in
       let all = loads ++ one.load ∷ [] in
-      let adds = subst (Adds program thread hold 0 one.here.sled one.here.rest (Marks loads) (Marks all) (next_load program thread hold (sleds_of passed) all))
+      let adds = subst (Adds program thread hold 0 one.here.sled one.here.rest (Marks loads) (Marks all) (next_load program thread hold (sleds_passed passed) all))
       following (one.here.adds one.load) in
       let not_held : (one.here.at ≡ stages.Release) × (one.load.value ≡ 0) → ⊥ = λ both.
       one.free (one.word_is ∙ (one.here.word_is ∙ ap (word_at program thread one.here.sled) both.0)) both.1 in
@@ -167,7 +167,7 @@ module _ (program : Program) (code : ℕ → ℕ → ℕ) (start total : ℕ) (b
 
   -- the loads of a passing
   passes : Lets → 0 < thread → All (IsSled program) passed → (most passing : ℕ) (loads : List Load) (word : ℕ)
-      → steps_left program (wants.Load word) ≤ most → next_load program thread hold (sleds_of passed) loads ≡ Some word
+      → steps_left program (wants.Load word) ≤ most → next_load program thread hold (sleds_passed passed) loads ≡ Some word
       → Reached passing loads → (all : List Load) × Reached (passing + 1) all
   passes lets some sleds zero passing loads word near wanted reached =
       let one = longer lets some sleds passing loads word wanted reached in
@@ -181,30 +181,30 @@ module _ (program : Program) (code : ℕ → ℕ → ℕ) (start total : ℕ) (b
       (after_load one.here.at one.load.value) refl
 
   -- all passings that are left
-  comes_to_end : Lets → 0 < thread → All (IsSled program) passed → (left passing : ℕ) → passing + left ≡ length (sleds_of passed)
-      → (loads : List Load) → Reached passing loads → (all : List Load) × Reached (length (sleds_of passed)) all
+  comes_to_end : Lets → 0 < thread → All (IsSled program) passed → (left passing : ℕ) → passing + left ≡ length (sleds_passed passed)
+      → (loads : List Load) → Reached passing loads → (all : List Load) × Reached (length (sleds_passed passed)) all
   comes_to_end lets some sleds zero passing count loads reached =
-      let same : passing ≡ length (sleds_of passed) = omega (arith, count) in (loads, subst (λ n. Reached n loads) same reached)
+      let same : passing ≡ length (sleds_passed passed) = omega (arith, count) in (loads, subst (λ n. Reached n loads) same reached)
   comes_to_end lets some sleds (suc left) passing count loads reached =
-      by_word (next_load program thread hold (sleds_of passed) loads) ((all : List Load) × Reached (length (sleds_of passed)) all)
-      (λ none. let all = all_marked program thread hold 0 (sleds_of passed) loads none in absurd (omega (arith, all, count, reached.marks)))
+      by_word (next_load program thread hold (sleds_passed passed) loads) ((all : List Load) × Reached (length (sleds_passed passed)) all)
+      (λ none. let all = all_marked program thread hold 0 (sleds_passed passed) loads none in absurd (omega (arith, all, count, reached.marks)))
       (λ word wanted.
       let next = passes lets some sleds (steps_left program (wants.Load word)) passing loads word (omega arith) wanted reached in
       comes_to_end lets some sleds left (passing + 1) (omega (arith, count)) next.0 next.1)
 
   pub some_marks_in : Lets → 0 < thread → All (IsSled program) passed
-      → (marks : List Mark) × MarksFollow program code start bound thread hold (sleds_of passed) marks total
+      → (marks : List Mark) × MarksFollow program code start bound thread hold (sleds_passed passed) marks total
   some_marks_in lets some sleds =
       let first : Reached 0 [] = record {
-        marks = ap length (no_marks program thread hold 0 (sleds_of passed));
+        marks = ap length (no_marks program thread hold 0 (sleds_passed passed));
         follow = up_to [] start (bound 0) lets.begins no_loads;
         free = All-nil IsFree;
       } in
-      let whole = comes_to_end lets some sleds (length (sleds_of passed)) 0 (omega arith) [] first in (
-        marks_of program thread hold (sleds_of passed) whole.0,
+      let whole = comes_to_end lets some sleds (length (sleds_passed passed)) 0 (omega arith) [] first in (
+        marks_of program thread hold (sleds_passed passed) whole.0,
         record {
           loads = whole.0;
-          follow = up_to whole.0 (bound (length (sleds_of passed))) total (lets.ends (length (sleds_of passed))) whole.1.follow;
+          follow = up_to whole.0 (bound (length (sleds_passed passed))) total (lets.ends (length (sleds_passed passed))) whole.1.follow;
           leave = refl;
           released = whole.1.free;
           each = whole.1.marks;
@@ -214,6 +214,6 @@ module _ (program : Program) (code : ℕ → ℕ → ℕ) (start total : ℕ) (b
 pub some_marks : (program : Program) (limits : Limits) (thread : ℕ) (passed : List Passing) (end : End) (last : State) (code : ℕ → ℕ → ℕ)
     (start total : ℕ) (bound : ℕ → ℕ) (hold : Option ℕ) → 0 < thread → PlainRun program limits thread passed end last
     → LetsEnd program thread hold code start total bound
-    → (marks : List Mark) × MarksFollow program code start bound thread hold (sleds_of passed) marks total
+    → (marks : List Mark) × MarksFollow program code start bound thread hold (sleds_passed passed) marks total
 some_marks program limits thread passed end last code start total bound hold some (n, run) lets =
     some_marks_in program code start total bound thread hold passed lets some (run_sleds program limits thread n _ passed end last run)

@@ -12,7 +12,7 @@ use Rattle.machine_step.specs.private.Inside.{traced, IsAtPassing, IsPastEnd, Is
 use Rattle.machine_step.specs.Loads.{is_held_at}
 use Rattle.machine_step.specs.private.Machine.{state_at}
 use Rattle.machine_step.specs.private.Stages.{word_at, first_stage, stage_by}
-use Rattle.machine_step.specs.Traced.{IsBeforePassing, IsAtEnd, BeginsPassing, sleds_of, first_word}
+use Rattle.machine_step.specs.Traced.{IsBeforePassing, IsAtEnd, BeginsPassing, sleds_passed, first_word}
 use Rattle.machine_step.specs.Traced.{state_at as traced_at}
 use Rattle.machine_step.proofs.Accepted.{are_in_order}
 use Rattle.machine_step.proofs.OneUnit.{accepted_units}
@@ -95,11 +95,11 @@ same_split (first ∷ xs) (other ∷ ys) x y xs' ys' long same =
     let rest : xs ++ x ∷ xs' ≡ ys ++ y ∷ ys' = cc in same_split xs ys x y xs' ys' (omega arith) rest
 
 pub sleds_split : (passed : List Passing) (next : Passing) (later : List Passing)
-    → sleds_of (passed ++ next ∷ later) ≡ sleds_of passed ++ next.sled ∷ sleds_of later
+    → sleds_passed (passed ++ next ∷ later) ≡ sleds_passed passed ++ next.sled ∷ sleds_passed later
 sleds_split [] next later = refl
 sleds_split (first ∷ passed) next later = ap (λ ks. first.sled ∷ ks) (sleds_split passed next later)
 
-pub sleds_length : (passed : List Passing) → length (sleds_of passed) ≡ length passed
+pub sleds_length : (passed : List Passing) → length (sleds_passed passed) ≡ length passed
 sleds_length [] = refl
 sleds_length (first ∷ passed) = ap suc (sleds_length passed)
 

@@ -10,7 +10,7 @@ use Rattle.machine_step.specs.declared.stage.Stage.TheVariants as stages
 use Rattle.machine_step.specs.Loads.{Load, marks_of, next_load}
 use Rattle.machine_step.specs.PlainStep.{Passing, PlainRun, State}
 use Rattle.machine_step.specs.private.Stages.{word_at}
-use Rattle.machine_step.specs.Traced.{sleds_of}
+use Rattle.machine_step.specs.Traced.{sleds_passed}
 use Rattle.machine_step.proofs.Loading.{in_passing}
 use Rattle.machine_step.proofs.SomeMarks.{held_passing, run_sleds, sled_within}
 use Rattle.machine_step.proofs.WordsAt.{same_stage}
@@ -29,20 +29,20 @@ word_exists program threads thread k stages.State within known = omega arith
 module _ (program : Program) (limits : Limits) (thread : ℕ) (hold : Option ℕ) (passed : List Passing) (loads : List Load) (end : End) (last : State)
     (run : PlainRun program limits thread passed end last) where
   -- the word that a thread loads next
-  pub wanted_within : (threads word : ℕ) → thread ≤ threads → next_load program thread hold (sleds_of passed) loads ≡ Some word
+  pub wanted_within : (threads word : ℕ) → thread ≤ threads → next_load program thread hold (sleds_passed passed) loads ≡ Some word
       → word < word_count program threads
   wanted_within threads word known wanted =
-      let here = in_passing program thread hold 0 (sleds_of passed) loads word wanted in
+      let here = in_passing program thread hold 0 (sleds_passed passed) loads word wanted in
       let within = sled_within program passed (run_sleds program limits thread run.0 _ passed end last run.1) here.before here.rest here.sled here.passed in
       let exists = word_exists program threads thread here.sled here.at within known in
       omega (arith, exists, here.word_is)
 
   -- the passing at which a thread wants its release word
-  pub release_wanted : 0 < thread → next_load program thread hold (sleds_of passed) loads ≡ Some (release_word program thread)
-      → hold ≡ Some (length (marks_of program thread hold (sleds_of passed) loads))
+  pub release_wanted : 0 < thread → next_load program thread hold (sleds_passed passed) loads ≡ Some (release_word program thread)
+      → hold ≡ Some (length (marks_of program thread hold (sleds_passed passed) loads))
   release_wanted some wanted =
-      let made : ℕ = length (marks_of program thread hold (sleds_of passed) loads) in
-      let here = in_passing program thread hold 0 (sleds_of passed) loads (release_word program thread) wanted in
+      let made : ℕ = length (marks_of program thread hold (sleds_passed passed) loads) in
+      let here = in_passing program thread hold 0 (sleds_passed passed) loads (release_word program thread) wanted in
       let within = sled_within program passed (run_sleds program limits thread run.0 _ passed end last run.1) here.before here.rest here.sled here.passed in
       let at = same_stage program thread here.sled here.at stages.Release within some (sym here.word_is) in
       let count : 0 + made ≡ made = omega arith in

@@ -4,7 +4,7 @@ use Rattle.machine_step.specs.declared.end.End.{End}
 use Rattle.machine_step.specs.declared.want.Want.TheVariants.{Done}
 use Rattle.machine_step.specs.Loads.{AreWanted, Load, marks_of}
 use Rattle.machine_step.specs.PlainStep.{Passing, PlainRun, State}
-use Rattle.machine_step.specs.Traced.{Traced, sleds_of}
+use Rattle.machine_step.specs.Traced.{Traced, sleds_passed}
 use Rattle.machine_step.specs.Whole.{AreWhole}
 
 -- The thread has ended as its plain run does: with the end of the run, and with the registers, zero flag, stack, output
@@ -19,7 +19,7 @@ pub record EndsAsPlain (t : Traced) (passed : List Passing) (end : End) (last : 
   pub output : t.output ≡ last.output
   pub instructions : t.instructions ≡ last.instructions
   pub passings : length t.marks ≡ last.passings
-  pub wanted : AreWanted t.program t.thread t.hold (sleds_of passed) loads
+  pub wanted : AreWanted t.program t.thread t.hold (sleds_passed passed) loads
   pub each : length t.marks ≡ length passed
-  pub marks : t.marks ≡ marks_of t.program t.thread t.hold (sleds_of passed) loads
-  pub whole : AreWhole t.program t.thread t.hold (sleds_of passed) loads
+  pub marks : t.marks ≡ marks_of t.program t.thread t.hold (sleds_passed passed) loads
+  pub whole : AreWhole t.program t.thread t.hold (sleds_passed passed) loads

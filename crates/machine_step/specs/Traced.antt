@@ -115,12 +115,12 @@ pub record IsFresh (t : Traced) : Type 0 where
 -- ---- its loads
 
 -- the numbers of the sleds that are passed
-abbrev pub sleds_of : List Passing → List ℕ
-sleds_of passed = map (λ p. p.sled) passed
+abbrev pub sleds_passed : List Passing → List ℕ
+sleds_passed passed = map (λ p. p.sled) passed
 
 -- the word that a thread loads after some loads
 abbrev pub wanted_after : Traced → List Passing → List Load → Option ℕ
-wanted_after t passed loads = next_load t.program t.thread t.hold (sleds_of passed) loads
+wanted_after t passed loads = next_load t.program t.thread t.hold (sleds_passed passed) loads
 
 -- the first word of the next passing, at this sled
 abbrev pub first_word : Traced → ℕ → ℕ
@@ -146,9 +146,9 @@ pub record HasLoaded (t : Traced) (passed : List Passing) (loads : List Load) : 
   pub end : End
   pub last : State
   pub run : PlainRun t.program t.limits t.thread passed end last
-  pub wanted : AreWanted t.program t.thread t.hold (sleds_of passed) loads
+  pub wanted : AreWanted t.program t.thread t.hold (sleds_passed passed) loads
   pub allowed : All (λ load. IsAllowed t.program t.thread load.word load.value) loads
-  pub marks : t.marks ≡ marks_of t.program t.thread t.hold (sleds_of passed) loads
+  pub marks : t.marks ≡ marks_of t.program t.thread t.hold (sleds_passed passed) loads
   pub wants : IsWant t passed (wanted_after t passed loads) end t.want
 
 -- a value may be given to a thread: it wants a word, and the value is allowed there

@@ -9,7 +9,7 @@ ghost use Rattle.machine_step.specs.declared.end.End.{End};
 ghost use Rattle.machine_step.specs.{PlainStep.{State, Passing, PlainRun}, Course.{ComesTo}};
 ghost use Rattle.machine_step.specs.Follows.{Follows, MarksFollow};
 ghost use Rattle.machine_step.specs.{Loads.{AreWanted, Load, next_load}, Ended.{EndsAsPlain}};
-ghost use Rattle.machine_step.specs.Traced.{HasLoaded, IsDone, StandsAs, Traced, sleds_of};
+ghost use Rattle.machine_step.specs.Traced.{HasLoaded, IsDone, StandsAs, Traced, sleds_passed};
 ghost use Rattle.machine_step.specs.Whole.{AreWhole, HaveOneValueEach};
 
 /// A thread of an accepted image reaches only one end. All its plain runs have the same passings,
@@ -96,7 +96,7 @@ pub fn some_marks_follow()
         (code : ℕ → ℕ → ℕ) (start total : ℕ) (bound : ℕ → ℕ) (hold : Option ℕ)
         → 0 < thread → PlainRun program limits thread passed end last
         → LetsEnd program thread hold code start total bound
-        → (marks : List Mark) × MarksFollow program code start bound thread hold (sleds_of passed) marks total }
+        → (marks : List Mark) × MarksFollow program code start bound thread hold (sleds_passed passed) marks total }
 {}
 
 /// A traced thread ends as its plain run does, whatever allowed values its loads gave. Any plain

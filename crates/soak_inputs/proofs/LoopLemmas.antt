@@ -8,7 +8,7 @@ use Rattle.step_sim.specs.WrittenSchedules.{schedule_text, turn_words}
 use Rattle.patch_script.specs.declared.command.Command.TheVariants as commands
 use Rattle.soak_inputs.specs.Draws.{drawn, next}
 use Rattle.soak_inputs.specs.Scripts.{after_change, after_changes, change, change_of, changes}
-use Rattle.soak_inputs.specs.Schedules.{after_turns, all_turns, turns}
+use Rattle.soak_inputs.specs.Schedules.{after_turns, all_turns, turns_drawn}
 
 -- one line less is left
 one_less : (n k : ℕ) → k < n → n - k ≡ suc (n - (k + 1))
@@ -75,7 +75,7 @@ after_changes_done n k x last at so_far = sym (ap (λ m. after_changes m x) (non
 schedule_first : (t : Turns) (all : List Turns) → schedule_text (t ∷ all) ≡ schedule_text (t ∷ []) ++ schedule_text all
 schedule_first t all = ap (λ s. s ++ schedule_text all) (sym (append-nil (written_line (turn_words t) ++ 10 ∷ [])))
 
-turns_first : (n x : ℕ) → all_turns (suc n) x ≡ turns x ∷ all_turns n (after_turns x)
+turns_first : (n x : ℕ) → all_turns (suc n) x ≡ turns_drawn x ∷ all_turns n (after_turns x)
 unfolding all_turns
 turns_first n x = refl
 
@@ -84,11 +84,11 @@ unfolding all_turns
 turns_none x = refl
 
 pub turns_more : (n k x : ℕ) (text more whole : List ℕ) → k < n → text ++ schedule_text (all_turns (n - k) x) ≡ whole
-    → more ≡ text ++ schedule_text (turns x ∷ []) → more ++ schedule_text (all_turns (n - (k + 1)) (after_turns x)) ≡ whole
-turns_more = drawn_more schedule_text all_turns turns after_turns turns_first schedule_first
+    → more ≡ text ++ schedule_text (turns_drawn x ∷ []) → more ++ schedule_text (all_turns (n - (k + 1)) (after_turns x)) ≡ whole
+turns_more = drawn_more schedule_text all_turns turns_drawn after_turns turns_first schedule_first
 
 pub turns_done : (n k x : ℕ) (text whole : List ℕ) → k ≡ n → text ++ schedule_text (all_turns (n - k) x) ≡ whole → text ≡ whole
-turns_done = drawn_all schedule_text all_turns turns after_turns turns_none refl
+turns_done = drawn_all schedule_text all_turns turns_drawn after_turns turns_none refl
 
 -- ---- changes without an id
 

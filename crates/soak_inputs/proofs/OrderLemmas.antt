@@ -9,7 +9,7 @@ use Rattle.std.proofs.lemmas.List.Sums.{fold-append, sum_by-append, sum_by-cons}
 use Rattle.std.proofs.lemmas.List.{length-append}
 use Rattle.std.proofs.lemmas.Slice.Eq.{bytes_eq-Decides}
 use Rattle.subset_decode.specs.declared.instr.Instr.TheVariants.{Mov, Out}
-use Rattle.asm_text.specs.Layout.{Lines, defines, is_function, is_instruction}
+use Rattle.asm_text.specs.Layout.{StatementLines, defines, is_function, is_instruction}
 use Rattle.asm_text.specs.Refusals.{ends_early, has_function, is_bare, is_defined, is_unresolved, operation_exceeds, operation_reserves}
 use Rattle.asm_text.specs.Statements.{Operation, Plain, Return, Statement, Base, Does}
 use Rattle.asm_text.specs.WrittenTexts.{MayFollow, IsOrderly, is_always_function}
@@ -31,33 +31,33 @@ other_name i j hi hj apart =
 -- ---- each line in its place
 
 -- the lines that are left may follow one after another, whatever else; their names are defined among all lines
-module _ (said : Lines) where
-  abbrev Follow : Lines → ℕ → List Statement → Type 0
+module _ (said : StatementLines) where
+  abbrev Follow : StatementLines → ℕ → List Statement → Type 0
   Follow before number [] = ends_early before ≡ false
   Follow before number (s ∷ rest) =
-      (MayFollow before s × ((following : Lines) → is_unresolved said s following ≡ false)) × Follow (before ++ (number, s) ∷ []) (number + 1) rest
+      (MayFollow before s × ((following : StatementLines) → is_unresolved said s following ≡ false)) × Follow (before ++ (number, s) ∷ []) (number + 1) rest
 
-  same_line : (l : ℕ × Statement) (ls : Lines) (m : ℕ × Statement) (ms : Lines) → l ∷ ls ≡ m ∷ ms → (l ≡ m) × (ls ≡ ms)
+  same_line : (l : ℕ × Statement) (ls : StatementLines) (m : ℕ × Statement) (ms : StatementLines) → l ∷ ls ≡ m ∷ ms → (l ≡ m) × (ls ≡ ms)
   same_line l ls m ms e = (cc, cc)
 
-  no_line : (l : ℕ × Statement) (before following : Lines) → [] ≡ before ++ l ∷ following → ⊥
+  no_line : (l : ℕ × Statement) (before following : StatementLines) → [] ≡ before ++ l ∷ following → ⊥
   no_line l [] following e = cc
   no_line l (b ∷ before) following e = cc
 
-  place : (done : Lines) (number : ℕ) (rest : List Statement) → Follow done number rest → (before : Lines) (line : ℕ × Statement) (following : Lines)
-      → enumerate_from number rest ≡ before ++ line ∷ following → MayFollow (done ++ before) line.1 × ((left : Lines) → is_unresolved said line.1 left ≡ false)
+  place : (done : StatementLines) (number : ℕ) (rest : List Statement) → Follow done number rest → (before : StatementLines) (line : ℕ × Statement) (following : StatementLines)
+      → enumerate_from number rest ≡ before ++ line ∷ following → MayFollow (done ++ before) line.1 × ((left : StatementLines) → is_unresolved said line.1 left ≡ false)
   place done number [] follow before line following is = absurd (no_line line before following is)
   place done number (s ∷ rest) follow [] line following is =
       let same = (same_line (number, s) (enumerate_from (number + 1) rest) line following is).0 in
-      let P : ℕ × Statement → Type 0 = λ l. MayFollow (done ++ []) l.1 × ((left : Lines) → is_unresolved said l.1 left ≡ false) in
-      subst P same (subst (λ (ls : Lines). MayFollow ls s) (sym (append-nil done)) follow.0.0, follow.0.1)
+      let P : ℕ × Statement → Type 0 = λ l. MayFollow (done ++ []) l.1 × ((left : StatementLines) → is_unresolved said l.1 left ≡ false) in
+      subst P same (subst (λ (ls : StatementLines). MayFollow ls s) (sym (append-nil done)) follow.0.0, follow.0.1)
   place done number (s ∷ rest) follow (b ∷ before) line following is =
       let same = same_line (number, s) (enumerate_from (number + 1) rest) b (before ++ line ∷ following) is in
-      let P : Lines → Type 0 = λ ls. MayFollow ls line.1 × ((left : Lines) → is_unresolved said line.1 left ≡ false) in
+      let P : StatementLines → Type 0 = λ ls. MayFollow ls line.1 × ((left : StatementLines) → is_unresolved said line.1 left ≡ false) in
       subst P (append_assoc done ((number, s) ∷ []) before ∙ ap (λ (l : ℕ × Statement). done ++ l ∷ before) same.0)
       (place (done ++ (number, s) ∷ []) (number + 1) rest follow.1 before line following same.1)
 
-  at_end : (done : Lines) (number : ℕ) (rest : List Statement) → Follow done number rest → ends_early (done ++ enumerate_from number rest) ≡ false
+  at_end : (done : StatementLines) (number : ℕ) (rest : List Statement) → Follow done number rest → ends_early (done ++ enumerate_from number rest) ≡ false
   at_end done number [] follow = ap ends_early (append-nil done) ∙ follow
   at_end done number (s ∷ rest) follow =
       ap ends_early (sym (append_assoc done ((number, s) ∷ []) (enumerate_from (number + 1) rest)))
@@ -73,17 +73,17 @@ module _ (said : Lines) where
   -- ---- what stands before a line
 
   -- lines that end in function i: no later function has its name yet
-  record Inside (i : ℕ) (before : Lines) : Type 0 where
+  record Inside (i : ℕ) (before : StatementLines) : Type 0 where
     begun : has_function before ≡ true
     fresh : (j : ℕ) → i < j → j ≤ 63 → is_defined (function_name j) before ≡ false
 
   -- lines after which function i may begin
-  record Outside (i : ℕ) (before : Lines) : Type 0 where
+  record Outside (i : ℕ) (before : StatementLines) : Type 0 where
     bare : is_bare before ≡ false
     begun : 0 < i → has_function before ≡ true
     fresh : (j : ℕ) → i ≤ j → j ≤ 63 → is_defined (function_name j) before ≡ false
 
-  inside_more : (i : ℕ) (before : Lines) (number : ℕ) (op : Operation) → Inside i before → Inside i (before ++ (number, Does op) ∷ [])
+  inside_more : (i : ℕ) (before : StatementLines) (number : ℕ) (op : Operation) → Inside i before → Inside i (before ++ (number, Does op) ∷ [])
   inside_more i before number op h = record {
     begun = list_any-append (λ (l : ℕ × Statement). is_function l.1) before ((number, Does op) ∷ [])
         ∙ or_left (has_function before) (list_any (λ (l : ℕ × Statement). is_function l.1) ((number, Does op) ∷ [])) h.begun;
@@ -91,16 +91,16 @@ module _ (said : Lines) where
         ∙ or_from (is_defined (function_name j) before) false (h.fresh j lt le) refl;
   }
 
-  does_follow : (i : ℕ) (before : Lines) (op : Operation) → Inside i before → operation_reserves op ≡ false → operation_exceeds op ≡ false → MayFollow before (Does op)
+  does_follow : (i : ℕ) (before : StatementLines) (op : Operation) → Inside i before → operation_reserves op ≡ false → operation_exceeds op ≡ false → MayFollow before (Does op)
   does_follow i before op h registers range = record { place = ap not h.begun; registers = registers; range = range; name = refl }
 
-  does : (i : ℕ) (before : Lines) (number : ℕ) (op : Operation) (rest : List Statement) → Inside i before → operation_reserves op ≡ false → operation_exceeds op ≡ false
-      → ((following : Lines) → is_unresolved said (Does op) following ≡ false)
-      → ((longer : Lines) → Inside i longer → Follow longer (number + 1) rest) → Follow before number (Does op ∷ rest)
+  does : (i : ℕ) (before : StatementLines) (number : ℕ) (op : Operation) (rest : List Statement) → Inside i before → operation_reserves op ≡ false → operation_exceeds op ≡ false
+      → ((following : StatementLines) → is_unresolved said (Does op) following ≡ false)
+      → ((longer : StatementLines) → Inside i longer → Follow longer (number + 1) rest) → Follow before number (Does op ∷ rest)
   does i before number op rest h registers range resolved more =
       ((does_follow i before op h registers range, resolved), more (before ++ (number, Does op) ∷ []) (inside_more i before number op h))
 
-  returned : (i : ℕ) (before : Lines) (number : ℕ) → Inside i before → Outside (i + 1) (before ++ (number, Does Return) ∷ [])
+  returned : (i : ℕ) (before : StatementLines) (number : ℕ) → Inside i before → Outside (i + 1) (before ++ (number, Does Return) ∷ [])
   returned i before number h =
       let inside = inside_more i before number Return h in
       record {
@@ -109,7 +109,7 @@ module _ (said : Lines) where
         fresh = λ j le most. inside.fresh j (omega (arith, le)) most;
       }
 
-  begins : (i : ℕ) (before : Lines) (number : ℕ) → i ≤ 63 → Outside i before
+  begins : (i : ℕ) (before : StatementLines) (number : ℕ) → i ≤ 63 → Outside i before
       → MayFollow before (always_of (function_name i)) × Inside i (before ++ (number, always_of (function_name i)) ∷ [])
   begins i before number most h =
       let line : ℕ × Statement = (number, always_of (function_name i)) in (
@@ -128,30 +128,30 @@ module _ (said : Lines) where
   abbrev AllDefined : Type 0
   AllDefined = (j : ℕ) → j ≤ 63 → is_defined (function_name j) said ≡ true
 
-  calls_follow : (defined : AllDefined) (i : ℕ) (before : Lines) (number : ℕ) (callee : Option ℕ) (rest : List Statement) → CalleeFits callee → Inside i before
-      → ((longer : Lines) (n : ℕ) → Inside i longer → Follow longer n rest) → Follow before number (call_statements callee ++ rest)
+  calls_follow : (defined : AllDefined) (i : ℕ) (before : StatementLines) (number : ℕ) (callee : Option ℕ) (rest : List Statement) → CalleeFits callee → Inside i before
+      → ((longer : StatementLines) (n : ℕ) → Inside i longer → Follow longer n rest) → Follow before number (call_statements callee ++ rest)
   calls_follow defined i before number None rest fits h more = more before number h
   calls_follow defined i before number (Some j) rest fits h more =
       does i before number (call_of (function_name j)) rest h refl refl (λ following. ap not (defined j fits)) (λ longer inside. more longer (number + 1) inside)
 
-  round_follows : (defined : AllDefined) (i : ℕ) (before : Lines) (number : ℕ) (r : Round) (rest : List Statement) → IsGood r → Inside i before
-      → ((longer : Lines) (n : ℕ) → Inside i longer → Follow longer n rest) → Follow before number (round_statements r ++ rest)
+  round_follows : (defined : AllDefined) (i : ℕ) (before : StatementLines) (number : ℕ) (r : Round) (rest : List Statement) → IsGood r → Inside i before
+      → ((longer : StatementLines) (n : ℕ) → Inside i longer → Follow longer n rest) → Follow before number (round_statements r ++ rest)
   round_follows defined i before number r rest good h more =
       does i before number (Plain (Mov 0 r.value)) (Does (Plain (Out 1)) ∷ call_statements r.callee ++ rest) h refl
       (le-ltb 4294967295 r.value (omega (arith, good.0))) (λ following. refl)
       (λ longer inside. does i longer (number + 1) (Plain (Out 1)) (call_statements r.callee ++ rest) inside refl refl (λ following. refl)
       (λ longest within. calls_follow defined i longest (number + 1 + 1) r.callee rest good.1 within more))
 
-  rounds_follow : (defined : AllDefined) (i : ℕ) (before : Lines) (number : ℕ) (rs : List Round) (rest : List Statement) → AllByRecursion IsGood rs → Inside i before
-      → ((longer : Lines) (n : ℕ) → Inside i longer → Follow longer n rest) → Follow before number (flat_map round_statements rs ++ rest)
+  rounds_follow : (defined : AllDefined) (i : ℕ) (before : StatementLines) (number : ℕ) (rs : List Round) (rest : List Statement) → AllByRecursion IsGood rs → Inside i before
+      → ((longer : StatementLines) (n : ℕ) → Inside i longer → Follow longer n rest) → Follow before number (flat_map round_statements rs ++ rest)
   rounds_follow defined i before number [] rest good h more = more before number h
   rounds_follow defined i before number (r ∷ rs) rest good h more =
       subst (λ (ss : List Statement). Follow before number ss) (sym (append_assoc (round_statements r) (flat_map round_statements rs) rest))
       (round_follows defined i before number r (flat_map round_statements rs ++ rest) good.0 h
       (λ longer n inside. rounds_follow defined i longer n rs rest good.1 inside more))
 
-  function_follows : (defined : AllDefined) (i x : ℕ) (before : Lines) (number : ℕ) (rest : List Statement) → i ≤ 63 → Outside i before
-      → ((longer : Lines) (n : ℕ) → Outside (i + 1) longer → Follow longer n rest) → Follow before number (function_statements i x ++ rest)
+  function_follows : (defined : AllDefined) (i x : ℕ) (before : StatementLines) (number : ℕ) (rest : List Statement) → i ≤ 63 → Outside i before
+      → ((longer : StatementLines) (n : ℕ) → Outside (i + 1) longer → Follow longer n rest) → Follow before number (function_statements i x ++ rest)
   function_follows defined i x before number rest most h more =
       let rs = rounds i (round_count x) (next x) in
       let first = begins i before number most h in
@@ -162,10 +162,10 @@ module _ (said : Lines) where
             (λ last n inside. ((does_follow i last Return inside refl refl, λ following. refl), more (last ++ (n, Does Return) ∷ []) (n + 1) (returned i last n inside)))),
       )
 
-  ended_well : (before : Lines) → Outside 64 before → ends_early before ≡ false
+  ended_well : (before : StatementLines) → Outside 64 before → ends_early before ≡ false
   ended_well before h = or_from (not (has_function before)) (is_bare before) (ap not (h.begun (omega arith))) h.bare
 
-  functions_follow : (defined : AllDefined) (i count x : ℕ) (before : Lines) (number : ℕ) → i + count ≡ 64 → Outside i before
+  functions_follow : (defined : AllDefined) (i count x : ℕ) (before : StatementLines) (number : ℕ) → i + count ≡ 64 → Outside i before
       → Follow before number (functions_statements i count x)
   unfolding functions_statements
   functions_follow defined i zero x before number at h =
@@ -205,7 +205,7 @@ all_defined x j h = numbered_defines (function_name j) 1 (statements x) ∙ func
 pub text_orderly : (x : ℕ) → IsOrderly (enumerate_from 1 (statements x))
 text_orderly x =
     let said = enumerate_from 1 (statements x) in
-    let base : Lines = (1, Base 4096) ∷ [] in
+    let base : StatementLines = (1, Base 4096) ∷ [] in
     let outside : Outside said 0 base = record { bare = refl; begun = λ lt. absurd (omega (arith, lt)); fresh = λ j le most. refl } in
     orderly said (statements x) refl
     ((record { place = refl; registers = refl; range = refl; name = refl }, λ following. refl), functions_follow said (all_defined x) 0 64 x base 2 refl outside)

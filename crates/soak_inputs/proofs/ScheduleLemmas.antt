@@ -8,7 +8,7 @@ use Rattle.step_sim.specs.declared.turns.Turns.TheVariants.{Thread, Patcher}
 use Rattle.step_sim.specs.Schedules.{AreTurnsOf}
 use Rattle.step_sim.specs.WrittenSchedules.{HasWords}
 use Rattle.soak_inputs.specs.Draws.{drawn, next}
-use Rattle.soak_inputs.specs.Schedules.{after_turns, all_turns, schedule, turns}
+use Rattle.soak_inputs.specs.Schedules.{after_turns, all_turns, schedule, turns_drawn}
 
 abbrev IsGood : Turns → Type 0
 IsGood t = AreTurnsOf 4 t × HasWords t
@@ -31,7 +31,7 @@ not_zero : (n : ℕ) → (n == 0) ≡ false → 1 ≤ n
 not_zero zero e = absurd (cc e)
 not_zero (suc n) e = omega arith
 
-turns_good : (x : ℕ) → IsGood (turns x)
+turns_good : (x : ℕ) → IsGood (turns_drawn x)
 turns_good x =
     good (drawn 5 x == 0) (drawn 5 x) (1 + drawn 8 (next x)) (1 + drawn 200 (next x)) (not_zero (drawn 5 x)) (party_fits (next x / 2 ^ 33))
     (steps_fit (next (next x) / 2 ^ 33)) (loads_fit (next (next x) / 2 ^ 33)) (omega arith) (omega arith)

@@ -2,7 +2,7 @@
 ghost use Rattle.std.specs.{Prelude.{◌≡◌, ◌≤◌, ℕ, length, None, Ok}, List.{enumerate_from}};
 ghost use Rattle.std.specs.Str.Lines.{lines};
 ghost use Rattle.xray_image.specs.{Ids.{id_count}, Program.{Program}};
-ghost use Rattle.asm_text.specs.{Assembling.{said_by}, Programs.{program_said}};
+ghost use Rattle.asm_text.specs.{Assembling.{statements_said}, Programs.{program_said}};
 ghost use Rattle.patch_script.specs.{Plans.{plan_of, waiting_line}, WrittenScripts.{written_plan}};
 ghost use Rattle.step_sim.specs.Schedules.{schedule_of};
 ghost use Rattle.soak_inputs.specs.Inputs.{soak_commands, soak_schedule, soak_script, soak_text, soak_turns};
@@ -16,7 +16,7 @@ use text_lines::{a_written_number_is_itself, a_written_text_is_its_words};
 /// The text of any number isn't refused. Its program has 64 function ids, whatever the threshold. It
 /// has at most 1,024 lines.
 pub fn the_text_is_assembled()
-    ensures said { (number : ℕ) → said_by (soak_text number) ≡ Ok (soak_said number) }
+    ensures said { (number : ℕ) → statements_said (soak_text number) ≡ Ok (soak_said number) }
     ensures ids { (number threshold : ℕ) → id_count (program_said threshold (soak_said number)) ≡ 64 }
     ensures lines { (number : ℕ) → length (lines (soak_text number)) ≤ 1024 }
 {

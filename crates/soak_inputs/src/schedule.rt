@@ -1,7 +1,7 @@
 //! The schedule.
 ghost use Rattle.std.specs.Prelude.{◌≡◌, ◌++◌, ◌∷◌, [], IfOk, OnOk};
 ghost use Rattle.step_sim.specs.WrittenSchedules.{schedule_text};
-ghost use Rattle.soak_inputs.specs.Schedules.{after_turns, schedule, turns};
+ghost use Rattle.soak_inputs.specs.Schedules.{after_turns, schedule, turns_drawn};
 
 use crate::SOAK_THREADS;
 use crate::draws::Draws;
@@ -34,7 +34,7 @@ pub(crate) fn write_schedule(alloc: Global, draws: &mut Draws) -> Result<Vec<u8>
 
 /// Adds a line of turns.
 fn add_turns(text: &mut Vec<u8>, draws: &mut Draws) -> Result<(), NoMemory>
-    ensures text { OnOk result (text.new.items ≡ text.old.items ++ schedule_text (turns draws.old ∷ [])) }
+    ensures text { OnOk result (text.new.items ≡ text.old.items ++ schedule_text (turns_drawn draws.old ∷ [])) }
     ensures after { OnOk result (draws.new ≡ after_turns draws.old) }
 {
     match draws.draw(PARTIES) {

@@ -11,18 +11,18 @@ use Rattle.stack_rebuild.specs.declared.stack_row.StackFault.{StackFault}
 use Rattle.stack_rebuild.specs.declared.stack_row.StackFault.TheVariants.{Deep, NoMemory}
 use Rattle.stack_rebuild.specs.declared.thread_blocks.ThreadBlocks.{ThreadBlocks}
 use Rattle.stack_rebuild.specs.private.ByThread.{AreThreads, IsFaultOf, events_at}
-use Rattle.stack_rebuild.specs.Histories.{events_of}
+use Rattle.stack_rebuild.specs.Histories.{events_of_thread}
 use Rattle.stack_rebuild.specs.private.Scanning.{AreSums}
-use Rattle.stack_rebuild.specs.Stacks.{IsDeepFault, Timed, all_timed, deep_in, first_of, gets_deep, timed_in}
+use Rattle.stack_rebuild.specs.Stacks.{IsDeepFault, Timed, all_timed, deep_in, first_item, gets_deep, timed_in}
 
 abbrev names : List ThreadBlocks → List ℕ
 names ts = map (λ (own : ThreadBlocks). own.thread) ts
 
 abbrev pairs_of_thread : List Block → ℕ → List Timed
-pairs_of_thread blocks thread = timed_in (events_of thread blocks)
+pairs_of_thread blocks thread = timed_in (events_of_thread thread blocks)
 
 abbrev is_deep : ℕ → List Block → ℕ → Bool
-is_deep limit blocks thread = gets_deep limit (reverse (events_of thread blocks))
+is_deep limit blocks thread = gets_deep limit (reverse (events_of_thread thread blocks))
 
 names_more : (ts : List ThreadBlocks) (i : ℕ) (d : ThreadBlocks) → i < length ts → take (i + 1) (names ts) ≡ take i (names ts) ++ (get_or ts i d).thread ∷ []
 names_more ts i d within =
@@ -34,7 +34,7 @@ pub summed_more : (blocks : List Block) (ts : List ThreadBlocks) (i : ℕ) (d : 
     → AreSums paths tallies (flat_map (pairs_of_thread blocks) (take i (names ts)) ++ timed_in (events_at blocks (get_or ts i d).places.items))
     → AreSums paths tallies (flat_map (pairs_of_thread blocks) (take (i + 1) (names ts)))
 summed_more blocks ts i d paths tallies own within sums =
-    let here : events_at blocks (get_or ts i d).places.items ≡ events_of (get_or ts i d).thread blocks = own.told i d within in
+    let here : events_at blocks (get_or ts i d).places.items ≡ events_of_thread (get_or ts i d).thread blocks = own.told i d within in
     subst (AreSums paths tallies)
     (ap (λ (es : List _). flat_map (pairs_of_thread blocks) (take i (names ts)) ++ timed_in es) here
     ∙ (ap (λ (ps : List Timed). flat_map (pairs_of_thread blocks) (take i (names ts)) ++ ps) (sym (append-nil (pairs_of_thread blocks (get_or ts i d).thread)))
@@ -60,9 +60,9 @@ whole_sums blocks ts i paths tallies own done =
 pub whole_shallow : (limit : ℕ) (blocks : List Block) (ts : List ThreadBlocks) (i : ℕ) → AreThreads blocks ts → length ts ≤ i
     → filter (is_deep limit blocks) (take i (names ts)) ≡ [] → deep_in limit blocks ≡ None
 whole_shallow limit blocks ts i own done none =
-    ap (λ (ns : List ℕ). first_of (filter (is_deep limit blocks) ns))
+    ap (λ (ns : List ℕ). first_item (filter (is_deep limit blocks) ns))
     (sym (take_all i (names ts) (omega (arith, length-map ts (λ (own : ThreadBlocks). own.thread), done)) ∙ own.are))
-    ∙ ap first_of none
+    ∙ ap first_item none
 
 pub first_deep : (limit : ℕ) (blocks : List Block) (ts : List ThreadBlocks) (i : ℕ) (d : ThreadBlocks) (fault : StackFault) → AreThreads blocks ts → i < length ts
     → filter (is_deep limit blocks) (take i (names ts)) ≡ []
@@ -81,7 +81,7 @@ first_deep limit blocks ts i d (Deep deep) own within before of =
     ∙ (filter-append (is_deep limit blocks) (take i (names ts)) (thread ∷ [])
     ∙ (ap (λ (ns : List ℕ). ns ++ filter (is_deep limit blocks) (thread ∷ [])) before
     ∙ ap (λ (b : Bool). cond b (thread ∷ []) (let none : List ℕ = [] in none)) here)))) in
-    ap (λ (ns : List ℕ). first_of (filter (is_deep limit blocks) ns)) (sym own.are) ∙ (ap first_of split ∙ ap (λ (n : ℕ). Some n) (sym of.0))
+    ap (λ (ns : List ℕ). first_item (filter (is_deep limit blocks) ns)) (sym own.are) ∙ (ap first_item split ∙ ap (λ (n : ℕ). Some n) (sym of.0))
 
 -- ---- the same for a thread at a place
 

@@ -21,7 +21,7 @@ use Rattle.stack_rebuild.specs.Ascending.{each_once}
 use Rattle.stack_rebuild.specs.private.PathNumbers.{path_at}
 use Rattle.stack_rebuild.specs.private.Rows.{row_before, row_by, rows_at, rows_for}
 use Rattle.stack_rebuild.specs.private.Scanning.{AllNumbered, AreSums, no_tally, tally_of}
-use Rattle.stack_rebuild.specs.Stacks.{PathRow, Timed, has_path, path_cmp, row_of, told}
+use Rattle.stack_rebuild.specs.Stacks.{PathRow, Timed, has_path, path_cmp, path_row, told}
 use Rattle.stack_rebuild.proofs.Orders.{order_all, order_distinct, order_low}
 use Rattle.stack_rebuild.proofs.Ascents.{Strict, each_in, is_each_once}
 use Rattle.stack_rebuild.proofs.Items.{IsIn, all_in, in_permutation, map-in}
@@ -75,24 +75,24 @@ in-counted path (pair ∷ pairs) (inr is) =
 -- ---- the rows of paths, by their numbers
 
 row_is : (paths : List (List ℕ)) (tallies : List Tally) (pairs : List Timed) → AreSums paths tallies pairs → (n : ℕ) → n < length paths
-    → row_by (path_at paths n) (get_or tallies n no_tally) ≡ row_of pairs (path_at paths n)
+    → row_by (path_at paths n) (get_or tallies n no_tally) ≡ path_row pairs (path_at paths n)
 row_is paths tallies pairs sums n low = ap (row_by (path_at paths n)) (sums.each n no_tally (omega (arith, low, sums.level)))
 
 -- each row is that of its path
 pub rows_are : (paths : List (List ℕ)) (tallies : List Tally) (pairs : List Timed) → AreSums paths tallies pairs → (numbers : List ℕ)
     → All (λ (n : ℕ). n < length paths) numbers
-    → All (λ (row : PathRow). row ≡ row_of pairs row.path) (rows_for paths tallies numbers)
-rows_are paths tallies pairs sums [] low = All-nil (λ (row : PathRow). row ≡ row_of pairs row.path)
+    → All (λ (row : PathRow). row ≡ path_row pairs row.path) (rows_for paths tallies numbers)
+rows_are paths tallies pairs sums [] low = All-nil (λ (row : PathRow). row ≡ path_row pairs row.path)
 rows_are paths tallies pairs sums (n ∷ numbers) low =
-    All-append (λ (row : PathRow). row ≡ row_of pairs row.path) (rows_at paths tallies n) (rows_for paths tallies numbers)
+    All-append (λ (row : PathRow). row ≡ path_row pairs row.path) (rows_at paths tallies n) (rows_for paths tallies numbers)
     (by_count (nat_lt 0 (get_or tallies n no_tally).count))
     (rows_are paths tallies pairs sums numbers (All-tail (λ (k : ℕ). k < length paths) n numbers low))
   where
-    by_count : (b : Bool) → All (λ (row : PathRow). row ≡ row_of pairs row.path) (cond b (row_by (path_at paths n) (get_or tallies n no_tally) ∷ []) [])
+    by_count : (b : Bool) → All (λ (row : PathRow). row ≡ path_row pairs row.path) (cond b (row_by (path_at paths n) (get_or tallies n no_tally) ∷ []) [])
     by_count true =
-        All-cons (λ (row : PathRow). row ≡ row_of pairs row.path) (row_by (path_at paths n) (get_or tallies n no_tally)) []
-        (row_is paths tallies pairs sums n (All-head (λ (k : ℕ). k < length paths) n numbers low)) (All-nil (λ (row : PathRow). row ≡ row_of pairs row.path))
-    by_count false = All-nil (λ (row : PathRow). row ≡ row_of pairs row.path)
+        All-cons (λ (row : PathRow). row ≡ path_row pairs row.path) (row_by (path_at paths n) (get_or tallies n no_tally)) []
+        (row_is paths tallies pairs sums n (All-head (λ (k : ℕ). k < length paths) n numbers low)) (All-nil (λ (row : PathRow). row ≡ path_row pairs row.path))
+    by_count false = All-nil (λ (row : PathRow). row ≡ path_row pairs row.path)
 
 -- the path of a row has one of the numbers, and it has pairs
 rows-in : (paths : List (List ℕ)) (tallies : List Tally) (numbers : List ℕ) (path : List ℕ) → IsIn path (paths_of_rows (rows_for paths tallies numbers))
@@ -222,11 +222,11 @@ paths_told : (rows : List StackRow) → paths_of_rows (map told rows) ≡ paths_
 paths_told [] = refl
 paths_told (row ∷ rows) = ap (λ (ps : List (List ℕ)). row.path.items ∷ ps) (paths_told rows)
 
-by_paths : (pairs : List Timed) (rows : List PathRow) → All (λ (row : PathRow). row ≡ row_of pairs row.path) rows → rows ≡ map (row_of pairs) (paths_of_rows rows)
+by_paths : (pairs : List Timed) (rows : List PathRow) → All (λ (row : PathRow). row ≡ path_row pairs row.path) rows → rows ≡ map (path_row pairs) (paths_of_rows rows)
 by_paths pairs [] all = refl
 by_paths pairs (row ∷ rows) all =
-    ap (λ (r : PathRow). r ∷ rows) (All-head (λ (r : PathRow). r ≡ row_of pairs r.path) row rows all)
-    ∙ ap (λ (rs : List PathRow). row_of pairs row.path ∷ rs) (by_paths pairs rows (All-tail (λ (r : PathRow). r ≡ row_of pairs r.path) row rows all))
+    ap (λ (r : PathRow). r ∷ rows) (All-head (λ (r : PathRow). r ≡ path_row pairs r.path) row rows all)
+    ∙ ap (λ (rs : List PathRow). path_row pairs row.path ∷ rs) (by_paths pairs rows (All-tail (λ (r : PathRow). r ≡ path_row pairs r.path) row rows all))
 
 numbered-at : (paths : List (List ℕ)) (pairs : List Timed) → AllNumbered paths pairs → (z : List ℕ) → IsIn z (paths_of_pairs pairs)
     → (n : ℕ) × (n < length paths) × (path_at paths n ≡ z)
@@ -237,12 +237,12 @@ numbered-at paths (pair ∷ pairs) all z (inr is) = numbered-at paths pairs all.
 pub rows_sorted : (paths : List (List ℕ)) (tallies : List Tally) (pairs : List Timed) (order : List ℕ) (made sorted : List StackRow)
     → AreSums paths tallies pairs → IsPermutation (range_with_len 0 (length paths)) order
     → map told made ≡ rows_for paths tallies order → IsPermutation made sorted → IsSortedBy row_before sorted
-    → map told sorted ≡ map (row_of pairs) (each_once path_cmp (paths_of_pairs pairs))
+    → map told sorted ≡ map (path_row pairs) (each_once path_cmp (paths_of_pairs pairs))
 rows_sorted paths tallies pairs order made sorted sums numbers is moved up =
     let rows = rows_for paths tallies order in
     let low : All (λ (n : ℕ). n < length paths) order = order_low (length paths) order numbers in
     let same : IsPermutation rows (map told sorted) = subst (λ (rs : List PathRow). IsPermutation rs (map told sorted)) is (IsPermutation-map told made sorted moved) in
-    let own = All-permutation (λ (row : PathRow). row ≡ row_of pairs row.path) rows (map told sorted) same (rows_are paths tallies pairs sums order low) in
+    let own = All-permutation (λ (row : PathRow). row ≡ path_row pairs row.path) rows (map told sorted) same (rows_are paths tallies pairs sums order low) in
     let moved_paths : IsPermutation (paths_of_rows rows) (paths_of_rows (map told sorted)) = IsPermutation-map (λ (row : PathRow). row.path) rows (map told sorted) same in
     let distinct = IsDistinct-IsPermutation (eq_by_cmp path_cmp) (eq_by_cmp_equiv nat_list_cmp_total).symm (paths_of_rows rows) (paths_of_rows (map told sorted)) moved_paths
     (rows_distinct paths tallies pairs sums order low (order_distinct (length paths) order numbers)) in
@@ -260,4 +260,4 @@ rows_sorted paths tallies pairs order made sorted sums numbers is moved up =
     (subst (λ (p : List ℕ). IsIn p (paths_of_rows rows)) at.2 (in-rows paths tallies order at.0 (order_all (length paths) order numbers at.0 at.1)
     (let tally : get_or tallies at.0 no_tally ≡ tally_of pairs z = sums.each at.0 no_tally (omega (arith, at.1, sums.level)) ∙ ap (tally_of pairs) at.2 in
     omega (arith, in-counted z pairs there, ap {B = ℕ} (λ (t : Tally). t.count) tally))))) in
-    by_paths pairs (map told sorted) own ∙ ap (map (row_of pairs)) listed
+    by_paths pairs (map told sorted) own ∙ ap (map (path_row pairs)) listed

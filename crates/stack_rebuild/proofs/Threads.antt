@@ -18,14 +18,14 @@ use Rattle.fdr_record.specs.declared.event.Event.{Event}
 use Rattle.fdr_file.specs.declared.trace.Block.{Block}
 use Rattle.stack_rebuild.specs.declared.thread_blocks.ThreadBlocks.{ThreadBlocks}
 use Rattle.stack_rebuild.specs.private.ByThread.{ArePlaces, AreThreads, Places, events_at, no_block, places_in, thread_of}
-use Rattle.stack_rebuild.specs.Histories.{events_of}
+use Rattle.stack_rebuild.specs.Histories.{events_of_thread}
 use Rattle.stack_rebuild.proofs.Ascents.{is_each_once, strict_from_sorted}
 use Rattle.stack_rebuild.proofs.Items.{IsIn, any-in, any-mapped, in-any, mapped-any}
 use Rattle.stack_rebuild.proofs.Sums.{equal_from, nat_cmp_same}
 
 -- the events of a thread in one more block
 events_of-more : (thread : ℕ) (blocks : List Block) (block : Block)
-    → events_of thread (blocks ++ block ∷ []) ≡ cond (nat_eq block.thread thread) (events_of thread blocks ++ block.events) (events_of thread blocks)
+    → events_of_thread thread (blocks ++ block ∷ []) ≡ cond (nat_eq block.thread thread) (events_of_thread thread blocks ++ block.events) (events_of_thread thread blocks)
 events_of-more thread [] block = by_thread (nat_eq block.thread thread)
   where
     by_thread : (b : Bool) → cond b (block.events ++ []) [] ≡ cond b block.events (let none : List Event = [] in none)
@@ -33,11 +33,11 @@ events_of-more thread [] block = by_thread (nat_eq block.thread thread)
     by_thread false = refl
 events_of-more thread (first ∷ blocks) block = by_threads (nat_eq first.thread thread) (nat_eq block.thread thread) (events_of-more thread blocks block)
   where
-    by_threads : (b d : Bool) → events_of thread (blocks ++ block ∷ []) ≡ cond d (events_of thread blocks ++ block.events) (events_of thread blocks)
-        → cond b (first.events ++ events_of thread (blocks ++ block ∷ [])) (events_of thread (blocks ++ block ∷ []))
-        ≡ cond d (cond b (first.events ++ events_of thread blocks) (events_of thread blocks) ++ block.events)
-        (cond b (first.events ++ events_of thread blocks) (events_of thread blocks))
-    by_threads true true following = ap (λ (es : List Event). first.events ++ es) following ∙ sym (append_assoc first.events (events_of thread blocks) block.events)
+    by_threads : (b d : Bool) → events_of_thread thread (blocks ++ block ∷ []) ≡ cond d (events_of_thread thread blocks ++ block.events) (events_of_thread thread blocks)
+        → cond b (first.events ++ events_of_thread thread (blocks ++ block ∷ [])) (events_of_thread thread (blocks ++ block ∷ []))
+        ≡ cond d (cond b (first.events ++ events_of_thread thread blocks) (events_of_thread thread blocks) ++ block.events)
+        (cond b (first.events ++ events_of_thread thread blocks) (events_of_thread thread blocks))
+    by_threads true true following = ap (λ (es : List Event). first.events ++ es) following ∙ sym (append_assoc first.events (events_of_thread thread blocks) block.events)
     by_threads true false following = ap (λ (es : List Event). first.events ++ es) following
     by_threads false true following = following
     by_threads false false following = following
@@ -63,7 +63,7 @@ pub places_more : (blocks : List Block) (k : ℕ) (d : Block) (places places' : 
 places_more blocks k d places places' within own added present = record {
   each = λ thread. ap (events_at blocks) (added thread)
       ∙ (by_thread thread (nat_eq (get_or blocks k d).thread thread)
-      ∙ sym (ap (events_of thread) (take_more blocks k d within) ∙ events_of-more thread (take k blocks) (get_or blocks k d)));
+      ∙ sym (ap (events_of_thread thread) (take_more blocks k d within) ∙ events_of-more thread (take k blocks) (get_or blocks k d)));
   present = λ thread. present thread
       ∙ (ap (λ (b : Bool). nat_eq (get_or blocks k d).thread thread || b) (own.present thread)
       ∙ sym (ap (list_any (λ (b : Block). nat_eq b.thread thread)) (take_more blocks k d within) ∙ any-more thread (take k blocks) (get_or blocks k d)));
@@ -73,11 +73,11 @@ places_more blocks k d places places' within own added present = record {
     each_at place = (get_or blocks place no_block).events
 
     by_thread : (thread : ℕ) (b : Bool) → events_at blocks (cond b (places_in places thread ++ k ∷ []) (places_in places thread))
-        ≡ cond b (events_of thread (take k blocks) ++ (get_or blocks k d).events) (events_of thread (take k blocks))
+        ≡ cond b (events_of_thread thread (take k blocks) ++ (get_or blocks k d).events) (events_of_thread thread (take k blocks))
     by_thread thread true =
         flat_map-append (λ (place : ℕ). (get_or blocks place no_block).events) (places_in places thread) (k ∷ [])
         ∙ (ap (λ (es : List Event). es ++ ((get_or blocks k no_block).events ++ [])) (own.each thread)
-        ∙ ap (λ (es : List Event). events_of thread (take k blocks) ++ es)
+        ∙ ap (λ (es : List Event). events_of_thread thread (take k blocks) ++ es)
         (append-nil (get_or blocks k no_block).events ∙ ap (λ (b : Block). b.events) (get_or_default blocks k no_block d within)))
     by_thread thread false = own.each thread
 
@@ -111,10 +111,10 @@ threads_keys (e ∷ es) = ap (λ (ks : List ℕ). e.0 ∷ ks) (threads_keys es)
 
 events_told : (blocks : List Block) (places : Places) (es : Entries) → ArePlaces blocks blocks places
     → All (λ (e : ℕ × Vec ℕ). get nat_cmp places e.0 ≡ Some e.1) es
-    → All (λ (own : ThreadBlocks). events_at blocks own.places.items ≡ events_of own.thread blocks) (map thread_of es)
-events_told blocks places [] own found = All-nil (λ (t : ThreadBlocks). events_at blocks t.places.items ≡ events_of t.thread blocks)
+    → All (λ (own : ThreadBlocks). events_at blocks own.places.items ≡ events_of_thread own.thread blocks) (map thread_of es)
+events_told blocks places [] own found = All-nil (λ (t : ThreadBlocks). events_at blocks t.places.items ≡ events_of_thread t.thread blocks)
 events_told blocks places (e ∷ es) own found =
-    All-cons (λ (t : ThreadBlocks). events_at blocks t.places.items ≡ events_of t.thread blocks) (thread_of e) (map thread_of es)
+    All-cons (λ (t : ThreadBlocks). events_at blocks t.places.items ≡ events_of_thread t.thread blocks) (thread_of e) (map thread_of es)
     (ap (λ (o : Option (Vec ℕ)). events_at blocks (unwrap_or (option_map (λ (list : Vec ℕ). list.items) o) []))
     (sym (All-head (λ (x : ℕ × Vec ℕ). get nat_cmp places x.0 ≡ Some x.1) e es found)) ∙ own.each e.0)
     (events_told blocks places es own (All-tail (λ (x : ℕ × Vec ℕ). get nat_cmp places x.0 ≡ Some x.1) e es found))

@@ -10,9 +10,9 @@ use Rattle.stack_rebuild.specs.declared.call.Pair.{Pair}
 use Rattle.stack_rebuild.specs.Calls.{open_calls, pair_at}
 
 -- the events of a thread: those of its blocks, in the order of the file
-abbrev pub events_of : ℕ → List Block → List Event
-events_of thread [] = []
-events_of thread (block ∷ later) = if block.thread == thread then block.events ++ events_of thread later else events_of thread later
+abbrev pub events_of_thread : ℕ → List Block → List Event
+events_of_thread thread [] = []
+events_of_thread thread (block ∷ later) = if block.thread == thread then block.events ++ events_of_thread thread later else events_of_thread thread later
 
 -- an event, and the thread that recorded it
 pub record Logged : Type 0 where
@@ -31,12 +31,12 @@ abbrev pub history_of : Trace → List Logged
 history_of trace = reverse (all_events trace.blocks)
 
 -- the part of a history that belongs to one thread
-abbrev pub of_thread : ℕ → List Logged → List Event
-of_thread thread [] = []
-of_thread thread (l ∷ before) = if l.thread == thread then l.event ∷ of_thread thread before else of_thread thread before
+abbrev pub history_of_thread : ℕ → List Logged → List Event
+history_of_thread thread [] = []
+history_of_thread thread (l ∷ before) = if l.thread == thread then l.event ∷ history_of_thread thread before else history_of_thread thread before
 
 -- the pairs that a history makes, each within its thread, in the order of their exits
 abbrev pub all_pairs : List Logged → List Pair
 all_pairs [] = []
 all_pairs (l ∷ before) =
-    let own = of_thread l.thread before in all_pairs before ++ option_to_list (pair_at l.event (length own) (open_calls own))
+    let own = history_of_thread l.thread before in all_pairs before ++ option_to_list (pair_at l.event (length own) (open_calls own))

@@ -25,8 +25,8 @@ weight_text Human row = codes "\n"
 weight_text Flame row = codes " " ++ decimal row.own ++ codes "\n"
 
 -- the line of a row
-abbrev pub row_text : StackForm → Option Program → PathRow → List ℕ
-row_text form program row = columns_text form row ++ path_text program row.path ++ weight_text form row
+abbrev pub path_row_text : StackForm → Option Program → PathRow → List ℕ
+path_row_text form program row = columns_text form row ++ path_text program row.path ++ weight_text form row
 
 -- the head line, which flame graphs don't have
 abbrev pub head_text : StackForm → List ℕ
@@ -35,4 +35,4 @@ head_text Flame = []
 
 -- the head line, and a line for each row
 abbrev pub stack_text : StackForm → Option Program → List PathRow → List ℕ
-stack_text form program rows = head_text form ++ flat_map (row_text form program) rows
+stack_text form program rows = head_text form ++ flat_map (path_row_text form program) rows

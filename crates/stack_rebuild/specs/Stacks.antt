@@ -13,7 +13,7 @@ use Rattle.stack_rebuild.specs.declared.stack_row.StackRow.{StackRow}
 use Rattle.stack_rebuild.specs.declared.stack_row.StackFault.{StackFault}
 use Rattle.stack_rebuild.specs.declared.stack_row.StackFault.TheVariants.{Deep, NoMemory}
 use Rattle.stack_rebuild.specs.Calls.{open_calls, pairs_of}
-use Rattle.stack_rebuild.specs.Histories.{events_of}
+use Rattle.stack_rebuild.specs.Histories.{events_of_thread}
 use Rattle.stack_rebuild.specs.Ascending.{each_once}
 
 -- the calls that are open just before the event at a position, from the innermost to the outermost
@@ -56,7 +56,7 @@ threads_of blocks = each_once nat_cmp (map (λ block. block.thread) blocks)
 
 -- the pairs of all threads
 abbrev pub all_timed : List Block → List Timed
-all_timed blocks = flat_map (λ thread. timed_in (events_of thread blocks)) (threads_of blocks)
+all_timed blocks = flat_map (λ thread. timed_in (events_of_thread thread blocks)) (threads_of blocks)
 
 -- the order of paths as lists of numbers
 abbrev pub path_cmp : List ℕ → List ℕ → Ordering
@@ -74,8 +74,8 @@ abbrev pub has_path : List ℕ → Timed → Bool
 has_path path pair = is_eq (path_cmp pair.path path)
 
 -- the row of a path
-abbrev pub row_of : List Timed → List ℕ → PathRow
-row_of pairs path = record {
+abbrev pub path_row : List Timed → List ℕ → PathRow
+path_row pairs path = record {
   path = path;
   count = count_by (has_path path) pairs;
   sum = sum_by (λ pair. if has_path path pair then pair.duration else 0) pairs;
@@ -84,7 +84,7 @@ row_of pairs path = record {
 
 -- a row for each path that has a pair, in ascending order
 abbrev pub stack_of : Trace → List PathRow
-stack_of trace = let pairs = all_timed trace.blocks in map (row_of pairs) (each_once path_cmp (map (λ pair. pair.path) pairs))
+stack_of trace = let pairs = all_timed trace.blocks in map (path_row pairs) (each_once path_cmp (map (λ pair. pair.path) pairs))
 
 -- what a row says
 abbrev pub told : StackRow → PathRow
@@ -100,13 +100,13 @@ gets_deep limit [] = false
 gets_deep limit (e ∷ before) = nat_lt limit (length (open_calls (e ∷ before))) || gets_deep limit before
 
 -- the first item of a list
-abbrev pub first_of : List ℕ → Option ℕ
-first_of [] = None
-first_of (n ∷ ns) = Some n
+abbrev pub first_item : List ℕ → Option ℕ
+first_item [] = None
+first_item (n ∷ ns) = Some n
 
 -- the least thread that has more calls open than a limit, after some event
 abbrev pub deep_in : ℕ → List Block → Option ℕ
-deep_in limit blocks = first_of (filter (λ thread. gets_deep limit (reverse (events_of thread blocks))) (threads_of blocks))
+deep_in limit blocks = first_item (filter (λ thread. gets_deep limit (reverse (events_of_thread thread blocks))) (threads_of blocks))
 
 -- a fault is want of memory, or it names this thread
 abbrev pub IsDeepFault : StackFault → Option ℕ → Type 0

@@ -1,7 +1,7 @@
 //! The pairs of a thread's events, and the events of one thread.
 
 ghost use Rattle.std.specs.Prelude.{◌≡◌, IfOk};
-ghost use Rattle.stack_rebuild.specs.{Calls.{pairs_of}, Histories.{events_of}};
+ghost use Rattle.stack_rebuild.specs.{Calls.{pairs_of}, Histories.{events_of_thread}};
 
 use crate::call::Pair;
 use crate::calls::ThreadCalls;
@@ -29,7 +29,7 @@ pub fn pairs(alloc: Global, events: &[Event]) -> Result<Vec<Pair>, NoMemory>
 
 /// The events of a thread: those of its blocks, in the order of the file.
 pub fn thread_events(alloc: Global, trace: &Trace, thread: u32) -> Result<Vec<Event>, NoMemory>
-    ensures { IfOk result (λ events. events.items ≡ events_of thread trace.now.blocks) }
+    ensures { IfOk result (λ events. events.items ≡ events_of_thread thread trace.now.blocks) }
 {
     let mut events = Vec::new(alloc);
     'gathering: for block in trace.blocks.as_slice() {

@@ -5,7 +5,7 @@ ghost use Rattle.std.specs.Option.{option_map};
 ghost use Rattle.function_names.specs.Name.{name_text};
 ghost use Rattle.xray_io.specs.{Piece.{piece_text, right_aligned}, Text.{AddsText}};
 ghost use Rattle.stack_rebuild.specs.Stacks.{told};
-ghost use Rattle.stack_rebuild.specs.StackText.{columns_text, head_text, path_text, row_text, stack_text, weight_text};
+ghost use Rattle.stack_rebuild.specs.StackText.{columns_text, head_text, path_text, path_row_text, stack_text, weight_text};
 
 use crate::stack_row::StackRow;
 use function_names::{add_callee_name, add_name};
@@ -71,7 +71,7 @@ fn add_rows<S: Sink>(
     form: StackForm,
 ) -> Result<(), WriteFault>
     ensures { AddsText S.written S.faults S.along text.old text.new
-        (flat_map (λ row. row_text form (option_map (λ image. image.now) image.entry) (told row))
+        (flat_map (λ row. path_row_text form (option_map (λ image. image.now) image.entry) (told row))
         rows.now) result }
 {
     'rows: for row in rows {
@@ -88,7 +88,7 @@ fn add_row<S: Sink>(
     form: StackForm,
 ) -> Result<(), WriteFault>
     ensures { AddsText S.written S.faults S.along text.old text.new
-        (row_text form (option_map (λ image. image.now) image.entry) (told row.now)) result }
+        (path_row_text form (option_map (λ image. image.now) image.entry) (told row.now)) result }
 {
     add_columns(text, row, form)?;
     add_path(text, row.path.as_slice(), image)?;

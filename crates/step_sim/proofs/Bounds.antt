@@ -18,7 +18,7 @@ use Rattle.machine_step.specs.declared.limits.Limits.{Limits}
 use Rattle.machine_step.specs.declared.end.End.{End}
 use Rattle.machine_step.specs.Loads.{Load, marks_of}
 use Rattle.machine_step.specs.PlainStep.{Passing, PlainRun, State}
-use Rattle.machine_step.specs.Traced.{HasLoaded, IsThreadOf, Traced, sleds_of}
+use Rattle.machine_step.specs.Traced.{HasLoaded, IsThreadOf, Traced, sleds_passed}
 use Rattle.step_sim.specs.declared.patcher.Patcher.{Patcher}
 use Rattle.step_sim.specs.Replay.{Cast, Moment, first_moment, of_thread}
 use Rattle.step_sim.specs.Replayed.{cast_of}
@@ -79,7 +79,7 @@ gathered (t ∷ ts) own =
 
 -- the sleds of an item
 pub item_sleds : (all : List (List Passing)) (i : ℕ)
-    → unwrap_or (slice_get (map sleds_of all) i) [] ≡ sleds_of (unwrap_or (slice_get all i) [])
+    → unwrap_or (slice_get (map sleds_passed all) i) [] ≡ sleds_passed (unwrap_or (slice_get all i) [])
 item_sleds [] i = refl
 item_sleds (passed ∷ all) zero = refl
 item_sleds (passed ∷ all) (suc i) = item_sleds all i
@@ -94,12 +94,12 @@ item_of lists i number e =
 pub begins : (program : Program) (script : List Command) (threads : ℕ) (limits : Limits) (p : Patcher) (ts : List Traced)
     → length ts ≡ threads → AllHaveBegun program script threads limits ts → ((number : ℕ) → hold_of number script ≡ None)
     → IsPatcherAt program script (start_of program script) p → vec_len p.words ≡ word_count program threads → (its : Gathered ts)
-    → AllStandAt (cast_of program script (map sleds_of its.all)) threads limits (first_moment (cast_of program script (map sleds_of its.all))) p ts
+    → AllStandAt (cast_of program script (map sleds_passed its.all)) threads limits (first_moment (cast_of program script (map sleds_passed its.all))) p ts
 begins program script threads limits p ts count begun free patcher words its =
-    let passings : List (List ℕ) = map sleds_of its.all in
+    let passings : List (List ℕ) = map sleds_passed its.all in
     let cast : Cast = cast_of program script passings in
     let first : Moment = first_moment cast in
-    let listed : length passings ≡ threads = length-map its.all sleds_of ∙ its.count ∙ count in
+    let listed : length passings ≡ threads = length-map its.all sleds_passed ∙ its.count ∙ count in
     let room : length first.loads ≡ threads = length-map passings (λ (_ : List ℕ). let none : List Load = [] in none) ∙ listed in
     record {
       count = count;

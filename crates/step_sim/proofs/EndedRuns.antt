@@ -10,7 +10,7 @@ use Rattle.machine_step.specs.declared.end.End.{End}
 use Rattle.machine_step.specs.Ended.{EndsAsPlain}
 use Rattle.machine_step.specs.Loads.{Load, marks_of}
 use Rattle.machine_step.specs.PlainStep.{Passing, PlainRun, State}
-use Rattle.machine_step.specs.Traced.{HasLoaded, IsDone, StandsAs, Traced, sleds_of}
+use Rattle.machine_step.specs.Traced.{HasLoaded, IsDone, StandsAs, Traced, sleds_passed}
 use Rattle.traced_run.specs.Left.{HasRun}
 use Rattle.traced_run.specs.Runs.{ThreadRun}
 use Rattle.step_sim.specs.declared.patcher.Patcher.{Patcher}
@@ -77,7 +77,7 @@ run_of r last p ts pool i t so (bytes, accepted) at within found rests =
       record {
         passed = refl;
         marks = ends.marks
-            ∙ marks_alike t.program r.cast.program t.thread number t.hold (hold_of number r.cast.script) (sleds_of passed)
+            ∙ marks_alike t.program r.cast.program t.thread number t.hold (hold_of number r.cast.script) (sleds_passed passed)
             (of_thread r.cast.passings number) loads (of_thread last.moment.loads number)
             is.program_is is.thread_is (its.free ∙ sym (at.stands.no_hold number)) (sym (at.traced.sleds number some among))
             (ap (of_thread last.moment.loads) is.thread_is);

@@ -15,7 +15,7 @@ use Rattle.machine_step.specs.declared.setup.Setup.{Setup}
 use Rattle.machine_step.specs.Events.{recorded}
 use Rattle.machine_step.specs.Loads.{Load, marks_of}
 use Rattle.machine_step.specs.PlainStep.{Passing}
-use Rattle.machine_step.specs.Traced.{sleds_of}
+use Rattle.machine_step.specs.Traced.{sleds_passed}
 use Rattle.traced_run.specs.Kept.{segment_count}
 use Rattle.traced_run.specs.Losses.{AreLost}
 use Rattle.traced_run.specs.Runs.{ThreadRun}
@@ -202,7 +202,7 @@ marks_of_run program script schedule setup runs is j run found = run_at (λ r. r
     marks_in t = marks_of program t (hold_of t script) (of_thread cast.passings t) (of_thread is.last.moment.loads t)
 
     long : length cast.passings ≡ setup.threads
-    long = length-map (passed_of runs) sleds_of ∙ length-map runs (λ (run : ThreadRun). run.passed) ∙ is.run.count
+    long = length-map (passed_of runs) sleds_passed ∙ length-map runs (λ (run : ThreadRun). run.passed) ∙ is.run.count
 
     marks_told : map (λ (run : ThreadRun). run.marks) runs ≡ map marks_in (numbers_from 1 setup.threads)
     marks_told =
@@ -270,7 +270,7 @@ replay_loses program script schedule setup runs of is =
     segs t = length (segments_at cast (passed_of runs) setup.size t is.last.moment)
 
     long : length cast.passings ≡ setup.threads
-    long = length-map (passed_of runs) sleds_of ∙ length-map runs (λ (run : ThreadRun). run.passed) ∙ is.run.count
+    long = length-map (passed_of runs) sleds_passed ∙ length-map runs (λ (run : ThreadRun). run.passed) ∙ is.run.count
 
 -- ---- the oldest
 

@@ -10,7 +10,7 @@ use Rattle.patch_script.specs.Micros.{hold_of}
 use Rattle.machine_step.specs.declared.end.End.{End}
 use Rattle.machine_step.specs.Loads.{Load, marks_of}
 use Rattle.machine_step.specs.PlainStep.{Passing, PlainRun, State}
-use Rattle.machine_step.specs.Traced.{HasLoaded, IsKept, IsSameThread, Traced, sleds_of}
+use Rattle.machine_step.specs.Traced.{HasLoaded, IsKept, IsSameThread, Traced, sleds_passed}
 use Rattle.traced_run.proofs.RecordedEvents.{event_small, recorded_short}
 use Rattle.step_sim.specs.declared.patcher.Patcher.{Patcher}
 use Rattle.step_sim.specs.declared.pool.Pool.{Pool}
@@ -100,7 +100,7 @@ marks_at_moment : (cast : Cast) (m : Moment) (old t : Traced) (at : IsThreadAt c
     → HasLoaded t at.passed (of_thread m.loads old.thread)
     → t.marks ≡ marks_of cast.program old.thread (hold_of old.thread cast.script) (of_thread cast.passings old.thread) (of_thread m.loads old.thread)
 marks_at_moment cast m old t at same loaded =
-    loaded.marks ∙ marks_alike t.program cast.program t.thread old.thread t.hold (hold_of old.thread cast.script) (sleds_of at.passed)
+    loaded.marks ∙ marks_alike t.program cast.program t.thread old.thread t.hold (hold_of old.thread cast.script) (sleds_passed at.passed)
     (of_thread cast.passings old.thread) (of_thread m.loads old.thread) (of_thread m.loads old.thread)
     (same.program ∙ at.program_is) same.thread (same.hold ∙ at.free ∙ sym at.no_hold) (sym at.sleds) refl
 

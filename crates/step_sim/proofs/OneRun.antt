@@ -8,7 +8,7 @@ use Rattle.machine_step.specs.declared.end.End.{End}
 use Rattle.machine_step.specs.declared.limits.Limits.{Limits}
 use Rattle.machine_step.specs.declared.setup.Setup.{Setup}
 use Rattle.machine_step.specs.PlainStep.{Passing, PlainRun, State}
-use Rattle.machine_step.specs.Traced.{sleds_of}
+use Rattle.machine_step.specs.Traced.{sleds_passed}
 use Rattle.traced_run.specs.Runs.{IsRun, ThreadRun}
 use Rattle.step_sim.specs.declared.turns.Turns.{Turns}
 use Rattle.step_sim.specs.Pool.{Pooled, PooledReplay, segments_among}
@@ -104,15 +104,15 @@ one_run_of one bytes program script schedule setup runs others accepted is other
     passed = passed_same one bytes program setup.limits 1 runs others accepted count plain plain'
 
     there : PooledReplay (cast_with program script others) (pooling_with program script setup others) schedule is.last
-    there = subst (λ (ps : List (List Passing)). PooledReplay (cast_of program script (map sleds_of ps))
-        (pooling_of (cast_of program script (map sleds_of ps)) ps setup.size (spare_of setup)) schedule is.last) passed is.replay
+    there = subst (λ (ps : List (List Passing)). PooledReplay (cast_of program script (map sleds_passed ps))
+        (pooling_of (cast_of program script (map sleds_passed ps)) ps setup.size (spare_of setup)) schedule is.last) passed is.replay
 
     last : is.last ≡ other.last
     last = same_queue (cast_with program script others) (pooling_with program script setup others) schedule is.last other.last there other.replay
 
     marks : map (λ run. run.marks) runs ≡ map (λ run. run.marks) others
     marks =
-        is.marks ∙ ap (λ (ps : List (List Passing)). marks_at (cast_of program script (map sleds_of ps)) is.last.moment) passed
+        is.marks ∙ ap (λ (ps : List (List Passing)). marks_at (cast_of program script (map sleds_passed ps)) is.last.moment) passed
         ∙ ap (λ (p : Pooled). marks_at (cast_with program script others) p.moment) last ∙ sym other.marks
 
     lost : map (λ run. run.lost) runs ≡ map (λ run. run.lost) others

@@ -9,7 +9,7 @@ use Rattle.machine_step.specs.declared.want.Want.{Want}
 use Rattle.machine_step.specs.declared.want.Want.TheVariants.{Load as Loads}
 use Rattle.machine_step.specs.Loads.{Load, next_load}
 use Rattle.machine_step.specs.PlainStep.{Passing}
-use Rattle.machine_step.specs.Traced.{HasLoaded, IsSameThread, IsWant, Traced, load_of, sleds_of, wanted_after}
+use Rattle.machine_step.specs.Traced.{HasLoaded, IsSameThread, IsWant, Traced, load_of, sleds_passed, wanted_after}
 use Rattle.machine_step.proofs.WantedWords.{wanted_within}
 use Rattle.step_sim.specs.declared.patcher.Patcher.{Patcher}
 use Rattle.step_sim.specs.Along.{IsAlong}
@@ -47,7 +47,7 @@ thread_moved cast m m' old new at same room loaded = record {
   no_hold = subst (λ (n : ℕ). hold_of n cast.script ≡ None) (sym same.thread) at.no_hold;
   free = same.hold ∙ at.free;
   passed = at.passed;
-  sleds = subst (λ (n : ℕ). of_thread cast.passings n ≡ sleds_of at.passed) (sym same.thread) at.sleds;
+  sleds = subst (λ (n : ℕ). of_thread cast.passings n ≡ sleds_passed at.passed) (sym same.thread) at.sleds;
   loaded = subst (λ (n : ℕ). HasLoaded new at.passed (of_thread m'.loads n)) (sym same.thread) loaded;
 }
 
@@ -81,7 +81,7 @@ wanted_is : (cast : Cast) (m : Moment) (old mid : Traced) (at : IsThreadAt cast 
     → wanted_by cast old.thread m ≡ wanted_after mid at.passed (of_thread m.loads old.thread)
 wanted_is cast m old mid at same =
     next_alike cast.program mid.program old.thread mid.thread (hold_of old.thread cast.script) mid.hold
-    (of_thread cast.passings old.thread) (sleds_of at.passed) (of_thread m.loads old.thread)
+    (of_thread cast.passings old.thread) (sleds_passed at.passed) (of_thread m.loads old.thread)
     (sym (same.program ∙ at.program_is)) (sym same.thread) (at.no_hold ∙ sym (same.hold ∙ at.free)) at.sleds
 
 -- what a thread says about its loads, after the gate of its passing

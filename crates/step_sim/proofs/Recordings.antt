@@ -13,7 +13,7 @@ use Rattle.machine_step.specs.declared.setup.Setup.{Setup}
 use Rattle.machine_step.specs.Events.{recorded}
 use Rattle.machine_step.specs.Loads.{Load, is_held_at, marks_of, marks_from}
 use Rattle.machine_step.specs.PlainStep.{Passing, PlainRun, State}
-use Rattle.machine_step.specs.Traced.{Traced, sleds_of}
+use Rattle.machine_step.specs.Traced.{Traced, sleds_passed}
 use Rattle.step_sim.specs.declared.patcher.Patcher.{Patcher}
 use Rattle.step_sim.specs.declared.pool.Pool.{Pool}
 use Rattle.step_sim.specs.declared.turns.Turns.{Turns}
@@ -101,7 +101,7 @@ no_events r (suc n) =
 -- what a setup's replay is played with
 abbrev pub recording : Program → List Command → Setup → List (List Passing) → Recording
 recording program script setup passed = record {
-  cast = cast_of program script (map sleds_of passed);
+  cast = cast_of program script (map sleds_passed passed);
   limits = setup.limits;
   threads = setup.threads;
   passed = passed;

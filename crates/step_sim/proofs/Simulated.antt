@@ -13,7 +13,7 @@ use Rattle.fdr_buffer.specs.Filled.{Filled}
 use Rattle.machine_step.specs.declared.setup.Setup.{Setup}
 use Rattle.machine_step.specs.Loads.{marks_of}
 use Rattle.machine_step.specs.PlainStep.{Passing, PlainRun}
-use Rattle.machine_step.specs.Traced.{Traced, sleds_of}
+use Rattle.machine_step.specs.Traced.{Traced, sleds_passed}
 use Rattle.traced_run.specs.Kept.{buffers_after, kept_buffers, segment_count, segments_of, thread_buffers}
 use Rattle.traced_run.specs.Left.{HasRun}
 use Rattle.traced_run.specs.Runs.{ThreadRun, events_of}
@@ -150,8 +150,8 @@ is_simulated program script schedule lines setup passed count p ts pool sealed s
         runs_map (λ run. run.passed) (of_thread passed) runs 1 setup.threads all.count (λ j run found. (all.each j run found).passed)
         ∙ sym (items_are passed (of_thread passed) 1 setup.threads passed_count (λ j xs found. sym (of_thread_at passed j xs found)))
 
-    long : count ≡ length (map sleds_of passed)
-    long = counted ∙ sym (length-map passed sleds_of ∙ passed_count)
+    long : count ≡ length (map sleds_passed passed)
+    long = counted ∙ sym (length-map passed sleds_passed ∙ passed_count)
 
     replayed : PooledReplay r.cast (pooling_in r) schedule last
     replayed =
@@ -161,10 +161,10 @@ is_simulated program script schedule lines setup passed count p ts pool sealed s
     marks_are : map (λ run. run.marks) runs ≡ marks_at (cast_with program script runs) last.moment
     marks_are =
         runs_map (λ run. run.marks) (marks_in r last) runs 1 setup.threads all.count (λ j run found. (all.each j run found).marks)
-        ∙ sym (enumerated_map _ (marks_in r last) r.cast.passings 1 setup.threads (length-map passed sleds_of ∙ passed_count)
+        ∙ sym (enumerated_map _ (marks_in r last) r.cast.passings 1 setup.threads (length-map passed sleds_passed ∙ passed_count)
         (λ j sleds found. ap (λ (xs : List ℕ). marks_of program (1 + j) (hold_of (1 + j) script) xs (of_thread last.moment.loads (1 + j)))
         (sym (of_thread_at r.cast.passings j sleds found))))
-        ∙ ap (λ (ps : List (List Passing)). marks_at (cast_of program script (map sleds_of ps)) last.moment) (sym passed_is)
+        ∙ ap (λ (ps : List (List Passing)). marks_at (cast_of program script (map sleds_passed ps)) last.moment) (sym passed_is)
 
     lost_are : map (λ run. run.lost) runs ≡ map (λ thread. segments_among thread last.stock.taken) (numbers_from 1 setup.threads)
     lost_are = runs_map (λ run. run.lost) (λ t. segments_among t last.stock.taken) runs 1 setup.threads all.count (λ j run found. (all.each j run found).lost)
@@ -205,8 +205,8 @@ is_simulated program script schedule lines setup passed count p ts pool sealed s
             subst (λ (n : ℕ). PlainRun program setup.limits n run.passed run.end run.last) flipped (all.each i run found).plain;
       };
       last = last;
-      replay = subst (λ (ps : List (List Passing)). PooledReplay (cast_of program script (map sleds_of ps))
-          (pooling_of (cast_of program script (map sleds_of ps)) ps setup.size (spare_of setup)) schedule last) (sym passed_is) replayed;
+      replay = subst (λ (ps : List (List Passing)). PooledReplay (cast_of program script (map sleds_passed ps))
+          (pooling_of (cast_of program script (map sleds_passed ps)) ps setup.size (spare_of setup)) schedule last) (sym passed_is) replayed;
       marks = marks_are;
       lost = lost_are;
     }

@@ -11,7 +11,7 @@ use Rattle.machine_step.specs.declared.end.End.{End}
 use Rattle.machine_step.specs.declared.limits.Limits.{Limits}
 use Rattle.machine_step.specs.declared.setup.Setup.{Setup}
 use Rattle.machine_step.specs.PlainStep.{Passing, PlainRun, State}
-use Rattle.machine_step.specs.Traced.{sleds_of}
+use Rattle.machine_step.specs.Traced.{sleds_passed}
 use Rattle.traced_run.specs.Runs.{ThreadRun}
 use Rattle.step_sim.specs.declared.turns.Turns.{Turns}
 use Rattle.step_sim.specs.Pool.{Pooled, PooledReplay, Pooling, segments_among}
@@ -142,10 +142,10 @@ some_run_of ends some bytes program script schedule setup accepted free = (
           subst (λ (t : ℕ). PlainRun program setup.limits t run.passed run.end run.last) flipped (made.plain i run e);
     };
     last = last;
-    replay = subst (λ (ps : List (List Passing)). PooledReplay (cast_of program script (map sleds_of ps))
-        (pooling_of (cast_of program script (map sleds_of ps)) ps setup.size (spare_of setup)) schedule last) (sym made.passed) there.1;
+    replay = subst (λ (ps : List (List Passing)). PooledReplay (cast_of program script (map sleds_passed ps))
+        (pooling_of (cast_of program script (map sleds_passed ps)) ps setup.size (spare_of setup)) schedule last) (sym made.passed) there.1;
     marks = made.marks_are
-        ∙ ap (λ (ps : List (List Passing)). marks_at (cast_of program script (map sleds_of ps)) last.moment) (sym made.passed);
+        ∙ ap (λ (ps : List (List Passing)). marks_at (cast_of program script (map sleds_passed ps)) last.moment) (sym made.passed);
     lost = made.lost_are;
   },
 )
@@ -173,7 +173,7 @@ some_run_of ends some bytes program script schedule setup accepted free = (
 
     marks_count : length (marks_at cast last.moment) ≡ length base.runs
     marks_count =
-        length-map _ _ ∙ length-enumerate_from 1 cast.passings ∙ length-map (passed_of base.runs) sleds_of
+        length-map _ _ ∙ length-enumerate_from 1 cast.passings ∙ length-map (passed_of base.runs) sleds_passed
         ∙ length-map base.runs (λ (run : ThreadRun). run.passed)
 
     lost_count : length lost ≡ length base.runs

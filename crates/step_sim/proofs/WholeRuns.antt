@@ -12,7 +12,7 @@ use Rattle.handler_word.specs.declared.mark.Mark.{Mark}
 use Rattle.machine_step.specs.declared.setup.Setup.{Setup}
 use Rattle.machine_step.specs.Loads.{AreWanted, Load, Marked, Reading, Wants, from_start, is_held_at, marks_from, marks_of, next_from, next_load}
 use Rattle.machine_step.specs.PlainStep.{Passing}
-use Rattle.machine_step.specs.Traced.{sleds_of}
+use Rattle.machine_step.specs.Traced.{sleds_passed}
 use Rattle.machine_step.specs.Whole.{AreWhole}
 use Rattle.traced_run.specs.Decoded.{DecodesWhole}
 use Rattle.traced_run.specs.Runs.{ThreadRun}
@@ -88,9 +88,9 @@ all_ended cast (suc n) thread before after first (mid, (count, made, ends), rest
 
 -- the sleds of each run are those that are cast
 sleds_at : (runs : List ThreadRun) (j : ℕ) (run : ThreadRun) → slice_get runs j ≡ Some run
-    → slice_get (map sleds_of (passed_of runs)) j ≡ Some (sleds_of run.passed)
+    → slice_get (map sleds_passed (passed_of runs)) j ≡ Some (sleds_passed run.passed)
 sleds_at [] j run found = absurd (no_run j run found)
-sleds_at (r ∷ runs) zero run found = ap (λ (o : ThreadRun). Some (sleds_of o.passed)) (some_run r run found)
+sleds_at (r ∷ runs) zero run found = ap (λ (o : ThreadRun). Some (sleds_passed o.passed)) (some_run r run found)
 sleds_at (r ∷ runs) (suc j) run found = sleds_at runs j run found
 
 -- no load of a replay is unwanted
@@ -110,7 +110,7 @@ decodes_whole wanted none program script schedule setup runs names is j run foun
       wanted = subst (λ (xs : List ℕ). AreWanted program (1 + j) (hold_of (1 + j) script) xs (of_thread is.last.moment.loads (1 + j))) sleds
           (wanted cast is.last.moment along (1 + j) (omega arith));
       each = ap length marks
-          ∙ each_marked program (1 + j) (hold_of (1 + j) script) 0 (sleds_of run.passed) (of_thread is.last.moment.loads (1 + j)) ended
+          ∙ each_marked program (1 + j) (hold_of (1 + j) script) 0 (sleds_passed run.passed) (of_thread is.last.moment.loads (1 + j)) ended
           ∙ length-map run.passed (λ (p : Passing). p.sled);
       marks = marks;
       whole = subst (λ (xs : List ℕ). AreWhole program (1 + j) (hold_of (1 + j) script) xs (of_thread is.last.moment.loads (1 + j))) sleds
@@ -123,8 +123,8 @@ decodes_whole wanted none program script schedule setup runs names is j run foun
     number : 1 + j ≡ j + 1
     number = omega arith
 
-    sleds : of_thread cast.passings (1 + j) ≡ sleds_of run.passed
-    sleds = of_thread_at cast.passings j (sleds_of run.passed) (sleds_at runs j run found)
+    sleds : of_thread cast.passings (1 + j) ≡ sleds_passed run.passed
+    sleds = of_thread_at cast.passings j (sleds_passed run.passed) (sleds_at runs j run found)
 
     played : Plays (moment_rules cast) (length cast.passings) (first_moment cast) schedule is.last.moment
     played = last_moment cast (pooling_with program script setup runs) schedule is.last is.replay
@@ -132,17 +132,17 @@ decodes_whole wanted none program script schedule setup runs names is j run foun
     along : IsAlong cast is.last.moment
     along = replay_along cast schedule is.last.moment names played
 
-    marks : run.marks ≡ marks_of program (1 + j) (hold_of (1 + j) script) (sleds_of run.passed) (of_thread is.last.moment.loads (1 + j))
+    marks : run.marks ≡ marks_of program (1 + j) (hold_of (1 + j) script) (sleds_passed run.passed) (of_thread is.last.moment.loads (1 + j))
     marks =
         marks_of_run program script schedule setup runs is j run found
         ∙ ap (λ (xs : List ℕ). marks_of program (1 + j) (hold_of (1 + j) script) xs (of_thread is.last.moment.loads (1 + j))) sleds
 
     within : 1 + j < 1 + length cast.passings
     within =
-        let few : j < length (map sleds_of (passed_of runs)) = slice_get_within (map sleds_of (passed_of runs)) j (sleds_of run.passed) (sleds_at runs j run found) in
+        let few : j < length (map sleds_passed (passed_of runs)) = slice_get_within (map sleds_passed (passed_of runs)) j (sleds_passed run.passed) (sleds_at runs j run found) in
         omega (arith, few)
 
-    ended : next_load program (1 + j) (hold_of (1 + j) script) (sleds_of run.passed) (of_thread is.last.moment.loads (1 + j)) ≡ None
+    ended : next_load program (1 + j) (hold_of (1 + j) script) (sleds_passed run.passed) (of_thread is.last.moment.loads (1 + j)) ≡ None
     ended =
         ap (λ (xs : List ℕ). next_load program (1 + j) (hold_of (1 + j) script) xs (of_thread is.last.moment.loads (1 + j))) (sym sleds)
         ∙ all_ended cast (length cast.passings) 1 (scheduled cast schedule) is.last.moment (omega arith) played

@@ -6,7 +6,7 @@ use Rattle.fdr_buffer.specs.Filled.{Filled}
 use Rattle.machine_step.specs.declared.setup.Setup.{Setup}
 use Rattle.machine_step.specs.Buffers.{spare_of}
 use Rattle.machine_step.specs.PlainStep.{Passing}
-use Rattle.machine_step.specs.Traced.{Traced, sleds_of}
+use Rattle.machine_step.specs.Traced.{Traced, sleds_passed}
 use Rattle.traced_run.specs.Kept.{segment_count}
 use Rattle.traced_run.specs.Left.{Leaves}
 use Rattle.traced_run.specs.Losses.{AreLost}
@@ -26,7 +26,7 @@ passed_of runs = map (λ run. run.passed) runs
 
 -- what is replayed if the threads run in this way
 abbrev pub cast_with : Program → List Command → List ThreadRun → Cast
-cast_with program script runs = cast_of program script (map sleds_of (passed_of runs))
+cast_with program script runs = cast_of program script (map sleds_passed (passed_of runs))
 
 abbrev pub pooling_with : Program → List Command → Setup → List ThreadRun → Pooling
 pooling_with program script setup runs =

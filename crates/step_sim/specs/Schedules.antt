@@ -25,15 +25,15 @@ loads_of (thread ∷ count ∷ []) = Loads (number_of thread) (number_of count)
 loads_of words = Unknown
 
 -- after `p`: the patcher's micro steps K
-abbrev pub steps_of : List (List ℕ) → Said
-steps_of (count ∷ []) = Steps (number_of count)
-steps_of words = Unknown
+abbrev pub patcher_said : List (List ℕ) → Said
+patcher_said (count ∷ []) = Steps (number_of count)
+patcher_said words = Unknown
 
 -- what words say: `t T K`, or `p K`
 abbrev pub said_by : List (List ℕ) → Said
 said_by [] = Nothing
 said_by (who ∷ following) =
-    if is_word who (codes "t") then loads_of following else if is_word who (codes "p") then steps_of following else Unknown
+    if is_word who (codes "t") then loads_of following else if is_word who (codes "p") then patcher_said following else Unknown
 
 -- the turns of a line, if it gives any
 abbrev pub turns_said : Said → List Turns

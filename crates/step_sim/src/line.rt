@@ -1,7 +1,7 @@
 //! A line of a schedule, as the turns that it gives.
 
 ghost use Rattle.std.specs.Prelude.{◌≡◌, IfOk, IfSome};
-ghost use Rattle.step_sim.specs.Schedules.{loads_of, said_by, steps_of, turns_said, AreTurnsOf};
+ghost use Rattle.step_sim.specs.Schedules.{loads_of, said_by, patcher_said, turns_said, AreTurnsOf};
 ghost use Rattle.step_sim.specs.private.Faults.{decided, line_faults, line_turns, said_faults};
 ghost use Rattle.step_sim.specs.private.Readings.{listed};
 
@@ -45,7 +45,7 @@ fn loads_of(words: Words) -> Said
 
 /// What the words after `p` say.
 fn steps_of(words: Words) -> Said
-    ensures { result ≡ steps_of words.entry }
+    ensures { result ≡ patcher_said words.entry }
 {
     match read_operands(words) {
         Operands::One(count) => Said::Steps {

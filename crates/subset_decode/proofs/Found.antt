@@ -13,7 +13,7 @@ use Rattle.subset_decode.specs.declared.fault.DecodeFault.{DecodeFault}
 use Rattle.subset_decode.specs.declared.fault.DecodeFault.TheVariants.{Unknown, Register}
 use Rattle.subset_decode.specs.Registers.{is_reserved, IsRegister}
 use Rattle.subset_decode.specs.Encoding.{opcode_of, two_registers, distance, spelling, IsNamed, IsEncodable, Begins}
-use Rattle.subset_decode.specs.Refusals.{IsCut, StopsAt, NamesReserved, Refuses, Answers}
+use Rattle.subset_decode.specs.Refusals.{IsCut, IsUnknownByte, NamesReserved, Refuses, Answers}
 use Rattle.subset_decode.specs.Reading.{◌>>=◌, Read, byte_at, field_at, distance_at, register_of, low_register_at, arithmetic_at, escaped_at, instr_at}
 use Rattle.subset_decode.proofs.Fields.{IsBytes, IsBytes-rest, IsBytes-take, cut_field, number_back, number_fits}
 use Rattle.subset_decode.proofs.Decided.{one_at, two_at, jump_then, Decides, only_register, begins_none}
@@ -24,7 +24,7 @@ Holds bytes (Ok x) = IsNamed x.0 × (bytes ≡ spelling x.0 ++ x.1)
 Holds bytes (Err f) = Refuses bytes f
 
 -- an unknown byte decides
-stops : (front : List ℕ) (b : ℕ) (rest : List ℕ) → IsCut front → Decides (front ++ b ∷ []) (Unknown b) → StopsAt b (front ++ b ∷ rest)
+stops : (front : List ℕ) (b : ℕ) (rest : List ℕ) → IsCut front → Decides (front ++ b ∷ []) (Unknown b) → IsUnknownByte b (front ++ b ∷ rest)
 stops front b rest cut d = (front, (rest, sym (append_assoc front (b ∷ []) rest)), cut, begins_none (front ++ b ∷ []) b d)
 
 -- a register decides
@@ -151,7 +151,7 @@ low_holds bank front at b rest bytes reads =
         | inr not_push ↦ elim (eqb_tells (b - b % 8) 0x58) [
           | inl pop ↦ rw (not_mov.0, not_push.0, pop.0) (one_holds 0x58 Pop is_pop bank front at b rest reads pop.1 (λ t. rw (not_mov.0, not_push.0, pop.0) refl))
           | inr not_pop ↦
-              rw (not_mov.0, not_push.0, not_pop.0) (subst (λ (x : List ℕ). StopsAt b x) (sym (append_assoc front (b ∷ []) rest)) (stops front b rest (bank_cut bank front at) (λ t. ap instr_at (append_assoc front (b ∷ []) t) ∙ reads t ∙ rw (not_mov.0, not_push.0, not_pop.0) refl)))
+              rw (not_mov.0, not_push.0, not_pop.0) (subst (λ (x : List ℕ). IsUnknownByte b x) (sym (append_assoc front (b ∷ []) rest)) (stops front b rest (bank_cut bank front at) (λ t. ap instr_at (append_assoc front (b ∷ []) t) ∙ reads t ∙ rw (not_mov.0, not_push.0, not_pop.0) refl)))
         ]
       ]
     ]

@@ -4,7 +4,7 @@ use Rattle.subset_decode.specs.declared.instr.Instr.{Instr}
 use Rattle.subset_decode.specs.declared.fault.DecodeFault.{DecodeFault}
 use Rattle.subset_decode.specs.declared.fault.DecodeFault.TheVariants.{Short, Unknown, Register}
 use Rattle.subset_decode.specs.Encoding.{spelling, IsNamed, IsEncodable, reserved_register, Begins}
-use Rattle.subset_decode.specs.Refusals.{IsCut, StopsAt, NamesReserved, Refuses, Answers}
+use Rattle.subset_decode.specs.Refusals.{IsCut, IsUnknownByte, NamesReserved, Refuses, Answers}
 use Rattle.subset_decode.proofs.Prefixes.{Begins-trans, Begins-front, Begins-all, nested, following, ends, longer}
 use Rattle.subset_decode.proofs.Decided.{named, same_instr, not_reserved}
 
@@ -18,7 +18,7 @@ not_cut i bytes h p cut =
     let same : i ≡ cut.0 = same_instr i cut.0 (spelling cut.0) h cut.1 (Begins-trans (spelling i) bytes (spelling cut.0) p more) (Begins-all (spelling cut.0)) in
     longer bytes cut.2 (spelling cut.0) cut.3 (subst (λ (j : Instr). Begins (spelling j) bytes) same p)
 
-not_stopped : (i : Instr) (b : ℕ) (bytes : List ℕ) → IsNamed i → Begins (spelling i) bytes → StopsAt b bytes → ⊥
+not_stopped : (i : Instr) (b : ℕ) (bytes : List ℕ) → IsNamed i → Begins (spelling i) bytes → IsUnknownByte b bytes → ⊥
 not_stopped i b bytes h p stop =
     elim (following stop.0 b (spelling i) bytes stop.1 p) [
       | inl q ↦ not_cut i stop.0 h q stop.2
@@ -36,7 +36,7 @@ not_named i n bytes h p r =
           let both : Some n ≡ None = sym some ∙ none in cc
     ]
 
-cut_not_stopped : (b : ℕ) (bytes : List ℕ) → IsCut bytes → StopsAt b bytes → ⊥
+cut_not_stopped : (b : ℕ) (bytes : List ℕ) → IsCut bytes → IsUnknownByte b bytes → ⊥
 cut_not_stopped b bytes cut stop =
     stop.3 cut.0 (named cut.0 cut.1).0 (Begins-trans (stop.0 ++ b ∷ []) bytes (spelling cut.0) stop.1 (Begins-front bytes cut.2 (spelling cut.0) cut.3))
 
@@ -49,14 +49,14 @@ no_further : (front : List ℕ) (b : ℕ) (other : List ℕ) → ((i : Instr) �
 no_further front b other none p cut =
     none cut.0 (named cut.0 cut.1).0 (Begins-trans (front ++ b ∷ []) other (spelling cut.0) p (Begins-front other cut.2 (spelling cut.0) cut.3))
 
-stopped_not_reserved : (b n : ℕ) (bytes : List ℕ) → StopsAt b bytes → NamesReserved n bytes → ⊥
+stopped_not_reserved : (b n : ℕ) (bytes : List ℕ) → IsUnknownByte b bytes → NamesReserved n bytes → ⊥
 stopped_not_reserved b n bytes stop r =
     elim (following stop.0 b r.0 bytes stop.1 r.1) [
       | inl q ↦ cut_not_reserved n stop.0 stop.2 (r.0, q, r.2, r.3)
       | inr q ↦ stop.3 r.2.0 r.2.1 (Begins-trans (stop.0 ++ b ∷ []) r.0 (spelling r.2.0) q r.2.2)
     ]
 
-same_stop : (b d : ℕ) (bytes : List ℕ) → StopsAt b bytes → StopsAt d bytes → b ≡ d
+same_stop : (b d : ℕ) (bytes : List ℕ) → IsUnknownByte b bytes → IsUnknownByte d bytes → b ≡ d
 same_stop b d bytes s t =
     elim (ends s.0 b t.0 d bytes s.1 t.1) [
       | inl p ↦ absurd (no_further s.0 b t.0 s.3 p t.2)

@@ -11,8 +11,8 @@ abbrev pub IsCut : List ℕ → Type 0
 IsCut bytes = (i : Instr) × IsNamed i × (next : ℕ) × Begins (bytes ++ next ∷ []) (spelling i)
 
 -- some prefix of the bytes is followed by b; some instruction goes on after the prefix, but no encoding goes on with b
-abbrev pub StopsAt : ℕ → List ℕ → Type 0
-StopsAt b bytes =
+abbrev pub IsUnknownByte : ℕ → List ℕ → Type 0
+IsUnknownByte b bytes =
     (front : List ℕ) × Begins (front ++ b ∷ []) bytes × IsCut front
     × ((i : Instr) → IsEncodable i → Begins (front ++ b ∷ []) (spelling i) → ⊥)
 
@@ -26,7 +26,7 @@ NamesReserved n bytes =
 -- the fault of bytes
 abbrev pub Refuses : List ℕ → DecodeFault → Type 0
 Refuses bytes Short = IsCut bytes
-Refuses bytes (Unknown b) = StopsAt b bytes
+Refuses bytes (Unknown b) = IsUnknownByte b bytes
 Refuses bytes (Register n) = NamesReserved n bytes
 
 -- what the bytes are: an instruction that they begin with, or a fault

@@ -26,7 +26,7 @@ use Rattle.machine_step.specs.Loads.{Load, marks_of, next_load}
 use Rattle.machine_step.specs.declared.end.End.{End}
 use Rattle.machine_step.specs.declared.limits.Limits.{Limits}
 use Rattle.machine_step.specs.PlainStep.{Passing, PlainRun, State}
-use Rattle.machine_step.specs.Traced.{HasLoaded, IsFresh, IsKept, IsSameThread, IsThreadOf, IsWant, Traced, load_of, sleds_of, wanted_after}
+use Rattle.machine_step.specs.Traced.{HasLoaded, IsFresh, IsKept, IsSameThread, IsThreadOf, IsWant, Traced, load_of, sleds_passed, wanted_after}
 use Rattle.machine_step.proofs.AlongCode.{next_allowed}
 use Rattle.machine_step.proofs.WantedWords.{release_wanted}
 use Rattle.sled_rule.specs.declared.seats.WorkSeat.{WorkSeat}
@@ -98,7 +98,7 @@ marks_alike program program' thread hold hold' sleds loads a b =
     ap (λ (x : Program). length (marks_of x thread hold sleds loads)) a ∙ ap (λ (x : Option ℕ). length (marks_of program' thread x sleds loads)) b
 
 pub next_is : (t : Traced) (passed : List Passing) (loads : List Load) (word : ℕ) → HasLoaded t passed loads → t.want ≡ Loads word
-    → next_load t.program t.thread t.hold (sleds_of passed) loads ≡ Some word
+    → next_load t.program t.thread t.hold (sleds_passed passed) loads ≡ Some word
 next_is t passed loads word has wants =
     subst (IsWant t passed (wanted_after t passed loads) has.end) wants has.wants
 
@@ -110,14 +110,14 @@ module _ (plan : Plan) where
   Along t passed seen loads = HasFollowed plan.program Script t passed seen loads
 
   next_in : (t : Traced) (passed : List Passing) (loads : List Load) (word : ℕ) → IsThreadIn plan t → HasLoaded t passed loads → t.want ≡ Loads word
-      → next_load plan.program t.thread (hold_of t.thread Script) (sleds_of passed) loads ≡ Some word
+      → next_load plan.program t.thread (hold_of t.thread Script) (sleds_passed passed) loads ≡ Some word
   next_in t passed loads word is has wants =
-      sym (next_alike t.program plan.program t.thread t.hold (hold_of t.thread Script) (sleds_of passed) loads is.program is.hold)
+      sym (next_alike t.program plan.program t.thread t.hold (hold_of t.thread Script) (sleds_passed passed) loads is.program is.hold)
       ∙ next_is t passed loads word has wants
 
   -- the script has gone on
   up_to : (t : Traced) (passed : List Passing) (seen place : ℕ) (loads : List Load) → seen ≤ place → Along t passed seen loads
-      → LoadsFollow plan.program Script t.thread (sleds_of passed) loads place
+      → LoadsFollow plan.program Script t.thread (sleds_passed passed) loads place
   up_to t passed seen place loads le along = later loads seen place le along.follow
 
   -- the value may be given to the thread
@@ -126,7 +126,7 @@ module _ (plan : Plan) where
   value_allowed t passed seen place loads word value is along wants found =
       let here : IsAllowed plan.program t.thread word (code_at plan.program Script place word) =
       next_allowed plan.program (code_at plan.program Script) (start_of plan.program Script) (bound_of plan.program Script t.thread) t.thread
-      (keeps_sleds plan.program Script t.thread) (hold_of t.thread Script) (sleds_of passed) loads place word
+      (keeps_sleds plan.program Script t.thread) (hold_of t.thread Script) (sleds_passed passed) loads place word
       (up_to t passed seen place loads found.from along) (next_in t passed loads word is along.loaded wants) in
       subst (λ (q : Program). IsAllowed q t.thread word value) (sym is.program)
       (subst (λ (v : ℕ). IsAllowed plan.program t.thread word v) found.here here)
@@ -137,10 +137,10 @@ module _ (plan : Plan) where
       → HasLoaded t' passed (loads ++ record { word = word; value = value } ∷ [])
       → Along t' passed place (loads ++ record { word = word; value = value } ∷ [])
   more t t' passed seen place loads word value is along wants found same has =
-      let Follow : ℕ → ℕ → Type 0 = λ thread v. LoadsFollow plan.program Script thread (sleds_of passed) (loads ++ record { word = word; value = v } ∷ []) place in
-      let count : length t.marks ≡ length (marks_of plan.program t.thread (hold_of t.thread Script) (sleds_of passed) loads) =
-      ap length along.loaded.marks ∙ marks_alike t.program plan.program t.thread t.hold (hold_of t.thread Script) (sleds_of passed) loads is.program is.hold in
-      let within : place ≤ bound_of plan.program Script t.thread (length (marks_of plan.program t.thread (hold_of t.thread Script) (sleds_of passed) loads)) =
+      let Follow : ℕ → ℕ → Type 0 = λ thread v. LoadsFollow plan.program Script thread (sleds_passed passed) (loads ++ record { word = word; value = v } ∷ []) place in
+      let count : length t.marks ≡ length (marks_of plan.program t.thread (hold_of t.thread Script) (sleds_passed passed) loads) =
+      ap length along.loaded.marks ∙ marks_alike t.program plan.program t.thread t.hold (hold_of t.thread Script) (sleds_passed passed) loads is.program is.hold in
+      let within : place ≤ bound_of plan.program Script t.thread (length (marks_of plan.program t.thread (hold_of t.thread Script) (sleds_passed passed) loads)) =
       subst (λ (n : ℕ). place ≤ bound_of plan.program Script t.thread n) count found.bound in
       let one : Follow t.thread (code_at plan.program Script place word) =
       loaded loads place word (up_to t passed seen place loads found.from along) (next_in t passed loads word is along.loaded wants) within in
@@ -151,7 +151,7 @@ module _ (plan : Plan) where
       → t'.thread ≡ t.thread → HasLoaded t' passed loads → Along t' passed place loads
   still t t' passed seen place loads along le same has = record {
     loaded = has;
-    follow = subst (λ (n : ℕ). LoadsFollow plan.program Script n (sleds_of passed) loads place) (sym same) (up_to t passed seen place loads le along);
+    follow = subst (λ (n : ℕ). LoadsFollow plan.program Script n (sleds_passed passed) loads place) (sym same) (up_to t passed seen place loads le along);
   }
 
 -- ---- a load that holds the thread
@@ -183,7 +183,7 @@ pub is_kept : (plan : Plan) (t : Traced) (passed : List Passing) (loads : List L
     → t.want ≡ Loads load.word → is_held_by t.program t.thread (load ∷ []) ≡ true → IsKept t load.value
 is_kept plan t passed loads load is has wants held =
     let one = holds t.program t.thread load held in
-    let next : next_load t.program t.thread t.hold (sleds_of passed) loads ≡ Some (release_word t.program t.thread) =
+    let next : next_load t.program t.thread t.hold (sleds_passed passed) loads ≡ Some (release_word t.program t.thread) =
     next_is t passed loads load.word has wants ∙ ap Some one.0 in
     record {
       held =
@@ -318,13 +318,13 @@ same_marks program program' thread hold hold' sleds loads a b =
 -- those of a thread that has ended as its plain run does
 pub marks_follow : (plan : Plan) (t : Traced) (v : WorkView) (passed : List Passing) (end : End) (last : State) (loads : List Load) → IsThreadIn plan t
     → IsAlong plan t v passed → v.seen ≤ total_of plan.program (commands_of plan.lines) → EndsAsPlain t passed end last loads
-    → MarksFollowScript plan.program (commands_of plan.lines) t.thread (sleds_of passed) t.marks
+    → MarksFollowScript plan.program (commands_of plan.lines) t.thread (sleds_passed passed) t.marks
 marks_follow plan t v passed end last loads is along within ends = record {
   loads = along.made;
   follow = later along.made v.seen (total_of plan.program (commands_of plan.lines)) within along.free.follow;
   leave =
       along.free.loaded.marks
-      ∙ same_marks t.program plan.program t.thread t.hold (hold_of t.thread (commands_of plan.lines)) (sleds_of passed) along.made is.program is.hold;
+      ∙ same_marks t.program plan.program t.thread t.hold (hold_of t.thread (commands_of plan.lines)) (sleds_passed passed) along.made is.program is.hold;
   released = along.released;
   each = ends.each ∙ sym (length-map passed (λ (p : Passing). p.sled));
 }

@@ -22,7 +22,7 @@ use Rattle.machine_step.specs.declared.setup.Setup.{Setup}
 use Rattle.machine_step.specs.Events.{recorded}
 use Rattle.machine_step.specs.Follows.{later}
 use Rattle.machine_step.specs.PlainStep.{PlainRun}
-use Rattle.machine_step.specs.Traced.{Traced, sleds_of}
+use Rattle.machine_step.specs.Traced.{Traced, sleds_passed}
 use Rattle.sled_rule.specs.Seats.{script_of}
 use Rattle.traced_run.specs.Kept.{buffers_after, segment_count, stamp_of, thread_buffers}
 use Rattle.traced_run.specs.Left.{HasRun}
@@ -43,7 +43,7 @@ use Rattle.thread_run.proofs.Pooled.{AreHands, HandIs, KeepsLast, hand_is, hands
 -- a worker with its run. `used` is what the pool has of all sealed buffers, and `buffers` are those and the hands.
 pub record IsRunOfWorker (plan : Plan) (setup : Setup) (used buffers : List Filled) (number : ℕ) (worker : Worker Recording) (run : ThreadRun) : Type 0 where
   pub plain : PlainRun plan.program setup.limits number run.passed run.end run.last
-  pub follow : MarksFollowScript plan.program (commands_of plan.lines) number (sleds_of run.passed) run.marks
+  pub follow : MarksFollowScript plan.program (commands_of plan.lines) number (sleds_passed run.passed) run.marks
   pub along : HasRunAlong plan.program (commands_of plan.lines) number run (cpu_of worker)
   pub has : HasRun number run (cpu_of worker)
   pub segments : segments_begun (recorder_of worker) ≡ segment_count setup.size run
@@ -92,13 +92,13 @@ run_of_worker plan pool used buffers number worker is ended pooled =
             (subst (λ (l : Limits). PlainRun t.program l number at.passed ended.end ended.last) is.limits
             (subst (λ (k : ℕ). PlainRun t.program t.limits k at.passed ended.end ended.last) is.thread ends.run));
         follow =
-            subst (λ (k : ℕ). MarksFollowScript plan.program (commands_of plan.lines) k (sleds_of at.passed) t.marks) is.thread
-            (subst (λ (p : Plan). MarksFollowScript p.program (commands_of p.lines) t.thread (sleds_of at.passed) t.marks) is.table ended.marks);
+            subst (λ (k : ℕ). MarksFollowScript plan.program (commands_of plan.lines) k (sleds_passed at.passed) t.marks) is.thread
+            (subst (λ (p : Plan). MarksFollowScript p.program (commands_of p.lines) t.thread (sleds_passed at.passed) t.marks) is.table ended.marks);
         along = record {
           loads = given (loads_of worker);
           follow =
-              subst (λ (k : ℕ). LoadsFollow plan.program (commands_of plan.lines) k (sleds_of at.passed) (given (loads_of worker)) (total_of plan.program (commands_of plan.lines))) is.thread
-              (subst (λ (p : Plan). LoadsFollow p.program (commands_of p.lines) t.thread (sleds_of at.passed) (given (loads_of worker)) (total_of p.program (commands_of p.lines))) is.table
+              subst (λ (k : ℕ). LoadsFollow plan.program (commands_of plan.lines) k (sleds_passed at.passed) (given (loads_of worker)) (total_of plan.program (commands_of plan.lines))) is.thread
+              (subst (λ (p : Plan). LoadsFollow p.program (commands_of p.lines) t.thread (sleds_passed at.passed) (given (loads_of worker)) (total_of p.program (commands_of p.lines))) is.table
               (later (given (loads_of worker)) _ _ at.within at.along.all.follow));
           ends = ends;
         };
@@ -346,7 +346,7 @@ left_so hold plan pool workers left are count is =
       lawful = record {
         follow = λ i run found.
             let next : 1 + i ≡ i + 1 = omega arith in
-            subst (λ (k : ℕ). MarksFollowScript plan.program (commands_of plan.lines) k (sleds_of run.passed) run.marks) next (at i run found).is.follow;
+            subst (λ (k : ℕ). MarksFollowScript plan.program (commands_of plan.lines) k (sleds_passed run.passed) run.marks) next (at i run found).is.follow;
         losses = losses_are plan setup is.used buffers workers runs all.1 is.absent;
       };
       along = λ i run t found there.

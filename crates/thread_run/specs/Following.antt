@@ -11,7 +11,7 @@ use Rattle.handler_word.specs.declared.mark.Mark.{Mark}
 use Rattle.machine_step.specs.Follows.{Follows, MarksFollow}
 use Rattle.machine_step.specs.Loads.{Load}
 use Rattle.machine_step.specs.PlainStep.{Passing}
-use Rattle.machine_step.specs.Traced.{HasLoaded, Traced, sleds_of}
+use Rattle.machine_step.specs.Traced.{HasLoaded, Traced, sleds_passed}
 use Rattle.sled_rule.specs.declared.views.Load.{Load as SeatLoad}
 
 -- the loads of a seat, as a thread gets them
@@ -39,4 +39,4 @@ MarksFollowScript program script thread sleds marks =
 -- a thread was given these loads, and they follow the script up to a place
 pub record HasFollowed (program : Program) (script : List Command) (t : Traced) (passed : List Passing) (place : ℕ) (loads : List Load) : Type 0 where
   pub loaded : HasLoaded t passed loads
-  pub follow : LoadsFollow program script t.thread (sleds_of passed) loads place
+  pub follow : LoadsFollow program script t.thread (sleds_passed passed) loads place

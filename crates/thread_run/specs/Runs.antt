@@ -8,7 +8,7 @@ use Rattle.fdr_buffer.specs.Filled.{Filled, has_event}
 use Rattle.machine_step.specs.declared.setup.Setup.{Setup}
 use Rattle.machine_step.specs.Ended.{EndsAsPlain}
 use Rattle.machine_step.specs.Loads.{Load}
-use Rattle.machine_step.specs.Traced.{Traced, sleds_of}
+use Rattle.machine_step.specs.Traced.{Traced, sleds_passed}
 use Rattle.traced_run.specs.Kept.{kept_buffers}
 use Rattle.traced_run.specs.Left.{Leaves}
 use Rattle.traced_run.specs.Losses.{AreLost}
@@ -19,14 +19,14 @@ use Rattle.thread_run.specs.Following.{LoadsFollow, MarksFollowScript}
 -- all threads had no spare buffers for. Whose they are isn't fixed, but each thread keeps its last one.
 pub record FollowsScript (program : Program) (script : List Command) (setup : Setup) (runs : List ThreadRun) : Type 0 where
   pub follow : (i : ℕ) (run : ThreadRun) → slice_get runs i ≡ Some run
-      → MarksFollowScript program script (i + 1) (sleds_of run.passed) run.marks
+      → MarksFollowScript program script (i + 1) (sleds_passed run.passed) run.marks
   pub losses : AreLost setup.size (spare_of setup) runs
 
 -- There are loads that follow the script, by which a thread has ended as its plain run does, and has decoded no torn
 -- sled.
 pub record HasRunAlong (program : Program) (script : List Command) (number : ℕ) (run : ThreadRun) (t : Traced) : Type 0 where
   pub loads : List Load
-  pub follow : LoadsFollow program script number (sleds_of run.passed) loads (total_of program script)
+  pub follow : LoadsFollow program script number (sleds_passed run.passed) loads (total_of program script)
   pub ends : EndsAsPlain t run.passed run.end run.last loads
 
 -- Threads have run beside a script, and these are what their runs leave. The buffers that hold events are those of the

@@ -11,7 +11,7 @@ use Rattle.machine_step.specs.Ended.{EndsAsPlain}
 use Rattle.machine_step.specs.Events.{recorded}
 use Rattle.machine_step.specs.Loads.{Load}
 use Rattle.machine_step.specs.PlainStep.{Passing, State}
-use Rattle.machine_step.specs.Traced.{HasLoaded, IsSameThread, Traced, sleds_of}
+use Rattle.machine_step.specs.Traced.{HasLoaded, IsSameThread, Traced, sleds_passed}
 use Rattle.sled_rule.specs.declared.seats.WorkSeat.{WorkSeat}
 use Rattle.sled_rule.specs.declared.table.CodeTable.{CodeTable}
 use Rattle.sled_rule.specs.declared.views.Load.{Load as SeatLoad}
@@ -95,7 +95,7 @@ pub record HasEnded {R : Type 0} (stands : R → List Event → Type 0) (worker 
   pub last : State
   pub plain : EndsAsPlain (cpu_of worker) at.passed end last (given (loads_of worker))
   pub marks : MarksFollowScript (script_of (table_of worker)).program (commands_of (script_of (table_of worker)).lines)
-      (cpu_of worker).thread (sleds_of at.passed) (cpu_of worker).marks
+      (cpu_of worker).thread (sleds_passed at.passed) (cpu_of worker).marks
 
 -- the same thread of the same table, with the same recorder
 pub record IsSameWorker {R : Type 0} (follows : R → R → Type 0) (old new : Worker R) : Type 0 where

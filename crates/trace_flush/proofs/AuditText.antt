@@ -19,7 +19,7 @@ use Rattle.machine_step.specs.declared.setup.Setup.{Setup}
 use Rattle.machine_step.specs.Texts.{end_text, line_feed, marks_line}
 use Rattle.machine_step.specs.Traced.{Traced}
 use Rattle.trace_flush.specs.declared.line.AuditLine.{AuditLine}
-use Rattle.trace_flush.specs.Audit.{Account, accounts, buffers_text, limits_text, stamps_text}
+use Rattle.trace_flush.specs.Audit.{ThreadAudit, thread_audits, buffers_text, limits_text, stamps_text}
 use Rattle.trace_flush.specs.declared.audit.Detail.{Detail}
 use Rattle.trace_flush.specs.declared.audit.Detail.TheVariants.{Audit, Summary}
 use Rattle.trace_flush.specs.private.Parts.{rest_of, said_of, start_text}
@@ -59,22 +59,22 @@ joined : (start a b c d e rest : List ℕ) → start ++ (a ++ b ++ (c ++ d ++ e)
 joined start a b c d e rest = simp append_assoc
 
 -- what is said of a thread begins with its start
-pub said_in_parts : (detail : Detail) (account : Account) → start_text account ++ rest_of detail account ≡ said_of detail account
+pub said_in_parts : (detail : Detail) (account : ThreadAudit) → start_text account ++ rest_of detail account ≡ said_of detail account
 said_in_parts Audit (line, marks) =
     joined (start_text (line, marks)) (codes " segments ") (decimal line.segments) (codes " first ") (decimal line.first) line_feed (marks_line marks)
 said_in_parts Summary (line, marks) =
     sym (append_assoc (start_text (line, marks)) (codes " first " ++ decimal line.first) line_feed)
     ∙ ap (λ (t : List ℕ). t ++ line_feed) (sym (append_assoc (start_text (line, marks)) (codes " first ") (decimal line.first)))
 
--- the lines of accounts are those that they were made from
+-- the lines of thread_audits are those that they were made from
 pub lines_of_accounts : (lines : List AuditLine) (threads : List Traced) → length lines ≡ length threads
-    → map (λ account. account.0) (accounts lines threads) ≡ lines
+    → map (λ account. account.0) (thread_audits lines threads) ≡ lines
 lines_of_accounts lines threads same = firsts-zip lines (map (λ thread. thread.marks) threads) (length-map threads (λ thread. thread.marks) ∙ sym same)
 
--- the texts of accounts, one after another, if each has the text f: one more account
-pub accounts_more : (f : Account → List ℕ) (lines : List AuditLine) (threads : List Traced) (i : ℕ) (line : AuditLine) (thread : Traced)
+-- the texts of thread_audits, one after another, if each has the text f: one more account
+pub accounts_more : (f : ThreadAudit → List ℕ) (lines : List AuditLine) (threads : List Traced) (i : ℕ) (line : AuditLine) (thread : Traced)
     → i < length lines → i < length threads → ((d : AuditLine) → line ≡ get_or lines i d) → ((d : Traced) → thread ≡ get_or threads i d)
-    → flat_map f (take i (accounts lines threads)) ++ f (line, thread.marks) ≡ flat_map f (take (i + 1) (accounts lines threads))
+    → flat_map f (take i (thread_audits lines threads)) ++ f (line, thread.marks) ≡ flat_map f (take (i + 1) (thread_audits lines threads))
 accounts_more f [] threads i line thread within also_within is_line is_thread = absurd (omega arith)
 accounts_more f (first ∷ lines) [] i line thread within also_within is_line is_thread = absurd (omega arith)
 accounts_more f (first ∷ lines) (head ∷ threads) zero line thread within also_within is_line is_thread =
@@ -83,26 +83,26 @@ accounts_more f (first ∷ lines) (head ∷ threads) zero line thread within als
     rw (same_line, same_thread) (sym (append-nil (f (first, head.marks))))
 accounts_more f (first ∷ lines) (head ∷ threads) (suc i) line thread within also_within is_line is_thread =
     let rest = accounts_more f lines threads i line thread (omega arith) (omega arith) is_line is_thread in
-    rw add-one (append_assoc (f (first, head.marks)) (flat_map f (take i (accounts lines threads))) (f (line, thread.marks))
+    rw add-one (append_assoc (f (first, head.marks)) (flat_map f (take i (thread_audits lines threads))) (f (line, thread.marks))
     ∙ ap (λ text. f (first, head.marks) ++ text) (rest ∙ rw add-one refl))
 
 -- so in a loop over lines and threads side by side, which has yielded xs and yields a pair
-pub accounts_turn : (f : Account → List ℕ) (lines : List AuditLine) (threads : List Traced) (begun now next : Zip (Iter AuditLine) (Iter Traced))
+pub accounts_turn : (f : ThreadAudit → List ℕ) (lines : List AuditLine) (threads : List Traced) (begun now next : Zip (Iter AuditLine) (Iter Traced))
     (xs : List (Bor AuditLine × Bor Traced)) (given : Option (Bor AuditLine × Bor Traced)) (line : Bor AuditLine) (thread : Bor Traced)
     → iter_rest (zip_first begun) ≡ lines → iter_rest (zip_second begun) ≡ threads → Yields (zips fronts fronts) begun xs now
     → given ≡ Some (line, thread) → zips fronts fronts now given next
-    → flat_map f (take (length xs) (accounts lines threads)) ++ f (line.now, thread.now.marks) ≡ flat_map f (take (length xs + 1) (accounts lines threads))
+    → flat_map f (take (length xs) (thread_audits lines threads)) ++ f (line.now, thread.now.marks) ≡ flat_map f (take (length xs + 1) (thread_audits lines threads))
 accounts_turn f lines threads begun now next xs given line thread first second yielded is steps =
     let turn = zip_turn lines threads xs begun now next given first second yielded (line, thread) is steps in
     accounts_more f lines threads (length xs) line.now thread.now turn.0 turn.1 turn.2 turn.3
 
--- the accounts before this one, and the rest
-pub accounts_split : (f : Account → List ℕ) (told : List Account) (i : ℕ) → flat_map f (take i told) ++ flat_map f (drop i told) ≡ flat_map f told
+-- the thread_audits before this one, and the rest
+pub accounts_split : (f : ThreadAudit → List ℕ) (told : List ThreadAudit) (i : ℕ) → flat_map f (take i told) ++ flat_map f (drop i told) ≡ flat_map f told
 accounts_split f told i = sym (flat_map-append f (take i told) (drop i told)) ∙ ap (flat_map f) (take-append-drop i told)
 
--- if there are as many accounts as lines, they are all of them
-pub accounts_all : (f : Account → List ℕ) (lines : List AuditLine) (threads : List Traced) (i : ℕ) → length lines ≡ length threads
-    → i ≡ min (length lines) (length threads) → flat_map f (take i (accounts lines threads)) ≡ flat_map f (accounts lines threads)
+-- if there are as many thread_audits as lines, they are all of them
+pub accounts_all : (f : ThreadAudit → List ℕ) (lines : List AuditLine) (threads : List Traced) (i : ℕ) → length lines ≡ length threads
+    → i ≡ min (length lines) (length threads) → flat_map f (take i (thread_audits lines threads)) ≡ flat_map f (thread_audits lines threads)
 accounts_all f lines threads i same all =
-    ap (flat_map f) (take_all i (accounts lines threads)
+    ap (flat_map f) (take_all i (thread_audits lines threads)
     (omega (arith, length-zip lines (map (λ thread. thread.marks) threads), length-map threads (λ thread. thread.marks))))

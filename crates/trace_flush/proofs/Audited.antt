@@ -9,24 +9,24 @@ use Rattle.traced_run.specs.Kept.{segment_count}
 use Rattle.traced_run.specs.Left.{HasRun, Leaves}
 use Rattle.traced_run.specs.Runs.{ThreadRun}
 use Rattle.trace_flush.specs.declared.line.AuditLine.{AuditLine}
-use Rattle.trace_flush.specs.Audit.{Account, accounts}
-use Rattle.trace_flush.specs.Lines.{account_of, accounts_of, line_of, lines_of}
+use Rattle.trace_flush.specs.Audit.{ThreadAudit, thread_audits}
+use Rattle.trace_flush.specs.Lines.{audit_of, audits_of, audit_line_of, audit_lines_of}
 
 one_account : (setup : Setup) (number : ℕ) (run : ThreadRun) (t : Traced) → HasRun number run t
-    → (line_of t (segment_count setup.size run) run.lost, t.marks) ≡ account_of setup (number, run)
+    → (audit_line_of t (segment_count setup.size run) run.lost, t.marks) ≡ audit_of setup (number, run)
 one_account setup number run t has = rw (has.thread, has.ends.done, has.marks) refl
 
 all_accounts : (setup : Setup) (k : ℕ) (runs : List ThreadRun) (cpus : List Traced) → length cpus ≡ length runs
     → ((i : ℕ) (run : ThreadRun) (t : Traced) → slice_get runs i ≡ Some run → slice_get cpus i ≡ Some t → HasRun (k + i) run t)
-    → accounts (lines_of cpus (map (segment_count setup.size) runs) (map (λ run. run.lost) runs)) cpus ≡ map (account_of setup) (enumerate_from k runs)
+    → thread_audits (audit_lines_of cpus (map (segment_count setup.size) runs) (map (λ run. run.lost) runs)) cpus ≡ map (audit_of setup) (enumerate_from k runs)
 all_accounts setup k [] [] same has = refl
 all_accounts setup k [] (t ∷ cpus) same has = absurd (omega (arith, same))
 all_accounts setup k (run ∷ runs) [] same has = absurd (omega (arith, same))
 all_accounts setup k (run ∷ runs) (t ∷ cpus) same has =
     let here : k + zero ≡ k = omega arith in
-    let after_it = accounts (lines_of cpus (map (segment_count setup.size) runs) (map (λ r. r.lost) runs)) cpus in
-    ap (λ (a : Account). a ∷ after_it) (one_account setup k run t (subst (λ (n : ℕ). HasRun n run t) here (has zero run t refl refl)))
-    ∙ ap (λ (rest : List Account). account_of setup (k, run) ∷ rest)
+    let after_it = thread_audits (audit_lines_of cpus (map (segment_count setup.size) runs) (map (λ r. r.lost) runs)) cpus in
+    ap (λ (a : ThreadAudit). a ∷ after_it) (one_account setup k run t (subst (λ (n : ℕ). HasRun n run t) here (has zero run t refl refl)))
+    ∙ ap (λ (rest : List ThreadAudit). audit_of setup (k, run) ∷ rest)
     (all_accounts setup (k + 1) runs cpus (omega (arith, same))
     (λ i r u found there. subst (λ (n : ℕ). HasRun n r u) (following i) (has (suc i) r u found there)))
   where
@@ -34,10 +34,10 @@ all_accounts setup k (run ∷ runs) (t ∷ cpus) same has =
     following i = omega arith
 
 pub run_is_audited : (setup : Setup) (runs : List ThreadRun) (cpus : List Traced) (segments first : List ℕ) (buffers : List Filled)
-    → Leaves setup runs cpus segments first buffers → accounts (lines_of cpus segments first) cpus ≡ accounts_of setup runs
+    → Leaves setup runs cpus segments first buffers → thread_audits (audit_lines_of cpus segments first) cpus ≡ audits_of setup runs
 run_is_audited setup runs cpus segments first buffers left =
-    ap (λ (ns : List ℕ). accounts (lines_of cpus ns first) cpus) left.segments_are
-    ∙ ap (λ (ns : List ℕ). accounts (lines_of cpus (map (segment_count setup.size) runs) ns) cpus) left.first_are
+    ap (λ (ns : List ℕ). thread_audits (audit_lines_of cpus ns first) cpus) left.segments_are
+    ∙ ap (λ (ns : List ℕ). thread_audits (audit_lines_of cpus (map (segment_count setup.size) runs) ns) cpus) left.first_are
     ∙ all_accounts setup 1 runs cpus left.count
     (λ i run t found there. let flipped : i + 1 ≡ 1 + i = omega arith in subst (λ (n : ℕ). HasRun n run t) flipped (left.cpus_are i run t found there))
 
@@ -51,8 +51,8 @@ some_number n m e = cc
 
 pub lines_more : (cpus : List Traced) (segments first : List ℕ) (i : ℕ) (t : Traced) (n m : ℕ) → slice_get cpus i ≡ Some t
     → slice_get segments i ≡ Some n → slice_get first i ≡ Some m
-    → lines_of (take (suc i) cpus) (take (suc i) segments) (take (suc i) first)
-    ≡ lines_of (take i cpus) (take i segments) (take i first) ++ line_of t n m ∷ []
+    → audit_lines_of (take (suc i) cpus) (take (suc i) segments) (take (suc i) first)
+    ≡ audit_lines_of (take i cpus) (take i segments) (take i first) ++ audit_line_of t n m ∷ []
 lines_more [] segments first zero t n m at_t at_n at_m = absurd cc
 lines_more [] segments first (suc i) t n m at_t at_n at_m = absurd cc
 lines_more (u ∷ cpus) [] first zero t n m at_t at_n at_m = absurd cc
@@ -60,7 +60,7 @@ lines_more (u ∷ cpus) [] first (suc i) t n m at_t at_n at_m = absurd cc
 lines_more (u ∷ cpus) (k ∷ segments) [] zero t n m at_t at_n at_m = absurd cc
 lines_more (u ∷ cpus) (k ∷ segments) [] (suc i) t n m at_t at_n at_m = absurd cc
 lines_more (u ∷ cpus) (k ∷ segments) (j ∷ first) zero t n m at_t at_n at_m =
-    ap (λ (x : Traced). line_of x k j ∷ []) (some_thread u t at_t)
-    ∙ ap (λ (x : ℕ). line_of t x j ∷ []) (some_number k n at_n) ∙ ap (λ (x : ℕ). line_of t n x ∷ []) (some_number j m at_m)
+    ap (λ (x : Traced). audit_line_of x k j ∷ []) (some_thread u t at_t)
+    ∙ ap (λ (x : ℕ). audit_line_of t x j ∷ []) (some_number k n at_n) ∙ ap (λ (x : ℕ). audit_line_of t n x ∷ []) (some_number j m at_m)
 lines_more (u ∷ cpus) (k ∷ segments) (j ∷ first) (suc i) t n m at_t at_n at_m =
-    ap (λ (lines : List AuditLine). line_of u k j ∷ lines) (lines_more cpus segments first i t n m at_t at_n at_m)
+    ap (λ (lines : List AuditLine). audit_line_of u k j ∷ lines) (lines_more cpus segments first i t n m at_t at_n at_m)

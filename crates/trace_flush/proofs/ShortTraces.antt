@@ -11,7 +11,7 @@ use Rattle.fdr_file.specs.declared.header.Header.{Header}
 use Rattle.fdr_file.specs.Files.{block_bytes, header_bytes}
 use Rattle.machine_step.specs.Buffers.{spare_of}
 use Rattle.machine_step.specs.declared.setup.Setup.{Setup}
-use Rattle.trace_flush.specs.Flush.{header_of, trace_bytes}
+use Rattle.trace_flush.specs.Flush.{run_header, trace_bytes}
 use Rattle.traced_run.specs.Fits.{SetupFits}
 use Rattle.traced_run.specs.Kept.{kept_buffers}
 use Rattle.traced_run.specs.Losses.{AreLost}
@@ -49,4 +49,4 @@ short_trace fit few sizes bytes program setup runs accepted fits enough is lost 
     let kept = kept_buffers setup runs in
     let blocks = blocks_length setup.size kept (fit bytes program setup runs accepted fits is) (sizes setup runs) in
     let more = mul-le-mul_right (setup.size + 16) (few setup runs is.count enough lost) in
-    omega (arith, length-append (header_bytes (header_of setup)) (flat_map block_bytes kept), header_length (header_of setup), blocks, more)
+    omega (arith, length-append (header_bytes (run_header setup)) (flat_map block_bytes kept), header_length (run_header setup), blocks, more)

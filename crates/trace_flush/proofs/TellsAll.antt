@@ -14,7 +14,7 @@ use Rattle.machine_step.specs.declared.limits.Limits.{Limits}
 use Rattle.machine_step.specs.declared.setup.Setup.{Setup}
 use Rattle.machine_step.specs.Texts.{end_text, marks_line, line_feed}
 use Rattle.trace_flush.specs.declared.line.AuditLine.{AuditLine}
-use Rattle.trace_flush.specs.Audit.{Account, audit_text, buffers_text, limits_text, stamps_text, setup_lines, thread_line, thread_lines, recycled_line}
+use Rattle.trace_flush.specs.Audit.{ThreadAudit, audit_text, buffers_text, limits_text, stamps_text, setup_lines, thread_line, thread_lines, recycled_line}
 use Rattle.trace_flush.specs.Telling.{HasNumbers, HasSetupNumbers, setup_numbers}
 use Rattle.trace_flush.proofs.Digits.{IsAbove, split_at, number_split, following}
 use Rattle.trace_flush.proofs.TellsMarks.{marks_tell}
@@ -81,13 +81,13 @@ number_tells m n c d r s small small' low low' same =
 -- ---- a thread's lines
 
 -- a thread's lines and what follows them, each part before the next
-abbrev line_before : Account → List ℕ → List ℕ
+abbrev line_before : ThreadAudit → List ℕ → List ℕ
 line_before (line, marks) rest =
     codes "thread " ++ (decimal line.thread ++ (codes " " ++ (end_text line.end ++ (codes " passings " ++ (decimal (length marks)
     ++ (codes " recorded " ++ (decimal (recorded_count marks) ++ (codes " segments " ++ (decimal line.segments ++ (codes " first " ++ (decimal line.first
     ++ 10 ∷ rest)))))))))))
 
-abbrev lines_before : Account → List ℕ → List ℕ
+abbrev lines_before : ThreadAudit → List ℕ → List ℕ
 lines_before (line, marks) rest = line_before (line, marks) (codes "marks " ++ (runs_text marks ++ 10 ∷ rest))
 
 line_is : (line : AuditLine) (marks : List Mark) (rest : List ℕ) → thread_line (line, marks) ++ rest ≡ line_before (line, marks) rest
@@ -111,7 +111,7 @@ one_line line line' threads ends_same segments firsts =
 
 -- the lines of a thread determine it
 thread_tells : (line line' : AuditLine) (marks marks' : List Mark) (r s : List ℕ) → HasNumbers (line, marks) → HasNumbers (line', marks')
-    → lines_before (line, marks) r ≡ lines_before (line', marks') s → (◌≡◌ {A = Account} (line, marks) (line', marks')) × (r ≡ s)
+    → lines_before (line, marks) r ≡ lines_before (line', marks') s → (◌≡◌ {A = ThreadAudit} (line, marks) (line', marks')) × (r ≡ s)
 thread_tells line line' marks marks' r s small small' same =
     let one = number_tells line.thread line'.thread 32 32 _ _ small.number small'.number (omega arith) (omega arith) (following (codes "thread ") _ _ same) in
     let two = end_split line.end line'.end _ _ one.1 in
@@ -125,7 +125,7 @@ thread_tells line line' marks marks' r s small small' same =
 
 -- ---- the lines of all threads
 
-threads_tell : (threads others : List Account) (r s : List ℕ) → All HasNumbers threads → All HasNumbers others
+threads_tell : (threads others : List ThreadAudit) (r s : List ℕ) → All HasNumbers threads → All HasNumbers others
     → flat_map thread_lines threads ++ (codes "recycled " ++ r) ≡ flat_map thread_lines others ++ (codes "recycled " ++ s) → threads ≡ others
 threads_tell [] [] r s small small' same = refl
 threads_tell [] ((line, marks) ∷ others) r s small small' same = let first : ◌≡◌ {A = ℕ} 114 116 = cc in absurd (omega arith)
@@ -138,7 +138,7 @@ threads_tell ((line, marks) ∷ threads) ((line', marks') ∷ others) r s small 
     ∙ (same ∙ (append_assoc (thread_lines (line', marks')) (flat_map thread_lines others) (codes "recycled " ++ s) ∙ lines_are line' marks' rest'))) in
     let first = thread_tells line line' marks marks' rest rest' (small 0 (line, marks) (omega arith)) (small' 0 (line, marks) (omega arith)) parts in
     let later = threads_tell threads others r s (λ k d within. small (suc k) d (omega arith)) (λ k d within. small' (suc k) d (omega arith)) first.1 in
-    ap (λ (t : Account). t ∷ threads) first.0 ∙ ap (λ (ts : List Account). (line', marks') ∷ ts) later
+    ap (λ (t : ThreadAudit). t ∷ threads) first.0 ∙ ap (λ (ts : List ThreadAudit). (line', marks') ∷ ts) later
 
 -- ---- the line of the setup
 
@@ -281,7 +281,7 @@ one_setup setup setup' small small' told =
 -- ---- the whole text
 
 -- the text before its threads, and the text after them
-parts_alike : (setup setup' : Setup) (threads others : List Account) → audit_text setup threads ≡ audit_text setup' others
+parts_alike : (setup setup' : Setup) (threads others : List ThreadAudit) → audit_text setup threads ≡ audit_text setup' others
     → setup_before setup (flat_map thread_lines threads ++ recycled_line (map (λ thread. thread.0) threads))
     ≡ setup_before setup' (flat_map thread_lines others ++ recycled_line (map (λ thread. thread.0) others))
 parts_alike setup setup' threads others same =
@@ -290,12 +290,12 @@ parts_alike setup setup' threads others same =
     sym (setup_is setup (flat_map thread_lines threads ++ recycled)) ∙ (sym (append_assoc (setup_lines setup) (flat_map thread_lines threads) recycled)
     ∙ (same ∙ (append_assoc (setup_lines setup') (flat_map thread_lines others) recycled' ∙ setup_is setup' (flat_map thread_lines others ++ recycled'))))
 
-pub audit_tells_threads : (setup setup' : Setup) (threads others : List Account) → All HasNumbers threads → All HasNumbers others
+pub audit_tells_threads : (setup setup' : Setup) (threads others : List ThreadAudit) → All HasNumbers threads → All HasNumbers others
     → audit_text setup threads ≡ audit_text setup' others → threads ≡ others
 audit_tells_threads setup setup' threads others small small' same =
     threads_tell threads others _ _ small small' (setup_tells setup setup' _ _ (parts_alike setup setup' threads others same)).1
 
-pub audit_tells_setup : (setup setup' : Setup) (threads others : List Account) → HasSetupNumbers setup → HasSetupNumbers setup'
+pub audit_tells_setup : (setup setup' : Setup) (threads others : List ThreadAudit) → HasSetupNumbers setup → HasSetupNumbers setup'
     → audit_text setup threads ≡ audit_text setup' others → setup ≡ setup'
 audit_tells_setup setup setup' threads others small small' same =
     one_setup setup setup' small small' (setup_tells setup setup' _ _ (parts_alike setup setup' threads others same)).0

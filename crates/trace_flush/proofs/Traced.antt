@@ -19,18 +19,18 @@ use Rattle.traced_run.specs.Fits.{SetupFits}
 use Rattle.traced_run.specs.Kept.{buffer_of, kept_buffers, kept_of, segments_of, stamp_of, thread_buffers}
 use Rattle.traced_run.specs.Losses.{recycled_of}
 use Rattle.traced_run.specs.Runs.{IsRun, ThreadRun, events_of}
-use Rattle.trace_flush.specs.Flush.{IsTraceOf, block_of, header_of, is_of, thread_blocks, trace_bytes}
+use Rattle.trace_flush.specs.Flush.{IsTraceOf, segment_block, run_header, is_of, thread_blocks, trace_bytes}
 
 -- ---- the blocks of a thread
 
 told_all : (setup : Setup) (thread k : ℕ) (segs : List (List Event))
-    → map block_told (map (buffer_of (stamp_of setup) thread) (enumerate_from k segs)) ≡ map (block_of setup thread) segs
+    → map block_told (map (buffer_of (stamp_of setup) thread) (enumerate_from k segs)) ≡ map (segment_block setup thread) segs
 told_all setup thread k [] = refl
 told_all setup thread k (events ∷ segs) =
-    ap (λ (bs : List Block). block_of setup thread events ∷ bs) (told_all setup thread (k + 1) segs)
+    ap (λ (bs : List Block). segment_block setup thread events ∷ bs) (told_all setup thread (k + 1) segs)
 
 told_after : (setup : Setup) (thread first k : ℕ) (segs : List (List Event))
-    → map block_told (map (buffer_of (stamp_of setup) thread) (drop first (enumerate_from k segs))) ≡ map (block_of setup thread) (drop first segs)
+    → map block_told (map (buffer_of (stamp_of setup) thread) (drop first (enumerate_from k segs))) ≡ map (segment_block setup thread) (drop first segs)
 told_after setup thread zero k segs = told_all setup thread k segs
 told_after setup thread (suc first) k [] = refl
 told_after setup thread (suc first) k (events ∷ segs) = told_after setup thread first (k + 1) segs
@@ -51,14 +51,14 @@ all_told setup k (run ∷ runs) =
 
 -- ---- the blocks of one thread among all
 
-own_blocks : (setup : Setup) (thread : ℕ) (segs : List (List Event)) → filter (is_of thread) (map (block_of setup thread) segs) ≡ map (block_of setup thread) segs
+own_blocks : (setup : Setup) (thread : ℕ) (segs : List (List Event)) → filter (is_of thread) (map (segment_block setup thread) segs) ≡ map (segment_block setup thread) segs
 own_blocks setup thread [] = refl
 own_blocks setup thread (events ∷ segs) = elim (eqb_tells thread thread) [
-  | inl same ↦ rw same.0 (ap (λ (bs : List Block). block_of setup thread events ∷ bs) (own_blocks setup thread segs))
+  | inl same ↦ rw same.0 (ap (λ (bs : List Block). segment_block setup thread events ∷ bs) (own_blocks setup thread segs))
   | inr other ↦ absurd (other.1 refl)
 ]
 
-other_blocks : (setup : Setup) (thread other : ℕ) (segs : List (List Event)) → thread ≢ other → filter (is_of other) (map (block_of setup thread) segs) ≡ []
+other_blocks : (setup : Setup) (thread other : ℕ) (segs : List (List Event)) → thread ≢ other → filter (is_of other) (map (segment_block setup thread) segs) ≡ []
 other_blocks setup thread other [] apart = refl
 other_blocks setup thread other (events ∷ segs) apart = elim (eqb_tells thread other) [
   | inl same ↦ absurd (apart same.1)
@@ -111,10 +111,10 @@ blocks_at setup k (suc i) (first ∷ runs) run found =
 
 -- the events of a thread's blocks
 block_events : (setup : Setup) (thread : ℕ) (segs : List (List Event))
-    → flat_map (λ block. block.events) (map (block_of setup thread) segs) ≡ flat_map (λ s. s) segs
+    → flat_map (λ block. block.events) (map (segment_block setup thread) segs) ≡ flat_map (λ s. s) segs
 block_events setup thread [] = refl
 block_events setup thread (events ∷ segs) =
-    flat_map-cons (λ (block : Block). block.events) (block_of setup thread events) (map (block_of setup thread) segs)
+    flat_map-cons (λ (block : Block). block.events) (segment_block setup thread events) (map (segment_block setup thread) segs)
     ∙ ap (λ (es : List Event). events ++ es) (block_events setup thread segs)
     ∙ sym (flat_map-cons (λ (s : List Event). s) events segs)
 
@@ -155,8 +155,8 @@ AreWhole =
 pub run_is_traced : ReadsBack → RunsFit → AreWhole → (bytes : List ℕ) (program : Program) (setup : Setup) (runs : List ThreadRun)
     → IsAccepted bytes program → SetupFits setup → IsRun program setup runs → IsTraceOf setup runs (trace_bytes setup runs)
 run_is_traced back fit whole bytes program setup runs accepted fits is = record {
-  trace = trace_told (header_of setup) buffers;
-  reads = back (header_of setup) buffers (record { version = refl; frequency = fits.frequency; size = omega (arith, fits.most) })
+  trace = trace_told (run_header setup) buffers;
+  reads = back (run_header setup) buffers (record { version = refl; frequency = fits.frequency; size = omega (arith, fits.most) })
       (λ k d below. record { begun = begun_all setup 1 runs k d below; fits = fit bytes program setup runs accepted fits is k d below });
   header = refl;
   blocks = blocks;

@@ -10,12 +10,12 @@ use Rattle.machine_step.specs.Traced.{Traced}
 use Rattle.trace_flush.specs.declared.line.AuditLine.{AuditLine}
 
 -- what the audit says of a thread: what its line has, and the marks of its passings
-abbrev pub Account : Type 0
-Account = AuditLine × List Mark
+abbrev pub ThreadAudit : Type 0
+ThreadAudit = AuditLine × List Mark
 
 -- the lines of threads, each with the marks of its thread
-abbrev pub accounts : List AuditLine → List Traced → List Account
-accounts lines threads = zip lines (map (λ thread. thread.marks) threads)
+abbrev pub thread_audits : List AuditLine → List Traced → List ThreadAudit
+thread_audits lines threads = zip lines (map (λ thread. thread.marks) threads)
 
 -- ---- what the run was made with
 
@@ -44,14 +44,14 @@ setup_lines setup = buffers_text setup ++ limits_text setup.limits ++ stamps_tex
 -- ---- how its threads ended
 
 -- how a thread ended, its passings and those that recorded an event, its segments, and how many of these were recycled
-abbrev pub thread_line : Account → List ℕ
+abbrev pub thread_line : ThreadAudit → List ℕ
 thread_line (line, marks) =
     codes "thread " ++ decimal line.thread ++ codes " " ++ end_text line.end ++ codes " passings " ++ decimal (length marks)
     ++ codes " recorded " ++ decimal (recorded_count marks) ++ codes " segments " ++ decimal line.segments
     ++ codes " first " ++ decimal line.first ++ line_feed
 
 -- a thread's two lines
-abbrev pub thread_lines : Account → List ℕ
+abbrev pub thread_lines : ThreadAudit → List ℕ
 thread_lines (line, marks) = thread_line (line, marks) ++ marks_line marks
 
 -- how many segments of all threads were recycled
@@ -59,6 +59,6 @@ abbrev pub recycled_line : List AuditLine → List ℕ
 recycled_line lines = codes "recycled " ++ decimal (sum_by (λ line. line.first) lines) ++ line_feed
 
 -- the whole text
-abbrev pub audit_text : Setup → List Account → List ℕ
+abbrev pub audit_text : Setup → List ThreadAudit → List ℕ
 audit_text setup threads =
     setup_lines setup ++ flat_map thread_lines threads ++ recycled_line (map (λ thread. thread.0) threads)

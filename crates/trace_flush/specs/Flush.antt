@@ -14,16 +14,16 @@ use Rattle.traced_run.specs.Runs.{ThreadRun, events_of}
 
 -- The header of a trace with this setup: version 3, a counter that runs at a constant frequency and never stops, that
 -- frequency in cycles per second, and the size of a buffer in bytes.
-abbrev pub header_of : Setup → Header
-header_of setup = record { version = 3; constant = true; nonstop = true; frequency = setup.frequency; size = setup.size }
+abbrev pub run_header : Setup → Header
+run_header setup = record { version = 3; constant = true; nonstop = true; frequency = setup.frequency; size = setup.size }
 
 -- the block of a segment of a thread
-abbrev pub block_of : Setup → ℕ → List Event → Block
-block_of setup thread events = record { thread = thread; wall = setup.wall; pid = setup.pid; events = events }
+abbrev pub segment_block : Setup → ℕ → List Event → Block
+segment_block setup thread events = record { thread = thread; wall = setup.wall; pid = setup.pid; events = events }
 
 -- The bytes of the trace file of a run.
 abbrev pub trace_bytes : Setup → List ThreadRun → List ℕ
-trace_bytes setup runs = file_bytes (header_of setup) (kept_buffers setup runs)
+trace_bytes setup runs = file_bytes (run_header setup) (kept_buffers setup runs)
 
 -- ---- what the bytes say
 
@@ -36,7 +36,7 @@ blocks_of thread trace = filter (is_of thread) trace.blocks
 
 -- the blocks of a thread of a run: the last whole segments of exactly the entries and exits that its marks record
 abbrev pub thread_blocks : Setup → ℕ × ThreadRun → List Block
-thread_blocks setup (thread, run) = map (block_of setup thread) (kept_of setup.size run)
+thread_blocks setup (thread, run) = map (segment_block setup thread) (kept_of setup.size run)
 
 -- The bytes are the trace of a run. By the grammar of trace files, they are a header with the setup's frequency and
 -- size of buffers, and blocks. The blocks of each thread are the last whole segments of exactly the entries and exits
@@ -46,7 +46,7 @@ thread_blocks setup (thread, run) = map (block_of setup thread) (kept_of setup.s
 pub record IsTraceOf (setup : Setup) (runs : List ThreadRun) (bytes : List ℕ) : Type 0 where
   pub trace : Trace
   pub reads : IsTrace bytes trace
-  pub header : trace.header ≡ header_of setup
+  pub header : trace.header ≡ run_header setup
   pub blocks : (i : ℕ) (run : ThreadRun) → slice_get runs i ≡ Some run → blocks_of (i + 1) trace ≡ thread_blocks setup (i + 1, run)
   pub whole : recycled_of runs ≡ 0 → (i : ℕ) (run : ThreadRun) → slice_get runs i ≡ Some run
       → flat_map (λ block. block.events) (blocks_of (i + 1) trace) ≡ events_of run

@@ -1,10 +1,10 @@
 -- What the text of an audit determines.
 use Rattle.std.specs.Prelude.{◌<◌, ◌^◌, ℕ, List, [], ◌∷◌, All, length}
 use Rattle.machine_step.specs.declared.setup.Setup.{Setup}
-use Rattle.trace_flush.specs.Audit.{Account}
+use Rattle.trace_flush.specs.Audit.{ThreadAudit}
 
 -- the numbers of a thread have at most 64 bits
-pub record HasNumbers (thread : Account) : Type 0 where
+pub record HasNumbers (thread : ThreadAudit) : Type 0 where
   pub number : thread.0.thread < 2 ^ 64
   pub segments : thread.0.segments < 2 ^ 64
   pub first : thread.0.first < 2 ^ 64

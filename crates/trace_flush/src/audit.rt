@@ -3,7 +3,7 @@
 ghost use Rattle.std.specs.Prelude.{◌≡◌, ◌++◌, ◌<◌, ◌*◌, ◌^◌, length, All, sum_by};
 ghost use Rattle.std.specs.List.{flat_map};
 ghost use Rattle.machine_step.specs.{Texts.{marks_line}, Traced.{IsDone}};
-ghost use Rattle.trace_flush.specs.Audit.{accounts, audit_text, buffers_text, limits_text, recycled_line, setup_lines, stamps_text};
+ghost use Rattle.trace_flush.specs.Audit.{thread_audits, audit_text, buffers_text, limits_text, recycled_line, setup_lines, stamps_text};
 ghost use Rattle.trace_flush.specs.private.Parts.{first_text, rest_of, said_of, segments_text, start_text};
 ghost use Rattle.xray_io.specs.Text.{AddsText};
 
@@ -25,7 +25,7 @@ pub struct Audit<'a, 'i> {
 }
 
 impl Printed for Audit<'_, '_> {
-    ghost text = { λ audit. audit_text audit.setup.now (accounts audit.lines.now audit.cpus.now) };
+    ghost text = { λ audit. audit_text audit.setup.now (thread_audits audit.lines.now audit.cpus.now) };
 
     ghost ready = { λ audit. (length audit.lines.now ≡ length audit.cpus.now)
         × All (λ cpu. IsDone cpu.want) audit.cpus.now };
@@ -117,7 +117,7 @@ pub(crate) fn add_threads<S: Sink>(
 ) -> Result<(), WriteFault>
     requires { length lines.now ≡ length cpus.now }
     ensures { AddsText S.written S.faults S.along text.old text.new
-        (flat_map (said_of detail) (accounts lines.now cpus.now)) result }
+        (flat_map (said_of detail) (thread_audits lines.now cpus.now)) result }
 {
     'threads: for (line, cpu) in lines.iter().zip(cpus.iter()) {
         add_thread(text, detail, line, cpu.marks())?;

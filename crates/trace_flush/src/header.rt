@@ -1,7 +1,7 @@
 //! The header of a run's trace.
 
 ghost use Rattle.std.specs.Prelude.{◌≡◌};
-ghost use Rattle.trace_flush.specs.Flush.{header_of};
+ghost use Rattle.trace_flush.specs.Flush.{run_header};
 
 use fdr_file::{Header, VERSION};
 use machine_step::Setup;
@@ -9,7 +9,7 @@ use machine_step::Setup;
 /// The header of the trace of a run with this setup: version 3, a counter that runs at a constant
 /// frequency and never stops, that frequency, and the size of a buffer.
 pub fn trace_header(setup: &Setup) -> Header
-    ensures { result ≡ header_of setup.now }
+    ensures { result ≡ run_header setup.now }
 {
     Header {
         version: VERSION,

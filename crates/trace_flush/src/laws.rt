@@ -7,8 +7,8 @@ ghost use Rattle.machine_step.specs.Buffers.{spare_of};
 ghost use Rattle.machine_step.specs.declared.setup.Setup.{Setup};
 ghost use Rattle.machine_step.specs.Traced.{Traced};
 ghost use Rattle.traced_run.specs.{Fits.{SetupFits}, Left.{Leaves}, Losses.{AreLost}, Runs.{IsRun, ThreadRun}};
-ghost use Rattle.trace_flush.specs.Audit.{Account, accounts, audit_text};
-ghost use Rattle.trace_flush.specs.{Flush.{trace_bytes, IsTraceOf}, Lines.{accounts_of, lines_of}};
+ghost use Rattle.trace_flush.specs.Audit.{ThreadAudit, thread_audits, audit_text};
+ghost use Rattle.trace_flush.specs.{Flush.{trace_bytes, IsTraceOf}, Lines.{audits_of, audit_lines_of}};
 ghost use Rattle.trace_flush.specs.Telling.{HasNumbers, HasSetupNumbers};
 
 use fdr_file::a_file_reads_back;
@@ -18,10 +18,10 @@ use traced_run::{a_run_fits_its_buffers, a_run_leaves_few_buffers, a_run_without
 /// two audits have the same text, each thread has the same end, the same marks, and as many segments
 /// and recycled ones.
 pub fn audit_tells_its_run()
-    ensures threads { (setup other : Setup) (threads others : List Account)
+    ensures threads { (setup other : Setup) (threads others : List ThreadAudit)
         → All HasNumbers threads → All HasNumbers others
         → audit_text setup threads ≡ audit_text other others → threads ≡ others }
-    ensures setup { (setup other : Setup) (threads others : List Account)
+    ensures setup { (setup other : Setup) (threads others : List ThreadAudit)
         → HasSetupNumbers setup → HasSetupNumbers other
         → audit_text setup threads ≡ audit_text other others → setup ≡ other }
 {}
@@ -55,5 +55,5 @@ pub fn a_trace_is_short()
 pub fn a_run_is_audited()
     ensures { (setup : Setup) (runs : List ThreadRun) (cpus : List Traced) (segments first : List ℕ)
         (buffers : List Filled) → Leaves setup runs cpus segments first buffers
-        → accounts (lines_of cpus segments first) cpus ≡ accounts_of setup runs }
+        → thread_audits (audit_lines_of cpus segments first) cpus ≡ audits_of setup runs }
 {}

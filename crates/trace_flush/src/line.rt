@@ -2,7 +2,7 @@
 
 ghost use Rattle.std.specs.Prelude.{◌≡◌, ◌≤◌, ◌+◌, ◌++◌, All, length, vec_len, vec_capacity};
 ghost use Rattle.machine_step.specs.Traced.{IsDone};
-ghost use Rattle.trace_flush.specs.Lines.{end_of, lines_of};
+ghost use Rattle.trace_flush.specs.Lines.{end_of, audit_lines_of};
 
 use machine_step::{Cpu, End, Want};
 
@@ -39,7 +39,7 @@ pub fn add_audit_lines(cpus: &[Cpu], segments: &[u32], first: &[u32], lines: &mu
     requires segments { length segments.now ≡ length cpus.now }
     requires first { length first.now ≡ length cpus.now }
     requires room { vec_len lines.old + length cpus.now ≤ vec_capacity lines.old }
-    ensures lines { lines.new.items ≡ lines.old.items ++ lines_of cpus.now segments.now first.now }
+    ensures lines { lines.new.items ≡ lines.old.items ++ audit_lines_of cpus.now segments.now first.now }
     ensures capacity { vec_capacity lines.new ≡ vec_capacity lines.old }
 {
     for i in 0..cpus.len() {

@@ -23,7 +23,7 @@ use Rattle.machine_step.specs.declared.limits.Limits.{Limits}
 use Rattle.handler_word.specs.declared.mark.Mark.{Mark}
 use Rattle.machine_step.specs.Loads.{AreWanted, Load, Marked, Reading, Wants, from_start, is_held_at, marks_from}
 use Rattle.machine_step.specs.PlainStep.{Ends, Goes, Next, Passing, PlainRun, PlainStep, RunsTo, State, UnitStep, after_passing, fuelled, opening, passing_at, returns}
-use Rattle.machine_step.specs.Traced.{sleds_of}
+use Rattle.machine_step.specs.Traced.{sleds_passed}
 use Rattle.machine_step.specs.Whole.{FoundPatched, HaveOneValue, HaveOneValueEach, IsWhole, Loaded, loads_by_passing}
 use Rattle.machine_step.proofs.OnCourse.{run_count}
 use Rattle.machine_step.proofs.OneEnd.{Passes as PassesOrEnds}
@@ -327,15 +327,15 @@ pub whole_executes : WantedHaveOne → (bytes : List ℕ) (program : Program) (l
     → IsAccepted bytes program → PlainRun program limits number run.passed run.end run.last → DecodesWhole program number hold run loads
     → Executes program limits number hold run loads
 whole_executes ones bytes program limits number hold run loads a (n, plain) decodes =
-    let cuts = loads_by_passing program number hold 0 (sleds_of run.passed) loads in
+    let cuts = loads_by_passing program number hold 0 (sleds_passed run.passed) loads in
     let long : length cuts ≡ length run.passed =
-    as_many program number hold 0 (sleds_of run.passed) loads ∙ (sym (ap length decodes.marks) ∙ decodes.each) in
+    as_many program number hold 0 (sleds_passed run.passed) loads ∙ (sym (ap length decodes.marks) ∙ decodes.each) in
     let owns : HasOwn program cuts 0 run.passed = λ m p at.
     let within = slice_get_within run.passed m p at in
     let own : slice_get cuts m ≡ Some (get_or cuts m []) = slice_get-get_or cuts m [] (omega (arith, long, within)) in
-    let sled_at : slice_get (sleds_of run.passed) m ≡ Some p.sled =
+    let sled_at : slice_get (sleds_passed run.passed) m ≡ Some p.sled =
     slice_get-map (λ (p : Passing). p.sled) run.passed m ∙ ap (option_map (λ (p : Passing). p.sled)) at in
-    let one = ones program number hold (sleds_of run.passed) loads decodes.wanted m p.sled (get_or cuts m []) sled_at in (
+    let one = ones program number hold (sleds_passed run.passed) loads decodes.wanted m p.sled (get_or cuts m []) sled_at in (
       get_or cuts m [],
       ap (slice_get cuts) (zero-add m) ∙ own,
       λ sled found. (

@@ -6,7 +6,7 @@ use Rattle.std.specs.Option.{option_map}
 use Rattle.std.specs.Prelude.{option_and_then}
 use Rattle.std.proofs.lemmas.List.{length-map}
 use Rattle.std.proofs.lemmas.Option.{slice_get-map}
-use Rattle.xray_image.specs.Container.{Function, MapEntry, Parts, base_address, code_length, entry_count, function_at, function_count, map_entry_at, parts_of, several}
+use Rattle.xray_image.specs.Container.{Function, MapEntry, Parts, base_address, code_length, entry_count, function_entry_at, function_count, map_entry_at, parts_of, several}
 use Rattle.xray_image.specs.Units.{SledPlace, places_from}
 use Rattle.xray_image.specs.Program.{IsAccepted, Program, distinct, id_of, sled_of}
 use Rattle.xray_image.specs.declared.sled.Sled.{Sled as XraySled}
@@ -64,10 +64,10 @@ few_entries bytes parts e = by_length (nat_lt (length bytes) (64 + code_length b
     by_length : (short : Bool)
         → (if short then None
         else option_and_then (λ functions. option_map (parts_with bytes functions.0) (several map_entry_at (entry_count bytes) functions.1))
-        (several function_at (function_count bytes) (drop (64 + code_length bytes) bytes)))
+        (several function_entry_at (function_count bytes) (drop (64 + code_length bytes) bytes)))
         ≡ Some parts → length parts.entries ≡ entry_count bytes
     by_length true e = absurd cc
-    by_length false e = by_functions (several function_at (function_count bytes) (drop (64 + code_length bytes) bytes)) e
+    by_length false e = by_functions (several function_entry_at (function_count bytes) (drop (64 + code_length bytes) bytes)) e
 
 -- ---- ids of sleds
 

@@ -18,7 +18,7 @@ use Rattle.machine_step.specs.declared.end.End.TheVariants as ends
 use Rattle.machine_step.specs.declared.limits.Limits.{Limits}
 use Rattle.machine_step.specs.Loads.{Load}
 use Rattle.machine_step.specs.PlainStep.{Ends, Goes, Next, State, does, fuelled, opening, returns}
-use Rattle.machine_step.specs.Traced.{sleds_of}
+use Rattle.machine_step.specs.Traced.{sleds_passed}
 use Rattle.machine_step.specs.Whole.{Loaded, loads_by_passing}
 use Rattle.traced_run.specs.Runs.{ThreadRun}
 
@@ -111,5 +111,5 @@ pub record EndsIn (program : Program) (limits : Limits) (loads : List (List Load
 pub record Executes (program : Program) (limits : Limits) (number : ℕ) (hold : Option ℕ) (run : ThreadRun) (loads : List Load) : Type 0 where
   pub steps : ℕ
   pub r10 : ℕ
-  pub ends : EndsIn program limits (loads_by_passing program number hold 0 (sleds_of run.passed) loads) steps
+  pub ends : EndsIn program limits (loads_by_passing program number hold 0 (sleds_passed run.passed) loads) steps
       (opening program number) run.end (with_r10 r10 run.last)

@@ -9,7 +9,7 @@ use Rattle.std.proofs.lemmas.Option.{none-some, same_Some, option_and_then_some,
 use Rattle.xray_image.specs.declared.sled.Sled.{Sled}
 use Rattle.xray_image.specs.declared.unit.Unit.{Unit}
 use Rattle.xray_image.specs.Units.{units_from, places_from}
-use Rattle.xray_image.specs.Container.{Function, MapEntry, Parts, base_address, code_length, function_count, entry_count, function_at, map_entry_at, several, parts_of}
+use Rattle.xray_image.specs.Container.{Function, MapEntry, Parts, base_address, code_length, function_count, entry_count, function_entry_at, map_entry_at, several, parts_of}
 use Rattle.xray_image.specs.Program.{Program, IsAccepted, sled_of, program_of}
 use Rattle.xray_image.specs.Layout.{AreContiguous, SledsStand}
 use Rattle.xray_image.proofs.Pieces.{OneInstruction, one_list}
@@ -43,12 +43,12 @@ held : (bytes : List ℕ) (parts : Parts) → parts_of bytes ≡ Some parts → 
 held bytes parts e =
     let following = drop (64 + code_length bytes) bytes in
     let make : List Function × List ℕ → List MapEntry × List ℕ → Parts = λ functions entries. record { code = take (code_length bytes) (drop 64 bytes); functions = functions.0; entries = entries.0; rest = entries.1 } in
-    option_and_then_some (λ functions. option_map (make functions) (several map_entry_at (entry_count bytes) functions.1)) (several function_at (function_count bytes) following) parts
+    option_and_then_some (λ functions. option_map (make functions) (several map_entry_at (entry_count bytes) functions.1)) (several function_entry_at (function_count bytes) following) parts
     (cond_none (ltb (length bytes) (64 + code_length bytes)) _ parts e)
     (λ functions is more.
     let m = mapped (make functions) (several map_entry_at (entry_count bytes) functions.1) parts more in
     record {
-      functions = sym (ap (λ (p : Parts). length p.functions) m.2) ∙ several_count function_at (function_count bytes) following functions is;
+      functions = sym (ap (λ (p : Parts). length p.functions) m.2) ∙ several_count function_entry_at (function_count bytes) following functions is;
       entries = sym (ap (λ (p : Parts). length p.entries) m.2) ∙ several_count map_entry_at (entry_count bytes) functions.1 m.0 m.1;
       code = sym (ap (λ (p : Parts). p.code) m.2);
     })

@@ -8,7 +8,7 @@ use Rattle.xray_io.specs.Rows.{Is, Needs, NeedsPart}
 use Rattle.xray_image.specs.declared.fault.ImageFault.{ImageFault}
 use Rattle.xray_image.specs.declared.fault.ImageFault.TheVariants as faults
 use Rattle.xray_image.specs.Units.{places_from}
-use Rattle.xray_image.specs.Container.{Function, MapEntry, Parts, base_address, code_length, function_count, entry_count, function_at, map_entry_at, several, parts_of}
+use Rattle.xray_image.specs.Container.{Function, MapEntry, Parts, base_address, code_length, function_count, entry_count, function_entry_at, map_entry_at, several, parts_of}
 use Rattle.xray_image.specs.Program.{program_of}
 use Rattle.xray_image.specs.Table.{Verdict, NeedsUnits, ReadsProgram, ReadsParts}
 
@@ -28,14 +28,14 @@ Rows bytes o =
     (λ pieces. ReadsProgram parts.entries (places_from (base_address bytes) pieces) (program_of bytes parts pieces))))
 
 module _ (bytes : List ℕ) (long : 64 ≤ length bytes) where
-  parts_when : code_length bytes ≤ length (drop 64 bytes) → parts_of bytes ≡ with_functions bytes (several function_at (function_count bytes) (drop (code_length bytes) (drop 64 bytes)))
+  parts_when : code_length bytes ≤ length (drop 64 bytes) → parts_of bytes ≡ with_functions bytes (several function_entry_at (function_count bytes) (drop (code_length bytes) (drop 64 bytes)))
   parts_when fits =
-      ap (λ (b : Bool). cond b None (with_functions bytes (several function_at (function_count bytes) (drop (64 + code_length bytes) bytes)))) (le-ltb (length bytes) (64 + code_length bytes) (omega (arith, length-drop 64 bytes)))
-      ∙ ap (λ (following : List ℕ). with_functions bytes (several function_at (function_count bytes) following)) (sym (drop-drop (code_length bytes) 64 bytes))
+      ap (λ (b : Bool). cond b None (with_functions bytes (several function_entry_at (function_count bytes) (drop (64 + code_length bytes) bytes)))) (le-ltb (length bytes) (64 + code_length bytes) (omega (arith, length-drop 64 bytes)))
+      ∙ ap (λ (following : List ℕ). with_functions bytes (several function_entry_at (function_count bytes) following)) (sym (drop-drop (code_length bytes) 64 bytes))
 
   no_code : length (drop 64 bytes) < code_length bytes → parts_of bytes ≡ None
   no_code short =
-      ap (λ (b : Bool). cond b None (with_functions bytes (several function_at (function_count bytes) (drop (64 + code_length bytes) bytes)))) (lt-ltb (length bytes) (64 + code_length bytes) (omega (arith, length-drop 64 bytes)))
+      ap (λ (b : Bool). cond b None (with_functions bytes (several function_entry_at (function_count bytes) (drop (64 + code_length bytes) bytes)))) (lt-ltb (length bytes) (64 + code_length bytes) (omega (arith, length-drop 64 bytes)))
 
   short_row : parts_of bytes ≡ None → ReadsParts bytes (Err faults.Short)
   short_row e = subst (λ (o : Option Parts). Rows bytes o (Err faults.Short)) (sym e) refl
@@ -46,16 +46,16 @@ module _ (bytes : List ℕ) (long : 64 ≤ length bytes) where
     short_code short = short_row (no_code (omega (arith, ap length after_is, n_is)))
 
     module _ (rest_is : rest ≡ drop n following) (fits : n ≤ length following) where
-      functions_are : (o : Option (List Function × List ℕ)) → several function_at f rest ≡ o → parts_of bytes ≡ with_functions bytes o
+      functions_are : (o : Option (List Function × List ℕ)) → several function_entry_at f rest ≡ o → parts_of bytes ≡ with_functions bytes o
       functions_are o e =
-          let there : several function_at (function_count bytes) (drop (code_length bytes) (drop 64 bytes)) ≡ several function_at f rest =
-          sym (ap (λ (k : ℕ). several function_at k rest) f_is ∙ ap (several function_at (function_count bytes)) (rest_is ∙ ap (λ (k : ℕ). drop k following) n_is ∙ ap (drop (code_length bytes)) after_is)) in
+          let there : several function_entry_at (function_count bytes) (drop (code_length bytes) (drop 64 bytes)) ≡ several function_entry_at f rest =
+          sym (ap (λ (k : ℕ). several function_entry_at k rest) f_is ∙ ap (several function_entry_at (function_count bytes)) (rest_is ∙ ap (λ (k : ℕ). drop k following) n_is ∙ ap (drop (code_length bytes)) after_is)) in
           parts_when (omega (arith, ap length after_is, n_is)) ∙ ap (with_functions bytes) (there ∙ e)
 
-      pub short_functions : several function_at f rest ≡ None → ReadsParts bytes (Err faults.Short)
+      pub short_functions : several function_entry_at f rest ≡ None → ReadsParts bytes (Err faults.Short)
       short_functions e = short_row (functions_are None e)
 
-      module _ (functions : List Function) (rest' : List ℕ) (there : several function_at f rest ≡ Some (functions, rest')) where
+      module _ (functions : List Function) (rest' : List ℕ) (there : several function_entry_at f rest ≡ Some (functions, rest')) where
         entries_are : (o : Option (List MapEntry × List ℕ)) → several map_entry_at m rest' ≡ o → parts_of bytes ≡ with_entries bytes functions o
         entries_are o e =
             functions_are (Some (functions, rest')) there

@@ -19,7 +19,7 @@ use Rattle.xray_image.specs.private.Index.{AreWithin}
 use Rattle.xray_image.specs.private.Judging.{IsJudged}
 use Rattle.xray_image.specs.Program.{Program, Trampolines, addresses, sled_of, program_of, IsAccepted}
 use Rattle.xray_image.specs.private.Reading.{HasUnits}
-use Rattle.xray_image.specs.Table.{Verdict, StandUpTo, StopsAt, NeedsUnits, ReadsProgram, ReadsParts, ReadsAs}
+use Rattle.xray_image.specs.Table.{Verdict, StandUpTo, UnitsStop, NeedsUnits, ReadsProgram, ReadsParts, ReadsAs}
 use Rattle.xray_image.specs.private.UnitTable.{units_in}
 use Rattle.xray_image.specs.private.Views.{entry_of, function_of, place_of, places_in, parts_of_view, program_read, trampolines_of, IsHeaderOf}
 use Rattle.xray_image.proofs.Acceptance.{parts_count, code_short}
@@ -77,9 +77,9 @@ module _ (bytes : List ℕ) (h : Header) (head : HasHeader bytes) (is : IsHeader
   parts_row v units = past_header bytes v head (subst (λ (o : Option Parts). Rows bytes o v) (sym there) (inr (refl, units)))
 
   -- the units stop here
-  pub units_stop : (fault : ImageFault) → (fault ≡ faults.NoMemory) ⊎ StopsAt h.base p.code.now fault → (fault ≡ faults.NoMemory) ⊎ ReadsAs bytes (Err fault)
+  pub units_stop : (fault : ImageFault) → (fault ≡ faults.NoMemory) ⊎ UnitsStop h.base p.code.now fault → (fault ≡ faults.NoMemory) ⊎ ReadsAs bytes (Err fault)
   units_stop fault (inl full) = inl full
-  units_stop fault (inr stops) = inr (parts_row (Err fault) (inl (fault, subst (λ (b : ℕ). StopsAt b p.code.now fault) is.base stops, refl)))
+  units_stop fault (inr stops) = inr (parts_row (Err fault) (inl (fault, subst (λ (b : ℕ). UnitsStop b p.code.now fault) is.base stops, refl)))
 
   module _ (u : CodeUnits) (units : HasUnits h.base p.code.now (units_in u.units) (places_in u)) where
     pub spots_few : length u.sleds.items < 2 ^ 32

@@ -9,7 +9,7 @@ use Rattle.xray_image.specs.declared.unit_reader.NoUnit.{NoUnit}
 use Rattle.xray_image.specs.declared.unit_reader.NoUnit.TheVariants.{Sled, Code}
 use Rattle.xray_image.specs.Units.{Piece, Instruction, JumpSled, ReturnSled, Align, piece_bytes, SledPlace, what_of, sleds_in, units_from, places_from}
 use Rattle.xray_image.specs.private.Reading.{IsReadTo}
-use Rattle.xray_image.specs.Table.{StandsAt, StandUpTo, UnitFault, StopsAt}
+use Rattle.xray_image.specs.Table.{StandsAt, StandUpTo, UnitFault, UnitsStop}
 use Rattle.xray_image.specs.private.Views.{IsNoUnit, fault_at}
 
 -- ---- what follows pieces begins where they end
@@ -108,7 +108,7 @@ why_none place bytes Sled h = inl (h, refl)
 why_none place bytes (Code f) h = inr (h.0, (f, h.1, refl))
 
 stops : (base : ℕ) (code : List ℕ) (at : ℕ) (units : List Unit) (places : List SledPlace) (e : NoUnit) → IsReadTo base code at units places → at < length code
-    → ((piece : Piece) (rest : List ℕ) → StandsAt (base + at) (drop at code) piece rest → ⊥) → IsNoUnit (drop at code) e → StopsAt base code (fault_at at e)
+    → ((piece : Piece) (rest : List ℕ) → StandsAt (base + at) (drop at code) piece rest → ⊥) → IsNoUnit (drop at code) e → UnitsStop base code (fault_at at e)
 stops base code at units places e so_far left none why =
     let place : at ≡ (base + at) - base = omega arith in
     record {
@@ -133,8 +133,8 @@ next_read base code at units units' places places' piece n rest so_far left e st
     one_more base code at units units' places places' piece n so_far left (subst (StandsAt (base + at) (drop at code) piece) (drop-drop n at code) here) wide units_more places_more
 
 pub stops_here : (base : ℕ) (code : List ℕ) (at : ℕ) (units : List Unit) (places : List SledPlace) (e : NoUnit) (rest : List ℕ) (fault : ImageFault) → IsReadTo base code at units places → at < length code
-    → rest ≡ drop at code → ((piece : Piece) (following : List ℕ) → StandsAt (base + at) rest piece following → ⊥) → IsNoUnit rest e → fault ≡ fault_at at e → StopsAt base code fault
+    → rest ≡ drop at code → ((piece : Piece) (following : List ℕ) → StandsAt (base + at) rest piece following → ⊥) → IsNoUnit rest e → fault ≡ fault_at at e → UnitsStop base code fault
 stops_here base code at units places e rest fault so_far left same none why is =
-    subst (StopsAt base code) (sym is)
+    subst (UnitsStop base code) (sym is)
     (stops base code at units places e so_far left (subst (λ (r : List ℕ). (piece : Piece) (following : List ℕ) → StandsAt (base + at) r piece following → ⊥) same none)
     (subst (λ (r : List ℕ). IsNoUnit r e) same why))

@@ -9,7 +9,7 @@ use Rattle.subset_decode.specs.Refusals.{Answers}
 use Rattle.xray_image.specs.declared.fault.ImageFault.{ImageFault}
 use Rattle.xray_image.specs.declared.fault.ImageFault.TheVariants as faults
 use Rattle.xray_image.specs.Units.{Piece}
-use Rattle.xray_image.specs.Table.{Verdict, NeedsUnits, UnitFault, StopsAt, StandUpTo}
+use Rattle.xray_image.specs.Table.{Verdict, NeedsUnits, UnitFault, UnitsStop, StandUpTo}
 use Rattle.xray_image.proofs.Pieces.{OneInstruction}
 use Rattle.xray_image.proofs.Standing.{IsFront, stuck_at_end, one_front}
 
@@ -31,19 +31,19 @@ fault_one one place bytes f g (inr (none, (d, refused, is))) (inr (none', (d', r
     same_fault d d' e = cc
 
 module _ (first : OneInstruction) (answer : OneAnswer) (base : ℕ) (code : List ℕ) where
-  stop_front : (fault : ImageFault) (s : StopsAt base code fault) → IsFront base code s.front s.address s.left
+  stop_front : (fault : ImageFault) (s : UnitsStop base code fault) → IsFront base code s.front s.address s.left
   stop_front fault s = record { stand = s.stand; stuck = record { none = s.none_goes_on } }
 
   whole_front : (pieces : List Piece) → StandUpTo base code pieces (base + length code) [] → IsFront base code pieces (base + length code) []
   whole_front pieces s = record { stand = s; stuck = stuck_at_end (base + length code) }
 
-  stops_once : (f g : ImageFault) → StopsAt base code f → StopsAt base code g → f ≡ g
+  stops_once : (f g : ImageFault) → UnitsStop base code f → UnitsStop base code g → f ≡ g
   stops_once f g s t =
       let same = one_front first base code s.front t.front s.address t.address s.left t.left (stop_front f s) (stop_front g t) in
       fault_one answer (t.address - base) t.left f g
       (subst (λ (a : ℕ). UnitFault (a - base) t.left f) same.ends (subst (λ (l : List ℕ). UnitFault (s.address - base) l f) same.lefts s.why)) t.why
 
-  no_stop : (fault : ImageFault) (pieces : List Piece) → StopsAt base code fault → StandUpTo base code pieces (base + length code) [] → ⊥
+  no_stop : (fault : ImageFault) (pieces : List Piece) → UnitsStop base code fault → StandUpTo base code pieces (base + length code) [] → ⊥
   no_stop fault pieces s whole =
       s.some_left (one_front first base code s.front pieces s.address (base + length code) s.left [] (stop_front fault s) (whole_front pieces whole)).lefts
 

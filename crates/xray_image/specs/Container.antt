@@ -46,8 +46,8 @@ pub record MapEntry : Type 0 where
   pub version : ℕ
 
 -- a function entry and the bytes after it, if the bytes hold a whole one
-abbrev pub function_at : List ℕ → Option (Function × List ℕ)
-function_at bytes =
+abbrev pub function_entry_at : List ℕ → Option (Function × List ℕ)
+function_entry_at bytes =
     let name_length = slice_index bytes 8 in
     if nat_lt (length bytes) (9 + name_length) then None
     else Some (record { start = number8_at bytes 0; name = take name_length (drop 9 bytes) }, drop (9 + name_length) bytes)
@@ -81,4 +81,4 @@ parts_of bytes =
     (λ functions. option_map
     (λ entries. record { code = code; functions = functions.0; entries = entries.0; rest = entries.1 })
     (several map_entry_at (entry_count bytes) functions.1))
-    (several function_at (function_count bytes) following)
+    (several function_entry_at (function_count bytes) following)

@@ -50,7 +50,7 @@ UnitFault place bytes fault =
     ⊎ ((BeginsAsSled bytes → ⊥) × ((f : DecodeFault) × Answers bytes (Err f) × (fault ≡ faults.Code place f)))
 
 -- units stand up to an address where no unit follows, though bytes are left
-pub record StopsAt (base : ℕ) (code : List ℕ) (fault : ImageFault) : Type 0 where
+pub record UnitsStop (base : ℕ) (code : List ℕ) (fault : ImageFault) : Type 0 where
   pub front : List Piece
   pub address : ℕ
   pub left : List ℕ
@@ -62,7 +62,7 @@ pub record StopsAt (base : ℕ) (code : List ℕ) (fault : ImageFault) : Type 0 
 -- The units have to be the whole code. The first place where no unit stands decides.
 abbrev pub NeedsUnits : ℕ → List ℕ → (List Piece → Verdict → Type 0) → Verdict → Type 0
 NeedsUnits base code follows verdict =
-    ((fault : ImageFault) × StopsAt base code fault × (verdict ≡ Err fault))
+    ((fault : ImageFault) × UnitsStop base code fault × (verdict ≡ Err fault))
     ⊎ ((pieces : List Piece) × StandUpTo base code pieces (base + length code) [] × follows pieces verdict)
 
 -- ---- conditions with a number

@@ -3,7 +3,7 @@
 ghost use Rattle.std.specs.Prelude.{◌≡◌, ◌≤◌, ◌<◌, ◌^◌, ◌+◌, ◌⊎◌, [], ◌∷◌, ◌++◌, length, OnOk, IfOk, IfErr};
 ghost use Rattle.xray_image.specs.Units.{sleds_in, places_from};
 ghost use Rattle.xray_image.specs.private.Reading.{HasUnits, IsReadTo};
-ghost use Rattle.xray_image.specs.Table.{StopsAt};
+ghost use Rattle.xray_image.specs.Table.{UnitsStop};
 ghost use Rattle.xray_image.specs.private.UnitTable.{unit_at, units_in, IsSoundTable};
 ghost use Rattle.xray_image.specs.private.Views.{piece_of, places_in, fault_at, AreTablesTo};
 
@@ -102,7 +102,7 @@ impl CodeUnits {
             IsReadTo base code.now next (units_in self.new.units) (places_in self.new)) }
         ensures next { IfOk result (λ next. at < next) }
         ensures refused { IfErr result (λ fault. (fault ≡ ImageFault.NoMemory)
-            ⊎ StopsAt base code.now fault) }
+            ⊎ UnitsStop base code.now fault) }
     {
         let address = base + at as u64;
         let (_, left) = code.split_at(at);
@@ -124,7 +124,7 @@ impl CodeUnits {
             HasUnits base code.now (units_in read.units) (places_in read)) }
         ensures tables { IfOk result (AreTablesTo base code.now (length code.now)) }
         ensures refused { IfErr result (λ fault. (fault ≡ ImageFault.NoMemory)
-            ⊎ StopsAt base code.now fault) }
+            ⊎ UnitsStop base code.now fault) }
     {
         let mut read = CodeUnits {
             units: UnitTable::new(alloc, base, code)?,

@@ -63,14 +63,14 @@ pub(crate) struct FunctionEntry<'a> {
 }
 
 impl<'a> Counted<'a> for FunctionEntry<'a> {
-    ghost use Rattle.xray_image.specs.Container.{Function, function_at};
+    ghost use Rattle.xray_image.specs.Container.{Function, function_entry_at};
     ghost use Rattle.xray_image.specs.private.Views.{function_of};
 
     ghost Said = { Function };
 
     ghost said = { function_of };
 
-    ghost read_at = { function_at };
+    ghost read_at = { function_entry_at };
 
     fn read(bytes: &'a [u8]) -> Option<(FunctionEntry<'a>, &'a [u8])> {
         if bytes.len() < FUNCTION_PREFIX_LENGTH {

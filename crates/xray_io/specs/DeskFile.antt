@@ -19,10 +19,10 @@ abbrev pub name_of : {D : Type 0} → DeskFile D → List ℕ
 name_of file = file.name.now
 
 -- the bytes of a name, if the desk reports them; a name that isn't held has none
-abbrev pub bytes_of : Entry → Option (List ℕ)
-bytes_of Untold = None
-bytes_of Absent = Some []
-bytes_of (Holds bytes) = Some bytes
+abbrev pub bytes_held : Entry → Option (List ℕ)
+bytes_held Untold = None
+bytes_held Absent = Some []
+bytes_held (Holds bytes) = Some bytes
 
 -- Only one name was written to. It is the same name of the same desk. A name that was held still is. The other names
 -- hold what they held, and no read has failed.

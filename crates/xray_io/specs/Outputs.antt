@@ -5,18 +5,18 @@ use Rattle.std.proofs.lemmas.List.{append-nil}
 use Rattle.std.proofs.lemmas.Result.{on_ok_weaker, on_err_weaker}
 use Rattle.xray_io.specs.Calls.{Call, Create, Write, Went, Composes, append_call}
 use Rattle.xray_io.specs.Desk.{Entry, Untold, Absent, Holds, empty_entry, made_to_hold}
-use Rattle.xray_io.specs.DeskFile.{bytes_of, desk_of, name_of, AppendsAlong}
+use Rattle.xray_io.specs.DeskFile.{bytes_held, desk_of, name_of, AppendsAlong}
 use Rattle.xray_io.specs.Sink.{Adds}
 use Rattle.xray_io.specs.declared.desk_file.DeskFile.{DeskFile}
 use Rattle.xray_io.specs.Faults.{Rose}
-use Rattle.xray_io.specs.Writes.{Answer, Take, WritesText}
+use Rattle.xray_io.specs.Writes.{Answer, TookWrites, WritesText}
 use Rattle.xray_io.specs.declared.faults.Failed.{Failed}
 use Rattle.xray_io.specs.declared.faults.WriteFault.{WriteFault}
 
 -- a name was created, and then this many bytes were put at its end by appends that led to this answer
 pub record Makes (name : List ℕ) (count : ℕ) (answer : Answer) (calls : List Call) : Type 0 where
   pub writes : List Write
-  pub take : Take count answer writes
+  pub take : TookWrites count answer writes
   pub are : calls ≡ Create name (Ok tt) ∷ map (append_call name) writes
 
 -- the name couldn't be created, and holds what it held
@@ -53,7 +53,7 @@ pub record MakesOutput {D : Type 0} (held : D → List ℕ → Entry) (read_faul
 -- a `DeskFile`.
 pub record AppendsText {D : Type 0} (held : D → List ℕ → Entry) (read_faults write_faults : D → ℕ) (along : D → D → List Call → Type 0)
     (old new : D) (name text : List ℕ) (answer : Answer) : Type 0 where
-  pub writes : WritesText (λ desk. bytes_of (held desk name)) write_faults (λ before after writes. along before after (map (append_call name) writes)) old new text answer
+  pub writes : WritesText (λ desk. bytes_held (held desk name)) write_faults (λ before after writes. along before after (map (append_call name) writes)) old new text answer
   pub there : held old name ≢ Absent → held new name ≢ Absent
   pub others : (other : List ℕ) → other ≢ name → held new other ≡ held old other
   pub reads : read_faults new ≡ read_faults old
@@ -63,7 +63,7 @@ pub record AppendsText {D : Type 0} (held : D → List ℕ → Entry) (read_faul
 -- what a writer of text does to a `DeskFile`, as it looks from the desk
 pub appends_text : {D : Type 0} {held : D → List ℕ → Entry} {read_faults write_faults : D → ℕ} {along : D → D → List Call → Type 0}
     → (old new : DeskFile D) {text : List ℕ} {answer : Answer}
-    → WritesText (λ file. bytes_of (held (desk_of file) (name_of file))) (λ file. write_faults (desk_of file)) (AppendsAlong held read_faults along) old new text answer
+    → WritesText (λ file. bytes_held (held (desk_of file) (name_of file))) (λ file. write_faults (desk_of file)) (AppendsAlong held read_faults along) old new text answer
     → AppendsText held read_faults write_faults along (desk_of old) (desk_of new) (name_of old) text answer
 appends_text {held = held} old new p = record {
   writes = record {
@@ -72,7 +72,7 @@ appends_text {held = held} old new p = record {
     order = p.order;
     all = p.all;
     told =
-        let P : List ℕ → Type 0 = λ name. Adds (bytes_of (held (desk_of old) (name_of old))) (bytes_of (held (desk_of new) name)) p.sent in
+        let P : List ℕ → Type 0 = λ name. Adds (bytes_held (held (desk_of old) (name_of old))) (bytes_held (held (desk_of new) name)) p.sent in
         subst P p.went.way.on.name p.told;
     calm = p.calm;
     fault = p.fault;
@@ -105,7 +105,7 @@ same_bytes : (xs ys : List ℕ) → Some xs ≡ Some ys → xs ≡ ys
 same_bytes xs ys e = ap (λ (o : Option (List ℕ)). unwrap_or o []) e
 
 -- what was put at the end of an emptied name is all that it holds
-holds : (old new : Entry) (sent : List ℕ) → (empty_entry old ≢ Absent → new ≢ Absent) → Adds (bytes_of (empty_entry old)) (bytes_of new) sent → new ≡ made_to_hold old sent
+holds : (old new : Entry) (sent : List ℕ) → (empty_entry old ≢ Absent → new ≢ Absent) → Adds (bytes_held (empty_entry old)) (bytes_held new) sent → new ≡ made_to_hold old sent
 holds Untold Untold sent there adds = refl
 holds Untold Absent sent there adds = absurd (some_none [] adds.told)
 holds Untold (Holds bytes) sent there adds = absurd (some_none bytes adds.told)
@@ -121,7 +121,7 @@ making : {D : Type 0} {held : D → List ℕ → Entry} {read_faults write_fault
     → (text : AppendsText held read_faults write_faults along second third name bytes answer)
     → IsMaking name bytes (held first name) (held third name) answer (Create name (Ok tt) ∷ map (append_call name) text.writes.went.calls)
 making {held = held} first second third name bytes is (Ok done) text =
-    let P : Entry → Type 0 = λ entry. (entry ≢ Absent → held third name ≢ Absent) → Adds (bytes_of entry) (bytes_of (held third name)) text.writes.sent → held third name ≡ made_to_hold (held first name) text.writes.sent in
+    let P : Entry → Type 0 = λ entry. (entry ≢ Absent → held third name ≢ Absent) → Adds (bytes_held entry) (bytes_held (held third name)) text.writes.sent → held third name ≡ made_to_hold (held first name) text.writes.sent in
     let all : text.writes.sent ≡ bytes = sym (text.writes.order ∙ ap (λ (l : List ℕ). text.writes.sent ++ l) text.writes.all ∙ append-nil text.writes.sent) in
     let T : List ℕ → Type 0 = λ l. (held third name ≡ made_to_hold (held first name) l) × Makes name (length l) (Ok done) (Create name (Ok tt) ∷ map (append_call name) text.writes.went.calls) in
     subst T all (
@@ -129,7 +129,7 @@ making {held = held} first second third name bytes is (Ok done) text =
       record { writes = text.writes.went.calls; take = text.writes.went.are; are = refl },
     )
 making {held = held} first second third name bytes is (Err fault) text =
-    let P : Entry → Type 0 = λ entry. (entry ≢ Absent → held third name ≢ Absent) → Adds (bytes_of entry) (bytes_of (held third name)) text.writes.sent → held third name ≡ made_to_hold (held first name) text.writes.sent in
+    let P : Entry → Type 0 = λ entry. (entry ≢ Absent → held third name ≢ Absent) → Adds (bytes_held entry) (bytes_held (held third name)) text.writes.sent → held third name ≡ made_to_hold (held first name) text.writes.sent in
     inr (record {
       sent = text.writes.sent;
       rest = text.writes.rest;

@@ -41,7 +41,7 @@ MayAnswer (Ok done) writes = NoneFailed writes
 MayAnswer (Err fault) writes = LastFailed writes
 
 -- these writes took this many bytes together, and led to this answer
-pub record Take (count : ℕ) (answer : Answer) (writes : List Write) : Type 0 where
+pub record TookWrites (count : ℕ) (answer : Answer) (writes : List Write) : Type 0 where
   pub bytes : taken writes ≡ count
   pub answered : MayAnswer answer writes
 
@@ -57,7 +57,7 @@ pub record Sends {S : Type 0} (written : S → Option (List ℕ)) (faults : S �
   pub calm : OnOk answer (faults new ≡ faults old)
   pub fault : OnErr answer (Rose (faults old) (faults new))
   pub later : faults old ≤ faults new
-  pub went : Went (along old new) (Take (length sent) answer)
+  pub went : Went (along old new) (TookWrites (length sent) answer)
 
 -- On Ok exactly this text was written to a sink, and nothing is left of it. On Err a prefix of it was.
 abbrev pub WritesText : {S : Type 0} → (S → Option (List ℕ)) → (S → ℕ) → (S → S → List Write → Type 0)
@@ -87,7 +87,7 @@ may_both (Err fault) writes later p q = record {
 }
 
 -- writes, and then other writes
-pub take_both : (m n : ℕ) (answer : Answer) (writes later : List Write) → Take m (Ok tt) writes → Take n answer later → Take (m + n) answer (writes ++ later)
+pub take_both : (m n : ℕ) (answer : Answer) (writes later : List Write) → TookWrites m (Ok tt) writes → TookWrites n answer later → TookWrites (m + n) answer (writes ++ later)
 take_both m n answer writes later p q = record {
   bytes = taken_both writes later ∙ ap (λ k. k + taken later) p.bytes ∙ ap (λ k. m + k) q.bytes;
   answered = may_both answer writes later p.answered q.answered;
@@ -141,8 +141,8 @@ sends_on {written = written} {faults = faults} {along = along} both {first = fir
   fault = on_err_weaker answer (λ rose. let P : ℕ → Type 0 = λ n. Rose n (faults third) in subst P p.calm rose) q.fault;
   later = let P : ℕ → Type 0 = λ n. n ≤ faults third in subst P p.calm q.later;
   went =
-      let P : ℕ → Type 0 = λ n. Went (along first third) (Take n answer) in
-      subst P (sym (length-append p.sent q.sent)) (went_on along both first second third _ _ (Take (length p.sent + length q.sent) answer) p.went q.went (take_both (length p.sent) (length q.sent) answer));
+      let P : ℕ → Type 0 = λ n. Went (along first third) (TookWrites n answer) in
+      subst P (sym (length-append p.sent q.sent)) (went_on along both first second third _ _ (TookWrites (length p.sent + length q.sent) answer) p.went q.went (take_both (length p.sent) (length q.sent) answer));
 }
 
 -- a write failed, and more was to follow

@@ -25,9 +25,9 @@ impl<'a, D: Desk> DeskFile<'a, D> {
 }
 
 impl<D: Desk> Sink for DeskFile<'_, D> {
-    ghost use Rattle.xray_io.specs.DeskFile.{desk_of, name_of, bytes_of, AppendsAlong, appends_nothing, appends_both};
+    ghost use Rattle.xray_io.specs.DeskFile.{desk_of, name_of, bytes_held, AppendsAlong, appends_nothing, appends_both};
 
-    ghost written = { λ file. bytes_of (D.held (desk_of file) (name_of file)) };
+    ghost written = { λ file. bytes_held (D.held (desk_of file) (name_of file)) };
 
     ghost faults = { λ file. D.write_faults (desk_of file) };
 

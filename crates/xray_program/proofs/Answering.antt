@@ -7,7 +7,7 @@ use Rattle.xray_io.specs.Faults.{Rose}
 use Rattle.xray_program.specs.Answers.{Answered, IsAnswer, LeavesAll, Says}
 use Rattle.xray_program.specs.Commands.{Means, HadItsTurn, outputs_named}
 use Rattle.xray_program.specs.Order.{InOrder, IsNoCall}
-use Rattle.xray_program.specs.Outcomes.{Outcome, BadLine, Unread, TooLong, Refused, Done, Fell, Ending, With, Unwritten, NoMemory, status_at, line_at, written_by}
+use Rattle.xray_program.specs.Outcomes.{Outcome, BadLine, Unread, TooLong, Refused, Done, Fell, Ending, With, Unwritten, NoMemory, status_at, err_line_at, written_by}
 use Rattle.xray_program.specs.Outputs.{FailsWriting}
 use Rattle.command_words.specs.Words.{Command}
 use Rattle.xray_program.specs.private.CallLaws.{CallLaws}
@@ -79,7 +79,7 @@ leaves_all said before after outcome outputs text meant is writes =
 -- how the parts of the contract follow, one for each ending
 by_ending : CallLaws → (Way : List Call → Type 0) (said : Option Command) (before after : World) (ending : Ending)
     → (status_at ending ≡ 0 → SaidFits said) → StandsAfter said before.desk after.desk before.out after.out ending → KeepsOthers (outputs_named said) before.desk after.desk
-    → Went Way (InOrder said before.desk after.desk ending) → Says before.err after.err (line_at ending) → Answered said before after Way (status_at ending)
+    → Went Way (InOrder said before.desk after.desk ending) → Says before.err after.err (err_line_at ending) → Answered said before after Way (status_at ending)
 by_ending laws Way said before after (With BadLine) fits (is, nothing) kept order told = record {
   ending = With BadLine;
   status = refl;

@@ -9,9 +9,9 @@ use Rattle.xray_io.specs.Faults.{Rose}
 use Rattle.xray_program.specs.Commands.{Comes, inputs_of}
 use Rattle.xray_io.specs.Outputs.{IsMaking}
 use Rattle.xray_io.specs.Reads.{Reads, ReadsUpToFault}
-use Rattle.xray_program.specs.Order.{FailsAtOutput, InOrder, IsNoCall, IsUnmade, MakesAll, ReadsAll, ReadsWhole, StopsAt}
-use Rattle.xray_program.specs.Outcomes.{Outcome, BadLine, Unread, TooLong, Refused, Done, Fell, Ending, With, Unwritten, NoMemory, status_at, line_at, written_by}
-use Rattle.xray_program.specs.Outputs.{AreWhole, AreUntouched, FailsAt, FailsAtOut, FailsWriting, HoldsPrefix, WritesNothing}
+use Rattle.xray_program.specs.Order.{FailsAtOutput, InOrder, IsNoCall, IsUnmade, MakesAll, ReadsAll, ReadsWhole, StopsAtInput}
+use Rattle.xray_program.specs.Outcomes.{Outcome, BadLine, Unread, TooLong, Refused, Done, Fell, Ending, With, Unwritten, NoMemory, status_at, err_line_at, written_by}
+use Rattle.xray_program.specs.Outputs.{OutputsAreWhole, AreUntouched, FailsAt, FailsAtOut, FailsWriting, HoldsPrefix, WritesNothing}
 use Rattle.xray_program.specs.private.Further.{ended_by}
 use Rattle.xray_program.specs.private.Stops.{IsUnsaid, answer_of, stop_line, stop_status, told_of}
 use Rattle.xray_program.specs.private.Takes.{IsStopAtInput, StopsTakings}
@@ -85,7 +85,7 @@ fails_over outputs text desk mid desk_now out out_now name same counted (inl (fa
       later = fails.later;
       order = fails.order;
       fault = subst (λ (w : ℕ). Rose w desk_now.write_faults) counted fails.fault;
-      whole = subst (λ (h : List ℕ → Entry). AreWhole fails.earlier h desk_now.held) same fails.whole;
+      whole = subst (λ (h : List ℕ → Entry). OutputsAreWhole fails.earlier h desk_now.held) same fails.whole;
       prefix = subst (λ (h : List ℕ → Entry). HoldsPrefix (h name) (desk_now.held name) fails.bytes) same fails.prefix;
       untouched = subst (λ (h : List ℕ → Entry). AreUntouched fails.later h desk_now.held) same fails.untouched;
     }
@@ -95,14 +95,14 @@ fails_over outputs text desk mid desk_now out out_now name same counted (inr fai
     at = record {
       is_out = fails.is_out;
       fault = fails.fault;
-      whole = subst (λ (h : List ℕ → Entry). AreWhole outputs h desk_now.held) same fails.whole;
+      whole = subst (λ (h : List ℕ → Entry). OutputsAreWhole outputs h desk_now.held) same fails.whole;
       prefix = fails.prefix;
     }
 
 writes_over : (outputs : List (List ℕ × List ℕ)) (text : List ℕ) (desk mid desk_now : DeskView) (out out_now : SinkView) → mid.held ≡ desk.held
     → Writes outputs text mid desk_now out out_now → Writes outputs text desk desk_now out out_now
 writes_over outputs text desk mid desk_now out out_now same writes =
-    record { whole = subst (λ (h : List ℕ → Entry). AreWhole outputs h desk_now.held) same writes.whole; printed = writes.printed; calm = writes.calm }
+    record { whole = subst (λ (h : List ℕ → Entry). OutputsAreWhole outputs h desk_now.held) same writes.whole; printed = writes.printed; calm = writes.calm }
 
 unmade_over : (outputs : List (List ℕ × List ℕ)) (desk mid desk_now : DeskView) (name : List ℕ) (calls : List Call) → mid.held ≡ desk.held
     → IsUnmade outputs mid desk_now name calls → IsUnmade outputs desk desk_now name calls
@@ -138,7 +138,7 @@ ends_at_input command desk desk_now out Way (Err s) stop is stands same went = r
     kept name not = ap (λ (h : List ℕ → Entry). h name) same
 
     -- with this ending, whose status and line are those of the stop
-    ended : (ending : Ending) (stop : Stop) → status_at ending ≡ stop_status stop → line_at ending ≡ stop_line stop
+    ended : (ending : Ending) (stop : Stop) → status_at ending ≡ stop_status stop → err_line_at ending ≡ stop_line stop
         → StandsAfter (Some command) desk desk_now out out ending → Went Way (InOrder (Some command) desk desk_now ending)
         → Ends (Some command) desk desk_now out out Way (stop_status stop) (stop_line stop)
     ended ending stop status told stands order =
@@ -150,15 +150,15 @@ ends_at_input command desk desk_now out Way (Err s) stop is stands same went = r
     following (stops.Unread n) stands went =
         ended (With (Unread n.now)) (stops.Unread n) refl refl (stands, (same, refl))
         (went_as Way _ (InOrder (Some command) desk desk_now (With (Unread n.now))) went (λ calls p.
-        let P : List ℕ → Type 0 = λ m. StopsAt (λ reads. Comes reads desk.held command) (inputs_of command) m (λ limit. ReadsUpToFault m (limit + 1)) calls in subst P (sym p.1) p.2))
+        let P : List ℕ → Type 0 = λ m. StopsAtInput (λ reads. Comes reads desk.held command) (inputs_of command) m (λ limit. ReadsUpToFault m (limit + 1)) calls in subst P (sym p.1) p.2))
     following (stops.TooLong n) stands went =
         ended (With (TooLong n.now)) (stops.TooLong n) refl refl (stands, (same, refl))
         (went_as Way _ (InOrder (Some command) desk desk_now (With (TooLong n.now))) went (λ calls p.
-        let P : List ℕ → Type 0 = λ m. StopsAt (λ reads. Comes reads desk.held command) (inputs_of command) m (λ limit. Reads m (limit + 1) 0 (limit + 1)) calls in subst P (sym p.1) p.2))
+        let P : List ℕ → Type 0 = λ m. StopsAtInput (λ reads. Comes reads desk.held command) (inputs_of command) m (λ limit. Reads m (limit + 1) 0 (limit + 1)) calls in subst P (sym p.1) p.2))
     following (stops.Refused n kind words) stands went =
         ended (With (Refused n.now kind.now (words_text words))) (stops.Refused n kind words) refl refl (stands, (same, refl))
         (went_as Way _ (InOrder (Some command) desk desk_now (With (Refused n.now kind.now (words_text words)))) went (λ calls p.
-        let P : List ℕ → Type 0 = λ m. StopsAt (λ reads. Comes reads desk.held command) (inputs_of command) m (λ limit. ReadsWhole m limit) calls in inl (subst P (sym p.1) p.2)))
+        let P : List ℕ → Type 0 = λ m. StopsAtInput (λ reads. Comes reads desk.held command) (inputs_of command) m (λ limit. ReadsWhole m limit) calls in inl (subst P (sym p.1) p.2)))
     following (stops.Fell words) stands went = absurd stands
     following (stops.Unwritten n) stands went = absurd stands
     following stops.NoMemory stands went =

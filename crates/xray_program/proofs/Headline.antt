@@ -16,16 +16,16 @@ use Rattle.step_sim.specs.FaultWords.{waits_words}
 use Rattle.step_sim.specs.Replay.{of_thread}
 use Rattle.trace_flush.specs.Audit.{audit_text}
 use Rattle.trace_flush.specs.Flush.{trace_bytes}
-use Rattle.trace_flush.specs.Lines.{accounts_of}
+use Rattle.trace_flush.specs.Lines.{audits_of}
 use Rattle.traced_run.specs.Decoded.{DecodesWhole}
 use Rattle.traced_run.specs.Losses.{AreLost}
 use Rattle.traced_run.specs.Runs.{ThreadRun}
 use Rattle.xray_image.specs.Program.{Program, IsAccepted}
-use Rattle.xray_program.specs.Answers.{IsRunBeside, IsSimulated}
+use Rattle.xray_program.specs.Answers.{RunIsTraced, SimIsTraced}
 use Rattle.xray_program.specs.Commands.{Means}
 use Rattle.xray_program.specs.Inputs.{image_form, script_form, schedule_form}
 use Rattle.xray_program.specs.Outcomes.{Outcome, Done}
-use Rattle.xray_program.specs.Outputs.{AreWhole}
+use Rattle.xray_program.specs.Outputs.{OutputsAreWhole}
 use Rattle.xray_program.specs.Run.{FollowsPlan, LoadsFollowPlan, RunComes, RunsBeside}
 use Rattle.xray_program.specs.Sim.{FollowsSchedule, Replayed, Replays, SimComes}
 use Rattle.xray_program.specs.Setups.{setup_of}
@@ -68,21 +68,21 @@ left_alike Are outputs text (o, t, are, is) =
 
 -- both outputs of a run hold their bytes
 files_hold : (trace audit : List ℕ) (setup : Setup) (runs : List ThreadRun) (outputs : List (List ℕ × List ℕ)) (old new : List ℕ → Entry)
-    → outputs ≡ written_of trace audit setup runs → AreWhole outputs old new
+    → outputs ≡ written_of trace audit setup runs → OutputsAreWhole outputs old new
     → (new trace ≡ made_to_hold (old trace) (trace_bytes setup runs))
-    × (new audit ≡ made_to_hold (old audit) (audit_text setup (accounts_of setup runs)))
+    × (new audit ≡ made_to_hold (old audit) (audit_text setup (audits_of setup runs)))
 files_hold trace audit setup runs outputs old new are whole =
     let Made : List ℕ × List ℕ → Type 0 = λ output. new output.0 ≡ made_to_hold (old output.0) output.1 in
     let both : All Made (written_of trace audit setup runs) = subst (All Made) are whole in
     let one : List ℕ × List ℕ = (trace, trace_bytes setup runs) in
-    let other : List ℕ × List ℕ = (audit, audit_text setup (accounts_of setup runs)) in
+    let other : List ℕ × List ℕ = (audit, audit_text setup (audits_of setup runs)) in
     (All-head Made one (other ∷ []) both, All-head Made other [] (All-tail Made one (other ∷ []) both))
 
 -- lawful runs whose trace, audit and state texts were written are traced
 is_traced : CallLaws → (Lawful : Program → Plan → List ThreadRun → (ℕ → List Load) → Type 0) (Were : List ThreadRun → Type 0) (before after : World)
     (t a image script : List ℕ) (setup : Setup) → FitsReports setup → (outputs : List (List ℕ × List ℕ)) (text : List ℕ) (program : Program) (plan : Plan)
     → IsAccepted image program → plan_of program setup.threads script ≡ Ok plan → (traces : Traces Were program setup t a outputs text)
-    → AreWhole outputs before.desk.held after.desk.held → Adds before.out.written after.out.written text
+    → OutputsAreWhole outputs before.desk.held after.desk.held → Adds before.out.written after.out.written text
     → (loads : ℕ → List Load) → Lawful program plan traces.runs loads
     → ((i : ℕ) (run : ThreadRun) → slice_get traces.runs i ≡ Some run
     → DecodesWhole program (i + 1) (hold_of (i + 1) (commands_of plan.lines)) run (loads (i + 1)))
@@ -119,7 +119,7 @@ is_traced laws Lawful Were before after t a image script setup fits outputs text
 simulated_by : CallLaws → (before after : World) (i s c t a image script schedule : List ℕ) (setup : Setup) → FitsReports setup
     → (outputs : List (List ℕ × List ℕ)) (text : List ℕ) → before.desk.held i ≡ Holds image → before.desk.held s ≡ Holds script
     → before.desk.held c ≡ Holds schedule → SimComes Sound before.desk.held i s c t a setup (Done outputs text)
-    → AreWhole outputs before.desk.held after.desk.held → Adds before.out.written after.out.written text
+    → OutputsAreWhole outputs before.desk.held after.desk.held → Adds before.out.written after.out.written text
     → IsTraced (FollowsSchedule schedule setup) image script t a setup before after
 simulated_by laws before after i s c t a image script schedule setup fits outputs text image_held script_held schedule_held comes whole adds =
     let held = before.desk.held in
@@ -147,8 +147,8 @@ simulated_by laws before after i s c t a image script schedule setup fits output
     (laws.loses first.value (commands_of second.value.lines) schedule third.value setup traces.runs third.reads traces.lawful)
 
 pub simulated : CallLaws → (said : Option Command) (before after : World) → SaidFits said → (outputs : List (List ℕ × List ℕ)) (text : List ℕ)
-    → Means said before.desk.held (Done outputs text) → AreWhole outputs before.desk.held after.desk.held
-    → Adds before.out.written after.out.written text → IsSimulated said before after
+    → Means said before.desk.held (Done outputs text) → OutputsAreWhole outputs before.desk.held after.desk.held
+    → Adds before.out.written after.out.written text → SimIsTraced said before after
 simulated laws said before after fits outputs text meant whole adds i s c t a image script schedule options says image_held script_held schedule_held =
     simulated_by laws before after i s c t a image script schedule (setup_of options) (subst SaidFits says fits) outputs text image_held script_held schedule_held (rw says at meant)
     whole adds
@@ -158,7 +158,7 @@ simulated laws said before after fits outputs text meant whole adds i s c t a im
 beside_by : CallLaws → (before after : World) (i s t a image script : List ℕ) (setup : Setup) → FitsReports setup
     → (outputs : List (List ℕ × List ℕ)) (text : List ℕ) → before.desk.held i ≡ Holds image → before.desk.held s ≡ Holds script
     → RunComes Sound before.desk.held i s t a setup (Done outputs text)
-    → AreWhole outputs before.desk.held after.desk.held → Adds before.out.written after.out.written text
+    → OutputsAreWhole outputs before.desk.held after.desk.held → Adds before.out.written after.out.written text
     → IsTraced (LoadsFollowPlan setup) image script t a setup before after
 beside_by laws before after i s t a image script setup fits outputs text image_held script_held comes whole adds =
     let held = before.desk.held in
@@ -186,8 +186,8 @@ beside_by laws before after i s t a image script setup fits outputs text image_h
     traces.lawful.losses
 
 pub beside : CallLaws → (said : Option Command) (before after : World) → SaidFits said → (outputs : List (List ℕ × List ℕ)) (text : List ℕ)
-    → Means said before.desk.held (Done outputs text) → AreWhole outputs before.desk.held after.desk.held
-    → Adds before.out.written after.out.written text → IsRunBeside said before after
+    → Means said before.desk.held (Done outputs text) → OutputsAreWhole outputs before.desk.held after.desk.held
+    → Adds before.out.written after.out.written text → RunIsTraced said before after
 beside laws said before after fits outputs text meant whole adds i s t a image script options says image_held script_held =
     beside_by laws before after i s t a image script (setup_of options) (subst SaidFits says fits) outputs text image_held script_held (rw says at meant)
     whole adds

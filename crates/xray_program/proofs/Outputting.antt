@@ -9,10 +9,10 @@ use Rattle.xray_io.specs.Outputs.{IsMaking, MakesOutput}
 use Rattle.xray_io.specs.World.{DeskView, desk_view}
 use Rattle.xray_io.specs.declared.faults.WriteFault.{WriteFault}
 use Rattle.xray_program.specs.Order.{FailsAtOutput, MakesAll}
-use Rattle.xray_program.specs.Outputs.{AreWhole, AreUntouched, FailsAt, HoldsPrefix}
+use Rattle.xray_program.specs.Outputs.{OutputsAreWhole, AreUntouched, FailsAt, HoldsPrefix}
 use Rattle.xray_program.specs.private.Works.{KeepsOthers}
 
-pub none_whole : (old new : List ℕ → Entry) → AreWhole [] old new
+pub none_whole : (old new : List ℕ → Entry) → OutputsAreWhole [] old new
 none_whole old new = All-nil (λ output. new output.0 ≡ made_to_hold (old output.0) output.1)
 
 none_touched : (old new : List ℕ → Entry) → AreUntouched [] old new
@@ -20,7 +20,7 @@ none_touched old new = All-nil (λ output. new output.0 ≡ old output.0)
 
 -- the only output was made
 pub whole_one : (name bytes : List ℕ) (old new : List ℕ → Entry) (calls : List Call) → IsMaking name bytes (old name) (new name) (Ok tt) calls
-    → AreWhole ((name, bytes) ∷ []) old new
+    → OutputsAreWhole ((name, bytes) ∷ []) old new
 whole_one name bytes old new calls making =
     All-from_recursion (λ output. new output.0 ≡ made_to_hold (old output.0) output.1) ((name, bytes) ∷ []) (making.0, tt)
 

@@ -12,12 +12,12 @@ use Rattle.xray_io.specs.World.{DeskView}
 use Rattle.command_words.specs.Limits.{trace_limit}
 use Rattle.xray_program.specs.Commands.{TellsAll}
 use Rattle.xray_program.specs.Inputs.{image_form, image_limit, trace_form}
-use Rattle.xray_program.specs.Order.{ReadsAll, StopsAt}
+use Rattle.xray_program.specs.Order.{ReadsAll, StopsAtInput}
 use Rattle.xray_program.specs.Outcomes.{Outcome}
 use Rattle.xray_program.specs.Reports.{TakeReport, report_inputs}
 use Rattle.xray_program.specs.private.ReportTakes.{IsReportTaken, StopsReport}
 use Rattle.xray_program.specs.private.Takes.{AreTaken, AreTakings, Gives, IsMaybeTaken, IsMaybeTaking, IsTaken, StopsTaking}
-use Rattle.xray_program.specs.Taking.{AcceptedUpTo, AcceptsFirst, AllAccepted, DeskReads, Faulty, Follows, Form, Sound, Take, TakeMaybe}
+use Rattle.xray_program.specs.Taking.{AcceptedUpTo, AcceptsFirst, AllAccepted, DeskReads, Faulty, GoesOn, Form, Sound, Take, TakeMaybe}
 use Rattle.xray_program.specs.declared.report_inputs.ReportInputs.{ReportInputs}
 use Rattle.xray_program.specs.declared.stop.Stop.{Stop}
 use Rattle.xray_program.proofs.Meanings.{HoldsBytes, IsAlone, IsDecided, IsJudged, SomeOutcome, decided_by, judged_by, maybe_alone, some_maybe, some_take, take_alone}
@@ -100,7 +100,7 @@ image_stopped along both first second third before after held trace image t give
     (λ reads. StopsReport reads held trace image) (trace_accepted held trace image t given) is taken went then
 
 -- what comes if a turn fails, or if nothing is asked of what follows, comes whatever follows the inputs
-follows_more : (reads : DeskReads) (place : ℕ) (Less More : Type 0) → (Less → More) → Follows reads place Less → Follows reads place More
+follows_more : (reads : DeskReads) (place : ℕ) (Less More : Type 0) → (Less → More) → GoesOn reads place Less → GoesOn reads place More
 follows_more Sound place Less More goes is = goes is
 follows_more Faulty place Less More goes is = goes is
 follows_more AllAccepted place Less More goes is = goes is
@@ -135,8 +135,8 @@ accepts_too held trace image next (suc last) is = λ outcome. stops_too (Accepte
 
 stop_too : (held : List ℕ → Entry) (trace : List ℕ) (image : Option (List ℕ)) (next : Trace → Option Program → Outcome → Type 0) (name : List ℕ)
     (Last : (limit : ℕ) → List Call → Type 0) (calls : List Call)
-    → StopsAt (λ reads. StopsReport reads held trace image) (report_inputs trace image) name Last calls
-    → StopsAt (λ reads. TakeReport reads held trace image next) (report_inputs trace image) name Last calls
+    → StopsAtInput (λ reads. StopsReport reads held trace image) (report_inputs trace image) name Last calls
+    → StopsAtInput (λ reads. TakeReport reads held trace image next) (report_inputs trace image) name Last calls
 stop_too held trace image next name Last calls at = record {
   earlier = at.earlier;
   limit = at.limit;

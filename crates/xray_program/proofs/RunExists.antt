@@ -17,7 +17,7 @@ use Rattle.machine_step.specs.declared.limits.Limits.{Limits}
 use Rattle.machine_step.specs.declared.setup.Setup.{Setup}
 use Rattle.machine_step.specs.Follows.{MarksFollow}
 use Rattle.machine_step.specs.PlainStep.{Passing, PlainRun, State}
-use Rattle.machine_step.specs.Traced.{sleds_of}
+use Rattle.machine_step.specs.Traced.{sleds_passed}
 use Rattle.traced_run.specs.Losses.{AreLost, without_loss, without_losses}
 use Rattle.traced_run.specs.Runs.{IsRun, ThreadRun}
 use Rattle.thread_run.specs.Following.{MarksFollowScript}
@@ -38,7 +38,7 @@ abbrev pub SomeMarks : Type 0
 SomeMarks = (program : Program) (limits : Limits) (thread : ℕ) (passed : List Passing) (end : End) (last : State) (code : ℕ → ℕ → ℕ)
     (start total : ℕ) (bound : ℕ → ℕ) (hold : Option ℕ) → 0 < thread → PlainRun program limits thread passed end last
     → LetsEnd program thread hold code start total bound
-    → (marks : List Mark) × MarksFollow program code start bound thread hold (sleds_of passed) marks total
+    → (marks : List Mark) × MarksFollow program code start bound thread hold (sleds_passed passed) marks total
 
 -- some losses of runs are those of one queue
 abbrev pub SomeLosses : Type 0
@@ -54,7 +54,7 @@ SomeRuns = (bytes text : List ℕ) (program : Program) (plan : Plan) (setup : Se
 
 record IsBeside (program : Program) (script : List Command) (setup : Setup) (thread : ℕ) (run : ThreadRun) : Type 0 where
   plain : PlainRun program setup.limits thread run.passed run.end run.last
-  follow : MarksFollowScript program script thread (sleds_of run.passed) run.marks
+  follow : MarksFollowScript program script thread (sleds_passed run.passed) run.marks
 
 one_beside : SomeEnd → ScriptLetsEnd → SomeMarks → (bytes text : List ℕ) (program : Program) (plan : Plan) (setup : Setup) (thread : ℕ)
     → IsAccepted bytes program → plan_of program setup.threads text ≡ Ok plan → 0 < thread

@@ -6,7 +6,7 @@ use Rattle.sled_words.specs.Words.{release_word}
 use Rattle.patch_script.specs.declared.command.Command.{Command}
 use Rattle.patch_script.specs.Micros.{hold_of, total_of}
 use Rattle.machine_step.specs.Loads.{Load, marks_of}
-use Rattle.machine_step.specs.Traced.{sleds_of}
+use Rattle.machine_step.specs.Traced.{sleds_passed}
 use Rattle.traced_run.specs.Runs.{ThreadRun}
 use Rattle.thread_run.specs.Following.{LoadsFollow, MarksFollowScript}
 
@@ -48,9 +48,9 @@ chosen P (first ∷ runs) each =
 -- the loads of the thread of a run follow a script to its end, leave a mark for each of its passings, and no release word
 -- among them held it
 pub record LeavesMarks (program : Program) (script : List Command) (i : ℕ) (run : ThreadRun) (loads : List Load) : Type 0 where
-  pub follow : LoadsFollow program script (i + 1) (sleds_of run.passed) loads (total_of program script)
-  pub each : length run.marks ≡ length (sleds_of run.passed)
-  pub leave : run.marks ≡ marks_of program (i + 1) (hold_of (i + 1) script) (sleds_of run.passed) loads
+  pub follow : LoadsFollow program script (i + 1) (sleds_passed run.passed) loads (total_of program script)
+  pub each : length run.marks ≡ length (sleds_passed run.passed)
+  pub leave : run.marks ≡ marks_of program (i + 1) (hold_of (i + 1) script) (sleds_passed run.passed) loads
   pub released : All (λ load. load.word ≡ release_word program (i + 1) → load.value ≢ 0) loads
 
 -- the loads of all threads, by their numbers
@@ -59,7 +59,7 @@ pub record LeaveAll (program : Program) (script : List Command) (runs : List Thr
   pub are : (i : ℕ) (run : ThreadRun) → slice_get runs i ≡ Some run → LeavesMarks program script i run (loads (i + 1))
 
 pub leave_all : (program : Program) (script : List Command) (runs : List ThreadRun)
-    → ((i : ℕ) (run : ThreadRun) → slice_get runs i ≡ Some run → MarksFollowScript program script (i + 1) (sleds_of run.passed) run.marks)
+    → ((i : ℕ) (run : ThreadRun) → slice_get runs i ≡ Some run → MarksFollowScript program script (i + 1) (sleds_passed run.passed) run.marks)
     → LeaveAll program script runs
 leave_all program script runs follow = record {
   loads = λ number. all.loads (number - 1);

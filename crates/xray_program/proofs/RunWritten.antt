@@ -15,9 +15,9 @@ use Rattle.patch_script.specs.declared.command.Command.{Command}
 use Rattle.thread_run.specs.Runs.{HaveRunBeside}
 use Rattle.xray_image.specs.Program.{Program}
 use Rattle.fdr_file.specs.Files.{file_bytes}
-use Rattle.trace_flush.specs.Audit.{Account, accounts, audit_text}
-use Rattle.trace_flush.specs.Flush.{header_of, trace_bytes}
-use Rattle.trace_flush.specs.Lines.{accounts_of, lines_of}
+use Rattle.trace_flush.specs.Audit.{ThreadAudit, thread_audits, audit_text}
+use Rattle.trace_flush.specs.Flush.{run_header, trace_bytes}
+use Rattle.trace_flush.specs.Lines.{audits_of, audit_lines_of}
 use Rattle.trace_flush.specs.declared.line.AuditLine.{AuditLine}
 use Rattle.traced_run.specs.Kept.{buffer_of, kept_buffers, segment_count, segments_of, stamp_of, thread_buffers}
 use Rattle.traced_run.specs.Left.{HasRun, Leaves}
@@ -93,7 +93,7 @@ lost_counts setup runs ts segments first buffers leaves =
 
 -- and so each has a line
 pub lines_count : (ts : List Traced) (segments first : List ℕ) → length segments ≡ length ts → length first ≡ length ts
-    → length (lines_of ts segments first) ≡ length ts
+    → length (audit_lines_of ts segments first) ≡ length ts
 lines_count [] segments first p q = refl
 lines_count (t ∷ ts) [] first p q = absurd (omega (arith, p))
 lines_count (t ∷ ts) (n ∷ segments) [] p q = absurd (omega (arith, q))
@@ -104,29 +104,29 @@ lines_count (t ∷ ts) (n ∷ segments) (m ∷ first) p q = ap suc (lines_count 
 -- the audit of what a run leaves
 abbrev pub AuditsRuns : Type 0
 AuditsRuns = (setup : Setup) (runs : List ThreadRun) (cpus : List Traced) (segments first : List ℕ) (buffers : List Filled)
-    → Leaves setup runs cpus segments first buffers → accounts (lines_of cpus segments first) cpus ≡ accounts_of setup runs
+    → Leaves setup runs cpus segments first buffers → thread_audits (audit_lines_of cpus segments first) cpus ≡ audits_of setup runs
 
 -- if lines are added to an empty list, they are all its lines
-pub only_lines : (lines old : List AuditLine) (ts us : List Traced) (segments ns first ms : List ℕ) → lines ≡ old ++ lines_of us ns ms → old ≡ []
-    → us ≡ ts → ns ≡ segments → ms ≡ first → lines ≡ lines_of ts segments first
+pub only_lines : (lines old : List AuditLine) (ts us : List Traced) (segments ns first ms : List ℕ) → lines ≡ old ++ audit_lines_of us ns ms → old ≡ []
+    → us ≡ ts → ns ≡ segments → ms ≡ first → lines ≡ audit_lines_of ts segments first
 only_lines lines old ts us segments ns first ms is none same_threads same_segments same_first =
-    is ∙ ap (λ (l : List AuditLine). l ++ lines_of us ns ms) none ∙ ap (λ (l : List Traced). lines_of l ns ms) same_threads
-    ∙ ap (λ (l : List ℕ). lines_of ts l ms) same_segments ∙ ap (lines_of ts segments) same_first
+    is ∙ ap (λ (l : List AuditLine). l ++ audit_lines_of us ns ms) none ∙ ap (λ (l : List Traced). audit_lines_of l ns ms) same_threads
+    ∙ ap (λ (l : List ℕ). audit_lines_of ts l ms) same_segments ∙ ap (audit_lines_of ts segments) same_first
 
 -- what is written of the threads, of their lines and of the buffers in order is what is written of the run
 pub run_written : AuditsRuns → (trace audit : List ℕ) (setup : Setup) (runs : List ThreadRun) (cpus : List Traced) (segments first : List ℕ)
     (buffers : List Filled) → Leaves setup runs cpus segments first buffers → (ts : List Traced) (lines : List AuditLine) (kept : List Filled)
-    → ts ≡ cpus → lines ≡ lines_of cpus segments first → kept ≡ kept_buffers setup runs → (P : List (List ℕ × List ℕ) → List ℕ → Type 0)
-    → P ((trace, file_bytes (header_of setup) kept) ∷ (audit, audit_text setup (accounts lines ts)) ∷ []) (flat_map thread_text ts)
+    → ts ≡ cpus → lines ≡ audit_lines_of cpus segments first → kept ≡ kept_buffers setup runs → (P : List (List ℕ × List ℕ) → List ℕ → Type 0)
+    → P ((trace, file_bytes (run_header setup) kept) ∷ (audit, audit_text setup (thread_audits lines ts)) ∷ []) (flat_map thread_text ts)
     → P (written_of trace audit setup runs) (state_texts 1 runs)
 run_written law trace audit setup runs cpus segments first buffers leaves ts lines kept same_threads same_lines same_buffers P holds =
-    let accounted : accounts lines ts ≡ accounts_of setup runs =
-    ap (λ (l : List AuditLine). accounts l ts) same_lines ∙ ap (accounts (lines_of cpus segments first)) same_threads
+    let accounted : thread_audits lines ts ≡ audits_of setup runs =
+    ap (λ (l : List AuditLine). thread_audits l ts) same_lines ∙ ap (thread_audits (audit_lines_of cpus segments first)) same_threads
     ∙ law setup runs cpus segments first buffers leaves in
     let printed : flat_map thread_text ts ≡ state_texts 1 runs =
     ap (flat_map thread_text) same_threads ∙ run_printed setup runs cpus segments first buffers leaves in
-    let Q : List Filled → Type 0 = λ l. P ((trace, file_bytes (header_of setup) l) ∷ (audit, audit_text setup (accounts lines ts)) ∷ []) (flat_map thread_text ts) in
-    let R : List Account → Type 0 = λ l. P ((trace, trace_bytes setup runs) ∷ (audit, audit_text setup l) ∷ []) (flat_map thread_text ts) in
+    let Q : List Filled → Type 0 = λ l. P ((trace, file_bytes (run_header setup) l) ∷ (audit, audit_text setup (thread_audits lines ts)) ∷ []) (flat_map thread_text ts) in
+    let R : List ThreadAudit → Type 0 = λ l. P ((trace, trace_bytes setup runs) ∷ (audit, audit_text setup l) ∷ []) (flat_map thread_text ts) in
     let S : List ℕ → Type 0 = λ l. P (written_of trace audit setup runs) l in
     subst S printed (subst R accounted (subst Q same_buffers holds))
 

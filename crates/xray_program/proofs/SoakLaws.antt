@@ -1,9 +1,9 @@
 -- `soak`: one thing comes of it, and something in any case.
 use Rattle.std.proofs.Common.{◌≡◌, ◌≤◌, ◌∙◌, ℕ, List, [], Ok, Result, refl, sym, ap, subst, arith}
-use Rattle.asm_text.specs.Assembling.{assembled, image_of, said_by}
-use Rattle.asm_text.specs.Layout.{Lines}
+use Rattle.asm_text.specs.Assembling.{assembled, image_of, statements_said}
+use Rattle.asm_text.specs.Layout.{StatementLines}
 use Rattle.asm_text.specs.Programs.{program_said}
-use Rattle.asm_text.specs.Writing.{file_bytes}
+use Rattle.asm_text.specs.Writing.{image_bytes}
 use Rattle.fdr_file.specs.Grammar.{IsTrace}
 use Rattle.fdr_file.specs.Traces.{trace_of}
 use Rattle.fdr_file.specs.declared.trace.Trace.{Trace}
@@ -49,12 +49,12 @@ soak_plan number = written_plan (soak_program number) 4 (soak_commands number)
 pub enough : InputLaws → (number : ℕ) → 64 ≤ id_count (soak_program number)
 enough laws number = omega (arith, laws.ids number 1)
 
-pub assembled_as : (text : List ℕ) (said : Lines) → said_by text ≡ Ok said → assembled text 1 ≡ Ok (file_bytes (image_of 1 said))
+pub assembled_as : (text : List ℕ) (said : StatementLines) → statements_said text ≡ Ok said → assembled text 1 ≡ Ok (image_bytes (image_of 1 said))
 assembled_as text said is = rw is refl
 
 pub inputs_read : InputLaws → (number : ℕ) → AreInputs number (soak_program number) (soak_plan number) (soak_turns number)
 inputs_read laws number = record {
-  image = file_bytes (image_of 1 (soak_said number));
+  image = image_bytes (image_of 1 (soak_said number));
   assembles = assembled_as (soak_text number) (soak_said number) (laws.said number);
   accepted = laws.assembles (soak_text number) 1 (soak_said number) (laws.said number);
   script_reads = laws.plan number (soak_program number) (enough laws number);

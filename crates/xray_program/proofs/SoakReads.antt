@@ -3,9 +3,9 @@ use Rattle.std.proofs.Common.{◌≡◌, ◌⊎◌, ◌↔◌, ◌∙◌, ℕ, L
 use Rattle.std.specs.Prelude.{IfErr, IfOk, Vec}
 use Rattle.std.specs.declared.alloc.Global.{Global}
 use Rattle.account_report.specs.declared.row.AccountRow.{AccountRow}
-use Rattle.asm_text.specs.Assembling.{assembled, said_by, seen}
+use Rattle.asm_text.specs.Assembling.{assembled, statements_said, seen}
 use Rattle.asm_text.specs.FaultWords.{asm_words}
-use Rattle.asm_text.specs.Layout.{Lines}
+use Rattle.asm_text.specs.Layout.{StatementLines}
 use Rattle.asm_text.specs.Programs.{IsProgramOf, program_said}
 use Rattle.asm_text.specs.declared.fault.AsmFault.{AsmFault}
 use Rattle.asm_text.specs.declared.fault.AsmFault.TheVariants as asm_faults
@@ -25,9 +25,9 @@ use Rattle.step_sim.specs.declared.fault.ScheduleFault.TheVariants as schedule_f
 use Rattle.step_sim.specs.declared.turns.Turns.{Turns}
 use Rattle.step_sim.specs.declared.sim_fault.SimFault.{SimFault}
 use Rattle.step_sim.specs.declared.sim_fault.SimFault.TheVariants as sim_faults
-use Rattle.trace_flush.specs.Audit.{Account}
-use Rattle.trace_flush.specs.Flush.{header_of, trace_bytes}
-use Rattle.trace_flush.specs.Lines.{accounts_of}
+use Rattle.trace_flush.specs.Audit.{ThreadAudit}
+use Rattle.trace_flush.specs.Flush.{run_header, trace_bytes}
+use Rattle.trace_flush.specs.Lines.{audits_of}
 use Rattle.traced_run.specs.Kept.{kept_buffers}
 use Rattle.traced_run.specs.Left.{Leaves}
 use Rattle.traced_run.specs.Runs.{ThreadRun}
@@ -75,7 +75,7 @@ each_value wanting (Err e) answer value is either = tt
 abbrev pub Made : List ℕ → Result (Vec ℕ Global) AsmFault → Type 0
 Made text answer = (answer ≡ Err asm_faults.NoMemory) ⊎ (seen answer ≡ assembled text 1)
 
-pub text_unrefused : (text : List ℕ) (said : Lines) (answer : Result (Vec ℕ Global) AsmFault) → said_by text ≡ Ok said → Made text answer
+pub text_unrefused : (text : List ℕ) (said : StatementLines) (answer : Result (Vec ℕ Global) AsmFault) → statements_said text ≡ Ok said → Made text answer
     → IfErr answer (λ fault. asm_words fault ≡ None)
 text_unrefused text said (Ok file) is made = tt
 text_unrefused text said (Err fault) is (inl same) =
@@ -88,7 +88,7 @@ pub program_in : (text : List ℕ) (answer : Result (Vec ℕ Global) AsmFault) (
 program_in text answer file held is = let P : Result (Vec ℕ Global) AsmFault → Type 0 = λ r. IfOk r (λ f. IsProgramOf text 1 f.items) in subst P is held
 
 -- it is the one of what the text says
-pub program_same : (text : List ℕ) (file : List ℕ) (said : Lines) (of : IsProgramOf text 1 file) → said_by text ≡ Ok said
+pub program_same : (text : List ℕ) (file : List ℕ) (said : StatementLines) (of : IsProgramOf text 1 file) → statements_said text ≡ Ok said
     → program_said 1 of.said ≡ program_said 1 said
 program_same text file said of is = ap (program_said 1) (same_value {F = AsmFault} of.said said (sym of.read ∙ is))
 
@@ -143,12 +143,12 @@ started answer start wanted held is = let P : Result Start SimFault → Type 0 =
 pub summary_is : (number : ℕ) (program : Program) (plan : Plan) (turns : List Turns) → AreInputs number program plan turns
     → (runs : List ThreadRun) → Replayed program plan turns soak_setup runs → (cpus : List Traced) (segments first : List ℕ) (buffers : List Filled)
     → Leaves soak_setup runs cpus segments first buffers → (bytes : ℕ) (rows : List AccountRow)
-    → IsReadBack (file_bytes (header_of soak_setup) buffers) bytes rows
-    → (threads : List Account) → threads ≡ accounts_of soak_setup runs → (text : List ℕ) → text ≡ summary_with number threads bytes rows
+    → IsReadBack (file_bytes (run_header soak_setup) buffers) bytes rows
+    → (threads : List ThreadAudit) → threads ≡ audits_of soak_setup runs → (text : List ℕ) → text ≡ summary_with number threads bytes rows
     → IsSummary number text
 summary_is number program plan turns inputs runs replayed cpus segments first buffers leaves bytes rows back threads accounted text is =
     let kept : buffers ≡ kept_buffers soak_setup runs = leaves.buffers_are in
-    let file : file_bytes (header_of soak_setup) buffers ≡ trace_bytes soak_setup runs = ap (file_bytes (header_of soak_setup)) kept in
+    let file : file_bytes (run_header soak_setup) buffers ≡ trace_bytes soak_setup runs = ap (file_bytes (run_header soak_setup)) kept in
     let length_is : bytes ≡ length (trace_bytes soak_setup runs) = back.bytes_are ∙ ap length file in
     record {
       program = program;

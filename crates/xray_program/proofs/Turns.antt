@@ -9,7 +9,7 @@ use Rattle.xray_io.specs.declared.faults.ReadError.{ReadError}
 use Rattle.xray_io.specs.declared.faults.ReadError.TheVariants as errors
 use Rattle.xray_program.specs.Outcomes.{Outcome, Unread, TooLong, Refused}
 use Rattle.xray_program.specs.private.Takes.{AreTaken, Gives, IsFaultStop, IsLost, IsMaybeTaken, IsReadStop, IsStopAtInput, IsTaken, IsTooLong}
-use Rattle.xray_program.specs.Taking.{AcceptedUpTo, AcceptsFirst, AllAccepted, DeskReads, Sound, Faulty, Follows, Form, MayHold, Take, TakeMaybe}
+use Rattle.xray_program.specs.Taking.{AcceptedUpTo, AcceptsFirst, AllAccepted, DeskReads, Sound, Faulty, GoesOn, Form, MayHold, Take, TakeMaybe}
 use Rattle.xray_io.specs.World.{DeskView}
 use Rattle.xray_program.specs.declared.stop.Stop.{Stop}
 use Rattle.xray_program.specs.declared.stop.Stop.TheVariants as stops
@@ -74,7 +74,7 @@ pub leads : (comes : DeskReads → Outcome → Type 0) → Leads comes comes
 leads comes reads outcome is = is
 
 -- what comes after an input follows it
-follows : (reads : DeskReads) (place : ℕ) (Next : Type 0) → Next → Follows reads place Next
+follows : (reads : DeskReads) (place : ℕ) (Next : Type 0) → Next → GoesOn reads place Next
 follows Sound place Next is = is
 follows Faulty place Next is = is
 follows AllAccepted place Next is = is

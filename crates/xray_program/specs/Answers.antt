@@ -7,8 +7,8 @@ use Rattle.xray_io.specs.Sink.{Adds, AddsPrefix}
 use Rattle.command_words.specs.declared.run_options.RunOptions.{RunOptions}
 use Rattle.xray_program.specs.Commands.{Means, HadItsTurn, outputs_named}
 use Rattle.xray_program.specs.Order.{InOrder, IsNoCall}
-use Rattle.xray_program.specs.Outcomes.{Outcome, Unread, Ending, With, Unwritten, NoMemory, status_of, status_at, line_at, written_by}
-use Rattle.xray_program.specs.Outputs.{AreWhole, FailsWriting, WritesNothing}
+use Rattle.xray_program.specs.Outcomes.{Outcome, Unread, Ending, With, Unwritten, NoMemory, status_of, status_at, err_line_at, written_by}
+use Rattle.xray_program.specs.Outputs.{OutputsAreWhole, FailsWriting, WritesNothing}
 use Rattle.xray_program.specs.Run.{LoadsFollowPlan}
 use Rattle.xray_program.specs.Setups.{setup_of}
 use Rattle.xray_program.specs.Sim.{FollowsSchedule}
@@ -30,7 +30,7 @@ pub record LeavesAll (said : Option Command) (before after : World) (ending : En
   pub outputs : List (List ℕ × List ℕ)
   pub text : List ℕ
   pub writes : written_by outcome ≡ Some (outputs, text)
-  pub whole : AreWhole outputs before.desk.held after.desk.held
+  pub whole : OutputsAreWhole outputs before.desk.held after.desk.held
   pub out : Adds before.out.written after.out.written text
   pub calm : after.out.faults ≡ before.out.faults
 
@@ -73,15 +73,15 @@ IsAnswer said before after status =
     ⊎ ((status ≡ 4) × (Rose before.desk.write_faults after.desk.write_faults ⊎ Rose before.out.faults after.out.faults))
 
 -- if `sim` was said, with inputs that the desk holds, then all that the schedule leaves was written
-abbrev pub IsSimulated : Option Command → (before after : World) → Type 0
-IsSimulated said before after =
+abbrev pub SimIsTraced : Option Command → (before after : World) → Type 0
+SimIsTraced said before after =
     (i s c t a image script schedule : List ℕ) (options : RunOptions) → said ≡ Some (Sim i s c t a options)
     → before.desk.held i ≡ Holds image → before.desk.held s ≡ Holds script → before.desk.held c ≡ Holds schedule
     → IsTraced (FollowsSchedule schedule (setup_of options)) image script t a (setup_of options) before after
 
 -- if `run` was said, with inputs that the desk holds, then all that threads leave beside the script was written
-abbrev pub IsRunBeside : Option Command → (before after : World) → Type 0
-IsRunBeside said before after =
+abbrev pub RunIsTraced : Option Command → (before after : World) → Type 0
+RunIsTraced said before after =
     (i s t a image script : List ℕ) (options : RunOptions) → said ≡ Some (Run i s t a options)
     → before.desk.held i ≡ Holds image → before.desk.held s ≡ Holds script
     → IsTraced (LoadsFollowPlan (setup_of options)) image script t a (setup_of options) before after
@@ -90,7 +90,7 @@ IsRunBeside said before after =
 pub record Answered (said : Option Command) (before after : World) (Way : List Call → Type 0) (answer : ℕ) : Type 0 where
   pub ending : Ending
   pub status : status_at ending ≡ answer
-  pub told : Says before.err after.err (line_at ending)
+  pub told : Says before.err after.err (err_line_at ending)
   -- 0 and 7: all outputs are whole, and out has exactly the text. On 0 err has nothing.
   pub done : (answer ≡ 0) ⊎ (answer ≡ 7) → LeavesAll said before after ending
   pub silent : answer ≡ 0 → after.err.written ≡ before.err.written
@@ -112,4 +112,4 @@ pub record Answered (said : Option Command) (before after : World) (Way : List C
   -- what is meant comes, unless memory runs out or a fault is counted
   pub complete : IsAnswer said before after answer
   -- the headline, of `sim` and of `run`
-  pub headline : answer ≡ 0 → IsSimulated said before after × IsRunBeside said before after
+  pub headline : answer ≡ 0 → SimIsTraced said before after × RunIsTraced said before after

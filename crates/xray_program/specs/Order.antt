@@ -26,7 +26,7 @@ ReadsAll (input ∷ inputs) calls =
 
 -- Of the inputs of which this comes, those before one of them were read whole, and each was accepted. `Last` holds of
 -- the calls for that one, and no later input was asked for.
-pub record StopsAt (comes : DeskReads → Outcome → Type 0) (inputs : List (List ℕ × ℕ)) (name : List ℕ) (Last : (limit : ℕ) → List Call → Type 0) (calls : List Call) : Type 0 where
+pub record StopsAtInput (comes : DeskReads → Outcome → Type 0) (inputs : List (List ℕ × ℕ)) (name : List ℕ) (Last : (limit : ℕ) → List Call → Type 0) (calls : List Call) : Type 0 where
   pub earlier : List (List ℕ × ℕ)
   pub limit : ℕ
   pub later : List (List ℕ × ℕ)
@@ -92,11 +92,11 @@ inputs_said said = option_map_or inputs_of said []
 abbrev pub InOrder : Option Command → (desk desk_now : DeskView) → Ending → List Call → Type 0
 InOrder said desk desk_now (With BadLine) calls = calls ≡ []
 InOrder said desk desk_now (With (Unread name)) calls =
-    StopsAt (comes_over said desk) (inputs_said said) name (λ limit. ReadsUpToFault name (limit + 1)) calls
+    StopsAtInput (comes_over said desk) (inputs_said said) name (λ limit. ReadsUpToFault name (limit + 1)) calls
 InOrder said desk desk_now (With (TooLong name)) calls =
-    StopsAt (comes_over said desk) (inputs_said said) name (λ limit. Reads name (limit + 1) 0 (limit + 1)) calls
+    StopsAtInput (comes_over said desk) (inputs_said said) name (λ limit. Reads name (limit + 1) 0 (limit + 1)) calls
 InOrder said desk desk_now (With (Refused name kind refusal)) calls =
-    StopsAt (comes_over said desk) (inputs_said said) name (λ limit. ReadsWhole name limit) calls
+    StopsAtInput (comes_over said desk) (inputs_said said) name (λ limit. ReadsWhole name limit) calls
     ⊎ (ComesOf AllAccepted said desk.held (Refused name kind refusal) × ReadsAll (inputs_said said) calls)
 InOrder said desk desk_now (With (Done outputs text)) calls = ReadsThen (inputs_said said) (MakesAll outputs) calls
 InOrder said desk desk_now (With (Fell outputs text trouble)) calls = ReadsThen (inputs_said said) (MakesAll outputs) calls
@@ -104,6 +104,6 @@ InOrder said desk desk_now (Unwritten name outputs) calls =
     ReadsThen (inputs_said said) (IsUnmade outputs desk desk_now name) calls
 InOrder said desk desk_now NoMemory calls =
     (calls ≡ [])
-    ⊎ ((name : List ℕ) × StopsAt (comes_over said desk) (inputs_said said) name
+    ⊎ ((name : List ℕ) × StopsAtInput (comes_over said desk) (inputs_said said) name
     (λ limit last. ReadsSome name (limit + 1) last ⊎ ReadsWhole name limit last) calls)
     ⊎ (AcceptsFirst (comes_over said desk) (length (inputs_said said)) × ReadsAll (inputs_said said) calls)

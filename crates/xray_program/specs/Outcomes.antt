@@ -35,13 +35,13 @@ abbrev pub err_line : List ℕ → List ℕ
 err_line text = codes "xray: " ++ text ++ 10 ∷ []
 
 -- the line on err, which is empty if all is done
-abbrev pub line_of : Outcome → List ℕ
-line_of (Done outputs text) = []
-line_of BadLine = err_line (codes "bad command line")
-line_of (Refused name kind refusal) = err_line (name ++ codes ": " ++ kind ++ codes " " ++ refusal)
-line_of (Unread name) = err_line (name ++ codes ": read fault")
-line_of (TooLong name) = err_line (name ++ codes ": too long")
-line_of (Fell outputs text trouble) = err_line trouble
+abbrev pub err_line_of : Outcome → List ℕ
+err_line_of (Done outputs text) = []
+err_line_of BadLine = err_line (codes "bad command line")
+err_line_of (Refused name kind refusal) = err_line (name ++ codes ": " ++ kind ++ codes " " ++ refusal)
+err_line_of (Unread name) = err_line (name ++ codes ": read fault")
+err_line_of (TooLong name) = err_line (name ++ codes ": too long")
+err_line_of (Fell outputs text trouble) = err_line trouble
 
 -- How a call ends: with an outcome; at an output of this name, one of these outputs, that can't be written; at out,
 -- which is named `output`; or for want of memory.
@@ -57,7 +57,7 @@ status_at (Unwritten name outputs) = 4
 status_at NoMemory = 5
 
 -- its line on err
-abbrev pub line_at : Ending → List ℕ
-line_at (With outcome) = line_of outcome
-line_at (Unwritten name outputs) = err_line (name ++ codes ": write fault")
-line_at NoMemory = err_line (codes "out of memory")
+abbrev pub err_line_at : Ending → List ℕ
+err_line_at (With outcome) = err_line_of outcome
+err_line_at (Unwritten name outputs) = err_line (name ++ codes ": write fault")
+err_line_at NoMemory = err_line (codes "out of memory")

@@ -10,8 +10,8 @@ abbrev pub WritesNothing : (desk desk_now : DeskView) → (out out_now : SinkVie
 WritesNothing desk desk_now out out_now = (desk_now.held ≡ desk.held) × (out_now.written ≡ out.written)
 
 -- each output's name holds exactly its bytes
-abbrev pub AreWhole : List (List ℕ × List ℕ) → (held held_now : List ℕ → Entry) → Type 0
-AreWhole outputs held held_now = All (λ output. held_now output.0 ≡ made_to_hold (held output.0) output.1) outputs
+abbrev pub OutputsAreWhole : List (List ℕ × List ℕ) → (held held_now : List ℕ → Entry) → Type 0
+OutputsAreWhole outputs held held_now = All (λ output. held_now output.0 ≡ made_to_hold (held output.0) output.1) outputs
 
 -- each output's name holds what it held
 abbrev pub AreUntouched : List (List ℕ × List ℕ) → (held held_now : List ℕ → Entry) → Type 0
@@ -30,7 +30,7 @@ pub record FailsAt (outputs : List (List ℕ × List ℕ)) (desk desk_now : Desk
   pub later : List (List ℕ × List ℕ)
   pub order : outputs ≡ earlier ++ (name, bytes) ∷ later
   pub fault : Rose desk.write_faults desk_now.write_faults
-  pub whole : AreWhole earlier desk.held desk_now.held
+  pub whole : OutputsAreWhole earlier desk.held desk_now.held
   pub prefix : HoldsPrefix (desk.held name) (desk_now.held name) bytes
   pub untouched : AreUntouched later desk.held desk_now.held
 
@@ -38,7 +38,7 @@ pub record FailsAt (outputs : List (List ℕ × List ℕ)) (desk desk_now : Desk
 pub record FailsAtOut (outputs : List (List ℕ × List ℕ)) (text : List ℕ) (desk desk_now : DeskView) (out out_now : SinkView) (name : List ℕ) : Type 0 where
   pub is_out : name ≡ codes "output"
   pub fault : Rose out.faults out_now.faults
-  pub whole : AreWhole outputs desk.held desk_now.held
+  pub whole : OutputsAreWhole outputs desk.held desk_now.held
   pub prefix : AddsPrefix out.written out_now.written text
 
 -- what failed of outputs and of the text after them: an output, with nothing on out; or out

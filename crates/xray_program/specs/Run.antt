@@ -8,7 +8,7 @@ use Rattle.patch_script.specs.Plans.{Plan}
 use Rattle.patch_script.specs.Refusals.{commands_of}
 use Rattle.machine_step.specs.declared.setup.Setup.{Setup}
 use Rattle.machine_step.specs.Loads.{Load}
-use Rattle.machine_step.specs.Traced.{sleds_of}
+use Rattle.machine_step.specs.Traced.{sleds_passed}
 use Rattle.thread_run.specs.Following.{LoadsFollow}
 use Rattle.thread_run.specs.Runs.{FollowsScript}
 use Rattle.traced_run.specs.Runs.{ThreadRun}
@@ -38,6 +38,6 @@ RunComes reads held image script trace audit setup =
 pub record LoadsFollowPlan (setup : Setup) (program : Program) (plan : Plan) (runs : List ThreadRun) (loads : ℕ → List Load) : Type 0 where
   pub lawful : FollowsPlan setup program plan runs
   pub follow : (i : ℕ) (run : ThreadRun) → slice_get runs i ≡ Some run
-      → LoadsFollow program (commands_of plan.lines) (i + 1) (sleds_of run.passed) (loads (i + 1)) (total_of program (commands_of plan.lines))
+      → LoadsFollow program (commands_of plan.lines) (i + 1) (sleds_passed run.passed) (loads (i + 1)) (total_of program (commands_of plan.lines))
   pub released : (i : ℕ) (run : ThreadRun) → slice_get runs i ≡ Some run
       → All (λ load. load.word ≡ release_word program (i + 1) → load.value ≢ 0) (loads (i + 1))

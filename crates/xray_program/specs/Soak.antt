@@ -12,7 +12,7 @@ use Rattle.soak_inputs.specs.Inputs.{soak_schedule, soak_script, soak_text}
 use Rattle.step_sim.specs.declared.turns.Turns.{Turns}
 use Rattle.step_sim.specs.Schedules.{schedule_of}
 use Rattle.trace_flush.specs.Flush.{trace_bytes}
-use Rattle.trace_flush.specs.Lines.{accounts_of}
+use Rattle.trace_flush.specs.Lines.{audits_of}
 use Rattle.trace_flush.specs.Summary.{summary_text}
 use Rattle.traced_run.specs.Runs.{ThreadRun}
 use Rattle.xray_image.specs.Program.{Program, IsAccepted}
@@ -53,7 +53,7 @@ trace_lines bytes rows =
 -- the summary of runs, and of the trace that their file is read as
 abbrev pub soak_summary : (number : ℕ) → List ThreadRun → Trace → List ℕ
 soak_summary number runs trace =
-    codes "soak " ++ decimal number ++ line_feed ++ summary_text (accounts_of soak_setup runs)
+    codes "soak " ++ decimal number ++ line_feed ++ summary_text (audits_of soak_setup runs)
     ++ trace_lines (length (trace_bytes soak_setup runs)) (account_of trace)
 
 -- The inputs of a number are replayed, and the trace of the runs is read back from the bytes of its file. The text is

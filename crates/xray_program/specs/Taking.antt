@@ -35,11 +35,11 @@ IsNoInput AllAccepted Reason = ⊥
 IsNoInput (AcceptedUpTo place) Reason = ⊥
 
 -- what follows the input at this place comes, unless nothing is asked of it
-abbrev pub Follows : DeskReads → (place : ℕ) → Type 0 → Type 0
-Follows Sound place Next = Next
-Follows Faulty place Next = Next
-Follows AllAccepted place Next = Next
-Follows (AcceptedUpTo last) place Next = (place ≡ last) ⊎ Next
+abbrev pub GoesOn : DeskReads → (place : ℕ) → Type 0 → Type 0
+GoesOn Sound place Next = Next
+GoesOn Faulty place Next = Next
+GoesOn AllAccepted place Next = Next
+GoesOn (AcceptedUpTo last) place Next = (place ≡ last) ⊎ Next
 
 -- the first `count` inputs of which this comes are accepted
 abbrev pub AcceptsFirst : (DeskReads → Outcome → Type 0) → (count : ℕ) → Type 0
@@ -58,7 +58,7 @@ Judge {X} form place reads name bytes next outcome =
     IsNoInput reads ((form.limit < length bytes) × (outcome ≡ TooLong name))
     ⊎ ((length bytes ≤ form.limit)
     × (IsNoInput reads ((refusal : List ℕ) × form.Refuses bytes refusal × (outcome ≡ Refused name form.kind refusal))
-    ⊎ ((value : X) × form.Reads bytes value × Follows reads place (next value outcome))))
+    ⊎ ((value : X) × form.Reads bytes value × GoesOn reads place (next value outcome))))
 
 -- The input at this place is taken in its turn. It can't be read; or the bytes that it holds are judged, and then it is
 -- the turn of what follows.

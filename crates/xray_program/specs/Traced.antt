@@ -19,7 +19,7 @@ use Rattle.traced_run.specs.Losses.{AreLost}
 use Rattle.traced_run.specs.Runs.{IsRun, ThreadRun}
 use Rattle.trace_flush.specs.Audit.{audit_text}
 use Rattle.trace_flush.specs.Flush.{IsTraceOf, trace_bytes}
-use Rattle.trace_flush.specs.Lines.{accounts_of}
+use Rattle.trace_flush.specs.Lines.{audits_of}
 
 -- the state texts of threads, one after another, numbered from a number on
 abbrev pub state_texts : ℕ → List ThreadRun → List ℕ
@@ -28,7 +28,7 @@ state_texts number (run ∷ runs) = state_text number run.end run.last run.marks
 
 -- the outputs of a run, each a name and its bytes: the trace, and then the audit
 abbrev pub written_of : (trace audit : List ℕ) → Setup → List ThreadRun → List (List ℕ × List ℕ)
-written_of trace audit setup runs = (trace, trace_bytes setup runs) ∷ (audit, audit_text setup (accounts_of setup runs)) ∷ []
+written_of trace audit setup runs = (trace, trace_bytes setup runs) ∷ (audit, audit_text setup (audits_of setup runs)) ∷ []
 
 -- What lawful runs of the threads leave is written: the trace, the audit, and as text the state texts, thread 1 first.
 pub record Traces (Lawful : List ThreadRun → Type 0) (program : Program) (setup : Setup) (trace audit : List ℕ)
@@ -74,5 +74,5 @@ pub record IsTraced (Lawful : Program → Plan → List ThreadRun → (ℕ → L
   pub short : length file ≤ trace_limit
   pub reads_back : trace_of file ≡ Ok traced.trace
   pub trace_holds : after.desk.held trace ≡ made_to_hold (before.desk.held trace) file
-  pub audit_holds : after.desk.held audit ≡ made_to_hold (before.desk.held audit) (audit_text setup (accounts_of setup runs))
+  pub audit_holds : after.desk.held audit ≡ made_to_hold (before.desk.held audit) (audit_text setup (audits_of setup runs))
   pub out : Adds before.out.written after.out.written (state_texts 1 runs)

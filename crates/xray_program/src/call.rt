@@ -3,7 +3,7 @@ ghost use Rattle.std.specs.Prelude.{◌≡◌, ◌↔◌, IfErr, IfOk, IsFalse, 
 ghost use Rattle.command_words.specs.{Items.{texts}, Ranges.{HasRanges}, Views.{command_view}};
 ghost use Rattle.command_words.specs.Words.{reading};
 ghost use Rattle.xray_io.specs.World.{desk_view, sink_view};
-ghost use Rattle.xray_program.specs.{Answers.{Answered, Says}, Commands.{IsStill, is_report}, Outcomes.{NoMemory, line_at}};
+ghost use Rattle.xray_program.specs.{Answers.{Answered, Says}, Commands.{IsStill, is_report}, Outcomes.{NoMemory, err_line_at}};
 ghost use Rattle.xray_program.specs.private.CallLaws.{CallLaws};
 ghost use Rattle.xray_program.specs.private.Stops.{answer_of, told_of, IsUnsaid};
 ghost use Rattle.xray_program.specs.private.Works.{Ends, FitsTraces, IsOther, SaidFits};
@@ -109,7 +109,7 @@ pub fn may_wait(words: &[String]) -> bool
 pub fn out_of_memory<E: Sink>(err: &mut E) -> u8
     ensures status { result ≡ 5 }
     ensures says { let heard = sink_view E.written E.faults in
-        Says (heard err.old) (heard err.new) (line_at NoMemory) }
+        Says (heard err.old) (heard err.new) (err_line_at NoMemory) }
 {
     answer(Err(Stop::NoMemory), err)
 }

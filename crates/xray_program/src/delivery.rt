@@ -3,7 +3,7 @@ ghost use Rattle.std.specs.Prelude.{◌≡◌, ℕ, List, [], ◌∷◌, Contain
 ghost use Rattle.fault_words.specs.Words.{words_text};
 ghost use Rattle.xray_io.specs.Calls.{Went};
 ghost use Rattle.xray_io.specs.World.{desk_view, sink_view};
-ghost use Rattle.xray_program.specs.Outputs.{AreWhole};
+ghost use Rattle.xray_program.specs.Outputs.{OutputsAreWhole};
 ghost use Rattle.xray_program.specs.private.Works.{AreMakings, Delivers, KeepsOthers, StopsOutputs, names_of};
 
 use crate::stop::Stop;
@@ -24,7 +24,7 @@ pub(crate) trait Outputs<'a> {
     /// Creates and writes each output in its turn. After one that failed, nothing more is done.
     fn write<D: Desk>(&self, desk: &mut D) -> Result<(), Stop<'a>>
         requires { ready self.now }
-        ensures whole { OnOk result (AreWhole (all self.now) (D.held desk.old) (D.held desk.new)) }
+        ensures whole { OnOk result (OutputsAreWhole (all self.now) (D.held desk.old) (D.held desk.new)) }
         ensures stops { let seen = desk_view D.held D.read_faults D.write_faults in
             IfErr result (StopsOutputs (all self.now) (seen desk.old) (seen desk.new)) }
         ensures made { let seen = desk_view D.held D.read_faults D.write_faults in

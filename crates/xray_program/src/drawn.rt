@@ -1,7 +1,7 @@
 //! The inputs of `soak`, which are drawn from a number, and their replay.
 ghost use Rattle.std.specs.Prelude.{◌≡◌, ◌<◌, ◌≤◌, ℕ, length, IfErr, IfOk, None, Ok};
 ghost use Rattle.std.specs.Str.Lines.{lines};
-ghost use Rattle.asm_text.specs.{Assembling.{said_by}, Layout.{Lines}, Programs.{program_said}};
+ghost use Rattle.asm_text.specs.{Assembling.{statements_said}, Layout.{StatementLines}, Programs.{program_said}};
 ghost use Rattle.patch_script.specs.{Plans.{waiting_line}, Refusals.{commands_of}};
 ghost use Rattle.soak_inputs.specs.Inputs.{soak_script, soak_text};
 ghost use Rattle.step_sim.specs.Replayed.{IsSimulated};
@@ -93,9 +93,9 @@ pub(crate) fn drawn_inputs(alloc: Global, number: u64) -> Result<SimInputs, NoMe
 
 /// The image that a text is assembled to.
 fn image_of(alloc: Global, text: &[u8]) -> Result<Image, NoMemory>
-    requires said { (said : Lines) × (said_by text.now ≡ Ok said) }
+    requires said { (said : StatementLines) × (statements_said text.now ≡ Ok said) }
     requires few { length (lines text.now) < u32.MAX }
-    ensures { (said : Lines) → said_by text.now ≡ Ok said → IfOk result (λ program. program ≡ program_said 1 said) }
+    ensures { (said : StatementLines) → statements_said text.now ≡ Ok said → IfOk result (λ program. program ≡ program_said 1 said) }
 {
     let file = unrefused(assemble(alloc, text, THRESHOLD))?;
     unrefused(read_image(alloc, &file))

@@ -2,7 +2,7 @@
 ghost use Rattle.std.specs.Prelude.{◌≡◌, ◌++◌};
 ghost use Rattle.fault_words.specs.Words.{words_text};
 ghost use Rattle.xray_io.specs.{Piece.{text_of}, World.{sink_view}};
-ghost use Rattle.xray_program.specs.{Answers.{Says}, Outcomes.{Refused, err_line, line_of}};
+ghost use Rattle.xray_program.specs.{Answers.{Says}, Outcomes.{Refused, err_line, err_line_of}};
 ghost use Rattle.xray_program.specs.private.Stops.{stop_line, stop_status};
 
 use fault_words::Words;
@@ -88,7 +88,7 @@ impl Stop<'_> {
 
 /// The line on err for an input that is refused.
 fn refused_line<'x>(name: &'x str, kind: &'x str, words: &Words<'x>) -> [Piece<'x>; 10]
-    ensures { text_of result ≡ line_of (Refused name.now kind.now (words_text words.now)) }
+    ensures { text_of result ≡ err_line_of (Refused name.now kind.now (words_text words.now)) }
 {
     [
         PROGRAM,

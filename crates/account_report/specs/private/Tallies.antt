@@ -10,7 +10,7 @@ use Rattle.fdr_record.specs.declared.event.Kind.{Kind}
 use Rattle.fdr_record.specs.declared.event.Kind.TheVariants.{Entry, Exit, TailExit}
 use Rattle.stack_rebuild.specs.declared.call.Pair.{Pair}
 use Rattle.stack_rebuild.specs.Calls.{Standing, standing_after}
-use Rattle.stack_rebuild.specs.Histories.{Logged, logged, of_thread}
+use Rattle.stack_rebuild.specs.Histories.{Logged, logged, history_of_thread}
 use Rattle.account_report.specs.declared.row.AccountRow.{AccountRow}
 use Rattle.account_report.specs.Account.{durations_of, is_entry_of, is_exit_of, row_from}
 use Rattle.account_report.specs.Ascending.{ascending}
@@ -56,7 +56,7 @@ has_event history func = list_any (λ l. l.event.func == func) history
 
 -- each thread is where its part of a history brings it
 pub record AreStanding (threads : Table Standing) (history : List Logged) : Type 0 where
-  pub each : (thread : ℕ) → standing_in threads thread ≡ standing_after (of_thread thread history)
+  pub each : (thread : ℕ) → standing_in threads thread ≡ standing_after (history_of_thread thread history)
 
 -- what is kept of the functions is what a history says of them
 pub record AreTallies (tallies : Table Tallied) (history : List Logged) : Type 0 where
@@ -69,7 +69,7 @@ going_on thread events history = reverse (map (logged thread) events) ++ history
 
 -- the calls of a thread and the tallies of the functions, after a history
 pub record Reached (thread : ℕ) (history : List Logged) (calls : Standing) (tallies : Table Tallied) : Type 0 where
-  pub stands : calls ≡ standing_after (of_thread thread history)
+  pub stands : calls ≡ standing_after (history_of_thread thread history)
   pub tallied : AreTallies tallies history
 
 -- the row of a function with these durations, in any order, and with these numbers of entries and exits; each pair has

@@ -12,7 +12,7 @@ use Rattle.asm_text.specs.declared.name_table.NameTable.{NameTable}
 use Rattle.asm_text.specs.declared.first_pass.NumberedStatement.{NumberedStatement}
 use Rattle.asm_text.specs.declared.first_pass.FirstPass.{FirstPass}
 use Rattle.asm_text.specs.Statements.{Statement, Base, Entry, Func, Label, Does}
-use Rattle.asm_text.specs.Layout.{Lines, unless_never, is_function, is_instruction, base_in, entry_in_line, defines, widths, sleds_of, parts_of, all_parts, owner_of}
+use Rattle.asm_text.specs.Layout.{StatementLines, unless_never, is_function, is_instruction, base_in, entry_in_line, defines, widths, sleds_of_part, parts_of_line, all_parts, owner_of}
 use Rattle.asm_text.specs.private.NameTables.{line_named}
 use Rattle.asm_text.specs.Refusals.{has_function, is_bare, exceeds_limits, repeats}
 use Rattle.asm_text.specs.private.Views.{statement_said}
@@ -27,7 +27,7 @@ abbrev pub traced_after : Bool → Statement → Bool
 traced_after traced statement = (owner_of unless_never 0 (record { traced = traced; always = false; start = 0 }) statement []).traced
 
 -- the same after several lines
-abbrev pub traced_by : Bool → Lines → Bool
+abbrev pub traced_by : Bool → StatementLines → Bool
 traced_by traced [] = traced
 traced_by traced (line ∷ following) = traced_by (traced_after traced line.1) following
 
@@ -37,7 +37,7 @@ lacks_lines Bare = true
 lacks_lines standing = false
 
 -- the totals are those of the lines
-pub record IsTotals (lines : Lines) (t : Totals) : Type 0 where
+pub record IsTotals (lines : StatementLines) (t : Totals) : Type 0 where
   pub has_base : t.has_base ≡ list_any (λ line. is_some (base_in line.1)) lines
   pub has_entry : t.has_entry ≡ list_any (λ line. is_some (entry_in_line line.1)) lines
   pub begun : has_begun t.standing ≡ has_function lines
@@ -45,7 +45,7 @@ pub record IsTotals (lines : Lines) (t : Totals) : Type 0 where
   pub traced : t.traced ≡ traced_by false lines
   pub functions : t.functions ≡ count_by (λ line. is_function line.1) lines
   pub code : t.code ≡ widths (all_parts unless_never lines)
-  pub sleds : t.sleds ≡ sum_by sleds_of (all_parts unless_never lines)
+  pub sleds : t.sleds ≡ sum_by sleds_of_part (all_parts unless_never lines)
 
 -- the new totals are the old ones after one more statement
 pub record Follows (old : Totals) (statement : Statement) (new : Totals) : Type 0 where
@@ -55,8 +55,8 @@ pub record Follows (old : Totals) (statement : Statement) (new : Totals) : Type 
   pub bare : lacks_lines new.standing ≡ (if is_function statement then true else if is_instruction statement then false else lacks_lines old.standing)
   pub traced : new.traced ≡ traced_after old.traced statement
   pub functions : new.functions ≡ old.functions + (if is_function statement then 1 else 0)
-  pub code : new.code ≡ old.code + widths (parts_of new.traced old.code statement)
-  pub sleds : new.sleds ≡ old.sleds + sum_by sleds_of (parts_of new.traced old.code statement)
+  pub code : new.code ≡ old.code + widths (parts_of_line new.traced old.code statement)
+  pub sleds : new.sleds ≡ old.sleds + sum_by sleds_of_part (parts_of_line new.traced old.code statement)
 
 -- a limit is exceeded
 abbrev pub totals_exceed : Totals → Bool
@@ -72,16 +72,16 @@ pub record IsWithin (t : Totals) : Type 0 where
 abbrev pub line_in : NumberedStatement → ℕ × Statement
 line_in entry = (entry.line, statement_said entry.statement)
 
-abbrev pub lines_in : List NumberedStatement → Lines
+abbrev pub lines_in : List NumberedStatement → StatementLines
 lines_in entries = map line_in entries
 
 -- the line that defines a name, counted from 0
-abbrev pub defined_at : List ℕ → Lines → Option ℕ
+abbrev pub defined_at : List ℕ → StatementLines → Option ℕ
 defined_at name [] = None
 defined_at name (line ∷ following) = if defines name line.1 then Some 0 else option_map suc (defined_at name following)
 
 -- the names are those that the lines define
-abbrev pub IsNames : Lines → NameTable → Type 0
+abbrev pub IsNames : StatementLines → NameTable → Type 0
 IsNames lines names = (q : List ℕ) → line_named names q ≡ defined_at q lines
 
 -- the totals and the names are those of the lines, which exceed no limit
@@ -99,7 +99,7 @@ name_defined (Label name) = Some name
 name_defined (Does operation) = None
 
 -- the rows that come after those of the statement itself
-abbrev pub taken : Lines → ℕ → Statement → Result Lines AsmFault
+abbrev pub taken : StatementLines → ℕ → Statement → Result StatementLines AsmFault
 taken before number statement =
     if repeats before statement then Err (faults.Repeat number)
     else if exceeds_limits (before ++ (number, statement) ∷ []) then Err (faults.Limit number)
@@ -119,11 +119,11 @@ Admits pass number statement (Ok totals) =
 Admits pass number statement (Err fault) = taken (lines_in pass.entries.items) number statement ≡ Err fault
 
 -- an answer of the pass: it has the lines of the verdict, or the verdict's refusal, or memory ran out
-abbrev pub Takes : {X : Type 0} → Result X AsmFault → Result Lines AsmFault → FirstPass → Type 0
+abbrev pub Takes : {X : Type 0} → Result X AsmFault → Result StatementLines AsmFault → FirstPass → Type 0
 Takes (Ok x) answer pass = (answer ≡ Ok (lines_in pass.entries.items)) × IsFirstPass pass
 Takes (Err fault) answer pass = (fault ≡ faults.NoMemory) ⊎ (answer ≡ Err fault)
 
 -- the same for the pass that is the answer
-abbrev pub Reads : Result FirstPass AsmFault → Result Lines AsmFault → Type 0
+abbrev pub Reads : Result FirstPass AsmFault → Result StatementLines AsmFault → Type 0
 Reads (Ok pass) answer = (answer ≡ Ok (lines_in pass.entries.items)) × IsFirstPass pass
 Reads (Err fault) answer = (fault ≡ faults.NoMemory) ⊎ (answer ≡ Err fault)

@@ -3,7 +3,7 @@ use Rattle.std.specs.Prelude.{◌≡◌, ◌≤◌, ◌%◌, length, [], ◌∷�
 use Rattle.subset_decode.specs.Encoding.{IsNamed}
 use Rattle.xray_image.specs.Limits.{highest_base}
 use Rattle.asm_text.specs.Statements.{Operation, Plain, Go, TailJump, Return, Statement, Base, Entry, Func, Label, Does}
-use Rattle.asm_text.specs.Layout.{Lines}
+use Rattle.asm_text.specs.Layout.{StatementLines}
 
 -- an instruction that goes to no name is one of the subset
 abbrev pub OperationFits : Operation → Type 0
@@ -21,6 +21,6 @@ Fits (Label name) = ⊤
 Fits (Does operation) = OperationFits operation
 
 -- all statements fit
-abbrev pub AllFit : Lines → Type 0
+abbrev pub AllFit : StatementLines → Type 0
 AllFit [] = ⊤
 AllFit (line ∷ following) = Fits line.1 × AllFit following

@@ -6,7 +6,7 @@ use Rattle.xray_image.specs.Limits.{most_code}
 use Rattle.asm_text.specs.declared.layout.Owner.{Owner as CodeOwner}
 use Rattle.asm_text.specs.declared.layout.Laid.{Laid}
 use Rattle.asm_text.specs.declared.name_table.NameTable.{NameTable}
-use Rattle.asm_text.specs.Layout.{Lines, Owner, Placed, Part, piece_of, next_place, place_of}
+use Rattle.asm_text.specs.Layout.{StatementLines, Owner, Placed, Part, piece_of, next_place, place_of}
 use Rattle.asm_text.specs.private.FirstPass.{IsNames}
 use Rattle.asm_text.specs.private.Views.{statement_said}
 
@@ -30,7 +30,7 @@ next_places [] = []
 next_places (p ∷ following) = next_place (p ∷ following) ∷ next_places following
 
 -- the lines without their places
-abbrev pub lines_of : List Placed → Lines
+abbrev pub lines_of : List Placed → StatementLines
 lines_of lines = map (λ p. (p.line, p.statement)) lines
 
 -- the table of names and the next places are those of the lines, and each name's place is within the code

@@ -15,8 +15,8 @@ use Rattle.asm_text.specs.declared.statement.Operation.TheVariants as checked
 use Rattle.asm_text.specs.declared.statement.AnyStatement.{AnyStatement}
 use Rattle.asm_text.specs.declared.statement.AnyStatement.TheVariants as said
 use Rattle.asm_text.specs.Statements.{Operation, Plain, Go, TailJump, Return, Statement, Base, Entry, Func, Label, Does}
-use Rattle.asm_text.specs.Layout.{Lines}
-use Rattle.asm_text.specs.Refusals.{with_line, judged, operation_reserves, operation_exceeds, names_reserved, is_out_of_range}
+use Rattle.asm_text.specs.Layout.{StatementLines}
+use Rattle.asm_text.specs.Refusals.{statement_with_line, statement_judged, operation_reserves, operation_exceeds, names_reserved, is_out_of_range}
 
 abbrev pub operation_written : RawOperation → Operation
 operation_written (written.Mov dst imm) = Plain (instrs.Mov dst imm)
@@ -76,9 +76,9 @@ statement_said = statement_by operation_checked
 
 -- what reading a line means for the text, whatever lines come before it
 abbrev pub LineGives : ℕ → List ℕ → Result (Option (AnyStatement RawOperation)) AsmFault → Type 0
-LineGives number line (Ok None) = (before : Lines) → with_line before (number, line) ≡ Ok before
-LineGives number line (Ok (Some says)) = (before : Lines) → with_line before (number, line) ≡ judged before number (statement_spoken says)
-LineGives number line (Err fault) = (before : Lines) → with_line before (number, line) ≡ Err fault
+LineGives number line (Ok None) = (before : StatementLines) → statement_with_line before (number, line) ≡ Ok before
+LineGives number line (Ok (Some says)) = (before : StatementLines) → statement_with_line before (number, line) ≡ statement_judged before number (statement_spoken says)
+LineGives number line (Err fault) = (before : StatementLines) → statement_with_line before (number, line) ≡ Err fault
 
 -- an operation or a statement with checked operands, or the refusal of its line
 abbrev pub operation_of : ℕ → Operation → Result Operation AsmFault

@@ -10,7 +10,7 @@ use Rattle.fdr_file.specs.declared.trace.Block.{Block}
 use Rattle.stack_rebuild.specs.declared.stack_row.StackFault.{StackFault}
 use Rattle.stack_rebuild.specs.declared.stack_row.StackFault.TheVariants.{Deep, NoMemory}
 use Rattle.stack_rebuild.specs.declared.thread_blocks.ThreadBlocks.{ThreadBlocks}
-use Rattle.stack_rebuild.specs.Histories.{events_of}
+use Rattle.stack_rebuild.specs.Histories.{events_of_thread}
 use Rattle.stack_rebuild.specs.Stacks.{threads_of}
 
 -- what stands for a block that isn't there
@@ -31,7 +31,7 @@ places_in places thread = unwrap_or (option_map (λ list. list.items) (get nat_c
 
 -- the places are those of the first blocks of a list
 pub record ArePlaces (blocks first : List Block) (places : Places) : Type 0 where
-  pub each : (thread : ℕ) → events_at blocks (places_in places thread) ≡ events_of thread first
+  pub each : (thread : ℕ) → events_at blocks (places_in places thread) ≡ events_of_thread thread first
   pub present : (thread : ℕ) → is_some (get nat_cmp places thread) ≡ list_any (λ block. block.thread == thread) first
 
 -- a fault is want of memory, or it names a thread for which this holds
@@ -42,7 +42,7 @@ IsFaultOf (Deep deep) thread P = (deep ≡ thread) × P
 -- threads with the places of their blocks are the threads of blocks, in ascending order
 pub record AreThreads (blocks : List Block) (threads : List ThreadBlocks) : Type 0 where
   pub are : map (λ own. own.thread) threads ≡ threads_of blocks
-  pub told : All (λ own. events_at blocks own.places.items ≡ events_of own.thread blocks) threads
+  pub told : All (λ own. events_at blocks own.places.items ≡ events_of_thread own.thread blocks) threads
 
 -- a thread of a map with the places of its blocks
 abbrev pub thread_of : ℕ × Vec ℕ → ThreadBlocks

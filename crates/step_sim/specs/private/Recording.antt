@@ -5,7 +5,7 @@ use Rattle.machine_step.specs.declared.end.End.{End}
 use Rattle.machine_step.specs.declared.limits.Limits.{Limits}
 use Rattle.machine_step.specs.Events.{events_in}
 use Rattle.machine_step.specs.PlainStep.{Passing, PlainRun, State}
-use Rattle.machine_step.specs.Traced.{Traced, sleds_of}
+use Rattle.machine_step.specs.Traced.{Traced, sleds_passed}
 use Rattle.step_sim.specs.declared.patcher.Patcher.{Patcher}
 use Rattle.step_sim.specs.declared.pool.Pool.{Pool}
 use Rattle.step_sim.specs.declared.turns.Turns.{Turns}
@@ -37,7 +37,7 @@ histories r moment thread = if thread == 0 then [] else events_at r.cast r.passe
 pub record IsTraced (r : Recording) : Type 0 where
   pub run : (thread : ℕ) → 0 < thread → thread ≤ r.threads
       → (end : End) × (last : State) × PlainRun r.cast.program r.limits thread (of_thread r.passed thread) end last
-  pub sleds : (thread : ℕ) → 0 < thread → thread ≤ r.threads → of_thread r.cast.passings thread ≡ sleds_of (of_thread r.passed thread)
+  pub sleds : (thread : ℕ) → 0 < thread → thread ≤ r.threads → of_thread r.cast.passings thread ≡ sleds_passed (of_thread r.passed thread)
   pub small : (thread : ℕ) → 0 < thread → thread ≤ r.threads → All (λ p. p.id < 2 ^ 28) (of_thread r.passed thread)
 
 -- the pool holds the events of all threads

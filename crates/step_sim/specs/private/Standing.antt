@@ -10,7 +10,7 @@ use Rattle.machine_step.specs.declared.end.End.{End}
 use Rattle.machine_step.specs.declared.limits.Limits.{Limits}
 use Rattle.machine_step.specs.declared.want.Want.TheVariants.{Done}
 use Rattle.machine_step.specs.PlainStep.{Passing}
-use Rattle.machine_step.specs.Traced.{HasLoaded, IsThreadOf, StandsAs, Traced, sleds_of}
+use Rattle.machine_step.specs.Traced.{HasLoaded, IsThreadOf, StandsAs, Traced, sleds_passed}
 use Rattle.step_sim.specs.declared.patcher.Patcher.{Patcher}
 use Rattle.step_sim.specs.Along.{IsAlong}
 use Rattle.step_sim.specs.Replay.{Cast, Moment, of_thread}
@@ -34,7 +34,7 @@ pub record IsThreadAt (cast : Cast) (moment : Moment) (t : Traced) : Type 0 wher
   pub no_hold : hold_of t.thread cast.script ≡ None
   pub free : t.hold ≡ None
   pub passed : List Passing
-  pub sleds : of_thread cast.passings t.thread ≡ sleds_of passed
+  pub sleds : of_thread cast.passings t.thread ≡ sleds_passed passed
   pub loaded : HasLoaded t passed (of_thread moment.loads t.thread)
 
 -- the patcher and the thread are at a moment, and the thread's words exist

@@ -5,16 +5,16 @@ use Rattle.machine_step.specs.Texts.{end_text, line_feed, marks_line}
 use Rattle.trace_flush.specs.declared.audit.Detail.{Detail}
 use Rattle.trace_flush.specs.declared.audit.Detail.TheVariants.{Audit, Summary}
 use Rattle.trace_flush.specs.declared.line.AuditLine.{AuditLine}
-use Rattle.trace_flush.specs.Audit.{Account, thread_lines}
+use Rattle.trace_flush.specs.Audit.{ThreadAudit, thread_lines}
 use Rattle.trace_flush.specs.Summary.{summary_line}
 
 -- what the audit or the summary says of a thread
-abbrev pub said_of : Detail → Account → List ℕ
+abbrev pub said_of : Detail → ThreadAudit → List ℕ
 said_of Audit = thread_lines
 said_of Summary = summary_line
 
 -- how it ended, its passings and those that recorded an event
-abbrev pub start_text : Account → List ℕ
+abbrev pub start_text : ThreadAudit → List ℕ
 start_text (line, marks) =
     codes "thread " ++ decimal line.thread ++ codes " " ++ end_text line.end ++ codes " passings " ++ decimal (length marks)
     ++ codes " recorded " ++ decimal (recorded_count marks)
@@ -28,6 +28,6 @@ abbrev pub segments_text : AuditLine → List ℕ
 segments_text line = codes " segments " ++ decimal line.segments ++ first_text line
 
 -- what is said of it after its start
-abbrev pub rest_of : Detail → Account → List ℕ
+abbrev pub rest_of : Detail → ThreadAudit → List ℕ
 rest_of Audit (line, marks) = segments_text line ++ marks_line marks
 rest_of Summary (line, marks) = first_text line

@@ -3,10 +3,10 @@ use Rattle.std.specs.Prelude.{◌≡◌, ◌≤◌, ℕ, List, ◌++◌, length,
 use Rattle.std.specs.List.{enumerate_from}
 use Rattle.account_report.specs.Account.{account_of}
 use Rattle.account_report.specs.declared.row.AccountRow.{AccountRow}
-use Rattle.asm_text.specs.Assembling.{image_of, said_by}
-use Rattle.asm_text.specs.Layout.{Lines}
+use Rattle.asm_text.specs.Assembling.{image_of, statements_said}
+use Rattle.asm_text.specs.Layout.{StatementLines}
 use Rattle.asm_text.specs.Programs.{program_said}
-use Rattle.asm_text.specs.Writing.{file_bytes}
+use Rattle.asm_text.specs.Writing.{image_bytes}
 use Rattle.fdr_file.specs.Traces.{trace_of}
 use Rattle.fdr_file.specs.declared.trace.Trace.{Trace}
 use Rattle.machine_step.specs.Texts.{line_feed}
@@ -15,7 +15,7 @@ use Rattle.patch_script.specs.WrittenScripts.{written_plan}
 use Rattle.soak_inputs.specs.Inputs.{soak_commands, soak_schedule, soak_script, soak_text, soak_turns}
 use Rattle.soak_inputs.specs.Said.{soak_said}
 use Rattle.step_sim.specs.Schedules.{schedule_of}
-use Rattle.trace_flush.specs.Audit.{Account}
+use Rattle.trace_flush.specs.Audit.{ThreadAudit}
 use Rattle.trace_flush.specs.Summary.{summary_text}
 use Rattle.xray_image.specs.Ids.{id_count}
 use Rattle.xray_image.specs.Program.{IsAccepted, Program}
@@ -23,12 +23,12 @@ use Rattle.xray_program.specs.Soak.{trace_lines}
 
 -- what is assembled of a text is the image of the program that the text says
 abbrev pub Assembles : Type 0
-Assembles = (text : List ℕ) (threshold : ℕ) (said : Lines) → said_by text ≡ Ok said
-    → IsAccepted (file_bytes (image_of threshold said)) (program_said threshold said)
+Assembles = (text : List ℕ) (threshold : ℕ) (said : StatementLines) → statements_said text ≡ Ok said
+    → IsAccepted (image_bytes (image_of threshold said)) (program_said threshold said)
 
 -- each input of a number is read as what was drawn of the number
 pub record InputLaws : Type 0 where
-  pub said : (number : ℕ) → said_by (soak_text number) ≡ Ok (soak_said number)
+  pub said : (number : ℕ) → statements_said (soak_text number) ≡ Ok (soak_said number)
   pub ids : (number threshold : ℕ) → id_count (program_said threshold (soak_said number)) ≡ 64
   pub plan : (number : ℕ) (program : Program) → 64 ≤ id_count program
       → plan_of program 4 (soak_script number) ≡ Ok (written_plan program 4 (soak_commands number))
@@ -44,6 +44,6 @@ pub record IsReadBack (file : List ℕ) (bytes : ℕ) (rows : List AccountRow) :
   pub rows_are : rows ≡ account_of trace
 
 -- a summary of what threads, a file and an account say
-abbrev pub summary_with : (number : ℕ) → List Account → (bytes : ℕ) → List AccountRow → List ℕ
+abbrev pub summary_with : (number : ℕ) → List ThreadAudit → (bytes : ℕ) → List AccountRow → List ℕ
 summary_with number threads bytes rows =
     codes "soak " ++ decimal number ++ line_feed ++ summary_text threads ++ trace_lines bytes rows

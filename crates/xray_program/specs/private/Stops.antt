@@ -2,7 +2,7 @@
 use Rattle.std.specs.Prelude.{◌≡◌, ℕ, List, [], Option, None, Result, Ok, Err}
 use Rattle.command_words.specs.Words.{Command}
 use Rattle.fault_words.specs.Words.{words_text}
-use Rattle.xray_program.specs.Outcomes.{BadLine, Unread, TooLong, Refused, Unwritten, NoMemory, err_line, line_of, line_at}
+use Rattle.xray_program.specs.Outcomes.{BadLine, Unread, TooLong, Refused, Unwritten, NoMemory, err_line, err_line_of, err_line_at}
 use Rattle.xray_program.specs.declared.stop.Stop.{Stop}
 use Rattle.xray_program.specs.declared.stop.Stop.TheVariants as stops
 
@@ -18,12 +18,12 @@ stop_status (stops.Fell trouble) = 7
 
 -- the line on err
 abbrev pub stop_line : Stop → List ℕ
-stop_line stops.BadLine = line_of BadLine
-stop_line (stops.Refused name kind words) = line_of (Refused name.now kind.now (words_text words))
-stop_line (stops.Unread name) = line_of (Unread name.now)
-stop_line (stops.Unwritten name) = line_at (Unwritten name.now [])
-stop_line stops.NoMemory = line_at NoMemory
-stop_line (stops.TooLong name) = line_of (TooLong name.now)
+stop_line stops.BadLine = err_line_of BadLine
+stop_line (stops.Refused name kind words) = err_line_of (Refused name.now kind.now (words_text words))
+stop_line (stops.Unread name) = err_line_of (Unread name.now)
+stop_line (stops.Unwritten name) = err_line_at (Unwritten name.now [])
+stop_line stops.NoMemory = err_line_at NoMemory
+stop_line (stops.TooLong name) = err_line_of (TooLong name.now)
 stop_line (stops.Fell trouble) = err_line (words_text trouble)
 
 -- why words say no command: they say none, or memory ran out while they were read

@@ -7,7 +7,7 @@ use Rattle.xray_io.specs.Faults.{Rose}
 use Rattle.xray_io.specs.declared.faults.ReadError.{ReadError}
 use Rattle.xray_io.specs.declared.faults.ReadError.TheVariants as errors
 use Rattle.fault_words.specs.Words.{words_text}
-use Rattle.xray_program.specs.Order.{ReadsAll, ReadsWhole, StopsAt}
+use Rattle.xray_program.specs.Order.{ReadsAll, ReadsWhole, StopsAtInput}
 use Rattle.xray_program.specs.Outcomes.{Outcome, Unread, TooLong, Refused}
 use Rattle.xray_program.specs.Taking.{AcceptsFirst, Form, MayHold, DeskReads, Sound, Faulty}
 use Rattle.xray_io.specs.World.{DeskView}
@@ -117,7 +117,7 @@ IsNamed name stop = ⊤
 -- accepted, and no other input was asked for after it.
 abbrev pub StopsTakings : (DeskReads → Outcome → Type 0) → List (List ℕ × ℕ) → Stop → List Call → Type 0
 StopsTakings comes inputs stop calls =
-    (name : List ℕ) × IsNamed name stop × StopsAt comes inputs name (λ limit. StopsTaking name limit stop) calls
+    (name : List ℕ) × IsNamed name stop × StopsAtInput comes inputs name (λ limit. StopsTaking name limit stop) calls
 
 -- the calls of the turns of inputs of which this comes; if each gave a value, each was accepted
 abbrev pub AreTakings : {X : Type 0} → (DeskReads → Outcome → Type 0) → List (List ℕ × ℕ) → Result X Stop → List Call → Type 0

@@ -7,8 +7,8 @@ use Rattle.fault_words.specs.Words.{words_text}
 use Rattle.xray_io.specs.Sink.{Adds}
 use Rattle.xray_program.specs.Commands.{Means, HadItsTurn, outputs_named}
 use Rattle.xray_program.specs.Order.{FailsAtOutput, InOrder, IsNoCall, IsUnmade, MakesAll}
-use Rattle.xray_program.specs.Outcomes.{Outcome, BadLine, Unread, Refused, Done, Fell, Ending, With, Unwritten, NoMemory, status_at, line_at, written_by}
-use Rattle.xray_program.specs.Outputs.{AreWhole, FailsAt, FailsWriting, WritesNothing}
+use Rattle.xray_program.specs.Outcomes.{Outcome, BadLine, Unread, Refused, Done, Fell, Ending, With, Unwritten, NoMemory, status_at, err_line_at, written_by}
+use Rattle.xray_program.specs.Outputs.{OutputsAreWhole, FailsAt, FailsWriting, WritesNothing}
 use Rattle.command_words.specs.Words.{Command, Sim, Run}
 use Rattle.command_words.specs.Limits.{trace_limit}
 use Rattle.machine_step.specs.declared.setup.Setup.{Setup}
@@ -41,7 +41,7 @@ AreMakings outputs desk desk_now (Err stop) calls = ⊥
 
 -- outputs are whole, out has exactly a text, and no fault of out was counted
 pub record Writes (outputs : List (List ℕ × List ℕ)) (text : List ℕ) (desk desk_now : DeskView) (out out_now : SinkView) : Type 0 where
-  pub whole : AreWhole outputs desk.held desk_now.held
+  pub whole : OutputsAreWhole outputs desk.held desk_now.held
   pub printed : Adds out.written out_now.written text
   pub calm : out_now.faults ≡ out.faults
 
@@ -144,7 +144,7 @@ pub record Ends (said : Option Command) (desk desk_now : DeskView) (out out_now 
     (line : List ℕ) : Type 0 where
   pub ending : Ending
   pub status : status_at ending ≡ answer
-  pub told : line_at ending ≡ line
+  pub told : err_line_at ending ≡ line
   pub stands : StandsAfter said desk desk_now out out_now ending
   pub names : KeepsOthers (outputs_named said) desk desk_now
   pub order : Went Way (InOrder said desk desk_now ending)

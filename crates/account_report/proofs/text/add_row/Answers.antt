@@ -4,12 +4,12 @@ use Rattle.std.specs.List.{flat_map}
 use Rattle.std.specs.Option.{option_map}
 use Rattle.xray_io.specs.Text.{adds_more, adds_stop, adds_within, adds_failed}
 use Rattle.function_names.specs.Name.{name_text}
-use Rattle.account_report.specs.AccountText.{column_text, words_of}
+use Rattle.account_report.specs.AccountText.{column_text, column_words}
 use Rattle.account_report.proofs.text.add_row.Goals as goal
 
 pub returns-in_err-add_columns : goal.returns-in_err-add_columns
 returns-in_err-add_columns g c =
-    let columns = flat_map (column_text c.args.format) (words_of c.args.row.now) in
+    let columns = flat_map (column_text c.args.format) (column_words c.args.row.now) in
     let name = name_text (option_map (λ image. image.now) c.args.image) c.args.row.now.func in
     let broken = adds_stop (name ++ codes "\n") c.in_err-add_columns.ensures in
     adds_failed (rw (sym (append_assoc columns name (codes "\n"))) at broken) c.from_residual.result c.from_residual.ensures.1

@@ -3,7 +3,7 @@ use Rattle.std.specs.List.{flat_map}
 use Rattle.std.proofs.lemmas.Grind.{common_steps}
 use Rattle.xray_image.specs.Units.{piece_bytes}
 use Rattle.asm_text.specs.Layout.{pieces, functions, map_entries}
-use Rattle.asm_text.specs.Writing.{header_of, function_bytes, entry_bytes}
+use Rattle.asm_text.specs.Writing.{image_header, function_bytes, entry_bytes}
 use Rattle.asm_text.specs.private.LaidTexts.{all_in}
 use Rattle.asm_text.specs.private.Files.{IsHeaderOf}
 use Rattle.asm_text.proofs.WriteLemmas.{file_parts}
@@ -17,7 +17,7 @@ returns c =
     let same : code ≡ flat_map piece_bytes (pieces all) = grind (arith, common_steps) in
     let lent : c.deref.result.now ≡ code = c.deref.ensures.value in
     let is : IsHeaderOf all (length code) h = subst (λ xs. IsHeaderOf all (length xs) h) lent c.header_of-header.ensures in
-    let head : c.push_header.new.out.items ≡ header_of h.base h.code h.functions h.entries h.entry = grind (arith, common_steps) in
+    let head : c.push_header.new.out.items ≡ image_header h.base h.code h.functions h.entries h.entry = grind (arith, common_steps) in
     let with_code : c.extend_from_slice.new.self.items ≡ c.push_header.new.out.items ++ code = grind (arith, common_steps) in
     let with_functions : c.push_functions.new.out.items ≡ c.extend_from_slice.new.self.items ++ flat_map function_bytes (functions h.base all) = grind (arith, common_steps) in
     let with_map : c.push_map.new.out.items ≡ c.push_functions.new.out.items ++ flat_map entry_bytes (map_entries h.base all) = grind (arith, common_steps) in

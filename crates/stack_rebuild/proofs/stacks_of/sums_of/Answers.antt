@@ -4,7 +4,7 @@ use Rattle.std.proofs.lemmas.Result.{err_from_is_err_and}
 use Rattle.stack_rebuild.specs.declared.scan.TheConstants.{MOST_OPEN}
 use Rattle.stack_rebuild.specs.declared.thread_blocks.ThreadBlocks.{ThreadBlocks}
 use Rattle.stack_rebuild.specs.private.ByThread.{AreThreads, IsFaultOf, events_at}
-use Rattle.stack_rebuild.specs.Histories.{events_of}
+use Rattle.stack_rebuild.specs.Histories.{events_of_thread}
 use Rattle.stack_rebuild.specs.private.Scanning.{AreSums}
 use Rattle.stack_rebuild.specs.Stacks.{gets_deep, timed_in}
 use Rattle.stack_rebuild.proofs.Adding.{adds_thread, deep_thread, shallow_thread, whole_shallow, whole_sums}
@@ -16,7 +16,7 @@ adding-preserved c =
     let items = c.as_slice-own-items.result.now in
     let own : AreThreads blocks items = subst (AreThreads blocks) (sym c.as_slice-own-items.ensures.value) c.in_ok-threads.ensures in
     let low : c.adding.own-index < length items = omega (arith, c.adding-test.true) in
-    let before = flat_map (λ (thread : ℕ). timed_in (events_of thread blocks)) (take c.adding.own-index (map (λ (o : ThreadBlocks). o.thread) items)) in record {
+    let before = flat_map (λ (thread : ℕ). timed_in (events_of_thread thread blocks)) (take c.adding.own-index (map (λ (o : ThreadBlocks). o.thread) items)) in record {
       some = c.in_ok-add_thread.ensures.some;
       summed = adds_thread blocks items c.adding.own-index c.own-item.result c.add_thread.new.sums.paths c.add_thread.new.sums.tallies own low c.own-item.is
           (subst (λ (places : List ℕ). AreSums c.add_thread.new.sums.paths c.add_thread.new.sums.tallies (before ++ timed_in (events_at blocks places)))

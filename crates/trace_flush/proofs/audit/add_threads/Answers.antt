@@ -8,7 +8,7 @@ use Rattle.machine_step.specs.Traced.{Traced}
 use Rattle.trace_flush.specs.declared.line.AuditLine.{AuditLine}
 use Rattle.std.proofs.lemmas.Slice.Zip.{zip_end}
 use Rattle.xray_io.specs.Text.{AddsText, adds_nothing, adds_more, adds_within, adds_failed}
-use Rattle.trace_flush.specs.Audit.{accounts}
+use Rattle.trace_flush.specs.Audit.{thread_audits}
 use Rattle.trace_flush.specs.private.Parts.{said_of}
 use Rattle.trace_flush.proofs.AuditText.{accounts_turn, accounts_split, accounts_all}
 use Rattle.trace_flush.proofs.audit.add_threads.Goals as goal
@@ -24,7 +24,7 @@ threads-init g c = adds_nothing g.met.S.Sink.along_none c.args.text.now
 
 pub threads-preserved : goal.threads-preserved
 threads-preserved g c =
-    let told = accounts c.args.lines.now c.args.cpus.now in
+    let told = thread_audits c.args.lines.now c.args.cpus.now in
     let begun = begins c.iter.ensures.rest c.iter-2.ensures.rest c.zip-line-items.ensures.first c.zip-line-items.ensures.second c.into_iter-line-iterator.ensures.into_iter_gives in
     let more = accounts_turn (said_of c.args.detail) c.args.lines.now c.args.cpus.now c.into_iter-line-iterator.result c.threads.line-iterator c.next.new.self c.threads.yielded c.next.result _ _ begun.0 begun.1 c.threads.yielded_by c.in-Some.is c.next.ensures.steps in
     let next : length c.threads.yielded + 1 ≡ length (c.threads.yielded ++ (c.in-Some.line, c.in-Some.cpu) ∷ []) = sym (length-append c.threads.yielded _) in
@@ -37,7 +37,7 @@ pub returns-in_err-add_thread : goal.returns-in_err-add_thread
 returns-in_err-add_thread g c =
     let begun = begins c.iter.ensures.rest c.iter-2.ensures.rest c.zip-line-items.ensures.first c.zip-line-items.ensures.second c.into_iter-line-iterator.ensures.into_iter_gives in
     let more = accounts_turn (said_of c.args.detail) c.args.lines.now c.args.cpus.now c.into_iter-line-iterator.result c.threads.line-iterator c.next.new.self c.threads.yielded c.next.result _ _ begun.0 begun.1 c.threads.yielded_by c.in-Some.is c.next.ensures.steps in
-    let told = accounts c.args.lines.now c.args.cpus.now in
+    let told = thread_audits c.args.lines.now c.args.cpus.now in
     let i = length c.threads.yielded + 1 in
     let rest = flat_map (said_of c.args.detail) (drop i told) in
     let broken = rw c.marks.ensures at c.in_err-add_thread.ensures in

@@ -1,7 +1,7 @@
 use Rattle.std.proofs.Common.{◌≡◌, ◌+◌, ◌<◌, ◌++◌, [], ◌∷◌, ℕ, List, suc, arith, ap, append_assoc, get_or, length, refl, sym, take, ◌∙◌}
 use Rattle.std.proofs.lemmas.Option.{slice_get-get_or, slice_get_read}
 use Rattle.trace_flush.specs.declared.line.AuditLine.{AuditLine}
-use Rattle.trace_flush.specs.Lines.{line_of, lines_of}
+use Rattle.trace_flush.specs.Lines.{audit_line_of, audit_lines_of}
 use Rattle.trace_flush.proofs.Audited.{lines_more}
 use Rattle.trace_flush.proofs.line.add_audit_lines.Goals as goal
 
@@ -19,16 +19,16 @@ loop-i-preserved c =
     let more = lines_more cpus segments first i t n m (slice_get_read cpus (length cpus) i t refl within c.index-cpus-i.is)
     (slice_get-get_or segments i 0 (omega arith)) (slice_get-get_or first i 0 (omega arith)) in
     let line : AuditLine = record { thread = c.thread.result; end = c.end.result; segments = n; first = m } in
-    let is : line ≡ line_of t n m = rw (c.thread.ensures, c.end.ensures) refl in
-    let so_far = lines_of (take i cpus) (take i segments) (take i first) in
+    let is : line ≡ audit_line_of t n m = rw (c.thread.ensures, c.end.ensures) refl in
+    let so_far = audit_lines_of (take i cpus) (take i segments) (take i first) in
     let next : suc i ≡ i + 1 = omega arith in
     record {
       lines = c.push_reserved.ensures.items
           ∙ ap (λ (x : AuditLine). c.loop-i.lines.items ++ x ∷ []) is
-          ∙ ap (λ (xs : List AuditLine). xs ++ line_of t n m ∷ []) c.loop-i.invariant.lines
-          ∙ append_assoc start so_far (line_of t n m ∷ [])
+          ∙ ap (λ (xs : List AuditLine). xs ++ audit_line_of t n m ∷ []) c.loop-i.invariant.lines
+          ∙ append_assoc start so_far (audit_line_of t n m ∷ [])
           ∙ ap (λ (xs : List AuditLine). start ++ xs) (sym more)
-          ∙ ap (λ (k : ℕ). start ++ lines_of (take k cpus) (take k segments) (take k first)) next;
+          ∙ ap (λ (k : ℕ). start ++ audit_lines_of (take k cpus) (take k segments) (take k first)) next;
       count = grind arith;
       capacity = grind arith;
     }

@@ -1,12 +1,12 @@
 use Rattle.std.proofs.Common.{map, sym, ap, subst}
 use Rattle.xray_io.specs.Text.{AddsText, adds_more, adds_stop, adds_failed}
-use Rattle.trace_flush.specs.Audit.{accounts, recycled_line}
+use Rattle.trace_flush.specs.Audit.{thread_audits, recycled_line}
 use Rattle.trace_flush.proofs.AuditText.{lines_of_accounts}
 use Rattle.trace_flush.proofs.summary.add_summary.Goals as goal
 
 pub returns-in_err-add_threads : goal.returns-in_err-add_threads
 returns-in_err-add_threads g c =
-    let recycled = recycled_line (map (λ thread. thread.0) (accounts c.args.lines.now c.args.cpus.now)) in
+    let recycled = recycled_line (map (λ thread. thread.0) (thread_audits c.args.lines.now c.args.cpus.now)) in
     adds_failed (adds_stop recycled c.in_err-add_threads.ensures) c.from_residual.result c.from_residual.ensures.1
 
 pub returns : goal.returns

@@ -1,7 +1,7 @@
 use Rattle.std.proofs.Common.{◌<◌, ◌∙◌, ℕ, List, Result, All, length, ap, arith, refl, subst, sym}
 use Rattle.std.specs.Prelude.{IfOk}
 use Rattle.std.specs.Str.Lines.{lines}
-use Rattle.asm_text.specs.Assembling.{said_by}
+use Rattle.asm_text.specs.Assembling.{statements_said}
 use Rattle.patch_script.specs.FaultWords.{script_words}
 use Rattle.patch_script.specs.Plans.{Plan}
 use Rattle.patch_script.specs.declared.fault.ScriptFault.TheVariants as script_faults
@@ -21,7 +21,7 @@ use Rattle.xray_program.proofs.drawn.drawn_inputs.Goals as goal
 pub image_of-requires-clause-said : goal.image_of-requires-clause-said
 image_of-requires-clause-said c =
     let number = c.args.number in
-    (soak_said number, ap said_by (c.deref.ensures.value ∙ c.in_ok-text.ensures.text) ∙ c.each_input_is_read.ensures.laws.said number)
+    (soak_said number, ap statements_said (c.deref.ensures.value ∙ c.in_ok-text.ensures.text) ∙ c.each_input_is_read.ensures.laws.said number)
 
 pub read_script-requires-clause-few_lines : goal.read_script-requires-clause-few_lines
 read_script-requires-clause-few_lines c =
@@ -32,7 +32,7 @@ pub unrefused-requires : goal.unrefused-requires
 unrefused-requires c =
     let laws = c.each_input_is_read.ensures.laws in
     let number = c.args.number in
-    let image = c.in_ok-image.ensures (soak_said number) (ap said_by (c.deref.ensures.value ∙ c.in_ok-text.ensures.text) ∙ laws.said number) in
+    let image = c.in_ok-image.ensures (soak_said number) (ap statements_said (c.deref.ensures.value ∙ c.in_ok-text.ensures.text) ∙ laws.said number) in
     unrefused_by script_words script_faults.NoMemory refl c.read_script.result (soak_plan number)
     (script_answer laws number c.in_ok-image.image c.deref-2.result.now image (c.deref-2.ensures.value ∙ c.in_ok-text.ensures.script)
     c.read_script.result c.read_script.ensures.reads)
@@ -49,7 +49,7 @@ pub returns-clause-inputs : goal.returns-clause-inputs
 returns-clause-inputs c =
     let laws = c.each_input_is_read.ensures.laws in
     let number = c.args.number in
-    let image = c.in_ok-image.ensures (soak_said number) (ap said_by (c.deref.ensures.value ∙ c.in_ok-text.ensures.text) ∙ laws.said number) in
+    let image = c.in_ok-image.ensures (soak_said number) (ap statements_said (c.deref.ensures.value ∙ c.in_ok-text.ensures.text) ∙ laws.said number) in
     let plan = plan_is laws number c.in_ok-image.image c.deref-2.result.now image (c.deref-2.ensures.value ∙ c.in_ok-text.ensures.script)
     c.read_script.result c.read_script.ensures.reads c.in_ok-script.script c.in_ok-script.ensures in
     let turns = turns_are laws number c.deref-3.result.now (c.deref-3.ensures.value ∙ c.in_ok-text.ensures.schedule)
@@ -61,7 +61,7 @@ returns-clause-inputs c =
 pub returns-clause-fit : goal.returns-clause-fit
 returns-clause-fit c =
     let laws = c.each_input_is_read.ensures.laws in
-    let text = ap said_by (c.deref.ensures.value ∙ c.in_ok-text.ensures.text) ∙ laws.said c.args.number in
+    let text = ap statements_said (c.deref.ensures.value ∙ c.in_ok-text.ensures.text) ∙ laws.said c.args.number in
     let image = c.in_ok-image.ensures (soak_said c.args.number) text in
     let P : Result (List Turns) ScheduleFault → Type 0 = λ read. IfOk read (All (AreTurnsOf 4)) in
     let plan = plan_is laws c.args.number c.in_ok-image.image c.deref-2.result.now image (c.deref-2.ensures.value ∙ c.in_ok-text.ensures.script)

@@ -4,9 +4,9 @@ use Rattle.std.proofs.lemmas.Result.{IfOk-weaker}
 use Rattle.fdr_buffer.specs.Filled.{Filled}
 use Rattle.fdr_file.specs.Files.{file_bytes}
 use Rattle.machine_step.specs.Traced.{IsDone}
-use Rattle.trace_flush.specs.Audit.{accounts}
-use Rattle.trace_flush.specs.Flush.{header_of}
-use Rattle.trace_flush.specs.Lines.{lines_of}
+use Rattle.trace_flush.specs.Audit.{thread_audits}
+use Rattle.trace_flush.specs.Flush.{run_header}
+use Rattle.trace_flush.specs.Lines.{audit_lines_of}
 use Rattle.trace_flush.specs.declared.line.AuditLine.{AuditLine}
 use Rattle.xray_io.specs.Memory.{sink_bytes}
 use Rattle.xray_io.specs.declared.memory.MemSink.{MemSink}
@@ -45,11 +45,11 @@ returns c =
     let lines = only_lines c.deref-5.result.now c.in_ok-lines.lines.items end.cpus.items c.deref-2.result.now end.segments.items c.deref-3.result.now
     end.first.items c.deref-4.result.now (c.deref-5.ensures.value ∙ c.add_audit_lines.ensures.lines) c.in_ok-lines.ensures.none c.deref-2.ensures.value
     c.deref-3.ensures.value c.deref-4.ensures.value in
-    let threads = accounts c.deref-5.result.now c.deref-6.result.now in
-    let accounted = ap (λ (l : List AuditLine). accounts l c.deref-6.result.now) lines
-    ∙ ap (accounts (lines_of end.cpus.items end.segments.items end.first.items)) c.deref-6.ensures.value
+    let threads = thread_audits c.deref-5.result.now c.deref-6.result.now in
+    let accounted = ap (λ (l : List AuditLine). thread_audits l c.deref-6.result.now) lines
+    ∙ ap (thread_audits (audit_lines_of end.cpus.items end.segments.items end.first.items)) c.deref-6.ensures.value
     ∙ c.a_run_is_audited.ensures soak_setup left.runs end.cpus.items end.segments.items end.first.items end.buffers.items left.leaves in
-    let read = subst (λ (buffers : List Filled). IsReadBack (file_bytes (header_of soak_setup) buffers) back.bytes back.rows.items)
+    let read = subst (λ (buffers : List Filled). IsReadBack (file_bytes (run_header soak_setup) buffers) back.bytes back.rows.items)
     c.deref.ensures.value c.in_ok-back.ensures in
     let text = summary_with c.args.number threads back.bytes back.rows.items in
     IfOk-weaker c.summed_up.result (λ (sink : MemSink). sink_bytes sink ≡ text) (λ (sink : MemSink). IsSummary c.args.number (sink_bytes sink))

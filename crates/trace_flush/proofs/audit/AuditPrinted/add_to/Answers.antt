@@ -1,14 +1,14 @@
 use Rattle.std.proofs.Common.{◌++◌, map, sym, ap, subst, refl, append_assoc}
 use Rattle.std.specs.List.{flat_map}
 use Rattle.xray_io.specs.Text.{AddsText, adds_more, adds_stop, adds_within, adds_failed}
-use Rattle.trace_flush.specs.Audit.{accounts, recycled_line, setup_lines, thread_lines}
+use Rattle.trace_flush.specs.Audit.{thread_audits, recycled_line, setup_lines, thread_lines}
 use Rattle.trace_flush.proofs.AuditText.{lines_of_accounts}
 use Rattle.trace_flush.proofs.audit.AuditPrinted.add_to.Goals as goal
 
 pub returns-in_err-add_setup : goal.returns-in_err-add_setup
 returns-in_err-add_setup g c = record {
   adds =
-      let told = accounts c.args.self.now.lines.now c.args.self.now.cpus.now in
+      let told = thread_audits c.args.self.now.lines.now c.args.self.now.cpus.now in
       let threads = flat_map thread_lines told in
       let recycled = recycled_line (map (λ thread. thread.0) told) in
       let broken = adds_stop (threads ++ recycled) c.in_err-add_setup.ensures in
@@ -18,7 +18,7 @@ returns-in_err-add_setup g c = record {
 pub returns-in_err-add_threads : goal.returns-in_err-add_threads
 returns-in_err-add_threads g c = record {
   adds =
-      let recycled = recycled_line (map (λ thread. thread.0) (accounts c.args.self.now.lines.now c.args.self.now.cpus.now)) in
+      let recycled = recycled_line (map (λ thread. thread.0) (thread_audits c.args.self.now.lines.now c.args.self.now.cpus.now)) in
       adds_failed (adds_within g.met.S.Sink.along_both recycled c.in_ok-add_setup.ensures c.in_err-add_threads.ensures refl)
       c.from_residual-in_err-add_threads.result c.from_residual-in_err-add_threads.ensures.1;
 }
