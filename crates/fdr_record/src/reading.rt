@@ -30,7 +30,7 @@ fn kind(action: u8) -> Result<Kind, RecFault>
 }
 
 /// The function record that the bytes begin with. `first` is their first byte.
-#[tactic(auto, unfolding(crate::specs::Reading::function_at))]
+#[tactic(auto, unfolding(crate::specs::Reading::function_record_at))]
 fn function(first: u8, bytes: &[u8]) -> Result<Rec, RecFault>
     ensures { result ≡ function_record_at first bytes.now }
 {
@@ -47,7 +47,7 @@ fn function(first: u8, bytes: &[u8]) -> Result<Rec, RecFault>
 }
 
 /// The metadata record of this kind, from the bytes after its first byte.
-#[tactic(auto, unfolding(crate::specs::Reading::metadata_at))]
+#[tactic(auto, unfolding(crate::specs::Reading::metadata_record_at))]
 fn metadata(kind: u8, fields: &[u8]) -> Result<Rec, RecFault>
     ensures { result ≡ metadata_record_at kind fields.now }
 {

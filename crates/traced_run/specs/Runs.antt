@@ -17,10 +17,14 @@ pub record ThreadRun : Type 0 where
   pub marks : List Mark
   pub lost : ℕ
 
+-- this holds for each thread of a run, with the thread's number, from 1
+abbrev pub EachThread : List ThreadRun → (ℕ → ThreadRun → Type 0) → Type 0
+EachThread runs Holds = (i : ℕ) (run : ThreadRun) → slice_get runs i ≡ Some run → Holds (i + 1) run
+
 -- The threads of a run, thread 1 first. There are as many as the setup says, and each runs as its plain run does.
 pub record IsRun (program : Program) (setup : Setup) (runs : List ThreadRun) : Type 0 where
   pub count : length runs ≡ setup.threads
-  pub plain : (i : ℕ) (run : ThreadRun) → slice_get runs i ≡ Some run → PlainRun program setup.limits (i + 1) run.passed run.end run.last
+  pub plain : EachThread runs (λ number run. PlainRun program setup.limits number run.passed run.end run.last)
 
 -- the events of a thread: those of the passings that were marked as recorded
 abbrev pub events_of : ThreadRun → List Event
