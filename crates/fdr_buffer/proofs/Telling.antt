@@ -12,7 +12,7 @@ use Rattle.fdr_record.specs.declared.event.Event.{Event}
 use Rattle.fdr_record.specs.declared.rec.Rec.TheVariants.{NewCpu, TscWrap, Function}
 use Rattle.fdr_record.specs.Records.{action_of, head_of, record_bytes}
 use Rattle.fdr_buffer.specs.Segments.{function_record, is_out_of_reach, records_on_new_cpu, records_on_same_cpu, records_of, records_after, bytes_of, segment_bytes, EventFits}
-use Rattle.fdr_buffer.specs.private.Telling.{kind_told, events_after, events_in}
+use Rattle.fdr_buffer.specs.private.Telling.{kind_told, event_first, events_after, events_in}
 
 after_both : (cpu cpu' tsc tsc' : ℕ) (rest : List ℕ) → cpu ≡ cpu' → tsc ≡ tsc' → events_after 0 cpu tsc rest ≡ events_after 0 cpu' tsc' rest
 after_both cpu cpu' tsc tsc' rest e f = rw (e, f) refl
@@ -26,16 +26,16 @@ wrap_told : (cpu tsc t : ℕ) (rest : List ℕ) → t < 2 ^ 64 → events_after 
 unfolding events_after
 wrap_told cpu tsc t rest lt = after_both cpu cpu _ t rest refl (little_number-reads_back 8 t [] lt)
 
-event_made : (cpu tsc func func' delta delta' : ℕ) (kind kind' : Kind) (rest : List ℕ) → func ≡ func' → kind ≡ kind' → delta ≡ delta'
-    → record { cpu = cpu; func = func; kind = kind; tsc = tsc + delta } ∷ events_after 0 cpu (tsc + delta) rest ≡ record { cpu = cpu; func = func'; kind = kind'; tsc = tsc + delta' } ∷ events_after 0 cpu (tsc + delta') rest
-event_made cpu tsc func func' delta delta' kind kind' rest e f g = rw (e, f, g) refl
+event_made : (cpu tsc func func' delta delta' : ℕ) (told : Option Kind) (kind' : Kind) (rest : List ℕ) → func ≡ func' → told ≡ Some kind' → delta ≡ delta'
+    → event_first cpu func (tsc + delta) told (events_after 0 cpu (tsc + delta) rest) ≡ record { cpu = cpu; func = func'; kind = kind'; tsc = tsc + delta' } ∷ events_after 0 cpu (tsc + delta') rest
+event_made cpu tsc func func' delta delta' told kind' rest e f g = rw (e, f, g) refl
 
 action_small : (kind : Kind) → action_of kind < 8
 action_small Entry = omega arith
 action_small Exit = omega arith
 action_small TailExit = omega arith
 
-kind_back : (kind : Kind) → kind_told (action_of kind) ≡ kind
+kind_back : (kind : Kind) → kind_told (action_of kind) ≡ Some kind
 kind_back Entry = refl
 kind_back Exit = refl
 kind_back TailExit = refl

@@ -1,13 +1,12 @@
 -- A file that is a trace by the grammar reads as this trace.
-use Rattle.std.proofs.Common.{◌≡◌, ℕ, suc, ◌+◌, ◌%◌, ◌/◌, ◌≤◌, ◌<◌, Bool, true, false, eqb, ltb, leb, lit≤, List, [], ◌∷◌, ◌++◌, length, take, drop, map, Result, Ok, refl, sym, ap, subst, ◌∙◌, append_assoc, arith}
-use Rattle.std.specs.Prelude.{◌||◌}
+use Rattle.std.proofs.Common.{◌≡◌, ℕ, ◌+◌, ◌%◌, ◌/◌, ◌^◌, ◌≤◌, ◌<◌, Bool, true, false, cond, eqb, ltb, leb, lit≤, List, [], ◌∷◌, ◌++◌, length, take, drop, map, Some, None, Result, Ok, refl, sym, ap, subst, ◌∙◌, append_assoc, arith}
+use Rattle.std.specs.Prelude.{◌*◌, ◌||◌}
 use Rattle.std.specs.List.{flat_map, list_any, AllByRecursion}
-use Rattle.std.proofs.lemmas.Bool.{le-leb, le-ltb}
+use Rattle.std.proofs.lemmas.Bool.{eqb-true, le-leb, le-ltb}
 use Rattle.std.proofs.lemmas.List.{drop-drop, length-append, take_at, drop_at}
 use Rattle.std.proofs.lemmas.List.Concat.{flat_map-cons}
 use Rattle.byteorder.specs.Endian.{little_bytes}
 use Rattle.byteorder.specs.Numbers.{little_number-reads_back}
-use Rattle.fdr_record.specs.declared.event.Event.{Event}
 use Rattle.fdr_record.specs.declared.rec.Rec.{Rec}
 use Rattle.fdr_record.specs.declared.rec.Rec.TheVariants.{NewBuffer, NewCpu, TscWrap, WallTime, Pid, Extents, Function}
 use Rattle.fdr_record.specs.Records.{length_of, BeginsWith, Spells}
@@ -15,14 +14,16 @@ use Rattle.fdr_file.specs.declared.header.Header.{Header}
 use Rattle.fdr_file.specs.declared.fault.TraceFault.{TraceFault}
 use Rattle.fdr_file.specs.declared.trace.Block.{Block}
 use Rattle.fdr_file.specs.declared.trace.Trace.{Trace}
+use Rattle.fdr_file.specs.declared.version.Version.{Version}
+use Rattle.fdr_file.specs.declared.version.Version.TheVariants.{Three}
 use Rattle.fdr_file.specs.Places.{starts}
-use Rattle.fdr_file.specs.Traces.{Standing, block_in, block_length, block_standings, extents_in, header_in, names_cpu, record_in, records_among, standings, trace_of}
-use Rattle.fdr_file.specs.private.Faults.{by_places, block_faults, header_faults, standing_faults}
-use Rattle.fdr_file.specs.Grammar.{AreBlocks, AreSpelled, BeginWithCpu, IsBlock, IsHeader, IsInner, IsTrace, block_records}
-use Rattle.fdr_file.proofs.TraceRows.{rows_decide}
+use Rattle.fdr_file.specs.Traces.{PreambleItem, Standing, TheProcess, TheThread, TheWallTime, block_in, block_length, block_standings, extents_in, header_in, names_cpu, preamble_bytes, preamble_of, record_in, records_among, standings, trace_of, version_in, version_of}
+use Rattle.fdr_file.specs.private.Faults.{by_places, block_faults, blocks_faults, decided, standing_faults, told_by}
+use Rattle.fdr_file.specs.Grammar.{AreBlocks, AreSpelled, BeginWithCpu, IsBlock, IsHeader, IsInner, IsTrace, block_records, naming}
+use Rattle.fdr_file.proofs.TraceRows.{HasHeader, header_first, header_passes, rows_decide}
 use Rattle.fdr_file.proofs.Decoding.{length_told, told_again}
 use Rattle.fdr_file.proofs.Walking.{starts_first, stands_first}
-use Rattle.fdr_file.proofs.Deciding.{IsBehind, extents_is}
+use Rattle.fdr_file.proofs.Deciding.{IsBehind, extents_is, may_behind, one_after}
 
 -- ---- records
 
@@ -66,75 +67,87 @@ or_true true = refl
 or_true false = refl
 
 -- records after a CPU have no fault
-stand_clean : (before : List Rec) (at : ℕ) (records : List Rec) → IsBehind before → list_any names_cpu before ≡ true → AllByRecursion IsInner records → standing_faults before (stand_from at records) ≡ []
-stand_clean before at [] many cpu inner = refl
-stand_clean before at (r ∷ records) (n, is) cpu (here, rest) =
+stand_clean : (version : Version) (before : List Rec) (at : ℕ) (records : List Rec) → IsBehind version before → list_any names_cpu before ≡ true → AllByRecursion IsInner records → standing_faults version before (stand_from at records) ≡ []
+stand_clean version before at [] many cpu inner = refl
+stand_clean version before at (r ∷ records) many cpu (here, rest) =
     let next : list_any names_cpu (r ∷ before) ≡ true = after (names_cpu r) cpu in
-    rw (is, here, cpu) (stand_clean (r ∷ before) (at + length_of r) records (suc n, ap suc is) next rest)
+    rw (may_behind version before r many, here, cpu) (stand_clean version (r ∷ before) (at + length_of r) records (one_after version before r many) next rest)
   where
     after : {b : Bool} (a : Bool) → b ≡ true → (a || b) ≡ true
     after true e = refl
     after false e = e
 
-preamble_clean : (before : List Rec) (at : ℕ) (records : List Rec) → IsBehind before → AllByRecursion IsInner records → BeginWithCpu records → standing_faults before (stand_from at records) ≡ []
-preamble_clean before at [] many inner based = refl
-preamble_clean before at (NewCpu cpu tsc ∷ records) (n, is) (here, rest) based =
-    rw (is, or_true (list_any names_cpu before)) (stand_clean (NewCpu cpu tsc ∷ before) (at + 16) records (suc n, ap suc is) refl rest)
-preamble_clean before at (r ∷ records) many inner based = absurd cc
+preamble_clean : (version : Version) (before : List Rec) (at : ℕ) (records : List Rec) → IsBehind version before → AllByRecursion IsInner records → BeginWithCpu records → standing_faults version before (stand_from at records) ≡ []
+preamble_clean version before at [] many inner based = refl
+preamble_clean version before at (NewCpu cpu tsc ∷ records) many (here, rest) based =
+    let r : Rec = NewCpu cpu tsc in
+    rw (may_behind version before r many, or_true (list_any names_cpu before)) (stand_clean version (r ∷ before) (at + 16) records (one_after version before r many) refl rest)
+preamble_clean version before at (r ∷ records) many inner based = absurd cc
+
+-- the records of a block have no fault
+block_clean : (version : Version) (at : ℕ) (block : Block) (records : List Rec) → AllByRecursion IsInner records → BeginWithCpu records → standing_faults version [] (stand_from at (block_records version block records)) ≡ []
+block_clean Three at block records inner based =
+    preamble_clean Three (Pid block.pid ∷ WallTime block.wall ∷ NewBuffer block.thread ∷ []) (at + 16 + 16 + 16) records (0, refl) inner based
 
 -- ---- blocks
 
 -- what a block's bytes are, if others follow
-record Stands (bytes : List ℕ) (at : ℕ) (block : Block) (following : List ℕ) : Type 0 where
+record Stands (version : Version) (bytes : List ℕ) (at : ℕ) (block : Block) (following : List ℕ) : Type 0 where
   some : 0 < length bytes
-  clean : block_faults (at, bytes) ≡ []
+  clean : block_faults version (at, bytes) ≡ []
   told : block_in (at, bytes) ≡ block
   rest : drop (block_length bytes) bytes ≡ following
 
 -- a preamble has its full length
-preamble_long : (block : Block) (records : List Rec) (bytes : List ℕ) → AreSpelled (block_records block records) bytes → 48 ≤ length bytes
-preamble_long block records bytes (a, b, e1, f1, s1, (c, d, e2, f2, s2, (x, y, e3, f3, s3, rest))) =
-    omega (arith, ap length e1, length-append a b, ap length e2, length-append c d, ap length e3, length-append x y, s1.whole, s2.whole, s3.whole)
+naming_long : (block : Block) (item : PreambleItem) → length_of (naming block item) ≡ 16
+naming_long block TheThread = refl
+naming_long block TheWallTime = refl
+naming_long block TheProcess = refl
 
-block_stands : (bytes following : List ℕ) (at : ℕ) (block : Block) → IsBlock bytes block → Stands (bytes ++ following) at block following
-block_stands bytes following at block is =
+preamble_long : (block : Block) (items : List PreambleItem) (records : List Rec) (bytes : List ℕ) → AreSpelled (map (naming block) items ++ records) bytes → 16 * length items ≤ length bytes
+preamble_long block [] records bytes is = omega arith
+preamble_long block (item ∷ items) records bytes (front, following, parts, fits, spells, rest) =
+    omega (arith, ap length parts, length-append front following, spells.whole, naming_long block item, preamble_long block items records following rest)
+
+block_stands : (version : Version) (bytes following : List ℕ) (at : ℕ) (block : Block) → IsBlock version bytes block → Stands version (bytes ++ following) at block following
+block_stands version bytes following at block is =
     let n = length is.body in
     let all = is.extents ++ (is.body ++ following) in
     let parts : bytes ++ following ≡ all = ap (λ (x : List ℕ). x ++ following) is.parts ∙ append_assoc is.extents is.body following in
     let found : record_in all ≡ Ok (Extents n) = told_again (Extents n) all is.few (begins (Extents n) is.extents (is.body ++ following) is.named) in
     let named : extents_in all ≡ n = extents_is all n found in
     let body : drop 16 all ≡ is.body ++ following = drop_at is.extents (is.body ++ following) 16 is.named.whole in
-    let many = preamble_long block is.records is.body is.spelled in
+    let many : preamble_bytes version ≤ n = preamble_long block (preamble_of version) is.records is.body is.spelled in
     let size : length all ≡ 16 + (n + length following) = length-append is.extents (is.body ++ following) ∙ omega (arith, is.named.whole, length-append is.body following) in
-    let records = block_records block is.records in
+    let records = block_records version block is.records in
     let standing : block_standings (at, all) ≡ stand_from (at + 16) records =
     ap (λ (k : ℕ). standings (at + 16) (take k (drop 16 all))) named ∙ ap (λ (x : List ℕ). standings (at + 16) (take n x)) body ∙ ap (standings (at + 16)) (take_at is.body following n refl)
     ∙ spelled_stand (at + 16) records is.body is.spelled in
-    let inner = preamble_clean (Pid block.pid ∷ WallTime block.wall ∷ NewBuffer block.thread ∷ []) (at + 16 + 16 + 16 + 16) is.records (0, refl) is.inner is.based in
+    let inner = block_clean version (at + 16) block is.records is.inner is.based in
     let long : ltb (length all) 16 ≡ false = le-ltb (length all) 16 (omega arith) in
-    let least : leb 48 n ≡ true = le-leb 48 n many in
+    let least : leb (preamble_bytes version) n ≡ true = le-leb (preamble_bytes version) n many in
     let whole : leb (16 + n) (length all) ≡ true = le-leb (16 + n) (length all) (omega arith) in
-    subst (λ (x : List ℕ). Stands x at block following) (sym parts) (record {
+    subst (λ (x : List ℕ). Stands version x at block following) (sym parts) (record {
       some = omega arith;
       clean = rw (long, found, least, whole, standing) inner;
-      told = rw (standing, stand_records (at + 16 + 16 + 16 + 16) is.records) (ap (λ (events : List Event). let made : Block = record { thread = block.thread; wall = block.wall; pid = block.pid; events = events } in made) (sym is.told));
+      told = rw (standing, stand_records (at + 16) records) (sym is.told);
       rest = ap (λ (k : ℕ). drop (16 + k) all) named ∙ sym (drop-drop n 16 all) ∙ ap (drop n) body ∙ drop_at is.body following n refl;
     })
 
-abbrev AllRead : ℕ → List Block → List ℕ → Type 0
-AllRead at blocks bytes = (flat_map block_faults (starts block_length 0 at bytes) ≡ []) × (map block_in (starts block_length 0 at bytes) ≡ blocks)
+abbrev AllRead : Version → ℕ → List Block → List ℕ → Type 0
+AllRead version at blocks bytes = (flat_map (block_faults version) (starts block_length 0 at bytes) ≡ []) × (map block_in (starts block_length 0 at bytes) ≡ blocks)
 
-blocks_stand : (at : ℕ) (blocks : List Block) (bytes : List ℕ) → AreBlocks blocks bytes → AllRead at blocks bytes
+blocks_stand : (version : Version) (at : ℕ) (blocks : List Block) (bytes : List ℕ) → AreBlocks version blocks bytes → AllRead version at blocks bytes
 unfolding starts
-blocks_stand at [] bytes is = subst (AllRead at []) (sym is) (refl, refl)
-blocks_stand at (block ∷ blocks) bytes (front, following, parts, is, rest) =
+blocks_stand version at [] bytes is = subst (AllRead version at []) (sym is) (refl, refl)
+blocks_stand version at (block ∷ blocks) bytes (front, following, parts, is, rest) =
     let all = front ++ following in
-    let here = block_stands front following at block is in
+    let here = block_stands version front following at block is in
     let next = at + block_length all in
     let first : starts block_length 0 at all ≡ (at, all) ∷ starts block_length 0 next following = starts_first block_length at all here.some (omega arith) ∙ ap (λ (x : List ℕ). (at, all) ∷ starts block_length 0 next x) here.rest in
-    let others = blocks_stand next blocks following rest in
-    subst (AllRead at (block ∷ blocks)) (sym parts) (
-      ap (flat_map block_faults) first ∙ flat_map-cons block_faults (at, all) (starts block_length 0 next following) ∙ rw (here.clean, others.0) refl,
+    let others = blocks_stand version next blocks following rest in
+    subst (AllRead version at (block ∷ blocks)) (sym parts) (
+      ap (flat_map (block_faults version)) first ∙ flat_map-cons (block_faults version) (at, all) (starts block_length 0 next following) ∙ rw (here.clean, others.0) refl,
       ap (map block_in) first ∙ rw (here.told, others.1) refl,
     )
 
@@ -144,18 +157,33 @@ header_of : (h : Header) (version : ℕ) (constant nonstop : Bool) → version �
     → record { version = version; constant = constant; nonstop = nonstop; frequency = h.frequency; size = h.size } ≡ h
 header_of h version constant nonstop e1 e2 e3 = rw (e1, e2, e3) refl
 
-header_reads : (bytes following : List ℕ) (header : Header) → IsHeader bytes header → (header_faults (bytes ++ following) ≡ []) × (header_in (bytes ++ following) ≡ header) × (drop 32 (bytes ++ following) ≡ following)
-header_reads bytes following header is =
+-- a version that is read fits its two bytes
+version_fits : (number : ℕ) (version : Version) → version_of number ≡ Some version → number < 256 ^ 2
+version_fits number version is = by_number (eqb number 3) refl is
+  where
+    by_number : (b : Bool) → eqb number 3 ≡ b → cond b (Some Three) None ≡ Some version → number < 256 ^ 2
+    by_number true e h = omega (arith, eqb-true number 3 e)
+    by_number false e h = absurd cc
+
+abbrev Reads : Version → Header → List ℕ → List ℕ → Type 0
+Reads version header following bytes = HasHeader bytes version × (header_in bytes ≡ header) × (drop 32 bytes ≡ following)
+
+header_reads : (version : Version) (bytes following : List ℕ) (header : Header) → IsHeader version bytes header → Reads version header following (bytes ++ following)
+header_reads version bytes following header is =
     let rest = is.reserved ++ following in
-    let all = little_bytes 2 3 ++ (little_bytes 2 1 ++ (little_bytes 4 is.flags ++ (little_bytes 8 header.frequency ++ (little_bytes 8 header.size ++ rest)))) in
+    let all = little_bytes 2 header.version ++ (little_bytes 2 1 ++ (little_bytes 4 is.flags ++ (little_bytes 8 header.frequency ++ (little_bytes 8 header.size ++ rest)))) in
     let parts : bytes ++ following ≡ all = ap (λ (x : List ℕ). x ++ following) is.spelled in
-    let long : leb 32 (length all) ≡ true = le-leb 32 (length all) (omega (arith, length-append is.reserved following, is.whole)) in
+    let number : version_in all ≡ header.version = little_number-reads_back 2 header.version (little_bytes 2 1 ++ (little_bytes 4 is.flags ++ (little_bytes 8 header.frequency ++ (little_bytes 8 header.size ++ rest)))) (version_fits header.version version is.accepted) in
     let flags = little_number-reads_back 4 is.flags (little_bytes 8 header.frequency ++ (little_bytes 8 header.size ++ rest)) is.flags_fit in
     let frequency = little_number-reads_back 8 header.frequency (little_bytes 8 header.size ++ rest) is.frequency_fits in
     let size = little_number-reads_back 8 header.size rest is.size_fits in
-    subst (λ (x : List ℕ). (header_faults x ≡ []) × (header_in x ≡ header) × (drop 32 x ≡ following)) (sym parts) (
-      rw long refl,
-      rw (flags, frequency, size) (header_of header 3 (eqb (is.flags % 2) 1) (eqb (is.flags / 2 % 2) 1) (sym is.version) (sym is.constant) (sym is.nonstop)),
+    subst (Reads version header following) (sym parts) (
+      record {
+        long = omega (arith, length-append is.reserved following, is.whole);
+        accepted = ap version_of number ∙ is.accepted;
+        form = refl;
+      },
+      rw (flags, frequency, size) (header_of header (version_in all) (eqb (is.flags % 2) 1) (eqb (is.flags / 2 % 2) 1) number (sym is.constant) (sym is.nonstop)),
       drop_at is.reserved following 8 is.whole,
     )
 
@@ -164,9 +192,11 @@ read trace = Ok trace
 
 pub trace_again : (bytes : List ℕ) (trace : Trace) → IsTrace bytes trace → trace_of bytes ≡ Ok trace
 trace_again bytes trace is =
-    let header = header_reads is.front is.following trace.header is.header in
-    let blocks = blocks_stand 32 trace.blocks is.following is.blocks in
-    rows_decide bytes ∙ ap by_places is.parts ∙ rw (header.0, header.1, header.2, blocks.0, blocks.1) refl
+    let all = is.front ++ is.following in
+    let header = header_reads is.version is.front is.following trace.header is.header in
+    let blocks = blocks_stand is.version 32 trace.blocks is.following is.blocks in
+    rows_decide bytes ∙ ap by_places is.parts ∙ header_first all (λ version. decided (blocks_faults version all) (told_by all))
+    ∙ rw (header_passes all is.version header.0, header.1, header.2, blocks.0, blocks.1) refl
 
 pub one_trace : (bytes : List ℕ) (trace other : Trace) → IsTrace bytes trace → IsTrace bytes other → trace ≡ other
 one_trace bytes trace other is also =

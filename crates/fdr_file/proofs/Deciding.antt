@@ -1,5 +1,5 @@
 -- What is read from first to last is what the places of a file decide.
-use Rattle.std.proofs.Common.{◌≡◌, ℕ, suc, ◌+◌, ◌%◌, ◌≤◌, ◌<◌, ◌^◌, Bool, true, false, cond, eqb, ltb, List, [], ◌∷◌, ◌++◌, length, slice_index, lit≤, take, drop, map, Option, Some, None, Result, Ok, Err, add-zero, refl, sym, ap, ◌∙◌, append_assoc, arith, inl, inr}
+use Rattle.std.proofs.Common.{◌≡◌, ℕ, zero, suc, ◌+◌, ◌%◌, ◌≤◌, ◌<◌, ◌^◌, Bool, true, false, cond, eqb, ltb, List, [], ◌∷◌, ◌++◌, length, slice_index, lit≤, take, drop, map, Option, Some, None, Result, Ok, Err, add-zero, refl, sym, ap, ◌∙◌, append_assoc, arith, inl, inr}
 use Rattle.std.specs.Prelude.{option_to_list, ◌||◌, ◌⊎◌, not, sum, is_some}
 use Rattle.std.specs.List.{list_any}
 use Rattle.std.proofs.lemmas.Bool.{cases_Bool, ltb-false, le-leb}
@@ -8,9 +8,12 @@ use Rattle.xray_io.specs.Rows.{◌>>=◌}
 use Rattle.fdr_file.specs.declared.header.Header.{Header}
 use Rattle.fdr_file.specs.declared.trace.Block.{Block}
 use Rattle.fdr_file.specs.declared.trace.Trace.{Trace}
+use Rattle.fdr_file.specs.declared.version.Version.{Version}
+use Rattle.fdr_file.specs.declared.version.Version.TheVariants.{Three}
 use Rattle.fdr_file.specs.Places.{starts}
 use Rattle.std.specs.List.{flat_map}
 use Rattle.std.proofs.lemmas.List.Concat.{flat_map-cons}
+use Rattle.fdr_file.proofs.TraceRows.{header_first, opened}
 use Rattle.fdr_file.proofs.Walking.{stands_none, stands_taken, starts_first}
 use Rattle.std.proofs.lemmas.Grind.{common_steps}
 use Rattle.std.proofs.lemmas.List.{append-nil, drop-drop, drop-take, length-drop, length-take}
@@ -24,9 +27,9 @@ use Rattle.fdr_file.specs.declared.events.Base.{Base}
 use Rattle.fdr_file.specs.declared.fault.TraceFault.{TraceFault}
 use Rattle.fdr_file.specs.declared.fault.TraceFault.TheVariants as faults
 use Rattle.fdr_file.specs.Events.{counter_at, cpu_of, deltas_since, events_after, whole_counter}
-use Rattle.fdr_file.specs.Traces.{extents_in, names_cpu, needs_cpu, record_in, records_among, Standing, block_in, block_of, block_standings, pid_named, block_length, record_length, standings, thread_named, wall_named}
-use Rattle.fdr_file.specs.private.Faults.{decided, record_faults, standing_faults, block_faults, unless}
-use Rattle.fdr_file.specs.private.Reading.{Left, blocks_read, body_on, end_named, end_on, events_on, left_at, named_on, preamble_on, read_first, record_on, step_on}
+use Rattle.fdr_file.specs.Traces.{PreambleItem, block_starts, extents_in, header_in, may_be, names_cpu, needs_cpu, preamble_bytes, preamble_of, record_in, records_among, Standing, block_in, block_of, block_standings, pid_named, block_length, record_length, standings, thread_named, wall_named}
+use Rattle.fdr_file.specs.private.Faults.{by_places, blocks_faults, decided, record_faults, standing_faults, block_faults, told_by, unless}
+use Rattle.fdr_file.specs.private.Reading.{Left, blocks_read, body_on, end_named, end_on, events_on, header_on, left_at, named_on, pid_on, preamble_on, read_first, record_on, step_on}
 
 -- ---- the extents
 
@@ -51,29 +54,39 @@ decided_more front [] rest = refl
 decided_more front (fault ∷ later) rest = refl
 
 -- records after a preamble
-abbrev pub IsBehind : List Rec → Type 0
-IsBehind before = (n : ℕ) × (length before ≡ suc (suc (suc n)))
+abbrev pub IsBehind : Version → List Rec → Type 0
+IsBehind version before = (n : ℕ) × (length before ≡ length (preamble_of version) + n)
+
+-- a record after these items
+may_after : (items : List PreambleItem) (n m : ℕ) (r : Rec) → m ≡ length items + n → may_be items m r ≡ (names_cpu r || needs_cpu r)
+may_after [] n m r is = refl
+may_after (item ∷ items) n zero r is = absurd (omega arith)
+may_after (item ∷ items) n (suc m) r is = may_after items n m r (omega arith)
+
+-- a record after a preamble
+pub may_behind : (version : Version) (before : List Rec) (r : Rec) → IsBehind version before → may_be (preamble_of version) (length before) r ≡ (names_cpu r || needs_cpu r)
+may_behind version before r (n, is) = may_after (preamble_of version) n (length before) r is
 
 or_true : (b : Bool) → (b || true) ≡ true
 or_true true = refl
 or_true false = refl
 
-abbrev Decides : Option Base → List Rec → List Standing → Type 0
-Decides base before said = events_on base said ≡ decided (standing_faults before said) (events_after before (records_among said))
+abbrev Decides : Version → Option Base → List Rec → List Standing → Type 0
+Decides version base before said = events_on base said ≡ decided (standing_faults version before said) (events_after before (records_among said))
 
-one_more : (base : Option Base) (before : List Rec) (at : ℕ) (r : Rec) (following : List Standing) (next : Base) (event : Option Event) → step_on at r base ≡ Ok (next, event) → record_faults before at r ≡ []
-    → events_after before (r ∷ records_among following) ≡ option_to_list event ++ events_after (r ∷ before) (records_among following) → Decides (Some next) (r ∷ before) following → Decides base before ((at, Ok r) ∷ following)
+one_more : (version : Version) (base : Option Base) (before : List Rec) (at : ℕ) (r : Rec) (following : List Standing) (next : Base) (event : Option Event) → step_on at r base ≡ Ok (next, event) → record_faults version before at r ≡ []
+    → events_after before (r ∷ records_among following) ≡ option_to_list event ++ events_after (r ∷ before) (records_among following) → Decides version (Some next) (r ∷ before) following → Decides version base before ((at, Ok r) ∷ following)
 unfolding events_on
-one_more base before at r following next event stepped clean told rest =
-    rw (stepped, rest, clean, told) (decided_more (option_to_list event) (standing_faults (r ∷ before) following) (events_after (r ∷ before) (records_among following)))
+one_more version base before at r following next event stepped clean told rest =
+    rw (stepped, rest, clean, told) (decided_more (option_to_list event) (standing_faults version (r ∷ before) following) (events_after (r ∷ before) (records_among following)))
 
-no_more : (base : Option Base) (before : List Rec) (at : ℕ) (r : Rec) (following : List Standing) (e : TraceFault) (later : List TraceFault) → step_on at r base ≡ Err e → record_faults before at r ≡ e ∷ later
-    → Decides base before ((at, Ok r) ∷ following)
+no_more : (version : Version) (base : Option Base) (before : List Rec) (at : ℕ) (r : Rec) (following : List Standing) (e : TraceFault) (later : List TraceFault) → step_on at r base ≡ Err e → record_faults version before at r ≡ e ∷ later
+    → Decides version base before ((at, Ok r) ∷ following)
 unfolding events_on
-no_more base before at r following e later stepped wrong = rw (stepped, wrong) refl
+no_more version base before at r following e later stepped wrong = rw (stepped, wrong) refl
 
-one_after : (before : List Rec) (r : Rec) → IsBehind before → IsBehind (r ∷ before)
-one_after before r (n, is) = (suc n, ap suc is)
+pub one_after : (version : Version) (before : List Rec) (r : Rec) → IsBehind version before → IsBehind version (r ∷ before)
+one_after version before r (n, is) = (suc n, omega arith)
 
 -- the counter of a function record
 counter_more : (tsc whole sum delta : ℕ) → tsc % 2 ^ 64 ≡ (whole + sum) % 2 ^ 64 → (tsc + delta) % 2 ^ 64 ≡ (whole + (delta + sum)) % 2 ^ 64
@@ -82,23 +95,23 @@ counter_more tsc whole sum delta e = omega arith
 twice : (n : ℕ) → n % 2 ^ 64 % 2 ^ 64 ≡ n % 2 ^ 64
 twice n = omega arith
 
-pub events_decided : (base : Option Base) (before : List Rec) (said : List Standing) → IsBehind before → IsBase base before → Decides base before said
+pub events_decided : (version : Version) (base : Option Base) (before : List Rec) (said : List Standing) → IsBehind version before → IsBase base before → Decides version base before said
 unfolding events_on
-events_decided base before [] many is = refl
-events_decided base before ((at, Err fault) ∷ following) many is = refl
-events_decided base before ((at, Ok (NewCpu cpu tsc)) ∷ following) many is =
+events_decided version base before [] many is = refl
+events_decided version base before ((at, Err fault) ∷ following) many is = refl
+events_decided version base before ((at, Ok (NewCpu cpu tsc)) ∷ following) many is =
     let next : Base = record { cpu = cpu; tsc = tsc } in
-    one_more base before at (NewCpu cpu tsc) following next None refl (rw (many.1, or_true (list_any names_cpu before)) refl) refl
-    (events_decided (Some next) (NewCpu cpu tsc ∷ before) following (one_after before (NewCpu cpu tsc) many) (refl, refl, ap (λ (n : ℕ). n % 2 ^ 64) (sym (add-zero tsc))))
-events_decided None before ((at, Ok (TscWrap tsc)) ∷ following) many is =
-    no_more None before at (TscWrap tsc) following (faults.NoBase at) [] refl (rw (many.1, is) refl)
-events_decided (Some base) before ((at, Ok (TscWrap tsc)) ∷ following) many is =
+    one_more version base before at (NewCpu cpu tsc) following next None refl (rw (may_behind version before (NewCpu cpu tsc) many, or_true (list_any names_cpu before)) refl) refl
+    (events_decided version (Some next) (NewCpu cpu tsc ∷ before) following (one_after version before (NewCpu cpu tsc) many) (refl, refl, ap (λ (n : ℕ). n % 2 ^ 64) (sym (add-zero tsc))))
+events_decided version None before ((at, Ok (TscWrap tsc)) ∷ following) many is =
+    no_more version None before at (TscWrap tsc) following (faults.NoBase at) [] refl (rw (may_behind version before (TscWrap tsc) many, is) refl)
+events_decided version (Some base) before ((at, Ok (TscWrap tsc)) ∷ following) many is =
     let next : Base = record { cpu = base.cpu; tsc = tsc } in
-    one_more (Some base) before at (TscWrap tsc) following next None refl (rw (many.1, is.0) refl) refl
-    (events_decided (Some next) (TscWrap tsc ∷ before) following (one_after before (TscWrap tsc) many) (is.0, is.1, ap (λ (n : ℕ). n % 2 ^ 64) (sym (add-zero tsc))))
-events_decided None before ((at, Ok (Function kind func delta)) ∷ following) many is =
-    no_more None before at (Function kind func delta) following (faults.NoBase at) [] refl (rw (many.1, is) refl)
-events_decided (Some base) before ((at, Ok (Function kind func delta)) ∷ following) many is =
+    one_more version (Some base) before at (TscWrap tsc) following next None refl (rw (may_behind version before (TscWrap tsc) many, is.0) refl) refl
+    (events_decided version (Some next) (TscWrap tsc ∷ before) following (one_after version before (TscWrap tsc) many) (is.0, is.1, ap (λ (n : ℕ). n % 2 ^ 64) (sym (add-zero tsc))))
+events_decided version None before ((at, Ok (Function kind func delta)) ∷ following) many is =
+    no_more version None before at (Function kind func delta) following (faults.NoBase at) [] refl (rw (may_behind version before (Function kind func delta) many, is) refl)
+events_decided version (Some base) before ((at, Ok (Function kind func delta)) ∷ following) many is =
     let tsc = (base.tsc + delta) % 2 ^ 64 in
     let next : Base = record { cpu = base.cpu; tsc = tsc } in
     let counter : tsc ≡ counter_at (Function kind func delta ∷ before) = counter_more base.tsc (whole_counter before) (sum (deltas_since before)) delta is.2 ∙ ap (λ (s : ℕ). (whole_counter before + s) % 2 ^ 64) (sym (sum_by-cons (λ x. x) delta (deltas_since before))) in
@@ -106,13 +119,13 @@ events_decided (Some base) before ((at, Ok (Function kind func delta)) ∷ follo
     let make : ℕ → ℕ → Event = λ c t. record { cpu = c; func = func; kind = kind; tsc = t } in
     let told : make (cpu_of before) (counter_at (Function kind func delta ∷ before)) ≡ event =
     ap (λ (c : ℕ). make c (counter_at (Function kind func delta ∷ before))) (sym is.1) ∙ ap (make base.cpu) (sym counter) in
-    one_more (Some base) before at (Function kind func delta) following next (Some event) refl (rw (many.1, is.0) refl)
+    one_more version (Some base) before at (Function kind func delta) following next (Some event) refl (rw (may_behind version before (Function kind func delta) many, is.0) refl)
     (ap (λ (e : Event). e ∷ events_after (Function kind func delta ∷ before) (records_among following)) told)
-    (events_decided (Some next) (Function kind func delta ∷ before) following (one_after before (Function kind func delta) many) (is.0, is.1, twice (base.tsc + delta) ∙ counter))
-events_decided base before ((at, Ok (NewBuffer thread)) ∷ following) many is = no_more base before at (NewBuffer thread) following (faults.Order at) (unless (list_any names_cpu before || true) (faults.NoBase at)) refl (rw (many.1) refl)
-events_decided base before ((at, Ok (WallTime wall)) ∷ following) many is = no_more base before at (WallTime wall) following (faults.Order at) (unless (list_any names_cpu before || true) (faults.NoBase at)) refl (rw (many.1) refl)
-events_decided base before ((at, Ok (Pid pid)) ∷ following) many is = no_more base before at (Pid pid) following (faults.Order at) (unless (list_any names_cpu before || true) (faults.NoBase at)) refl (rw (many.1) refl)
-events_decided base before ((at, Ok (Extents size)) ∷ following) many is = no_more base before at (Extents size) following (faults.Order at) (unless (list_any names_cpu before || true) (faults.NoBase at)) refl (rw (many.1) refl)
+    (events_decided version (Some next) (Function kind func delta ∷ before) following (one_after version before (Function kind func delta) many) (is.0, is.1, twice (base.tsc + delta) ∙ counter))
+events_decided version base before ((at, Ok (NewBuffer thread)) ∷ following) many is = no_more version base before at (NewBuffer thread) following (faults.Order at) (unless (list_any names_cpu before || true) (faults.NoBase at)) refl (rw (may_behind version before (NewBuffer thread) many) refl)
+events_decided version base before ((at, Ok (WallTime wall)) ∷ following) many is = no_more version base before at (WallTime wall) following (faults.Order at) (unless (list_any names_cpu before || true) (faults.NoBase at)) refl (rw (may_behind version before (WallTime wall) many) refl)
+events_decided version base before ((at, Ok (Pid pid)) ∷ following) many is = no_more version base before at (Pid pid) following (faults.Order at) (unless (list_any names_cpu before || true) (faults.NoBase at)) refl (rw (may_behind version before (Pid pid) many) refl)
+events_decided version base before ((at, Ok (Extents size)) ∷ following) many is = no_more version base before at (Extents size) following (faults.Order at) (unless (list_any names_cpu before || true) (faults.NoBase at)) refl (rw (may_behind version before (Extents size) many) refl)
 
 -- ---- a preamble
 
@@ -122,9 +135,9 @@ record Named (r : Rec) (at : ℕ) (bytes : List ℕ) (left : Left) : Type 0 wher
   long : length bytes ≤ 16 + length left.1
 
 -- the first record isn't allowed there, or there is none
-record Unnamed (before : List Rec) (at : ℕ) (bytes : List ℕ) (e : TraceFault) : Type 0 where
+record Unnamed (version : Version) (before : List Rec) (at : ℕ) (bytes : List ℕ) (e : TraceFault) : Type 0 where
   later : List TraceFault
-  wrong : standing_faults before (standings at bytes) ≡ e ∷ later
+  wrong : standing_faults version before (standings at bytes) ≡ e ∷ later
 
 -- a record has at most 16 bytes
 length_most : (bytes : List ℕ) → record_length bytes ≤ 16
@@ -145,17 +158,17 @@ left_long at bytes r left e = by_answer (record_in bytes) e
         omega (arith, length_most bytes, length-drop (record_length bytes) bytes, ap length left_is)
     by_answer (Err f) h = absurd cc
 
-abbrev Found : {A : Type 0} → (Rec → Option A) → (A → Rec) → List Rec → ℕ → List ℕ → Type 0
-Found {A} named con before at bytes =
+abbrev Found : {A : Type 0} → Version → (Rec → Option A) → (A → Rec) → List Rec → ℕ → List ℕ → Type 0
+Found {A} version named con before at bytes =
     ((x : A) × (left : Left) × (named_on named (at, bytes) ≡ Ok (x, left)) × Named (con x) at bytes left)
-    ⊎ ((e : TraceFault) × (named_on named (at, bytes) ≡ Err e) × Unnamed before at bytes e)
+    ⊎ ((e : TraceFault) × (named_on named (at, bytes) ≡ Err e) × Unnamed version before at bytes e)
 
-found : {A : Type 0} (named : Rec → Option A) (con : A → Rec) (before : List Rec) (at : ℕ) (bytes : List ℕ) → ((r : Rec) (x : A) → named r ≡ Some x → r ≡ con x)
-    → ((r : Rec) → named r ≡ None → record_faults before at r ≡ faults.Order at ∷ unless (list_any names_cpu before || not (needs_cpu r)) (faults.NoBase at))
-    → 0 < length bytes → Found named con before at bytes
-found {A} named con before at bytes is_con is_wrong some = by_first (record_on (at, bytes)) refl
+found : {A : Type 0} (version : Version) (named : Rec → Option A) (con : A → Rec) (before : List Rec) (at : ℕ) (bytes : List ℕ) → ((r : Rec) (x : A) → named r ≡ Some x → r ≡ con x)
+    → ((r : Rec) → named r ≡ None → record_faults version before at r ≡ faults.Order at ∷ unless (list_any names_cpu before || not (needs_cpu r)) (faults.NoBase at))
+    → 0 < length bytes → Found version named con before at bytes
+found {A} version named con before at bytes is_con is_wrong some = by_first (record_on (at, bytes)) refl
   where
-    by_name : (r : Rec) (left : Left) (o : Option A) → record_on (at, bytes) ≡ Ok (r, left) → named r ≡ o → Found named con before at bytes
+    by_name : (r : Rec) (left : Left) (o : Option A) → record_on (at, bytes) ≡ Ok (r, left) → named r ≡ o → Found version named con before at bytes
     by_name r left (Some x) taken is =
         let r_is = is_con r x is in
         inl (x, left, rw (taken, is) refl, record { stands = stands_taken at bytes r left some taken ∙ ap (λ (s : Rec). (at, Ok s) ∷ standings left.0 left.1) r_is; long = left_long at bytes r left taken })
@@ -164,12 +177,12 @@ found {A} named con before at bytes is_con is_wrong some = by_first (record_on (
           faults.Order at,
           rw (taken, is) refl,
           record {
-            later = unless (list_any names_cpu before || not (needs_cpu r)) (faults.NoBase at) ++ standing_faults (r ∷ before) (standings left.0 left.1);
+            later = unless (list_any names_cpu before || not (needs_cpu r)) (faults.NoBase at) ++ standing_faults version (r ∷ before) (standings left.0 left.1);
             wrong = rw (stands_taken at bytes r left some taken, is_wrong r is) refl;
           },
         )
 
-    by_first : (a : Result (Rec × Left) TraceFault) → record_on (at, bytes) ≡ a → Found named con before at bytes
+    by_first : (a : Result (Rec × Left) TraceFault) → record_on (at, bytes) ≡ a → Found version named con before at bytes
     by_first (Ok (r, left)) taken = by_name r left (named r) taken refl
     by_first (Err e) taken =
         let h = stands_none at bytes e some taken in
@@ -191,22 +204,22 @@ decided_in : {A B : Type 0} (make : A → B) (found : List TraceFault) (x : A) �
 decided_in make [] x = refl
 decided_in make (fault ∷ later) x = refl
 
-pub body_decided : (at : ℕ) (bytes : List ℕ) → 48 ≤ length bytes → body_on (at, bytes) ≡ decided (standing_faults [] (standings at bytes)) (block_of (records_among (standings at bytes)))
-unfolding body_on preamble_on
-body_decided at bytes long =
-    elim (found thread_named NewBuffer [] at bytes thread_is (λ r none. ap (λ (o : Option ℕ). unless (is_some o) (faults.Order at) ++ unless (false || not (needs_cpu r)) (faults.NoBase at)) none) (omega arith)) [
+pub body_decided : (version : Version) (at : ℕ) (bytes : List ℕ) → preamble_bytes version ≤ length bytes → body_on version (at, bytes) ≡ decided (standing_faults version [] (standings at bytes)) (block_of (records_among (standings at bytes)))
+unfolding body_on preamble_on pid_on
+body_decided Three at bytes long =
+    elim (found Three thread_named NewBuffer [] at bytes thread_is (λ r none. ap (λ (o : Option ℕ). unless (is_some o) (faults.Order at) ++ unless (false || not (needs_cpu r)) (faults.NoBase at)) none) (omega arith)) [
       | inr (e, on, wrong) ↦ rw (on, wrong.wrong) refl
       | inl (thread, left, on, first) ↦
-          elim (found wall_named WallTime (NewBuffer thread ∷ []) left.0 left.1 wall_is (λ r none. ap (λ (o : Option Wall). unless (is_some o) (faults.Order left.0) ++ unless (false || not (needs_cpu r)) (faults.NoBase left.0)) none) (omega (arith, first.long))) [
+          elim (found Three wall_named WallTime (NewBuffer thread ∷ []) left.0 left.1 wall_is (λ r none. ap (λ (o : Option Wall). unless (is_some o) (faults.Order left.0) ++ unless (false || not (needs_cpu r)) (faults.NoBase left.0)) none) (omega (arith, first.long))) [
             | inr (e, on', wrong) ↦ rw (on, on', first.stands, wrong.wrong) refl
             | inl (wall, left', on', second) ↦
-                elim (found pid_named Pid (WallTime wall ∷ NewBuffer thread ∷ []) left'.0 left'.1 pid_is (λ r none. ap (λ (o : Option ℕ). unless (is_some o) (faults.Order left'.0) ++ unless (false || not (needs_cpu r)) (faults.NoBase left'.0)) none) (omega (arith, first.long, second.long))) [
+                elim (found Three pid_named Pid (WallTime wall ∷ NewBuffer thread ∷ []) left'.0 left'.1 pid_is (λ r none. ap (λ (o : Option ℕ). unless (is_some o) (faults.Order left'.0) ++ unless (false || not (needs_cpu r)) (faults.NoBase left'.0)) none) (omega (arith, first.long, second.long))) [
                   | inr (e, on'', wrong) ↦ rw (on, on', on'', first.stands, second.stands, wrong.wrong) refl
                   | inl (pid, left'', on'', third) ↦
                       let before : List Rec = Pid pid ∷ WallTime wall ∷ NewBuffer thread ∷ [] in
                       let said = standings left''.0 left''.1 in
                       let make : List Event → Block = λ events. record { thread = thread; wall = wall; pid = pid; events = events } in
-                      rw (on, on', on'', first.stands, second.stands, third.stands, events_decided None before said (0, refl) refl) (decided_in make (standing_faults before said) (events_after before (records_among said)))
+                      rw (on, on', on'', first.stands, second.stands, third.stands, events_decided Three None before said (0, refl) refl) (decided_in make (standing_faults Three before said) (events_after before (records_among said)))
                 ]
           ]
     ]
@@ -214,66 +227,92 @@ body_decided at bytes long =
 -- ---- a block
 
 -- the block that bytes begin with, by its extents
-pub record Ends (at : ℕ) (bytes : List ℕ) (end : ℕ) : Type 0 where
+pub record Ends (version : Version) (at : ℕ) (bytes : List ℕ) (end : ℕ) : Type 0 where
   pub place : end ≡ at + (16 + extents_in bytes)
-  pub least : 48 ≤ extents_in bytes
+  pub least : preamble_bytes version ≤ extents_in bytes
   pub whole : 16 + extents_in bytes ≤ length bytes
-  pub clean : block_faults (at, bytes) ≡ standing_faults [] (block_standings (at, bytes))
+  pub clean : block_faults version (at, bytes) ≡ standing_faults version [] (block_standings (at, bytes))
 
-pub ends_so : (at : ℕ) (bytes : List ℕ) (end : ℕ) → end_on (at, bytes) ≡ Ok end → Ends at bytes end
+pub ends_so : (version : Version) (at : ℕ) (bytes : List ℕ) (end : ℕ) → end_on version (at, bytes) ≡ Ok end → Ends version at bytes end
 unfolding end_on
-ends_so at bytes end e = by_length (ltb (length bytes) 16) refl e
+ends_so version at bytes end e = by_length (ltb (length bytes) 16) refl e
   where
-    by_whole : (size : ℕ) (b : Bool) → ltb (length bytes) 16 ≡ false → record_in bytes ≡ Ok (Extents size) → ltb size 48 ≡ false → ltb (length bytes) (16 + size) ≡ b
-        → cond b (Err (faults.Short at)) (Ok (at + (16 + size))) ≡ Ok end → Ends at bytes end
+    by_whole : (size : ℕ) (b : Bool) → ltb (length bytes) 16 ≡ false → record_in bytes ≡ Ok (Extents size) → ltb size (preamble_bytes version) ≡ false → ltb (length bytes) (16 + size) ≡ b
+        → cond b (Err (faults.Short at)) (Ok (at + (16 + size))) ≡ Ok end → Ends version at bytes end
     by_whole size true long is least whole h = absurd cc
     by_whole size false long is least whole h =
         let n = extents_is bytes size is in
         let place : at + (16 + size) ≡ end = cc in
-        let many : 48 ≤ size = ltb-false size 48 least in
+        let many : preamble_bytes version ≤ size = ltb-false size (preamble_bytes version) least in
         let all : 16 + size ≤ length bytes = ltb-false (length bytes) (16 + size) whole in
         record {
           place = omega (arith, n, place);
           least = omega (arith, n, many);
           whole = omega (arith, n, all);
-          clean = rw (long, is, le-leb 48 size many, le-leb (16 + size) (length bytes) all) refl;
+          clean = rw (long, is, le-leb (preamble_bytes version) size many, le-leb (16 + size) (length bytes) all) refl;
         }
 
-    by_least : (size : ℕ) (b : Bool) → ltb (length bytes) 16 ≡ false → record_in bytes ≡ Ok (Extents size) → ltb size 48 ≡ b
-        → cond b (Err (faults.Extents at)) (cond (ltb (length bytes) (16 + size)) (Err (faults.Short at)) (Ok (at + (16 + size)))) ≡ Ok end → Ends at bytes end
+    by_least : (size : ℕ) (b : Bool) → ltb (length bytes) 16 ≡ false → record_in bytes ≡ Ok (Extents size) → ltb size (preamble_bytes version) ≡ b
+        → cond b (Err (faults.Extents at)) (cond (ltb (length bytes) (16 + size)) (Err (faults.Short at)) (Ok (at + (16 + size)))) ≡ Ok end → Ends version at bytes end
     by_least size true long is least h = absurd cc
     by_least size false long is least h = by_whole size (ltb (length bytes) (16 + size)) long is least refl h
 
-    by_answer : (a : Result Rec RecFault) → ltb (length bytes) 16 ≡ false → record_in bytes ≡ a → end_named (at, bytes) a ≡ Ok end → Ends at bytes end
-    by_answer (Ok (Extents size)) long is h = by_least size (ltb size 48) long is refl h
+    by_answer : (a : Result Rec RecFault) → ltb (length bytes) 16 ≡ false → record_in bytes ≡ a → end_named version (at, bytes) a ≡ Ok end → Ends version at bytes end
+    by_answer (Ok (Extents size)) long is h = by_least size (ltb size (preamble_bytes version)) long is refl h
     by_answer (Ok r) long is h = absurd cc
     by_answer (Err f) long is h = absurd cc
 
-    by_length : (b : Bool) → ltb (length bytes) 16 ≡ b → cond b (Err (faults.Short at)) (end_named (at, bytes) (record_in bytes)) ≡ Ok end → Ends at bytes end
+    by_length : (b : Bool) → ltb (length bytes) 16 ≡ b → cond b (Err (faults.Short at)) (end_named version (at, bytes) (record_in bytes)) ≡ Ok end → Ends version at bytes end
     by_length true long h = absurd cc
     by_length false long h = by_answer (record_in bytes) long refl h
 
-pub no_end : (at : ℕ) (bytes : List ℕ) (e : TraceFault) → end_on (at, bytes) ≡ Err e → decided (block_faults (at, bytes)) (block_in (at, bytes)) ≡ Err e
+pub no_end : (version : Version) (at : ℕ) (bytes : List ℕ) (e : TraceFault) → end_on version (at, bytes) ≡ Err e → decided (block_faults version (at, bytes)) (block_in (at, bytes)) ≡ Err e
 unfolding end_on
-no_end at bytes e h = grind (arith, common_steps)
+no_end version at bytes e h = grind (arith, common_steps)
 
-pub block_decided : (bytes : List ℕ) (at end : ℕ) → end_on (left_at bytes at) ≡ Ok end → body_on (left_at (take end bytes) (at + 16)) ≡ decided (block_faults (left_at bytes at)) (block_in (left_at bytes at))
-block_decided bytes at end e =
+pub block_decided : (version : Version) (bytes : List ℕ) (at end : ℕ) → end_on version (left_at bytes at) ≡ Ok end → body_on version (left_at (take end bytes) (at + 16)) ≡ decided (block_faults version (left_at bytes at)) (block_in (left_at bytes at))
+block_decided version bytes at end e =
     let rest = drop at bytes in
-    let ends = ends_so at rest end e in
+    let ends = ends_so version at rest end e in
     let n = extents_in rest in
     let place : end ≡ at + 16 + n = omega (arith, ends.place) in
     let part : drop (at + 16) (take end bytes) ≡ take n (drop 16 rest) =
     ap (λ (k : ℕ). drop (at + 16) (take k bytes)) place ∙ drop-take (at + 16) n bytes ∙ ap (take n) (sym (drop-drop 16 at bytes)) in
-    let many : 48 ≤ length (take n (drop 16 rest)) = omega (arith, ends.least, ends.whole, length-take n (drop 16 rest), length-drop 16 rest) in
-    ap (λ (x : List ℕ). body_on (at + 16, x)) part ∙ body_decided (at + 16) (take n (drop 16 rest)) many ∙ rw ends.clean refl
+    let many : preamble_bytes version ≤ length (take n (drop 16 rest)) = omega (arith, ends.least, ends.whole, length-take n (drop 16 rest), length-drop 16 rest) in
+    ap (λ (x : List ℕ). body_on version (at + 16, x)) part ∙ body_decided version (at + 16) (take n (drop 16 rest)) many ∙ rw ends.clean refl
 
-pub block_fails : (bytes : List ℕ) (at end : ℕ) (e : TraceFault) → end_on (left_at bytes at) ≡ Ok end → (e ≡ faults.NoMemory) ⊎ (body_on (left_at (take end bytes) (at + 16)) ≡ Err e)
-    → (e ≡ faults.NoMemory) ⊎ (decided (block_faults (left_at bytes at)) (block_in (left_at bytes at)) ≡ Err e)
-block_fails bytes at end e ended (inl none) = inl none
-block_fails bytes at end e ended (inr is) = inr (sym (block_decided bytes at end ended) ∙ is)
+pub block_fails : (version : Version) (bytes : List ℕ) (at end : ℕ) (e : TraceFault) → end_on version (left_at bytes at) ≡ Ok end → (e ≡ faults.NoMemory) ⊎ (body_on version (left_at (take end bytes) (at + 16)) ≡ Err e)
+    → (e ≡ faults.NoMemory) ⊎ (decided (block_faults version (left_at bytes at)) (block_in (left_at bytes at)) ≡ Err e)
+block_fails version bytes at end e ended (inl none) = inl none
+block_fails version bytes at end e ended (inr is) = inr (sym (block_decided version bytes at end ended) ∙ is)
 
 -- ---- a file
+
+-- the version of a file and its header
+abbrev versioned : List ℕ → Version → Result (Version × Header) TraceFault
+versioned bytes version = Ok (version, header_in bytes)
+
+-- what follows a header
+pub file_opens : (bytes : List ℕ) (version : Version) (header : Header) → header_on bytes ≡ Ok (version, header) → by_places bytes ≡ blocks_read version header [] (block_starts bytes)
+file_opens bytes version header is =
+    header_first bytes (λ v. decided (blocks_faults v bytes) (told_by bytes)) ∙ by_version (opened bytes) (sym (header_first bytes (versioned bytes)) ∙ is)
+  where
+    by_version : (o : Result Version TraceFault) → (o >>= versioned bytes) ≡ Ok (version, header) → (o >>= λ v. decided (blocks_faults v bytes) (told_by bytes)) ≡ blocks_read version header [] (block_starts bytes)
+    by_version (Ok v) e =
+        let found : Version × Header = (v, header_in bytes) in
+        let wanted : Version × Header = (version, header) in
+        let both : found ≡ wanted = cc in
+        ap (λ (x : Version × Header). blocks_read x.0 x.1 [] (block_starts bytes)) both
+    by_version (Err f) e = absurd cc
+
+-- a header that has a fault
+pub file_unopened : (bytes : List ℕ) (e : TraceFault) → header_on bytes ≡ Err e → by_places bytes ≡ Err e
+file_unopened bytes e is =
+    header_first bytes (λ v. decided (blocks_faults v bytes) (told_by bytes)) ∙ by_version (opened bytes) (sym (header_first bytes (versioned bytes)) ∙ is)
+  where
+    by_version : (o : Result Version TraceFault) → (o >>= versioned bytes) ≡ Err e → (o >>= λ v. decided (blocks_faults v bytes) (told_by bytes)) ≡ Err e
+    by_version (Ok v) h = absurd cc
+    by_version (Err f) h = cc
 
 some_wrong : {A B : Type 0} (wrong more : List TraceFault) (x : A) (y : B) (e : TraceFault) → decided wrong x ≡ Err e → decided (wrong ++ more) y ≡ Err e
 some_wrong [] more x y e is = absurd cc
@@ -283,51 +322,51 @@ pub none_wrong : {A : Type 0} (wrong : List TraceFault) (x y : A) → decided wr
 none_wrong [] x y is = (refl, cc)
 none_wrong (fault ∷ later) x y is = absurd cc
 
-blocks_first : (header : Header) (blocks : List Block) (at : ℕ) (bytes : List ℕ) → 0 < length bytes → blocks_read header blocks (starts block_length 0 at bytes)
-    ≡ decided (block_faults (at, bytes) ++ flat_map block_faults (starts block_length 0 (at + block_length bytes) (drop (block_length bytes) bytes)))
+blocks_first : (version : Version) (header : Header) (blocks : List Block) (at : ℕ) (bytes : List ℕ) → 0 < length bytes → blocks_read version header blocks (starts block_length 0 at bytes)
+    ≡ decided (block_faults version (at, bytes) ++ flat_map (block_faults version) (starts block_length 0 (at + block_length bytes) (drop (block_length bytes) bytes)))
     (record { header = header; blocks = blocks ++ block_in (at, bytes) ∷ map block_in (starts block_length 0 (at + block_length bytes) (drop (block_length bytes) bytes)) })
-blocks_first header blocks at bytes some =
-    ap (blocks_read header blocks) (starts_first block_length at bytes some (omega arith))
+blocks_first version header blocks at bytes some =
+    ap (blocks_read version header blocks) (starts_first block_length at bytes some (omega arith))
     ∙ rw flat_map-cons refl
 
 -- a block that has a fault
-pub file_fails : (header : Header) (blocks : List Block) (at : ℕ) (bytes : List ℕ) (e : TraceFault) → 0 < length bytes → decided (block_faults (at, bytes)) (block_in (at, bytes)) ≡ Err e
-    → blocks_read header blocks (starts block_length 0 at bytes) ≡ Err e
-file_fails header blocks at bytes e some is =
-    blocks_first header blocks at bytes some ∙ some_wrong (block_faults (at, bytes)) _ (block_in (at, bytes)) _ e is
+pub file_fails : (version : Version) (header : Header) (blocks : List Block) (at : ℕ) (bytes : List ℕ) (e : TraceFault) → 0 < length bytes → decided (block_faults version (at, bytes)) (block_in (at, bytes)) ≡ Err e
+    → blocks_read version header blocks (starts block_length 0 at bytes) ≡ Err e
+file_fails version header blocks at bytes e some is =
+    blocks_first version header blocks at bytes some ∙ some_wrong (block_faults version (at, bytes)) _ (block_in (at, bytes)) _ e is
 
 -- one more block
-pub file_goes_on : (header : Header) (blocks : List Block) (at : ℕ) (bytes : List ℕ) (block : Block) → 0 < length bytes → decided (block_faults (at, bytes)) (block_in (at, bytes)) ≡ Ok block
-    → blocks_read header blocks (starts block_length 0 at bytes) ≡ blocks_read header (blocks ++ block ∷ []) (starts block_length 0 (at + block_length bytes) (drop (block_length bytes) bytes))
-file_goes_on header blocks at bytes block some is =
+pub file_goes_on : (version : Version) (header : Header) (blocks : List Block) (at : ℕ) (bytes : List ℕ) (block : Block) → 0 < length bytes → decided (block_faults version (at, bytes)) (block_in (at, bytes)) ≡ Ok block
+    → blocks_read version header blocks (starts block_length 0 at bytes) ≡ blocks_read version header (blocks ++ block ∷ []) (starts block_length 0 (at + block_length bytes) (drop (block_length bytes) bytes))
+file_goes_on version header blocks at bytes block some is =
     let left = starts block_length 0 (at + block_length bytes) (drop (block_length bytes) bytes) in
-    let h = none_wrong (block_faults (at, bytes)) (block_in (at, bytes)) block is in
-    blocks_first header blocks at bytes some
-    ∙ rw (h.0, h.1) (ap (λ (all : List Block). decided (flat_map block_faults left) (let made : Trace = record { header = header; blocks = all } in made)) (sym (append_assoc blocks (block ∷ []) (map block_in left))))
+    let h = none_wrong (block_faults version (at, bytes)) (block_in (at, bytes)) block is in
+    blocks_first version header blocks at bytes some
+    ∙ rw (h.0, h.1) (ap (λ (all : List Block). decided (flat_map (block_faults version) left) (let made : Trace = record { header = header; blocks = all } in made)) (sym (append_assoc blocks (block ∷ []) (map block_in left))))
 
 -- no more blocks
-pub file_ends : (header : Header) (blocks : List Block) (at : ℕ) → blocks_read header blocks (starts block_length 0 at []) ≡ Ok (record { header = header; blocks = blocks })
+pub file_ends : (version : Version) (header : Header) (blocks : List Block) (at : ℕ) → blocks_read version header blocks (starts block_length 0 at []) ≡ Ok (record { header = header; blocks = blocks })
 unfolding starts
-file_ends header blocks at = ap (λ (all : List Block). let made : Result Trace TraceFault = Ok (record { header = header; blocks = all }) in made) (append-nil blocks)
+file_ends version header blocks at = ap (λ (all : List Block). let made : Result Trace TraceFault = Ok (record { header = header; blocks = all }) in made) (append-nil blocks)
 
 -- one more block, at a place of a file
-pub file_more : (trace : Result Trace TraceFault) (header : Header) (blocks more : List Block) (all : List ℕ) (at next : ℕ) (block : Block) → trace ≡ blocks_read header blocks (starts block_length 0 at (drop at all))
-    → at < length all → decided (block_faults (at, drop at all)) (block_in (at, drop at all)) ≡ Ok block → next ≡ at + block_length (drop at all) → more ≡ blocks ++ block ∷ []
-    → trace ≡ blocks_read header more (starts block_length 0 next (drop next all))
-file_more trace header blocks more all at next block so_far within is on pushed =
+pub file_more : (version : Version) (trace : Result Trace TraceFault) (header : Header) (blocks more : List Block) (all : List ℕ) (at next : ℕ) (block : Block) → trace ≡ blocks_read version header blocks (starts block_length 0 at (drop at all))
+    → at < length all → decided (block_faults version (at, drop at all)) (block_in (at, drop at all)) ≡ Ok block → next ≡ at + block_length (drop at all) → more ≡ blocks ++ block ∷ []
+    → trace ≡ blocks_read version header more (starts block_length 0 next (drop next all))
+file_more version trace header blocks more all at next block so_far within is on pushed =
     let rest = drop at all in
     let some : 0 < length rest = omega (arith, length-drop at all) in
     so_far
-    ∙ file_goes_on header blocks at rest block some is
-    ∙ ap (λ (x : List ℕ). blocks_read header (blocks ++ block ∷ []) (starts block_length 0 (at + block_length rest) x)) (drop-drop (block_length rest) at all)
-    ∙ ap (λ (n : ℕ). blocks_read header (blocks ++ block ∷ []) (starts block_length 0 n (drop n all))) (sym on)
-    ∙ ap (λ (x : List Block). blocks_read header x (starts block_length 0 next (drop next all))) (sym pushed)
+    ∙ file_goes_on version header blocks at rest block some is
+    ∙ ap (λ (x : List ℕ). blocks_read version header (blocks ++ block ∷ []) (starts block_length 0 (at + block_length rest) x)) (drop-drop (block_length rest) at all)
+    ∙ ap (λ (n : ℕ). blocks_read version header (blocks ++ block ∷ []) (starts block_length 0 n (drop n all))) (sym on)
+    ∙ ap (λ (x : List Block). blocks_read version header x (starts block_length 0 next (drop next all))) (sym pushed)
 
 abbrev pub fails : TraceFault → Result Trace TraceFault
 fails e = Err e
 
 -- a block that couldn't be read
-pub file_refused : (trace : Result Trace TraceFault) (header : Header) (blocks : List Block) (at : ℕ) (bytes : List ℕ) (e : TraceFault) → trace ≡ blocks_read header blocks (starts block_length 0 at bytes)
-    → 0 < length bytes → (e ≡ faults.NoMemory) ⊎ (decided (block_faults (at, bytes)) (block_in (at, bytes)) ≡ Err e) → (fails e ≡ fails faults.NoMemory) ⊎ (fails e ≡ trace)
-file_refused trace header blocks at bytes e so_far some (inl none) = inl (ap (λ (f : TraceFault). Err f) none)
-file_refused trace header blocks at bytes e so_far some (inr is) = inr (sym (so_far ∙ file_fails header blocks at bytes e some is))
+pub file_refused : (version : Version) (trace : Result Trace TraceFault) (header : Header) (blocks : List Block) (at : ℕ) (bytes : List ℕ) (e : TraceFault) → trace ≡ blocks_read version header blocks (starts block_length 0 at bytes)
+    → 0 < length bytes → (e ≡ faults.NoMemory) ⊎ (decided (block_faults version (at, bytes)) (block_in (at, bytes)) ≡ Err e) → (fails e ≡ fails faults.NoMemory) ⊎ (fails e ≡ trace)
+file_refused version trace header blocks at bytes e so_far some (inl none) = inl (ap (λ (f : TraceFault). Err f) none)
+file_refused version trace header blocks at bytes e so_far some (inr is) = inr (sym (so_far ∙ file_fails version header blocks at bytes e some is))

@@ -6,4 +6,5 @@ pub mod Gathered
 pub mod Accepting
 pub mod Returning
 pub mod Described
+pub mod Memory
 mod Flags

@@ -15,7 +15,10 @@ use Rattle.fdr_record.specs.Records.{length_of, record_bytes, told_by, FieldsFit
 use Rattle.fdr_buffer.specs.Segments.{bytes_of, is_out_of_reach, records_after, records_of, EventFits}
 use Rattle.fdr_buffer.specs.Filled.{Filled, used_bytes}
 use Rattle.fdr_file.specs.declared.header.Header.{Header}
+use Rattle.fdr_file.specs.declared.trace.Block.{Block}
+use Rattle.fdr_file.specs.declared.version.Version.TheVariants.{Three}
 use Rattle.fdr_file.specs.Events.{counter_at, cpu_of, deltas_since, events_after, whole_counter}
+use Rattle.fdr_file.specs.Traces.{version_of}
 use Rattle.fdr_file.specs.Grammar.{AreBlocks, AreSpelled, BeginWithCpu, IsBlock, IsHeader, IsInner, IsTrace, block_records}
 use Rattle.fdr_file.specs.Files.{BlockFits, HeaderFits, block_bytes, block_told, file_bytes, flags_of, header_bytes, trace_told}
 
@@ -149,11 +152,11 @@ based : (events : List Event) → BeginWithCpu (records_after None events)
 based [] = tt
 based (event ∷ events) = refl
 
-body_spelled : (b : Filled) → b.begun ≡ true → bytes_of (block_records (block_told b) (records_after None b.events)) ≡ used_bytes b
+body_spelled : (b : Filled) → b.begun ≡ true → bytes_of (block_records Three (block_told b) (records_after None b.events)) ≡ used_bytes b
 body_spelled b begun =
     rw begun (flat_map-append record_bytes (NewBuffer b.thread ∷ WallTime b.wall ∷ Pid b.pid ∷ []) (records_after None b.events))
 
-block_is : (b : Filled) → BlockFits b → IsBlock (block_bytes b) (block_told b)
+block_is : (b : Filled) → BlockFits b → IsBlock Three (block_bytes b) (block_told b)
 block_is b block =
     let fits = block.fits in
     let records = records_after None b.events in
@@ -165,13 +168,13 @@ block_is b block =
       named = spells_own (Extents (length (used_bytes b)));
       few = omega (arith, fits.within, fits.most);
       records = records;
-      spelled = subst (AreSpelled (block_records (block_told b) records)) (body_spelled b block.begun) (spelled_own (block_records (block_told b) records) (fits.preamble.thread, ((fits.preamble.secs, fits.preamble.micros), (fits.preamble.pid, all.fit))));
+      spelled = subst (AreSpelled (block_records Three (block_told b) records)) (body_spelled b block.begun) (spelled_own (block_records Three (block_told b) records) (fits.preamble.thread, ((fits.preamble.secs, fits.preamble.micros), (fits.preamble.pid, all.fit))));
       inner = all.inner;
       based = based b.events;
-      told = sym all.told;
+      told = ap (λ (events : List Event). let made : Block = record { thread = b.thread; wall = b.wall; pid = b.pid; events = events } in made) (sym all.told);
     }
 
-blocks_are : (buffers : List Filled) → AllByRecursion BlockFits buffers → AreBlocks (map block_told buffers) (flat_map block_bytes buffers)
+blocks_are : (buffers : List Filled) → AllByRecursion BlockFits buffers → AreBlocks Three (map block_told buffers) (flat_map block_bytes buffers)
 blocks_are [] fit = refl
 blocks_are (b ∷ buffers) (here, rest) = (block_bytes b, flat_map block_bytes buffers, flat_map-cons block_bytes b buffers, block_is b here, blocks_are buffers rest)
 
@@ -195,12 +198,12 @@ flags_few true false = lit< tt
 flags_few false true = lit< tt
 flags_few false false = lit< tt
 
-header_is : (header : Header) → HeaderFits header → IsHeader (header_bytes header) header
+header_is : (header : Header) → HeaderFits header → IsHeader Three (header_bytes header) header
 header_is header fits = record {
   flags = flags_of header;
   reserved = replicate 8 0;
-  spelled = rw fits.version refl;
-  version = fits.version;
+  spelled = refl;
+  accepted = ap version_of fits.version;
   constant = constant_is header.constant header.nonstop;
   nonstop = nonstop_is header.constant header.nonstop;
   flags_fit = flags_few header.constant header.nonstop;
@@ -211,6 +214,7 @@ header_is header fits = record {
 
 pub file_is_trace : (header : Header) (buffers : List Filled) → HeaderFits header → All BlockFits buffers → IsTrace (file_bytes header buffers) (trace_told header buffers)
 file_is_trace header buffers header_fits fit = record {
+  version = Three;
   front = header_bytes header;
   following = flat_map block_bytes buffers;
   parts = refl;

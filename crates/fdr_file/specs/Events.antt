@@ -2,7 +2,7 @@
 use Rattle.std.specs.Prelude.{ℕ, ◌+◌, ◌%◌, ◌^◌, List, [], ◌∷◌, sum}
 use Rattle.fdr_record.specs.declared.event.Event.{Event}
 use Rattle.fdr_record.specs.declared.rec.Rec.{Rec}
-use Rattle.fdr_record.specs.declared.rec.Rec.TheVariants.{NewCpu, TscWrap, Function}
+use Rattle.fdr_record.specs.declared.rec.Rec.TheVariants.{NewBuffer, NewCpu, TscWrap, WallTime, Pid, Extents, Function}
 
 -- Below, the records before an event are listed from the last one to the first.
 
@@ -10,14 +10,23 @@ use Rattle.fdr_record.specs.declared.rec.Rec.TheVariants.{NewCpu, TscWrap, Funct
 abbrev pub cpu_of : List Rec → ℕ
 cpu_of [] = 0
 cpu_of (NewCpu cpu tsc ∷ before) = cpu
-cpu_of (r ∷ before) = cpu_of before
+cpu_of (TscWrap tsc ∷ before) = cpu_of before
+cpu_of (Function kind func delta ∷ before) = cpu_of before
+cpu_of (NewBuffer thread ∷ before) = cpu_of before
+cpu_of (WallTime wall ∷ before) = cpu_of before
+cpu_of (Pid pid ∷ before) = cpu_of before
+cpu_of (Extents size ∷ before) = cpu_of before
 
 -- the last whole counter
 abbrev pub whole_counter : List Rec → ℕ
 whole_counter [] = 0
 whole_counter (NewCpu cpu tsc ∷ before) = tsc
 whole_counter (TscWrap tsc ∷ before) = tsc
-whole_counter (r ∷ before) = whole_counter before
+whole_counter (Function kind func delta ∷ before) = whole_counter before
+whole_counter (NewBuffer thread ∷ before) = whole_counter before
+whole_counter (WallTime wall ∷ before) = whole_counter before
+whole_counter (Pid pid ∷ before) = whole_counter before
+whole_counter (Extents size ∷ before) = whole_counter before
 
 -- all deltas after the last whole counter
 abbrev pub deltas_since : List Rec → List ℕ
@@ -25,7 +34,10 @@ deltas_since [] = []
 deltas_since (NewCpu cpu tsc ∷ before) = []
 deltas_since (TscWrap tsc ∷ before) = []
 deltas_since (Function kind func delta ∷ before) = delta ∷ deltas_since before
-deltas_since (r ∷ before) = deltas_since before
+deltas_since (NewBuffer thread ∷ before) = deltas_since before
+deltas_since (WallTime wall ∷ before) = deltas_since before
+deltas_since (Pid pid ∷ before) = deltas_since before
+deltas_since (Extents size ∷ before) = deltas_since before
 
 -- the counter at the last record: the last whole one and all deltas after it, in 64 bits
 abbrev pub counter_at : List Rec → ℕ
@@ -37,7 +49,12 @@ events_after before [] = []
 events_after before (Function kind func delta ∷ records) =
     record { cpu = cpu_of before; func = func; kind = kind; tsc = counter_at (Function kind func delta ∷ before) }
     ∷ events_after (Function kind func delta ∷ before) records
-events_after before (r ∷ records) = events_after (r ∷ before) records
+events_after before (NewCpu cpu tsc ∷ records) = events_after (NewCpu cpu tsc ∷ before) records
+events_after before (TscWrap tsc ∷ records) = events_after (TscWrap tsc ∷ before) records
+events_after before (NewBuffer thread ∷ records) = events_after (NewBuffer thread ∷ before) records
+events_after before (WallTime wall ∷ records) = events_after (WallTime wall ∷ before) records
+events_after before (Pid pid ∷ records) = events_after (Pid pid ∷ before) records
+events_after before (Extents size ∷ records) = events_after (Extents size ∷ before) records
 
 -- the events of a block's records
 abbrev pub events_said : List Rec → List Event

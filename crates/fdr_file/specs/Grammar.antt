@@ -1,24 +1,24 @@
 -- What a trace file is: a header, and blocks, one after the other.
-use Rattle.std.specs.Prelude.{◌≡◌, ◌<◌, ◌^◌, ◌/◌, ◌%◌, ◌==◌, ◌||◌, ⊤, ℕ, List, [], ◌∷◌, ◌++◌, length, IsTrue}
+use Rattle.std.specs.Prelude.{◌≡◌, ◌<◌, ◌^◌, ◌/◌, ◌%◌, ◌==◌, ◌||◌, ⊤, ℕ, List, [], ◌∷◌, ◌++◌, Some, length, map, IsTrue}
 use Rattle.std.specs.List.{AllByRecursion}
 use Rattle.byteorder.specs.Endian.{little_bytes}
 use Rattle.fdr_record.specs.declared.rec.Rec.{Rec}
 use Rattle.fdr_record.specs.declared.rec.Rec.TheVariants.{NewBuffer, WallTime, Pid, Extents}
 use Rattle.fdr_record.specs.Records.{FieldsFit, Spells}
 use Rattle.fdr_file.specs.declared.header.Header.{Header}
+use Rattle.fdr_file.specs.declared.version.Version.{Version}
 use Rattle.fdr_file.specs.declared.trace.Block.{Block}
 use Rattle.fdr_file.specs.declared.trace.Trace.{Trace}
-use Rattle.fdr_file.specs.Events.{events_said}
-use Rattle.fdr_file.specs.Traces.{names_cpu, needs_cpu}
+use Rattle.fdr_file.specs.Traces.{PreambleItem, TheProcess, TheThread, TheWallTime, block_of, names_cpu, needs_cpu, preamble_of, version_of}
 
--- The bytes are a header with these fields, of version 3 and of the type of the Flight Data Recorder mode. The flags
+-- The bytes are a header with these fields, of this version and of the type of the Flight Data Recorder mode. The flags
 -- above the second, and the last 8 bytes, may have any values.
-pub record IsHeader (bytes : List ℕ) (header : Header) : Type 0 where
+pub record IsHeader (version : Version) (bytes : List ℕ) (header : Header) : Type 0 where
   pub flags : ℕ
   pub reserved : List ℕ
-  pub spelled : bytes ≡ little_bytes 2 3 ++ (little_bytes 2 1 ++ (little_bytes 4 flags ++ (little_bytes 8 header.frequency
+  pub spelled : bytes ≡ little_bytes 2 header.version ++ (little_bytes 2 1 ++ (little_bytes 4 flags ++ (little_bytes 8 header.frequency
       ++ (little_bytes 8 header.size ++ reserved))))
-  pub version : header.version ≡ 3
+  pub accepted : version_of header.version ≡ Some version
   pub constant : header.constant ≡ (flags % 2 == 1)
   pub nonstop : header.nonstop ≡ (flags / 2 % 2 == 1)
   pub flags_fit : flags < 2 ^ 32
@@ -40,34 +40,41 @@ abbrev pub BeginWithCpu : List Rec → Type 0
 BeginWithCpu [] = ⊤
 BeginWithCpu (r ∷ records) = IsTrue (names_cpu r)
 
--- the records of a block
-abbrev pub block_records : Block → List Rec → List Rec
-block_records block records = NewBuffer block.thread ∷ WallTime block.wall ∷ Pid block.pid ∷ records
+-- the record that names this of a block
+abbrev pub naming : Block → PreambleItem → Rec
+naming block TheThread = NewBuffer block.thread
+naming block TheWallTime = WallTime block.wall
+naming block TheProcess = Pid block.pid
+
+-- the records of a block: the preamble, and these
+abbrev pub block_records : Version → Block → List Rec → List Rec
+block_records version block records = map (naming block) (preamble_of version) ++ records
 
 -- The bytes are a block: extents, and as many bytes as they name. These spell a preamble and records, which say the
--- block's events.
-pub record IsBlock (bytes : List ℕ) (block : Block) : Type 0 where
+-- block: its events, and 0 for what no record names.
+pub record IsBlock (version : Version) (bytes : List ℕ) (block : Block) : Type 0 where
   pub extents : List ℕ
   pub body : List ℕ
   pub parts : bytes ≡ extents ++ body
   pub named : Spells extents (Extents (length body))
   pub few : length body < 2 ^ 64
   pub records : List Rec
-  pub spelled : AreSpelled (block_records block records) body
+  pub spelled : AreSpelled (block_records version block records) body
   pub inner : AllByRecursion IsInner records
   pub based : BeginWithCpu records
-  pub told : block.events ≡ events_said (block_records block records)
+  pub told : block ≡ block_of (block_records version block records)
 
 -- the bytes are these blocks, one after the other
-abbrev pub AreBlocks : List Block → List ℕ → Type 0
-AreBlocks [] bytes = bytes ≡ []
-AreBlocks (block ∷ blocks) bytes =
-    (front : List ℕ) × (following : List ℕ) × (bytes ≡ front ++ following) × IsBlock front block × AreBlocks blocks following
+abbrev pub AreBlocks : Version → List Block → List ℕ → Type 0
+AreBlocks version [] bytes = bytes ≡ []
+AreBlocks version (block ∷ blocks) bytes =
+    (front : List ℕ) × (following : List ℕ) × (bytes ≡ front ++ following) × IsBlock version front block × AreBlocks version blocks following
 
--- The bytes of a file are this trace.
+-- The bytes of a file are this trace: a header, and blocks of its version.
 pub record IsTrace (bytes : List ℕ) (trace : Trace) : Type 0 where
+  pub version : Version
   pub front : List ℕ
   pub following : List ℕ
   pub parts : bytes ≡ front ++ following
-  pub header : IsHeader front trace.header
-  pub blocks : AreBlocks trace.blocks following
+  pub header : IsHeader version front trace.header
+  pub blocks : AreBlocks version trace.blocks following

@@ -1,16 +1,19 @@
 -- The trace that the bytes of a file read as, and what is wrong with them.
-use Rattle.std.specs.Prelude.{ℕ, zero, suc, ◌+◌, ◌/◌, ◌%◌, ◌==◌, ◌||◌, ◌&&◌, Bool, true, false, List, [], ◌∷◌, ◌++◌, length, take, drop, map, Option, Some, None, is_some, Result, Ok, Err, nat_lt, not, slice_index, if◌then◌else◌}
+use Rattle.std.specs.Prelude.{ℕ, zero, suc, ◌+◌, ◌*◌, ◌/◌, ◌%◌, ◌==◌, ◌||◌, ◌&&◌, Bool, true, false, List, [], ◌∷◌, ◌++◌, length, take, drop, map, Option, Some, None, is_some, Result, Ok, Err, nat_lt, not, slice_index, if◌then◌else◌}
 use Rattle.std.specs.List.{filter_map, list_any}
 use Rattle.byteorder.specs.Endian.{little_number}
-use Rattle.xray_io.specs.Rows.{First, InTurn, ◌>>=◌}
+use Rattle.xray_io.specs.Rows.{First, InTurn, NeedsPart, ◌>>=◌}
 use Rattle.xray_io.specs.declared.wall.Wall.{Wall}
 use Rattle.fdr_record.specs.declared.rec.Rec.{Rec}
 use Rattle.fdr_record.specs.declared.rec.Rec.TheVariants.{NewBuffer, NewCpu, TscWrap, WallTime, Pid, Extents, Function}
 use Rattle.fdr_record.specs.declared.fault.RecFault.{RecFault}
 use Rattle.fdr_record.specs.declared.fault.RecFault.TheVariants as decoder_faults
+use Rattle.fdr_record.specs.Records.{metadata_length}
 use Rattle.fdr_record.specs.Refusals.{length_by}
 use Rattle.fdr_record.specs.Reading.{function_record_at, metadata_record_at}
 use Rattle.fdr_file.specs.declared.header.Header.{Header}
+use Rattle.fdr_file.specs.declared.version.Version.{Version}
+use Rattle.fdr_file.specs.declared.version.Version.TheVariants.{Three}
 use Rattle.fdr_file.specs.declared.fault.TraceFault.{TraceFault}
 use Rattle.fdr_file.specs.declared.fault.TraceFault.TheVariants as faults
 use Rattle.fdr_file.specs.declared.trace.Block.{Block}
@@ -40,13 +43,17 @@ header_in bytes = record {
   size = little_number 8 (drop 16 bytes);
 }
 
--- A header is whole, of version 3, and of the type of the Flight Data Recorder mode.
-abbrev pub header_rows : {A : Type 0} → List ℕ → Result A TraceFault → Result A TraceFault
+-- the version with this number, if it is read
+abbrev pub version_of : ℕ → Option Version
+version_of number = if number == 3 then Some Three else None
+
+-- A header is whole, of a version that is read, and of the type of the Flight Data Recorder mode.
+abbrev pub header_rows : {A : Type 0} → List ℕ → (Version → Result A TraceFault) → Result A TraceFault
 header_rows bytes follows =
     First (nat_lt (length bytes) 32) (Err (faults.Short 0))
-    (First (not (version_in bytes == 3)) (Err (faults.Version (version_in bytes)))
-    (First (not (type_in bytes == 1)) (Err (faults.Form (type_in bytes)))
-    follows))
+    (NeedsPart (version_of (version_in bytes)) (Err (faults.Version (version_in bytes))) λ version.
+    First (not (type_in bytes == 1)) (Err (faults.Form (type_in bytes)))
+    (follows version))
 
 -- ---- the records of a block
 
@@ -79,49 +86,103 @@ records_among ((at, Err fault) ∷ following) = records_among following
 -- the thread that a record names, if a buffer begins with it
 abbrev pub thread_named : Rec → Option ℕ
 thread_named (NewBuffer thread) = Some thread
-thread_named r = None
+thread_named (NewCpu cpu tsc) = None
+thread_named (TscWrap tsc) = None
+thread_named (WallTime wall) = None
+thread_named (Pid pid) = None
+thread_named (Extents size) = None
+thread_named (Function kind func delta) = None
 
 -- the wall time that a record says
 abbrev pub wall_named : Rec → Option Wall
+wall_named (NewBuffer thread) = None
+wall_named (NewCpu cpu tsc) = None
+wall_named (TscWrap tsc) = None
 wall_named (WallTime wall) = Some wall
-wall_named r = None
+wall_named (Pid pid) = None
+wall_named (Extents size) = None
+wall_named (Function kind func delta) = None
 
 -- the process that a record names
 abbrev pub pid_named : Rec → Option ℕ
+pid_named (NewBuffer thread) = None
+pid_named (NewCpu cpu tsc) = None
+pid_named (TscWrap tsc) = None
+pid_named (WallTime wall) = None
 pid_named (Pid pid) = Some pid
-pid_named r = None
+pid_named (Extents size) = None
+pid_named (Function kind func delta) = None
+
+-- the number of bytes that a record says that a block has
+abbrev pub size_named : Rec → Option ℕ
+size_named (NewBuffer thread) = None
+size_named (NewCpu cpu tsc) = None
+size_named (TscWrap tsc) = None
+size_named (WallTime wall) = None
+size_named (Pid pid) = None
+size_named (Extents size) = Some size
+size_named (Function kind func delta) = None
 
 -- the record says a CPU and its counter
 abbrev pub names_cpu : Rec → Bool
+names_cpu (NewBuffer thread) = false
 names_cpu (NewCpu cpu tsc) = true
-names_cpu r = false
+names_cpu (TscWrap tsc) = false
+names_cpu (WallTime wall) = false
+names_cpu (Pid pid) = false
+names_cpu (Extents size) = false
+names_cpu (Function kind func delta) = false
 
 -- the record has a meaning only after one that names a CPU
 abbrev pub needs_cpu : Rec → Bool
+needs_cpu (NewBuffer thread) = false
+needs_cpu (NewCpu cpu tsc) = false
 needs_cpu (TscWrap tsc) = true
+needs_cpu (WallTime wall) = false
+needs_cpu (Pid pid) = false
+needs_cpu (Extents size) = false
 needs_cpu (Function kind func delta) = true
-needs_cpu r = false
 
--- The record may be number n of its block, counted from 0. The first three are the preamble. CPUs, counters and
+-- what a record of a preamble names
+pub data PreambleItem : Type 0 where
+  TheThread : PreambleItem
+  TheWallTime : PreambleItem
+  TheProcess : PreambleItem
+
+-- what the first records of a block name, in order
+abbrev pub preamble_of : Version → List PreambleItem
+preamble_of Three = TheThread ∷ TheWallTime ∷ TheProcess ∷ []
+
+-- how many bytes these records have
+abbrev pub preamble_bytes : Version → ℕ
+preamble_bytes version = metadata_length * length (preamble_of version)
+
+-- the record names this
+abbrev pub names_item : PreambleItem → Rec → Bool
+names_item TheThread r = is_some (thread_named r)
+names_item TheWallTime r = is_some (wall_named r)
+names_item TheProcess r = is_some (pid_named r)
+
+-- The record may be number n of its block, counted from 0, if the first records name these items. CPUs, counters and
 -- functions follow.
-abbrev pub may_be : ℕ → Rec → Bool
-may_be zero r = is_some (thread_named r)
-may_be (suc zero) r = is_some (wall_named r)
-may_be (suc (suc zero)) r = is_some (pid_named r)
-may_be (suc (suc (suc n))) r = names_cpu r || needs_cpu r
+abbrev pub may_be : List PreambleItem → ℕ → Rec → Bool
+may_be [] n r = names_cpu r || needs_cpu r
+may_be (item ∷ items) zero r = names_item item r
+may_be (item ∷ items) (suc n) r = may_be items n r
 
 -- why no record is at a place: the block ends too early, or its action or kind isn't one
 abbrev pub fault_at : ℕ → RecFault → TraceFault
 fault_at at decoder_faults.Short = faults.Extents at
-fault_at at fault = faults.Bad at fault
+fault_at at (decoder_faults.Action action) = faults.Bad at (decoder_faults.Action action)
+fault_at at (decoder_faults.Kind kind) = faults.Bad at (decoder_faults.Kind kind)
 
 -- what is at a place, after the records before it, the last of them first
-abbrev pub record_rows : List Rec → Standing → Result (List Rec) TraceFault
-record_rows before (at, Ok r) =
-    First (not (may_be (length before) r)) (Err (faults.Order at))
+abbrev pub record_rows : Version → List Rec → Standing → Result (List Rec) TraceFault
+record_rows version before (at, Ok r) =
+    First (not (may_be (preamble_of version) (length before) r)) (Err (faults.Order at))
     (First (needs_cpu r && not (list_any names_cpu before)) (Err (faults.NoBase at))
     (Ok (r ∷ before)))
-record_rows before (at, Err fault) = Err (fault_at at fault)
+record_rows version before (at, Err fault) = Err (fault_at at fault)
 
 -- ---- blocks
 
@@ -156,18 +217,18 @@ abbrev pub block_in : ℕ × List ℕ → Block
 block_in start = block_of (records_among (block_standings start))
 
 -- The block that begins at a place: its first record, the number of bytes that it names, and its records.
-abbrev pub extents_rows : ℕ × List ℕ → Result Rec RecFault → Result Block TraceFault
-extents_rows (at, bytes) (Ok (Extents size)) =
-    First (nat_lt size 48) (Err (faults.Extents at))
+abbrev pub extents_rows : Version → ℕ × List ℕ → Result Rec RecFault → Result Block TraceFault
+extents_rows version (at, bytes) (Ok r) =
+    NeedsPart (size_named r) (Err (faults.Order at)) λ size.
+    First (nat_lt size (preamble_bytes version)) (Err (faults.Extents at))
     (First (nat_lt (length bytes) (16 + size)) (Err (faults.Short at))
-    (InTurn record_rows [] (block_standings (at, bytes)) >>= λ _. Ok (block_in (at, bytes))))
-extents_rows (at, bytes) (Ok r) = Err (faults.Order at)
-extents_rows (at, bytes) (Err fault) = Err (faults.Bad at fault)
+    (InTurn (record_rows version) [] (block_standings (at, bytes)) >>= λ _. Ok (block_in (at, bytes))))
+extents_rows version (at, bytes) (Err fault) = Err (faults.Bad at fault)
 
-abbrev pub block_rows : List Block → ℕ × List ℕ → Result (List Block) TraceFault
-block_rows before (at, bytes) =
+abbrev pub block_rows : Version → List Block → ℕ × List ℕ → Result (List Block) TraceFault
+block_rows version before (at, bytes) =
     First (nat_lt (length bytes) 16) (Err (faults.Short at))
-    (extents_rows (at, bytes) (record_in bytes) >>= λ block. Ok (before ++ block ∷ []))
+    (extents_rows version (at, bytes) (record_in bytes) >>= λ block. Ok (before ++ block ∷ []))
 
 -- ---- files
 
@@ -178,5 +239,5 @@ block_starts bytes = starts block_length 0 32 (drop 32 bytes)
 -- The trace of a file, or the fault of the first place that has one.
 abbrev pub trace_of : List ℕ → Result Trace TraceFault
 trace_of bytes =
-    header_rows bytes
-    (InTurn block_rows [] (block_starts bytes) >>= λ blocks. Ok (record { header = header_in bytes; blocks = blocks }))
+    header_rows bytes λ version.
+    InTurn (block_rows version) [] (block_starts bytes) >>= λ blocks. Ok (record { header = header_in bytes; blocks = blocks })

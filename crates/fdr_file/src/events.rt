@@ -38,7 +38,9 @@ fn step(at: u64, rec: Rec, base: Option<Base>) -> Result<(Base, Option<Event>), 
             };
             Ok((Base { cpu, tsc }, Some(event)))
         }
-        _ => Err(TraceFault::Order(at)),
+        Rec::NewBuffer { .. } | Rec::WallTime { .. } | Rec::Pid { .. } | Rec::Extents { .. } => {
+            Err(TraceFault::Order(at))
+        }
     }
 }
 

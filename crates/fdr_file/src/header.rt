@@ -1,18 +1,14 @@
 //! The header of a trace file.
 
-ghost use Rattle.std.specs.Prelude.{◌≡◌, ◌≤◌, ◌+◌, length, drop, Ok, Err};
+ghost use Rattle.std.specs.Prelude.{◌≡◌, ◌≤◌, ◌+◌, length, drop};
 ghost use Rattle.byteorder.specs.Endian.{little_number};
-ghost use Rattle.fdr_file.specs.Traces.{header_in};
-ghost use Rattle.fdr_file.specs.private.Faults.{decided, header_faults};
+ghost use Rattle.fdr_file.specs.private.Reading.{header_on};
 
-use crate::TraceFault;
+use crate::{TraceFault, Version};
 use byteorder::{ByteOrder, LittleEndian};
 
 /// The length of a header in bytes.
 pub(crate) const HEADER_BYTES: usize = 32;
-
-/// The version of the files that are read and written.
-pub const VERSION: u16 = 3;
 
 /// The type of files of the Flight Data Recorder mode.
 pub(crate) const FDR: u16 = 1;
@@ -80,28 +76,29 @@ fn u64_at(bytes: &[u8], at: usize) -> u64
     LittleEndian::read_u64(bytes.split_at(at).1)
 }
 
-/// The header of a file, or its first fault.
+/// The version of a file and its header, or the first fault of the header.
 #[tactic(auto, using(crate::proofs::Flags::first_flag, crate::proofs::Flags::second_flag))]
-pub(crate) fn read_header(bytes: &[u8]) -> Result<Header, TraceFault>
-    ensures { result ≡ decided (header_faults bytes.now) (header_in bytes.now) }
+pub(crate) fn read_header(bytes: &[u8]) -> Result<(Version, Header), TraceFault>
+    ensures { result ≡ header_on bytes.now }
 {
     if bytes.len() < HEADER_BYTES {
         return Err(TraceFault::Short(0));
     }
-    let version = u16_at(bytes, VERSION_AT);
-    if version != VERSION {
-        return Err(TraceFault::Version(version));
-    }
+    let number = u16_at(bytes, VERSION_AT);
+    let Some(version) = Version::of(number) else {
+        return Err(TraceFault::Version(number));
+    };
     let form = u16_at(bytes, TYPE_AT);
     if form != FDR {
         return Err(TraceFault::Form(form));
     }
     let flags = u32_at(bytes, FLAGS_AT);
-    Ok(Header {
-        version,
+    let header = Header {
+        version: number,
         constant: flags & CONSTANT != 0,
         nonstop: flags & NONSTOP != 0,
         frequency: u64_at(bytes, FREQUENCY_AT),
         size: u64_at(bytes, SIZE_AT),
-    })
+    };
+    Ok((version, header))
 }

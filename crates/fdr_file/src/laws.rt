@@ -1,6 +1,6 @@
 //! Laws of the bytes of files. Each law is the contract of a function that does nothing.
 
-ghost use Rattle.std.specs.Prelude.{◌≡◌, ◌<◌, List, ℕ, All, Ok};
+ghost use Rattle.std.specs.Prelude.{◌≡◌, ◌≢◌, ◌<◌, List, ℕ, All, Ok, Err};
 ghost use Rattle.fdr_buffer.specs.Filled.{Filled};
 ghost use Rattle.fdr_record.specs.Refusals.{Answers};
 ghost use Rattle.fdr_file.specs.declared.header.Header.{Header};
@@ -8,6 +8,7 @@ ghost use Rattle.fdr_file.specs.declared.trace.Trace.{Trace};
 ghost use Rattle.fdr_file.specs.Files.{file_bytes, trace_told, BlockFits, HeaderFits};
 ghost use Rattle.fdr_file.specs.{Grammar.{IsTrace}, Traces.{record_in, trace_of}};
 
+use crate::TraceFault;
 use fdr_record::one_answer;
 
 /// What a place of a file is read as is what the decoder of records answers there: the record that
@@ -43,4 +44,9 @@ pub fn a_file_reads_back()
     ensures read { (header : Header) (buffers : List Filled) → HeaderFits header
         → All BlockFits buffers
         → trace_of (file_bytes header buffers) ≡ Ok (trace_told header buffers) }
+{}
+
+/// What bytes read as doesn't depend on memory: no bytes read as `NoMemory`.
+pub fn no_bytes_are_out_of_memory()
+    ensures { (bytes : List ℕ) → trace_of bytes ≢ Err TraceFault.NoMemory }
 {}

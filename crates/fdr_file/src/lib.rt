@@ -12,11 +12,16 @@ mod preamble;
 mod reading;
 mod records;
 mod trace;
+mod version;
 mod writing;
 
 pub use fault::TraceFault;
-pub use header::{Header, VERSION};
-pub use laws::{a_file_reads_back, a_place_is_decoded, a_trace_is_read, what_is_read_is_a_trace};
+pub use header::Header;
+pub use laws::{
+    a_file_reads_back, a_place_is_decoded, a_trace_is_read, no_bytes_are_out_of_memory,
+    what_is_read_is_a_trace,
+};
 pub use reading::read_trace;
 pub use trace::{Block, Blocks, Events, Items, Trace};
+pub use version::{VERSION, Version};
 pub use writing::{TraceFile, write_file};

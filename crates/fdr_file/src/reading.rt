@@ -22,11 +22,11 @@ use std::alloc::Global;
 pub fn read_trace(alloc: Global, bytes: &[u8]) -> Result<Trace, TraceFault>
     ensures reads { (result ≡ Err NoMemory) ⊎ (result ≡ trace_of bytes.now) }
 {
-    let header = read_header(bytes)?;
+    let (version, header) = read_header(bytes)?;
     let mut blocks = Vec::new(alloc);
     let mut at = HEADER_BYTES;
     'reading: while at < bytes.len() {
-        let (block, next) = read_block(alloc, bytes, at)?;
+        let (block, next) = read_block(alloc, version, bytes, at)?;
         blocks.push(block)?;
         at = next;
     }

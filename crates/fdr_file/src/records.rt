@@ -25,6 +25,8 @@ pub(crate) fn record_at(block: &[u8], at: usize) -> Result<(Rec, usize), TraceFa
     match taken_at(block, at) {
         Ok(found) => Ok(found),
         Err(RecFault::Short) => Err(TraceFault::Extents(at as u64)),
-        Err(fault) => Err(TraceFault::Bad(at as u64, fault)),
+        Err(fault @ (RecFault::Action(_) | RecFault::Kind(_))) => {
+            Err(TraceFault::Bad(at as u64, fault))
+        }
     }
 }

@@ -60,8 +60,13 @@ metadata_length = 16
 
 -- how many bytes a record has
 abbrev pub length_of : Rec → ℕ
+length_of (NewBuffer thread) = metadata_length
+length_of (NewCpu cpu tsc) = metadata_length
+length_of (TscWrap tsc) = metadata_length
+length_of (WallTime wall) = metadata_length
+length_of (Pid id) = metadata_length
+length_of (Extents size) = metadata_length
 length_of (Function kind func delta) = function_length
-length_of _ = metadata_length
 
 -- the bytes that are written for a record: those with a meaning, and zeros up to its length
 abbrev pub record_bytes : Rec → List ℕ
@@ -80,8 +85,13 @@ BeginsWith r bytes = Spells (take (length_of r) bytes) r
 
 -- if the record has a function's id, it fits its 28 bits
 abbrev pub IdFits : Rec → Type 0
+IdFits (NewBuffer thread) = Unit {0}
+IdFits (NewCpu cpu tsc) = Unit {0}
+IdFits (TscWrap tsc) = Unit {0}
+IdFits (WallTime wall) = Unit {0}
+IdFits (Pid id) = Unit {0}
+IdFits (Extents size) = Unit {0}
 IdFits (Function kind func delta) = func < 2 ^ 28
-IdFits _ = Unit {0}
 
 -- each field fits its bytes
 abbrev pub FieldsFit : Rec → Type 0

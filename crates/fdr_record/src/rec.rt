@@ -63,6 +63,11 @@ pub fn rec_len(rec: &Rec) -> usize
 {
     match rec {
         Rec::Function { .. } => FUNCTION_BYTES,
-        _ => METADATA_BYTES,
+        Rec::NewBuffer { .. }
+        | Rec::NewCpu { .. }
+        | Rec::TscWrap { .. }
+        | Rec::WallTime { .. }
+        | Rec::Pid { .. }
+        | Rec::Extents { .. } => METADATA_BYTES,
     }
 }

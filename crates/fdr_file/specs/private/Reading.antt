@@ -5,7 +5,7 @@ use Rattle.xray_io.specs.Rows.{◌>>=◌}
 use Rattle.xray_io.specs.declared.wall.Wall.{Wall}
 use Rattle.fdr_record.specs.declared.event.Event.{Event}
 use Rattle.fdr_record.specs.declared.rec.Rec.{Rec}
-use Rattle.fdr_record.specs.declared.rec.Rec.TheVariants.{NewCpu, TscWrap, Extents, Function}
+use Rattle.fdr_record.specs.declared.rec.Rec.TheVariants.{NewBuffer, NewCpu, TscWrap, WallTime, Pid, Extents, Function}
 use Rattle.fdr_record.specs.declared.fault.RecFault.{RecFault}
 use Rattle.fdr_record.specs.Records.{length_of}
 use Rattle.fdr_file.specs.declared.events.Base.{Base}
@@ -14,7 +14,9 @@ use Rattle.fdr_file.specs.declared.fault.TraceFault.TheVariants as faults
 use Rattle.fdr_file.specs.declared.header.Header.{Header}
 use Rattle.fdr_file.specs.declared.trace.Block.{Block}
 use Rattle.fdr_file.specs.declared.trace.Trace.{Trace}
-use Rattle.fdr_file.specs.Traces.{Standing, block_in, fault_at, record_in, record_length, pid_named, standings, thread_named, wall_named}
+use Rattle.fdr_file.specs.declared.version.Version.{Version}
+use Rattle.fdr_file.specs.declared.version.Version.TheVariants.{Three}
+use Rattle.fdr_file.specs.Traces.{Standing, block_in, fault_at, header_in, header_rows, preamble_bytes, record_in, record_length, pid_named, size_named, standings, thread_named, wall_named}
 use Rattle.fdr_file.specs.private.Faults.{block_faults, decided}
 
 -- what a function answered, as a view of it, is what reading gives
@@ -62,11 +64,15 @@ named_on named left = do
   first ← record_on left
   named_or left.0 (named first.0) first.1
 
-unfoldable pub preamble_on : Left → Result (ℕ × Wall × ℕ × Left) TraceFault
-preamble_on left = do
+-- the process that a block of this version names after its thread and wall time
+unfoldable pub pid_on : Version → Left → Result (ℕ × Left) TraceFault
+pid_on Three left = named_on pid_named left
+
+unfoldable pub preamble_on : Version → Left → Result (ℕ × Wall × ℕ × Left) TraceFault
+preamble_on version left = do
   thread ← named_on thread_named left
   wall ← named_on wall_named thread.1
-  pid ← named_on pid_named wall.1
+  pid ← pid_on version wall.1
   Ok (thread.0, wall.0, pid.0, pid.1)
 
 -- ---- events
@@ -80,7 +86,10 @@ step_on at (Function kind func delta) None = Err (faults.NoBase at)
 step_on at (Function kind func delta) (Some base) =
     let tsc = (base.tsc + delta) % 2 ^ 64 in
     Ok (record { cpu = base.cpu; tsc = tsc }, Some (record { cpu = base.cpu; func = func; kind = kind; tsc = tsc }))
-step_on at r base = Err (faults.Order at)
+step_on at (NewBuffer thread) base = Err (faults.Order at)
+step_on at (WallTime wall) base = Err (faults.Order at)
+step_on at (Pid pid) base = Err (faults.Order at)
+step_on at (Extents size) base = Err (faults.Order at)
 
 -- the events of what comes after a CPU and counter
 unfoldable pub events_on : Option Base → List Standing → Result (List Event) TraceFault
@@ -99,26 +108,34 @@ with_front front (Err fault) = Err fault
 -- ---- a block
 
 -- the place after the block, by the number of bytes that its extents name
-abbrev pub end_named : Left → Result Rec RecFault → Result ℕ TraceFault
-end_named (at, bytes) (Ok (Extents size)) =
-    if nat_lt size 48 then Err (faults.Extents at)
+abbrev pub end_sized : Version → Left → Option ℕ → Result ℕ TraceFault
+end_sized version (at, bytes) (Some size) =
+    if nat_lt size (preamble_bytes version) then Err (faults.Extents at)
     else if nat_lt (length bytes) (16 + size) then Err (faults.Short at) else Ok (at + (16 + size))
-end_named (at, bytes) (Ok r) = Err (faults.Order at)
-end_named (at, bytes) (Err fault) = Err (faults.Bad at fault)
+end_sized version (at, bytes) None = Err (faults.Order at)
 
-unfoldable pub end_on : Left → Result ℕ TraceFault
-end_on (at, bytes) = if nat_lt (length bytes) 16 then Err (faults.Short at) else end_named (at, bytes) (record_in bytes)
+abbrev pub end_named : Version → Left → Result Rec RecFault → Result ℕ TraceFault
+end_named version left (Ok r) = end_sized version left (size_named r)
+end_named version left (Err fault) = Err (faults.Bad left.0 fault)
+
+unfoldable pub end_on : Version → Left → Result ℕ TraceFault
+end_on version (at, bytes) =
+    if nat_lt (length bytes) 16 then Err (faults.Short at) else end_named version (at, bytes) (record_in bytes)
 
 -- the block of a rest that begins with its preamble
-unfoldable pub body_on : Left → Result Block TraceFault
-body_on left = do
-  preamble ← preamble_on left
+unfoldable pub body_on : Version → Left → Result Block TraceFault
+body_on version left = do
+  preamble ← preamble_on version left
   events ← events_on None (standings preamble.3.0 preamble.3.1)
   Ok (record { thread = preamble.0; wall = preamble.1; pid = preamble.2; events = events })
 
 -- ---- a file
 
+-- the version and the header of a file
+abbrev pub header_on : List ℕ → Result (Version × Header) TraceFault
+header_on bytes = header_rows bytes λ version. Ok (version, header_in bytes)
+
 -- the trace of these blocks, and of those that begin at places after them
-abbrev pub blocks_read : Header → List Block → List Left → Result Trace TraceFault
-blocks_read header blocks left =
-    decided (flat_map block_faults left) (record { header = header; blocks = blocks ++ map block_in left })
+abbrev pub blocks_read : Version → Header → List Block → List Left → Result Trace TraceFault
+blocks_read version header blocks left =
+    decided (flat_map (block_faults version) left) (record { header = header; blocks = blocks ++ map block_in left })

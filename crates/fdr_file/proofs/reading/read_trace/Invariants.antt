@@ -9,7 +9,7 @@ use Rattle.fdr_file.proofs.reading.read_trace.Given as goal
 abbrev pub invariant-reading : goal.invariant-reading
 invariant-reading l = record {
   within : l.at ≤ length l.bytes;
-  left : by_places l.bytes ≡ blocks_read l.header l.blocks.items (starts block_length 0 l.at (drop l.at l.bytes));
+  left : by_places l.bytes ≡ blocks_read l.version l.header l.blocks.items (starts block_length 0 l.at (drop l.at l.bytes));
 }
 
 abbrev pub decreases-reading : goal.decreases-reading

@@ -1,0 +1,38 @@
+//! The versions of the format.
+
+ghost use Rattle.std.specs.Prelude.{◌≡◌};
+ghost use Rattle.fdr_file.specs.Traces.{preamble_bytes, version_of};
+
+use fdr_record::METADATA_BYTES;
+
+/// The version of the files that are written.
+pub const VERSION: u16 = 3;
+
+/// A version of the format that is read. It decides which records a block begins with.
+#[derive(Clone, Copy, Debug, PartialEq, Eq)]
+pub enum Version {
+    /// Version 3. A block begins with `NewBuffer`, `WalltimeMarker` and `Pid`.
+    Three,
+}
+
+impl Version {
+    /// The version with this number, if it is read.
+    pub(crate) fn of(number: u16) -> Option<Version>
+        ensures { result ≡ version_of number }
+    {
+        match number {
+            VERSION => Some(Version::Three),
+            _ => None,
+        }
+    }
+
+    /// The length in bytes of the records that a block begins with.
+    pub(crate) fn preamble_bytes(self) -> u64
+        ensures { result ≡ preamble_bytes self }
+    {
+        let records = match self {
+            Version::Three => 3,
+        };
+        records * METADATA_BYTES as u64
+    }
+}
