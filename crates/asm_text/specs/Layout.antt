@@ -234,17 +234,18 @@ sled_kind (Func name choice) = Some 0
 sled_kind (Label name) = None
 sled_kind (Does operation) = operation_kind operation
 
+-- The map entry of a sled at an address, in a function that begins at an address. It is of version 0, so its fields are
+-- these addresses.
+abbrev pub map_entry_for : (sled function kind always : ℕ) → MapEntry
+map_entry_for sled function kind always = record { sled = sled; function = function; kind = kind; always = always; version = 0 }
+
 -- the entry of a line's sled in the sled map
 abbrev pub entry_in : ℕ → Placed → Option MapEntry
 entry_in base p =
     if p.owner.traced
-    then option_map (λ kind. record {
-      sled = base + (p.place + p.place % 2);
-      function = base + p.owner.start;
-      kind = kind;
-      always = if p.owner.always then 1 else 0;
-      version = 0;
-    }) (sled_kind p.statement)
+    then option_map
+    (λ kind. map_entry_for (base + (p.place + p.place % 2)) (base + p.owner.start) kind (if p.owner.always then 1 else 0))
+    (sled_kind p.statement)
     else None
 
 abbrev pub map_entries : ℕ → List Placed → List MapEntry

@@ -2,7 +2,7 @@
 
 ghost use Rattle.std.specs.Prelude.{◌≡◌, ◌≤◌, ◌++◌, ◌∷◌, OnOk, length, replicate, if◌then◌else◌};
 ghost use Rattle.std.specs.List.{flat_map};
-ghost use Rattle.asm_text.specs.Layout.{functions, map_entries, sled_kind};
+ghost use Rattle.asm_text.specs.Layout.{functions, map_entries, map_entry_for, sled_kind};
 ghost use Rattle.asm_text.specs.Writing.{function_bytes, entry_bytes};
 ghost use Rattle.asm_text.specs.private.{Views.{statement_said}, Laying.{line_placed, placed_in}};
 ghost use Rattle.asm_text.specs.private.Files.{function_line_bytes, sled_line_bytes, HasShortName, AreShortNames};
@@ -72,7 +72,8 @@ fn push_flags(out: &mut Vec<u8>, kind: u8, always: bool) -> Result<(), AllocErro
     out.extend_from_slice(&PADDING)
 }
 
-/// Adds one entry of the sled map.
+/// Adds the map entry of a sled at an address, in a function that begins at an address. Its fields
+/// are these addresses.
 fn push_entry(
     out: &mut Vec<u8>,
     sled: u64,
@@ -81,13 +82,7 @@ fn push_entry(
     always: bool,
 ) -> Result<(), AllocError>
     ensures { OnOk result (out.new.items ≡ out.old.items
-        ++ entry_bytes (record {
-          sled = sled;
-          function = function;
-          kind = kind;
-          always = if always then 1 else 0;
-          version = 0;
-        })) }
+        ++ entry_bytes (map_entry_for sled function kind (if always then 1 else 0))) }
 {
     push_u64s(out, &[sled, function])?;
     push_flags(out, kind, always)

@@ -7,3 +7,4 @@ mod runs;
 
 pub use mark::Mark;
 pub use marks::Marks;
+pub use runs::write_runs;

@@ -23,7 +23,10 @@ impl Mark {
     pub(crate) fn is_recorded(self) -> bool
         ensures { result ≡ is_recorded self }
     {
-        matches!(self, Mark::Recorded)
+        match self {
+            Mark::Skipped | Mark::NoHandler | Mark::NotLogging => false,
+            Mark::Recorded => true,
+        }
     }
 
     /// The two bits that stand for the mark.
@@ -39,11 +42,13 @@ impl Mark {
         requires { bits < 4 }
         ensures { result ≡ mark_of bits }
     {
-        match bits {
-            0 => Mark::Skipped,
-            1 => Mark::NoHandler,
-            2 => Mark::NotLogging,
-            _ => Mark::Recorded,
+        let high = bits / 2 == 1;
+        let low = bits % 2 == 1;
+        match (high, low) {
+            (false, false) => Mark::Skipped,
+            (false, true) => Mark::NoHandler,
+            (true, false) => Mark::NotLogging,
+            (true, true) => Mark::Recorded,
         }
     }
 }

@@ -3,9 +3,10 @@
 ghost use Rattle.std.specs.Prelude.{◌≡◌, ◌<◌, ◌≤◌, ◌+◌, [], ◌∷◌, ◌++◌, ⊤, length, drop};
 ghost use Rattle.handler_word.specs.Runs.{mark_byte, runs_of, run_text, runs_text};
 ghost use Rattle.xray_io.specs.Text.{AddsText};
+ghost use Rattle.xray_io.specs.Writes.{WritesText};
 
 use crate::{Mark, Marks};
-use xray_io::{Piece, Printed, Sink, Text, WriteFault};
+use xray_io::{Piece, Printed, Sink, Text, WriteFault, write_text};
 
 /// Marks are printed as their runs, as `.3 n1 +20`. Each longest run of equal marks is its character
 /// and its length, and there is a space between runs. The text is `-` if there are no marks.
@@ -28,6 +29,17 @@ impl Printed for Marks {
         }
         Ok(())
     }
+}
+
+/// Writes the marks as their runs: each longest run of equal marks as its character and its length,
+/// with a space between runs, or `-` if there are no marks.
+///
+/// Takes no memory. On `WriteFault` a prefix of the text was written, and the sink counted a fault.
+pub fn write_runs<S: Sink>(marks: &Marks, sink: &mut S) -> Result<(), WriteFault>
+    ensures writes { WritesText S.written S.faults S.along sink.old sink.new
+        (runs_text marks.now.items) result }
+{
+    write_text(marks, sink)
 }
 
 /// A run of equal marks, and its length.

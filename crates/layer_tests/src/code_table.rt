@@ -3,7 +3,7 @@
 
 ghost use Rattle.std.specs.Prelude.{◌≡◌, ◌<◌, ◌≤◌, ◌*◌, ◌+◌, length, IfOk};
 ghost use Rattle.sled_words.specs.Words.{word_count};
-ghost use Rattle.sled_rule.specs.Plans.{code_words};
+ghost use Rattle.sled_rule.specs.Plans.{IsCodeIn};
 ghost use Rattle.sled_rule.specs.Seats.{patch_view, script_of, work_view, AllMet, IsPatcherOf, IsWorkerOf};
 ghost use Rattle.sled_rule.specs.Views.{ended_count, first_patch};
 
@@ -96,7 +96,7 @@ fn finish(table: CodeTable, mut seat: PatchSeat, mut worker: WorkSeat, into: &mu
 fn heard_head(table: &CodeTable, patcher: &mut PatchSeat, worker: &mut WorkSeat) -> u64
     requires patcher { IsPatcherOf table.now patcher.old }
     requires worker { IsWorkerOf table.now worker.old }
-    requires some { 0 < code_words (script_of table.now) }
+    requires some { IsCodeIn (script_of table.now) 0 }
     ensures worker { IsWorkerOf table.now worker.new }
     ensures heard { (patch_view patcher.old).place ≤ (work_view worker.new).seen }
 {

@@ -1,9 +1,9 @@
 //! Calls of `sled_patch`: runs of scripts over the table of an image with one function that prints
 //! an A.
 
-ghost use Rattle.std.specs.{Prelude.{◌≡◌, ◌+◌, ◌*◌, ◌<◌, ◌≤◌, [], length, IfOk}, Thread.{IsSync}};
+ghost use Rattle.std.specs.{Prelude.{◌≡◌, ℕ, ◌+◌, ◌*◌, ◌<◌, ◌≤◌, [], length, IfOk}, Thread.{IsSync}};
 ghost use Rattle.sled_words.specs.Words.{word_count};
-ghost use Rattle.sled_rule.specs.Plans.{code_words};
+ghost use Rattle.sled_rule.specs.Plans.{IsCodeIn};
 ghost use Rattle.sled_rule.specs.Seats.{patch_view, script_of, work_view, AllMet, IsPatcherOf, IsWorkerOf};
 ghost use Rattle.sled_rule.specs.Views.{ended_count, first_patch};
 
@@ -111,7 +111,7 @@ struct Walked {
 /// at some place, and these places never fall.
 fn walk(table: &CodeTable, mut seat: WorkSeat) -> Walked
     requires own { IsWorkerOf table.now seat }
-    requires words { 8 ≤ code_words (script_of table.now) }
+    requires words { (word : ℕ) → word < 8 → IsCodeIn (script_of table.now) word }
     requires fresh { (work_view seat).count ≡ 0 }
     ensures own { IsWorkerOf table.now result.seat }
     ensures ended { (work_view result.seat).count ≡ ended_count }
@@ -161,7 +161,7 @@ fn run_beside<R: Threads + Wait + Sync>(
     requires own { IsPatcherOf table.now patcher }
     requires own_first { IsWorkerOf table.now first }
     requires own_second { IsWorkerOf table.now second }
-    requires words { 8 ≤ code_words (script_of table.now) }
+    requires words { (word : ℕ) → word < 8 → IsCodeIn (script_of table.now) word }
     requires fresh_first { (work_view first).count ≡ 0 }
     requires fresh_second { (work_view second).count ≡ 0 }
     ensures own { IsPatcherOf table.now result.patcher }
@@ -180,7 +180,7 @@ fn run_beside<R: Threads + Wait + Sync>(
             requires shared { IsSync R.row }
             requires own_first { IsWorkerOf table.now first }
             requires own_second { IsWorkerOf table.now second }
-            requires words { 8 ≤ code_words (script_of table.now) }
+            requires words { (word : ℕ) → word < 8 → IsCodeIn (script_of table.now) word }
             requires fresh_first { (work_view first).count ≡ 0 }
             requires fresh_second { (work_view second).count ≡ 0 }
             ensures own_first { IsWorkerOf table.entry.now result.0.seat }
@@ -208,7 +208,7 @@ fn walk_both<R: Threads + Sync>(
 ) -> (Walked, Walked)
     requires own_first { IsWorkerOf table.now first }
     requires own_second { IsWorkerOf table.now second }
-    requires words { 8 ≤ code_words (script_of table.now) }
+    requires words { (word : ℕ) → word < 8 → IsCodeIn (script_of table.now) word }
     requires fresh_first { (work_view first).count ≡ 0 }
     requires fresh_second { (work_view second).count ≡ 0 }
     ensures own_first { IsWorkerOf table.now result.0.seat }

@@ -12,6 +12,7 @@ pub mod WordsAt
 pub mod Tracing
 pub mod Opening
 pub mod Giving
+pub mod StagesLeft
 pub mod LoadFacts
 pub mod GiveClauses
 pub mod Beginning

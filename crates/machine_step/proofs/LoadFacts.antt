@@ -1,12 +1,15 @@
 -- What a loaded value says: which event comes, whether the thread stays held, and how much nearer its end is.
-use Rattle.std.proofs.Common.{◌≡◌, ℕ, suc, ◌+◌, ◌-◌, ◌*◌, ◌<◌, ◌≤◌, ◌==◌, Bool, true, false, List, [], ◌∷◌, ◌++◌, length, Option, Some, None, refl, sym, ap, ◌∙◌, subst, length-append, arith}
-use Rattle.std.specs.Prelude.{◌↔◌, if◌then◌else◌, IsSome, nat_le}
-use Rattle.std.proofs.lemmas.Bool.{le-leb, leb-true, eqb-true}
+use Rattle.std.proofs.Common.{◌≡◌, ℕ, suc, ◌+◌, ◌-◌, ◌*◌, ◌<◌, ◌≤◌, ◌==◌, Bool, true, false, List, [], ◌∷◌, ◌++◌, length, Option, Some, None, refl, sym, ap, ◌∙◌, subst, eq-eqb, length-append, arith}
+use Rattle.std.specs.Prelude.{◌↔◌, if◌then◌else◌, IsSome}
+use Rattle.std.proofs.lemmas.Bool.{eqb-true, ne_eqb}
+use Rattle.std.proofs.lemmas.List.{append-nil}
 use Rattle.std.proofs.lemmas.Option.{slice_get_within}
 use Rattle.std.proofs.Math.Nat.{mul-suc}
 use Rattle.fdr_record.specs.declared.event.Event.{Event}
 use Rattle.xray_image.specs.Program.{Program}
-use Rattle.sled_words.specs.Words.{state_word, release_word}
+use Rattle.sled_words.specs.declared.part.Part.{Part}
+use Rattle.sled_words.specs.declared.part.Part.TheVariants as parts
+use Rattle.sled_words.specs.Words.{handler_word, part_number, release_word, state_word, word_of}
 use Rattle.sled_words.specs.Parts.{patched_head}
 use Rattle.handler_word.specs.declared.mark.Mark.{Mark}
 use Rattle.handler_word.specs.declared.mark.Mark.TheVariants as marks
@@ -14,6 +17,7 @@ use Rattle.handler_word.specs.MarkList.{MarkList, is_recorded}
 use Rattle.machine_step.specs.declared.cpu.Cpu.TheInside.{Inside}
 use Rattle.machine_step.specs.declared.end.End.{End}
 use Rattle.machine_step.specs.declared.machine.Machine.{Machine}
+use Rattle.machine_step.specs.declared.stage.Next.{Next}
 use Rattle.machine_step.specs.declared.stage.Next.TheVariants.{Loads, Ends}
 use Rattle.machine_step.specs.declared.stage.Stage.{Stage}
 use Rattle.machine_step.specs.declared.stage.Stage.TheVariants as stages
@@ -25,7 +29,8 @@ use Rattle.machine_step.specs.private.Inside.{traced, want_at, IsAtPassing, IsSo
 use Rattle.machine_step.specs.private.Machine.{state_at}
 use Rattle.machine_step.specs.PlainStep.{State, Passing, PlainRun, passing_at}
 use Rattle.machine_step.specs.private.Stages.{word_at, after_load}
-use Rattle.machine_step.specs.Traced.{IsKept, MarksAdded, loads_left, steps_left}
+use Rattle.machine_step.specs.Traced.{IsKept, MarksAdded, ending_mark, loads_left, stage_count, steps_left}
+use Rattle.machine_step.proofs.StagesLeft.{left_at, other_part, own_part, part_small, past_parts, steps_left_at}
 use Rattle.machine_step.proofs.Giving.{IsBetween, passed_on}
 use Rattle.machine_step.proofs.Opening.{loading_at, standing}
 use Rattle.machine_step.proofs.Tracing.{before_of, goes_on_by}
@@ -183,6 +188,84 @@ marks_added program thread made old new mark is (Gate place k) between = (mark, 
 marks_added program thread made old new mark is (Loading place k at) between = absurd between
 marks_added program thread made old new mark is (Ended end) between = (mark, is)
 
+-- a part of a sled after its head ends no passing
+mark_of_part : (program : Program) (k : ℕ) (part : Part) → k < length program.sleds → (part_number parts.Head ≡ part_number part → ⊥)
+    → (value : ℕ) → ending_mark program (wants.Load (word_of k part)) value ≡ []
+mark_of_part program k part within apart value =
+    let small = part_small part in
+    let word = word_of k part in
+    let head = other_part program parts.Head part k apart in
+    let handler : (word == handler_word program) ≡ false = ne_eqb word (handler_word program) (λ same. omega arith) in
+    let state : (word == state_word program) ≡ false = ne_eqb word (state_word program) (λ same. omega arith) in
+    rw (head, handler, state) refl
+
+-- the mark that a load leads to
+abbrev mark_in : Next → List Mark
+mark_in (Loads next) = []
+mark_in (Ends mark) = mark ∷ []
+
+mark_at : (program : Program) (thread k : ℕ) (at_stage : Stage) (value : ℕ) → k < length program.sleds → 0 < thread
+    → ending_mark program (wants.Load (word_at program thread k at_stage)) value ≡ mark_in (after_load at_stage value)
+mark_at program thread k stages.Release value within some =
+    let word = release_word program thread in
+    let head = past_parts program parts.Head word (omega arith) in
+    let handler : (word == handler_word program) ≡ false = ne_eqb word (handler_word program) (λ same. omega arith) in
+    let state : (word == state_word program) ≡ false = ne_eqb word (state_word program) (λ same. omega arith) in
+    rw (head, handler, state) (by_value (value == 0))
+  where
+    by_value : (b : Bool) → [] ≡ mark_in (if b then Loads stages.Release else Loads stages.Head)
+    by_value true = refl
+    by_value false = refl
+mark_at program thread k stages.Head value within some =
+    let head = own_part program parts.Head k within in rw head (by_value (value == patched_head))
+  where
+    by_value : (b : Bool) → (if b then [] else marks.Skipped ∷ []) ≡ mark_in (if b then Loads stages.Id else Ends marks.Skipped)
+    by_value true = refl
+    by_value false = refl
+mark_at program thread k stages.Id value within some = mark_of_part program k parts.Id within (λ same. omega arith) value
+mark_at program thread k stages.Opcode value within some = mark_of_part program k parts.Opcode within (λ same. omega arith) value
+mark_at program thread k stages.Offset value within some = mark_of_part program k parts.Offset within (λ same. omega arith) value
+mark_at program thread k stages.Handler value within some =
+    let word = handler_word program in
+    let head = past_parts program parts.Head word (omega arith) in
+    let handler : (word == handler_word program) ≡ true = eq-eqb word (handler_word program) refl in
+    rw (head, handler) (by_value (value == 0))
+  where
+    by_value : (b : Bool) → (if b then marks.NoHandler ∷ [] else []) ≡ mark_in (if b then Ends marks.NoHandler else Loads stages.State)
+    by_value true = refl
+    by_value false = refl
+mark_at program thread k stages.State value within some =
+    let word = state_word program in
+    let head = past_parts program parts.Head word (omega arith) in
+    let handler : (word == handler_word program) ≡ false = ne_eqb word (handler_word program) (λ same. omega arith) in
+    let state : (word == state_word program) ≡ true = eq-eqb word (state_word program) refl in
+    rw (head, handler, state) (by_value (value == 2))
+  where
+    by_value : (b : Bool) → (if b then marks.Recorded ∷ [] else marks.NotLogging ∷ []) ≡ (if b then marks.Recorded else marks.NotLogging) ∷ []
+    by_value true = refl
+    by_value false = refl
+
+mark_left : (a : Inside) → IsSound a → (place k : ℕ) (at_stage : Stage) (value : ℕ) (following : Next) → a.stand ≡ Loading place k at_stage
+    → after_load at_stage value ≡ following → ending_mark a.steps.now (traced a).want value ≡ mark_in following
+mark_left a sound place k at_stage value following is leads =
+    let program = a.steps.now in
+    let before = before_of a sound place k (loading_at a sound place k at_stage is) in
+    let within = slice_get_within program.sleds k before.sled before.found in
+    ap (λ (s : Stand). ending_mark program (want_at program a.thread a.machine.passings s) value) is
+    ∙ mark_at program a.thread k at_stage value within sound.setup.some_thread
+    ∙ ap mark_in leads
+
+pub mark_goes_on : (a : Inside) → IsSound a → (place k : ℕ) (at_stage next : Stage) (value : ℕ) → a.stand ≡ Loading place k at_stage
+    → after_load at_stage value ≡ Loads next → a.marks.items ≡ a.marks.items ++ ending_mark a.steps.now (traced a).want value
+mark_goes_on a sound place k at_stage next value is leads =
+    let none = mark_left a sound place k at_stage value (Loads next) is leads in
+    sym (ap (λ ms. a.marks.items ++ ms) none ∙ append-nil a.marks.items)
+
+pub mark_ends : (a : Inside) → IsSound a → (place k : ℕ) (at_stage : Stage) (value : ℕ) (mark : Mark) (ms : List Mark) → a.stand ≡ Loading place k at_stage
+    → after_load at_stage value ≡ Ends mark → ms ≡ a.marks.items ++ mark ∷ [] → ms ≡ a.marks.items ++ ending_mark a.steps.now (traced a).want value
+mark_ends a sound place k at_stage value mark ms is leads more =
+    more ∙ ap (λ ms. a.marks.items ++ ms) (sym (mark_left a sound place k at_stage value (Ends mark) is leads))
+
 -- ---- a value that keeps the thread held
 
 -- it is a release word of 0
@@ -216,64 +299,34 @@ kept_not a sound place k at_stage value mark is following kept =
 
 -- ---- how far it is from its end
 
--- by the stage of its passing
-abbrev pub left_at : Program → ℕ → ℕ → Stage → ℕ
-left_at program thread k stages.Release = state_word program + 2
-left_at program thread k stages.Head = state_word program + 1 - word_at program thread k stages.Head
-left_at program thread k stages.Id = state_word program + 1 - word_at program thread k stages.Id
-left_at program thread k stages.Opcode = state_word program + 1 - word_at program thread k stages.Opcode
-left_at program thread k stages.Offset = state_word program + 1 - word_at program thread k stages.Offset
-left_at program thread k stages.Handler = state_word program + 1 - word_at program thread k stages.Handler
-left_at program thread k stages.State = state_word program + 1 - word_at program thread k stages.State
-
-low_word : (program : Program) (word : ℕ) → word ≤ state_word program → steps_left program (wants.Load word) ≡ state_word program + 1 - word
-low_word program word low = let is = le-leb word (state_word program) low in rw is refl
-
-high_word : (program : Program) (word : ℕ) (b : Bool) → state_word program < word → nat_le word (state_word program) ≡ b
-    → steps_left program (wants.Load word) ≡ state_word program + 2
-high_word program word true high is = let low = leb-true word (state_word program) is in absurd (omega arith)
-high_word program word false high is = rw is refl
-
-pub steps_left_at : (program : Program) (thread k : ℕ) (at_stage : Stage) → k < length program.sleds → 0 < thread
-    → steps_left program (wants.Load (word_at program thread k at_stage)) ≡ left_at program thread k at_stage
-steps_left_at program thread k stages.Release within some =
-    high_word program (release_word program thread) (nat_le (release_word program thread) (state_word program)) (omega arith) refl
-steps_left_at program thread k stages.Head within some = low_word program (word_at program thread k stages.Head) (omega arith)
-steps_left_at program thread k stages.Id within some = low_word program (word_at program thread k stages.Id) (omega arith)
-steps_left_at program thread k stages.Opcode within some = low_word program (word_at program thread k stages.Opcode) (omega arith)
-steps_left_at program thread k stages.Offset within some = low_word program (word_at program thread k stages.Offset) (omega arith)
-steps_left_at program thread k stages.Handler within some = low_word program (word_at program thread k stages.Handler) (omega arith)
-steps_left_at program thread k stages.State within some = low_word program (word_at program thread k stages.State) (omega arith)
-
 -- a load that goes on comes to a nearer stage, unless it is a release word of 0
-pub next_left : (program : Program) (thread k : ℕ) (at_stage next : Stage) (value : ℕ) → k < length program.sleds → 0 < thread
-    → after_load at_stage value ≡ Loads next → ((at_stage ≡ stages.Release) × (value ≡ 0) → ⊥)
-    → left_at program thread k next < left_at program thread k at_stage
-next_left program thread k stages.Release next value within some following free = by_value (value == 0) refl following
+pub next_left : (at_stage next : Stage) (value : ℕ) → after_load at_stage value ≡ Loads next → ((at_stage ≡ stages.Release) × (value ≡ 0) → ⊥)
+    → left_at next < left_at at_stage
+next_left stages.Release next value following free = by_value (value == 0) refl following
   where
     by_value : (b : Bool) → (value == 0) ≡ b → (if b then Loads stages.Release else Loads stages.Head) ≡ Loads next
-        → left_at program thread k next < state_word program + 2
+        → left_at next < left_at stages.Release
     by_value true is same = absurd (free (refl, eqb-true value 0 is))
-    by_value false is same = let at : stages.Head ≡ next = cc in subst (λ (s : Stage). left_at program thread k s < state_word program + 2) at (omega arith)
-next_left program thread k stages.Head next value within some following free = by_value (value == patched_head) following
+    by_value false is same = let at : stages.Head ≡ next = cc in subst (λ (s : Stage). left_at s < left_at stages.Release) at (omega arith)
+next_left stages.Head next value following free = by_value (value == patched_head) following
   where
     by_value : (b : Bool) → (if b then Loads stages.Id else Ends marks.Skipped) ≡ Loads next
-        → left_at program thread k next < left_at program thread k stages.Head
-    by_value true same = let at : stages.Id ≡ next = cc in subst (λ (s : Stage). left_at program thread k s < left_at program thread k stages.Head) at (omega arith)
+        → left_at next < left_at stages.Head
+    by_value true same = let at : stages.Id ≡ next = cc in subst (λ (s : Stage). left_at s < left_at stages.Head) at (omega arith)
     by_value false same = absurd cc
-next_left program thread k stages.Id next value within some following free =
-    let at : stages.Opcode ≡ next = cc in subst (λ (s : Stage). left_at program thread k s < left_at program thread k stages.Id) at (omega arith)
-next_left program thread k stages.Opcode next value within some following free =
-    let at : stages.Offset ≡ next = cc in subst (λ (s : Stage). left_at program thread k s < left_at program thread k stages.Opcode) at (omega arith)
-next_left program thread k stages.Offset next value within some following free =
-    let at : stages.Handler ≡ next = cc in subst (λ (s : Stage). left_at program thread k s < left_at program thread k stages.Offset) at (omega arith)
-next_left program thread k stages.Handler next value within some following free = by_value (value == 0) following
+next_left stages.Id next value following free =
+    let at : stages.Opcode ≡ next = cc in subst (λ (s : Stage). left_at s < left_at stages.Id) at (omega arith)
+next_left stages.Opcode next value following free =
+    let at : stages.Offset ≡ next = cc in subst (λ (s : Stage). left_at s < left_at stages.Opcode) at (omega arith)
+next_left stages.Offset next value following free =
+    let at : stages.Handler ≡ next = cc in subst (λ (s : Stage). left_at s < left_at stages.Offset) at (omega arith)
+next_left stages.Handler next value following free = by_value (value == 0) following
   where
     by_value : (b : Bool) → (if b then Ends marks.NoHandler else Loads stages.State) ≡ Loads next
-        → left_at program thread k next < left_at program thread k stages.Handler
+        → left_at next < left_at stages.Handler
     by_value true same = absurd cc
-    by_value false same = let at : stages.State ≡ next = cc in subst (λ (s : Stage). left_at program thread k s < left_at program thread k stages.Handler) at (omega arith)
-next_left program thread k stages.State next value within some following free = absurd cc
+    by_value false same = let at : stages.State ≡ next = cc in subst (λ (s : Stage). left_at s < left_at stages.Handler) at (omega arith)
+next_left stages.State next value following free = absurd cc
 
 pub nearer_on : (a : Inside) → IsSound a → (place k : ℕ) (at_stage next : Stage) (value : ℕ) → a.stand ≡ Loading place k at_stage
     → after_load at_stage value ≡ Loads next → (IsKept (traced a) value → ⊥)
@@ -288,23 +341,23 @@ nearer_on a sound place k at_stage next value is following free =
       word = ap (want_at program a.thread a.machine.passings) (is ∙ ap (Loading place k) here.0);
       unset = here.1;
     }) in
-    let less = next_left program a.thread k at_stage next value within sound.setup.some_thread following not_kept in
+    let less = next_left at_stage next value following not_kept in
     let new = steps_left_at program a.thread k next within sound.setup.some_thread in
-    let old : steps_left program (traced a).want ≡ left_at program a.thread k at_stage =
-    ap (λ (s : Stand). steps_left program (want_at program a.thread a.machine.passings s)) is ∙ steps_left_at program a.thread k at_stage within sound.setup.some_thread in
+    let old : steps_left program a.thread (traced a).want ≡ left_at at_stage =
+    ap (λ (s : Stand). steps_left program a.thread (want_at program a.thread a.machine.passings s)) is ∙ steps_left_at program a.thread k at_stage within sound.setup.some_thread in
     omega arith
 
 -- each stage has a load before it
-pub some_left : (program : Program) (thread k : ℕ) (at_stage : Stage) → k < length program.sleds → 0 < left_at program thread k at_stage
-some_left program thread k stages.Release within = omega arith
-some_left program thread k stages.Head within = omega arith
-some_left program thread k stages.Id within = omega arith
-some_left program thread k stages.Opcode within = omega arith
-some_left program thread k stages.Offset within = omega arith
-some_left program thread k stages.Handler within = omega arith
-some_left program thread k stages.State within = omega arith
+pub some_left : (at_stage : Stage) → 0 < left_at at_stage
+some_left stages.Release = omega arith
+some_left stages.Head = omega arith
+some_left stages.Id = omega arith
+some_left stages.Opcode = omega arith
+some_left stages.Offset = omega arith
+some_left stages.Handler = omega arith
+some_left stages.State = omega arith
 
-between_left : (program : Program) (thread made : ℕ) (stand : Stand) → IsBetween stand → steps_left program (want_at program thread made stand) ≤ state_word program + 3
+between_left : (program : Program) (thread made : ℕ) (stand : Stand) → IsBetween stand → steps_left program thread (want_at program thread made stand) ≤ stage_count program thread
 between_left program thread made (Gate place k) between = omega arith
 between_left program thread made (Loading place k at) between = absurd between
 between_left program thread made (Ended end) between = omega arith
@@ -322,10 +375,10 @@ nearer_end a sound place k at_stage is m ms stand mark more between =
     let before = before_of a sound place k (loading_at a sound place k at_stage is) in
     let within = slice_get_within program.sleds k before.sled before.found in
     let long : length ms.items ≡ length a.marks.items + 1 = ap length more ∙ length-append a.marks.items (mark ∷ []) in
-    let old : steps_left program (traced a).want ≡ left_at program a.thread k at_stage =
-    ap (λ (s : Stand). steps_left program (want_at program a.thread a.machine.passings s)) is ∙ steps_left_at program a.thread k at_stage within sound.setup.some_thread in
-    let some = some_left program a.thread k at_stage within in
-    one_fewer (state_word program + 3) (a.limits.passings - length a.marks.items) (a.limits.passings - length ms.items)
-    (steps_left program (want_at program a.thread m.passings stand)) (steps_left program (traced a).want)
+    let old : steps_left program a.thread (traced a).want ≡ left_at at_stage =
+    ap (λ (s : Stand). steps_left program a.thread (want_at program a.thread a.machine.passings s)) is ∙ steps_left_at program a.thread k at_stage within sound.setup.some_thread in
+    let some = some_left at_stage in
+    one_fewer (stage_count program a.thread) (a.limits.passings - length a.marks.items) (a.limits.passings - length ms.items)
+    (steps_left program a.thread (want_at program a.thread m.passings stand)) (steps_left program a.thread (traced a).want)
     (between_left program a.thread m.passings stand between) (omega arith)
     (omega (arith, before.left, sound.made))

@@ -5,7 +5,7 @@ use Rattle.std.proofs.lemmas.Bool.{eqb-true}
 use Rattle.std.proofs.lemmas.Option.{slice_get_within}
 use Rattle.xray_image.specs.declared.sled.Sled.{Sled}
 use Rattle.xray_image.specs.Program.{Program}
-use Rattle.sled_words.specs.Words.{progress_word}
+use Rattle.sled_words.specs.Words.{IsCodeWord}
 use Rattle.machine_step.specs.declared.cpu.Cpu.TheInside.{Inside}
 use Rattle.machine_step.specs.declared.stage.Stage.{Stage}
 use Rattle.machine_step.specs.declared.stage.Stage.TheVariants as stages
@@ -108,9 +108,9 @@ allows_by a sound place k at_stage value is answer allows =
 
 -- ---- the word that it wants
 
--- the words of a passing come before the progress words
+-- the words of a passing are code words
 word_within : (program : Program) (thread threads k : ℕ) (at_stage : Stage) → k < length program.sleds → thread ≤ threads
-    → word_at program thread k at_stage < progress_word program threads 1
+    → IsCodeWord program threads (word_at program thread k at_stage)
 word_within program thread threads k stages.Release within no_more = omega arith
 word_within program thread threads k stages.Head within no_more = omega arith
 word_within program thread threads k stages.Id within no_more = omega arith

@@ -20,7 +20,8 @@ use Rattle.machine_step.specs.PlainStep.{Passing, PlainRun, RunsTo, State}
 use Rattle.machine_step.specs.private.Stages.{after_load, word_at}
 use Rattle.machine_step.specs.Traced.{sleds_passed, steps_left}
 use Rattle.machine_step.proofs.EachPassing.{steps_each}
-use Rattle.machine_step.proofs.LoadFacts.{left_at, next_left, some_left, steps_left_at}
+use Rattle.machine_step.proofs.LoadFacts.{next_left, some_left}
+use Rattle.machine_step.proofs.StagesLeft.{left_at, steps_left_at}
 use Rattle.machine_step.proofs.Loading.{Adds, InPassing, in_passing, marks_step, next_step, no_marks}
 use Rattle.machine_step.proofs.WordsAt.{same_stage}
 
@@ -130,14 +131,14 @@ module _ (program : Program) (code : ℕ → ℕ → ℕ) (start total : ℕ) (b
 
   -- what is left of a passing that wants a word
   left_is : 0 < thread → (passing : ℕ) (loads : List Load) (word : ℕ) → (one : Longer passing loads word)
-      → steps_left program (wants.Load word) ≡ left_at program thread one.here.sled one.here.at
+      → steps_left program thread (wants.Load word) ≡ left_at one.here.at
   left_is some passing loads word one =
-      ap (λ w. steps_left program (wants.Load w)) one.here.word_is ∙ steps_left_at program thread one.here.sled one.here.at one.within some
+      ap (λ w. steps_left program thread (wants.Load w)) one.here.word_is ∙ steps_left_at program thread one.here.sled one.here.at one.within some
 
   -- it ends the passing, or the passing goes on and is nearer its end
-  by_next : Lets → 0 < thread → (most passing : ℕ) (loads : List Load) (word : ℕ) → steps_left program (wants.Load word) ≤ suc most
+  by_next : Lets → 0 < thread → (most passing : ℕ) (loads : List Load) (word : ℕ) → steps_left program thread (wants.Load word) ≤ suc most
       → Reached passing loads → (one : Longer passing loads word)
-      → ((more : List Load) (other : ℕ) → steps_left program (wants.Load other) ≤ most
+      → ((more : List Load) (other : ℕ) → steps_left program thread (wants.Load other) ≤ most
       → next_load program thread hold (sleds_passed passed) more ≡ Some other → Reached passing more → (all : List Load) × Reached (passing + 1) all)
       → (next : Next) → after_load one.here.at one.load.value ≡ next → (all : List Load) × Reached (passing + 1) all
   by_next lets some most passing loads word near reached one goes_on (nexts.Ends mark) following =
@@ -159,7 +160,7 @@ module _ (program : Program) (code : ℕ → ℕ → ℕ) (start total : ℕ) (b
       following (one.here.adds one.load) in
       let not_held : (one.here.at ≡ stages.Release) × (one.load.value ≡ 0) → ⊥ = λ both.
       one.free (one.word_is ∙ (one.here.word_is ∙ ap (word_at program thread one.here.sled) both.0)) both.1 in
-      let less = next_left program thread one.here.sled one.here.at stage one.load.value one.within some following not_held in
+      let less = next_left one.here.at stage one.load.value following not_held in
       let old = left_is some passing loads word one in
       let new = steps_left_at program thread one.here.sled stage one.within some in
       goes_on all (word_at program thread one.here.sled stage) (omega (arith, less, old, new, near)) adds.1
@@ -167,11 +168,11 @@ module _ (program : Program) (code : ℕ → ℕ → ℕ) (start total : ℕ) (b
 
   -- the loads of a passing
   passes : Lets → 0 < thread → All (IsSled program) passed → (most passing : ℕ) (loads : List Load) (word : ℕ)
-      → steps_left program (wants.Load word) ≤ most → next_load program thread hold (sleds_passed passed) loads ≡ Some word
+      → steps_left program thread (wants.Load word) ≤ most → next_load program thread hold (sleds_passed passed) loads ≡ Some word
       → Reached passing loads → (all : List Load) × Reached (passing + 1) all
   passes lets some sleds zero passing loads word near wanted reached =
       let one = longer lets some sleds passing loads word wanted reached in
-      let more = some_left program thread one.here.sled one.here.at one.within in
+      let more = some_left one.here.at in
       let is = left_is some passing loads word one in
       absurd (omega (arith, more, is, near))
   passes lets some sleds (suc most) passing loads word near wanted reached =
@@ -189,7 +190,7 @@ module _ (program : Program) (code : ℕ → ℕ → ℕ) (start total : ℕ) (b
       by_word (next_load program thread hold (sleds_passed passed) loads) ((all : List Load) × Reached (length (sleds_passed passed)) all)
       (λ none. let all = all_marked program thread hold 0 (sleds_passed passed) loads none in absurd (omega (arith, all, count, reached.marks)))
       (λ word wanted.
-      let next = passes lets some sleds (steps_left program (wants.Load word)) passing loads word (omega arith) wanted reached in
+      let next = passes lets some sleds (steps_left program thread (wants.Load word)) passing loads word (omega arith) wanted reached in
       comes_to_end lets some sleds left (passing + 1) (omega (arith, count)) next.0 next.1)
 
   pub some_marks_in : Lets → 0 < thread → All (IsSled program) passed

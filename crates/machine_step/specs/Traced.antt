@@ -1,10 +1,14 @@
 -- What contracts see of a `Cpu`: a traced thread, and what its loads do to it.
-use Rattle.std.specs.Prelude.{◌≡◌, ◌<◌, ◌+◌, ◌-◌, ◌*◌, ◌++◌, ℕ, List, [], ◌∷◌, length, map, All, Bool, Option, Some, None, slice_get, nat_le, if◌then◌else◌}
+use Rattle.std.specs.Prelude.{◌≡◌, ◌==◌, ◌+◌, ◌-◌, ◌*◌, ◌%◌, ◌++◌, ◌&&◌, ℕ, List, [], ◌∷◌, length, map, All, Bool, Option, Some, None, slice_get, nat_lt, if◌then◌else◌}
+use Rattle.std.specs.List.{position_or_len}
 use Rattle.xray_image.specs.Program.{Program}
-use Rattle.sled_words.specs.declared.part.Part.TheVariants.{Head}
-use Rattle.sled_words.specs.Words.{word_of, state_word, release_word, progress_word}
+use Rattle.sled_words.specs.declared.part.Part.{Part}
+use Rattle.sled_words.specs.declared.part.Part.TheVariants.{Head, Id, Opcode, Offset}
+use Rattle.sled_words.specs.Words.{IsCodeWord, part_number, word_of, handler_word, state_word, release_word}
 use Rattle.sled_words.specs.Allowed.{IsAllowed}
+use Rattle.sled_words.specs.Parts.{patched_head}
 use Rattle.handler_word.specs.declared.mark.Mark.{Mark}
+use Rattle.handler_word.specs.declared.mark.Mark.TheVariants.{Skipped, NoHandler, NotLogging, Recorded}
 use Rattle.machine_step.specs.declared.limits.Limits.{Limits}
 use Rattle.machine_step.specs.declared.end.End.{End}
 use Rattle.machine_step.specs.declared.want.Want.{Want}
@@ -101,10 +105,10 @@ IsDone (Gate passing) = ⊥
 IsDone (Loads word) = ⊥
 IsDone (Done end) = Unit {0}
 
--- a word that it wants comes before the threads' progress words
+-- a word that it wants is a code word
 abbrev pub IsLoadable : Traced → Want → Type 0
 IsLoadable t (Gate passing) = Unit {0}
-IsLoadable t (Loads word) = word < progress_word t.program t.threads 1
+IsLoadable t (Loads word) = IsCodeWord t.program t.threads word
 IsLoadable t (Done end) = Unit {0}
 
 -- it has made no passing yet, and isn't in one
@@ -169,19 +173,52 @@ MarksAdded old new (Gate passing) = (mark : Mark) × (new ≡ old ++ mark ∷ []
 MarksAdded old new (Loads word) = new ≡ old
 MarksAdded old new (Done end) = (mark : Mark) × (new ≡ old ++ mark ∷ [])
 
+-- the word is that of this part of some sled
+abbrev pub is_word_of_part : Program → Part → ℕ → Bool
+is_word_of_part program part word = word % 4 == part_number part && nat_lt word (handler_word program)
+
+-- The mark that the load of a value ends a passing with, if it ends it: after an unpatched head, without a handler, or by
+-- the log's state. No other load ends a passing.
+abbrev pub ending_mark : Program → Want → ℕ → List Mark
+ending_mark program (Gate passing) value = []
+ending_mark program (Loads word) value =
+    if is_word_of_part program Head word then (if value == patched_head then [] else Skipped ∷ [])
+    else if word == handler_word program then (if value == 0 then NoHandler ∷ [] else [])
+    else if word == state_word program then (if value == 2 then Recorded ∷ [] else NotLogging ∷ [])
+    else []
+ending_mark program (Done end) value = []
+
 -- the value keeps the thread held: it is a release word of 0
 pub record IsKept (t : Traced) (value : ℕ) : Type 0 where
   pub held : t.hold ≡ Some (length t.marks)
   pub word : t.want ≡ Loads (release_word t.program t.thread)
   pub unset : value ≡ 0
 
--- How far a thread is from its end if it wants this. A passing is a gate, a release word, and then words of rising
--- numbers, up to the state.
-abbrev pub steps_left : Program → Want → ℕ
-steps_left program (Gate passing) = state_word program + 3
-steps_left program (Loads word) = if nat_le word (state_word program) then state_word program + 1 - word else state_word program + 2
-steps_left program (Done end) = 0
+-- The stages of a passing after its gate, in order. Each says which words it loads: the thread's release word, the four
+-- parts of a sled, the handler's word, and the log's state.
+abbrev pub stages_of : Program → ℕ → List (ℕ → Bool)
+stages_of program thread =
+    (λ word. word == release_word program thread)
+    ∷ is_word_of_part program Head
+    ∷ is_word_of_part program Id
+    ∷ is_word_of_part program Opcode
+    ∷ is_word_of_part program Offset
+    ∷ (λ word. word == handler_word program)
+    ∷ (λ word. word == state_word program)
+    ∷ []
+
+-- how many stages a passing has, with its gate
+abbrev pub stage_count : Program → ℕ → ℕ
+stage_count program thread = 1 + length (stages_of program thread)
+
+-- how many stages of a passing are left if a thread wants this: all of them, or those from the one that loads the word on
+abbrev pub steps_left : Program → ℕ → Want → ℕ
+steps_left program thread (Gate passing) = stage_count program thread
+steps_left program thread (Loads word) =
+    length (stages_of program thread) - position_or_len (λ loads. loads word) (stages_of program thread)
+steps_left program thread (Done end) = 0
 
 -- the same with all passings up to the limit: each gate, and each load that doesn't hold the thread, brings it nearer
 abbrev pub loads_left : Traced → ℕ
-loads_left t = (state_word t.program + 3) * (t.limits.passings - length t.marks) + steps_left t.program t.want
+loads_left t =
+    stage_count t.program t.thread * (t.limits.passings - length t.marks) + steps_left t.program t.thread t.want

@@ -55,7 +55,7 @@ impl<'a> Model for Cpu<'a> {
 }
 
 impl<'a> Cpu<'a> {
-    ghost use Rattle.machine_step.specs.Traced.{Allows, HasLoaded, IsDone, IsFresh, IsGate, IsKept, IsLoad, IsLoadable, IsSameThread, IsThreadOf, MarksAdded, StandsAs, load_of, loads_left};
+    ghost use Rattle.machine_step.specs.Traced.{Allows, HasLoaded, IsDone, IsFresh, IsGate, IsKept, IsLoad, IsLoadable, IsSameThread, IsThreadOf, MarksAdded, StandsAs, ending_mark, load_of, loads_left};
 
     /// A thread before its first load. It has run to its first sled, or to its end if it comes to
     /// none. Threads count from 1. `hold` is the passing before which the script holds the thread.
@@ -156,6 +156,9 @@ impl<'a> Cpu<'a> {
         ensures loads { (passed : List Passing) (loads : List Load) → HasLoaded self.old passed loads
             → HasLoaded self.new passed (loads ++ load_of self.old.want value) }
         ensures marks { MarksAdded self.old.marks self.new.marks self.new.want }
+        // The mark is that of the loads of the passing, of which this is the last one.
+        ensures mark { self.new.marks
+            ≡ self.old.marks ++ ending_mark self.old.program self.old.want value }
         ensures some { IsSome result
             ↔ (self.old.want ≡ Want.Load (state_word self.old.program)) × (value ≡ 2) }
         ensures event { (passed : List Passing) (end : End) (last : State)

@@ -37,10 +37,10 @@ pub use laws::{
 };
 pub use limits::Limits;
 pub use plain_end::PlainEnd;
-pub use plain_text::end_name;
+pub use plain_text::{end_name, write_plain};
 pub use running::plain_run;
 pub use setup::Setup;
-pub use state_text::add_marks;
+pub use state_text::{add_marks, write_state};
 pub use steps::Steps;
 pub use subset_decode::REGISTERS;
 pub use want::Want;

@@ -5,11 +5,12 @@ ghost use Rattle.std.specs.Prelude.{◌≡◌, ◌++◌, ◌<◌, length, slice_
 ghost use Rattle.machine_step.specs.PlainEnd.{state_of};
 ghost use Rattle.machine_step.specs.Texts.{plain_text, end_text, counts_text, registers_line, printed_registers, output_line, flag_text, line_feed};
 ghost use Rattle.xray_io.specs.Text.{AddsText};
+ghost use Rattle.xray_io.specs.Writes.{WritesText};
 
 use crate::end::End;
 use crate::plain_end::PlainEnd;
 use subset_decode::REGISTERS;
-use xray_io::{Piece, Printed, Sink, Text, WriteFault};
+use xray_io::{Piece, Printed, Sink, Text, WriteFault, write_text};
 
 /// The end of a thread is printed as its plain text: three lines, each with its line feed. It needs
 /// all 16 registers.
@@ -23,6 +24,18 @@ impl Printed for PlainEnd {
         add_registers(to, &self.regs, self.zf)?;
         add_output(to, &self.output)
     }
+}
+
+/// Writes the plain text of a thread: the line of its end and counts, that of its registers, and that
+/// of its output. `regs` has to hold all 16 registers.
+///
+/// Takes no memory. On `WriteFault` a prefix of the text was written, and the sink counted a fault.
+pub fn write_plain<S: Sink>(end: &PlainEnd, sink: &mut S) -> Result<(), WriteFault>
+    requires registers { length end.now.regs.items ≡ REGISTERS }
+    ensures writes { WritesText S.written S.faults S.along sink.old sink.new
+        (plain_text end.now.thread end.now.end (state_of end.now)) result }
+{
+    write_text(end, sink)
 }
 
 /// Adds the line of a thread's end and counts to a text.

@@ -1,9 +1,10 @@
 //! The state text of a thread: its plain text, and the marks of its passings.
 
-ghost use Rattle.std.specs.Prelude.{};
+ghost use Rattle.std.specs.Prelude.{◌≡◌};
 ghost use Rattle.machine_step.specs.Texts.{marks_line, plain_text, state_text};
-ghost use Rattle.machine_step.specs.{Traced.{IsDone, state_at}, EndedText.{thread_text}};
+ghost use Rattle.machine_step.specs.{Traced.{IsDone, state_at}, EndedText.{ended_text, thread_text}};
 ghost use Rattle.xray_io.specs.Text.{AddsText};
+ghost use Rattle.xray_io.specs.Writes.{WritesText};
 
 use crate::cpu::Cpu;
 use crate::end::End;
@@ -20,10 +21,33 @@ impl Printed for Cpu<'_> {
     ghost ready = { λ cpu. IsDone cpu.want };
 
     fn add_to<S: Sink>(&self, to: &mut Text<S>) -> Result<(), WriteFault> {
-        match self.want() {
-            Want::Done(end) => add_ended(to, self.thread(), end, self),
-            Want::Gate(_) | Want::Load(_) => unreachable!(),
-        }
+        add_state(to, self.thread(), self)
+    }
+}
+
+/// Writes the state text of a thread that has ended, under this number: the three lines of its plain
+/// text, and the line of its marks.
+///
+/// Takes no memory. On `WriteFault` a prefix of the text was written, and the sink counted a fault.
+pub fn write_state<S: Sink>(thread: u32, cpu: &Cpu, sink: &mut S) -> Result<(), WriteFault>
+    requires done { IsDone cpu.now.want }
+    ensures writes { WritesText S.written S.faults S.along sink.old sink.new
+        (ended_text thread cpu.now cpu.now.want) result }
+{
+    let mut text = Text::new(sink);
+    add_state(&mut text, thread, cpu)?;
+    text.done()
+}
+
+/// Adds the four lines of a thread that has ended.
+fn add_state<S: Sink>(text: &mut Text<S>, thread: u32, cpu: &Cpu) -> Result<(), WriteFault>
+    requires { IsDone cpu.now.want }
+    ensures { AddsText S.written S.faults S.along text.old text.new
+        (ended_text thread cpu.now cpu.now.want) result }
+{
+    match cpu.want() {
+        Want::Done(end) => add_ended(text, thread, end, cpu),
+        Want::Gate(_) | Want::Load(_) => unreachable!(),
     }
 }
 

@@ -8,7 +8,7 @@ use Rattle.std.proofs.lemmas.List.Folds.{list_any-append, list_any_at, list_any_
 use Rattle.std.proofs.lemmas.Option.{slice_get-get_or, slice_get_past}
 use Rattle.xray_image.specs.declared.sled.Sled.{Sled}
 use Rattle.xray_image.specs.Program.{Program}
-use Rattle.sled_words.specs.Words.{code_word_count}
+use Rattle.sled_words.specs.Words.{IsCodeWord, progress_word}
 use Rattle.patch_script.specs.declared.command.Command.{Command}
 use Rattle.patch_script.specs.declared.command.Command.TheVariants as commands
 use Rattle.patch_script.specs.declared.micro.Micro.{Micro}
@@ -73,8 +73,20 @@ module _ (bad : Micro → Bool) (program : Program) where
 -- ---- words and threads
 
 module _ (program : Program) (threads : ℕ) where
+  -- a word isn't a code word
+  is_outside : ℕ → Bool
+  is_outside word = nat_le (progress_word program threads 1) word
+
+  inside : (word : ℕ) → IsCodeWord program threads word → is_outside word ≡ false
+  unfolding is_outside
+  inside word is = lt-leb (progress_word program threads 1) word is
+
+  code_word : (word : ℕ) → is_outside word ≡ false → IsCodeWord program threads word
+  unfolding is_outside
+  code_word word isnt = leb-false (progress_word program threads 1) word isnt
+
   abbrev is_astray : Micro → Bool
-  is_astray (Store word value) = nat_le (code_word_count program threads) word
+  is_astray (Store word value) = is_outside word
   is_astray (Await thread count) = is_beyond threads thread
   is_astray End = false
 
@@ -83,15 +95,14 @@ module _ (program : Program) (threads : ℕ) where
   numbered_near n (s ∷ ss) le =
       neither (nat_le (length program.sleds) n) (list_any (λ s. nat_le (length program.sleds) s.0) (enumerate_from (n + 1) ss)) (lt-leb (length program.sleds) n (omega arith)) (numbered_near (n + 1) ss (omega arith))
 
-  near : (k j : ℕ) → nat_le (length program.sleds) k ≡ false → j < 4 → nat_le (code_word_count program threads) (4 * k + j) ≡ false
-  near k j far lt = let less = leb-false (length program.sleds) k far in lt-leb (code_word_count program threads) (4 * k + j) (omega arith)
+  near : (k j : ℕ) → nat_le (length program.sleds) k ≡ false → j < 4 → is_outside (4 * k + j) ≡ false
+  near k j far lt = let less = leb-false (length program.sleds) k far in inside (4 * k + j) (omega arith)
 
   stores_near : (sleds : List Numbered) → list_any (λ s. nat_le (length program.sleds) s.0) sleds ≡ false → list_any (is_bad_sled is_astray program) sleds ≡ false
   stores_near [] none = refl
   stores_near ((k, s) ∷ ss) none =
-      let W = code_word_count program threads in
       let parts = or_parts (nat_le (length program.sleds) k) (list_any (λ s. nat_le (length program.sleds) s.0) ss) none in
-      let stores : (nat_le W (4 * k + 1) || (nat_le W (4 * k + 2) || (nat_le W (4 * k + 3) || (nat_le W (4 * k + 0) || false)))) ≡ false =
+      let stores : (is_outside (4 * k + 1) || (is_outside (4 * k + 2) || (is_outside (4 * k + 3) || (is_outside (4 * k + 0) || false)))) ≡ false =
       neither _ _ (near k 1 parts.0 (omega arith)) (neither _ _ (near k 2 parts.0 (omega arith)) (neither _ _ (near k 3 parts.0 (omega arith)) (neither _ _ (near k 0 parts.0 (omega arith)) refl))) in
       neither (is_bad_sled is_astray program (k, s)) (list_any (is_bad_sled is_astray program) ss) stores (stores_near ss parts.1)
 
@@ -107,8 +118,8 @@ module _ (program : Program) (threads : ℕ) where
   pub some_near : (id : ℕ) → list_any (λ s. nat_le (length program.sleds) s.0) (sleds_of program id) ≡ false
   some_near id = filter_none (λ s. nat_le (length program.sleds) s.0) (λ s. s.1.id == id) (all_sleds program) all_near
 
-  after_sleds : (word : ℕ) → word < code_word_count program threads → (nat_le (code_word_count program threads) word || false) ≡ false
-  after_sleds word lt = neither (nat_le (code_word_count program threads) word) false (lt-leb (code_word_count program threads) word lt) refl
+  after_sleds : (word : ℕ) → IsCodeWord program threads word → (is_outside word || false) ≡ false
+  after_sleds word is = neither (is_outside word) false (inside word is) refl
 
   not_beyond : (thread : ℕ) → is_beyond threads thread ≡ false → (0 < thread) × (thread ≤ threads)
   not_beyond thread h =
@@ -124,8 +135,8 @@ module _ (program : Program) (threads : ℕ) where
   steps_near earlier (commands.UnpatchFunction id) fits = unpatched_none is_astray program earlier (sleds_of program id) (heads_near earlier (sleds_of program id) (some_near id))
   steps_near earlier commands.SetHandler fits = after_sleds (4 * length program.sleds) (omega arith)
   steps_near earlier commands.RemoveHandler fits = after_sleds (4 * length program.sleds) (omega arith)
-  steps_near earlier commands.Init fits = neither _ _ (lt-leb (code_word_count program threads) (4 * length program.sleds + 1) (omega arith)) (after_sleds (4 * length program.sleds + 1) (omega arith))
-  steps_near earlier commands.Finalize fits = neither _ _ (lt-leb (code_word_count program threads) (4 * length program.sleds + 1) (omega arith)) (after_sleds (4 * length program.sleds + 1) (omega arith))
+  steps_near earlier commands.Init fits = neither _ _ (inside (4 * length program.sleds + 1) (omega arith)) (after_sleds (4 * length program.sleds + 1) (omega arith))
+  steps_near earlier commands.Finalize fits = neither _ _ (inside (4 * length program.sleds + 1) (omega arith)) (after_sleds (4 * length program.sleds + 1) (omega arith))
   steps_near earlier (commands.Hold thread passing) fits = refl
   steps_near earlier commands.Go fits = refl
   steps_near earlier (commands.Release thread) fits =
@@ -151,6 +162,6 @@ micro_within plan all place micro is = elim (cases_lt place (total_of plan.progr
         ∙ (all.admitted k (get_or plan.lines k (0, d)) (slice_get-get_or plan.lines k (0, d) (omega (arith, length-map plan.lines (λ l. l.1))))).thread
 
     read : (micro : Micro) → is_astray plan.program plan.threads micro ≡ false → IsWithin plan micro
-    read (Store word value) h = leb-false (code_word_count plan.program plan.threads) word h
+    read (Store word value) h = code_word plan.program plan.threads word h
     read (Await thread count) h = not_beyond plan.program plan.threads thread h
     read End h = tt

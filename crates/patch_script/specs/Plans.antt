@@ -5,7 +5,7 @@ use Rattle.std.specs.Str.Lines.{lines}
 use Rattle.xray_io.specs.Rows.{◌>>=◌}
 use Rattle.text_lines.specs.Lines.{numbered_lines}
 use Rattle.xray_image.specs.Program.{Program}
-use Rattle.sled_words.specs.Words.{code_word_count}
+use Rattle.sled_words.specs.Words.{IsCodeWord}
 use Rattle.patch_script.specs.declared.command.Command.{Command}
 use Rattle.patch_script.specs.declared.command.Command.TheVariants as commands
 use Rattle.patch_script.specs.declared.fault.ScriptFault.{ScriptFault}
@@ -35,7 +35,15 @@ abbrev pub is_waiting : Command → Bool
 is_waiting (commands.Hold thread passing) = true
 is_waiting (commands.Release thread) = true
 is_waiting (commands.Await thread count) = true
-is_waiting _ = false
+is_waiting commands.Patch = false
+is_waiting commands.Unpatch = false
+is_waiting (commands.PatchFunction id) = false
+is_waiting (commands.UnpatchFunction id) = false
+is_waiting commands.SetHandler = false
+is_waiting commands.RemoveHandler = false
+is_waiting commands.Init = false
+is_waiting commands.Finalize = false
+is_waiting commands.Go = false
 
 -- the line of the first hold, release or await
 abbrev pub waiting_line : Lines → Option ℕ
@@ -53,10 +61,9 @@ pub record IsOrderly (plan : Plan) : Type 0 where
   pub released : list_any (holds_for_good (commands_of plan.lines)) (commands_of plan.lines) ≡ false
   pub few : length plan.lines ≤ most_commands
 
--- The word that a micro step stores in comes before the progress words. The thread that it waits for is one of the
--- script's.
+-- The word that a micro step stores in is a code word. The thread that it waits for is one of the script's.
 abbrev pub IsWithin : Plan → Micro → Type 0
-IsWithin plan (Store word value) = word < code_word_count plan.program plan.threads
+IsWithin plan (Store word value) = IsCodeWord plan.program plan.threads word
 IsWithin plan (Await thread count) = (0 < thread) × (thread ≤ plan.threads)
 IsWithin plan End = Unit {0}
 

@@ -37,7 +37,13 @@ HasWords (commands.UnpatchFunction id) = id ≤ 4294967295
 HasWords (commands.Hold thread passing) = (thread ≤ 4294967295) × (passing ≤ 4294967295)
 HasWords (commands.Release thread) = thread ≤ 4294967295
 HasWords (commands.Await thread count) = (thread ≤ 4294967295) × (count ≤ 4294967295)
-HasWords _ = ⊤
+HasWords commands.Patch = ⊤
+HasWords commands.Unpatch = ⊤
+HasWords commands.SetHandler = ⊤
+HasWords commands.RemoveHandler = ⊤
+HasWords commands.Init = ⊤
+HasWords commands.Finalize = ⊤
+HasWords commands.Go = ⊤
 
 -- commands that may follow one another, and that lack nothing, are read as they are written
 abbrev pub WrittenScriptsRead : Type 0

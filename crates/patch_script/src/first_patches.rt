@@ -46,7 +46,16 @@ impl FirstPatches {
                 let first = &mut self.by_id[id as usize - 1];
                 *first = first.or(Some(number));
             }
-            _ => {}
+            Command::Unpatch
+            | Command::UnpatchFunction { .. }
+            | Command::SetHandler
+            | Command::RemoveHandler
+            | Command::Init
+            | Command::Finalize
+            | Command::Hold { .. }
+            | Command::Go
+            | Command::Release { .. }
+            | Command::Await { .. } => {}
         }
     }
 

@@ -86,7 +86,15 @@ impl Command {
     {
         match self {
             Command::Hold { .. } | Command::Release { .. } | Command::Await { .. } => Some(line),
-            _ => None,
+            Command::Patch
+            | Command::Unpatch
+            | Command::PatchFunction { .. }
+            | Command::UnpatchFunction { .. }
+            | Command::SetHandler
+            | Command::RemoveHandler
+            | Command::Init
+            | Command::Finalize
+            | Command::Go => None,
         }
     }
 }
@@ -127,7 +135,14 @@ impl PlacedCommands {
             },
             Command::PatchFunction { id } | Command::UnpatchFunction { id } =>
                 SledRange::of_function(&self.sleds, id),
-            _ => SledRange::none(),
+            Command::SetHandler
+            | Command::RemoveHandler
+            | Command::Init
+            | Command::Finalize
+            | Command::Hold { .. }
+            | Command::Go
+            | Command::Release { .. }
+            | Command::Await { .. } => SledRange::none(),
         }
     }
 

@@ -64,7 +64,16 @@ impl Draft {
             Command::PatchFunction { id } | Command::UnpatchFunction { id } => is_beyond(
                 self.ids, id,
             ),
-            _ => false,
+            Command::Patch
+            | Command::Unpatch
+            | Command::SetHandler
+            | Command::RemoveHandler
+            | Command::Init
+            | Command::Finalize
+            | Command::Hold { .. }
+            | Command::Go
+            | Command::Release { .. }
+            | Command::Await { .. } => false,
         }
     }
 
@@ -76,7 +85,15 @@ impl Draft {
             Command::Hold { thread, .. }
             | Command::Release { thread }
             | Command::Await { thread, .. } => is_beyond(self.threads, thread),
-            _ => false,
+            Command::Patch
+            | Command::Unpatch
+            | Command::PatchFunction { .. }
+            | Command::UnpatchFunction { .. }
+            | Command::SetHandler
+            | Command::RemoveHandler
+            | Command::Init
+            | Command::Finalize
+            | Command::Go => false,
         }
     }
 

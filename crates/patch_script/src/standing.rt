@@ -131,7 +131,14 @@ impl Standing {
         match command {
             Command::Go | Command::Hold { .. } => self.going,
             Command::Release { .. } | Command::Await { .. } => !self.going,
-            _ => false,
+            Command::Patch
+            | Command::Unpatch
+            | Command::PatchFunction { .. }
+            | Command::UnpatchFunction { .. }
+            | Command::SetHandler
+            | Command::RemoveHandler
+            | Command::Init
+            | Command::Finalize => false,
         }
     }
 
@@ -144,7 +151,16 @@ impl Standing {
         match command {
             Command::Hold { thread, .. } => self.holds.of(thread) != Hold::Free,
             Command::Release { thread } => !matches!(self.holds.of(thread), Hold::Held { .. }),
-            _ => false,
+            Command::Patch
+            | Command::Unpatch
+            | Command::PatchFunction { .. }
+            | Command::UnpatchFunction { .. }
+            | Command::SetHandler
+            | Command::RemoveHandler
+            | Command::Init
+            | Command::Finalize
+            | Command::Go
+            | Command::Await { .. } => false,
         }
     }
 
@@ -156,7 +172,16 @@ impl Standing {
         match command {
             Command::Init => self.log != Log::Uninitialized,
             Command::Finalize => self.log != Log::Initialized,
-            _ => false,
+            Command::Patch
+            | Command::Unpatch
+            | Command::PatchFunction { .. }
+            | Command::UnpatchFunction { .. }
+            | Command::SetHandler
+            | Command::RemoveHandler
+            | Command::Hold { .. }
+            | Command::Go
+            | Command::Release { .. }
+            | Command::Await { .. } => false,
         }
     }
 
@@ -170,7 +195,17 @@ impl Standing {
                 Hold::Held { passing } => passing < count,
                 Hold::Free | Hold::Released { .. } => false,
             },
-            _ => false,
+            Command::Patch
+            | Command::Unpatch
+            | Command::PatchFunction { .. }
+            | Command::UnpatchFunction { .. }
+            | Command::SetHandler
+            | Command::RemoveHandler
+            | Command::Init
+            | Command::Finalize
+            | Command::Hold { .. }
+            | Command::Go
+            | Command::Release { .. } => false,
         }
     }
 
@@ -185,7 +220,13 @@ impl Standing {
             Command::Finalize => self.log = Log::Finalized,
             Command::Hold { thread, passing } => self.holds.set(thread, Hold::Held { passing }),
             Command::Release { thread } => self.holds.release(thread),
-            _ => {}
+            Command::Patch
+            | Command::Unpatch
+            | Command::PatchFunction { .. }
+            | Command::UnpatchFunction { .. }
+            | Command::SetHandler
+            | Command::RemoveHandler
+            | Command::Await { .. } => {}
         }
     }
 

@@ -16,7 +16,8 @@ use Rattle.sled_rule.specs.declared.views.View.{View}
 use Rattle.sled_rule.specs.declared.views.View.TheVariants.{Patch, Work, Note, Tally, Spent}
 use Rattle.patch_script.specs.Plans.{Plan}
 use Rattle.sled_rule.specs.Plans.{start_in}
-use Rattle.sled_rule.specs.Rule.{progress, progress_slot, Rises, IsLawful, IsMet, IsCore, IsWork, Knows, KeepsCode}
+use Rattle.sled_rule.specs.Slots.{progress_slot}
+use Rattle.sled_rule.specs.Rule.{progress, Rises, IsLawful, IsMet, IsCore, IsWork, Knows, KeepsCode}
 
 -- what the other seats, all but `me`, rely on over a step
 pub record IsLater (plan : Plan) (words words' : List ℕ) (p p' : PatchView) (owner owner' : ℕ → ℕ) (me : ℕ) : Type 0 where

@@ -10,10 +10,10 @@ use Rattle.patch_script.specs.declared.micro.Micro.TheVariants.{Store, Await, En
 use Rattle.patch_script.specs.Bounds.{bound_of}
 use Rattle.patch_script.specs.CodeAt.{code_at, stored_in}
 use Rattle.patch_script.specs.Micros.{micros, micro_at, start_of, total_of}
-use Rattle.patch_script.specs.Plans.{Plan, IsWithin}
+use Rattle.patch_script.specs.Plans.{Plan}
 use Rattle.patch_script.specs.Refusals.{commands_of}
 use Rattle.patch_script.specs.StoredWords.{AreCodeAt}
-use Rattle.sled_rule.specs.Plans.{code_in, bound_in, start_in, total_in, micro_in, code_words}
+use Rattle.sled_rule.specs.Plans.{code_in, bound_in, start_in, total_in, micro_in}
 
 -- the code after one more micro step
 abbrev pub CodeNext : Plan → Type 0
@@ -98,11 +98,6 @@ end_is plan script place at IsEnd same here within said =
       λ is. let past = said.0 is in omega arith,
       λ is. said.1 (omega arith),
     )
-
--- a word that the script stores in isn't a progress word
-pub stored_here : (plan : Plan) (word value : ℕ) → IsWithin plan (Store word value) → word < code_words plan
-unfolding code_words
-stored_here plan word value within = within
 
 -- a store is neither an await nor the end, and an await is neither a store nor the end
 pub is_store : (micro : Micro) (word value : ℕ) → micro ≡ Store word value → ((thread : ℕ) × (count : ℕ) × (micro ≡ Await thread count)) ⊎ (micro ≡ End) → ⊥

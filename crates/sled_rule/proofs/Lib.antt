@@ -1,4 +1,5 @@
 pub mod Laws
+pub mod SlotsApart
 pub mod Rows
 pub mod Keeps
 pub mod Working

@@ -15,24 +15,28 @@ use Rattle.sled_rule.specs.declared.views.Met.{Met}
 use Rattle.sled_rule.specs.declared.views.PatchView.{PatchView}
 use Rattle.sled_rule.specs.declared.views.View.{View}
 use Rattle.sled_rule.specs.declared.views.View.TheVariants.{Patch}
-use Rattle.sled_rule.specs.Plans.{code_in, micro_in, code_words}
-use Rattle.sled_rule.specs.Rule.{progress, progress_slot, IsCore, KeepsCode, WasMet}
+use Rattle.sled_rule.specs.Plans.{IsCodeIn, code_in, micro_in}
+use Rattle.sled_rule.specs.Slots.{code_slot, progress_slot}
+use Rattle.sled_rule.specs.Rule.{progress, IsCore, KeepsCode, WasMet}
 use Rattle.sled_rule.specs.Steps.{patch_of}
 use Rattle.sled_rule.specs.private.Plays.{patched, looked, confirmed}
 use Rattle.sled_rule.specs.Views.{advanced, knowing, looked_at}
 use Rattle.sled_rule.proofs.Laws.{CodeNext, code_stored, code_awaited, store_within, await_within}
+use Rattle.sled_rule.proofs.SlotsApart.{one_slot, slot_within, slots_apart}
 use Rattle.sled_rule.proofs.Keeps.{IsLater, still, moves, loads, known_patch, progress_else}
 
 -- ---- a store of the script
 
 -- a word after a store
-stored_word : (words : List ℕ) (i n w before : ℕ) → i < length words → get_or words w 0 ≡ before
-    → get_or (set words i n) w 0 ≡ unwrap_or (stored_in w (Store i n)) before
-stored_word words i n w before inside is = dite (ℕ_discrete i w)
+stored_word : (plan : Plan) (words : List ℕ) (i n w before : ℕ) → IsCodeIn plan i → IsCodeIn plan w → code_slot plan i < length words
+    → get_or words (code_slot plan w) 0 ≡ before
+    → get_or (set words (code_slot plan i) n) (code_slot plan w) 0 ≡ unwrap_or (stored_in w (Store i n)) before
+stored_word plan words i n w before stored other inside is = dite (ℕ_discrete i w)
     (λ e.
-    let a : get_or (set words i n) w 0 ≡ n = subst (λ (z : ℕ). get_or (set words i n) z 0 ≡ n) e (get_or-set_same words i n 0 inside) in
+    let a : get_or (set words (code_slot plan i) n) (code_slot plan w) 0 ≡ n =
+    subst (λ (z : ℕ). get_or (set words (code_slot plan i) n) (code_slot plan z) 0 ≡ n) e (get_or-set_same words (code_slot plan i) n 0 inside) in
     a ∙ sym (stores i w n before e))
-    (λ ne. get_or-set_other words i w n 0 (λ e. ne (sym e)) ∙ (is ∙ sym (leaves i w n before ne)))
+    (λ ne. get_or-set_other words (code_slot plan i) (code_slot plan w) n 0 (λ e. ne (one_slot plan i w stored other (sym e))) ∙ (is ∙ sym (leaves i w n before ne)))
   where
     stores : (i w n before : ℕ) → i ≡ w → unwrap_or (stored_in w (Store i n)) before ≡ n
     stores i w n before e = let test : (i == w) ≡ true = grind (arith, nat_tests) in rw test refl
@@ -40,17 +44,18 @@ stored_word words i n w before inside is = dite (ℕ_discrete i w)
     leaves : (i w n before : ℕ) → (i ≡ w → ⊥) → unwrap_or (stored_in w (Store i n)) before ≡ before
     leaves i w n before ne = let test : (i == w) ≡ false = grind (arith, nat_tests) in rw test refl
 
-patched_core : (plan : Plan) → CodeNext plan → (words : List ℕ) (p : PatchView) (i n : ℕ) → IsCore plan words p → micro_in plan p.place ≡ Store i n → i < code_words plan
-    → IsCore plan (set words i n) (advanced p)
+patched_core : (plan : Plan) → CodeNext plan → (words : List ℕ) (p : PatchView) (i n : ℕ) → IsCore plan words p → micro_in plan p.place ≡ Store i n → IsCodeIn plan i
+    → IsCore plan (set words (code_slot plan i) n) (advanced p)
 patched_core plan next words p i n core step inside =
     let wide = core.wide in
     let within = store_within plan p.place i n step in
-    let same = λ (t : ℕ). progress_else plan words i n t (λ e. omega arith) in record {
+    let slot = slot_within plan i inside in
+    let same = λ (t : ℕ). progress_else plan words (code_slot plan i) n t (slots_apart plan i t inside) in record {
       script = core.script;
-      wide = length-set words i n ∙ core.wide;
+      wide = length-set words (code_slot plan i) n ∙ core.wide;
       place = omega arith;
       given = core.given;
-      code = λ w h. stored_word words i n w (code_in plan p.place w) (omega arith) (core.code w h) ∙ sym (code_stored plan next p.place i n w step);
+      code = λ w h. stored_word plan words i n w (code_in plan p.place w) inside h (omega arith) (core.code w h) ∙ sym (code_stored plan next p.place i n w step);
       started = λ h. let a = core.started h in omega arith;
       met = λ j m e. let o = core.met j m e in let a = o.seen in record { first = o.first; given = o.given; seen = omega arith; ended = same m.thread ∙ o.ended };
       once = core.once;
@@ -62,16 +67,17 @@ patched_core plan next words p i n core step inside =
       known = λ t h. let o = core.known t h in let z = same t in omega arith;
     }
 
-pub patches : (plan : Plan) → CodeNext plan → (slots id : ℕ) (me : Me (Unit {0}) View) (word n : ℕ) (p : PatchView) → me.0 ≡ Patch p → micro_in plan p.place ≡ Store word n → word < code_words plan
-    → Allows (KeepsCode plan) slots id me word (λ _. n) (λ _. patched (step slots word n 0 none) me n)
-patches plan next slots id me word n p is at_step inside s r _ at _ =
+pub patches : (plan : Plan) → CodeNext plan → (slots id : ℕ) (me : Me (Unit {0}) View) (slot word n : ℕ) (p : PatchView) → me.0 ≡ Patch p → micro_in plan p.place ≡ Store word n → IsCodeIn plan word
+    → slot ≡ code_slot plan word → Allows (KeepsCode plan) slots id me slot (λ _. n) (λ _. patched (step slots slot n 0 none) me n)
+patches plan next slots id me slot word n p is at_step inside at_slot s r _ at _ =
     let k = known_patch plan s r id me.0 p at is in
     let at_step' : micro_in plan r.patch.place ≡ Store word n = subst (λ (z : PatchView). micro_in plan z.place ≡ Store word n) k.0 at_step in
-    let same = λ (t : ℕ). progress_else plan s.words word n t (λ e. omega arith) in (
+    let same = λ (t : ℕ). progress_else plan s.words slot n t (λ e. slots_apart plan word t inside (e ∙ at_slot)) in (
       Patch (advanced r.patch),
       keeps,
       tt,
-      moves plan s r (set s.words word n) s.homes (advanced r.patch) r.owner id (Patch (advanced r.patch)) (patched_core plan next s.words r.patch word n r.core at_step' inside)
+      moves plan s r (set s.words slot n) s.homes (advanced r.patch) r.owner id (Patch (advanced r.patch))
+          (subst (λ (i : ℕ). IsCore plan (set s.words i n) (advanced r.patch)) (sym at_slot) (patched_core plan next s.words r.patch word n r.core at_step' inside))
           record {
             place = omega arith;
             given = omega arith;

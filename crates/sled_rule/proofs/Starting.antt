@@ -12,8 +12,9 @@ use Rattle.sled_words.specs.Parts.{initial_words, all_sled_words, sled_words}
 use Rattle.sled_words.specs.Words.{code_word_count, word_count}
 use Rattle.patch_script.specs.Plans.{Plan}
 use Rattle.sled_rule.specs.declared.views.View.{View}
-use Rattle.sled_rule.specs.Plans.{code_in, code_words}
-use Rattle.sled_rule.specs.Rule.{progress, progress_slot, slot_count, first_view, Knows, KeepsCode}
+use Rattle.sled_rule.specs.Plans.{IsCodeIn, code_in, code_words}
+use Rattle.sled_rule.specs.Slots.{code_slot, progress_slot, slot_count}
+use Rattle.sled_rule.specs.Rule.{progress, first_view, Knows, KeepsCode}
 use Rattle.sled_rule.specs.Views.{first_patch}
 use Rattle.sled_rule.proofs.Rows.{at_front}
 
@@ -60,8 +61,8 @@ module _ (plan : Plan) (words : List ℕ) (is : words ≡ initial_words plan.pro
 
   -- the words that are fetched are those before the script
   opening_code : ((word : ℕ) → word < length (initial_words plan.program plan.threads) → slice_index (initial_words plan.program plan.threads) word ≡ code_in plan 0 word)
-      → (word : ℕ) → word < code_words plan → slice_index words word ≡ code_in plan 0 word
-  unfolding code_words
+      → (word : ℕ) → IsCodeIn plan word → slice_index words (code_slot plan word) ≡ code_in plan 0 word
+  unfolding code_slot
   opening_code first word inside =
       let initial = initial_count plan.program plan.threads in
       let within : word < length (initial_words plan.program plan.threads) = omega arith in
@@ -106,7 +107,7 @@ pub for_the_script : (plan : Plan) (program : Program) (threads : ℕ) → plan.
 for_the_script plan program threads same all =
     λ i. initial_words (sym same i) (sym all i) ++ replicate (8 + 7 * sym all i) 0
 
--- how many words there are before the progress words
+-- how many code words there are
 pub count_is : (plan : Plan) (program : Program) (threads count : ℕ) → plan.program ≡ program → plan.threads ≡ threads
     → count ≡ code_word_count program threads → count ≡ code_words plan
 unfolding code_words

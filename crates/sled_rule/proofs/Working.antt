@@ -10,12 +10,14 @@ use Rattle.sled_rule.specs.declared.views.PatchView.{PatchView}
 use Rattle.sled_rule.specs.declared.views.WorkView.{WorkView}
 use Rattle.sled_rule.specs.declared.views.View.{View}
 use Rattle.sled_rule.specs.declared.views.View.TheVariants.{Work}
-use Rattle.sled_rule.specs.Plans.{code_in, bound_in, start_in, code_words}
-use Rattle.sled_rule.specs.Rule.{progress_slot, IsCore, IsWork, KeepsCode}
+use Rattle.sled_rule.specs.Plans.{IsCodeIn, code_in, bound_in, start_in}
+use Rattle.sled_rule.specs.Slots.{code_slot, progress_slot}
+use Rattle.sled_rule.specs.Rule.{IsCore, IsWork, KeepsCode}
 use Rattle.sled_rule.specs.Steps.{work_of, IsFetched}
 use Rattle.sled_rule.specs.private.Plays.{fetched, counted}
 use Rattle.sled_rule.specs.Views.{loading, counting}
 use Rattle.sled_rule.proofs.Laws.{BoundReached}
+use Rattle.sled_rule.proofs.SlotsApart.{one_slot, slots_apart}
 use Rattle.sled_rule.proofs.Keeps.{IsLater, still, moves, loads, known_work, progress_else, progress_here, progress_grows, rises_more, work_on}
 
 -- ---- a load
@@ -58,14 +60,14 @@ loading_work plan words p owner me v word value place core k le bound l =
     work_on plan words words p owner me v place v.count _ k l.from le k.count
     (rises_more plan v.thread (start_in plan) v.seen v.loads _ k.loads l.from record { value = l.here; bound = bound })
 
-pub fetches : (plan : Plan) → BoundReached plan → (slots id : ℕ) (me : Me (Unit {0}) View) (word : ℕ) (v : WorkView) → me.0 ≡ Work v → word < code_words plan
-    → Allows (KeepsCode plan) slots id me word (λ n. n) (fetched (step slots word 0 0 none) me)
-fetches plan bounds slots id me word v is inside s r _ at _ =
+pub fetches : (plan : Plan) → BoundReached plan → (slots id : ℕ) (me : Me (Unit {0}) View) (slot word : ℕ) (v : WorkView) → me.0 ≡ Work v → IsCodeIn plan word → slot ≡ code_slot plan word
+    → Allows (KeepsCode plan) slots id me slot (λ n. n) (fetched (step slots slot 0 0 none) me)
+fetches plan bounds slots id me slot word v is inside at_slot s r _ at _ =
     let k = known_work plan s r id me.0 v at is in
-    let n : ℕ = get_or s.words word 0 in
+    let n : ℕ = get_or s.words slot 0 in
     let from = k.to in
     let gap : v.seen + (r.patch.place - v.seen) ≡ r.patch.place = omega arith in
-    let here : code_in plan (v.seen + (r.patch.place - v.seen)) word ≡ n = ap (λ (x : ℕ). code_in plan x word) gap ∙ sym (r.core.code word inside) in
+    let here : code_in plan (v.seen + (r.patch.place - v.seen)) word ≡ n = ap (λ (x : ℕ). code_in plan x word) gap ∙ sym (ap (λ (i : ℕ). get_or s.words i 0) at_slot ∙ r.core.code word inside) in
     let q = first_place (λ x. code_in plan x word) n v.seen (r.patch.place - v.seen) here in
     let le = q.1 in
     let most = reaches plan bounds s.words r.patch r.owner id v r.core k in
@@ -73,11 +75,15 @@ fetches plan bounds slots id me word v is inside s r _ at _ =
       Work (loading v word n q.0),
       keeps,
       tt,
-      loads plan s r word s.homes r.patch r.owner id (Work (loading v word n q.0)) r.core (still plan s.words r.patch r.owner id)
+      loads plan s r slot s.homes r.patch r.owner id (Work (loading v word n q.0)) r.core (still plan s.words r.patch r.owner id)
           (loading_work plan s.words r.patch r.owner id v word n q.0 r.core k (omega arith) bound q.2) (λ j a b. refl),
       (
         refl,
-        subst (λ (z : View). IsFetched (work_of z) word n (loading v word n q.0)) (sym is)
+        subst (λ (z : View). (other : ℕ) → IsCodeIn (work_of z).script other → slot ≡ code_slot (work_of z).script other → IsFetched (work_of z) other n (loading v word n q.0)) (sym is)
+            (λ other is_code at_other.
+            let other_code : IsCodeIn plan other = subst (λ (z : Plan). IsCodeIn z other) k.script is_code in
+            let same : word ≡ other = one_slot plan word other inside other_code (sym at_slot ∙ (at_other ∙ ap (λ (z : Plan). code_slot z other) k.script)) in
+            subst (λ (w : ℕ). IsFetched v w n (loading v word n q.0)) same
             record {
               place = q.0;
               from = q.2.from;
@@ -85,7 +91,7 @@ fetches plan bounds slots id me word v is inside s r _ at _ =
               here = subst (λ (z : Plan). code_in z q.0 word ≡ n) (sym k.script) q.2.here;
               first = subst (λ (z : Plan). (p : ℕ) → v.seen ≤ p → p < q.0 → code_in z p word ≡ n → ⊥) (sym k.script) q.2.before;
               view = refl;
-            },
+            }),
         refl,
       ),
     )
@@ -104,7 +110,7 @@ counted_core plan words p owner me v n core k le =
       wide = length-set words (progress_slot plan v.thread) n ∙ core.wide;
       place = core.place;
       given = core.given;
-      code = λ w h. get_or-set_other words (progress_slot plan v.thread) w n 0 (λ e. omega arith) ∙ core.code w h;
+      code = λ w h. get_or-set_other words (progress_slot plan v.thread) (code_slot plan w) n 0 (λ e. slots_apart plan w v.thread h (sym e)) ∙ core.code w h;
       started = core.started;
       met = λ i m e. let o = core.met i m e in record {
         first = o.first;

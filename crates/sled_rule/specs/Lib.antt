@@ -1,4 +1,5 @@
 pub mod Plans
+pub mod Slots
 pub mod Views
 pub mod Rule
 pub mod Steps

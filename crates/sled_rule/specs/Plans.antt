@@ -2,7 +2,7 @@
 use Rattle.std.specs.Prelude.{◌≡◌, ℕ, ◌+◌, ◌*◌}
 use Rattle.xray_image.specs.Limits.{most_sleds}
 use Rattle.sled_words.specs.declared.words.TheConstants.{MAX_THREADS}
-use Rattle.sled_words.specs.Words.{code_word_count}
+use Rattle.sled_words.specs.Words.{IsCodeWord, code_word_count}
 use Rattle.patch_script.specs.declared.micro.Micro.{Micro}
 use Rattle.patch_script.specs.declared.micro.Micro.TheVariants.{Store, Await}
 use Rattle.patch_script.specs.Bounds.{bound_of}
@@ -30,11 +30,15 @@ total_in plan = total_of plan.program (commands_of plan.lines)
 unfoldable pub micro_in : Plan → ℕ → Micro
 micro_in plan place = micro_at plan.program (commands_of plan.lines) place
 
--- how many words there are before the progress words
+-- the word is one that the script stores in, or that threads load
+abbrev pub IsCodeIn : Plan → ℕ → Type 0
+IsCodeIn plan word = IsCodeWord plan.program plan.threads word
+
+-- how many code words there are
 unfoldable pub code_words : Plan → ℕ
 code_words plan = code_word_count plan.program plan.threads
 
--- the most words before the progress words: those of the most sleds, and of the most threads
+-- the most code words: those of the most sleds, and of the most threads
 abbrev pub most_code_words : ℕ
 most_code_words = 4 * most_sleds + 2 + MAX_THREADS
 

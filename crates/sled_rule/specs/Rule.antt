@@ -1,5 +1,5 @@
 -- The rule of the table: what is true of its words, and of what the seats know, between any two steps.
-use Rattle.std.specs.Prelude.{◌≡◌, ℕ, ◌+◌, ◌*◌, ◌<◌, ◌≤◌, List, [], ◌∷◌, length, slice_index}
+use Rattle.std.specs.Prelude.{◌≡◌, ℕ, ◌+◌, ◌<◌, ◌≤◌, List, [], ◌∷◌, length, slice_index}
 use mathlib.Core.Option.{some}
 use lib.ListN.{get_elem?}
 use Rattle.atomic_table.specs.Table.{State}
@@ -13,17 +13,9 @@ use Rattle.sled_rule.specs.declared.views.NoteView.{NoteView}
 use Rattle.sled_rule.specs.declared.views.TallyView.{TallyView}
 use Rattle.sled_rule.specs.declared.views.View.{View}
 use Rattle.sled_rule.specs.declared.views.View.TheVariants.{Patch, Work, Note, Tally, Spent}
-use Rattle.sled_rule.specs.Plans.{code_in, bound_in, start_in, total_in, micro_in, code_words}
+use Rattle.sled_rule.specs.Plans.{IsCodeIn, code_in, bound_in, start_in, total_in, micro_in}
+use Rattle.sled_rule.specs.Slots.{code_slot, progress_slot, slot_count}
 use Rattle.sled_rule.specs.Views.{ended_count, first_patch}
-
--- Where the progress word of a thread is in the table. Progress words come after the words that are fetched, each in a
--- cache line of its own, which is eight words. Callers use its number, as if progress words were next to each other.
-abbrev pub progress_slot : Plan → ℕ → ℕ
-progress_slot plan thread = code_words plan + 8 * thread
-
--- how many words the table has, with these lines
-abbrev pub slot_count : Plan → ℕ
-slot_count plan = code_words plan + 8 * (plan.threads + 1)
 
 -- what the progress word of a thread holds
 abbrev pub progress : Plan → List ℕ → ℕ → ℕ
@@ -59,8 +51,8 @@ pub record IsCore (plan : Plan) (words : List ℕ) (p : PatchView) : Type 0 wher
   pub wide : length words ≡ slot_count plan
   pub place : p.place ≤ total_in plan
   pub given : p.given ≤ plan.threads
-  -- each word, except the progress words, is the code at the place
-  pub code : (word : ℕ) → word < code_words plan → slice_index words word ≡ code_in plan p.place word
+  -- each code word is the code at the place
+  pub code : (word : ℕ) → IsCodeIn plan word → slice_index words (code_slot plan word) ≡ code_in plan p.place word
   -- threads have seats only after the start
   pub started : 0 < p.given → start_in plan ≤ p.place
   pub met : (i : ℕ) (one : Met) → get_elem? p.met i ≡ some one → WasMet plan words p one

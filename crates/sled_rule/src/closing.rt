@@ -5,17 +5,21 @@ ghost use Rattle.std.specs.Slots.{slots_items, slots_len, IsFull};
 ghost use mathlib.Core.Option.{some};
 ghost use lib.ListN.{get_elem?};
 ghost use Rattle.sled_words.specs.Words.{progress_word, word_count};
-ghost use Rattle.sled_rule.specs.Plans.{code_in, code_words};
+ghost use Rattle.sled_words.specs.declared.words.TheConstants.{MAX_THREADS};
+ghost use Rattle.patch_script.specs.Plans.{Plan};
+ghost use Rattle.sled_rule.specs.Plans.{IsCodeIn, code_in, code_words, most_code_words};
+ghost use Rattle.sled_rule.specs.Slots.{code_slot, progress_slot, slot_count};
 ghost use Rattle.sled_rule.specs.Seats.{patch_view, script_of, AllMet, IsPatcherOf};
 ghost use Rattle.sled_rule.specs.Views.{ended_count};
 
 use crate::seats::PatchSeat;
-use crate::table::{CodeTable, LINE};
+use crate::slots::slot_of;
+use crate::table::CodeTable;
 use atomic_table::Closed;
 use std::alloc::Global;
 
 impl CodeTable {
-    /// How many words there are by number: those before the progress words, and one per thread.
+    /// How many words there are by number: the code words, and a progress word per thread.
     pub fn word_count(&self) -> u32
         ensures { result ≡ word_count (script_of self.now).program (script_of self.now).threads }
     {
@@ -29,7 +33,7 @@ impl CodeTable {
         requires own { IsPatcherOf self seat }
         requires met { AllMet (patch_view seat) }
         requires room { length into.old ≡ word_count (script_of self).program (script_of self).threads }
-        ensures code { (word : ℕ) → word < code_words (script_of self)
+        ensures code { (word : ℕ) → IsCodeIn (script_of self) word
             → slice_index into.new word ≡ code_in (script_of self) (patch_view seat).place word }
         ensures ended { (thread : ℕ) → 0 < thread → thread ≤ (patch_view seat).given
             → slice_index into.new (progress_word (script_of self).program (script_of self).threads thread) ≡ ended_count }
@@ -55,24 +59,23 @@ impl CodeTable {
     }
 }
 
-/// Copies the words to their numbers: first those next to each other, and then those in cache lines
-/// of their own.
+/// Copies the words from their slots to their numbers. There are `code_len` code words.
 fn copy_words(closed: &Closed<(), Global>, code_len: usize, into: &mut [u64])
     requires full { IsFull closed.now.words }
-    requires few { code_len ≤ length into.old }
-    requires room { slots_len closed.now.words ≡ code_len + 8 * (length into.old - code_len + 1) }
-    requires small { length into.old ≤ 16434 }
-    ensures code { (word : ℕ) → word < code_len
-        → get_elem? (slots_items closed.now.words) word ≡ some (slice_index into.new word) }
-    ensures progress { (thread : ℕ) → 0 < thread → code_len + thread ≤ length into.old
-        → get_elem? (slots_items closed.now.words) (code_len + 8 * thread)
-        ≡ some (slice_index into.new (code_len + thread - 1)) }
+    requires few { code_len ≤ most_code_words }
+    requires room { (plan : Plan) × (code_len ≡ code_words plan) × (plan.threads ≤ MAX_THREADS)
+        × (length into.old ≡ word_count plan.program plan.threads)
+        × (slots_len closed.now.words ≡ slot_count plan) }
+    ensures code { (plan : Plan) (word : ℕ) → code_len ≡ code_words plan → IsCodeIn plan word
+        → word < length into.old
+        → get_elem? (slots_items closed.now.words) (code_slot plan word)
+        ≡ some (slice_index into.new word) }
+    ensures progress { (plan : Plan) (thread : ℕ) → code_len ≡ code_words plan → 0 < thread
+        → progress_word plan.program plan.threads thread < length into.old
+        → get_elem? (slots_items closed.now.words) (progress_slot plan thread)
+        ≡ some (slice_index into.new (progress_word plan.program plan.threads thread)) }
 {
     for word in 0..into.len() {
-        into[word] = if word < code_len {
-            closed.word(word)
-        } else {
-            closed.word(code_len + LINE * (word - code_len + 1))
-        };
+        into[word] = closed.word(slot_of(code_len, word as u32));
     }
 }

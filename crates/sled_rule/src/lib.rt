@@ -2,7 +2,8 @@
 //!
 //! A `CodeTable` has the words and the script. Calls go by seats: the patcher has one, and so has
 //! each thread. By notes and tallies one of them learns what another knows. `views` has what a seat
-//! knows. `law` has the rule that all of it keeps between any two steps.
+//! knows. `law` has the rule that all of it keeps between any two steps. `slots` says where words are
+//! kept.
 #![tactic(auto)]
 
 mod closing;
@@ -11,6 +12,7 @@ mod opening;
 mod patcher;
 mod plays;
 mod seats;
+mod slots;
 mod table;
 mod views;
 mod worker;

@@ -5,7 +5,8 @@ ghost use Rattle.sled_words.specs.{Parts.{initial_words as words_before}, Words.
 ghost use Rattle.sled_rule.specs.{Seats.{patch_view, script_of, IsPatcherOf}, Views.{first_patch}};
 
 use crate::seats::PatchSeat;
-use crate::table::{CodeTable, LINE};
+use crate::slots::slot_count;
+use crate::table::CodeTable;
 use atomic_table::Table;
 use patch_script::{Script, stores_give_the_code};
 use sled_words::{MAX_THREADS, code_word_count, initial_words};
@@ -59,7 +60,8 @@ impl CodeTable {
     }
 }
 
-/// The words before the script, with progress words in cache lines of their own.
+/// The words before the script, each in its slot. The first slots are those of code words. All words
+/// after those of the sleds are 0.
 fn opening_words(
     alloc: Global,
     image: &Image,
@@ -73,6 +75,6 @@ fn opening_words(
 {
     image.sleds_stand_in_units();
     let mut words = initial_words(alloc, image, threads)?;
-    words.resize(code_len + LINE * (threads as usize + 1), 0)?;
+    words.resize(slot_count(code_len, threads), 0)?;
     Ok(words)
 }

@@ -11,7 +11,8 @@ ghost use Rattle.sled_rule.specs.Views.{advanced, ended_count, giving, heeding, 
 
 use crate::plays::{Confirm, Give, Heed, Look, Meet, Patching, WriteNote};
 use crate::seats::{Note, PatchSeat, Tally, WorkSeat};
-use crate::table::{CodeTable, LINE};
+use crate::slots::{code_slot, progress_slot};
+use crate::table::CodeTable;
 use crate::views::View;
 use atomic_table::Seat;
 use patch_script::{Micro, stores_give_the_code};
@@ -65,7 +66,7 @@ impl CodeTable {
         stores_give_the_code();
         self.table
             .shared
-            .store::<Patching>(&mut seat.seat, word as usize, value);
+            .store::<Patching>(&mut seat.seat, code_slot(word), value);
         seat.place += 1;
     }
 
@@ -119,8 +120,8 @@ impl CodeTable {
         ensures bare { seat.new.me.1 ≡ [] }
     {
         stores_give_the_code();
-        let word = self.code_len + LINE * thread as usize;
-        self.table.shared.load::<Look>(seat, word)
+        let slot = progress_slot(self.code_len, thread);
+        self.table.shared.load::<Look>(seat, slot)
     }
 
     /// The seat of the next thread, from 1 on. It has seen all stores before the place where

@@ -4,16 +4,13 @@ ghost use Rattle.std.specs.Prelude.{◌≡◌, ◌+◌, ◌*◌, ◌<◌, ◌≤
 ghost use Rattle.patch_script.specs.Limits.{most_micros};
 ghost use Rattle.sled_rule.specs.Plans.{code_words, most_code_words, total_in};
 ghost use Rattle.sled_words.specs.declared.words.TheConstants.{MAX_THREADS};
-ghost use Rattle.sled_rule.specs.Rule.{slot_count};
+ghost use Rattle.sled_rule.specs.Slots.{slot_count};
 
 use crate::law::CodeRule;
 use crate::views::View;
 use atomic_table::Table;
 use patch_script::Script;
 use std::alloc::Global;
-
-/// How many words a progress word takes in the table: a cache line of 64 bytes.
-pub(crate) const LINE: usize = 8;
 
 /// The words of an image's sleds and of the threads that pass them. One patcher stores in them what
 /// a script says, while threads load them.
@@ -24,7 +21,7 @@ pub(crate) const LINE: usize = 8;
 pub struct CodeTable {
     pub(crate) script: Script,
     pub(crate) threads: u32,
-    /// How many words there are before the progress words.
+    /// How many code words there are.
     pub(crate) code_len: usize,
     pub(crate) table: Table<(), View, Script, CodeRule, Global>,
     ghost key: { table.shared.key ≡ script },

@@ -1,38 +1,47 @@
 //! What a thread does with its seat.
 
-ghost use Rattle.std.specs.Prelude.{◌≡◌, ◌+◌, ◌<◌, ◌≤◌, ◌^◌};
-ghost use Rattle.sled_rule.specs.Plans.{code_words};
+ghost use Rattle.std.specs.Prelude.{◌≡◌, ◌+◌, ◌<◌, ◌≤◌, ◌^◌, ◌↔◌, IsTrue};
+ghost use Rattle.sled_words.specs.Words.{code_word_count};
+ghost use Rattle.sled_rule.specs.Plans.{IsCodeIn};
 ghost use Rattle.sled_rule.specs.Seats.{work_view, note_view, tally_view, script_of, IsWorkerOf, IsNoteOf, IsTallyOf};
 ghost use Rattle.sled_rule.specs.Steps.{IsFetched};
 ghost use Rattle.sled_rule.specs.Views.{counting, ended_count, hearing, tally_at};
 
 use crate::plays::{Count, Fetch, Hear, WriteTally};
 use crate::seats::{Note, Tally, WorkSeat};
-use crate::table::{CodeTable, LINE};
+use crate::slots::{code_slot, is_code_word, progress_slot};
+use crate::table::CodeTable;
 use patch_script::awaits_bound_passings;
 
 impl CodeTable {
-    /// How many words there are before the progress words. Words with lower numbers may be fetched.
-    #[inline]
+    /// How many code words there are.
     pub fn code_word_count(&self) -> u32
-        ensures { result ≡ code_words (script_of self.now) }
+        ensures { result ≡ code_word_count (script_of self.now).program (script_of self.now).threads }
     {
         self.code_len as u32
     }
 
-    /// Loads a word, which isn't a progress word. Its value is that at a place of the script which
+    /// Whether the word of this number is a code word, which may be fetched.
+    #[inline]
+    pub fn is_code_word(&self, word: u32) -> bool
+        ensures { IsTrue result ↔ IsCodeIn (script_of self.now) word }
+    {
+        is_code_word(self.code_len, word)
+    }
+
+    /// Loads a code word. Its value is that at a place of the script which
     /// isn't before what the seat has seen. From then on the seat has seen that place.
     #[inline]
     pub fn fetch(&self, seat: &mut WorkSeat, word: u32) -> u64
         requires own { IsWorkerOf self.now seat.old }
-        requires word { word < code_words (script_of self.now) }
+        requires word { IsCodeIn (script_of self.now) word }
         ensures own { IsWorkerOf self.now seat.new }
         ensures fetched { IsFetched (work_view seat.old) word result (work_view seat.new) }
     {
         awaits_bound_passings();
         self.table
             .shared
-            .load::<Fetch>(&mut seat.seat, word as usize)
+            .load::<Fetch>(&mut seat.seat, code_slot(word))
     }
 
     /// The thread has made one more passing. Stores the count in its progress word.
@@ -65,10 +74,10 @@ impl CodeTable {
         ensures own { IsWorkerOf self.now seat.new }
         ensures view { work_view seat.new ≡ counting (work_view seat.old) count }
     {
-        let word = self.code_len + LINE * seat.thread as usize;
+        let slot = progress_slot(self.code_len, seat.thread);
         self.table
             .shared
-            .store::<Count>(&mut seat.seat, word, count);
+            .store::<Count>(&mut seat.seat, slot, count);
         seat.count = count;
     }
 

@@ -1,5 +1,5 @@
 -- The numbers of the words: four per sled, then the handler's and the state's, then two per thread.
-use Rattle.std.specs.Prelude.{ℕ, ◌+◌, ◌*◌, length}
+use Rattle.std.specs.Prelude.{ℕ, ◌+◌, ◌*◌, ◌<◌, length}
 use Rattle.xray_image.specs.Program.{Program}
 use Rattle.sled_words.specs.declared.part.Part.{Part}
 use Rattle.sled_words.specs.declared.part.Part.TheVariants.{Head, Id, Opcode, Offset}
@@ -30,7 +30,11 @@ release_word program thread = 4 * length program.sleds + 1 + thread
 abbrev pub progress_word : Program → ℕ → ℕ → ℕ
 progress_word program threads thread = 4 * length program.sleds + 1 + threads + thread
 
--- how many words come before the progress words; the patcher stores in these words, and passings load them
+-- A code word is one that scripts store in, or that passings load: any word but the progress words.
+abbrev pub IsCodeWord : Program → ℕ → ℕ → Type 0
+IsCodeWord program threads word = word < progress_word program threads 1
+
+-- how many code words there are for this many threads
 abbrev pub code_word_count : Program → ℕ → ℕ
 code_word_count program threads = 4 * length program.sleds + 2 + threads
 

@@ -42,9 +42,9 @@ pub fn release_word(image: &Image, thread: u32) -> u32
     PARTS * image.sled_count() + 1 + thread
 }
 
-/// How many words come before the progress words: those of the sleds, of the handler and of the
-/// state, and the release words of this many threads. The patcher stores in these words, and
-/// passings load them.
+/// How many code words there are: those of the sleds, of the handler and of the state, and the
+/// release words of this many threads. Scripts store in code words, and passings load them. All
+/// other words are progress words.
 pub fn code_word_count(image: &Image, threads: u32) -> usize
     ensures { result ≡ code_word_count image.now threads }
 {

@@ -109,15 +109,17 @@ fn fetch_rounds(table: &CodeTable, fetcher: &mut Fetcher, rounds: u32)
     table.ended(&mut fetcher.seat);
 }
 
-/// Fetches each word before the progress words, and answers the bits of all values.
+/// Fetches each code word, and answers the bits of all values.
 fn fetch_each(table: &CodeTable, seat: &mut WorkSeat) -> u64
     requires own { IsWorkerOf table.now seat.old }
     ensures own { IsWorkerOf table.now seat.new }
     ensures count { (work_view seat.new).count ≡ (work_view seat.old).count }
 {
     let mut found = 0;
-    'words: for word in 0..table.code_word_count() {
-        found |= table.fetch(seat, word);
+    'words: for word in 0..table.word_count() {
+        if table.is_code_word(word) {
+            found |= table.fetch(seat, word);
+        }
     }
     found
 }

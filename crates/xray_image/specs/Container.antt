@@ -37,13 +37,21 @@ pub record Function : Type 0 where
   pub start : ℕ
   pub name : List ℕ
 
--- an entry of the sled map; the padding after the version isn't looked at
+-- an entry of the sled map, field by field; the padding after the version isn't looked at
 pub record MapEntry : Type 0 where
   pub sled : ℕ
   pub function : ℕ
   pub kind : ℕ
   pub always : ℕ
   pub version : ℕ
+
+-- the addresses of the sled of an entry, and of its function: the fields hold them, since they are absolute in all
+-- versions that are known
+abbrev pub sled_address : MapEntry → ℕ
+sled_address entry = entry.sled
+
+abbrev pub function_address : MapEntry → ℕ
+function_address entry = entry.function
 
 -- a function entry and the bytes after it, if the bytes hold a whole one
 abbrev pub function_entry_at : List ℕ → Option (Function × List ℕ)

@@ -1,5 +1,5 @@
 -- Function ids, and the names of functions by their ids.
-use Rattle.std.specs.Prelude.{◌-◌, ℕ, zero, suc, List, [], length, map, find, ◌==◌, Option, None, slice_get, option_and_then}
+use Rattle.std.specs.Prelude.{ℕ, zero, suc, List, [], length, map, find, ◌==◌, Option, None, slice_get, option_and_then}
 use Rattle.std.specs.Option.{option_map}
 use Rattle.xray_image.specs.Program.{Program, distinct}
 

@@ -1,7 +1,7 @@
 -- What an accepted image file holds, and which files are accepted.
 use Rattle.std.specs.Prelude.{◌≡◌, ◌≢◌, ◌<◌, ◌+◌, ◌%◌, ◌+ℤ◌, ◌-ℤ◌, ◌||◌, ◌&&◌, ◌⊎◌, ℕ, ℤ, pos, zero, suc, List, [], ◌∷◌, length, take, Bool, true, false, not, nat_le, ◌==◌, if◌then◌else◌, Option, Some, None, map, filter, All, Contains, slice_get, IfSome, FitsSigned}
 use Rattle.std.specs.Int.{w32}
-use Rattle.std.specs.Option.{option_map_or}
+use Rattle.std.specs.Option.{option_map_or, unwrap_or}
 use Rattle.std.specs.List.{zip, last_or, list_any, position_or_len}
 use Rattle.subset_decode.specs.declared.instr.Instr.{Instr}
 use Rattle.subset_decode.specs.declared.instr.Instr.TheVariants.{Mov, Add, Sub, Push, Pop, Call, Jmp, Jnz, Ret, Out}
@@ -12,7 +12,7 @@ use Rattle.xray_image.specs.declared.sled.SledKind.TheVariants.{Entry, Exit, Tai
 use Rattle.xray_image.specs.declared.unit.Unit.{Unit}
 use Rattle.xray_image.specs.declared.unit.What.TheVariants.{Plain}
 use Rattle.xray_image.specs.Units.{Piece, IsUnits, units_from, SledPlace, places_from}
-use Rattle.xray_image.specs.Container.{Function, MapEntry, Parts, base_address, entry_index, number8_at, parts_of}
+use Rattle.xray_image.specs.Container.{Function, MapEntry, Parts, base_address, entry_index, function_address, number8_at, parts_of, sled_address}
 use Rattle.xray_image.specs.Header.{HasHeader}
 
 -- the handlers' trampolines, by the kind of the sleds that call them
@@ -74,11 +74,16 @@ LiesIn functions address start =
 
 -- ---- the sled map
 
--- the kinds of the map: 0 entry, 1 exit, 2 tail
+-- the kind of the map with this number: 0 entry, 1 exit, 2 tail; no other number is a kind
+abbrev pub numbered_kind : ℕ → Option SledKind
+numbered_kind zero = Some Entry
+numbered_kind (suc zero) = Some Exit
+numbered_kind (suc (suc zero)) = Some Tail
+numbered_kind (suc (suc (suc n))) = None
+
+-- the kind of a number that is one; accepted maps have no others (`KindFits`)
 abbrev pub kind_of : ℕ → SledKind
-kind_of zero = Entry
-kind_of (suc zero) = Exit
-kind_of (suc (suc n)) = Tail
+kind_of number = unwrap_or (numbered_kind number) Entry
 
 -- exit sleds begin with a return, and entry and tail sleds with a jump
 abbrev pub KindFits : Bool → ℕ → Type 0
@@ -87,7 +92,7 @@ KindFits false kind = (kind ≡ 0) ⊎ (kind ≡ 2)
 
 -- an entry agrees with the code about the sled at its place
 pub record IsEntryOf (functions : List Function) (place : SledPlace) (entry : MapEntry) : Type 0 where
-  pub in_function : LiesIn functions place.address entry.function
+  pub in_function : LiesIn functions place.address (function_address entry)
   pub kind : KindFits place.returns entry.kind
   pub known_version : entry.version < 2
 
@@ -109,14 +114,14 @@ distinct seen (x ∷ xs) = if list_any (λ y. y == x) seen then distinct seen xs
 
 -- function ids count from 1 over the functions of the map's entries, in the order of the map
 abbrev pub id_of : List MapEntry → ℕ → ℕ
-id_of entries function = 1 + position_or_len (λ f. f == function) (distinct [] (map (λ e. e.function) entries))
+id_of entries function = 1 + position_or_len (λ f. f == function) (distinct [] (map function_address entries))
 
 -- the sled at a place, with what its entry says
 abbrev pub sled_of : List MapEntry → SledPlace × MapEntry → Sled
 sled_of entries (place, entry) = record {
   address = place.address;
-  function = entry.function;
-  id = id_of entries entry.function;
+  function = function_address entry;
+  id = id_of entries (function_address entry);
   kind = kind_of entry.kind;
   always = not (entry.always == 0);
   shift = place.shift;
@@ -172,7 +177,7 @@ pub record IsAccepted (bytes : List ℕ) (program : Program) : Type 0 where
   pub units : IsUnits parts.code pieces
   pub even_sleds : All (λ place. place.address % 2 ≡ 0) (places_from (base_address bytes) pieces)
   pub functions : AreFunctions (base_address bytes) program.units parts.functions
-  pub map_order : map (λ e. e.sled) parts.entries ≡ map (λ p. p.address) (places_from (base_address bytes) pieces)
+  pub map_order : map sled_address parts.entries ≡ map (λ p. p.address) (places_from (base_address bytes) pieces)
   pub entries : EachSled (places_from (base_address bytes) pieces) parts.entries (IsEntryOf parts.functions)
   pub near : EachSled (places_from (base_address bytes) pieces) parts.entries (Reaches program.trampolines)
   pub branches : BranchesReach program.units

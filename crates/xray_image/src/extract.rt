@@ -2,12 +2,13 @@
 
 ghost use Rattle.std.specs.{Prelude.{◌≡◌, [], ⊤}, Option.{unwrap_or}};
 ghost use Rattle.xray_io.specs.Text.{AddsText};
+ghost use Rattle.xray_io.specs.Writes.{WritesText};
 ghost use Rattle.xray_image.specs.Extract.{extract_text, sled_line, kind_text, truth_text};
 ghost use Rattle.xray_image.specs.Ids.{name_of};
 
 use crate::image::Image;
 use crate::sled::{Sled, SledKind};
-use xray_io::{Piece, Printed, Sink, Text, WriteFault};
+use xray_io::{Piece, Printed, Sink, Text, WriteFault, write_text};
 
 /// How many hexadecimal digits an address is printed with.
 const ADDRESS_DIGITS: usize = 16;
@@ -31,6 +32,16 @@ impl Printed for SledMap<'_> {
         }
         to.bytes(b"...\n")
     }
+}
+
+/// Writes the sled map of an image as YAML, as a `SledMap` of it is printed.
+///
+/// Takes no memory. On `WriteFault` a prefix of the text was written, and the sink counted a fault.
+pub fn write_extract<S: Sink>(image: &Image, sink: &mut S) -> Result<(), WriteFault>
+    ensures writes { WritesText S.written S.faults S.along sink.old sink.new
+        (extract_text image.now) result }
+{
+    write_text(&SledMap(image), sink)
 }
 
 /// Adds the line of a sled.

@@ -2,7 +2,7 @@
 
 ghost use Rattle.std.specs.Prelude.{◌≡◌, ◌<◌, ◌≤◌, ◌^◌, ◌+◌, ◌-◌, ℕ, List, [], ◌∷◌, ◌++◌, map, length, All, Contains, Some, slice_get, IfOk, OnOk};
 ghost use Rattle.std.specs.List.Sorted.{IsStrictlyIncreasing, IsNonDecreasing};
-ghost use Rattle.xray_image.specs.Program.{distinct, id_of};
+ghost use Rattle.xray_image.specs.{Container.{function_address}, Program.{distinct, id_of}};
 ghost use Rattle.xray_image.specs.private.{Numbering.{AreNumbersOf}, Views.{entry_of}};
 
 use crate::parts::{FunctionEntry, RawMapEntry};
@@ -65,14 +65,15 @@ impl FunctionIds {
         entries: &[RawMapEntry],
     ) -> Result<FunctionIds, AllocError>
         requires ascend { IsStrictlyIncreasing (map (λ f. f.start) functions.now) }
-        requires known { All (λ e. Contains (map (λ f. f.start) functions.now) e.function) entries.now }
-        requires in_order { IsNonDecreasing (map (λ e. e.function) entries.now) }
+        requires known { All (λ e. Contains (map (λ f. f.start) functions.now)
+            (function_address (entry_of e))) entries.now }
+        requires in_order { IsNonDecreasing (map (λ e. function_address (entry_of e)) entries.now) }
         requires few_functions { length functions.now < 2 ^ 32 }
         requires few_entries { length entries.now < 2 ^ 32 }
         ensures of_entries { IfOk result (λ ids. ids.of_entries.items
-            ≡ map (λ e. id_of (map entry_of entries.now) e.function) entries.now) }
+            ≡ map (λ e. id_of (map entry_of entries.now) (function_address (entry_of e))) entries.now) }
         ensures functions { IfOk result (λ ids. AreNumbersOf (map (λ f. f.start) functions.now)
-            (distinct [] (map (λ e. e.function) entries.now)) ids.functions.items) }
+            (distinct [] (map (λ e. function_address (entry_of e)) entries.now)) ids.functions.items) }
     {
         let mut ids = FunctionIds {
             of_entries: Vec::new(alloc),
@@ -80,9 +81,10 @@ impl FunctionIds {
         };
         let mut last = None;
         for entry in entries {
-            let id = ids.next_id(functions, last, entry.function)?;
+            let function = entry.function_address();
+            let id = ids.next_id(functions, last, function)?;
             ids.of_entries.push(id)?;
-            last = Some(entry.function);
+            last = Some(function);
         }
         Ok(ids)
     }

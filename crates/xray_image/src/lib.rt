@@ -27,7 +27,7 @@ mod unit;
 mod unit_index;
 mod unit_reader;
 
-pub use extract::SledMap;
+pub use extract::{SledMap, write_extract};
 pub use fault::{ImageFault, Which};
 pub use image::{Image, read_image};
 pub use laws::{one_reading, one_unit_list, one_verdict, some_verdict};

@@ -90,8 +90,8 @@ impl<'a> Counted<'a> for FunctionEntry<'a> {
 /// An entry of the sled map, as the file has it.
 #[derive(Clone, Copy)]
 pub(crate) struct RawMapEntry {
-    pub(crate) sled: u64,
-    pub(crate) function: u64,
+    sled: u64,
+    function: u64,
     pub(crate) kind: u8,
     pub(crate) always: u8,
     pub(crate) version: u8,
@@ -120,6 +120,25 @@ impl<'a> Counted<'a> for RawMapEntry {
         };
         let (_, rest) = bytes.split_at(MAP_ENTRY_LENGTH);
         Some((entry, rest))
+    }
+}
+
+impl RawMapEntry {
+    ghost use Rattle.xray_image.specs.Container.{function_address, sled_address};
+    ghost use Rattle.xray_image.specs.private.Views.{entry_of};
+
+    /// The address of the entry's sled.
+    pub(crate) fn sled_address(&self) -> u64
+        ensures { result ≡ sled_address (entry_of self.now) }
+    {
+        self.sled
+    }
+
+    /// The address of the function that the entry says the sled lies in.
+    pub(crate) fn function_address(&self) -> u64
+        ensures { result ≡ function_address (entry_of self.now) }
+    {
+        self.function
     }
 }
 

@@ -2,6 +2,7 @@
 
 ghost use Rattle.std.specs.Prelude.{◌≡◌, ◌<◌, ◌≤◌, ◌^◌, ◌↔◌, ◌-ℤ◌, ◌+◌, ℕ, All, pos, length, map, IsTrue, OnOk, IfOk, IfErr, FitsSigned};
 ghost use Rattle.std.specs.{List.{zip}, Int.{w32}};
+ghost use Rattle.xray_image.specs.Container.{function_address};
 ghost use Rattle.xray_image.specs.private.Judging.{Ascend};
 ghost use Rattle.xray_image.specs.Program.{KindFits, LiesIn, IsEntryOf, Reaches, kind_of, id_of, sled_of};
 ghost use Rattle.xray_image.specs.private.Reading.{IsFirstFault};
@@ -34,7 +35,7 @@ pub(crate) fn check_order(spots: &[SledSpot], entries: &[RawMapEntry]) -> Result
         if number >= spots.len() {
             return Err(ImageFault::MapOrder(number as u32));
         }
-        if spots[number].address != entry.sled {
+        if spots[number].address != entry.sled_address() {
             return Err(ImageFault::MapOrder(number as u32));
         }
     }
@@ -71,7 +72,7 @@ fn is_entry_of(functions: &[FunctionEntry<'_>], spot: &SledSpot, entry: &RawMapE
     ensures { IsTrue result
         ↔ IsEntryOf (map function_of functions.now) (place_of spot.now) (entry_of entry.now) }
 {
-    lies_in(functions, spot.address, entry.function)
+    lies_in(functions, spot.address, entry.function_address())
         && may_have_kind(spot.returns, entry.kind)
         && entry.version < KNOWN_VERSIONS
 }
@@ -152,7 +153,7 @@ pub(crate) fn read_sleds(
 ) -> Result<Vec<Sled>, AllocError>
     requires spots { length entries.now ≤ length spots.now }
     requires kinds { All (λ e. e.kind < 3) entries.now }
-    requires ids { ids.now ≡ map (λ e. id_of (map entry_of entries.now) e.function) entries.now }
+    requires ids { ids.now ≡ map (λ e. id_of (map entry_of entries.now) (function_address (entry_of e))) entries.now }
     ensures { IfOk result (λ sleds. sleds.items
         ≡ map (sled_of (map entry_of entries.now)) (zip (map place_of spots.now) (map entry_of entries.now))) }
 {
@@ -161,7 +162,7 @@ pub(crate) fn read_sleds(
         let spot = &spots[number];
         sleds.push(Sled {
             address: spot.address,
-            function: entry.function,
+            function: entry.function_address(),
             id: ids[number],
             kind: kind_of(entry.kind),
             always: entry.always != 0,

@@ -1,11 +1,18 @@
 -- Marks as bits: two bits per mark, four marks per byte.
-use Rattle.std.specs.Prelude.{◌≡◌, ◌≢◌, ◌<◌, ◌+◌, ◌*◌, ◌/◌, ◌%◌, ◌^◌, ◌==◌, ℕ, zero, suc, List, [], ◌∷◌, length, slice_index, if◌then◌else◌}
+use Rattle.std.specs.Prelude.{◌≡◌, ◌≢◌, ◌<◌, ◌+◌, ◌*◌, ◌/◌, ◌%◌, ◌^◌, ◌==◌, ℕ, zero, suc, List, [], ◌∷◌, length, slice_index, Bool, true, false}
 use Rattle.handler_word.specs.declared.mark.Mark.{Mark}
 use Rattle.handler_word.specs.declared.mark.Mark.TheVariants.{Skipped, NoHandler, NotLogging, Recorded}
 
--- the mark that two bits stand for
+-- the mark of two bits, the high one and the low one
+abbrev pub mark_by : Bool → Bool → Mark
+mark_by false false = Skipped
+mark_by false true = NoHandler
+mark_by true false = NotLogging
+mark_by true true = Recorded
+
+-- the mark that a number of two bits stands for
 abbrev pub mark_of : ℕ → Mark
-mark_of bits = if bits == 0 then Skipped else if bits == 1 then NoHandler else if bits == 2 then NotLogging else Recorded
+mark_of bits = mark_by (bits / 2 == 1) (bits % 2 == 1)
 
 -- the two bits of the mark of this number; the first of the four marks of a byte is in its lowest bits
 abbrev pub bits_of : List ℕ → ℕ → ℕ

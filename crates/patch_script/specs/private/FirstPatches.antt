@@ -44,7 +44,17 @@ pub record AddsFirst (old : FirstPatches) (command : Command) (number : ℕ) (ne
 -- the table has a place for the function that the command patches
 abbrev pub HasRoom : Command → FirstPatches → Type 0
 HasRoom (commands.PatchFunction id) first = (0 < id) × (id ≤ length first.by_id.items)
-HasRoom _ first = Unit {0}
+HasRoom commands.Patch first = Unit {0}
+HasRoom commands.Unpatch first = Unit {0}
+HasRoom (commands.UnpatchFunction id) first = Unit {0}
+HasRoom commands.SetHandler first = Unit {0}
+HasRoom commands.RemoveHandler first = Unit {0}
+HasRoom commands.Init first = Unit {0}
+HasRoom commands.Finalize first = Unit {0}
+HasRoom (commands.Hold thread passing) first = Unit {0}
+HasRoom commands.Go first = Unit {0}
+HasRoom (commands.Release thread) first = Unit {0}
+HasRoom (commands.Await thread count) first = Unit {0}
 
 -- a command comes before the one with this number
 abbrev pub is_before : Option ℕ → ℕ → Bool

@@ -41,7 +41,17 @@ lines_in placed = map line_in placed.commands.items
 -- the threads that the command names have release words
 abbrev pub NamesFewThreads : Command → Type 0
 NamesFewThreads (commands.Release thread) = thread ≤ 16
-NamesFewThreads _ = Unit {0}
+NamesFewThreads commands.Patch = Unit {0}
+NamesFewThreads commands.Unpatch = Unit {0}
+NamesFewThreads (commands.PatchFunction id) = Unit {0}
+NamesFewThreads (commands.UnpatchFunction id) = Unit {0}
+NamesFewThreads commands.SetHandler = Unit {0}
+NamesFewThreads commands.RemoveHandler = Unit {0}
+NamesFewThreads commands.Init = Unit {0}
+NamesFewThreads commands.Finalize = Unit {0}
+NamesFewThreads (commands.Hold thread passing) = Unit {0}
+NamesFewThreads commands.Go = Unit {0}
+NamesFewThreads (commands.Await thread count) = Unit {0}
 
 -- a command is in its place
 pub record IsPlaced (program : Program) (earlier : List Command) (placed : Placed) : Type 0 where

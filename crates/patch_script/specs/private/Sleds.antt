@@ -44,7 +44,14 @@ sleds_named program commands.Patch = all_sleds program
 sleds_named program commands.Unpatch = all_sleds program
 sleds_named program (commands.PatchFunction id) = sleds_of program id
 sleds_named program (commands.UnpatchFunction id) = sleds_of program id
-sleds_named program _ = []
+sleds_named program commands.SetHandler = []
+sleds_named program commands.RemoveHandler = []
+sleds_named program commands.Init = []
+sleds_named program commands.Finalize = []
+sleds_named program (commands.Hold thread passing) = []
+sleds_named program commands.Go = []
+sleds_named program (commands.Release thread) = []
+sleds_named program (commands.Await thread count) = []
 
 -- the sleds in a range
 abbrev pub in_range : SledRange → List Numbered → List Numbered

@@ -61,13 +61,31 @@ released_of (Released passing) = Released passing
 abbrev pub hold_after : ℕ → Command → Hold → Hold
 hold_after thread (commands.Hold held passing) hold = if held == thread then Held passing else hold
 hold_after thread (commands.Release released) hold = if released == thread then released_of hold else hold
-hold_after thread _ hold = hold
+hold_after thread commands.Patch hold = hold
+hold_after thread commands.Unpatch hold = hold
+hold_after thread (commands.PatchFunction id) hold = hold
+hold_after thread (commands.UnpatchFunction id) hold = hold
+hold_after thread commands.SetHandler hold = hold
+hold_after thread commands.RemoveHandler hold = hold
+hold_after thread commands.Init hold = hold
+hold_after thread commands.Finalize hold = hold
+hold_after thread commands.Go hold = hold
+hold_after thread (commands.Await named count) hold = hold
 
 -- the log after a command
 abbrev pub log_after : Command → Log → Log
 log_after commands.Init log = Initialized
 log_after commands.Finalize log = Finalized
-log_after _ log = log
+log_after commands.Patch log = log
+log_after commands.Unpatch log = log
+log_after (commands.PatchFunction id) log = log
+log_after (commands.UnpatchFunction id) log = log
+log_after commands.SetHandler log = log
+log_after commands.RemoveHandler log = log
+log_after (commands.Hold thread passing) log = log
+log_after commands.Go log = log
+log_after (commands.Release thread) log = log
+log_after (commands.Await thread count) log = log
 
 -- the new standing is the old one after a command
 pub record Follows (old : Standing) (command : Command) (new : Standing) : Type 0 where

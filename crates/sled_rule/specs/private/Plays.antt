@@ -7,7 +7,8 @@ use Rattle.patch_script.specs.declared.micro.Micro.TheVariants.{Await}
 use Rattle.sled_rule.specs.declared.views.Met.{Met}
 use Rattle.sled_rule.specs.declared.views.View.{View}
 use Rattle.sled_rule.specs.declared.views.View.TheVariants.{Patch, Work}
-use Rattle.sled_rule.specs.Plans.{micro_in}
+use Rattle.sled_rule.specs.Plans.{IsCodeIn, micro_in}
+use Rattle.sled_rule.specs.Slots.{code_slot}
 use Rattle.sled_rule.specs.Views.{advanced, looked_at, counting}
 use Rattle.sled_rule.specs.Steps.{patch_of, work_of, IsFetched}
 
@@ -18,9 +19,13 @@ At = Step (Unit {0})
 abbrev Sat : Type 0
 Sat = Me (Unit {0}) View
 
+-- the word is the one that is kept in the slot of the step
 abbrev pub fetched : At → Sat → ℕ → Sat → Type 0
 fetched step before found after =
-    (after.0 ≡ Work (work_of after.0)) × IsFetched (work_of before.0) step.word found (work_of after.0) × (after.1 ≡ before.1)
+    (after.0 ≡ Work (work_of after.0))
+    × ((word : ℕ) → IsCodeIn (work_of before.0).script word → step.word ≡ code_slot (work_of before.0).script word
+    → IsFetched (work_of before.0) word found (work_of after.0))
+    × (after.1 ≡ before.1)
 
 abbrev pub counted : At → Sat → ℕ → Sat → Type 0
 counted step before stored after = (after.0 ≡ Work (counting (work_of before.0) stored)) × (after.1 ≡ before.1)

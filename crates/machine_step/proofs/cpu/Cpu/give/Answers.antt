@@ -11,10 +11,10 @@ use Rattle.machine_step.specs.Events.{events_in, recorded}
 use Rattle.machine_step.specs.private.Inside.{traced, want_at, IsAtPassing}
 use Rattle.machine_step.specs.Loads.{Load}
 use Rattle.machine_step.specs.PlainStep.{Passing, PlainRun, State}
-use Rattle.machine_step.specs.Traced.{Allows, HasLoaded, IsKept, MarksAdded, Traced, load_of, loads_left}
+use Rattle.machine_step.specs.Traced.{Allows, HasLoaded, IsKept, MarksAdded, Traced, ending_mark, load_of, loads_left}
 use Rattle.machine_step.proofs.GiveClauses.{between_of, clause_ends, clause_events, clause_goes_on, ending_of, held_at, stage_after}
 use Rattle.machine_step.proofs.Giving.{Ending, IsBetween, passed_on, sound_after}
-use Rattle.machine_step.proofs.LoadFacts.{kept_not, kept_same, marks_added, nearer_end, nearer_on, some_at_end, some_goes_on}
+use Rattle.machine_step.proofs.LoadFacts.{kept_not, kept_same, mark_ends, mark_goes_on, marks_added, nearer_end, nearer_on, some_at_end, some_goes_on}
 use Rattle.machine_step.proofs.Opening.{loading_at, sled_within, sound_loading, standing}
 use Rattle.machine_step.proofs.Tracing.{before_of}
 use Rattle.machine_step.proofs.cpu.Cpu.give.Goals as goal
@@ -78,6 +78,12 @@ returns-in-Loads-clause-loads c =
     → HasLoaded (traced (standing a (Loading c.in-Loading.place c.in-Loading.sled c.in-Loads.stage))) passed (loads ++ load_of t.want c.args.value)) c.self.view_is
     (clause_goes_on a c.self.invariant c.in-Loading.place c.in-Loading.sled c.in-Loading.stage c.in-Loads.stage c.args.value c.in-Loading.is (sym c.in-Loads.ensures)) c.requires
 
+pub returns-in-Loads-clause-mark : goal.returns-in-Loads-clause-mark
+returns-in-Loads-clause-mark c =
+    let a = c.self.inside in
+    subst (λ (t : Traced). a.marks.items ≡ t.marks ++ ending_mark t.program t.want c.args.value) c.self.view_is
+    (mark_goes_on a c.self.invariant c.in-Loading.place c.in-Loading.sled c.in-Loading.stage c.in-Loads.stage c.args.value c.in-Loading.is (sym c.in-Loads.ensures))
+
 pub returns-in-Loads-clause-some : goal.returns-in-Loads-clause-some
 returns-in-Loads-clause-some c =
     let none : Option Event = None in
@@ -113,6 +119,13 @@ returns-in-Ends-clause-marks c =
     (want_at a.steps.now a.thread c.pass_sled-self-inside.new.machine.passings c.pass_sled-self-inside.result)) c.self.view_is
     (marks_added a.steps.now a.thread c.pass_sled-self-inside.new.machine.passings a.marks.items c.add.new.self.items c.in-Ends.mark
     c.add.ensures.items c.pass_sled-self-inside.result (between c))
+
+pub returns-in-Ends-clause-mark : goal.returns-in-Ends-clause-mark
+returns-in-Ends-clause-mark c =
+    let a = c.self.inside in
+    subst (λ (t : Traced). c.add.new.self.items ≡ t.marks ++ ending_mark t.program t.want c.args.value) c.self.view_is
+    (mark_ends a c.self.invariant c.in-Loading.place c.in-Loading.sled c.in-Loading.stage c.args.value c.in-Ends.mark c.add.new.self.items c.in-Loading.is
+    (sym c.in-Ends.ensures) c.add.ensures.items)
 
 pub returns-in-Ends-clause-some : goal.returns-in-Ends-clause-some
 returns-in-Ends-clause-some c =

@@ -1,8 +1,8 @@
-use Rattle.std.proofs.Common.{◌≡◌, ◌≤◌, ◌+◌, ◌*◌, sym, ap, ◌∙◌, subst, rules, arith}
+use Rattle.std.proofs.Common.{◌≡◌, ◌≤◌, sym, ap, ◌∙◌, subst, rules, arith}
 use Rattle.patch_script.specs.declared.micro.Micro.TheVariants.{Await}
 use Rattle.patch_script.specs.Plans.{Plan}
 use Rattle.sled_rule.specs.Plans.{micro_in}
-use Rattle.sled_rule.specs.Rule.{progress_slot}
+use Rattle.sled_rule.specs.Slots.{progress_slot}
 use Rattle.sled_rule.specs.Steps.{patch_of}
 use Rattle.sled_rule.proofs.Laws.{code_next}
 use Rattle.sled_rule.proofs.Patching.{looks}
@@ -12,7 +12,7 @@ pub load-requires : goal.load-requires
 load-requires c =
     let table = c.args.self.now in let p = patch_of c.args.seat.now.me.0 in
     let sized = table.sized in let counted = table.counted in let last = c.requires.thread in
-    let word : table.code_len + 8 * c.args.thread ≡ progress_slot table.script c.args.thread = omega arith in (
+    let word : c.progress_slot-slot.result ≡ progress_slot table.script c.args.thread = c.progress_slot-slot.ensures table.script counted in (
       search rules,
       omega arith,
       looks _ (code_next c.stores_give_the_code.ensures.word _) _ _ _ _ c.args.thread c.args.count p c.requires.is

@@ -1,8 +1,8 @@
-use Rattle.std.proofs.Common.{◌≡◌, ◌+◌, ◌++◌, [], ℕ, suc, List, Ok, take, drop, subst, sym, ap, ◌∙◌, arith, rules, add-one, append_assoc}
+use Rattle.std.proofs.Common.{◌≡◌, ◌+◌, ◌++◌, ℕ, suc, List, Ok, take, drop, subst, sym, ap, ◌∙◌, arith, add-one, append_assoc}
 use Rattle.std.specs.Prelude.{codes}
 use Rattle.std.specs.List.{flat_map}
 use Rattle.xray_io.specs.Text.{AddsText, adds_more, adds_stop, adds_within, adds_failed}
-use Rattle.xray_image.specs.Extract.{extract_text, sled_line}
+use Rattle.xray_image.specs.Extract.{sled_line}
 use Rattle.xray_image.proofs.ExtractText.{lines_more, lines_split, lines_all}
 use Rattle.xray_image.proofs.extract.SledMapPrinted.add_to.Goals as goal
 
