@@ -119,9 +119,11 @@ pub record WasHeld {R : Type 0} (old new : Worker R) : Type 0 where
   pub word : last.word ≡ release_word (cpu_of old).program (cpu_of old).thread
   pub value : last.value ≡ 0
 
--- a worker has run to its end
+-- A worker has run to its end. Its loads are those that it had made before, and then some more.
 pub record HasRunOut {R : Type 0} (stands : R → List Event → Type 0) (follows : R → R → Type 0) (old new : Worker R) : Type 0 where
   pub same : IsSameWorker follows old new
+  pub made : List SeatLoad
+  pub loads : loads_of new ≡ loads_of old ++ made
   pub ended : HasEnded stands new
 
 -- each worker of a list has run, and is at its place
