@@ -173,9 +173,11 @@ looks plan next slots id me word t c p is at_step last at_word s r _ at _ =
             let e' : micro_in p.script p.place ≡ Await t' c' = subst (λ (z : View). micro_in (patch_of z).script (patch_of z).place ≡ Await t' c') is e in
             let e'' : micro_in plan p.place ≡ Await t' c' = subst (λ (z : Plan). micro_in z p.place ≡ Await t' c') core.script e' in
             let a : t ≡ t' = cc in let b : c ≡ c' = cc in
-            subst (λ (z : View). (slice_index (patch_of z).known t' ≤ get_or s.words word 0) × (Patch (looked_at p t c n) ≡ Patch (looked_at (patch_of z) t' c' (get_or s.words word 0)))) (sym is) (
+            subst (λ (z : View). (slice_index (patch_of z).known t' ≤ get_or s.words word 0) × (Patch (looked_at p t c n) ≡ Patch (looked_at (patch_of z) t' c' (get_or s.words word 0)))
+            × (slice_index (looked_at (patch_of z) t' c' (get_or s.words word 0)).known t' ≡ get_or s.words word 0)) (sym is) (
               subst (λ (z : ℕ × ℕ). slice_index p.known z.0 ≤ z.1) (λ i. (a i, sym here i)) low,
               λ i. Patch (looked_at p (a i) (b i) (sym here i)),
+              get_or-set_same p.known t' (get_or s.words word 0) 0 (subst (λ (z : ℕ). z < length p.known) a (omega (arith, core.room, last))),
             ),
         refl,
       ),

@@ -56,6 +56,7 @@ pub record IsLooked (old : PatchView) (result : Bool) (new : PatchView) : Type 0
   pub grows : slice_index old.known thread ≤ value
   pub answer : IsTrue result ↔ (count ≤ value)
   pub view : new ≡ looked_at old thread count value
+  pub known : slice_index new.known thread ≡ value
 
 -- each thread that was given a seat was met
 abbrev pub AllMet : PatchView → Type 0

@@ -116,6 +116,7 @@ impl CodeTable {
         requires step { micro_in (script_of self.now) (patch_of seat.old.me.0).place ≡ Await thread count }
         ensures table { seat.new.table_id ≡ seat.old.table_id }
         ensures grows { slice_index (patch_of seat.old.me.0).known thread ≤ result }
+        ensures known { slice_index (patch_of seat.new.me.0).known thread ≡ result }
         ensures view { seat.new.me.0 ≡ Patch (looked_at (patch_of seat.old.me.0) thread count result) }
         ensures bare { seat.new.me.1 ≡ [] }
     {

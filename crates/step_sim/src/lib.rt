@@ -2,11 +2,12 @@
 //!
 //! `schedule` reads a text, whose lines `line` reads as `turns`. `start` takes all memory of a
 //! replay. `replay` takes the turns: `thread` makes loads, and `patcher` micro steps. Events go to
-//! the buffers of `pool`, whose queue is a `ring`.
+//! the buffers of `pool`, whose queue is a `ring`. `simulate` does all of a replay in one call.
 #![tactic(auto)]
 
 mod along;
 mod fault;
+mod in_one;
 mod laws;
 mod line;
 mod patcher;
@@ -23,6 +24,7 @@ mod written;
 
 pub use along::{a_replay_reads_along, no_replay_tears_a_sled};
 pub use fault::ScheduleFault;
+pub use in_one::simulate;
 pub use laws::{
     a_replay_loses_few, buffers_change_no_replay, lost_segments_are_the_oldest, one_pooled_replay,
     one_replay, one_run, some_replay, some_run,

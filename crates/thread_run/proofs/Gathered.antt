@@ -13,13 +13,16 @@ use Rattle.buffer_queue.specs.Passes.{AreNew, AreOf, IsOf, PassIs, PoolIs, new_h
 use Rattle.machine_step.specs.declared.setup.Setup.{Setup}
 use Rattle.machine_step.specs.Traced.{Traced}
 use Rattle.xray_image.specs.Program.{Program}
+use Rattle.sled_rule.specs.declared.seats.WorkSeat.{WorkSeat}
+use Rattle.sled_rule.specs.declared.views.WorkView.{WorkView}
+use Rattle.sled_rule.specs.Seats.{work_view}
 use Rattle.thread_run.specs.declared.whole.Gathered.{Gathered}
 use Rattle.thread_run.specs.declared.worker.Worker.{Worker}
 use Rattle.thread_run.specs.Recordings.{Recording, StandsFor, segments_begun}
 use Rattle.thread_run.specs.private.Rooms.{HaveRunPooled}
 use Rattle.thread_run.specs.Runs.{HaveRunBeside}
 use Rattle.thread_run.specs.private.Pooled.{AreWorkersOfRun, lost_beside}
-use Rattle.thread_run.specs.Workers.{HasEnded, cpu_of, recorder_of}
+use Rattle.thread_run.specs.Workers.{HasEnded, cpu_of, recorder_of, seat_of}
 use Rattle.thread_run.proofs.Pooled.{hands_of}
 use Rattle.thread_run.proofs.Order.{HoldEvents}
 use Rattle.thread_run.proofs.RunLemmas.{left_so, there_is}
@@ -69,11 +72,11 @@ pooled_passes plan pool gathered have =
 
 -- what is gathered, and what is left of the pool
 pub run_leaves : HoldEvents → (plan : Plan) (pool : PoolIs) (setup : Setup) (program : Program) (gathered : Gathered) (cpus : List Traced)
-    (segments first : List ℕ) (buffers left : List Filled) → pool.setup ≡ setup → plan.program ≡ program → HaveRunPooled plan pool gathered
-    → cpus ≡ gathered.cpus.items → segments ≡ gathered.segments.items → first ≡ lost_beside buffers 1 gathered.segments.items
+    (seats : List WorkSeat) (segments first : List ℕ) (buffers left : List Filled) → pool.setup ≡ setup → plan.program ≡ program
+    → plan.threads ≡ setup.threads → HaveRunPooled plan pool gathered → cpus ≡ gathered.cpus.items → seats ≡ gathered.seats.items → segments ≡ gathered.segments.items → first ≡ lost_beside buffers 1 gathered.segments.items
     → IsLeft setup (sealed_of gathered.passes.items) left → buffers ≡ left ++ gathered.hands.items
-    → HaveRunBeside program (commands_of plan.lines) setup cpus segments first buffers
-run_leaves hold plan pool setup program gathered cpus segments first buffers left same_setup same_program have a b c is d =
+    → HaveRunBeside program (commands_of plan.lines) setup cpus (map (λ s. work_view s) seats) segments first buffers
+run_leaves hold plan pool setup program gathered cpus seats segments first buffers left same_setup same_program same_threads have a e b c is d =
     let Script : List Command = commands_of plan.lines in
     let workers : List (Worker Recording) = have.workers in
     let rs : List Recording = map (λ w. recorder_of w) workers in
@@ -84,11 +87,15 @@ run_leaves hold plan pool setup program gathered cpus segments first buffers lef
     let Segs : List ℕ = map (λ w. segments_begun (recorder_of w)) workers in
     let Buffers : List Filled = left ++ hands_of rs in
     let buffers_are : buffers ≡ Buffers = d ∙ ap (λ (hs : List Filled). left ++ hs) (have.have.hands ∙ hands_same workers) in
-    let so = left_so hold plan pool workers left have.ended have.count left_is in
-    let of_setup = subst (λ (s : Setup). HaveRunBeside plan.program Script s (map (λ w. cpu_of w) workers) Segs (lost_beside Buffers 1 Segs) Buffers) same_setup so in
-    let of_program = subst (λ (q : Program). HaveRunBeside q Script setup (map (λ w. cpu_of w) workers) Segs (lost_beside Buffers 1 Segs) Buffers) same_program of_setup in
-    let of_buffers = subst (λ (bs : List Filled). HaveRunBeside program Script setup (map (λ w. cpu_of w) workers) Segs (lost_beside bs 1 Segs) bs) (sym buffers_are) of_program in
+    let Seats : List WorkView = map (λ s. work_view s) (map (λ w. seat_of w) workers) in
+    let threads : plan.threads ≡ pool.setup.threads = same_threads ∙ ap (λ (s : Setup). s.threads) (sym same_setup) in
+    let so = left_so hold plan pool workers left threads have.ended have.count left_is in
+    let of_setup = subst (λ (s : Setup). HaveRunBeside plan.program Script s (map (λ w. cpu_of w) workers) Seats Segs (lost_beside Buffers 1 Segs) Buffers) same_setup so in
+    let of_program = subst (λ (q : Program). HaveRunBeside q Script setup (map (λ w. cpu_of w) workers) Seats Segs (lost_beside Buffers 1 Segs) Buffers) same_program of_setup in
+    let of_buffers = subst (λ (bs : List Filled). HaveRunBeside program Script setup (map (λ w. cpu_of w) workers) Seats Segs (lost_beside bs 1 Segs) bs) (sym buffers_are) of_program in
     let first_is : first ≡ lost_beside buffers 1 Segs = c ∙ ap (lost_beside buffers 1) have.have.segments in
-    subst (λ (ts : List Traced). HaveRunBeside program Script setup ts segments first buffers) (sym (a ∙ have.have.cpus))
-    (subst (λ (ns : List ℕ). HaveRunBeside program Script setup (map (λ w. cpu_of w) workers) ns first buffers) (sym (b ∙ have.have.segments))
-    (subst (λ (ns : List ℕ). HaveRunBeside program Script setup (map (λ w. cpu_of w) workers) Segs ns buffers) (sym first_is) of_buffers))
+    subst (λ (ts : List Traced). HaveRunBeside program Script setup ts (map (λ s. work_view s) seats) segments first buffers) (sym (a ∙ have.have.cpus))
+    (subst (λ (ss : List WorkSeat). HaveRunBeside program Script setup (map (λ w. cpu_of w) workers) (map (λ s. work_view s) ss) segments first buffers)
+    (sym (e ∙ have.have.seats))
+    (subst (λ (ns : List ℕ). HaveRunBeside program Script setup (map (λ w. cpu_of w) workers) Seats ns first buffers) (sym (b ∙ have.have.segments))
+    (subst (λ (ns : List ℕ). HaveRunBeside program Script setup (map (λ w. cpu_of w) workers) Seats Segs ns buffers) (sym first_is) of_buffers)))

@@ -5,10 +5,10 @@ use mathlib.Core.List.{map-append}
 use Rattle.std.proofs.lemmas.List.{length-map, length-take-le, take_more}
 use Rattle.std.proofs.lemmas.List.Elements.{All-cons, All-nil}
 use Rattle.std.proofs.lemmas.List.Sums.{length-filter, sum_by-cons}
-use Rattle.std.proofs.lemmas.Option.{slice_get-get_or, slice_get-map, slice_get_within}
+use Rattle.std.proofs.lemmas.Option.{get_or_from_slice_get, slice_get-get_or, slice_get-map, slice_get_within}
 use Rattle.std.specs.List.{AllByRecursion, count_by}
 use Rattle.xray_image.specs.Program.{Program}
-use Rattle.patch_script.specs.Micros.{total_of}
+use Rattle.patch_script.specs.Micros.{hold_of, total_of}
 use Rattle.patch_script.specs.Plans.{Plan}
 use Rattle.patch_script.specs.Refusals.{commands_of}
 use Rattle.fdr_record.specs.declared.event.Event.{Event}
@@ -22,18 +22,22 @@ use Rattle.machine_step.specs.declared.setup.Setup.{Setup}
 use Rattle.machine_step.specs.Events.{recorded}
 use Rattle.machine_step.specs.Follows.{later}
 use Rattle.machine_step.specs.PlainStep.{PlainRun}
-use Rattle.machine_step.specs.Traced.{Traced, sleds_passed}
-use Rattle.sled_rule.specs.Seats.{script_of}
+use Rattle.machine_step.specs.Traced.{IsThreadOf, Traced, sleds_passed}
+use Rattle.sled_rule.specs.declared.seats.WorkSeat.{WorkSeat}
+use Rattle.sled_rule.specs.declared.table.CodeTable.{CodeTable}
+use Rattle.sled_rule.specs.declared.views.WorkView.{WorkView}
+use Rattle.sled_rule.specs.Seats.{IsWorkerOf, script_of, work_view}
+use Rattle.traced_run.specs.Following.{LoadsFollow, MarksFollowScript}
 use Rattle.traced_run.specs.Kept.{buffers_after, segment_count, stamp_of, thread_buffers}
 use Rattle.traced_run.specs.Left.{HasRun}
 use Rattle.traced_run.specs.Losses.{AreLost, recycled_of}
 use Rattle.traced_run.specs.Runs.{ThreadRun}
 use Rattle.thread_run.specs.declared.worker.Worker.{Worker}
-use Rattle.thread_run.specs.Following.{LoadsFollow, MarksFollowScript, given}
+use Rattle.thread_run.specs.Following.{given}
 use Rattle.thread_run.specs.Recordings.{HasSameOwner, Recording, StandsFor, segments_begun, segments_in}
 use Rattle.thread_run.specs.Runs.{HasRunAlong, HaveRunBeside}
-use Rattle.thread_run.specs.private.Pooled.{AreWorkersOfRun, IsWorkerOfRun, lost_beside}
-use Rattle.thread_run.specs.Workers.{HasEnded, HasRunOut, HaveRun, IsGoing, cpu_of, loads_of, recorder_of}
+use Rattle.thread_run.specs.private.Pooled.{AreWorkersOfRun, IsGoingAt, IsWorkerOfRun, lost_beside}
+use Rattle.thread_run.specs.Workers.{HasEnded, HasRunOut, HaveRun, IsGoing, cpu_of, loads_of, recorder_of, seat_of}
 use Rattle.thread_run.proofs.Notes.{begun_are}
 use Rattle.thread_run.proofs.Order.{HoldEvents, IsBetween, all_between, in_order}
 use Rattle.thread_run.proofs.Pooled.{AreHands, HandIs, KeepsLast, hand_is, hands_of, in_hand_of, keeps_last, of_all, row_is}
@@ -44,7 +48,8 @@ use Rattle.thread_run.proofs.Pooled.{AreHands, HandIs, KeepsLast, hand_is, hands
 pub record IsRunOfWorker (plan : Plan) (setup : Setup) (used buffers : List Filled) (number : ℕ) (worker : Worker Recording) (run : ThreadRun) : Type 0 where
   pub plain : PlainRun plan.program setup.limits number run.passed run.end run.last
   pub follow : MarksFollowScript plan.program (commands_of plan.lines) number (sleds_passed run.passed) run.marks
-  pub along : HasRunAlong plan.program (commands_of plan.lines) number run (cpu_of worker)
+  pub thread : IsThreadOf plan.program number plan.threads (hold_of number (commands_of plan.lines)) setup.limits (cpu_of worker)
+  pub along : HasRunAlong plan.program (commands_of plan.lines) number run (cpu_of worker) (work_view (seat_of worker))
   pub has : HasRun number run (cpu_of worker)
   pub segments : segments_begun (recorder_of worker) ≡ segment_count setup.size run
   pub lost_is : segments_begun (recorder_of worker) - count_by (λ (b : Filled). b.thread == number) buffers ≡ run.lost
@@ -94,8 +99,18 @@ run_of_worker plan pool used buffers number worker is ended pooled =
         follow =
             subst (λ (k : ℕ). MarksFollowScript plan.program (commands_of plan.lines) k (sleds_passed at.passed) t.marks) is.thread
             (subst (λ (p : Plan). MarksFollowScript p.program (commands_of p.lines) t.thread (sleds_passed at.passed) t.marks) is.table ended.marks);
+        thread = record {
+          program_is = at.thread.program ∙ ap (λ (p : Plan). p.program) is.table;
+          thread_is = is.thread;
+          threads_are = at.thread.threads ∙ ap (λ (p : Plan). p.threads) is.table;
+          hold_is =
+              at.thread.hold ∙ ap (λ (p : Plan). hold_of t.thread (commands_of p.lines)) is.table
+              ∙ ap (λ (k : ℕ). hold_of k (commands_of plan.lines)) is.thread;
+          limits_are = is.limits;
+        };
         along = record {
-          loads = given (loads_of worker);
+          owner = at.seat ∙ is.thread;
+          ended = ended.count;
           follow =
               subst (λ (k : ℕ). LoadsFollow plan.program (commands_of plan.lines) k (sleds_passed at.passed) (given (loads_of worker)) (total_of plan.program (commands_of plan.lines))) is.thread
               (subst (λ (p : Plan). LoadsFollow p.program (commands_of p.lines) t.thread (sleds_passed at.passed) (given (loads_of worker)) (total_of p.program (commands_of p.lines))) is.table
@@ -143,6 +158,21 @@ all_run_out plan pool old new are has i worker here =
     let within : i < length old = omega (arith, slice_get_within new i worker here, has.count) in
     let was = there_is old i within in
     run_out plan pool (i + 1) was.0 worker (are i was.0 was.1).0 (has.each i was.0 worker was.1 here)
+
+-- the seats of workers of a table that have run are the table's
+pub own_seats : (plan : Plan) (pool : PoolIs) (table : CodeTable) (old new : List (Worker Recording)) → AreWorkersOfRun plan pool (IsGoingAt table) old
+    → HaveRun StandsFor HasSameOwner old new → All (IsWorkerOf table) (map (λ (w : Worker Recording). seat_of w) new)
+own_seats plan pool table old new are has k other within =
+    let seats : List WorkSeat = map (λ (w : Worker Recording). seat_of w) new in
+    let inside : k < length new = omega (arith, within, length-map new (λ (w : Worker Recording). seat_of w)) in
+    let one = there_is new k inside in
+    let was = there_is old k (omega (arith, inside, has.count)) in
+    let ran = has.each k was.0 one.0 was.1 one.1 in
+    let at : slice_get seats k ≡ Some (seat_of one.0) =
+    slice_get-map (λ (w : Worker Recording). seat_of w) new k ∙ ap (option_map (λ (w : Worker Recording). seat_of w)) one.1 in
+    let found : get_or seats k other ≡ seat_of one.0 = get_or_from_slice_get seats k (seat_of one.0) other at in
+    subst (IsWorkerOf table) (sym found)
+    (subst (λ (t : CodeTable). IsWorkerOf t (seat_of one.0)) (ran.same.table ∙ (are k was.0 was.1).1.1) ran.ended.at.own)
 
 -- ---- lists
 
@@ -300,14 +330,17 @@ from_1 plan pool workers are i worker found =
 
 -- ---- what they leave
 
+same_seat : (one other : WorkView) → ◌≡◌ {A = Option WorkView} (Some one) (Some other) → one ≡ other
+same_seat one other e = cc
+
 pub left_so : HoldEvents → (plan : Plan) (pool : PoolIs) (workers : List (Worker Recording)) (left : List Filled)
-    → AreWorkersOfRun plan pool (HasEnded StandsFor) workers → length workers ≡ pool.setup.threads
+    → plan.threads ≡ pool.setup.threads → AreWorkersOfRun plan pool (HasEnded StandsFor) workers → length workers ≡ pool.setup.threads
     → IsLeft pool.setup (map (λ (r : Recording). r.pass.sealed) (map (λ w. recorder_of w) workers)) left
     → HaveRunBeside plan.program (commands_of plan.lines) pool.setup (map (λ w. cpu_of w) workers)
-    (map (λ w. segments_begun (recorder_of w)) workers)
+    (map (λ s. work_view s) (map (λ w. seat_of w) workers)) (map (λ w. segments_begun (recorder_of w)) workers)
     (lost_beside (left ++ hands_of (map (λ w. recorder_of w) workers)) 1 (map (λ w. segments_begun (recorder_of w)) workers))
     (left ++ hands_of (map (λ w. recorder_of w) workers))
-left_so hold plan pool workers left are count is =
+left_so hold plan pool workers left threads are count is =
     let setup : Setup = pool.setup in
     let rs : List Recording = map (λ w. recorder_of w) workers in
     let rows : List (List Filled) = map (λ (r : Recording). r.pass.sealed) rs in
@@ -343,16 +376,31 @@ left_so hold plan pool workers left are count is =
             let next : 1 + i ≡ i + 1 = omega arith in
             subst (λ (k : ℕ). PlainRun plan.program setup.limits k run.passed run.end run.last) next (at i run found).is.plain;
       };
-      lawful = record {
-        follow = λ i run found.
-            let next : 1 + i ≡ i + 1 = omega arith in
-            subst (λ (k : ℕ). MarksFollowScript plan.program (commands_of plan.lines) k (sleds_passed run.passed) run.marks) next (at i run found).is.follow;
-        losses = losses_are plan setup is.used buffers workers runs all.1 is.absent;
-      };
-      along = λ i run t found there.
+      follow = λ i run found.
           let next : 1 + i ≡ i + 1 = omega arith in
-          subst (HasRunAlong plan.program (commands_of plan.lines) (i + 1) run) (thread_is i run t found there)
-          (subst (λ (k : ℕ). HasRunAlong plan.program (commands_of plan.lines) k run (cpu_of (at i run found).worker)) next (at i run found).is.along);
+          subst (λ (k : ℕ). MarksFollowScript plan.program (commands_of plan.lines) k (sleds_passed run.passed) run.marks) next (at i run found).is.follow;
+      losses = losses_are plan setup is.used buffers workers runs all.1 is.absent;
+      threads = λ i t there.
+          let within : i < length runs = omega (arith, slice_get_within (map (λ w. cpu_of w) workers) i t there, length-map workers (λ w. cpu_of w), runs_count) in
+          let run = there_is runs i within in
+          let next : 1 + i ≡ i + 1 = omega arith in
+          subst (λ (n : ℕ). IsThreadOf plan.program (i + 1) n (hold_of (i + 1) (commands_of plan.lines)) setup.limits t) threads
+          (subst (IsThreadOf plan.program (i + 1) plan.threads (hold_of (i + 1) (commands_of plan.lines)) setup.limits) (thread_is i run.0 t run.1 there)
+          (subst (λ (k : ℕ). IsThreadOf plan.program k plan.threads (hold_of k (commands_of plan.lines)) setup.limits (cpu_of (at i run.0 run.1).worker)) next
+          (at i run.0 run.1).is.thread));
+      each =
+          length-map (map (λ w. seat_of w) workers) (λ s. work_view s) ∙ length-map workers (λ w. seat_of w)
+          ∙ sym (length-map workers (λ w. cpu_of w));
+      along = λ i run t seat found there here.
+          let next : 1 + i ≡ i + 1 = omega arith in
+          let seat_is : work_view (seat_of (at i run found).worker) ≡ seat =
+          same_seat (work_view (seat_of (at i run found).worker)) seat
+          (sym (slice_get-map (λ s. work_view s) (map (λ w. seat_of w) workers) i
+          ∙ ap (option_map (λ s. work_view s)) (slice_get-map (λ w. seat_of w) workers i ∙ ap (option_map (λ w. seat_of w)) (at i run found).found)) ∙ here) in
+          subst (HasRunAlong plan.program (commands_of plan.lines) (i + 1) run t) seat_is
+          (subst (λ (u : Traced). HasRunAlong plan.program (commands_of plan.lines) (i + 1) run u (work_view (seat_of (at i run found).worker))) (thread_is i run t found there)
+          (subst (λ (k : ℕ). HasRunAlong plan.program (commands_of plan.lines) k run (cpu_of (at i run found).worker) (work_view (seat_of (at i run found).worker))) next
+          (at i run found).is.along));
       leaves = record {
         count = length-map workers (λ w. cpu_of w) ∙ sym runs_count;
         cpus_are = λ i run t found there.

@@ -90,6 +90,32 @@ made_held a b c load same made loads held =
       value = found.1;
     }
 
+-- ---- more loads
+
+-- a worker has its earlier loads, and maybe more
+pub record HasMore {R : Type 0} (old new : Worker R) : Type 0 where
+  pub made : List SeatLoad
+  pub loads : loads_of new ≡ loads_of old ++ made
+
+pub more_none : {R : Type 0} (a : Worker R) → HasMore a a
+more_none a = record { made = []; loads = sym (append-nil (loads_of a)) }
+
+more_then : {R : Type 0} (a b c : Worker R) → HasMore a b → HasMore b c → HasMore a c
+more_then a b c p q = record {
+  made = p.made ++ q.made;
+  loads = q.loads ∙ ap (λ (ls : List SeatLoad). ls ++ q.made) p.loads ∙ append_assoc (loads_of a) p.made q.made;
+}
+
+-- after a turn that ended, and after one that was held
+pub more_ended : {R : Type 0} (a b c : Worker R) → HasMore a b → HasMade b c → HasMore a c
+more_ended a b c p q = more_then a b c p (record { made = q.made; loads = q.loads })
+
+pub more_held : {R : Type 0} (a b c : Worker R) → HasMore a b → WasHeld b c → HasMore a c
+more_held a b c p q =
+    more_then a b c p (record { made = q.made ++ q.last ∷ []; loads = q.loads ∙ append_assoc (loads_of b) q.made (q.last ∷ []) })
+
+-- ---- going on
+
 -- the worker goes on, no load has held it since the first, and what it wants is known
 pub record GoesOn {R : Type 0} (stands : R → List Event → Type 0) (follows : R → R → Type 0) (first worker : Worker R) (next : Want) : Type 0 where
   pub going : IsGoing stands worker

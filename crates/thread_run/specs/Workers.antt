@@ -18,9 +18,10 @@ use Rattle.sled_rule.specs.declared.views.Load.{Load as SeatLoad}
 use Rattle.sled_rule.specs.declared.views.WorkView.{WorkView}
 use Rattle.sled_rule.specs.Seats.{work_view, script_of, IsWorkerOf}
 use Rattle.sled_rule.specs.Views.{ended_count}
+use Rattle.traced_run.specs.Following.{HasFollowed, MarksFollowScript}
 use Rattle.thread_run.specs.declared.worker.Worker.{Worker}
 use Rattle.thread_run.specs.Each.{HaveChanged}
-use Rattle.thread_run.specs.Following.{HasFollowed, MarksFollowScript, given, is_held_by}
+use Rattle.thread_run.specs.Following.{given, is_held_by}
 
 -- the thread, the seat, the table and the recorder of a worker
 abbrev pub cpu_of : {R : Type 0} → Worker R → Traced
@@ -118,9 +119,11 @@ pub record WasHeld {R : Type 0} (old new : Worker R) : Type 0 where
   pub word : last.word ≡ release_word (cpu_of old).program (cpu_of old).thread
   pub value : last.value ≡ 0
 
--- a worker has run to its end
+-- A worker has run to its end. Its loads are those that it had made before, and then some more.
 pub record HasRunOut {R : Type 0} (stands : R → List Event → Type 0) (follows : R → R → Type 0) (old new : Worker R) : Type 0 where
   pub same : IsSameWorker follows old new
+  pub made : List SeatLoad
+  pub loads : loads_of new ≡ loads_of old ++ made
   pub ended : HasEnded stands new
 
 -- each worker of a list has run, and is at its place

@@ -1,16 +1,14 @@
 //! A whole run: all memory first, then the threads and the script.
 
-ghost use Rattle.std.specs.Prelude.{◌≡◌, ◌≤◌, ◌+◌, ◌-◌, ◌==◌, ◌++◌, [], List, IfOk, count_by, length, vec_capacity, vec_len};
+ghost use Rattle.std.specs.Prelude.{◌≡◌, ◌≤◌, ◌+◌, ◌-◌, ◌==◌, ◌++◌, [], All, List, IfOk, OnErr, OnOk, count_by, length, map, vec_capacity, vec_len};
 ghost use Rattle.buffer_queue.specs.{Left.{IsLeft}, Passes.{sealed_of, AreNew, AreOf}};
 ghost use Rattle.fdr_buffer.specs.Filled.{Filled};
 ghost use Rattle.patch_script.specs.Refusals.{commands_of};
-ghost use Rattle.sled_rule.specs.{Plans.{start_in}, Seats.{patch_view, script_of, IsPatcherOf}};
+ghost use Rattle.sled_rule.specs.{Plans.{start_in}, Seats.{patch_view, script_of, work_view, IsPatcherOf, IsWorkerOf}};
 ghost use Rattle.sled_rule.specs.Views.{first_patch};
-ghost use Rattle.thread_run.specs.Recordings.{StandsFor};
 ghost use Rattle.thread_run.specs.private.Rooms.{HaveRunPooled, IsGathered, IsRoom};
-ghost use Rattle.thread_run.specs.Runs.{HaveRunBeside};
-ghost use Rattle.thread_run.specs.private.Pooled.{lost_beside, AreWorkersOfRun};
-ghost use Rattle.thread_run.specs.Workers.{IsGoing};
+ghost use Rattle.thread_run.specs.Runs.{HasPatched, HaveRunBeside};
+ghost use Rattle.thread_run.specs.private.Pooled.{lost_beside, AreWorkersOfRun, IsGoingAt};
 
 use crate::recorder::FdrRecorder;
 use crate::running::run_threads;
@@ -20,7 +18,7 @@ use buffer_queue::{Pool, PoolPass};
 use fdr_buffer::{Buffer, LARGEST_SIZE, LEAST_SIZE};
 use machine_step::{Cpu, Setup, Steps};
 use sled_patch::run_prefix;
-use sled_rule::{CodeTable, PatchSeat};
+use sled_rule::{CodeTable, PatchSeat, WorkSeat};
 use sled_words::MAX_THREADS;
 use std::alloc::Global;
 use std::sync::Wait;
@@ -33,6 +31,8 @@ use xray_io::{Gate, NoMemory};
 pub struct RunEnd<'s> {
     /// The threads at their ends, thread 1 first.
     pub cpus: Vec<Cpu<'s>>,
+    /// The seats of the threads at their ends, with all loads that they have made.
+    pub seats: Vec<WorkSeat>,
     /// Into how many segments the events of each thread were cut.
     pub segments: Vec<u32>,
     /// How many of these are lost. Segments count from 0, so this is the number of the first one that
@@ -46,6 +46,7 @@ pub struct RunEnd<'s> {
 #[derive(Drop)]
 struct Gathered<'s> {
     cpus: Vec<Cpu<'s>>,
+    seats: Vec<WorkSeat>,
     /// Into how many segments the events of each thread were cut.
     segments: Vec<u32>,
     passes: Vec<PoolPass>,
@@ -57,7 +58,8 @@ struct Gathered<'s> {
 /// The threads share one pool of buffers.
 ///
 /// Takes its memory before the first thread starts. `NoMemory` means that an allocation was
-/// refused. No clause says that the call returns.
+/// refused. The patcher is then at the place where threads start, and no thread has run. No clause
+/// says that the call returns.
 pub fn run<'s, T: Threads + Wait + Sync, G: Gate + Sync>(
     rt: &T,
     alloc: Global,
@@ -77,8 +79,11 @@ pub fn run<'s, T: Threads + Wait + Sync, G: Gate + Sync>(
     requires sizes { (LEAST_SIZE ≤ setup.now.size) × (setup.now.size ≤ LARGEST_SIZE) }
     requires enough { setup.now.threads ≤ setup.now.max }
     ensures own { IsPatcherOf table.now patcher.new }
+    ensures script { OnOk result (HasPatched (script_of table.now) (patch_view patcher.new)) }
+    ensures unmoved { OnErr result ((patch_view patcher.new).place ≡ start_in (script_of table.now)) }
+    ensures seats { IfOk result (λ end. All (IsWorkerOf table.now) end.seats.items) }
     ensures left { IfOk result (λ end. HaveRunBeside steps.now (commands_of (script_of table.now).lines) setup.now
-        end.cpus.items end.segments.items end.first.items end.buffers.items) }
+        end.cpus.items (map work_view end.seats.items) end.segments.items end.first.items end.buffers.items) }
 {
     kept_buffers_hold_events();
     run_prefix(table, patcher);
@@ -103,7 +108,7 @@ fn run_pooled<'s, 'p, T: Threads + Wait + Sync, G: Gate + Sync>(
 ) -> Result<Gathered<'s>, NoMemory>
     requires own { IsPatcherOf table.now patcher.old }
     requires starts { (patch_view patcher.old).place ≡ start_in (script_of table.now) }
-    requires none { (patch_view patcher.old).given ≡ 0 }
+    requires none { ((patch_view patcher.old).given ≡ 0) × ((patch_view patcher.old).met ≡ []) }
     requires program { (script_of table.now).program ≡ steps.now }
     requires threads { (script_of table.now).threads ≡ setup.now.threads }
     requires few { setup.now.threads ≤ MAX_THREADS }
@@ -111,6 +116,9 @@ fn run_pooled<'s, 'p, T: Threads + Wait + Sync, G: Gate + Sync>(
     requires pool { pool.now.setup ≡ setup.now }
     requires hands { AreNew pool.now 1 setup.now.threads hands.items }
     ensures own { IsPatcherOf table.now patcher.new }
+    ensures script { OnOk result (HasPatched (script_of table.now) (patch_view patcher.new)) }
+    ensures unmoved { OnErr result ((patch_view patcher.new).place ≡ start_in (script_of table.now)) }
+    ensures seats { IfOk result (λ gathered. All (IsWorkerOf table.now) gathered.seats.items) }
     ensures run { IfOk result (HaveRunPooled (script_of table.now) pool.now) }
 {
     let room = room_for(alloc, setup)?;
@@ -132,7 +140,7 @@ fn new_workers<'s, 't, 'p, T: Wait>(
 ) -> Result<Vec<Worker<'s, 't, FdrRecorder<'p, T>>>, NoMemory>
     requires own { IsPatcherOf table.now patcher.old }
     requires starts { (patch_view patcher.old).place ≡ start_in (script_of table.now) }
-    requires none { (patch_view patcher.old).given ≡ 0 }
+    requires none { ((patch_view patcher.old).given ≡ 0) × ((patch_view patcher.old).met ≡ []) }
     requires program { (script_of table.now).program ≡ steps.now }
     requires threads { (script_of table.now).threads ≡ setup.now.threads }
     requires few { setup.now.threads ≤ MAX_THREADS }
@@ -140,9 +148,12 @@ fn new_workers<'s, 't, 'p, T: Wait>(
     requires pool { pool.now.setup ≡ setup.now }
     requires hands { AreNew pool.now 1 setup.now.threads hands.items }
     ensures own { IsPatcherOf table.now patcher.new }
+    ensures unmoved { (patch_view patcher.new).place ≡ start_in (script_of table.now) }
+    ensures given { OnOk result ((patch_view patcher.new).given ≡ setup.now.threads) }
+    ensures none_met { (patch_view patcher.new).met ≡ [] }
     ensures count { IfOk result (λ workers. length workers.items ≡ setup.now.threads) }
     ensures workers { IfOk result (λ workers.
-        AreWorkersOfRun (script_of table.now) pool.now (IsGoing StandsFor) workers.items) }
+        AreWorkersOfRun (script_of table.now) pool.now (IsGoingAt table.now) workers.items) }
 {
     let mut workers = Vec::with_capacity(alloc, setup.threads as usize)?;
     let mut number = 0;
@@ -169,6 +180,7 @@ fn room_for<'s>(alloc: Global, setup: &Setup) -> Result<Gathered<'s>, NoMemory>
     let threads = setup.threads as usize;
     Ok(Gathered {
         cpus: Vec::with_capacity(alloc, threads)?,
+        seats: Vec::with_capacity(alloc, threads)?,
         segments: Vec::with_capacity(alloc, threads)?,
         passes: Vec::with_capacity(alloc, threads)?,
         hands: Vec::with_capacity(alloc, threads)?,
@@ -188,8 +200,9 @@ fn gather<'s, T: Wait>(
     // Only the contract reads the setup.
     let _setup = *setup;
     for worker in workers {
-        let (cpu, _seat, recorder) = worker.parts();
+        let (cpu, seat, recorder) = worker.parts();
         room.cpus.push_reserved(cpu);
+        room.seats.push_reserved(seat);
         room.segments.push_reserved(recorder.segments());
         let (pass, hand) = recorder.parts();
         room.passes.push_reserved(pass);
@@ -218,6 +231,7 @@ fn left_by<'s, R: Wait>(
     requires no_buffer { buffers.items ≡ [] }
     requires room { (setup.now.threads ≤ vec_capacity first) × (setup.now.max ≤ vec_capacity buffers) }
     ensures cpus { result.cpus.items ≡ gathered.entry.cpus.items }
+    ensures seats { result.seats.items ≡ gathered.entry.seats.items }
     ensures segments { result.segments.items ≡ gathered.entry.segments.items }
     ensures first { result.first.items ≡ lost_beside result.buffers.items 1 gathered.entry.segments.items }
     ensures buffers { (left : List Filled) × IsLeft setup.now (sealed_of gathered.entry.passes.items) left
@@ -225,6 +239,7 @@ fn left_by<'s, R: Wait>(
 {
     let Gathered {
         cpus,
+        seats,
         segments,
         passes,
         hands,
@@ -234,6 +249,7 @@ fn left_by<'s, R: Wait>(
     add_lost(&segments, &buffers, &mut first);
     RunEnd {
         cpus,
+        seats,
         segments,
         first,
         buffers,

@@ -12,6 +12,7 @@ use Rattle.machine_step.specs.declared.setup.Setup.{Setup}
 use Rattle.machine_step.specs.Texts.{state_text}
 use Rattle.machine_step.specs.Traced.{IsDone, Traced}
 use Rattle.patch_script.specs.declared.command.Command.{Command}
+use Rattle.sled_rule.specs.declared.views.WorkView.{WorkView}
 use Rattle.thread_run.specs.Runs.{HaveRunBeside}
 use Rattle.xray_image.specs.Program.{Program}
 use Rattle.fdr_file.specs.Files.{file_bytes}
@@ -163,14 +164,14 @@ leaves_same setup runs ts us segments ns first ms buffers kept same_threads same
     (subst (λ (l : List Traced). Leaves setup runs l segments first buffers) (sym same_threads) leaves)))
 
 -- What a run beside a script left, in other hands, with its buffers in the order of a trace.
-pub left_in_order : (program other : Program) (script : List Command) (setup : Setup) (ts us : List Traced) (segments ns first ms : List ℕ)
-    (buffers kept : List Filled) → program ≡ other → HaveRunBeside program script setup ts segments first buffers → us ≡ ts → ns ≡ segments
+pub left_in_order : (program other : Program) (script : List Command) (setup : Setup) (ts us : List Traced) (seats : List WorkView) (segments ns first ms : List ℕ)
+    (buffers kept : List Filled) → program ≡ other → HaveRunBeside program script setup ts seats segments first buffers → us ≡ ts → ns ≡ segments
     → ms ≡ first
     → ((with_it : Setup) (runs : List ThreadRun) → IsPermutation (filter has_event buffers) (kept_buffers with_it runs) → kept ≡ kept_buffers with_it runs)
-    → (left : HaveRunBeside other script setup ts segments first buffers) × Leaves setup left.runs us ns ms kept
-left_in_order program other script setup ts us segments ns first ms buffers kept same_program ran same_threads same_segments same_first in_order =
-    let left : HaveRunBeside other script setup ts segments first buffers =
-    subst (λ (p : Program). HaveRunBeside p script setup ts segments first buffers) same_program ran in (
+    → (left : HaveRunBeside other script setup ts seats segments first buffers) × Leaves setup left.runs us ns ms kept
+left_in_order program other script setup ts us seats segments ns first ms buffers kept same_program ran same_threads same_segments same_first in_order =
+    let left : HaveRunBeside other script setup ts seats segments first buffers =
+    subst (λ (p : Program). HaveRunBeside p script setup ts seats segments first buffers) same_program ran in (
       left,
       leaves_same setup left.runs ts us segments ns first ms (kept_buffers setup left.runs) kept same_threads same_segments same_first
           (in_order setup left.runs left.buffers_are) left.leaves,

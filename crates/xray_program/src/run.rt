@@ -1,8 +1,9 @@
 //! `run`: threads that run over an image while a script patches their sleds.
-ghost use Rattle.std.specs.Prelude.{◌≡◌, ◌≤◌, ◌∷◌, [], IfOk, IsPermutation, List, Some, filter};
+ghost use Rattle.std.specs.Prelude.{◌≡◌, ◌≤◌, ◌∷◌, [], IfOk, IsPermutation, List, Some, filter, map};
 ghost use Rattle.command_words.specs.Words.{outputs_of};
 ghost use Rattle.patch_script.specs.Refusals.{commands_of};
 ghost use Rattle.machine_step.specs.declared.setup.Setup.{Setup};
+ghost use Rattle.sled_rule.specs.Seats.{work_view};
 ghost use Rattle.thread_run.specs.Runs.{HaveRunBeside};
 ghost use Rattle.fdr_buffer.specs.Filled.{has_event};
 ghost use Rattle.traced_run.specs.{Kept.{kept_buffers}, Runs.{ThreadRun}};
@@ -119,7 +120,7 @@ fn run_beside<'s, T: Threads + Wait + Sync, G: Gate + Sync>(
     requires sizes { (LEAST_SIZE ≤ setup.now.size) × (setup.now.size ≤ LARGEST_SIZE) }
     requires enough { setup.now.threads ≤ setup.now.max }
     ensures left { IfOk result (λ end. HaveRunBeside steps.now (commands_of script.lines) setup.now
-        end.cpus.items end.segments.items end.first.items end.buffers.items) }
+        end.cpus.items (map work_view end.seats.items) end.segments.items end.first.items end.buffers.items) }
 {
     let (table, mut seat) = CodeTable::new(alloc, steps.image(), script, setup.threads)?;
     let end = run(rt, alloc, steps, &table, &mut seat, setup, gate)?;
@@ -137,6 +138,7 @@ fn left_of(end: RunEnd) -> RunLeft
 {
     let RunEnd {
         cpus,
+        seats: _,
         segments,
         first,
         mut buffers,

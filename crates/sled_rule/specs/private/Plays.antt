@@ -33,11 +33,13 @@ counted step before stored after = (after.0 ≡ Work (counting (work_of before.0
 abbrev pub patched : At → Sat → ℕ → Sat → Type 0
 patched step before stored after = (after.0 ≡ Patch (advanced (patch_of before.0))) × (after.1 ≡ before.1)
 
--- an await was looked at: what was known of the thread is at most what was found
+-- an await was looked at: what was known of the thread is at most what was found, and what was found is known from then
+-- on
 abbrev pub looked : At → Sat → ℕ → Sat → Type 0
 looked step before found after =
     ((thread count : ℕ) → micro_in (patch_of before.0).script (patch_of before.0).place ≡ Await thread count
-    → (slice_index (patch_of before.0).known thread ≤ found) × (after.0 ≡ Patch (looked_at (patch_of before.0) thread count found)))
+    → (slice_index (patch_of before.0).known thread ≤ found) × (after.0 ≡ Patch (looked_at (patch_of before.0) thread count found))
+    × (slice_index (looked_at (patch_of before.0) thread count found).known thread ≡ found))
     × (after.1 ≡ before.1)
 
 -- no thread that was met had seen a place that is still to come

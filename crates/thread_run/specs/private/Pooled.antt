@@ -3,10 +3,11 @@ use Rattle.std.specs.Prelude.{◌≡◌, ◌+◌, ◌-◌, ◌==◌, ℕ, List, 
 use Rattle.patch_script.specs.Plans.{Plan}
 use Rattle.buffer_queue.specs.Passes.{PoolIs, IsOf}
 use Rattle.fdr_buffer.specs.Filled.{Filled}
+use Rattle.sled_rule.specs.declared.table.CodeTable.{CodeTable}
 use Rattle.sled_rule.specs.Seats.{script_of}
 use Rattle.thread_run.specs.declared.worker.Worker.{Worker}
-use Rattle.thread_run.specs.Recordings.{Recording}
-use Rattle.thread_run.specs.Workers.{cpu_of, recorder_of, table_of}
+use Rattle.thread_run.specs.Recordings.{Recording, StandsFor}
+use Rattle.thread_run.specs.Workers.{IsGoing, cpu_of, recorder_of, table_of}
 
 -- the worker of a number, of a run with this pool
 pub record IsWorkerOfRun (plan : Plan) (pool : PoolIs) (number : ℕ) (worker : Worker Recording) : Type 0 where
@@ -20,6 +21,10 @@ pub record IsWorkerOfRun (plan : Plan) (pool : PoolIs) (number : ℕ) (worker : 
 abbrev pub AreWorkersOfRun : Plan → PoolIs → (Worker Recording → Type 0) → List (Worker Recording) → Type 0
 AreWorkersOfRun plan pool Is workers =
     (i : ℕ) (worker : Worker Recording) → slice_get workers i ≡ Some worker → IsWorkerOfRun plan pool (i + 1) worker × Is worker
+
+-- a worker of a table that hasn't ended
+abbrev pub IsGoingAt : CodeTable → Worker Recording → Type 0
+IsGoingAt table worker = IsGoing StandsFor worker × (table_of worker ≡ table)
 
 -- for each thread, from this one on, how many of its segments are in none of these buffers
 abbrev pub lost_beside : List Filled → ℕ → List ℕ → List ℕ

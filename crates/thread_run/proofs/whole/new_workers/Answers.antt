@@ -5,8 +5,8 @@ use Rattle.machine_step.specs.Traced.{Traced}
 use Rattle.machine_step.specs.declared.setup.Setup.{Setup}
 use Rattle.sled_rule.specs.declared.views.PatchView.{PatchView}
 use Rattle.sled_rule.specs.Seats.{script_of}
-use Rattle.thread_run.specs.Recordings.{Recording, StandsFor}
-use Rattle.thread_run.specs.Workers.{IsGoing}
+use Rattle.thread_run.specs.Recordings.{Recording}
+use Rattle.thread_run.specs.private.Pooled.{IsGoingAt}
 use Rattle.thread_run.proofs.Gathered.{new_at, one_taken}
 use Rattle.thread_run.proofs.RunLemmas.{one_worker}
 use Rattle.thread_run.proofs.whole.new_workers.Goals as goal
@@ -37,8 +37,9 @@ loop-pass-preserved g c =
       own = started.own;
       place = ap (λ (p : PatchView). p.place) started.view ∙ kept.place;
       given = ap (λ (p : PatchView). p.given) started.view ∙ ap (λ (k : ℕ). k + 1) kept.given;
+      none_met = ap (λ (p : PatchView). p.met) started.view ∙ kept.none_met;
       count = omega (arith, ap length more, length-append old (worker ∷ []), kept.count);
-      workers = one_worker (script_of c.args.table.now) c.args.pool.now (IsGoing StandsFor) old c.push.new.self.items worker c.loop-pass.number kept.count kept.workers
+      workers = one_worker (script_of c.args.table.now) c.args.pool.now (IsGoingAt c.args.table.now) old c.push.new.self.items worker c.loop-pass.number kept.count kept.workers
           (record {
             table = ap script_of started.table;
             thread = ap (λ (t : Traced). t.thread) started.cpu ∙ c.in_ok-cpu.ensures.number;
@@ -46,5 +47,5 @@ loop-pass-preserved g c =
             pass = record { same_pool = ap (λ (p : PassIs). p.pool) pass; same_setup = ap (λ (p : PassIs). p.setup) pass };
             owner = ap (λ (p : PassIs). p.thread) pass;
           })
-          started.going more;
+          (started.going, started.table) more;
     }

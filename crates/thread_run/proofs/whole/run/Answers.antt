@@ -10,5 +10,5 @@ pub returns-clause-left : goal.returns-clause-left
 returns-clause-left g c =
     let left = c.left_by.ensures in
     run_leaves c.kept_buffers_hold_events.ensures.one (script_of c.args.table.now) c.in_ok-pool.pool c.args.setup.now c.args.steps.now c.in_ok-gathered.gathered
-    c.left_by.result.cpus.items c.left_by.result.segments.items c.left_by.result.first.items c.left_by.result.buffers.items left.buffers.0
-    c.in_ok-pool.ensures.setup c.requires.program c.in_ok-gathered.ensures.run left.cpus left.segments left.first left.buffers.1 left.buffers.2
+    c.left_by.result.cpus.items c.left_by.result.seats.items c.left_by.result.segments.items c.left_by.result.first.items c.left_by.result.buffers.items left.buffers.0
+    c.in_ok-pool.ensures.setup c.requires.program c.requires.threads c.in_ok-gathered.ensures.run left.cpus left.seats left.segments left.first left.buffers.1 left.buffers.2

@@ -16,7 +16,7 @@ deliver_run-requires-clause-left g c =
     let end = c.in_ok-end.end in
     let left = c.left_of.result in
     let same = c.left_of.ensures in
-    let ran = left_in_order _ c.args.inputs.image (commands_of c.args.inputs.script.lines) c.setup_of-setup.result end.cpus.items left.cpus.items
+    let ran = left_in_order _ c.args.inputs.image (commands_of c.args.inputs.script.lines) c.setup_of-setup.result end.cpus.items left.cpus.items _
     end.segments.items left.segments.items end.first.items left.first.items end.buffers.items left.buffers.items
     c.in_ok-steps.ensures.program c.in_ok-end.ensures.left same.cpus same.segments same.first same.buffers in
     (ran.0.runs, ran.1)
@@ -31,7 +31,7 @@ returns-clause-finishes g c =
     let end = c.in_ok-end.end in
     let left = c.left_of.result in
     let same = c.left_of.ensures in
-    let ran = left_in_order _ inputs.image (commands_of inputs.script.lines) setup end.cpus.items left.cpus.items end.segments.items
+    let ran = left_in_order _ inputs.image (commands_of inputs.script.lines) setup end.cpus.items left.cpus.items _ end.segments.items
     left.segments.items end.first.items left.first.items end.buffers.items left.buffers.items c.in_ok-steps.ensures.program
     c.in_ok-end.ensures.left same.cpus same.segments same.first same.buffers in
     let is = ran.0 in
@@ -41,7 +41,7 @@ returns-clause-finishes g c =
     let text = state_texts 1 is.runs in
     let Are = Traces (FollowsPlan setup inputs.image inputs.script) inputs.image setup trace audit in
     let traces : Are outputs text =
-    record { runs = is.runs; run = is.run; lawful = is.lawful; outputs_are = refl; text_is = refl } in
+    record { runs = is.runs; run = is.run; lawful = record { follow = is.follow; losses = is.losses }; outputs_are = refl; text_is = refl } in
     let Done : Setup → Type 0 = λ with_it.
     Finishes (RunsBeside trace audit with_it inputs.image inputs.script) (seen c.args.desk.now)
     (seen c.deliver_run.new.desk) (got c.args.out.now) (got c.deliver_run.new.out) (g.D.Desk.along c.args.desk.now c.deliver_run.new.desk) c.deliver_run.result in

@@ -1,6 +1,8 @@
 use Rattle.std.proofs.Common.{◌≡◌, ◌≤◌, sym, ap, ◌∙◌, subst, rules, arith}
 use Rattle.patch_script.specs.declared.micro.Micro.TheVariants.{Await}
 use Rattle.patch_script.specs.Plans.{Plan}
+use Rattle.std.specs.Prelude.{slice_index}
+use Rattle.sled_rule.specs.declared.views.View.{View}
 use Rattle.sled_rule.specs.Plans.{micro_in}
 use Rattle.sled_rule.specs.Slots.{progress_slot}
 use Rattle.sled_rule.specs.Steps.{patch_of}
@@ -32,3 +34,10 @@ returns-clause-view c =
     let p = patch_of c.args.seat.now.me.0 in
     (c.load.ensures.2.0 c.args.thread c.args.count
     (subst (λ (z : Plan). micro_in z p.place ≡ Await c.args.thread c.args.count) (sym c.requires.script) c.requires.step)).1
+
+pub returns-clause-known : goal.returns-clause-known
+returns-clause-known c =
+    let p = patch_of c.args.seat.now.me.0 in
+    let its = c.load.ensures.2.0 c.args.thread c.args.count
+    (subst (λ (z : Plan). micro_in z p.place ≡ Await c.args.thread c.args.count) (sym c.requires.script) c.requires.step) in
+    subst (λ (z : View). slice_index (patch_of z).known c.args.thread ≡ c.load.result) (sym its.1) its.2
