@@ -1,12 +1,14 @@
 -- The numbers that the values of options stand for.
-use Rattle.std.specs.Prelude.{ℕ, ◌&&◌, List, length, nat_le, if◌then◌else◌, Option, Some, None}
-use Rattle.std.specs.List.{position_from}
+use Rattle.std.specs.Prelude.{ℕ, ◌==◌, ◌&&◌, Bool, List, length, nat_le, if◌then◌else◌, Option, Some, None, option_and_then}
+use Rattle.std.specs.List.{list_any, position_from}
 use Rattle.std.specs.Str.{all_ascii_digits, bytes_eq}
 use Rattle.std.specs.Str.Parse.{digits_value, without_leading_plus}
 
--- What the value of an option may be: a decimal number from the least to the most, or one of these words.
+-- What the value of an option may be: a decimal number from the least to the most, one of these numbers, or one of
+-- these words.
 pub data Values : Type 0 where
   Number : (least most : ℕ) → Values
+  OneOf : (numbers : List ℕ) → Values
   Listed : (words : List (List ℕ)) → Values
 
 -- the number that a word writes in decimal, within a range; leading zeros are allowed, and one plus before them
@@ -17,7 +19,17 @@ number_within least most word =
     if nat_le 1 (length digits) && all_ascii_digits digits
     && nat_le least number && nat_le number most then Some number else None
 
+-- a number is one of these
+abbrev pub has_number : (numbers : List ℕ) → ℕ → Bool
+has_number numbers number = list_any (λ one. one == number) numbers
+
+-- the number of 64 bits that a word writes in decimal, if it is one of these
+abbrev pub number_among : (numbers : List ℕ) → List ℕ → Option ℕ
+number_among numbers word =
+    option_and_then (λ number. if has_number numbers number then Some number else None) (number_within 0 18446744073709551615 word)
+
 -- the number that a value stands for: the one that it writes, or its place among the listed words, from 0
 abbrev pub number_of : Values → List ℕ → Option ℕ
 number_of (Number least most) value = number_within least most value
+number_of (OneOf numbers) value = number_among numbers value
 number_of (Listed words) value = position_from (bytes_eq value) 0 words

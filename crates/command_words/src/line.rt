@@ -2,7 +2,7 @@
 ghost use Rattle.std.specs.Prelude.{◌≡◌, ◌<◌, ◌≤◌, IfSome, length, option_copied, true};
 ghost use Rattle.std.specs.{List.{position_from}, Str.{bytes_eq}};
 ghost use Rattle.command_words.specs.Lines.{number_in, value_in};
-ghost use Rattle.command_words.specs.Numbers.{number_of, number_within};
+ghost use Rattle.command_words.specs.Numbers.{has_number, number_among, number_of, number_within};
 ghost use Rattle.command_words.specs.private.Allowed.{IsAmongValues};
 ghost use Rattle.command_words.specs.private.Allowed.{has_default_in_range};
 ghost use Rattle.command_words.specs.private.CodeViews.{line_view, option_view, values_view};
@@ -56,6 +56,7 @@ impl Values {
     {
         match self {
             Values::Number { least, most } => number_within(*least, *most, value),
+            Values::OneOf(numbers) => number_among(numbers, value),
             Values::Listed(words) => place_of(value, words),
         }
     }
@@ -70,6 +71,19 @@ fn number_within(least: u64, most: u64, word: &str) -> Option<u64>
     match word.parse::<u64>() {
         Ok(number) if least <= number && number <= most => Some(number),
         _ => None,
+    }
+}
+
+/// The number that a word writes in decimal, if it is one of these numbers.
+fn number_among(numbers: &[u64], word: &str) -> Option<u64>
+    ensures number { result ≡ number_among numbers.now word.now }
+    ensures among { IfSome result (λ number. has_number numbers.now number ≡ true) }
+{
+    let number = number_within(0, u64::MAX, word)?;
+    if numbers.contains(&number) {
+        Some(number)
+    } else {
+        None
     }
 }
 

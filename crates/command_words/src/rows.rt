@@ -12,6 +12,8 @@ pub(crate) enum Values {
         /// The greatest value.
         most: u64,
     },
+    /// One of these numbers, in decimal.
+    OneOf(&'static [u64]),
     /// One of these words. It stands for its place among them, counted from 0.
     Listed(&'static [&'static str]),
 }

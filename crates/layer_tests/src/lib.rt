@@ -23,6 +23,8 @@ mod draws;
 #[cfg(test)]
 mod event_traces;
 #[cfg(test)]
+mod fault_texts;
+#[cfg(test)]
 mod image_files;
 #[cfg(test)]
 mod images;

@@ -13,6 +13,8 @@ mod checks;
 #[cfg(test)]
 mod faults;
 #[cfg(test)]
+mod gate_calls;
+#[cfg(test)]
 mod gates;
 #[cfg(test)]
 mod plain;

@@ -1,19 +1,21 @@
 -- What rows and their values have to keep to.
-use Rattle.std.specs.Prelude.{◌<◌, ◌≤◌, ℕ, ◌&&◌, List, [], ◌∷◌, ◌++◌, length, Bool, true, not, map, nat_le, nat_lt}
+use Rattle.std.specs.Prelude.{◌≡◌, ◌<◌, ◌≤◌, ℕ, ◌&&◌, List, [], ◌∷◌, ◌++◌, length, Bool, true, not, map, nat_le, nat_lt}
 use Rattle.std.specs.List.{list_any}
 use Rattle.std.specs.Option.{option_map_or}
 use Rattle.std.specs.Str.{bytes_eq}
-use Rattle.command_words.specs.Numbers.{Values, Number, Listed}
+use Rattle.command_words.specs.Numbers.{Values, Number, OneOf, Listed, has_number}
 use Rattle.command_words.specs.Rows.{CommandRow, OptionRow, option_names}
 
 -- a value may stand for this number
 abbrev pub IsAmongValues : Values → ℕ → Type 0
 IsAmongValues (Number least most) number = (least ≤ number) × (number ≤ most)
+IsAmongValues (OneOf numbers) number = has_number numbers number ≡ true
 IsAmongValues (Listed words) number = number < length words
 
 -- the same, as a test
 abbrev pub is_among_values : Values → ℕ → Bool
 is_among_values (Number least most) number = nat_le least number && nat_le number most
+is_among_values (OneOf numbers) number = has_number numbers number
 is_among_values (Listed words) number = nat_lt number (length words)
 
 -- a number that is used if the option isn't given is one that a value may stand for

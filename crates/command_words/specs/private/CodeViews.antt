@@ -8,11 +8,12 @@ use Rattle.command_words.specs.declared.rows.OptionRow as option_row
 use Rattle.command_words.specs.declared.rows.Values as values
 use Rattle.command_words.specs.declared.rows.Values.TheVariants as values_of
 use Rattle.command_words.specs.Lines.{Line}
-use Rattle.command_words.specs.Numbers.{Values, Number, Listed}
+use Rattle.command_words.specs.Numbers.{Values, Number, OneOf, Listed}
 use Rattle.command_words.specs.Rows.{CommandRow, FileRow, OptionRow}
 
 abbrev pub values_view : values.Values → Values
 values_view (values_of.Number least most) = Number least most
+values_view (values_of.OneOf numbers) = OneOf numbers.now
 values_view (values_of.Listed words) = Listed (map (λ word. word.now) words.now)
 
 abbrev pub option_view : option_row.OptionRow → OptionRow
