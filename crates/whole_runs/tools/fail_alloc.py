@@ -36,7 +36,8 @@ import tempfile
 ROOT = next(folder for folder in pathlib.Path(__file__).resolve().parents if (folder / "crates.txt").is_file())
 EXAMPLES = ["first-run", "asm", "live-patching", "reports"]
 TURNS = "turns.xrim traced.script"
-BUFFERS = "--wall 0 --threads 2 --buffer-size 72 --buffer-max 5 --fuel 1000000000 --passings"
+# In a small run the events of a thread fit in its first buffer, so that no order of threads changes its files.
+BUFFERS = "--wall 0 --threads 2 --buffer-size 1000 --buffer-max 5 --fuel 1000000000 --passings"
 COMMANDS = {
     "asm": "asm call.asm made",
     "asm over an old image": "asm call.asm old.image --threshold 2",
@@ -58,7 +59,7 @@ COMMANDS = {
     "soak": "soak 7",
 }
 # Longer runs of the same words, whose threads take most of the time.
-LONGER = {name: f"{COMMANDS[name]}00000" for name in ("sim of long threads", "run of long threads")}
+LONGER = {name: f"{COMMANDS[name]}0000" for name in ("sim of long threads", "run of long threads")}
 TURNS_TEXT = "fn main always\nagain:\n    call f\n    jmp again\nfn f always\n    ret\n"
 OLD = ["old.image", "old.trace", "old.audit"]
 OUT_OF_MEMORY = (5, b"", b"xray: out of memory\n", {})
