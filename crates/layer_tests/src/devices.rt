@@ -317,6 +317,39 @@ fn files_are_written_by_name(rt: HostRuntime) -> Result<(), Fail> {
     Ok(())
 }
 
+/// What stands before the name of a file in another name of it, calls on these names in turn by one
+/// desk, and how many bytes they move. The file holds something at first.
+const CALLS_ON_ONE_FILE: [(&str, Call, Option<usize>); 5] = [
+    ("/dev/..", Call::Append(b" and more"), Some(9)),
+    ("/dev/..", Call::Create, None),
+    ("", Call::Create, None),
+    ("", Call::Append(b"!"), Some(1)),
+    ("/dev/..", Call::Create, None),
+];
+
+#[test]
+fn a_file_in_use_is_not_created(rt: HostRuntime) -> Result<(), Fail> {
+    let (name, alloc) = (path_of(&rt, "used")?, rt.alloc());
+    fs::write(&rt, name.as_str(), b"old".as_slice())?;
+    let mut desk = FileDesk::new(&rt);
+    for (prefix, call, wanted) in &CALLS_ON_ONE_FILE {
+        let path = format!(in alloc; "{prefix}{name}")?;
+        check_same_at(&rt, &make(&mut desk, &path, call), wanted, prefix);
+    }
+    let mut reader = FileDesk::new(&rt);
+    check_same(&rt, &make(&mut reader, &name, &Call::Read(0)), &Some(8));
+    check_same(&rt, &make(&mut reader, &name, &Call::Create), &None);
+    check_same_list(&rt, &taken(&rt, "used")?, b"old and more!");
+    for _ in 0..2 {
+        check_same(
+            &rt,
+            &make(&mut reader, "/dev/null", &Call::Create),
+            &Some(0),
+        );
+    }
+    Ok(())
+}
+
 /// Writes bytes on out, which goes to a file.
 fn write_out_to(rt: &HostRuntime, path: &str, bytes: &[u8]) -> Result<(), WriteFault> {
     write_all(&mut OutSink::new(&PrintsTo { rt, path }), bytes)

@@ -1,18 +1,24 @@
 #!/usr/bin/env python3
 """Refuses each allocation of small runs in turn, and reports where a run then does what it may not do.
 
-usage: crates/whole_runs/tools/fail_alloc.py [PROGRAM] [--with COMMANDS] [--most N]
+usage: crates/whole_runs/tools/fail_alloc.py [PROGRAM] [--with ROWS] [--most N]
     PROGRAM: the built program, crates/xray/out/xray if left out
-    --with: which commands are run, with commas between them; all of them if left out
+    --with: which rows of the table of commands are run, with commas between them; all of them if left out
     --most: how many allocations of a run are tried, 5,000 if left out
 
-Each command is run on the files of examples/. Its Nth allocation is refused, for N from 1 until a run makes fewer. In one run
-only this allocation is refused, and in a second run all later ones too. A run may then
-- end with status 5 and its line on standard error, with nothing on standard output and no file created;
+The table below has the commands, most of them twice: with few files and options, and with all of them, over outputs that exist.
+The Nth allocation of each run is refused, for N from 1 until a run makes fewer. In one run only this allocation is refused, and in
+a second run all later ones too. A run may then
+- end with status 5 and its line on standard error, with nothing on standard output, no file created and none changed;
 - be the same as without a refusal, if the program can do without that memory;
 - end with status 3 or 4 and report a fault of a file, if the memory was needed to open it: the program counts each error of
-  the system as a fault. Then nothing is on standard output, and outputs that were created before are whole.
+  the system as a fault. Then nothing is on standard output, outputs that were created before are whole, and no other file is
+  changed.
 Anything else is reported, and then the status is 1. A run in which nothing is refused has to be the same as one without the tool.
+
+No run of `sim` or `run` may end with status 5 for an allocation that is made once its threads have begun. Which ones these are
+shows a longer run of the same words: between two of its allocations lies most of its processor time, and the threads run there.
+The longer run has to make as many allocations as the small one.
 
 The allocations are those of the C library's functions, in all threads of the program. A preloaded library counts them, so this
 needs a C compiler, `cc`.
@@ -29,43 +35,75 @@ import tempfile
 
 ROOT = next(folder for folder in pathlib.Path(__file__).resolve().parents if (folder / "crates.txt").is_file())
 EXAMPLES = ["first-run", "asm", "live-patching", "reports"]
+TURNS = "turns.xrim traced.script"
+# In a small run the events of a thread fit in its first buffer, so that no order of threads changes its files.
+BUFFERS = "--wall 0 --threads 2 --buffer-size 1000 --buffer-max 5 --fuel 1000000000 --passings"
 COMMANDS = {
     "asm": "asm call.asm made",
+    "asm over an old image": "asm call.asm old.image --threshold 2",
     "extract": "extract main.xrim",
     "plain": "plain main.xrim",
+    "plain with options": "plain call.xrim --threads 16 --fuel 2 --passings=3",
     "sim": "sim main.xrim traced.script order.schedule trace audit --wall 0",
+    "sim over old outputs": "sim call.xrim live.script live.schedule old.trace old.audit --wall 0 --threads 2",
+    "sim of long threads": f"sim {TURNS} order.schedule trace audit {BUFFERS} 10",
     "run": "run main.xrim traced.script trace audit --wall 0",
+    "run over old outputs": "run main.xrim waiting.script old.trace old.audit --wall 0",
+    "run of long threads": f"run {TURNS} trace audit {BUFFERS} 10",
     "account": "account calls.trace",
+    "account with an image": "account calls.trace call.xrim --sort sum --sortorder desc --top 1 --format csv",
     "stack": "stack calls.trace",
+    "stack with an image": "stack calls.trace call.xrim --format flame",
     "convert": "convert calls.trace",
+    "convert with an image": "convert calls.trace call.xrim --format yaml",
     "soak": "soak 7",
 }
+# Longer runs of the same words, whose threads take most of the time.
+LONGER = {name: f"{COMMANDS[name]}0000" for name in ("sim of long threads", "run of long threads")}
+TURNS_TEXT = "fn main always\nagain:\n    call f\n    jmp again\nfn f always\n    ret\n"
+OLD = ["old.image", "old.trace", "old.audit"]
 OUT_OF_MEMORY = (5, b"", b"xray: out of memory\n", {})
 # What a run reports on standard error if it couldn't read or write a file, by its status.
 FAULT = {3: re.compile(rb"xray: [^\n]*: read fault\n"), 4: re.compile(rb"xray: [^\n]*: write fault\n")}
 
 # Refuses the allocation with the number REFUSE, and with AND_AFTER all later ones. Then it writes a byte to the descriptor TOLD.
+# With TIMES it refuses nothing, and writes a line there for each allocation: the microseconds of processor time before it.
 REFUSER = r"""
 #define _GNU_SOURCE
 #include <dlfcn.h>
 #include <errno.h>
 #include <stdatomic.h>
+#include <stdio.h>
 #include <stdlib.h>
+#include <time.h>
 #include <unistd.h>
 
 static atomic_long made;
 static long refused = -1;
-static int after, told;
+static int after, told, tells_times;
 
 __attribute__((constructor)) static void begin(void) {
     told = atoi(getenv("TOLD"));
     after = getenv("AND_AFTER") != NULL;
+    tells_times = getenv("TIMES") != NULL;
     refused = atol(getenv("REFUSE"));
+}
+
+static void tell_time(void) {
+    char line[32];
+    struct timespec now;
+    clock_gettime(CLOCK_PROCESS_CPUTIME_ID, &now);
+    int length = snprintf(line, sizeof line, "%ld\n", now.tv_sec * 1000000L + now.tv_nsec / 1000);
+    if (write(told, line, length) != length) abort();
 }
 
 static int refuses(void) {
     if (refused < 0) return 0;
     long number = atomic_fetch_add(&made, 1) + 1;
+    if (tells_times) {
+        tell_time();
+        return 0;
+    }
     if (number != refused && !(after && number > refused)) return 0;
     if (number == refused && write(told, "r", 1) != 1) abort();
     errno = ENOMEM;
@@ -105,30 +143,73 @@ def built_refuser(folder):
     return library
 
 
-def prepared(folder):
-    """A folder with the files of all examples."""
+def prepared(folder, program):
+    """A folder with the files of all examples, two images, and outputs of earlier runs."""
     for name in EXAMPLES:
         shutil.copytree(ROOT / "examples" / name, folder, dirs_exist_ok=True)
+    (folder / "turns.asm").write_text(TURNS_TEXT, encoding="ascii")
+    for name in ("call", "turns"):
+        subprocess.run([program, "asm", f"{name}.asm", f"{name}.xrim"], cwd=folder, check=True)
+    for name in OLD:
+        (folder / name).write_bytes(b"old\n" * 1000)
     return folder
 
 
-def seen(program, words, inputs, folder, library=None, refusal=None):
-    """What a run in a folder of its own does: whether an allocation was refused, and its status, streams and new files."""
-    shutil.rmtree(folder, ignore_errors=True)
-    shutil.copytree(inputs, folder)
-    told, tell = os.pipe()
-    environment = {"PATH": "/usr/bin:/bin"}
-    if refusal is not None:
-        environment |= {"LD_PRELOAD": str(library), "REFUSE": str(refusal.number), "TOLD": str(tell)}
-        environment |= {"AND_AFTER": "1"} if refusal.and_after else {}
-    done = subprocess.run(
-        [program, *words.split()], cwd=folder, env=environment, pass_fds=[tell], capture_output=True, timeout=60
-    )
-    os.close(tell)
-    was_refused = os.read(told, 1) == b"r"
-    os.close(told)
-    made = {file.name: file.read_bytes() for file in sorted(folder.iterdir()) if not (inputs / file.name).exists()}
-    return was_refused, (done.returncode, done.stdout, done.stderr, made)
+def changed(inputs, folder):
+    """The files that a run created or changed, and those that it removed as None."""
+    before = {file.name: file.read_bytes() for file in inputs.iterdir()}
+    left = {file.name: file.read_bytes() for file in folder.iterdir()}
+    return {name: left.get(name) for name in sorted({*before, *left}) if left.get(name) != before.get(name)}
+
+
+class Runs:
+    """Runs of the program, each in a fresh copy of the files."""
+
+    def __init__(self, program, inputs, folder, library):
+        self.program = program
+        self.inputs = inputs
+        self.folder = folder
+        self.library = library
+
+    def run(self, words, setting=None):
+        """What a run writes to its descriptor, and its status, streams and changed files."""
+        shutil.rmtree(self.folder, ignore_errors=True)
+        shutil.copytree(self.inputs, self.folder)
+        told, tell = os.pipe()
+        environment = {"PATH": "/usr/bin:/bin"}
+        if setting is not None:
+            environment |= {"LD_PRELOAD": str(self.library), "TOLD": str(tell), **setting}
+        done = subprocess.run(
+            [self.program, *words.split()], cwd=self.folder, env=environment, pass_fds=[tell], capture_output=True, timeout=300
+        )
+        os.close(tell)
+        with open(told, "rb") as pipe:
+            tells = pipe.read()
+        return tells, (done.returncode, done.stdout, done.stderr, changed(self.inputs, self.folder))
+
+    def alone(self, words):
+        return self.run(words)[1]
+
+    def refused(self, words, refusal):
+        """Whether an allocation was refused, and what the run does."""
+        setting = {"REFUSE": str(refusal.number)} | ({"AND_AFTER": "1"} if refusal.and_after else {})
+        tells, comes = self.run(words, setting)
+        return tells == b"r", comes
+
+    def times(self, words):
+        """The processor time before each allocation, in microseconds."""
+        return [int(line) for line in self.run(words, {"REFUSE": "0", "TIMES": "1"})[0].split()]
+
+    def before_threads(self, name):
+        """How many allocations a run makes before its threads begin, and a line if a longer run doesn't show it."""
+        times = self.times(LONGER[name])
+        gaps = [later - earlier for earlier, later in zip(times, times[1:])]
+        at = gaps.index(max(gaps))
+        if 2 * gaps[at] < times[-1]:
+            return len(times), [f"{name}: a longer run doesn't show when its threads run"]
+        small = len(self.times(COMMANDS[name]))
+        lines = [] if small == len(times) else [f"{name}: {small} allocations, and {len(times)} in a longer run"]
+        return at + 1, lines
 
 
 def outcome(comes, alone):
@@ -138,30 +219,32 @@ def outcome(comes, alone):
         return "out of memory"
     if comes == alone:
         return "the same"
-    whole = all(made[name] == alone[3].get(name) for name in made)
+    whole = all(made[name] is not None and made[name] == alone[3].get(name) for name in made)
     if out == b"" and whole and FAULT.get(status, re.compile(b"(?!)")).fullmatch(err):
         return "a fault of a file"
     return None
 
 
-def differences(name, seen_with, most):
+def differences(name, runs, most):
     """The lines that report where a command's runs do what they may not do, and how often each other thing happened."""
-    lines, counts = [], dict.fromkeys(["out of memory", "the same", "a fault of a file"], 0)
-    _, alone = seen_with(None)
+    words = COMMANDS[name]
+    counts = dict.fromkeys(["out of memory", "the same", "a fault of a file"], 0)
+    alone = runs.alone(words)
     if alone[0] != 0:
         return [f"{name}: status {alone[0]} with enough memory: {alone[2]!r}"], counts
+    before, lines = runs.before_threads(name) if name in LONGER else (most, [])
     for number in range(1, most + 1):
         for and_after in [False, True]:
-            was_refused, comes = seen_with(Refusal(number, and_after))
+            was_refused, comes = runs.refused(words, Refusal(number, and_after))
             if not was_refused:
                 return lines + ([f"{name}: differs with the tool alone"] if comes != alone else []), counts
             found = outcome(comes, alone)
-            if found is not None:
+            if found is not None and not (found == "out of memory" and number > before):
                 counts[found] += 1
                 continue
             status, out, err, made = comes
             which = f"allocation {number}" + (" and all after it" if and_after else "")
-            lines.append(f"{name}: {which}: status {status}, out {len(out)} bytes, err {err!r}, made {sorted(made)}")
+            lines.append(f"{name}: {which}: status {status}, out {len(out)} bytes, err {err!r}, changed {sorted(made)}")
     return lines + [f"{name}: stopped at {most} allocations"], counts
 
 
@@ -172,18 +255,16 @@ def main():
     words.add_argument("--most", type=int, default=5000)
     said = words.parse_args()
     program = said.program.resolve()
-    found = []
+    found, tried = [], 0
     with tempfile.TemporaryDirectory() as scratch:
         folder = pathlib.Path(scratch)
-        library = built_refuser(folder)
-        inputs = prepared(folder / "inputs")
+        runs = Runs(program, prepared(folder / "inputs", program), folder / "run", built_refuser(folder))
         for name in said.commands.split(","):
-            def seen_with(refusal, line=COMMANDS[name]):
-                return seen(program, line, inputs, folder / "run", library, refusal)
-
-            lines, counts = differences(name, seen_with, said.most)
+            lines, counts = differences(name, runs, said.most)
             found += lines
+            tried += sum(counts.values())
             print(f"{name}:", ", ".join(f"{what} {count}" for what, count in counts.items()) + f", differences {len(lines)}")
+    print(f"{tried:,} runs with a refused allocation")
     for line in found:
         print(line)
     sys.exit(1 if found else 0)

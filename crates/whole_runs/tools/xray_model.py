@@ -8,6 +8,7 @@ order is passed in too.
 worked_runs.py and worked_traces.py compare the model with results that were worked by hand.
 """
 import dataclasses
+import posixpath
 import re
 
 import run_model
@@ -317,15 +318,22 @@ def results(command, names, options, world, assemble):
             return {}, report(world, command, names, options)
 
 
+def is_same_file(one, other):
+    """Whether two paths lead to one file, if there are no links. Devices aren't compared."""
+    return posixpath.normpath(one) == posixpath.normpath(other) and not one.startswith("/dev/")
+
+
 def done(words, world, assemble, forms):
     """What a run leaves if nothing fails."""
     command, names, options = command_of(words, forms)
     outputs, text = results(command, names, options, world, assemble)
+    used = [name for at, name in enumerate(names) if outputs and at not in forms[command].outputs]
     written = {}
     for name, content in outputs.items():
-        if name in world.unwritable:
+        if name in world.unwritable or any(is_same_file(name, other) for other in used):
             raise Failed(4, f"{name}: write fault", written)
         written[name] = content
+        used.append(name)
     if world.is_output_full and text:
         raise Failed(4, "output: write fault", written)
     return Outcome(0, text.encode("ascii"), b"", written)

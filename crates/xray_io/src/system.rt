@@ -4,8 +4,9 @@ ghost use Rattle.std.specs.Io.KnownBytes.{Appends};
 ghost use Rattle.xray_io.specs.{Desk.{Untold}, Faults.{raised}};
 
 use crate::{Desk, Failed, ReadFail, Sink};
-use std::fs::OpenOptions;
-use std::io::{Read, Seek, SeekFrom, Write};
+use std::fs::{Metadata, OpenFile, OpenOptions};
+use std::io::{ErrorKind, Read, Seek, SeekFrom, Write};
+use std::os::unix::fs::MetadataExt;
 use std::rt::Files;
 use std::{fs, io};
 
@@ -14,13 +15,43 @@ use std::{fs, io};
 /// The file that was read last stays open while reads go on where the last one ended, so that a
 /// pipe can be read. The file that was written last stays open while the same name is written, so
 /// that a pipe can be written.
+///
+/// A name isn't created if it is another name for a file in use: a regular file that this desk has
+/// read or written, or that standard output is. This is a fault of writing, and the file stays as
+/// it was. Files are compared by device and inode, so symbolic links, hard links and other
+/// spellings of a path are seen through. These aren't compared:
+/// - devices, pipes and sockets, so that `/dev/null` can stand for several outputs;
+/// - files that other programs use, such as the reader of a pipe, and the file of standard error;
+/// - files of a file system that gives one file several inodes or devices, or none;
+/// - standard output, if there is no `/dev/stdout`;
+/// - names that are appended to without being created.
+///
+/// If standard output was closed when the program began, a file that is begun may take its place.
+/// It isn't created then, but is left without bytes.
 #[derive(Drop)]
 pub struct FileDesk<R: Files> {
     rt: R,
     opened: Option<Opened<R::File>>,
     written: Option<Written<R::File>>,
+    used: Vec<FileId>,
     read_faults: u64,
     write_faults: u64,
+}
+
+/// Which regular file it is: its device, and its inode there. Names with the same device and inode
+/// are names for one file.
+#[derive(Clone, Copy, PartialEq, Eq)]
+struct FileId {
+    device: u64,
+    inode: u64,
+}
+
+impl FileId {
+    /// Which file has this metadata, if it is a regular file and the file system gives an inode.
+    fn of(metadata: &Metadata) -> Option<FileId> {
+        let (device, inode) = (metadata.dev(), metadata.ino());
+        (metadata.is_file() && inode > 0).then_some(FileId { device, inode })
+    }
 }
 
 /// A file that is open at its end, for writing.
@@ -44,22 +75,47 @@ impl<R: Files + AllocGlobal> FileDesk<R> {
         ensures read_faults { ⟦<FileDesk<R> as Desk>⟧.read_faults result ≡ 0 }
         ensures write_faults { ⟦<FileDesk<R> as Desk>⟧.write_faults result ≡ 0 }
     {
+        let alloc = rt.alloc();
         FileDesk {
             rt,
             opened: None,
             written: None,
+            used: Vec::new(alloc),
             read_faults: 0,
             write_faults: 0,
         }
     }
 
+    /// Remembers that a file is in use.
+    fn remember(&mut self, file: &R::File) -> io::Result<()>
+        ensures read_faults { self.new.read_faults ≡ self.old.read_faults }
+        ensures write_faults { self.new.write_faults ≡ self.old.write_faults }
+    {
+        match FileId::of(&file.metadata()?) {
+            Some(id) if !self.used.contains(&id) => Ok(self.used.push(id)?),
+            _ => Ok(()),
+        }
+    }
+
+    /// Whether this file was read or written, or is standard output.
+    fn is_in_use(&self, id: FileId) -> bool {
+        let output = match fs::metadata(&self.rt, "/dev/stdout") {
+            Ok(metadata) => FileId::of(&metadata),
+            Err(_) => None,
+        };
+        output == Some(id) || self.used.contains(&id)
+    }
+
     /// Opens a file for reading from this place on.
-    fn open(&self, name: &str, place: u64) -> io::Result<Opened<R::File>>
+    fn open(&mut self, name: &str, place: u64) -> io::Result<Opened<R::File>>
         ensures name { IfOk result (λ opened. string_bytes opened.name ≡ name.now) }
         ensures place { IfOk result (λ opened. opened.place ≡ place) }
+        ensures read_faults { self.new.read_faults ≡ self.old.read_faults }
+        ensures write_faults { self.new.write_faults ≡ self.old.write_faults }
     {
         let name = String::from_str(self.rt.alloc(), name)?;
         let mut file = fs::open(&self.rt, name.as_str())?;
+        self.remember(&file)?;
         if place > 0 {
             file.seek(SeekFrom::Start(place))?;
         }
@@ -95,24 +151,46 @@ impl<R: Files + AllocGlobal> FileDesk<R> {
         Ok(count)
     }
 
-    /// Makes a file hold no bytes.
-    fn create_file(&self, name: &str) -> io::Result<Written<R::File>>
+    /// Makes a file hold no bytes, unless it is in use. It is opened, looked at and then emptied, so
+    /// no other file can come in between. Memory is taken before it is opened: a file that isn't
+    /// there is begun only if nothing but the system can fail after that.
+    fn create_file(&mut self, name: &str) -> io::Result<Written<R::File>>
         ensures name { IfOk result (λ written. string_bytes written.name ≡ name.now) }
+        ensures read_faults { self.new.read_faults ≡ self.old.read_faults }
+        ensures write_faults { self.new.write_faults ≡ self.old.write_faults }
     {
         let name = String::from_str(self.rt.alloc(), name)?;
-        let file = fs::create(&self.rt, name.as_str())?;
+        self.used.reserve(1)?;
+        let file = OpenOptions::new()
+            .write(true)
+            .create(true)
+            .open(&self.rt, name.as_str())?;
+        let metadata = file.metadata()?;
+        if let Some(id) = FileId::of(&metadata) {
+            if self.is_in_use(id) {
+                return Err(io::Error::from(ErrorKind::AlreadyExists));
+            }
+            self.used.push(id)?;
+        }
+        if metadata.is_file() {
+            file.set_len(0)?;
+        }
         Ok(Written { name, file })
     }
 
     /// Opens a file at its end. A missing file is begun.
-    fn open_end(&self, name: &str) -> io::Result<Written<R::File>>
+    fn open_end(&mut self, name: &str) -> io::Result<Written<R::File>>
         ensures name { IfOk result (λ written. string_bytes written.name ≡ name.now) }
+        ensures read_faults { self.new.read_faults ≡ self.old.read_faults }
+        ensures write_faults { self.new.write_faults ≡ self.old.write_faults }
     {
         let name = String::from_str(self.rt.alloc(), name)?;
+        self.used.reserve(1)?;
         let file = OpenOptions::new()
             .append(true)
             .create(true)
             .open(&self.rt, name.as_str())?;
+        self.remember(&file)?;
         Ok(Written { name, file })
     }
 
