@@ -1,8 +1,9 @@
-pub mod Tallying
-pub mod Standing
-pub mod Rising
-pub mod Lone
-pub mod Rows
-pub mod OneOrder
-pub mod RowOrder
 pub mod AccountLines
+pub mod Lone
+pub mod OneOrder
+pub mod OverStacks
+pub mod Rising
+pub mod RowOrder
+pub mod Rows
+pub mod Standing
+pub mod Tallying

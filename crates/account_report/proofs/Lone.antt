@@ -14,14 +14,16 @@ use Rattle.std.proofs.lemmas.List.Sums.{sum_by-cons}
 use Rattle.fdr_record.specs.declared.event.Event.{Event}
 use Rattle.fdr_record.specs.declared.event.Kind.{Kind}
 use Rattle.fdr_record.specs.declared.event.Kind.TheVariants.{Entry, Exit, TailExit}
+use Rattle.fdr_file.specs.ThreadEvents.{ThreadEvent}
 use Rattle.stack_rebuild.specs.declared.call.Call.{Call}
 use Rattle.stack_rebuild.specs.declared.call.Pair.{Pair}
-use Rattle.stack_rebuild.specs.Calls.{from_innermost, open_calls, pair_at, pair_at_kind, pair_of_call, pairs_in, pairs_of}
-use Rattle.stack_rebuild.specs.Histories.{Logged, history_of_thread}
+use Rattle.stack_rebuild.specs.Calls.{enters, from_innermost, leaves, open_calls, pair_at, pair_at_kind, pair_of_call, pairs_in, pairs_of}
+use Rattle.stack_rebuild.specs.Histories.{history_of_thread, pair_after}
 use Rattle.stack_rebuild.specs.PairLaws.{IsWholeCall, event_at, no_event}
-use Rattle.account_report.specs.Account.{count_placed, durations_of, enters, is_entry_in_pair, is_entry_of, is_exit_in_pair, is_exit_of, leaves, lone_entries, lone_exits}
+use Rattle.account_report.specs.Account.{count_placed, durations_of, is_entry_in_pair, is_entry_of, is_exit_in_pair, is_exit_of, lone_entries, lone_exits}
 use Rattle.account_report.specs.private.Tallies.{durations_in}
-use Rattle.account_report.proofs.Tallying.{durations_of-cons, pair_after}
+use Rattle.stack_rebuild.proofs.Views.{of_thread-pairs}
+use Rattle.account_report.proofs.Tallying.{durations_of-cons}
 
 -- ---- tests of numbers
 
@@ -39,6 +41,13 @@ has_entry pairs i = list_any (λ pair. nat_eq pair.entry i) pairs
 
 abbrev has_exit : List Pair → ℕ → Bool
 has_exit pairs i = list_any (λ pair. nat_eq pair.exit i) pairs
+
+-- whether a position of a thread is that of an entry, or of an exit, of one of the thread's own pairs
+abbrev entry_taken : List ThreadEvent → (thread position : ℕ) → Bool
+entry_taken h thread position = has_entry (pairs_in (history_of_thread thread h)) position
+
+abbrev exit_taken : List ThreadEvent → (thread position : ℕ) → Bool
+exit_taken h thread position = has_exit (pairs_in (history_of_thread thread h)) position
 
 -- the event at a position is an entry of a function
 abbrev entry_at : ℕ → List Event → ℕ → Bool
@@ -166,23 +175,23 @@ event_last e es =
     ∙ (ap (event_at (reverse es ++ e ∷ [])) (sym (length-reverse es)) ∙ get_or-append_seam (reverse es) e [] no_event)
 
 -- an entry at a position is one of its own function
-entry_at_is : (func : ℕ) (es : List Event) (k : ℕ) → k < length es → (event_at (reverse es) k).kind ≡ Entry
+entry_at_is : (func : ℕ) (es : List Event) (k : ℕ) → k < length es → enters (event_at (reverse es) k).kind ≡ true
     → entry_at func es k ≡ nat_eq (event_at (reverse es) k).func func
 entry_at_is func [] k low is = absurd (omega (arith, low))
 entry_at_is func (e ∷ es) k low is = by_place (nat_eq (length es) k) refl (entry_at_is func es k)
   where
     by_place : (b : Bool) → nat_eq (length es) k ≡ b
-        → (k < length es → (event_at (reverse es) k).kind ≡ Entry → entry_at func es k ≡ nat_eq (event_at (reverse es) k).func func)
+        → (k < length es → enters (event_at (reverse es) k).kind ≡ true → entry_at func es k ≡ nat_eq (event_at (reverse es) k).func func)
         → cond b (nat_eq e.func func && enters e.kind) (entry_at func es k) ≡ nat_eq (event_at (reverse (e ∷ es)) k).func func
     by_place true same before =
         let here : event_at (reverse (e ∷ es)) k ≡ e = ap (event_at (reverse (e ∷ es))) (sym (eqb-true (length es) k same)) ∙ event_last e es in
-        let kind : e.kind ≡ Entry = sym (ap (λ (x : Event). x.kind) here) ∙ is in
-        ap (λ (x : Kind). nat_eq e.func func && enters x) kind
+        let kind : enters e.kind ≡ true = sym (ap (λ (x : Event). enters x.kind) here) ∙ is in
+        ap (λ (b : Bool). nat_eq e.func func && b) kind
         ∙ (and_so (nat_eq e.func func) ∙ ap (λ (x : Event). nat_eq x.func func) (sym here))
     by_place false other before =
         let below : k < length es = below_last (length es) k low other in
         let kept = event_before e es k below in
-        before below (sym (ap (λ (x : Event). x.kind) kept) ∙ is) ∙ ap (λ (x : Event). nat_eq x.func func) (sym kept)
+        before below (sym (ap (λ (x : Event). enters x.kind) kept) ∙ is) ∙ ap (λ (x : Event). nat_eq x.func func) (sym kept)
 
 -- the entry of an event's pair is one of the event's function
 entry_own : Laws → (e : Event) (es : List Event) (pair : Pair) → pair_at e (length es) (open_calls es) ≡ Some pair → (func : ℕ)
@@ -192,7 +201,7 @@ entry_own laws e es pair some func =
     let m = made e (length es) (open_calls es) pair some in
     let below : pair.entry < length es = omega (arith, w.rises, m.exit) in
     let kept = event_before e es pair.entry below in
-    entry_at_is func es pair.entry below (sym (ap (λ (x : Event). x.kind) kept) ∙ w.enters)
+    entry_at_is func es pair.entry below (sym (ap (λ (x : Event). enters x.kind) kept) ∙ w.begins)
     ∙ (ap (λ (x : Event). nat_eq x.func func) (sym kept) ∙ ap (λ (f : ℕ). nat_eq f func) (w.entered ∙ m.func))
 
 -- the exits of pairs are positions before the end of a history
@@ -210,24 +219,24 @@ exit_past (e ∷ es) i past =
 -- ---- the events of all threads
 
 -- one more event, of this thread or of another one, before the part of a thread
-own_part : (thread : ℕ) (l : Logged) (h : List Logged) → nat_eq l.thread thread ≡ true → history_of_thread thread (l ∷ h) ≡ l.event ∷ history_of_thread thread h
+own_part : (thread : ℕ) (l : ThreadEvent) (h : List ThreadEvent) → nat_eq l.thread thread ≡ true → history_of_thread thread (l ∷ h) ≡ l.event ∷ history_of_thread thread h
 own_part thread l h is = ap (λ (b : Bool). cond b (l.event ∷ history_of_thread thread h) (history_of_thread thread h)) is
 
-other_part : (thread : ℕ) (l : Logged) (h : List Logged) → nat_eq l.thread thread ≡ false → history_of_thread thread (l ∷ h) ≡ history_of_thread thread h
+other_part : (thread : ℕ) (l : ThreadEvent) (h : List ThreadEvent) → nat_eq l.thread thread ≡ false → history_of_thread thread (l ∷ h) ≡ history_of_thread thread h
 other_part thread l h is = ap (λ (b : Bool). cond b (l.event ∷ history_of_thread thread h) (history_of_thread thread h)) is
 
-part_grows : (thread : ℕ) (l : Logged) (h : List Logged) → length (history_of_thread thread h) ≤ length (history_of_thread thread (l ∷ h))
+part_grows : (thread : ℕ) (l : ThreadEvent) (h : List ThreadEvent) → length (history_of_thread thread h) ≤ length (history_of_thread thread (l ∷ h))
 part_grows thread l h = by_first (nat_eq l.thread thread)
   where
     by_first : (b : Bool) → length (history_of_thread thread h) ≤ length (cond b (l.event ∷ history_of_thread thread h) (history_of_thread thread h))
     by_first true = omega arith
     by_first false = omega arith
 
-part_grows_own : (l : Logged) (h : List Logged) → length (history_of_thread l.thread (l ∷ h)) ≡ suc (length (history_of_thread l.thread h))
+part_grows_own : (l : ThreadEvent) (h : List ThreadEvent) → length (history_of_thread l.thread (l ∷ h)) ≡ suc (length (history_of_thread l.thread h))
 part_grows_own l h = ap (λ (es : List Event). length es) (own_part l.thread l h (eq-eqb l.thread l.thread refl))
 
 -- tests that agree on the events of a history count the same
-agree : (s t : Logged → ℕ → Bool) (h : List Logged) → ((l : Logged) (i : ℕ) → i < length (history_of_thread l.thread h) → s l i ≡ t l i)
+agree : (s t : ThreadEvent → ℕ → Bool) (h : List ThreadEvent) → ((l : ThreadEvent) (i : ℕ) → i < length (history_of_thread l.thread h) → s l i ≡ t l i)
     → count_placed s h ≡ count_placed t h
 agree s t [] same = refl
 agree s t (l ∷ h) same =
@@ -240,8 +249,19 @@ abbrev one_if : Bool → ℕ
 one_if b = cond b 1 0
 
 -- the entries of a function at positions other than these
-abbrev free_entry : ℕ → (ℕ → ℕ → Bool) → Logged → ℕ → Bool
+abbrev free_entry : ℕ → (ℕ → ℕ → Bool) → ThreadEvent → ℕ → Bool
 free_entry func taken l i = is_entry_of func l && not (taken l.thread i)
+
+-- how many entries and exits of a function are left over
+abbrev left_entries : List ThreadEvent → ℕ → ℕ
+left_entries h func = count_placed (free_entry func (entry_taken h)) h
+
+-- the exits of a function at positions other than these
+abbrev free_exit : ℕ → (ℕ → ℕ → Bool) → ThreadEvent → ℕ → Bool
+free_exit func taken l i = is_exit_of func l && not (taken l.thread i)
+
+abbrev left_exits : List ThreadEvent → ℕ → ℕ
+left_exits h func = count_placed (free_exit func (exit_taken h)) h
 
 and_none : (b : Bool) → (b && false) ≡ false
 and_none true = refl
@@ -253,7 +273,7 @@ or_true false = refl
 
 -- if one more position is taken, one entry fewer is free, provided that it is an entry of the function
 one_taken : (func thread k : ℕ) (old new : ℕ → ℕ → Bool) → ((t i : ℕ) → new t i ≡ (old t i || (nat_eq t thread && nat_eq k i)))
-    → old thread k ≡ false → (h : List Logged) → k < length (history_of_thread thread h)
+    → old thread k ≡ false → (h : List ThreadEvent) → k < length (history_of_thread thread h)
     → count_placed (free_entry func new) h + cond (entry_at func (history_of_thread thread h) k) 1 0 ≡ count_placed (free_entry func old) h
 one_taken func thread k old new more was [] within = absurd (omega arith)
 one_taken func thread k old new more was (l ∷ h) within = by_thread (nat_eq l.thread thread) refl (one_taken func thread k old new more was h)
@@ -325,7 +345,7 @@ one_taken func thread k old new more was (l ∷ h) within = by_thread (nat_eq l.
         and_true true = refl
         and_true false = refl
 
-        elsewhere : (x : Logged) (j : ℕ) → j < length (history_of_thread x.thread h) → (b : Bool) → nat_eq x.thread thread ≡ b → i ≡ length (history_of_thread thread h) → i ≡ k
+        elsewhere : (x : ThreadEvent) (j : ℕ) → j < length (history_of_thread x.thread h) → (b : Bool) → nat_eq x.thread thread ≡ b → i ≡ length (history_of_thread thread h) → i ≡ k
             → (nat_eq x.thread thread && nat_eq k j) ≡ false
         elsewhere x j below true e size place =
             let same : x.thread ≡ thread = eqb-true x.thread thread e in
@@ -346,22 +366,22 @@ one_taken func thread k old new more was (l ∷ h) within = by_thread (nat_eq l.
 -- ---- what is left
 
 -- after an event, a position of a thread is in a pair if it was before, or if it is in the pair that the event makes
-entry_in_pair : (l : Logged) (h : List Logged) (pair : Pair) → pair_after l h ≡ Some pair → (t i : ℕ)
-    → is_entry_in_pair (l ∷ h) t i ≡ (is_entry_in_pair h t i || (nat_eq t l.thread && nat_eq pair.entry i))
+entry_in_pair : (l : ThreadEvent) (h : List ThreadEvent) (pair : Pair) → pair_after l h ≡ Some pair → (t i : ℕ)
+    → entry_taken (l ∷ h) t i ≡ (entry_taken h t i || (nat_eq t l.thread && nat_eq pair.entry i))
 entry_in_pair l h pair some t i = by_thread (nat_eq l.thread t) refl
   where
-    by_thread : (b : Bool) → nat_eq l.thread t ≡ b → is_entry_in_pair (l ∷ h) t i ≡ (is_entry_in_pair h t i || (nat_eq t l.thread && nat_eq pair.entry i))
+    by_thread : (b : Bool) → nat_eq l.thread t ≡ b → entry_taken (l ∷ h) t i ≡ (entry_taken h t i || (nat_eq t l.thread && nat_eq pair.entry i))
     by_thread true is =
         let same : l.thread ≡ t = eqb-true l.thread t is in
         let made_so : pair_at l.event (length (history_of_thread t h)) (open_calls (history_of_thread t h)) ≡ Some pair =
         ap (λ (u : ℕ). pair_at l.event (length (history_of_thread u h)) (open_calls (history_of_thread u h))) (sym same) ∙ some in
         ap (λ (es : List Event). has_entry (pairs_in es) i) (own_part t l h is)
         ∙ (paired l.event (history_of_thread t h) i pair made_so
-        ∙ ap (λ (b : Bool). is_entry_in_pair h t i || (b && nat_eq pair.entry i)) (sym (eq-eqb t l.thread (sym same))))
+        ∙ ap (λ (b : Bool). entry_taken h t i || (b && nat_eq pair.entry i)) (sym (eq-eqb t l.thread (sym same))))
     by_thread false is =
         let differs : nat_eq t l.thread ≡ false = flip (nat_eq t l.thread) refl in
         ap (λ (es : List Event). has_entry (pairs_in es) i) (other_part t l h is)
-        ∙ (sym (or_false (is_entry_in_pair h t i)) ∙ ap (λ (b : Bool). is_entry_in_pair h t i || (b && nat_eq pair.entry i)) (sym differs))
+        ∙ (sym (or_false (entry_taken h t i)) ∙ ap (λ (b : Bool). entry_taken h t i || (b && nat_eq pair.entry i)) (sym differs))
       where
         flip : (b : Bool) → nat_eq t l.thread ≡ b → nat_eq t l.thread ≡ false
         flip true e = absurd (never (sym (eq-eqb l.thread t (sym (eqb-true t l.thread e))) ∙ is))
@@ -371,10 +391,10 @@ entry_in_pair l h pair some t i = by_thread (nat_eq l.thread t) refl
         flip false e = e
 
 -- an event that makes no pair leaves everything as it was
-no_entry_more : (l : Logged) (h : List Logged) → pair_after l h ≡ None → (t i : ℕ) → is_entry_in_pair (l ∷ h) t i ≡ is_entry_in_pair h t i
+no_entry_more : (l : ThreadEvent) (h : List ThreadEvent) → pair_after l h ≡ None → (t i : ℕ) → entry_taken (l ∷ h) t i ≡ entry_taken h t i
 no_entry_more l h none t i = by_thread (nat_eq l.thread t) refl
   where
-    by_thread : (b : Bool) → nat_eq l.thread t ≡ b → is_entry_in_pair (l ∷ h) t i ≡ is_entry_in_pair h t i
+    by_thread : (b : Bool) → nat_eq l.thread t ≡ b → entry_taken (l ∷ h) t i ≡ entry_taken h t i
     by_thread true is =
         let same : l.thread ≡ t = eqb-true l.thread t is in
         let none_so : pair_at l.event (length (history_of_thread t h)) (open_calls (history_of_thread t h)) ≡ None =
@@ -391,7 +411,7 @@ length_none true = refl
 length_none false = refl
 
 -- how many durations one more event makes
-more_durations : (func : ℕ) (l : Logged) (h : List Logged) (pair : Pair) → pair_after l h ≡ Some pair
+more_durations : (func : ℕ) (l : ThreadEvent) (h : List ThreadEvent) (pair : Pair) → pair_after l h ≡ Some pair
     → length (durations_of func (l ∷ h)) ≡ length (durations_of func h) + cond (nat_eq l.event.func func) 1 0
 more_durations func l h pair some =
     ap (λ (ds : List ℕ). length ds) (durations_of-cons func l h)
@@ -399,7 +419,7 @@ more_durations func l h pair some =
     ∙ ap (λ (n : ℕ). length (durations_of func h) + n)
     (ap (λ (p : Option Pair). length (cond (nat_eq l.event.func func) (durations_in p) [])) some ∙ length_cond (nat_eq l.event.func func) pair.duration))
 
-no_durations : (func : ℕ) (l : Logged) (h : List Logged) → pair_after l h ≡ None → length (durations_of func (l ∷ h)) ≡ length (durations_of func h)
+no_durations : (func : ℕ) (l : ThreadEvent) (h : List ThreadEvent) → pair_after l h ≡ None → length (durations_of func (l ∷ h)) ≡ length (durations_of func h)
 no_durations func l h none =
     ap (λ (ds : List ℕ). length ds) (durations_of-cons func l h)
     ∙ (length-append (durations_of func h) (cond (nat_eq l.event.func func) (durations_in (pair_after l h)) [])
@@ -408,23 +428,23 @@ no_durations func l h none =
     ∙ omega arith))
 
 -- each entry of a function is in one pair, or in none
-pub each_entry : Laws → (func : ℕ) (h : List Logged) → lone_entries h func + length (durations_of func h) ≡ count_by (is_entry_of func) h
-each_entry laws func [] = refl
-each_entry laws func (l ∷ h) = by_pair (pair_after l h) refl (each_entry laws func h)
+each_left_entry : Laws → (func : ℕ) (h : List ThreadEvent) → left_entries h func + length (durations_of func h) ≡ count_by (is_entry_of func) h
+each_left_entry laws func [] = refl
+each_left_entry laws func (l ∷ h) = by_pair (pair_after l h) refl (each_left_entry laws func h)
   where
     own : List Event
     own = history_of_thread l.thread h
 
     old : ℕ → ℕ → Bool
-    old = is_entry_in_pair h
+    old = entry_taken h
 
     new : ℕ → ℕ → Bool
-    new = is_entry_in_pair (l ∷ h)
+    new = entry_taken (l ∷ h)
 
-    by_pair : (p : Option Pair) → pair_after l h ≡ p → lone_entries h func + length (durations_of func h) ≡ count_by (is_entry_of func) h
-        → lone_entries (l ∷ h) func + length (durations_of func (l ∷ h)) ≡ count_by (is_entry_of func) (l ∷ h)
+    by_pair : (p : Option Pair) → pair_after l h ≡ p → left_entries h func + length (durations_of func h) ≡ count_by (is_entry_of func) h
+        → left_entries (l ∷ h) func + length (durations_of func (l ∷ h)) ≡ count_by (is_entry_of func) (l ∷ h)
     by_pair None none before =
-        let rest : count_placed (free_entry func new) h ≡ lone_entries h func =
+        let rest : count_placed (free_entry func new) h ≡ left_entries h func =
         agree (free_entry func new) (free_entry func old) h (λ x i below. ap (λ (b : Bool). is_entry_of func x && not b) (no_entry_more l h none x.thread i)) in
         let free : new l.thread (length own) ≡ false = no_entry_more l h none l.thread (length own) ∙ entry_past laws own (length own) (omega arith) in
         let head : cond (free_entry func new l (length own)) 1 0 ≡ cond (is_entry_of func l) 1 0 =
@@ -451,12 +471,8 @@ each_entry laws func (l ∷ h) = by_pair (pair_after l h) refl (each_entry laws 
           before,
         )
 
--- the exits of a function at positions other than these
-abbrev free_exit : ℕ → (ℕ → ℕ → Bool) → Logged → ℕ → Bool
-free_exit func taken l i = is_exit_of func l && not (taken l.thread i)
-
 -- earlier positions are in a pair if they were before
-exit_before : (l : Logged) (h : List Logged) (t i : ℕ) → i < length (history_of_thread t h) → is_exit_in_pair (l ∷ h) t i ≡ is_exit_in_pair h t i
+exit_before : (l : ThreadEvent) (h : List ThreadEvent) (t i : ℕ) → i < length (history_of_thread t h) → exit_taken (l ∷ h) t i ≡ exit_taken h t i
 exit_before l h t i below = by_thread (nat_eq l.thread t) refl
   where
     own : List Event
@@ -471,7 +487,7 @@ exit_before l h t i below = by_thread (nat_eq l.thread t) refl
         ap (λ (p : Option Pair). has_exit (option_to_list p) i) some
         ∙ or_both _ _ (apart_too i pair.exit (omega (arith, below, (made l.event (length own) (open_calls own) pair some).exit))) refl
 
-    by_thread : (b : Bool) → nat_eq l.thread t ≡ b → is_exit_in_pair (l ∷ h) t i ≡ is_exit_in_pair h t i
+    by_thread : (b : Bool) → nat_eq l.thread t ≡ b → exit_taken (l ∷ h) t i ≡ exit_taken h t i
     by_thread true is =
         ap (λ (es : List Event). has_exit (pairs_in es) i) (own_part t l h is)
         ∙ (list_any-append (λ pair. nat_eq pair.exit i) (pairs_in own) (option_to_list p_new)
@@ -479,8 +495,8 @@ exit_before l h t i below = by_thread (nat_eq l.thread t) refl
     by_thread false is = ap (λ (es : List Event). has_exit (pairs_in es) i) (other_part t l h is)
 
 -- the event's own position is in a pair if it makes one
-exit_here : (l : Logged) (h : List Logged)
-    → is_exit_in_pair (l ∷ h) l.thread (length (history_of_thread l.thread h)) ≡ has_exit (option_to_list (pair_after l h)) (length (history_of_thread l.thread h))
+exit_here : (l : ThreadEvent) (h : List ThreadEvent)
+    → exit_taken (l ∷ h) l.thread (length (history_of_thread l.thread h)) ≡ has_exit (option_to_list (pair_after l h)) (length (history_of_thread l.thread h))
 exit_here l h =
     let own = history_of_thread l.thread h in
     ap (λ (es : List Event). has_exit (pairs_in es) (length own)) (own_part l.thread l h (eq-eqb l.thread l.thread refl))
@@ -488,22 +504,22 @@ exit_here l h =
     ∙ ap (λ (b : Bool). b || has_exit (option_to_list (pair_after l h)) (length own)) (exit_past own (length own) (omega arith)))
 
 -- each exit of a function is in one pair, or in none
-pub each_exit : (func : ℕ) (h : List Logged) → lone_exits h func + length (durations_of func h) ≡ count_by (is_exit_of func) h
-each_exit func [] = refl
-each_exit func (l ∷ h) = by_pair (pair_after l h) refl (each_exit func h)
+each_left_exit : (func : ℕ) (h : List ThreadEvent) → left_exits h func + length (durations_of func h) ≡ count_by (is_exit_of func) h
+each_left_exit func [] = refl
+each_left_exit func (l ∷ h) = by_pair (pair_after l h) refl (each_left_exit func h)
   where
     own : List Event
     own = history_of_thread l.thread h
 
     new : ℕ → ℕ → Bool
-    new = is_exit_in_pair (l ∷ h)
+    new = exit_taken (l ∷ h)
 
-    rest : count_placed (free_exit func new) h ≡ lone_exits h func
-    rest = agree (free_exit func new) (free_exit func (is_exit_in_pair h)) h (λ x i below.
+    rest : count_placed (free_exit func new) h ≡ left_exits h func
+    rest = agree (free_exit func new) (free_exit func (exit_taken h)) h (λ x i below.
         ap (λ (b : Bool). is_exit_of func x && not b) (exit_before l h x.thread i below))
 
-    by_pair : (p : Option Pair) → pair_after l h ≡ p → lone_exits h func + length (durations_of func h) ≡ count_by (is_exit_of func) h
-        → lone_exits (l ∷ h) func + length (durations_of func (l ∷ h)) ≡ count_by (is_exit_of func) (l ∷ h)
+    by_pair : (p : Option Pair) → pair_after l h ≡ p → left_exits h func + length (durations_of func h) ≡ count_by (is_exit_of func) h
+        → left_exits (l ∷ h) func + length (durations_of func (l ∷ h)) ≡ count_by (is_exit_of func) (l ∷ h)
     by_pair None none before =
         let free : new l.thread (length own) ≡ false = exit_here l h ∙ ap (λ (p : Option Pair). has_exit (option_to_list p) (length own)) none in
         let head : cond (free_exit func new l (length own)) 1 0 ≡ cond (is_exit_of func l) 1 0 =
@@ -519,3 +535,20 @@ each_exit func (l ∷ h) = by_pair (pair_after l h) refl (each_exit func h)
         let exits : cond (is_exit_of func l) 1 0 ≡ cond (nat_eq l.event.func func) 1 0 =
         ap {B = ℕ} (λ (b : Bool). cond (nat_eq l.event.func func && b) 1 0) m.leaves_so ∙ ap {B = ℕ} (λ (b : Bool). cond b 1 0) (and_so (nat_eq l.event.func func)) in
         omega (arith, rest, head, exits, more_durations func l h pair some, sum_by-cons (λ x. cond (is_exit_of func x) 1 0) l h, before)
+
+-- ---- the pairs of all threads
+
+-- each thread's pairs are among those of all threads
+pub each_entry : Laws → (func : ℕ) (h : List ThreadEvent) → lone_entries h func + length (durations_of func h) ≡ count_by (is_entry_of func) h
+each_entry laws func h =
+    let left : lone_entries h func ≡ left_entries h func =
+    agree (λ e i. is_entry_of func e && not (is_entry_in_pair h e.thread i)) (free_entry func (entry_taken h)) h
+    (λ e i below. ap (λ (pairs : List Pair). is_entry_of func e && not (has_entry pairs i)) (of_thread-pairs e.thread h)) in
+    omega (arith, left, each_left_entry laws func h)
+
+pub each_exit : (func : ℕ) (h : List ThreadEvent) → lone_exits h func + length (durations_of func h) ≡ count_by (is_exit_of func) h
+each_exit func h =
+    let left : lone_exits h func ≡ left_exits h func =
+    agree (λ e i. is_exit_of func e && not (is_exit_in_pair h e.thread i)) (free_exit func (exit_taken h)) h
+    (λ e i below. ap (λ (pairs : List Pair). is_exit_of func e && not (has_exit pairs i)) (of_thread-pairs e.thread h)) in
+    omega (arith, left, each_left_exit func h)

@@ -1,6 +1,6 @@
 -- Ascending lists of numbers: there is only one with the same numbers.
 use Rattle.std.proofs.Common.{◌≡◌, ◌+◌, ◌<◌, ◌≤◌, ◌∙◌, ℕ, suc, Bool, true, false, cond, List, [], ◌∷◌, length, map, count_by, refl, ap, sym, subst, arith, nat_eq, nat_lt, get_or, inl, inr}
-use Rattle.std.specs.Prelude.{IsPermutation}
+use Rattle.std.specs.Prelude.{IsPermutation, sum, sum_by}
 use Rattle.std.specs.declared.cmp.Ordering.TheVariants.{Less, Equal, Greater}
 use Rattle.std.specs.Ordering.{nat_cmp, ordering_index}
 use Rattle.std.specs.Cmp.{nat_cmp_total}
@@ -9,7 +9,7 @@ use Rattle.std.specs.List.Sorted.{IsNonDecreasingBy}
 use Rattle.std.proofs.lemmas.Bool.{eqb-true, eq-eqb}
 use Rattle.std.proofs.lemmas.Bool.Decides.{nat_tests}
 use Rattle.std.proofs.lemmas.Cmp.{tied_itself}
-use Rattle.std.proofs.lemmas.List.Sums.{sum_by-cons}
+use Rattle.std.proofs.lemmas.List.Sums.{sum-map, sum_by-cons}
 use Rattle.std.proofs.lemmas.List.Sorted.{sum_by-IsPermutation}
 use Rattle.std.proofs.lemmas.Map.Keys.{IsDistinct-head, IsDistinct-tail}
 use Rattle.stack_rebuild.proofs.Ascents.{Strict, each_in}
@@ -129,6 +129,25 @@ length-ascending (x ∷ xs) = length-put_in x (ascending xs) ∙ ap suc (length-
 map_itself : (xs : List ℕ) → map (λ (x : ℕ). x) xs ≡ xs
 map_itself [] = refl
 map_itself (x ∷ xs) = ap (λ (ns : List ℕ). x ∷ ns) (map_itself xs)
+
+by_items : (xs : List ℕ) → sum xs ≡ sum_by (λ x. x) xs
+by_items xs = ap sum (sym (map_itself xs)) ∙ sum-map (λ x. x) xs
+
+sum-cons : (x : ℕ) (xs : List ℕ) → sum (x ∷ xs) ≡ x + sum xs
+sum-cons x xs = omega (arith, by_items (x ∷ xs), sum_by-cons (λ n. n) x xs, by_items xs)
+
+sum-put_in : (x : ℕ) (xs : List ℕ) → sum (put_in nat_lt x xs) ≡ x + sum xs
+sum-put_in x [] = sum-cons x []
+sum-put_in x (y ∷ xs) = by_order (nat_lt x y) (sum-put_in x xs)
+  where
+    by_order : (b : Bool) → sum (put_in nat_lt x xs) ≡ x + sum xs → sum (cond b (x ∷ y ∷ xs) (y ∷ put_in nat_lt x xs)) ≡ x + sum (y ∷ xs)
+    by_order true later = sum-cons x (y ∷ xs)
+    by_order false later =
+        let turned : sum (y ∷ put_in nat_lt x xs) ≡ x + sum (y ∷ xs) = omega (arith, later, sum-cons y (put_in nat_lt x xs), sum-cons y xs) in turned
+
+pub sum-ascending : (xs : List ℕ) → sum (ascending xs) ≡ sum xs
+sum-ascending [] = refl
+sum-ascending (x ∷ xs) = omega (arith, sum-put_in x (ascending xs), sum-ascending xs, sum-cons x xs)
 
 -- sorted numbers are the numbers in ascending order
 pub ascending-sorted : (xs sorted : List ℕ) → IsPermutation xs sorted → IsNonDecreasingBy (λ (x : ℕ). x) sorted → sorted ≡ ascending xs

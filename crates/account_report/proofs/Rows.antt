@@ -14,7 +14,7 @@ use Rattle.std.proofs.lemmas.Map.Keys.{IsDistinct-tail, IsDistinct-IsPermutation
 use Rattle.std.proofs.lemmas.Map.Made.{is_some-lookup}
 use Rattle.std.proofs.lemmas.List.Elements.{All-cons, All-head, All-nil, All-tail}
 use Rattle.std.proofs.lemmas.List.Sorted.{All-permutation, IsPermutation-map, IsPermutation-sym}
-use Rattle.stack_rebuild.specs.Histories.{Logged}
+use Rattle.fdr_file.specs.ThreadEvents.{ThreadEvent}
 use Rattle.stack_rebuild.proofs.Ascents.{is_each_once, strict-each_once}
 use Rattle.stack_rebuild.proofs.Items.{IsIn, any-in, any-mapped, in-any, in_permutation, mapped-any}
 use Rattle.account_report.specs.declared.row.AccountRow.{AccountRow}
@@ -27,11 +27,11 @@ use Rattle.account_report.proofs.Rising.{distinct_from_strict, length-ascending,
 abbrev Entries : Type 0
 Entries = List (ℕ × Tallied)
 
-abbrev event_func : Logged → ℕ
-event_func l = l.event.func
+abbrev event_func : ThreadEvent → ℕ
+event_func e = e.event.func
 
 -- the row of an entry
-entry_told : Laws → (history : List Logged) (func : ℕ) (tally : Tallied) → tally ≡ tally_of history func → row_of_entry (func, tally) ≡ function_row history func
+entry_told : Laws → (history : List ThreadEvent) (func : ℕ) (tally : Tallied) → tally ≡ tally_of history func → row_of_entry (func, tally) ≡ function_row history func
 entry_told laws history func tally told =
     let durations = ascending (durations_of func history) in
     let many = length-ascending (durations_of func history) in
@@ -53,7 +53,7 @@ found_after k v e es distinct found = by_first (nat_eq k e.0) refl
     by_first true is = let none : lookup (nat_eq k) es ≡ None = lookup-none (nat_eq k) es (none_past_head nat_eq_equiv k e es distinct is) in cc
     by_first false is = found
 
-pub entries_told : Laws → (history : List Logged) (es : Entries) → IsDistinct nat_eq (keys_of es)
+pub entries_told : Laws → (history : List ThreadEvent) (es : Entries) → IsDistinct nat_eq (keys_of es)
     → ((k : ℕ) (v : Tallied) → lookup (nat_eq k) es ≡ Some v → v ≡ tally_of history k) → map row_of_entry es ≡ map (function_row history) (keys_of es)
 entries_told laws history [] distinct told = refl
 entries_told laws history ((func, tally) ∷ es) distinct told =
@@ -81,23 +81,23 @@ flipped a b = by_first (nat_eq a b) refl (nat_eq b a) refl
     by_first false is true also = let e : nat_eq a b ≡ true = eq-eqb a b (sym (eqb-true b a also)) in cc
 
 -- if each row is that of its function, the rows are those of their functions
-rows_of_functions : (history : List Logged) (rows : List AccountRow) → All (λ (r : AccountRow). r ≡ function_row history r.func) rows
+rows_of_functions : (history : List ThreadEvent) (rows : List AccountRow) → All (λ (r : AccountRow). r ≡ function_row history r.func) rows
     → rows ≡ map (function_row history) (map (λ (r : AccountRow). r.func) rows)
 rows_of_functions history [] all = refl
 rows_of_functions history (r ∷ rows) all =
     ap (λ (x : AccountRow). x ∷ rows) (All-head (λ (x : AccountRow). x ≡ function_row history x.func) r rows all)
     ∙ ap (λ (xs : List AccountRow). function_row history r.func ∷ xs) (rows_of_functions history rows (All-tail (λ (x : AccountRow). x ≡ function_row history x.func) r rows all))
 
-each_its_own : (history : List Logged) (funcs : List ℕ) → All (λ (r : AccountRow). r ≡ function_row history r.func) (map (function_row history) funcs)
+each_its_own : (history : List ThreadEvent) (funcs : List ℕ) → All (λ (r : AccountRow). r ≡ function_row history r.func) (map (function_row history) funcs)
 each_its_own history [] = All-nil (λ (r : AccountRow). r ≡ function_row history r.func)
 each_its_own history (f ∷ funcs) = All-cons (λ (r : AccountRow). r ≡ function_row history r.func) (function_row history f) (map (function_row history) funcs) refl (each_its_own history funcs)
 
-functions_again : (history : List Logged) (funcs : List ℕ) → map (λ (r : AccountRow). r.func) (map (function_row history) funcs) ≡ funcs
+functions_again : (history : List ThreadEvent) (funcs : List ℕ) → map (λ (r : AccountRow). r.func) (map (function_row history) funcs) ≡ funcs
 functions_again history [] = refl
 functions_again history (f ∷ funcs) = ap (λ (fs : List ℕ). f ∷ fs) (functions_again history funcs)
 
 -- the rows of a table, sorted by their functions, are the account
-pub rows_sorted : Laws → (history : List Logged) (es : Entries) (rows : List AccountRow) → IsDistinct nat_eq (keys_of es)
+pub rows_sorted : Laws → (history : List ThreadEvent) (es : Entries) (rows : List AccountRow) → IsDistinct nat_eq (keys_of es)
     → ((k : ℕ) (v : Tallied) → lookup (nat_eq k) es ≡ Some v → v ≡ tally_of history k)
     → ((k : ℕ) → is_some (lookup (nat_eq k) es) ≡ has_event history k)
     → IsPermutation (map row_of_entry es) rows → IsNonDecreasingBy (λ (r : AccountRow). r.func) rows
@@ -117,6 +117,6 @@ rows_sorted laws history es rows distinct told present same up =
     rows_of_functions history rows own ∙ ap (map (function_row history)) funcs
 
 -- no function has two rows
-pub own_rows : (history : List Logged) → IsDistinct nat_eq (map (λ (r : AccountRow). r.func) (map (function_row history) (functions_in history)))
+pub own_rows : (history : List ThreadEvent) → IsDistinct nat_eq (map (λ (r : AccountRow). r.func) (map (function_row history) (functions_in history)))
 own_rows history =
     subst (IsDistinct nat_eq) (sym (functions_again history (functions_in history))) (distinct_from_strict (functions_in history) (strict-each_once nat_cmp nat_cmp_total (map event_func history)))

@@ -10,16 +10,13 @@ use Rattle.std.proofs.lemmas.Bool.{eq-eqb}
 use Rattle.fdr_record.specs.declared.event.Event.{Event}
 use Rattle.fdr_record.specs.declared.event.Kind.{Kind}
 use Rattle.fdr_record.specs.declared.event.Kind.TheVariants.{Entry, Exit, TailExit}
+use Rattle.fdr_file.specs.ThreadEvents.{ThreadEvent}
 use Rattle.stack_rebuild.specs.declared.call.Call.{Call}
 use Rattle.stack_rebuild.specs.declared.call.Pair.{Pair}
-use Rattle.stack_rebuild.specs.Calls.{Standing, from_innermost, open_calls, pair_at, pair_at_kind, pair_of_call, standing_after, next_standing}
-use Rattle.stack_rebuild.specs.Histories.{Logged, logged, history_of_thread, all_pairs}
-use Rattle.account_report.specs.Account.{durations_of, enters, leaves, is_entry_of, is_exit_of}
+use Rattle.stack_rebuild.specs.Calls.{Standing, enters, from_innermost, leaves, open_calls, pair_at, pair_at_kind, pair_of_call, standing_after, next_standing}
+use Rattle.stack_rebuild.specs.Histories.{ThreadPair, history_of_thread, pair_after, pairs_after, thread_event, thread_pair}
+use Rattle.account_report.specs.Account.{durations_of, is_entry_of, is_exit_of}
 use Rattle.account_report.specs.private.Tallies.{Reached, Table, Tallied, durations_in, going_on, tally_in, tally_of, with_event}
-
--- the pair that an event makes after a history
-abbrev pub pair_after : Logged → List Logged → Option Pair
-pair_after l before = let own = history_of_thread l.thread before in pair_at l.event (length own) (open_calls own)
 
 -- a pair is of the function of its event
 abbrev is_pair_of : ℕ → Pair → Bool
@@ -44,16 +41,35 @@ map_cond : (b : Bool) (pairs : List Pair) → map (λ pair. pair.duration) (cond
 map_cond true pairs = refl
 map_cond false pairs = refl
 
-pub durations_of-cons : (func : ℕ) (l : Logged) (h : List Logged)
+-- the durations of a function's pairs, without their threads
+plain_durations : (thread func : ℕ) (pairs : List Pair)
+    → map (λ (made : ThreadPair). made.pair.duration) (filter (λ (made : ThreadPair). nat_eq made.pair.func func) (map (thread_pair thread) pairs))
+    ≡ map (λ pair. pair.duration) (filter (is_pair_of func) pairs)
+plain_durations thread func [] = refl
+plain_durations thread func (pair ∷ pairs) = by_func (nat_eq pair.func func) (plain_durations thread func pairs)
+  where
+    later : List ThreadPair
+    later = filter (λ (made : ThreadPair). nat_eq made.pair.func func) (map (thread_pair thread) pairs)
+
+    by_func : (b : Bool) → map (λ (made : ThreadPair). made.pair.duration) later ≡ map (λ p. p.duration) (filter (is_pair_of func) pairs)
+        → map (λ (made : ThreadPair). made.pair.duration) (cond b (thread_pair thread pair ∷ later) later)
+        ≡ map (λ (p : Pair). p.duration) (cond b (pair ∷ filter (is_pair_of func) pairs) (filter (is_pair_of func) pairs))
+    by_func true following = ap (λ (ds : List ℕ). pair.duration ∷ ds) following
+    by_func false following = following
+
+pub durations_of-cons : (func : ℕ) (l : ThreadEvent) (h : List ThreadEvent)
     → durations_of func (l ∷ h) ≡ durations_of func h ++ cond (nat_eq l.event.func func) (durations_in (pair_after l h)) []
 durations_of-cons func l h =
     let made = option_to_list (pair_after l h) in
-    let duration : Pair → ℕ = λ pair. pair.duration in
+    let here = map (thread_pair l.thread) made in
+    let duration : ThreadPair → ℕ = λ m. m.pair.duration in
+    let test : ThreadPair → Bool = λ m. nat_eq m.pair.func func in
     let own = history_of_thread l.thread h in
-    ap (map duration) (filter-append (is_pair_of func) (all_pairs h) made)
-    ∙ (map-append duration (filter (is_pair_of func) (all_pairs h)) (filter (is_pair_of func) made)
+    ap (map duration) (filter-append test (pairs_after h) here)
+    ∙ (map-append duration (filter test (pairs_after h)) (filter test here)
     ∙ ap (λ (ds : List ℕ). durations_of func h ++ ds)
-    (ap (map duration) (kind_kept l.event.kind l.event (length own) func (open_calls own)) ∙ map_cond (nat_eq l.event.func func) made))
+    (plain_durations l.thread func made
+    ∙ (ap (map (λ (p : Pair). p.duration)) (kind_kept l.event.kind l.event (length own) func (open_calls own)) ∙ map_cond (nat_eq l.event.func func) made)))
 
 abbrev tallied_as : List ℕ → ℕ → ℕ → Tallied
 tallied_as durations entries exits = record { durations = durations; entries = entries; exits = exits }
@@ -71,52 +87,52 @@ counted true Exit ds old new d e f = same_tally new _ d (omega arith) (omega ari
 counted true TailExit ds old new d e f = same_tally new _ d (omega arith) (omega arith)
 counted false k ds old new d e f = same_tally new old (d ∙ append-nil old.durations) (omega arith) (omega arith)
 
-pub tally_of-cons : (l : Logged) (h : List Logged) (func : ℕ)
+pub tally_of-cons : (l : ThreadEvent) (h : List ThreadEvent) (func : ℕ)
     → tally_of (l ∷ h) func ≡ cond (nat_eq l.event.func func) (with_event l.event.kind (durations_in (pair_after l h)) (tally_of h func)) (tally_of h func)
 tally_of-cons l h func =
     counted (nat_eq l.event.func func) l.event.kind (durations_in (pair_after l h)) (tally_of h func) (tally_of (l ∷ h) func) (durations_of-cons func l h)
     (sum_by-cons (λ x. cond (is_entry_of func x) 1 0) l h) (sum_by-cons (λ x. cond (is_exit_of func x) 1 0) l h)
 
 -- an event of the thread is added to its part of a history, and one of another thread isn't
-pub of_thread-own : (thread : ℕ) (e : Event) (h : List Logged) → history_of_thread thread (logged thread e ∷ h) ≡ e ∷ history_of_thread thread h
-of_thread-own thread e h = ap (λ b. cond b (e ∷ history_of_thread thread h) (history_of_thread thread h)) (eq-eqb thread thread refl)
+pub of_thread-own : (thread pid : ℕ) (e : Event) (h : List ThreadEvent) → history_of_thread thread (thread_event thread pid e ∷ h) ≡ e ∷ history_of_thread thread h
+of_thread-own thread pid e h = ap (λ b. cond b (e ∷ history_of_thread thread h) (history_of_thread thread h)) (eq-eqb thread thread refl)
 
 -- a history that goes on with events goes on with one more
-going_on-more : (thread : ℕ) (events : List Event) (i : ℕ) (d : Event) (h : List Logged) → i < length events
-    → going_on thread (take (i + 1) events) h ≡ logged thread (get_or events i d) ∷ going_on thread (take i events) h
-going_on-more thread events i d h within =
-    ap (λ (es : List Event). going_on thread es h) (take_more events i d within)
-    ∙ (ap (λ (ls : List Logged). reverse ls ++ h) (map-append (logged thread) (take i events) (get_or events i d ∷ []))
-    ∙ ap (λ (ls : List Logged). ls ++ h) (reverse-append (map (logged thread) (take i events)) (logged thread (get_or events i d) ∷ [])))
+going_on-more : (thread pid : ℕ) (events : List Event) (i : ℕ) (d : Event) (h : List ThreadEvent) → i < length events
+    → going_on thread pid (take (i + 1) events) h ≡ thread_event thread pid (get_or events i d) ∷ going_on thread pid (take i events) h
+going_on-more thread pid events i d h within =
+    ap (λ (es : List Event). going_on thread pid es h) (take_more events i d within)
+    ∙ (ap (λ (ls : List ThreadEvent). reverse ls ++ h) (map-append (thread_event thread pid) (take i events) (get_or events i d ∷ []))
+    ∙ ap (λ (ls : List ThreadEvent). ls ++ h) (reverse-append (map (thread_event thread pid) (take i events)) (thread_event thread pid (get_or events i d) ∷ [])))
 
 -- one more event of the thread
-reached_after : (thread : ℕ) (h : List Logged) (e : Event) (pair : Option Pair) (calls calls' : Standing) (tallies tallies' : Table Tallied)
+reached_after : (thread pid : ℕ) (h : List ThreadEvent) (e : Event) (pair : Option Pair) (calls calls' : Standing) (tallies tallies' : Table Tallied)
     → Reached thread h calls tallies → pair ≡ pair_at e calls.events calls.calls → calls' ≡ next_standing e calls
     → ((func : ℕ) → tally_in tallies' func ≡ cond (nat_eq e.func func) (with_event e.kind (durations_in pair) (tally_in tallies func)) (tally_in tallies func))
     → ((func : ℕ) → is_some (get nat_eq tallies' func) ≡ (nat_eq e.func func || is_some (get nat_eq tallies func)))
-    → Reached thread (logged thread e ∷ h) calls' tallies'
-reached_after thread h e pair calls calls' tallies tallies' reached made stands each present =
-    let made_after : pair ≡ pair_after (logged thread e) h = made ∙ ap (λ (s : Standing). pair_at e s.events s.calls) reached.stands in record {
-      stands = stands ∙ (ap (next_standing e) reached.stands ∙ ap standing_after (sym (of_thread-own thread e h)));
+    → Reached thread (thread_event thread pid e ∷ h) calls' tallies'
+reached_after thread pid h e pair calls calls' tallies tallies' reached made stands each present =
+    let made_after : pair ≡ pair_after (thread_event thread pid e) h = made ∙ ap (λ (s : Standing). pair_at e s.events s.calls) reached.stands in record {
+      stands = stands ∙ (ap (next_standing e) reached.stands ∙ ap standing_after (sym (of_thread-own thread pid e h)));
       tallied = record {
         each = λ func. each func
             ∙ (ap (λ (t : Tallied). cond (nat_eq e.func func) (with_event e.kind (durations_in pair) t) t) (reached.tallied.each func)
             ∙ (ap (λ (p : Option Pair). cond (nat_eq e.func func) (with_event e.kind (durations_in p) (tally_of h func)) (tally_of h func)) made_after
-            ∙ sym (tally_of-cons (logged thread e) h func)));
+            ∙ sym (tally_of-cons (thread_event thread pid e) h func)));
         present = λ func. present func ∙ ap (λ (b : Bool). nat_eq e.func func || b) (reached.tallied.present func);
       };
     }
 
-pub reached_more : (thread : ℕ) (h : List Logged) (events : List Event) (i : ℕ) (d : Event) (pair : Option Pair) (calls calls' : Standing) (tallies tallies' : Table Tallied)
-    → i < length events → Reached thread (going_on thread (take i events) h) calls tallies → pair ≡ pair_at (get_or events i d) calls.events calls.calls
+pub reached_more : (thread pid : ℕ) (h : List ThreadEvent) (events : List Event) (i : ℕ) (d : Event) (pair : Option Pair) (calls calls' : Standing) (tallies tallies' : Table Tallied)
+    → i < length events → Reached thread (going_on thread pid (take i events) h) calls tallies → pair ≡ pair_at (get_or events i d) calls.events calls.calls
     → calls' ≡ next_standing (get_or events i d) calls
     → ((func : ℕ) → tally_in tallies' func ≡ cond (nat_eq (get_or events i d).func func)
     (with_event (get_or events i d).kind (durations_in pair) (tally_in tallies func)) (tally_in tallies func))
     → ((func : ℕ) → is_some (get nat_eq tallies' func) ≡ (nat_eq (get_or events i d).func func || is_some (get nat_eq tallies func)))
-    → Reached thread (going_on thread (take (i + 1) events) h) calls' tallies'
-reached_more thread h events i d pair calls calls' tallies tallies' within reached made stands each present =
-    subst (λ (history : List Logged). Reached thread history calls' tallies') (sym (going_on-more thread events i d h within))
-    (reached_after thread (going_on thread (take i events) h) (get_or events i d) pair calls calls' tallies tallies' reached made stands each present)
+    → Reached thread (going_on thread pid (take (i + 1) events) h) calls' tallies'
+reached_more thread pid h events i d pair calls calls' tallies tallies' within reached made stands each present =
+    subst (λ (history : List ThreadEvent). Reached thread history calls' tallies') (sym (going_on-more thread pid events i d h within))
+    (reached_after thread pid (going_on thread pid (take i events) h) (get_or events i d) pair calls calls' tallies tallies' reached made stands each present)
 
 -- what stands for an item that a slice doesn't have
 abbrev pub no_event : Event

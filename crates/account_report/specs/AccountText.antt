@@ -1,11 +1,16 @@
 -- The text of an account.
-use Rattle.std.specs.Prelude.{◌-◌, ◌==◌, ◌++◌, Bool, not, ℕ, List, [], ◌∷◌, length, replicate, codes, count_by, decimal, Option, if◌then◌else◌}
+use Rattle.std.specs.Prelude.{◌-◌, ◌==◌, ◌++◌, Bool, true, false, not, ℕ, List, [], ◌∷◌, length, replicate, codes, count_by, decimal, Option, if◌then◌else◌}
 use Rattle.std.specs.List.{flat_map}
 use Rattle.xray_image.specs.Program.{Program}
 use Rattle.function_names.specs.Name.{name_text}
 use Rattle.account_report.specs.declared.row.AccountRow.{AccountRow}
 use Rattle.account_report.specs.declared.text.AccountFormat.{AccountFormat}
 use Rattle.account_report.specs.declared.text.AccountFormat.TheVariants.{Text, Csv}
+
+-- the form of an account that is csv or not
+abbrev pub format_for : Bool → AccountFormat
+format_for true = Csv
+format_for false = Text
 
 -- whether a function has a pair, and so durations
 abbrev pub has_latencies : AccountRow → Bool

@@ -1,4 +1,5 @@
 pub mod Account
+pub mod AccountLaws
 pub mod AccountText
 pub mod Ascending
 pub mod Ordered

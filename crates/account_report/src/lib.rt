@@ -1,6 +1,7 @@
 //! The account of a trace: how often each function was called, and how long its calls took.
 #![tactic(auto)]
 
+mod laws;
 mod order;
 mod report;
 mod row;
@@ -8,7 +9,8 @@ mod scan;
 mod tally;
 mod text;
 
+pub use laws::{a_row_sums_the_stacks_of_its_function, each_entry_and_exit_is_counted};
 pub use order::order_rows;
 pub use report::{account, latencies};
 pub use row::{AccountRow, SortKey};
-pub use text::{AccountFormat, AccountText};
+pub use text::{AccountFormat, AccountText, write_account};

@@ -17,7 +17,7 @@ use xray_io::NoMemory;
 /// The account of a trace: a row for each function that has an event, in ascending order of ids.
 /// `NoMemory` means that an allocation was refused.
 pub fn account(alloc: Global, trace: &Trace) -> Result<Vec<AccountRow>, NoMemory>
-    ensures rows { IfOk result (λ rows. rows.items ≡ account_of trace.now) }
+    ensures rows { IfOk result (λ rows. rows.items ≡ account_of trace.now.blocks) }
     // As `order_rows` asks for.
     ensures distinct { IfOk result (λ rows. IsDistinct nat_eq (map (λ row. row.func) rows.items)) }
 {

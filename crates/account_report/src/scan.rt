@@ -1,7 +1,8 @@
 //! The events of a trace, block by block.
 
 ghost use Rattle.std.specs.Prelude.{◌≡◌, ℕ, List, OnOk, IfOk};
-ghost use Rattle.stack_rebuild.specs.Histories.{Logged, history_of};
+ghost use Rattle.fdr_file.specs.ThreadEvents.{ThreadEvent};
+ghost use Rattle.stack_rebuild.specs.Histories.{history_of};
 ghost use Rattle.account_report.specs.private.Tallies.{AreStanding, AreTallies, Reached, going_on, standing_in};
 
 use crate::tally::{Tally, add_event};
@@ -14,7 +15,7 @@ use xray_io::NoMemory;
 
 /// What the events of a trace say of each function.
 pub(crate) fn tallies(alloc: Global, trace: &Trace) -> Result<HashMap<u32, Tally>, NoMemory>
-    ensures { IfOk result (λ tallies. AreTallies tallies (history_of trace.now)) }
+    ensures { IfOk result (λ tallies. AreTallies tallies (history_of trace.now.blocks)) }
 {
     let mut threads = HashMap::new(alloc);
     let mut tallies = HashMap::new(alloc);
@@ -31,12 +32,14 @@ fn add_block(
     tallies: &mut HashMap<u32, Tally>,
     block: &Block,
 ) -> Result<(), NoMemory>
-    ensures stands { OnOk result ((history : List Logged) → AreStanding threads.old history
+    ensures stands { OnOk result ((history : List ThreadEvent) → AreStanding threads.old history
         → AreTallies tallies.old history
-        → AreStanding threads.new (going_on block.now.thread block.now.events history)) }
-    ensures tallied { OnOk result ((history : List Logged) → AreStanding threads.old history
+        → AreStanding threads.new (going_on block.now.thread block.now.pid
+        block.now.events history)) }
+    ensures tallied { OnOk result ((history : List ThreadEvent) → AreStanding threads.old history
         → AreTallies tallies.old history
-        → AreTallies tallies.new (going_on block.now.thread block.now.events history)) }
+        → AreTallies tallies.new (going_on block.now.thread block.now.pid
+        block.now.events history)) }
 {
     let thread = block.thread;
     let mut calls = take_out(alloc, threads, thread);
@@ -64,9 +67,9 @@ fn add_events(
     tallies: &mut HashMap<u32, Tally>,
     events: &[Event],
 ) -> Result<(), NoMemory>
-    ensures { OnOk result ((thread : ℕ) (history : List Logged)
+    ensures { OnOk result ((thread pid : ℕ) (history : List ThreadEvent)
         → Reached thread history calls.old tallies.old
-        → Reached thread (going_on thread events.now history) calls.new tallies.new) }
+        → Reached thread (going_on thread pid events.now history) calls.new tallies.new) }
 {
     'adding: for event in events {
         let pair = calls.take(event)?;

@@ -2,13 +2,13 @@
 
 ghost use Rattle.std.specs.Prelude.{◌≡◌, ◌++◌, ◌==◌, ⊤, codes, decimal, if◌then◌else◌};
 ghost use Rattle.std.specs.{List.{flat_map}, Option.{option_map}};
-ghost use Rattle.xray_io.specs.{Piece.{piece_text}, Text.{AddsText}};
-ghost use Rattle.account_report.specs.AccountText.{account_text, column_text, duration_word, first_line, head_words, line_text, in_column, function_row_text, separator_text, column_words};
+ghost use Rattle.xray_io.specs.{Piece.{piece_text}, Text.{AddsText}, Writes.{WritesText}};
+ghost use Rattle.account_report.specs.AccountText.{account_text, column_text, duration_word, first_line, format_for, head_words, line_text, in_column, function_row_text, separator_text, column_words};
 
 use crate::row::AccountRow;
 use function_names::add_name;
 use xray_image::Image;
-use xray_io::{Piece, Printed, Sink, Text, WriteFault};
+use xray_io::{Piece, Printed, Sink, Text, WriteFault, write_text};
 
 /// The width of an aligned column. A longer number is printed whole.
 const WIDTH: usize = 10;
@@ -49,6 +49,39 @@ impl Printed for AccountText<'_> {
         add_first_line(to, self.latencies, self.format)?;
         to.bytes(head_line(self.format))?;
         add_rows(to, self.rows, self.image, self.format)
+    }
+}
+
+/// Writes an account: `rows` in their order, as csv or as text, with the names that an image gives to
+/// their functions. `latencies` is how many functions have a pair. [`AccountText`] says what is
+/// printed. No memory is taken. After a `WriteFault` the sink was given a prefix of the text.
+pub fn write_account<S: Sink>(
+    rows: &[AccountRow],
+    latencies: u64,
+    image: Option<&Image>,
+    csv: bool,
+    sink: &mut S,
+) -> Result<(), WriteFault>
+    ensures writes { WritesText S.written S.faults S.along sink.old sink.new
+        (account_text (format_for csv) latencies (option_map (λ image. image.now) image.entry) rows.now)
+        result }
+{
+    let text = AccountText {
+        rows,
+        latencies,
+        image,
+        format: format_of(csv),
+    };
+    write_text(&text, sink)
+}
+
+/// The form of an account that is csv or not.
+fn format_of(csv: bool) -> AccountFormat
+    ensures { result ≡ format_for csv }
+{
+    match csv {
+        true => AccountFormat::Csv,
+        false => AccountFormat::Text,
     }
 }
 

@@ -1,14 +1,16 @@
 //! Calls of `account_report`, with rows that were worked by hand and their text, and of
-//! `stack_rebuild`, with the pairs of a thread.
+//! `stack_rebuild`, with the pairs of a thread; and each report, written by one call.
 
 use crate::checks::{check_same, check_same_list, check_same_text};
 use crate::event_traces::{NESTED, Said, printed, trace_of};
 use account_report::*;
 use fdr_record::Kind;
-use stack_rebuild::{Pair, pairs, thread_events};
+use stack_rebuild::{Pair, StackForm, pairs, stacks, thread_events, write_stack};
 use std::alloc::Global;
 use std::process::Abort;
 use std::test::Fail;
+use xray_io::MemSink;
+use yaml_convert::write_yaml;
 
 /// The text of rows, without an image.
 fn text_of(alloc: Global, rows: &[AccountRow], format: AccountFormat) -> Result<String, Fail> {
@@ -176,5 +178,27 @@ const WIDE: &str = "Functions with latencies: 1\n    \
 fn columns_are_aligned_and_a_longer_number_is_printed_whole(rt: HostRuntime) -> Result<(), Fail> {
     let text = text_of(rt.alloc(), &WIDE_ROWS, AccountFormat::Text)?;
     check_same_text(&rt, text.as_str(), WIDE);
+    Ok(())
+}
+
+/// The account of [`NESTED`] as csv, its stacks for flame graphs, and the YAML of its first event.
+const REPORTS: &str = "funcid,count,min,med,90p,99p,max,sum,entries,exits,function\n\
+    1,2,10,35,35,35,35,45,1,0,#1\n\
+    #1;#1 25\n\
+    #1;#1;#1 10\n\
+    ---\nheader:\n  version: 3\n  type: 1\n  constant-tsc: true\n  nonstop-tsc: true\n  cycle-frequency: 0\n\
+    records:\n  - { type: 0, func-id: 1, function: '#1', cpu: 0, thread: 1, process: 1, \
+    kind: function-enter, tsc: 0 }\n...\n";
+
+#[test]
+fn a_report_is_written_by_one_call(rt: HostRuntime) -> Result<(), Fail> {
+    let alloc = rt.alloc();
+    let mut sink = MemSink::new(alloc, Vec::new(alloc));
+    let trace = trace_of(alloc, &NESTED)?;
+    let rows = account(alloc, &trace)?;
+    write_account(&rows, latencies(&rows), None, true, &mut sink)?;
+    write_stack(&stacks(alloc, &trace)?, None, StackForm::Flame, &mut sink)?;
+    write_yaml(&trace_of(alloc, &NESTED[..1])?, None, &mut sink)?;
+    check_same_text(&rt, std::str::from_utf8(sink.bytes())?, REPORTS);
     Ok(())
 }

@@ -12,14 +12,15 @@ use Rattle.stack_rebuild.specs.declared.stack_row.StackFault.TheVariants.{Deep, 
 use Rattle.stack_rebuild.specs.declared.thread_blocks.ThreadBlocks.{ThreadBlocks}
 use Rattle.stack_rebuild.specs.private.ByThread.{AreThreads, IsFaultOf, events_at}
 use Rattle.stack_rebuild.specs.Histories.{events_of_thread}
-use Rattle.stack_rebuild.specs.private.Scanning.{AreSums}
-use Rattle.stack_rebuild.specs.Stacks.{IsDeepFault, Timed, all_timed, deep_in, first_item, gets_deep, timed_in}
+use Rattle.stack_rebuild.specs.private.Scanning.{AreSums, timed_in}
+use Rattle.stack_rebuild.specs.Stacks.{IsDeepFault, Timed, all_timed, deep_in, first_item, gets_deep, threads_of}
+use Rattle.stack_rebuild.proofs.InFileOrder.{in_any_order, same_sums}
 
 abbrev names : List ThreadBlocks → List ℕ
 names ts = map (λ (own : ThreadBlocks). own.thread) ts
 
-abbrev pairs_of_thread : List Block → ℕ → List Timed
-pairs_of_thread blocks thread = timed_in (events_of_thread thread blocks)
+abbrev timed_of_thread : List Block → ℕ → List Timed
+timed_of_thread blocks thread = timed_in (events_of_thread thread blocks)
 
 abbrev is_deep : ℕ → List Block → ℕ → Bool
 is_deep limit blocks thread = gets_deep limit (reverse (events_of_thread thread blocks))
@@ -31,15 +32,15 @@ names_more ts i d within =
 
 pub summed_more : (blocks : List Block) (ts : List ThreadBlocks) (i : ℕ) (d : ThreadBlocks) (paths : List (List ℕ)) (tallies : List Tally) → AreThreads blocks ts
     → i < length ts
-    → AreSums paths tallies (flat_map (pairs_of_thread blocks) (take i (names ts)) ++ timed_in (events_at blocks (get_or ts i d).places.items))
-    → AreSums paths tallies (flat_map (pairs_of_thread blocks) (take (i + 1) (names ts)))
+    → AreSums paths tallies (flat_map (timed_of_thread blocks) (take i (names ts)) ++ timed_in (events_at blocks (get_or ts i d).places.items))
+    → AreSums paths tallies (flat_map (timed_of_thread blocks) (take (i + 1) (names ts)))
 summed_more blocks ts i d paths tallies own within sums =
     let here : events_at blocks (get_or ts i d).places.items ≡ events_of_thread (get_or ts i d).thread blocks = own.told i d within in
     subst (AreSums paths tallies)
-    (ap (λ (es : List _). flat_map (pairs_of_thread blocks) (take i (names ts)) ++ timed_in es) here
-    ∙ (ap (λ (ps : List Timed). flat_map (pairs_of_thread blocks) (take i (names ts)) ++ ps) (sym (append-nil (pairs_of_thread blocks (get_or ts i d).thread)))
-    ∙ sym (ap (flat_map (pairs_of_thread blocks)) (names_more ts i d within)
-    ∙ flat_map-append (pairs_of_thread blocks) (take i (names ts)) ((get_or ts i d).thread ∷ [])))) sums
+    (ap (λ (es : List _). flat_map (timed_of_thread blocks) (take i (names ts)) ++ timed_in es) here
+    ∙ (ap (λ (ps : List Timed). flat_map (timed_of_thread blocks) (take i (names ts)) ++ ps) (sym (append-nil (timed_of_thread blocks (get_or ts i d).thread)))
+    ∙ sym (ap (flat_map (timed_of_thread blocks)) (names_more ts i d within)
+    ∙ flat_map-append (timed_of_thread blocks) (take i (names ts)) ((get_or ts i d).thread ∷ [])))) sums
 
 pub shallow_more : (limit : ℕ) (blocks : List Block) (ts : List ThreadBlocks) (i : ℕ) (d : ThreadBlocks) → AreThreads blocks ts → i < length ts
     → gets_deep limit (reverse (events_at blocks (get_or ts i d).places.items)) ≡ false → filter (is_deep limit blocks) (take i (names ts)) ≡ []
@@ -52,10 +53,11 @@ shallow_more limit blocks ts i d own within shallow before =
     ∙ ap (λ (b : Bool). cond b ((get_or ts i d).thread ∷ []) (let none : List ℕ = [] in none)) here))
 
 pub whole_sums : (blocks : List Block) (ts : List ThreadBlocks) (i : ℕ) (paths : List (List ℕ)) (tallies : List Tally) → AreThreads blocks ts → length ts ≤ i
-    → AreSums paths tallies (flat_map (pairs_of_thread blocks) (take i (names ts))) → AreSums paths tallies (all_timed blocks)
-whole_sums blocks ts i paths tallies own done =
-    subst (λ (ns : List ℕ). AreSums paths tallies (flat_map (pairs_of_thread blocks) ns))
-    (take_all i (names ts) (omega (arith, length-map ts (λ (own : ThreadBlocks). own.thread), done)) ∙ own.are)
+    → AreSums paths tallies (flat_map (timed_of_thread blocks) (take i (names ts))) → AreSums paths tallies (all_timed blocks)
+whole_sums blocks ts i paths tallies own done sums =
+    same_sums paths tallies (flat_map (timed_of_thread blocks) (threads_of blocks)) (all_timed blocks) (in_any_order blocks)
+    (subst (λ (ns : List ℕ). AreSums paths tallies (flat_map (timed_of_thread blocks) ns))
+    (take_all i (names ts) (omega (arith, length-map ts (λ (own : ThreadBlocks). own.thread), done)) ∙ own.are) sums)
 
 pub whole_shallow : (limit : ℕ) (blocks : List Block) (ts : List ThreadBlocks) (i : ℕ) → AreThreads blocks ts → length ts ≤ i
     → filter (is_deep limit blocks) (take i (names ts)) ≡ [] → deep_in limit blocks ≡ None
@@ -86,11 +88,11 @@ first_deep limit blocks ts i d (Deep deep) own within before of =
 -- ---- the same for a thread at a place
 
 pub adds_thread : (blocks : List Block) (ts : List ThreadBlocks) (i : ℕ) (one : ThreadBlocks) (paths : List (List ℕ)) (tallies : List Tally) → AreThreads blocks ts
-    → i < length ts → one ≡ get_or ts i one → AreSums paths tallies (flat_map (pairs_of_thread blocks) (take i (names ts)) ++ timed_in (events_at blocks one.places.items))
-    → AreSums paths tallies (flat_map (pairs_of_thread blocks) (take (i + 1) (names ts)))
+    → i < length ts → one ≡ get_or ts i one → AreSums paths tallies (flat_map (timed_of_thread blocks) (take i (names ts)) ++ timed_in (events_at blocks one.places.items))
+    → AreSums paths tallies (flat_map (timed_of_thread blocks) (take (i + 1) (names ts)))
 adds_thread blocks ts i one paths tallies own within is sums =
     summed_more blocks ts i one paths tallies own within
-    (subst (λ (o : ThreadBlocks). AreSums paths tallies (flat_map (pairs_of_thread blocks) (take i (names ts)) ++ timed_in (events_at blocks o.places.items))) is sums)
+    (subst (λ (o : ThreadBlocks). AreSums paths tallies (flat_map (timed_of_thread blocks) (take i (names ts)) ++ timed_in (events_at blocks o.places.items))) is sums)
 
 pub shallow_thread : (limit : ℕ) (blocks : List Block) (ts : List ThreadBlocks) (i : ℕ) (one : ThreadBlocks) → AreThreads blocks ts → i < length ts
     → one ≡ get_or ts i one → gets_deep limit (reverse (events_at blocks one.places.items)) ≡ false → filter (is_deep limit blocks) (take i (names ts)) ≡ []

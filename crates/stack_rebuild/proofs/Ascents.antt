@@ -16,7 +16,7 @@ Strict compare xs = Pairwise (λ x y. compare x y ≡ Less) xs
 less_not_greater : Less ≡ Greater → ⊥
 less_not_greater same = let e : 0 ≡ 2 = ap ordering_index same in omega (arith, e)
 
-never_both : {X : Type 0} (compare : X → X → Ordering) → IsTotalOrder compare → (x y : X) → compare x y ≡ Less → compare y x ≡ Less → ⊥
+pub never_both : {X : Type 0} (compare : X → X → Ordering) → IsTotalOrder compare → (x y : X) → compare x y ≡ Less → compare y x ≡ Less → ⊥
 never_both compare total x y first second = less_not_greater (sym first ∙ (total.antisymm x y ∙ ap ordering_reverse second))
 
 -- ---- an item that is put into such a list

@@ -1,7 +1,10 @@
 pub mod Adding
 pub mod Ascents
+pub mod Closing
 pub mod Depth
 pub mod Frames
+pub mod Groups
+pub mod InFileOrder
 pub mod Items
 pub mod Lines
 pub mod Nesting
@@ -15,3 +18,4 @@ pub mod Spending
 pub mod Sums
 pub mod Threads
 pub mod Trees
+pub mod Views

@@ -13,16 +13,16 @@ use Rattle.fdr_record.specs.declared.event.Kind.{Kind}
 use Rattle.fdr_record.specs.declared.event.Kind.TheVariants.{Entry, Exit, TailExit}
 use Rattle.stack_rebuild.specs.declared.call.Call.{Call}
 use Rattle.stack_rebuild.specs.declared.call.Pair.{Pair}
-use Rattle.stack_rebuild.specs.Calls.{cycles_between, from_innermost, left_open, open_after_kind, open_calls, pair_of_call, pairs_in, pairs_of}
+use Rattle.stack_rebuild.specs.Calls.{cycles_between, enters, from_innermost, leaves, left_open, open_after_kind, open_calls, pair_of_call, pairs_in, pairs_of}
 use Rattle.stack_rebuild.specs.PairLaws.{IsWholeCall, event_at, innermost_entry, no_event}
 use Rattle.stack_rebuild.proofs.Nesting.{AllEnded, NoneAt, ended_by, kept_from, nested_history, none_ended, func_ended, one_more, open_kept, open_then, pair_by}
 
 -- the pair of an event at a position with the call that it ends
-abbrev pair_with : Event → ℕ → Call → Pair
+abbrev pub pair_with : Event → ℕ → Call → Pair
 pair_with e at ended = record { func = e.func; entry = ended.entry; exit = at; duration = cycles_between ended.tsc e.tsc }
 
 -- what holds of the pairs of a history holds after one more event, if it holds with the pair that the event may make
-one_event : (P : List Pair → Type 0) (e : Event) (history : List Event) → P (pairs_in history)
+pub one_event : (P : List Pair → Type 0) (e : Event) (history : List Event) → P (pairs_in history)
     → ((ended : Call) (outer : List Call) → ended_by e.kind e.func (open_calls history) ≡ ended ∷ outer
     → P (pairs_in history ++ pair_with e (length history) ended ∷ []))
     → P (pairs_in (e ∷ history))
@@ -40,7 +40,7 @@ one_event P e history none some =
 exits_later : (end : ℕ) (pairs : List Pair) → All (λ pair. pair.exit < end) pairs → All (λ pair. pair.exit < suc end) pairs
 exits_later end pairs low = All-weaker (λ pair. pair.exit < end) (λ pair. pair.exit < suc end) (λ pair less. omega (arith, less)) pairs low
 
-exits_low : (history : List Event) → All (λ pair. pair.exit < length history) (pairs_in history)
+pub exits_low : (history : List Event) → All (λ pair. pair.exit < length history) (pairs_in history)
 exits_low [] = All-nil (λ pair. pair.exit < 0)
 exits_low (e ∷ history) =
     let later = exits_later (length history) (pairs_in history) (exits_low history) in
@@ -89,10 +89,10 @@ AllEntered events [] = Unit {0}
 AllEntered events (call ∷ outer) = IsEntered events call × AllEntered events outer
 
 -- an event stays at its position
-event_kept : (events : List Event) (e : Event) (at : ℕ) → at < length events → event_at (events ++ e ∷ []) at ≡ event_at events at
+pub event_kept : (events : List Event) (e : Event) (at : ℕ) → at < length events → event_at (events ++ e ∷ []) at ≡ event_at events at
 event_kept events e at low = get_or-append events (e ∷ []) no_event at low
 
-event_last : (history : List Event) (e : Event) → event_at (reverse history ++ e ∷ []) (length history) ≡ e
+pub event_last : (history : List Event) (e : Event) → event_at (reverse history ++ e ∷ []) (length history) ≡ e
 event_last history e =
     ap (event_at (reverse history ++ e ∷ [])) (sym (length-reverse history)) ∙ get_or-append_seam (reverse history) e [] no_event
 
@@ -147,11 +147,11 @@ all_entered [] = tt
 all_entered (e ∷ history) =
     subst (λ (events : List Event). AllEntered events (open_calls (e ∷ history))) (sym (one_more e history)) (entered_after e history (all_entered history))
 
--- an event that ends a call isn't an entry, and the call is the innermost one of its function
-leaves_by : (k : Kind) (func : ℕ) (calls : List Call) (ended : Call) (outer : List Call) → ended_by k func calls ≡ ended ∷ outer → k ≢ Entry
+-- an event that ends a call is an exit, and the call is the innermost one of its function
+leaves_by : (k : Kind) (func : ℕ) (calls : List Call) (ended : Call) (outer : List Call) → ended_by k func calls ≡ ended ∷ outer → leaves k ≡ true
 leaves_by Entry func calls ended outer is = absurd (omega (arith, ap {B = ℕ} length is))
-leaves_by Exit func calls ended outer is = λ same. cc
-leaves_by TailExit func calls ended outer is = λ same. cc
+leaves_by Exit func calls ended outer is = refl
+leaves_by TailExit func calls ended outer is = refl
 
 found_by : (k : Kind) (func : ℕ) (calls : List Call) (ended : Call) (outer : List Call) → ended_by k func calls ≡ ended ∷ outer
     → from_innermost func calls ≡ ended ∷ outer
@@ -163,9 +163,9 @@ whole_more : (events : List Event) (e : Event) (pair : Pair) → IsWholeCall eve
 whole_more events e pair own = record {
   rises = own.rises;
   within = omega (arith, own.within, length-append events (e ∷ []));
-  enters = ap (λ (x : Event). x.kind) entry ∙ own.enters;
+  begins = ap (λ (x : Event). enters x.kind) entry ∙ own.begins;
   entered = ap (λ (x : Event). x.func) entry ∙ own.entered;
-  leaves = λ same. own.leaves (sym (ap (λ (x : Event). x.kind) exit) ∙ same);
+  closes = ap (λ (x : Event). leaves x.kind) exit ∙ own.closes;
   left = ap (λ (x : Event). x.func) exit ∙ own.left;
   ends = ap (λ (calls : List Call). innermost_entry (from_innermost pair.func calls)) (open_kept events e pair.exit (omega (arith, own.within))) ∙ own.ends;
   duration = own.duration
@@ -184,9 +184,9 @@ whole_made : (e : Event) (history : List Event) (ended : Call) (outer : List Cal
 whole_made e history ended outer is = record {
   rises = omega (arith, own.low, length-reverse history);
   within = omega (arith, length-append (reverse history) (e ∷ []), length-reverse history);
-  enters = ap (λ (x : Event). x.kind) entry ∙ own.enters;
+  begins = ap (λ (x : Event). enters x.kind) entry ∙ ap enters own.enters;
   entered = ap (λ (x : Event). x.func) entry ∙ (own.func ∙ func_ended e.kind e.func (open_calls history) ended outer is);
-  leaves = λ same. leaves_by e.kind e.func (open_calls history) ended outer is (sym (ap (λ (x : Event). x.kind) exit) ∙ same);
+  closes = ap (λ (x : Event). leaves x.kind) exit ∙ leaves_by e.kind e.func (open_calls history) ended outer is;
   left = ap (λ (x : Event). x.func) exit;
   ends = ap (λ (calls : List Call). innermost_entry (from_innermost e.func calls)) (open_then history e) ∙ ap innermost_entry found;
   duration = ap (λ (t : ℕ). cycles_between t e.tsc) (sym (ap (λ (x : Event). x.tsc) entry ∙ own.tsc))

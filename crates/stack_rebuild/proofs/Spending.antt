@@ -7,7 +7,8 @@ use Rattle.fdr_record.specs.declared.event.Event.{Event}
 use Rattle.stack_rebuild.specs.declared.call.Call.{Call}
 use Rattle.stack_rebuild.specs.declared.call.Pair.{Pair}
 use Rattle.stack_rebuild.specs.Calls.{cycles_between, open_calls, pair_of_call, pairs_in, pairs_of}
-use Rattle.stack_rebuild.specs.Stacks.{Timed, is_innermost, open_before, pair_path, path_of, spent_in, timed, timed_in}
+use Rattle.stack_rebuild.specs.Stacks.{Timed, is_innermost, open_before, pair_path, path_of, spent_in, timed}
+use Rattle.stack_rebuild.specs.private.Scanning.{timed_in}
 use Rattle.stack_rebuild.proofs.Nesting.{AllBefore, AllEnded, Nested, NoneAt, before_less, ended_by, func_ended, nested_before, nested_ended, nested_history, none_before, none_ended, one_more, open_kept, pair_by}
 
 -- what a pair adds to what was spent in the call with its entry at a position

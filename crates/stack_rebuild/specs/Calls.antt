@@ -1,12 +1,23 @@
 -- The calls of one thread: which are open, and which pairs of an entry and an exit its events make. A history is the
 -- events of a thread so far, listed from the last one to the first. A position counts a thread's events from 0.
-use Rattle.std.specs.Prelude.{◌+◌, ◌-◌, ◌%◌, ◌^◌, ◌==◌, ℕ, suc, List, [], ◌∷◌, ◌++◌, length, reverse, Option, Some, None, if◌then◌else◌}
+use Rattle.std.specs.Prelude.{◌+◌, ◌-◌, ◌%◌, ◌^◌, ◌==◌, Bool, true, false, ℕ, suc, List, [], ◌∷◌, ◌++◌, length, reverse, Option, Some, None, if◌then◌else◌}
 use Rattle.std.specs.Option.{option_to_list}
 use Rattle.fdr_record.specs.declared.event.Event.{Event}
 use Rattle.fdr_record.specs.declared.event.Kind.{Kind}
 use Rattle.fdr_record.specs.declared.event.Kind.TheVariants.{Entry, Exit, TailExit}
 use Rattle.stack_rebuild.specs.declared.call.Call.{Call}
 use Rattle.stack_rebuild.specs.declared.call.Pair.{Pair}
+
+-- whether a kind of events is that of entries, or that of exits and tail exits
+abbrev pub enters : Kind → Bool
+enters Entry = true
+enters Exit = false
+enters TailExit = false
+
+abbrev pub leaves : Kind → Bool
+leaves Entry = false
+leaves Exit = true
+leaves TailExit = true
 
 -- how far a counter advances from one value to another, in 64 bits
 abbrev pub cycles_between : ℕ → ℕ → ℕ

@@ -1,19 +1,17 @@
--- The stacks of a trace: on which paths its functions were called, and for how long.
+-- The stacks of blocks: on which paths their functions were called, and for how long.
 use Rattle.std.specs.Prelude.{◌≡◌, ◌-◌, ◌==◌, ◌||◌, Bool, false, ℕ, List, [], ◌∷◌, ◌++◌, length, map, filter, reverse, take, sum_by, count_by, nat_lt, if◌then◌else◌, Option, None, Some}
-use Rattle.std.specs.List.{flat_map}
 use Rattle.std.specs.declared.cmp.Ordering.{Ordering}
 use Rattle.std.specs.Ordering.{is_eq, nat_cmp}
 use Rattle.std.specs.Cmp.Lexicographic.{slice_cmp}
 use Rattle.fdr_record.specs.declared.event.Event.{Event}
 use Rattle.fdr_file.specs.declared.trace.Block.{Block}
-use Rattle.fdr_file.specs.declared.trace.Trace.{Trace}
 use Rattle.stack_rebuild.specs.declared.call.Call.{Call}
 use Rattle.stack_rebuild.specs.declared.call.Pair.{Pair}
 use Rattle.stack_rebuild.specs.declared.stack_row.StackRow.{StackRow}
 use Rattle.stack_rebuild.specs.declared.stack_row.StackFault.{StackFault}
 use Rattle.stack_rebuild.specs.declared.stack_row.StackFault.TheVariants.{Deep, NoMemory}
 use Rattle.stack_rebuild.specs.Calls.{open_calls, pairs_of}
-use Rattle.stack_rebuild.specs.Histories.{events_of_thread}
+use Rattle.stack_rebuild.specs.Histories.{events_of_thread, pairs_of_blocks}
 use Rattle.stack_rebuild.specs.Ascending.{each_once}
 
 -- the calls that are open just before the event at a position, from the innermost to the outermost
@@ -46,17 +44,9 @@ pub record Timed : Type 0 where
 abbrev pub timed : List Event → Pair → Timed
 timed events pair = record { path = pair_path events pair; duration = pair.duration; own = pair.duration - spent_in events pair.entry }
 
--- the pairs of a thread
-abbrev pub timed_in : List Event → List Timed
-timed_in events = map (timed events) (pairs_of events)
-
--- the threads of blocks, in ascending order
-abbrev pub threads_of : List Block → List ℕ
-threads_of blocks = each_once nat_cmp (map (λ block. block.thread) blocks)
-
--- the pairs of all threads
+-- the pairs of blocks, in the order of their exits
 abbrev pub all_timed : List Block → List Timed
-all_timed blocks = flat_map (λ thread. timed_in (events_of_thread thread blocks)) (threads_of blocks)
+all_timed blocks = map (λ made. timed (events_of_thread made.thread blocks) made.pair) (pairs_of_blocks blocks)
 
 -- the order of paths as lists of numbers
 abbrev pub path_cmp : List ℕ → List ℕ → Ordering
@@ -83,8 +73,8 @@ path_row pairs path = record {
 }
 
 -- a row for each path that has a pair, in ascending order
-abbrev pub stack_of : Trace → List PathRow
-stack_of trace = let pairs = all_timed trace.blocks in map (path_row pairs) (each_once path_cmp (map (λ pair. pair.path) pairs))
+abbrev pub stack_of : List Block → List PathRow
+stack_of blocks = let pairs = all_timed blocks in map (path_row pairs) (each_once path_cmp (map (λ pair. pair.path) pairs))
 
 -- what a row says
 abbrev pub told : StackRow → PathRow
@@ -103,6 +93,10 @@ gets_deep limit (e ∷ before) = nat_lt limit (length (open_calls (e ∷ before)
 abbrev pub first_item : List ℕ → Option ℕ
 first_item [] = None
 first_item (n ∷ ns) = Some n
+
+-- the threads of blocks, in ascending order
+abbrev pub threads_of : List Block → List ℕ
+threads_of blocks = each_once nat_cmp (map (λ block. block.thread) blocks)
 
 -- the least thread that has more calls open than a limit, after some event
 abbrev pub deep_in : ℕ → List Block → Option ℕ

@@ -1,8 +1,10 @@
 //! Laws of the pairs of a thread's events. Each law is the contract of a function that does nothing.
 
-ghost use Rattle.std.specs.{Prelude.{◌≢◌, ◌<◌, List, All}, List.{AllPairs}};
+ghost use Rattle.std.specs.{Prelude.{◌≡◌, ◌≢◌, ◌<◌, ◌⊎◌, ℕ, List, All}, List.{AllPairs}};
 ghost use Rattle.fdr_record.specs.declared.event.Event.{Event};
-ghost use Rattle.stack_rebuild.specs.{Calls.{pairs_of}, PairLaws.{IsWholeCall}};
+ghost use Rattle.fdr_file.specs.declared.trace.Block.{Block};
+ghost use Rattle.stack_rebuild.specs.{Calls.{pairs_of}, Histories.{events_of_thread, pairs_of_blocks, pairs_of_thread}};
+ghost use Rattle.stack_rebuild.specs.PairLaws.{EndsAnOpenCall, EndsBefore, IsInside, IsWholeCall};
 
 /// Each exit is in at most one pair, and so is each entry. Pairs stand in the order of their exits.
 pub fn each_exit_ends_one_call()
@@ -16,4 +18,23 @@ pub fn each_exit_ends_one_call()
 /// it. Its duration is how far the counter advanced between the two, in 64 bits.
 pub fn each_pair_is_a_whole_call()
     ensures { (events : List Event) → All (IsWholeCall events) (pairs_of events) }
+{}
+
+/// An exit or tail exit is in a pair exactly if a call of its function is open just before it.
+pub fn an_exit_ends_an_open_call()
+    ensures { (events : List Event) (at : ℕ) → EndsAnOpenCall events at }
+{}
+
+/// Pairs of a thread are nested or apart: of two pairs, the one with the earlier exit is inside the
+/// other, or ends before the other begins.
+pub fn pairs_nest_or_are_apart()
+    ensures { (events : List Event)
+        → AllPairs (λ pair later. IsInside pair later ⊎ EndsBefore pair later) (pairs_of events) }
+{}
+
+/// The pairs that a thread has among those of blocks are the pairs of its own events.
+pub fn a_thread_makes_its_own_pairs()
+    ensures { (blocks : List Block) (thread : ℕ)
+        → pairs_of_thread thread (pairs_of_blocks blocks)
+        ≡ pairs_of (events_of_thread thread blocks) }
 {}

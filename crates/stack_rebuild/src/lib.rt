@@ -27,9 +27,12 @@ mod totals;
 
 pub use call::{Call, Pair};
 pub use calls::ThreadCalls;
-pub use laws::{each_exit_ends_one_call, each_pair_is_a_whole_call};
+pub use laws::{
+    a_thread_makes_its_own_pairs, an_exit_ends_an_open_call, each_exit_ends_one_call,
+    each_pair_is_a_whole_call, pairs_nest_or_are_apart,
+};
 pub use matching::{pairs, thread_events};
 pub use scan::MOST_OPEN;
 pub use stack_row::{StackFault, StackRow};
-pub use stack_text::{StackForm, StackText};
+pub use stack_text::{StackForm, StackText, write_stack};
 pub use stacks_of::stacks;

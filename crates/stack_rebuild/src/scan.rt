@@ -4,8 +4,8 @@ ghost use Rattle.std.specs.Prelude.{◌≡◌, ◌<◌, ◌++◌, true, false, L
 ghost use Rattle.fdr_record.specs.declared.event.Event.{Event};
 ghost use Rattle.stack_rebuild.specs.private.ByThread.{IsFaultOf, events_at, no_block};
 ghost use Rattle.stack_rebuild.specs.Calls.{standing_after};
-ghost use Rattle.stack_rebuild.specs.private.Scanning.{AreSums, AreWithin, Follows};
-ghost use Rattle.stack_rebuild.specs.Stacks.{Timed, gets_deep, timed_in};
+ghost use Rattle.stack_rebuild.specs.private.Scanning.{AreSums, AreWithin, Follows, timed_in};
+ghost use Rattle.stack_rebuild.specs.Stacks.{Timed, gets_deep};
 
 use crate::path_sums::PathSums;
 use crate::stack_row::StackFault;

@@ -3,14 +3,14 @@
 ghost use Rattle.std.specs.{Prelude.{◌≡◌, ◌++◌, ⊤, codes, map}, List.{flat_map}};
 ghost use Rattle.std.specs.Option.{option_map};
 ghost use Rattle.function_names.specs.Name.{name_text};
-ghost use Rattle.xray_io.specs.{Piece.{piece_text, right_aligned}, Text.{AddsText}};
+ghost use Rattle.xray_io.specs.{Piece.{piece_text, right_aligned}, Text.{AddsText}, Writes.{WritesText}};
 ghost use Rattle.stack_rebuild.specs.Stacks.{told};
 ghost use Rattle.stack_rebuild.specs.StackText.{columns_text, head_text, path_text, path_row_text, stack_text, weight_text};
 
 use crate::stack_row::StackRow;
 use function_names::{add_callee_name, add_name};
 use xray_image::Image;
-use xray_io::{Piece, Printed, Sink, Text, WriteFault};
+use xray_io::{Piece, Printed, Sink, Text, WriteFault, write_text};
 
 /// The width of a column. A longer number is printed whole.
 const WIDTH: usize = 10;
@@ -51,6 +51,21 @@ impl Printed for StackText<'_> {
         to.bytes(head_line(self.form))?;
         add_rows(to, self.rows, self.image, self.form)
     }
+}
+
+/// Writes stacks: `rows` in their order, in a form, with the names that an image gives to the
+/// functions of the paths. [`StackText`] says what is printed. No memory is taken. After a
+/// `WriteFault` the sink was given a prefix of the text.
+pub fn write_stack<S: Sink>(
+    rows: &[StackRow],
+    image: Option<&Image>,
+    form: StackForm,
+    sink: &mut S,
+) -> Result<(), WriteFault>
+    ensures writes { WritesText S.written S.faults S.along sink.old sink.new
+        (stack_text form (option_map (λ image. image.now) image.entry) (map told rows.now)) result }
+{
+    write_text(&StackText { rows, image, form }, sink)
 }
 
 /// The head line.

@@ -20,7 +20,7 @@ use xray_io::NoMemory;
 /// threads. The rows are in ascending order of the paths as lists of numbers. `StackFault` says why
 /// there may be none.
 pub fn stacks(alloc: Global, trace: &Trace) -> Result<Vec<StackRow>, StackFault>
-    ensures rows { IfOk result (λ rows. map told rows.items ≡ stack_of trace.now) }
+    ensures rows { IfOk result (λ rows. map told rows.items ≡ stack_of trace.now.blocks) }
     ensures shallow { OnOk result (deep_in most_open trace.now.blocks ≡ None) }
     ensures deep { IfErr result (λ fault.
         IsDeepFault fault (deep_in most_open trace.now.blocks)) }

@@ -19,7 +19,7 @@ abbrev reason : Trace → Option (List ℕ)
 reason t = option_map deep_words (deep_in most_open t.blocks)
 
 abbrev printed : StackFormat → Trace → Option Program → Outcome → Type 0
-printed format t program outcome = outcome ≡ Done [] (stack_text (form_of format) program (stack_of t))
+printed format t program outcome = outcome ≡ Done [] (stack_text (form_of format) program (stack_of t.blocks))
 
 pub stack_alone : IsDecided image_form → (held : List ℕ → Entry) (trace : List ℕ) (image : Option (List ℕ)) (format : StackFormat)
     → TellsAll held → IsAlone AnyOutcome (StackComes Sound held trace image format)
@@ -31,7 +31,7 @@ pub stack_some : IsJudged image_form → (held : List ℕ → Entry) (trace : Li
     → TellsAll held → HoldsBytes held → SomeOutcome (StackComes Sound held trace image format)
 stack_some is held trace image format told holds =
     report_some is held trace image (λ t program. StacksCome trace format t program) told holds
-    (λ t program. some_refuse (reason t) trace (codes "trace") (printed format t program) (λ none. (Done [] (stack_text (form_of format) program (stack_of t)), refl)))
+    (λ t program. some_refuse (reason t) trace (codes "trace") (printed format t program) (λ none. (Done [] (stack_text (form_of format) program (stack_of t.blocks)), refl)))
 
 -- if no thread has too many calls open, its stacks come
 pub stack_prints : (trace : List ℕ) (format : StackFormat) (t : Trace) (program : Option Program) (outcome : Outcome)

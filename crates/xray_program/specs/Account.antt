@@ -47,7 +47,7 @@ format_of Csv = formats.Csv
 -- that have a pair are counted over all rows. A program names the functions, if there is one.
 abbrev pub account_report : AccountOptions → Trace → Option Program → List ℕ
 account_report options trace program =
-    let rows = account_of trace in
+    let rows = account_of trace.blocks in
     account_text (format_of options.format) (latencies_of rows) program
     (arranged (key_of options.sort) (is_descending options.order) options.top rows)
 

@@ -54,7 +54,7 @@ trace_lines bytes rows =
 abbrev pub soak_summary : (number : ℕ) → List ThreadRun → Trace → List ℕ
 soak_summary number runs trace =
     codes "soak " ++ decimal number ++ line_feed ++ summary_text (audits_of soak_setup runs)
-    ++ trace_lines (length (trace_bytes soak_setup runs)) (account_of trace)
+    ++ trace_lines (length (trace_bytes soak_setup runs)) (account_of trace.blocks)
 
 -- The inputs of a number are replayed, and the trace of the runs is read back from the bytes of its file. The text is
 -- their summary.

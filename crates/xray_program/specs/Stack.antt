@@ -24,7 +24,7 @@ form_of Flame = forms.Flame
 abbrev pub StacksCome : (trace : List ℕ) → StackFormat → Trace → Option Program → Outcome → Type 0
 StacksCome trace format t program =
     RefuseIf (option_map deep_words (deep_in most_open t.blocks)) trace (codes "trace")
-    (λ outcome. outcome ≡ Done [] (stack_text (form_of format) program (stack_of t)))
+    (λ outcome. outcome ≡ Done [] (stack_text (form_of format) program (stack_of t.blocks)))
 
 -- what comes of the command
 abbrev pub StackComes : DeskReads → (List ℕ → Entry) → (trace : List ℕ) → (image : Option (List ℕ)) → StackFormat → Outcome → Type 0

@@ -1,14 +1,17 @@
 -- The lines of a YAML document, as they are put together.
-use Rattle.std.proofs.Common.{◌≡◌, ◌++◌, ◌∙◌, ℕ, All, Bool, false, cond, Option, List, [], sym, ap, append_assoc}
+use Rattle.std.proofs.Common.{◌≡◌, ◌++◌, ◌∙◌, ◌||◌, ◌<◌, arith, ℕ, Bool, true, cond, Option, List, [], ◌∷◌, length, map, nat_lt, refl, sym, ap, append_assoc}
 use Rattle.std.specs.Prelude.{codes, decimal}
-use Rattle.std.specs.List.{flat_map}
-use Rattle.std.proofs.lemmas.List.Folds.{list_any_none}
+use Rattle.std.specs.List.{flat_map, list_any}
+use Rattle.std.proofs.lemmas.Bool.Decides.{nat_tests}
+use Rattle.std.proofs.lemmas.List.Concat.{flat_map-append}
+use Rattle.std.proofs.lemmas.List.Folds.{flat_map-map}
 use Rattle.fdr_record.specs.declared.event.Event.{Event}
 use Rattle.fdr_file.specs.declared.header.Header.{Header}
 use Rattle.fdr_file.specs.declared.trace.Block.{Block}
 use Rattle.fdr_file.specs.declared.trace.Trace.{Trace}
+use Rattle.fdr_file.specs.ThreadEvents.{ThreadEvent, block_events, thread_events}
 use Rattle.xray_image.specs.Program.{Program}
-use Rattle.yaml_convert.specs.Yaml.{event_end, event_start, has_events, header_text, kind_text, records_start, truth_text, block_lines, yaml_text}
+use Rattle.yaml_convert.specs.Yaml.{event_end, event_line, event_start, header_text, kind_text, records_start, records_text, truth_text, yaml_text}
 
 -- ---- pieces
 
@@ -24,27 +27,63 @@ pub start_pieces : (event : Event) (func : ℕ) → func ≡ event.func
     → codes "  - { type: 0, func-id: " ++ (decimal func ++ (codes ", function: '" ++ [])) ≡ event_start event
 start_pieces event func same = rw same (simp append_assoc)
 
-pub end_pieces : (block : Block) (event : Event) (cpu thread pid tsc : ℕ) (kind : List ℕ) → cpu ≡ event.cpu → thread ≡ block.thread → pid ≡ block.pid
-    → kind ≡ kind_text event.kind → tsc ≡ event.tsc
+pub end_pieces : (e : ThreadEvent) (cpu thread pid tsc : ℕ) (kind : List ℕ) → cpu ≡ e.event.cpu → thread ≡ e.thread → pid ≡ e.pid
+    → kind ≡ kind_text e.event.kind → tsc ≡ e.event.tsc
     → codes "', cpu: " ++ (decimal cpu ++ (codes ", thread: " ++ (decimal thread ++ (codes ", process: " ++ (decimal pid ++ (codes ", kind: " ++ (kind
     ++ (codes ", tsc: " ++ (decimal tsc ++ (codes " }\n" ++ []))))))))))
-    ≡ event_end block event
-end_pieces block event cpu thread pid tsc kind same_cpu same_thread same_pid same_kind same_tsc =
+    ≡ event_end e
+end_pieces e cpu thread pid tsc kind same_cpu same_thread same_pid same_kind same_tsc =
     rw (same_cpu, same_thread, same_pid, same_kind, same_tsc) (simp append_assoc)
 
 -- ---- whether there is an event
 
-pub starts_empty : (blocks : List Block) → All (λ block. has_events block ≡ false) blocks → records_start blocks ≡ codes "records: []\n"
-starts_empty blocks none = ap (λ (b : Bool). cond b (codes "records:\n") (codes "records: []\n")) (list_any_none has_events blocks none)
+abbrev has_events : Block → Bool
+has_events block = nat_lt 0 (length block.events)
+
+-- the records begin by whether a block has an event
+pub records_begin : (blocks : List Block) (b : Bool) → list_any (λ (block : Block). nat_lt 0 (length block.events)) blocks ≡ b
+    → cond b (codes "records:\n") (codes "records: []\n") ≡ records_start (thread_events blocks)
+records_begin [] b is = sym (ap (λ (a : Bool). cond a (codes "records:\n") (codes "records: []\n")) is)
+records_begin (block ∷ later) b is = by_events block.events refl (records_begin later)
+  where
+    rest : (events : List Event) → List ThreadEvent
+    rest events = map (λ event. record { thread = block.thread; pid = block.pid; event = event }) events ++ thread_events later
+
+    by_events : (events : List Event) → block.events ≡ events
+        → ((a : Bool) → list_any has_events later ≡ a → cond a (codes "records:\n") (codes "records: []\n") ≡ records_start (thread_events later))
+        → cond b (codes "records:\n") (codes "records: []\n") ≡ records_start (rest block.events)
+    by_events [] none following =
+        let same : list_any has_events later ≡ b = ap (λ (es : List Event). nat_lt 0 (length es) || list_any has_events later) (sym none) ∙ is in
+        following b same ∙ ap (λ (es : List Event). records_start (rest es)) (sym none)
+    by_events (e ∷ events) some following =
+        let low : nat_lt 0 (length (e ∷ events)) ≡ true = let some_events : 0 < length (e ∷ events) = omega arith in grind (arith, nat_tests) in
+        let holds : b ≡ true =
+        sym is ∙ (ap (λ (es : List Event). nat_lt 0 (length es) || list_any has_events later) some ∙ ap (λ (a : Bool). a || list_any has_events later) low) in
+        ap (λ (a : Bool). cond a (codes "records:\n") (codes "records: []\n")) holds ∙ ap (λ (es : List Event). records_start (rest es)) (sym some)
+
+-- ---- lines of blocks
+
+-- the lines of a block are those of its events
+pub of_block : (program : Option Program) (block : Block)
+    → flat_map (λ event. event_line program (record { thread = block.thread; pid = block.pid; event = event })) block.events
+    ≡ flat_map (event_line program) (block_events block)
+of_block program block =
+    sym (flat_map-map (event_line program) (λ (event : Event). let e : ThreadEvent = record { thread = block.thread; pid = block.pid; event = event } in e) block.events)
+
+-- the lines of blocks are those of all events
+pub of_blocks : (program : Option Program) (blocks : List Block)
+    → flat_map (λ block. flat_map (event_line program) (block_events block)) blocks ≡ flat_map (event_line program) (thread_events blocks)
+of_blocks program [] = refl
+of_blocks program (block ∷ later) =
+    ap (λ (t : List ℕ). flat_map (event_line program) (block_events block) ++ t) (of_blocks program later)
+    ∙ sym (flat_map-append (event_line program) (block_events block) (thread_events later))
 
 -- ---- the whole document
 
 pub whole_yaml_left : (program : Option Program) (trace : Trace)
-    → (header_text trace.header ++ (records_start trace.blocks ++ flat_map (block_lines program) trace.blocks)) ++ codes "...\n" ≡ yaml_text program trace
-whole_yaml_left program trace =
-    ap (λ (t : List ℕ). t ++ codes "...\n") (sym (append_assoc (header_text trace.header) (records_start trace.blocks) (flat_map (block_lines program) trace.blocks)))
+    → (header_text trace.header ++ records_text program (thread_events trace.blocks)) ++ codes "...\n" ≡ yaml_text program trace
+whole_yaml_left program trace = refl
 
 pub whole_yaml : (program : Option Program) (trace : Trace)
-    → header_text trace.header ++ ((records_start trace.blocks ++ flat_map (block_lines program) trace.blocks) ++ codes "...\n") ≡ yaml_text program trace
-whole_yaml program trace =
-    sym (append_assoc (header_text trace.header) (records_start trace.blocks ++ flat_map (block_lines program) trace.blocks) (codes "...\n")) ∙ whole_yaml_left program trace
+    → header_text trace.header ++ (records_text program (thread_events trace.blocks) ++ codes "...\n") ≡ yaml_text program trace
+whole_yaml program trace = sym (append_assoc (header_text trace.header) (records_text program (thread_events trace.blocks)) (codes "...\n"))

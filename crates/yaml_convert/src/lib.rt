@@ -3,4 +3,4 @@
 
 mod yaml;
 
-pub use yaml::YamlText;
+pub use yaml::{YamlText, write_yaml};

@@ -1,14 +1,15 @@
 //! The YAML text of a trace.
 
-ghost use Rattle.std.specs.{Prelude.{◌≡◌, ◌++◌, ⊤}, List.{flat_map}, Option.{option_map}};
-ghost use Rattle.xray_io.specs.{Piece.{piece_text}, Text.{AddsText}};
-ghost use Rattle.yaml_convert.specs.Yaml.{block_lines, event_end, event_line, has_events, header_text, kind_text, records_start, truth_text, yaml_text};
+ghost use Rattle.std.specs.{Prelude.{◌≡◌, ⊤, length, nat_lt}, List.{flat_map, list_any}, Option.{option_map}};
+ghost use Rattle.fdr_file.specs.ThreadEvents.{block_events, thread_events};
+ghost use Rattle.xray_io.specs.{Piece.{piece_text}, Text.{AddsText}, Writes.{WritesText}};
+ghost use Rattle.yaml_convert.specs.Yaml.{event_end, event_line, header_text, kind_text, records_start, records_text, truth_text, yaml_text};
 
 use fdr_file::{Block, Header, Trace};
 use fdr_record::{Event, Kind};
 use function_names::add_name;
 use xray_image::Image;
-use xray_io::{Piece, Printed, Sink, Text, WriteFault};
+use xray_io::{Piece, Printed, Sink, Text, WriteFault, write_text};
 
 /// A trace as a YAML document with the keys of `llvm-xray convert -f=yaml`: its header, and a line
 /// for each event. Unlike there, events stay block by block, in the order of the file, and records
@@ -37,6 +38,20 @@ impl Printed for YamlText<'_> {
     }
 }
 
+/// Writes a trace as a YAML document, with the names that an image gives to its functions.
+/// [`YamlText`] says what is printed. No memory is taken. After a `WriteFault` the sink was given a
+/// prefix of the text.
+pub fn write_yaml<S: Sink>(
+    trace: &Trace,
+    image: Option<&Image>,
+    sink: &mut S,
+) -> Result<(), WriteFault>
+    ensures writes { WritesText S.written S.faults S.along sink.old sink.new
+        (yaml_text (option_map (λ image. image.now) image.entry) trace.now) result }
+{
+    write_text(&YamlText { trace, image }, sink)
+}
+
 /// Adds the header.
 fn add_header<S: Sink>(text: &mut Text<S>, header: &Header) -> Result<(), WriteFault>
     ensures { AddsText S.written S.faults S.along text.old text.new
@@ -57,9 +72,9 @@ fn add_header<S: Sink>(text: &mut Text<S>, header: &Header) -> Result<(), WriteF
 
 /// Adds the records.
 fn add_records<S: Sink>(text: &mut Text<S>, yaml: &YamlText) -> Result<(), WriteFault>
-    ensures { let blocks = yaml.now.trace.now.blocks in
-        AddsText S.written S.faults S.along text.old text.new (records_start blocks
-        ++ flat_map (block_lines (option_map (λ image. image.now) yaml.now.image)) blocks) result }
+    ensures { AddsText S.written S.faults S.along text.old text.new
+        (records_text (option_map (λ image. image.now) yaml.now.image)
+        (thread_events yaml.now.trace.now.blocks)) result }
 {
     let blocks = yaml.trace.blocks.as_slice();
     text.bytes(records_line(blocks))?;
@@ -67,20 +82,26 @@ fn add_records<S: Sink>(text: &mut Text<S>, yaml: &YamlText) -> Result<(), Write
 }
 
 /// The text that the records begin with.
-#[tactic(auto, using(crate::proofs::YamlLines::starts_empty))]
 fn records_line(blocks: &[Block]) -> &'static [u8]
-    ensures { result.now ≡ records_start blocks.now }
+    ensures { result.now ≡ records_start (thread_events blocks.now) }
 {
-    if blocks.iter().any(has_event) {
+    if have_events(blocks) {
         b"records:\n"
     } else {
         b"records: []\n"
     }
 }
 
+/// Whether some block has an event.
+fn have_events(blocks: &[Block]) -> bool
+    ensures { result ≡ list_any (λ block. nat_lt 0 (length block.events)) blocks.now }
+{
+    blocks.iter().any(has_event)
+}
+
 /// Whether a block has an event.
 fn has_event(block: &Block) -> bool
-    ensures { result ≡ has_events block.now }
+    ensures { result ≡ nat_lt 0 (length block.now.events) }
 {
     !block.events.as_slice().is_empty()
 }
@@ -92,7 +113,8 @@ fn add_blocks<S: Sink>(
     image: Option<&Image>,
 ) -> Result<(), WriteFault>
     ensures { AddsText S.written S.faults S.along text.old text.new
-        (flat_map (block_lines (option_map (λ image. image.now) image.entry)) blocks.now) result }
+        (flat_map (λ block. flat_map (event_line (option_map (λ image. image.now) image.entry))
+        (block_events block)) blocks.now) result }
 {
     'lines: for block in blocks {
         add_block(text, block, image)?;
@@ -107,24 +129,32 @@ fn add_block<S: Sink>(
     image: Option<&Image>,
 ) -> Result<(), WriteFault>
     ensures { AddsText S.written S.faults S.along text.old text.new
-        (block_lines (option_map (λ image. image.now) image.entry) block.now) result }
+        (flat_map (event_line (option_map (λ image. image.now) image.entry))
+        (block_events block.now)) result }
 {
-    add_events(text, block, block.events.as_slice(), image)
+    add_events(
+        text,
+        block.thread,
+        block.pid,
+        block.events.as_slice(),
+        image,
+    )
 }
 
-/// Adds the lines of events of a block.
+/// Adds the lines of events of a thread.
 fn add_events<S: Sink>(
     text: &mut Text<S>,
-    block: &Block,
+    thread: u32,
+    pid: u32,
     events: &[Event],
     image: Option<&Image>,
 ) -> Result<(), WriteFault>
     ensures { AddsText S.written S.faults S.along text.old text.new
-        (flat_map (event_line (option_map (λ image. image.now) image.entry) block.now)
-        events.now) result }
+        (flat_map (λ event. event_line (option_map (λ image. image.now) image.entry)
+        (record { thread = thread; pid = pid; event = event })) events.now) result }
 {
     'lines: for event in events {
-        add_event(text, block, event, image)?;
+        add_event(text, thread, pid, event, image)?;
     }
     Ok(())
 }
@@ -132,12 +162,14 @@ fn add_events<S: Sink>(
 /// Adds the line of an event.
 fn add_event<S: Sink>(
     text: &mut Text<S>,
-    block: &Block,
+    thread: u32,
+    pid: u32,
     event: &Event,
     image: Option<&Image>,
 ) -> Result<(), WriteFault>
     ensures { AddsText S.written S.faults S.along text.old text.new
-        (event_line (option_map (λ image. image.now) image.entry) block.now event.now) result }
+        (event_line (option_map (λ image. image.now) image.entry)
+        (record { thread = thread; pid = pid; event = event.now })) result }
 {
     text.pieces(&[
         Piece::Bytes(b"  - { type: 0, func-id: "),
@@ -145,21 +177,26 @@ fn add_event<S: Sink>(
         Piece::Bytes(b", function: '"),
     ])?;
     add_name(text, image, event.func)?;
-    add_end(text, block, event)
+    add_end(text, thread, pid, event)
 }
 
 /// Adds the text after the name of its function.
-fn add_end<S: Sink>(text: &mut Text<S>, block: &Block, event: &Event) -> Result<(), WriteFault>
+fn add_end<S: Sink>(
+    text: &mut Text<S>,
+    thread: u32,
+    pid: u32,
+    event: &Event,
+) -> Result<(), WriteFault>
     ensures { AddsText S.written S.faults S.along text.old text.new
-        (event_end block.now event.now) result }
+        (event_end (record { thread = thread; pid = pid; event = event.now })) result }
 {
     text.pieces(&[
         Piece::Bytes(b"', cpu: "),
         Piece::Number(u128::from(event.cpu)),
         Piece::Bytes(b", thread: "),
-        Piece::Number(u128::from(block.thread)),
+        Piece::Number(u128::from(thread)),
         Piece::Bytes(b", process: "),
-        Piece::Number(u128::from(block.pid)),
+        Piece::Number(u128::from(pid)),
         Piece::Bytes(b", kind: "),
         kind_word(event.kind),
         Piece::Bytes(b", tsc: "),

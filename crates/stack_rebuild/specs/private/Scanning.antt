@@ -1,12 +1,16 @@
 -- What is kept of paths and open calls while the events of a thread are taken, for the contracts of private functions.
-use Rattle.std.specs.Prelude.{◌≡◌, ◌<◌, ◌+◌, ◌++◌, ℕ, List, [], ◌∷◌, length, reverse, sum_by, count_by, if◌then◌else◌, slice_index_or, All}
+use Rattle.std.specs.Prelude.{◌≡◌, ◌<◌, ◌+◌, ◌++◌, ℕ, List, [], ◌∷◌, length, map, reverse, sum_by, count_by, if◌then◌else◌, slice_index_or, All}
 use Rattle.fdr_record.specs.declared.event.Event.{Event}
 use Rattle.stack_rebuild.specs.declared.call.Call.{Call}
 use Rattle.stack_rebuild.specs.declared.tally.Tally.{Tally}
 use Rattle.stack_rebuild.specs.declared.thread_stack.Frame.{Frame}
-use Rattle.stack_rebuild.specs.Calls.{Standing, open_calls, standing_after}
-use Rattle.stack_rebuild.specs.Stacks.{Timed, has_path, path_of, spent_in, timed_in}
+use Rattle.stack_rebuild.specs.Calls.{Standing, open_calls, pairs_of, standing_after}
+use Rattle.stack_rebuild.specs.Stacks.{Timed, has_path, path_of, spent_in, timed}
 use Rattle.stack_rebuild.specs.private.PathNumbers.{AreApart, path_at}
+
+-- the pairs of a thread
+abbrev pub timed_in : List Event → List Timed
+timed_in events = map (timed events) (pairs_of events)
 
 -- what pairs say of a path
 abbrev pub tally_of : List Timed → List ℕ → Tally

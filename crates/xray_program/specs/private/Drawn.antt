@@ -41,7 +41,7 @@ pub record IsReadBack (file : List ℕ) (bytes : ℕ) (rows : List AccountRow) :
   pub trace : Trace
   pub reads : trace_of file ≡ Ok trace
   pub bytes_are : bytes ≡ length file
-  pub rows_are : rows ≡ account_of trace
+  pub rows_are : rows ≡ account_of trace.blocks
 
 -- a summary of what threads, a file and an account say
 abbrev pub summary_with : (number : ℕ) → List ThreadAudit → (bytes : ℕ) → List AccountRow → List ℕ

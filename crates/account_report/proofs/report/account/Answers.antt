@@ -12,7 +12,7 @@ use Rattle.account_report.proofs.report.account.Goals as goal
 
 pub returns-clause-rows : goal.returns-clause-rows
 returns-clause-rows c =
-    let history = history_of c.args.trace.now in
+    let history = history_of c.args.trace.now.blocks in
     let es = c.in_ok-tallies.field-0.entries in
     let rows = c.sort_unstable_by_key.new.self.items in
     let told : (k : ℕ) (v : Tallied) → lookup (nat_eq k) es ≡ Some v → v ≡ tally_of history k =
@@ -25,4 +25,4 @@ returns-clause-rows c =
 pub returns-clause-distinct : goal.returns-clause-distinct
 returns-clause-distinct c =
     let rows = returns-clause-rows c in
-    subst (λ (rs : List AccountRow). IsDistinct nat_eq (map (λ (r : AccountRow). r.func) rs)) (sym rows) (own_rows (history_of c.args.trace.now))
+    subst (λ (rs : List AccountRow). IsDistinct nat_eq (map (λ (r : AccountRow). r.func) rs)) (sym rows) (own_rows (history_of c.args.trace.now.blocks))

@@ -5,8 +5,8 @@ use Rattle.fdr_record.specs.declared.event.Event.{Event}
 use Rattle.stack_rebuild.specs.declared.scan.TheConstants.{MOST_OPEN}
 use Rattle.stack_rebuild.specs.private.ByThread.{events_at}
 use Rattle.stack_rebuild.specs.Calls.{standing_after}
-use Rattle.stack_rebuild.specs.private.Scanning.{AreSums, Follows}
-use Rattle.stack_rebuild.specs.Stacks.{gets_deep, timed_in}
+use Rattle.stack_rebuild.specs.private.Scanning.{AreSums, Follows, timed_in}
+use Rattle.stack_rebuild.specs.Stacks.{gets_deep}
 use Rattle.stack_rebuild.proofs.Depth.{deep_place, turned_more}
 use Rattle.stack_rebuild.proofs.Results.{fault_weaker}
 use Rattle.stack_rebuild.proofs.scan.add_thread.Goals as goal

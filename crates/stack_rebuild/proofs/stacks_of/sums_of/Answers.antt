@@ -5,8 +5,8 @@ use Rattle.stack_rebuild.specs.declared.scan.TheConstants.{MOST_OPEN}
 use Rattle.stack_rebuild.specs.declared.thread_blocks.ThreadBlocks.{ThreadBlocks}
 use Rattle.stack_rebuild.specs.private.ByThread.{AreThreads, IsFaultOf, events_at}
 use Rattle.stack_rebuild.specs.Histories.{events_of_thread}
-use Rattle.stack_rebuild.specs.private.Scanning.{AreSums}
-use Rattle.stack_rebuild.specs.Stacks.{gets_deep, timed_in}
+use Rattle.stack_rebuild.specs.private.Scanning.{AreSums, timed_in}
+use Rattle.stack_rebuild.specs.Stacks.{gets_deep}
 use Rattle.stack_rebuild.proofs.Adding.{adds_thread, deep_thread, shallow_thread, whole_shallow, whole_sums}
 use Rattle.stack_rebuild.proofs.stacks_of.sums_of.Goals as goal
 

@@ -3,8 +3,8 @@ use Rattle.std.specs.Prelude.{filter}
 use Rattle.std.specs.List.{flat_map}
 use Rattle.stack_rebuild.specs.declared.scan.TheConstants.{MOST_OPEN}
 use Rattle.stack_rebuild.specs.Histories.{events_of_thread}
-use Rattle.stack_rebuild.specs.private.Scanning.{AreSums}
-use Rattle.stack_rebuild.specs.Stacks.{gets_deep, timed_in}
+use Rattle.stack_rebuild.specs.private.Scanning.{AreSums, timed_in}
+use Rattle.stack_rebuild.specs.Stacks.{gets_deep}
 use Rattle.stack_rebuild.proofs.stacks_of.sums_of.Given as goal
 
 abbrev pub invariant-adding : goal.invariant-adding

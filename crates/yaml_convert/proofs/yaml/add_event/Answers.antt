@@ -10,7 +10,7 @@ pub returns-in_err-pieces : goal.returns-in_err-pieces
 returns-in_err-pieces g c =
     let start = event_start c.args.event.now in
     let name = name_text (option_map (λ image. image.now) c.args.image) c.args.event.now.func in
-    let end = event_end c.args.block.now c.args.event.now in
+    let end = event_end (record { thread = c.args.thread; pid = c.args.pid; event = c.args.event.now }) in
     let same = start_pieces c.args.event.now _ c.from.ensures in
     adds_failed (rw (sym (append_assoc start name end)) at (adds_stop (name ++ end) (rw same at c.in_err-pieces.ensures.adds)))
     c.from_residual.result c.from_residual.ensures.1
@@ -18,7 +18,7 @@ returns-in_err-pieces g c =
 pub returns-in_err-add_name : goal.returns-in_err-add_name
 returns-in_err-add_name g c =
     let same = start_pieces c.args.event.now _ c.from.ensures in
-    adds_failed (adds_within g.met.S.Sink.along_both (event_end c.args.block.now c.args.event.now) (rw same at c.in_ok-pieces.ensures.adds)
+    adds_failed (adds_within g.met.S.Sink.along_both (event_end (record { thread = c.args.thread; pid = c.args.pid; event = c.args.event.now })) (rw same at c.in_ok-pieces.ensures.adds)
     c.in_err-add_name.ensures refl) c.from_residual-in_err-add_name.result c.from_residual-in_err-add_name.ensures.1
 
 pub returns : goal.returns

@@ -8,4 +8,4 @@ use Rattle.yaml_convert.proofs.yaml.add_events.Given as goal
 abbrev pub invariant-lines : goal.invariant-lines
 invariant-lines g l =
     AddsText g.S.Sink.written g.S.Sink.faults g.S.Sink.along l.fn.text l.text
-    (flat_map (event_line (option_map (λ image. image.now) l.image) l.block) (take l.event-index l.events)) (Ok tt)
+    (flat_map (λ event. event_line (option_map (λ image. image.now) l.image) (record { thread = l.thread; pid = l.pid; event = event })) (take l.event-index l.events)) (Ok tt)

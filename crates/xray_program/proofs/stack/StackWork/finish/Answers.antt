@@ -19,7 +19,7 @@ returns-in-Ok-clause-finishes g c =
     let inputs = c.args.inputs.now in
     let shown = option_map (λ image. image.now) c.as_ref.result in
     let rows = c.deref.result.now in
-    let same : stack_text c.form_of.result shown (map told rows) ≡ stack_text (form_of s.format) inputs.image (stack_of inputs.trace) =
+    let same : stack_text c.form_of.result shown (map told rows) ≡ stack_text (form_of s.format) inputs.image (stack_of inputs.trace.blocks) =
     ap (λ (form : StackForm). stack_text form shown (map told rows)) c.form_of.ensures
     ∙ (ap (λ (program : Option Program). stack_text (form_of s.format) program (map told rows)) c.as_ref.ensures.value
     ∙ (ap (λ (rs : List StackRow). stack_text (form_of s.format) inputs.image (map told rs)) c.deref.ensures.value

@@ -1,9 +1,9 @@
 use Rattle.std.proofs.Common.{◌++◌, List, ℕ, subst}
 use Rattle.std.specs.Prelude.{codes}
-use Rattle.std.specs.List.{flat_map}
 use Rattle.std.specs.Option.{option_map}
 use Rattle.xray_io.specs.Text.{AddsText, adds_more, adds_stop, adds_within, adds_failed}
-use Rattle.yaml_convert.specs.Yaml.{block_lines, records_start}
+use Rattle.fdr_file.specs.ThreadEvents.{thread_events}
+use Rattle.yaml_convert.specs.Yaml.{records_text}
 use Rattle.yaml_convert.proofs.YamlLines.{whole_yaml, whole_yaml_left}
 use Rattle.yaml_convert.proofs.yaml.YamlTextPrinted.add_to.Goals as goal
 
@@ -12,7 +12,7 @@ returns-in_err-add_header g c = record {
   adds =
       let program = option_map (λ image. image.now) c.args.self.now.image in
       let trace = c.args.self.now.trace.now in
-      let records = records_start trace.blocks ++ flat_map (block_lines program) trace.blocks in
+      let records = records_text program (thread_events trace.blocks) in
       adds_failed (rw (whole_yaml program trace) at (adds_stop (records ++ codes "...\n") c.in_err-add_header.ensures)) c.from_residual.result c.from_residual.ensures.1;
 }
 

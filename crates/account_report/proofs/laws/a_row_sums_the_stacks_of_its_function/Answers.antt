@@ -1,0 +1,5 @@
+use Rattle.account_report.proofs.OverStacks.{all_summed}
+use Rattle.account_report.proofs.laws.a_row_sums_the_stacks_of_its_function.Goals as goal
+
+pub returns : goal.returns
+returns c = all_summed
