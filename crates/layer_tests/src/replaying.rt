@@ -33,7 +33,7 @@ fn replay_of<'a>(
     assert!(rt; count_lines(TRACED) < 100);
     let script = read_script(alloc, TRACED, steps.image(), setup.threads)?;
     let schedule = read_schedule(alloc, b"", setup.threads)?;
-    Ok(SimStart::new(alloc, steps, &script, setup)?.play(&schedule))
+    Ok(simulate(alloc, steps, &script, &schedule, setup)?)
 }
 
 /// Whether all threads of a replay with this setup return. A thread makes two passings.

@@ -13,7 +13,7 @@ use Rattle.fdr_buffer.specs.Filled.{Filled}
 use Rattle.machine_step.specs.declared.setup.Setup.{Setup}
 use Rattle.machine_step.specs.Loads.{marks_of}
 use Rattle.machine_step.specs.PlainStep.{Passing, PlainRun}
-use Rattle.machine_step.specs.Traced.{Traced, sleds_passed}
+use Rattle.machine_step.specs.Traced.{IsThreadOf, Traced, sleds_passed}
 use Rattle.traced_run.specs.Kept.{buffers_after, kept_buffers, segment_count, segments_of, thread_buffers}
 use Rattle.traced_run.specs.Left.{HasRun}
 use Rattle.traced_run.specs.Runs.{ThreadRun, events_of}
@@ -108,6 +108,9 @@ pub is_simulated : (program : Program) (script : List Command) (schedule lines :
 is_simulated program script schedule lines setup passed count p ts pool sealed segments first buffers so accepted passed_count end counted said turns rest left = record {
   runs = runs;
   replay = replay_is;
+  threads = λ i t found.
+      subst (λ (h : Option ℕ). IsThreadOf program (i + 1) setup.threads h setup.limits t) (sym (end.at.stands.no_hold (i + 1)))
+      (end.at.stands.thread i t found);
   leaves = record {
     count = end.at.stands.count ∙ sym all.count;
     cpus_are = λ i run t found there.

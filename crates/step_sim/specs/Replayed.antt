@@ -1,5 +1,5 @@
 -- The runs that a schedule leaves, and what a replay leaves of them.
-use Rattle.std.specs.Prelude.{◌≡◌, ◌+◌, ◌-◌, ℕ, List, Some, map, slice_get}
+use Rattle.std.specs.Prelude.{◌≡◌, ◌-◌, ℕ, List, map}
 use Rattle.xray_image.specs.Program.{Program}
 use Rattle.patch_script.specs.declared.command.Command.{Command}
 use Rattle.fdr_buffer.specs.Filled.{Filled}
@@ -8,9 +8,9 @@ use Rattle.machine_step.specs.Buffers.{spare_of}
 use Rattle.machine_step.specs.PlainStep.{Passing}
 use Rattle.machine_step.specs.Traced.{Traced, sleds_passed}
 use Rattle.traced_run.specs.Kept.{segment_count}
-use Rattle.traced_run.specs.Left.{Leaves}
+use Rattle.traced_run.specs.Left.{AreThreadsOf, Leaves}
 use Rattle.traced_run.specs.Losses.{AreLost}
-use Rattle.traced_run.specs.Runs.{IsRun, ThreadRun}
+use Rattle.traced_run.specs.Runs.{EachThread, IsRun, ThreadRun}
 use Rattle.step_sim.specs.declared.turns.Turns.{Turns}
 use Rattle.step_sim.specs.Pool.{Pooled, PooledReplay, Pooling, Stock, segments_among, serials_of}
 use Rattle.step_sim.specs.Recorded.{numbers_from, pooling_of}
@@ -45,17 +45,18 @@ pub record IsReplayOf (program : Program) (script : List Command) (schedule : Li
 -- from 0 up to the number of its lost segments. The others are in the queue, in their order, except the last one, which
 -- the thread holds.
 pub record LoseOldest (size : ℕ) (runs : List ThreadRun) (stock : Stock) : Type 0 where
-  pub taken : (i : ℕ) (run : ThreadRun) → slice_get runs i ≡ Some run → serials_of (i + 1) stock.taken ≡ numbers_from 0 run.lost
-  pub left : (i : ℕ) (run : ThreadRun) → slice_get runs i ≡ Some run
-      → serials_of (i + 1) stock.queue ≡ numbers_from run.lost (segment_count size run - 1 - run.lost)
+  pub taken : EachThread runs (λ number run. serials_of number stock.taken ≡ numbers_from 0 run.lost)
+  pub left : EachThread runs
+      (λ number run. serials_of number stock.queue ≡ numbers_from run.lost (segment_count size run - 1 - run.lost))
 
--- A replay leaves what the runs of its schedule leave: the threads; how many buffers each has put into the queue, how
+-- A replay leaves what the runs of its schedule leave: the threads of the setup; how many buffers each has put into the queue, how
 -- many segments it has, and how many of them are lost; and the buffers of those that are left. As many are lost as the
 -- queue had no buffers for.
 pub record IsSimulated (program : Program) (script : List Command) (schedule : List Turns) (setup : Setup) (cpus : List Traced)
     (sealed segments first : List ℕ) (buffers : List Filled) : Type 0 where
   pub runs : List ThreadRun
   pub replay : IsReplayOf program script schedule setup runs
+  pub threads : AreThreadsOf program script setup cpus
   pub leaves : Leaves setup runs cpus segments first buffers
   pub sealed_are : sealed ≡ map (λ run. segment_count setup.size run - 1) runs
   pub losses : AreLost setup.size (spare_of setup) runs

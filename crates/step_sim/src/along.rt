@@ -1,12 +1,12 @@
 //! Laws of the moments of a replay. Each law is the contract of a function that does nothing.
 
-ghost use Rattle.std.specs.Prelude.{◌≡◌, ◌<◌, ◌+◌, ℕ, List, Some, Ok, All, length, slice_get};
+ghost use Rattle.std.specs.Prelude.{◌≡◌, ◌<◌, ℕ, List, Some, Ok, All, length};
 ghost use Rattle.xray_image.specs.Program.{Program};
 ghost use Rattle.sled_words.specs.Allowed.{IsAllowed};
 ghost use Rattle.patch_script.specs.declared.command.Command.{Command};
 ghost use Rattle.patch_script.specs.{CodeAt.{code_at}, Micros.{hold_of}};
 ghost use Rattle.machine_step.specs.declared.setup.Setup.{Setup};
-ghost use Rattle.traced_run.specs.{Decoded.{DecodesWhole}, Runs.{ThreadRun}};
+ghost use Rattle.traced_run.specs.{Decoded.{DecodesWhole}, Runs.{EachThread, ThreadRun}};
 ghost use Rattle.step_sim.specs.declared.turns.Turns.{Turns as Line};
 ghost use Rattle.step_sim.specs.Along.{IsAlong, LoadsAreWanted, NamesThread, TearsNoSled};
 ghost use Rattle.step_sim.specs.{Schedules.{schedule_of}, Plays.{Plays}};
@@ -46,9 +46,8 @@ pub fn no_replay_tears_a_sled()
     // on. The loads are those of the moment at which the replay leaves these runs.
     ensures runs { (program : Program) (script : List Command) (text : List ℕ) (schedule : List Line)
         (setup : Setup) (runs : List ThreadRun) → schedule_of setup.threads text ≡ Ok schedule
-        → (replay : IsReplayOf program script schedule setup runs) → (i : ℕ) (run : ThreadRun)
-        → slice_get runs i ≡ Some run
-        → DecodesWhole program (i + 1) (hold_of (i + 1) script) run (of_thread replay.last.moment.loads (i + 1)) }
+        → (replay : IsReplayOf program script schedule setup runs) → EachThread runs (λ number run.
+        DecodesWhole program number (hold_of number script) run (of_thread replay.last.moment.loads number)) }
 {
     a_replay_reads_along();
 }

@@ -2,7 +2,7 @@
 //!
 //! `schedule` reads a text, whose lines `line` reads as `turns`. `start` takes all memory of a
 //! replay. `replay` takes the turns: `thread` makes loads, and `patcher` micro steps. Events go to
-//! the buffers of `pool`, whose queue is a `ring`.
+//! the buffers of `pool`, whose queue is a `ring`. `simulate` does all of a replay in one call.
 #![tactic(auto)]
 
 mod along;
@@ -16,6 +16,7 @@ mod replay;
 mod ring;
 mod schedule;
 mod sim_fault;
+mod simulate;
 mod start;
 mod thread;
 mod turns;
@@ -30,6 +31,7 @@ pub use laws::{
 pub use replay::SimEnd;
 pub use schedule::{Schedule, read_schedule};
 pub use sim_fault::SimFault;
+pub use simulate::simulate;
 pub use start::SimStart;
 pub use turns::Turns;
 pub use written::a_written_schedule_is_read;

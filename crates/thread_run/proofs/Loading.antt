@@ -37,7 +37,8 @@ use Rattle.sled_rule.specs.Plans.{bound_in, code_in, code_words, start_in}
 use Rattle.sled_rule.specs.Seats.{work_view, script_of, IsWorkerOf}
 use Rattle.sled_rule.specs.Steps.{IsFetched}
 use Rattle.sled_rule.specs.Views.{counting, loading, next_work}
-use Rattle.thread_run.specs.Following.{HasFollowed, LoadsFollow, MarksFollowScript, given, is_held_by}
+use Rattle.traced_run.specs.Following.{HasFollowed, LoadsFollow, MarksFollowScript}
+use Rattle.thread_run.specs.Following.{given, is_held_by}
 use Rattle.thread_run.specs.Workers.{IsAlong, IsAtWork, IsFreshIn, IsFreshThread, IsThreadIn, cpu_of, seat_of, table_of}
 use Rattle.thread_run.specs.declared.worker.Worker.{Worker}
 

@@ -24,12 +24,13 @@ use Rattle.machine_step.specs.Follows.{later}
 use Rattle.machine_step.specs.PlainStep.{PlainRun}
 use Rattle.machine_step.specs.Traced.{Traced, sleds_passed}
 use Rattle.sled_rule.specs.Seats.{script_of}
+use Rattle.traced_run.specs.Following.{LoadsFollow, MarksFollowScript}
 use Rattle.traced_run.specs.Kept.{buffers_after, segment_count, stamp_of, thread_buffers}
 use Rattle.traced_run.specs.Left.{HasRun}
 use Rattle.traced_run.specs.Losses.{AreLost, recycled_of}
 use Rattle.traced_run.specs.Runs.{ThreadRun}
 use Rattle.thread_run.specs.declared.worker.Worker.{Worker}
-use Rattle.thread_run.specs.Following.{LoadsFollow, MarksFollowScript, given}
+use Rattle.thread_run.specs.Following.{given}
 use Rattle.thread_run.specs.Recordings.{HasSameOwner, Recording, StandsFor, segments_begun, segments_in}
 use Rattle.thread_run.specs.Runs.{HasRunAlong, HaveRunBeside}
 use Rattle.thread_run.specs.private.Pooled.{AreWorkersOfRun, IsWorkerOfRun, lost_beside}
@@ -343,12 +344,10 @@ left_so hold plan pool workers left are count is =
             let next : 1 + i ≡ i + 1 = omega arith in
             subst (λ (k : ℕ). PlainRun plan.program setup.limits k run.passed run.end run.last) next (at i run found).is.plain;
       };
-      lawful = record {
-        follow = λ i run found.
-            let next : 1 + i ≡ i + 1 = omega arith in
-            subst (λ (k : ℕ). MarksFollowScript plan.program (commands_of plan.lines) k (sleds_passed run.passed) run.marks) next (at i run found).is.follow;
-        losses = losses_are plan setup is.used buffers workers runs all.1 is.absent;
-      };
+      follow = λ i run found.
+          let next : 1 + i ≡ i + 1 = omega arith in
+          subst (λ (k : ℕ). MarksFollowScript plan.program (commands_of plan.lines) k (sleds_passed run.passed) run.marks) next (at i run found).is.follow;
+      losses = losses_are plan setup is.used buffers workers runs all.1 is.absent;
       along = λ i run t found there.
           let next : 1 + i ≡ i + 1 = omega arith in
           subst (HasRunAlong plan.program (commands_of plan.lines) (i + 1) run) (thread_is i run t found there)

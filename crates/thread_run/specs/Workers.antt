@@ -18,9 +18,10 @@ use Rattle.sled_rule.specs.declared.views.Load.{Load as SeatLoad}
 use Rattle.sled_rule.specs.declared.views.WorkView.{WorkView}
 use Rattle.sled_rule.specs.Seats.{work_view, script_of, IsWorkerOf}
 use Rattle.sled_rule.specs.Views.{ended_count}
+use Rattle.traced_run.specs.Following.{HasFollowed, MarksFollowScript}
 use Rattle.thread_run.specs.declared.worker.Worker.{Worker}
 use Rattle.thread_run.specs.Each.{HaveChanged}
-use Rattle.thread_run.specs.Following.{HasFollowed, MarksFollowScript, given, is_held_by}
+use Rattle.thread_run.specs.Following.{given, is_held_by}
 
 -- the thread, the seat, the table and the recorder of a worker
 abbrev pub cpu_of : {R : Type 0} → Worker R → Traced

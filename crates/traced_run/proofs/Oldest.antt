@@ -7,7 +7,7 @@ use Rattle.std.proofs.lemmas.List.Concat.{flat_map-append}
 use Rattle.std.proofs.lemmas.List.Sums.{sum_by-cons}
 use Rattle.fdr_record.specs.declared.event.Event.{Event}
 use Rattle.fdr_buffer.specs.Segments.{segments}
-use Rattle.traced_run.specs.Runs.{ThreadRun, events_of}
+use Rattle.traced_run.specs.Runs.{EachThread, ThreadRun, events_of}
 use Rattle.traced_run.specs.Kept.{kept_of, segments_of}
 use Rattle.traced_run.specs.Losses.{recycled_of}
 
@@ -32,14 +32,14 @@ none_lost (first ∷ runs) zero run none found =
 none_lost (first ∷ runs) (suc i) run none found =
     none_lost runs i run (omega (arith, none, sum_by-cons (λ (r : ThreadRun). r.lost) first runs)) found
 
-pub all_kept : (size : ℕ) (runs : List ThreadRun) (i : ℕ) (run : ThreadRun) → recycled_of runs ≡ 0 → slice_get runs i ≡ Some run
-    → kept_of size run ≡ segments_of size run
-all_kept size runs i run none found = ap (λ (n : ℕ). drop n (segments_of size run)) (none_lost runs i run none found)
+pub all_kept : (size : ℕ) (runs : List ThreadRun) → recycled_of runs ≡ 0
+    → EachThread runs (λ number run. kept_of size run ≡ segments_of size run)
+all_kept size runs none i run found = ap (λ (n : ℕ). drop n (segments_of size run)) (none_lost runs i run none found)
 
-pub all_events : HoldAll → (size : ℕ) (runs : List ThreadRun) (i : ℕ) (run : ThreadRun) → recycled_of runs ≡ 0 → slice_get runs i ≡ Some run
-    → flat_map (λ s. s) (kept_of size run) ≡ events_of run
-all_events hold size runs i run none found =
-    ap (flat_map (λ (s : List Event). s)) (all_kept size runs i run none found) ∙ hold size (events_of run)
+pub all_events : HoldAll → (size : ℕ) (runs : List ThreadRun) → recycled_of runs ≡ 0
+    → EachThread runs (λ number run. flat_map (λ s. s) (kept_of size run) ≡ events_of run)
+all_events hold size runs none i run found =
+    ap (flat_map (λ (s : List Event). s)) (all_kept size runs none i run found) ∙ hold size (events_of run)
 
 pub own_events : HoldAll → (size : ℕ) (run : ThreadRun) → run.lost ≡ 0 → flat_map (λ s. s) (kept_of size run) ≡ events_of run
 own_events hold size run none =

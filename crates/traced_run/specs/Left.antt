@@ -1,12 +1,22 @@
 -- What a run leaves.
 use Rattle.std.specs.Prelude.{◌≡◌, ◌+◌, ℕ, List, length, map, slice_get, Some}
+use Rattle.xray_image.specs.Program.{Program}
+use Rattle.patch_script.specs.declared.command.Command.{Command}
+use Rattle.patch_script.specs.Micros.{hold_of}
 use Rattle.fdr_buffer.specs.Filled.{Filled}
 use Rattle.machine_step.specs.declared.setup.Setup.{Setup}
 use Rattle.machine_step.specs.Ended.{EndsAsPlain}
 use Rattle.machine_step.specs.Loads.{Load}
-use Rattle.machine_step.specs.Traced.{Traced}
+use Rattle.machine_step.specs.Traced.{IsThreadOf, Traced}
 use Rattle.traced_run.specs.Runs.{ThreadRun}
 use Rattle.traced_run.specs.Kept.{kept_buffers, segment_count}
+
+-- The threads of a run beside a script, thread 1 first. Each runs the program as one of the setup's threads, and the
+-- script holds it where its commands say.
+abbrev pub AreThreadsOf : Program → List Command → Setup → List Traced → Type 0
+AreThreadsOf program script setup cpus =
+    (i : ℕ) (t : Traced) → slice_get cpus i ≡ Some t
+    → IsThreadOf program (i + 1) setup.threads (hold_of (i + 1) script) setup.limits t
 
 -- there are loads by which a traced thread has ended as its plain run does, with the run's marks
 pub record HasRun (number : ℕ) (run : ThreadRun) (t : Traced) : Type 0 where

@@ -1,4 +1,5 @@
 pub mod Runs
+pub mod Following
 pub mod Decoded
 pub mod Executed
 pub mod Kept

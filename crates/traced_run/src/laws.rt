@@ -1,6 +1,6 @@
 //! Laws of runs. Each law is the contract of a function that does nothing.
 
-ghost use Rattle.std.specs.Prelude.{◌≡◌, ◌≤◌, ◌<◌, ◌^◌, ◌++◌, List, ℕ, All, Option, Some, filter, length, slice_get, take};
+ghost use Rattle.std.specs.Prelude.{◌≡◌, ◌≤◌, ◌<◌, ◌^◌, ◌++◌, List, ℕ, All, Option, filter, length, take};
 ghost use Rattle.std.specs.List.{flat_map};
 ghost use Rattle.xray_image.specs.Program.{IsAccepted, Program};
 ghost use Rattle.fdr_buffer.specs.{Filled.{has_event}, Fits.{BufferFits}};
@@ -15,7 +15,7 @@ ghost use Rattle.traced_run.specs.Executed.{Executes};
 ghost use Rattle.traced_run.specs.Fits.{PassingFits, SetupFits};
 ghost use Rattle.traced_run.specs.Kept.{kept_buffers, kept_of, segments_of, thread_buffers};
 ghost use Rattle.traced_run.specs.Losses.{AreLost, recycled_of, without_losses};
-ghost use Rattle.traced_run.specs.Runs.{IsRun, ThreadRun, events_of};
+ghost use Rattle.traced_run.specs.Runs.{EachThread, IsRun, ThreadRun, events_of};
 
 use fdr_buffer::{a_body_has_room, segments_hold_all};
 use machine_step::{Cpu, Steps, wanted_loads_have_one_value};
@@ -38,11 +38,10 @@ pub fn lost_and_left_segments_hold_all()
 pub fn a_run_without_losses_is_whole()
     ensures thread { (size : ℕ) (run : ThreadRun) → run.lost ≡ 0
         → flat_map (λ s. s) (kept_of size run) ≡ events_of run }
-    ensures segments { (size : ℕ) (runs : List ThreadRun) (i : ℕ) (run : ThreadRun)
-        → recycled_of runs ≡ 0 → slice_get runs i ≡ Some run → kept_of size run ≡ segments_of size run }
-    ensures events { (size : ℕ) (runs : List ThreadRun) (i : ℕ) (run : ThreadRun)
-        → recycled_of runs ≡ 0 → slice_get runs i ≡ Some run
-        → flat_map (λ s. s) (kept_of size run) ≡ events_of run }
+    ensures segments { (size : ℕ) (runs : List ThreadRun) → recycled_of runs ≡ 0
+        → EachThread runs (λ number run. kept_of size run ≡ segments_of size run) }
+    ensures events { (size : ℕ) (runs : List ThreadRun) → recycled_of runs ≡ 0
+        → EachThread runs (λ number run. flat_map (λ s. s) (kept_of size run) ≡ events_of run) }
 {
     segments_hold_all();
 }

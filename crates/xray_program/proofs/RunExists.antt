@@ -20,7 +20,7 @@ use Rattle.machine_step.specs.PlainStep.{Passing, PlainRun, State}
 use Rattle.machine_step.specs.Traced.{sleds_passed}
 use Rattle.traced_run.specs.Losses.{AreLost, without_loss, without_losses}
 use Rattle.traced_run.specs.Runs.{IsRun, ThreadRun}
-use Rattle.thread_run.specs.Following.{MarksFollowScript}
+use Rattle.traced_run.specs.Following.{MarksFollowScript}
 use Rattle.machine_step.specs.Buffers.{spare_of}
 use Rattle.xray_program.specs.Run.{FollowsPlan}
 use Rattle.xray_program.proofs.PlainLaws.{SomeEnd}

@@ -8,7 +8,7 @@ use Rattle.patch_script.specs.Micros.{hold_of, total_of}
 use Rattle.machine_step.specs.Loads.{Load, marks_of}
 use Rattle.machine_step.specs.Traced.{sleds_passed}
 use Rattle.traced_run.specs.Runs.{ThreadRun}
-use Rattle.thread_run.specs.Following.{LoadsFollow, MarksFollowScript}
+use Rattle.traced_run.specs.Following.{LoadsFollow, MarksFollowScript}
 
 -- ---- one list
 

@@ -6,11 +6,12 @@ use Rattle.sled_words.specs.Words.{release_word}
 use Rattle.patch_script.specs.Micros.{total_of}
 use Rattle.patch_script.specs.Plans.{Plan}
 use Rattle.patch_script.specs.Refusals.{commands_of}
+use Rattle.machine_step.specs.Buffers.{spare_of}
 use Rattle.machine_step.specs.declared.setup.Setup.{Setup}
 use Rattle.machine_step.specs.Loads.{Load}
 use Rattle.machine_step.specs.Traced.{sleds_passed}
-use Rattle.thread_run.specs.Following.{LoadsFollow}
-use Rattle.thread_run.specs.Runs.{FollowsScript}
+use Rattle.traced_run.specs.Following.{AllMarksFollow, LoadsFollow}
+use Rattle.traced_run.specs.Losses.{AreLost}
 use Rattle.traced_run.specs.Runs.{ThreadRun}
 use Rattle.xray_program.specs.Inputs.{image_form, script_form}
 use Rattle.xray_program.specs.Outcomes.{Outcome}
@@ -19,8 +20,9 @@ use Rattle.xray_program.specs.Traced.{Traces}
 
 -- The law of `run`. The marks of each thread follow the script, and as many segments are lost as the threads' pool had no
 -- spare buffers for. Whose they are isn't fixed, but each thread keeps its last one.
-abbrev pub FollowsPlan : Setup → Program → Plan → List ThreadRun → Type 0
-FollowsPlan setup program plan = FollowsScript program (commands_of plan.lines) setup
+pub record FollowsPlan (setup : Setup) (program : Program) (plan : Plan) (runs : List ThreadRun) : Type 0 where
+  pub follow : AllMarksFollow program (commands_of plan.lines) runs
+  pub losses : AreLost setup.size (spare_of setup) runs
 
 -- what comes of the judged inputs: the trace and the audit of some lawful runs are written
 abbrev pub RunsBeside : (trace audit : List ℕ) → Setup → Program → Plan → Outcome → Type 0

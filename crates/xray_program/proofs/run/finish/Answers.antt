@@ -41,7 +41,7 @@ returns-clause-finishes g c =
     let text = state_texts 1 is.runs in
     let Are = Traces (FollowsPlan setup inputs.image inputs.script) inputs.image setup trace audit in
     let traces : Are outputs text =
-    record { runs = is.runs; run = is.run; lawful = is.lawful; outputs_are = refl; text_is = refl } in
+    record { runs = is.runs; run = is.run; lawful = record { follow = is.follow; losses = is.losses }; outputs_are = refl; text_is = refl } in
     let Done : Setup → Type 0 = λ with_it.
     Finishes (RunsBeside trace audit with_it inputs.image inputs.script) (seen c.args.desk.now)
     (seen c.deliver_run.new.desk) (got c.args.out.now) (got c.deliver_run.new.out) (g.D.Desk.along c.args.desk.now c.deliver_run.new.desk) c.deliver_run.result in
