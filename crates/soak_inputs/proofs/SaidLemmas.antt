@@ -87,7 +87,7 @@ module _ (numbers : WrittenNumbersRead) where
       and_from (leb 1 (length (function_name i))) (list_all is_word_byte (function_name i)) (le-leb 1 (length (function_name i)) (omega arith))
       (and_parts (leb 1 (length (decimal i))) (list_all is_word_byte (decimal i)) (numbers.word i (omega (arith, h)))).1
 
-  name_reads : (i : ℕ) → i ≤ 63 → names.name_of (function_name i) ≡ Some (function_name i)
+  name_reads : (i : ℕ) → i ≤ 63 → names.name_written (function_name i) ≡ Some (function_name i)
   name_reads i h =
       let word = function_name i in
       let short = length-decimal-le 2 i (omega arith) (omega (arith, h)) (omega (arith, h)) in
@@ -98,7 +98,7 @@ module _ (numbers : WrittenNumbersRead) where
       let is : names.is_name word ≡ true = and_from ((leb 1 (length word) && leb (length word) 255) && true) (list_all is_name_byte word) first bytes in
       ap (λ t. cond t (Some word) None) is
 
-  number_reads : (n : ℕ) → n ≤ 255 → asm_numbers.number_of (decimal n) ≡ Some n
+  number_reads : (n : ℕ) → n ≤ 255 → asm_numbers.number_written (decimal n) ≡ Some n
   number_reads n h =
       ap (λ t. cond t (numeral 16 (drop 2 (decimal n))) (numeral 10 (decimal n))) (no_prefix (decimal n) (decimal_is_IsNumeral n (omega (arith, h))).0.1)
       ∙ numbers.long n (omega (arith, h))

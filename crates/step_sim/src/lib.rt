@@ -16,7 +16,6 @@ mod replay;
 mod ring;
 mod schedule;
 mod sim_fault;
-mod simulate;
 mod start;
 mod thread;
 mod turns;
@@ -31,7 +30,6 @@ pub use laws::{
 pub use replay::SimEnd;
 pub use schedule::{Schedule, read_schedule};
 pub use sim_fault::SimFault;
-pub use simulate::simulate;
 pub use start::SimStart;
 pub use turns::Turns;
 pub use written::a_written_schedule_is_read;
