@@ -7,6 +7,7 @@
 
 mod along;
 mod fault;
+mod in_one;
 mod laws;
 mod line;
 mod patcher;
@@ -23,6 +24,7 @@ mod written;
 
 pub use along::{a_replay_reads_along, no_replay_tears_a_sled};
 pub use fault::ScheduleFault;
+pub use in_one::simulate;
 pub use laws::{
     a_replay_loses_few, buffers_change_no_replay, lost_segments_are_the_oldest, one_pooled_replay,
     one_replay, one_run, some_replay, some_run,
