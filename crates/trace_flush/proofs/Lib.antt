@@ -2,6 +2,7 @@ pub mod AuditText
 pub mod Digits
 pub mod OneOrder
 pub mod TellsMarks
+pub mod TellsRuns
 pub mod TellsAll
 pub mod Audited
 pub mod KeptOrder

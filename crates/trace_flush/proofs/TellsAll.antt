@@ -1,19 +1,17 @@
 -- The text of an audit determines its run.
-use Rattle.std.proofs.Common.{◌≡◌, ◌<◌, ◌≤◌, ◌^◌, ℕ, suc, Bool, true, false, cond, List, [], ◌∷◌, ◌++◌, length, get_or, nat_lt, refl, sym, ap, ◌∙◌, arith, append_assoc}
-use Rattle.std.specs.Prelude.{All, codes, decimal, map, ◌==◌}
+use Rattle.std.proofs.Common.{◌≡◌, ◌<◌, ◌≤◌, ◌^◌, ℕ, suc, Bool, true, false, cond, List, [], ◌∷◌, ◌++◌, get_or, nat_lt, refl, sym, ap, ◌∙◌, arith, append_assoc}
+use Rattle.std.specs.Prelude.{All, codes, decimal, ◌==◌}
 use Rattle.std.specs.List.{flat_map}
 use Rattle.std.proofs.lemmas.Bool.{ltb-true}
 use Rattle.std.proofs.lemmas.Fmt.{decimal_injective}
 use Rattle.xray_io.specs.declared.wall.Wall.{Wall}
 use Rattle.handler_word.specs.declared.mark.Mark.{Mark}
-use Rattle.handler_word.specs.MarkList.{recorded_count}
 use Rattle.handler_word.specs.Runs.{runs_text}
 use Rattle.machine_step.specs.declared.end.End.{End}
 use Rattle.machine_step.specs.declared.end.End.TheVariants as ends
 use Rattle.machine_step.specs.declared.limits.Limits.{Limits}
 use Rattle.machine_step.specs.declared.setup.Setup.{Setup}
 use Rattle.machine_step.specs.Texts.{end_text, marks_line, line_feed}
-use Rattle.trace_flush.specs.declared.line.AuditLine.{AuditLine}
 use Rattle.trace_flush.specs.Audit.{ThreadAudit, audit_text, buffers_text, limits_text, stamps_text, setup_lines, thread_line, thread_lines, recycled_line}
 use Rattle.trace_flush.specs.Telling.{HasNumbers, HasSetupNumbers, setup_numbers}
 use Rattle.trace_flush.proofs.Digits.{IsAbove, split_at, number_split, following}
@@ -82,63 +80,69 @@ number_tells m n c d r s small small' low low' same =
 
 -- a thread's lines and what follows them, each part before the next
 abbrev line_before : ThreadAudit → List ℕ → List ℕ
-line_before (line, marks) rest =
-    codes "thread " ++ (decimal line.thread ++ (codes " " ++ (end_text line.end ++ (codes " passings " ++ (decimal (length marks)
-    ++ (codes " recorded " ++ (decimal (recorded_count marks) ++ (codes " segments " ++ (decimal line.segments ++ (codes " first " ++ (decimal line.first
+line_before said rest =
+    codes "thread " ++ (decimal said.thread ++ (codes " " ++ (end_text said.end ++ (codes " passings " ++ (decimal said.passings
+    ++ (codes " recorded " ++ (decimal said.recorded ++ (codes " segments " ++ (decimal said.segments ++ (codes " first " ++ (decimal said.first
     ++ 10 ∷ rest)))))))))))
 
 abbrev lines_before : ThreadAudit → List ℕ → List ℕ
-lines_before (line, marks) rest = line_before (line, marks) (codes "marks " ++ (runs_text marks ++ 10 ∷ rest))
+lines_before said rest = line_before said (codes "marks " ++ (runs_text said.marks ++ 10 ∷ rest))
 
-line_is : (line : AuditLine) (marks : List Mark) (rest : List ℕ) → thread_line (line, marks) ++ rest ≡ line_before (line, marks) rest
-line_is line marks rest = simp append_assoc
+line_is : (said : ThreadAudit) (rest : List ℕ) → thread_line said ++ rest ≡ line_before said rest
+line_is said rest = simp append_assoc
 
-lines_are : (line : AuditLine) (marks : List Mark) (rest : List ℕ) → thread_lines (line, marks) ++ rest ≡ lines_before (line, marks) rest
-lines_are line marks rest =
-    append_assoc (thread_line (line, marks)) (marks_line marks) rest
-    ∙ (line_is line marks (marks_line marks ++ rest)
-    ∙ ap (line_before (line, marks)) (append_assoc (codes "marks " ++ runs_text marks) line_feed rest ∙ append_assoc (codes "marks ") (runs_text marks) (10 ∷ rest)))
+lines_are : (said : ThreadAudit) (rest : List ℕ) → thread_lines said ++ rest ≡ lines_before said rest
+lines_are said rest =
+    append_assoc (thread_line said) (marks_line said.marks) rest
+    ∙ (line_is said (marks_line said.marks ++ rest)
+    ∙ ap (line_before said) (append_assoc (codes "marks " ++ runs_text said.marks) line_feed rest ∙ append_assoc (codes "marks ") (runs_text said.marks) (10 ∷ rest)))
 
--- lines with the same fields are the same
-one_line : (line line' : AuditLine) → line.thread ≡ line'.thread → line.end ≡ line'.end → line.segments ≡ line'.segments → line.first ≡ line'.first
-    → line ≡ line'
-one_line line line' threads ends_same segments firsts =
-    let made : ℕ → End → ℕ → ℕ → AuditLine = λ t e n m. record { thread = t; end = e; segments = n; first = m } in
-    ap (λ (t : ℕ). made t line.end line.segments line.first) threads
-    ∙ (ap (λ (e : End). made line'.thread e line.segments line.first) ends_same
-    ∙ (ap (λ (n : ℕ). made line'.thread line'.end n line.first) segments
-    ∙ ap (λ (m : ℕ). made line'.thread line'.end line'.segments m) firsts))
+-- what is said of threads with the same numbers, ends and marks is the same
+made : ℕ → End → ℕ → ℕ → ℕ → ℕ → List Mark → ThreadAudit
+made thread end passings recorded segments first marks =
+    record { thread = thread; end = end; passings = passings; recorded = recorded; segments = segments; first = first; marks = marks }
 
--- the lines of a thread determine it
-thread_tells : (line line' : AuditLine) (marks marks' : List Mark) (r s : List ℕ) → HasNumbers (line, marks) → HasNumbers (line', marks')
-    → lines_before (line, marks) r ≡ lines_before (line', marks') s → (◌≡◌ {A = ThreadAudit} (line, marks) (line', marks')) × (r ≡ s)
-thread_tells line line' marks marks' r s small small' same =
-    let one = number_tells line.thread line'.thread 32 32 _ _ small.number small'.number (omega arith) (omega arith) (following (codes "thread ") _ _ same) in
-    let two = end_split line.end line'.end _ _ one.1 in
-    let three = number_tells (length marks) (length marks') 32 32 _ _ small.passings small'.passings (omega arith) (omega arith) (following (codes "passings ") _ _ two.1) in
-    let four = number_split (recorded_count marks) (recorded_count marks') 32 32 _ _ (omega arith) (omega arith) (following (codes "recorded ") _ _ three.1) in
-    let five = number_tells line.segments line'.segments 32 32 _ _ small.segments small'.segments (omega arith) (omega arith) (following (codes " segments ") _ _ four.1) in
-    let six = number_tells line.first line'.first 10 10 _ _ small.first small'.first (omega arith) (omega arith) (following (codes "first ") _ _ five.1) in
-    let seven = marks_tell marks marks' r s small.passings small'.passings (following (codes "marks ") _ _ six.1) in
-    let lines_same = one_line line line' one.0 two.0 five.0 six.0 in
-    (◌∙◌ {b = (line', marks)} (ap (λ (l : AuditLine). (l, marks)) lines_same) (ap (λ (ms : List Mark). (line', ms)) seven.0), seven.1)
+is_made_of : (said : ThreadAudit) → said ≡ made said.thread said.end said.passings said.recorded said.segments said.first said.marks
+unfolding made
+is_made_of said = refl
+
+pub one_audit : (said other : ThreadAudit) → said.thread ≡ other.thread → said.end ≡ other.end → said.passings ≡ other.passings
+    → said.recorded ≡ other.recorded → said.segments ≡ other.segments → said.first ≡ other.first → said.marks ≡ other.marks → said ≡ other
+one_audit said other threads ends_same passings recorded segments firsts marks = cc (is_made_of said, is_made_of other)
+
+-- the lines of a thread determine what is said of it
+thread_tells : (said other : ThreadAudit) (r s : List ℕ) → HasNumbers said → HasNumbers other
+    → lines_before said r ≡ lines_before other s → (said ≡ other) × (r ≡ s)
+thread_tells said other r s small small' same =
+    let one = number_tells said.thread other.thread 32 32 _ _ small.number small'.number (omega arith) (omega arith) (following (codes "thread ") _ _ same) in
+    let two = end_split said.end other.end _ _ one.1 in
+    let three = number_tells said.passings other.passings 32 32 _ _ small.passings small'.passings (omega arith) (omega arith) (following (codes "passings ") _ _ two.1) in
+    let four = number_tells said.recorded other.recorded 32 32 _ _ small.recorded small'.recorded (omega arith) (omega arith) (following (codes " recorded ") _ _ (next 32 _ _ three.1)) in
+    let five = number_tells said.segments other.segments 32 32 _ _ small.segments small'.segments (omega arith) (omega arith) (following (codes " segments ") _ _ (next 32 _ _ four.1)) in
+    let six = number_tells said.first other.first 10 10 _ _ small.first small'.first (omega arith) (omega arith) (following (codes " first ") _ _ (next 32 _ _ five.1)) in
+    let seven = marks_tell said.marks other.marks r s small.marks small'.marks (following (codes "marks ") _ _ six.1) in
+    (one_audit said other one.0 two.0 three.0 four.0 five.0 six.0 seven.0, seven.1)
+  where
+    next : (byte : ℕ) (xs ys : List ℕ) → xs ≡ ys → byte ∷ xs ≡ byte ∷ ys
+    next byte xs ys alike = ap (λ (l : List ℕ). byte ∷ l) alike
 
 -- ---- the lines of all threads
 
 threads_tell : (threads others : List ThreadAudit) (r s : List ℕ) → All HasNumbers threads → All HasNumbers others
-    → flat_map thread_lines threads ++ (codes "recycled " ++ r) ≡ flat_map thread_lines others ++ (codes "recycled " ++ s) → threads ≡ others
-threads_tell [] [] r s small small' same = refl
-threads_tell [] ((line, marks) ∷ others) r s small small' same = let first : ◌≡◌ {A = ℕ} 114 116 = cc in absurd (omega arith)
-threads_tell ((line, marks) ∷ threads) [] r s small small' same = let first : ◌≡◌ {A = ℕ} 116 114 = cc in absurd (omega arith)
-threads_tell ((line, marks) ∷ threads) ((line', marks') ∷ others) r s small small' same =
+    → flat_map thread_lines threads ++ (codes "recycled " ++ r) ≡ flat_map thread_lines others ++ (codes "recycled " ++ s)
+    → (threads ≡ others) × (r ≡ s)
+threads_tell [] [] r s small small' same = (refl, following (codes "recycled ") r s same)
+threads_tell [] (other ∷ others) r s small small' same = let first : ◌≡◌ {A = ℕ} 114 116 = cc in absurd (omega arith)
+threads_tell (said ∷ threads) [] r s small small' same = let first : ◌≡◌ {A = ℕ} 116 114 = cc in absurd (omega arith)
+threads_tell (said ∷ threads) (other ∷ others) r s small small' same =
     let rest = flat_map thread_lines threads ++ (codes "recycled " ++ r) in
     let rest' = flat_map thread_lines others ++ (codes "recycled " ++ s) in
-    let parts : lines_before (line, marks) rest ≡ lines_before (line', marks') rest' =
-    sym (lines_are line marks rest) ∙ (sym (append_assoc (thread_lines (line, marks)) (flat_map thread_lines threads) (codes "recycled " ++ r))
-    ∙ (same ∙ (append_assoc (thread_lines (line', marks')) (flat_map thread_lines others) (codes "recycled " ++ s) ∙ lines_are line' marks' rest'))) in
-    let first = thread_tells line line' marks marks' rest rest' (small 0 (line, marks) (omega arith)) (small' 0 (line, marks) (omega arith)) parts in
+    let parts : lines_before said rest ≡ lines_before other rest' =
+    sym (lines_are said rest) ∙ (sym (append_assoc (thread_lines said) (flat_map thread_lines threads) (codes "recycled " ++ r))
+    ∙ (same ∙ (append_assoc (thread_lines other) (flat_map thread_lines others) (codes "recycled " ++ s) ∙ lines_are other rest'))) in
+    let first = thread_tells said other rest rest' (small 0 said (omega arith)) (small' 0 said (omega arith)) parts in
     let later = threads_tell threads others r s (λ k d within. small (suc k) d (omega arith)) (λ k d within. small' (suc k) d (omega arith)) first.1 in
-    ap (λ (t : ThreadAudit). t ∷ threads) first.0 ∙ ap (λ (ts : List ThreadAudit). (line', marks') ∷ ts) later
+    (ap (λ (t : ThreadAudit). t ∷ threads) first.0 ∙ ap (λ (ts : List ThreadAudit). other ∷ ts) later.0, later.1)
 
 -- ---- the line of the setup
 
@@ -281,21 +285,28 @@ one_setup setup setup' small small' told =
 -- ---- the whole text
 
 -- the text before its threads, and the text after them
-parts_alike : (setup setup' : Setup) (threads others : List ThreadAudit) → audit_text setup threads ≡ audit_text setup' others
-    → setup_before setup (flat_map thread_lines threads ++ recycled_line (map (λ thread. thread.0) threads))
-    ≡ setup_before setup' (flat_map thread_lines others ++ recycled_line (map (λ thread. thread.0) others))
-parts_alike setup setup' threads others same =
-    let recycled = recycled_line (map (λ thread. thread.0) threads) in
-    let recycled' = recycled_line (map (λ thread. thread.0) others) in
-    sym (setup_is setup (flat_map thread_lines threads ++ recycled)) ∙ (sym (append_assoc (setup_lines setup) (flat_map thread_lines threads) recycled)
-    ∙ (same ∙ (append_assoc (setup_lines setup') (flat_map thread_lines others) recycled' ∙ setup_is setup' (flat_map thread_lines others ++ recycled'))))
+parts_alike : (setup setup' : Setup) (threads others : List ThreadAudit) (recycled other : ℕ)
+    → audit_text setup threads recycled ≡ audit_text setup' others other
+    → setup_before setup (flat_map thread_lines threads ++ recycled_line recycled)
+    ≡ setup_before setup' (flat_map thread_lines others ++ recycled_line other)
+parts_alike setup setup' threads others recycled other same =
+    let last = recycled_line recycled in
+    let last' = recycled_line other in
+    sym (setup_is setup (flat_map thread_lines threads ++ last)) ∙ (sym (append_assoc (setup_lines setup) (flat_map thread_lines threads) last)
+    ∙ (same ∙ (append_assoc (setup_lines setup') (flat_map thread_lines others) last' ∙ setup_is setup' (flat_map thread_lines others ++ last'))))
 
-pub audit_tells_threads : (setup setup' : Setup) (threads others : List ThreadAudit) → All HasNumbers threads → All HasNumbers others
-    → audit_text setup threads ≡ audit_text setup' others → threads ≡ others
-audit_tells_threads setup setup' threads others small small' same =
-    threads_tell threads others _ _ small small' (setup_tells setup setup' _ _ (parts_alike setup setup' threads others same)).1
+pub audit_tells_threads : (setup setup' : Setup) (threads others : List ThreadAudit) (recycled other : ℕ) → All HasNumbers threads → All HasNumbers others
+    → audit_text setup threads recycled ≡ audit_text setup' others other → threads ≡ others
+audit_tells_threads setup setup' threads others recycled other small small' same =
+    (threads_tell threads others _ _ small small' (setup_tells setup setup' _ _ (parts_alike setup setup' threads others recycled other same)).1).0
 
-pub audit_tells_setup : (setup setup' : Setup) (threads others : List ThreadAudit) → HasSetupNumbers setup → HasSetupNumbers setup'
-    → audit_text setup threads ≡ audit_text setup' others → setup ≡ setup'
-audit_tells_setup setup setup' threads others small small' same =
-    one_setup setup setup' small small' (setup_tells setup setup' _ _ (parts_alike setup setup' threads others same)).0
+pub audit_tells_recycled : (setup setup' : Setup) (threads others : List ThreadAudit) (recycled other : ℕ) → All HasNumbers threads → All HasNumbers others
+    → recycled < 2 ^ 64 → other < 2 ^ 64 → audit_text setup threads recycled ≡ audit_text setup' others other → recycled ≡ other
+audit_tells_recycled setup setup' threads others recycled other small small' few few' same =
+    let last = (threads_tell threads others _ _ small small' (setup_tells setup setup' _ _ (parts_alike setup setup' threads others recycled other same)).1).1 in
+    (number_tells recycled other 10 10 [] [] few few' (omega arith) (omega arith) last).0
+
+pub audit_tells_setup : (setup setup' : Setup) (threads others : List ThreadAudit) (recycled other : ℕ) → HasSetupNumbers setup → HasSetupNumbers setup'
+    → audit_text setup threads recycled ≡ audit_text setup' others other → setup ≡ setup'
+audit_tells_setup setup setup' threads others recycled other small small' same =
+    one_setup setup setup' small small' (setup_tells setup setup' _ _ (parts_alike setup setup' threads others recycled other same)).0

@@ -17,7 +17,6 @@ use Rattle.fdr_file.specs.Grammar.{IsTrace}
 use Rattle.machine_step.specs.declared.setup.Setup.{Setup}
 use Rattle.traced_run.specs.Fits.{SetupFits}
 use Rattle.traced_run.specs.Kept.{buffer_of, kept_buffers, kept_of, segments_of, stamp_of, thread_buffers}
-use Rattle.traced_run.specs.Losses.{recycled_of}
 use Rattle.traced_run.specs.Runs.{IsRun, ThreadRun, events_of}
 use Rattle.trace_flush.specs.Flush.{IsTraceOf, segment_block, run_header, is_of, thread_blocks, trace_bytes}
 
@@ -148,9 +147,7 @@ RunsFit =
     → IsRun program setup runs → All BufferFits (kept_buffers setup runs)
 
 abbrev pub AreWhole : Type 0
-AreWhole =
-    (size : ℕ) (runs : List ThreadRun) (i : ℕ) (run : ThreadRun) → recycled_of runs ≡ 0 → slice_get runs i ≡ Some run
-    → flat_map (λ s. s) (kept_of size run) ≡ events_of run
+AreWhole = (size : ℕ) (run : ThreadRun) → run.lost ≡ 0 → flat_map (λ s. s) (kept_of size run) ≡ events_of run
 
 pub run_is_traced : ReadsBack → RunsFit → AreWhole → (bytes : List ℕ) (program : Program) (setup : Setup) (runs : List ThreadRun)
     → IsAccepted bytes program → SetupFits setup → IsRun program setup runs → IsTraceOf setup runs (trace_bytes setup runs)
@@ -160,9 +157,9 @@ run_is_traced back fit whole bytes program setup runs accepted fits is = record 
       (λ k d below. record { begun = begun_all setup 1 runs k d below; fits = fit bytes program setup runs accepted fits is k d below });
   header = refl;
   blocks = blocks;
-  whole = λ none i run found.
+  whole = λ i run found none.
       ap (flat_map (λ (block : Block). block.events)) (blocks i run found) ∙ block_events setup (i + 1) (kept_of setup.size run)
-      ∙ whole setup.size runs i run none found;
+      ∙ whole setup.size run none;
   order = order;
 }
   where

@@ -1,21 +1,47 @@
 -- The audit: what a run was made with, and how its threads ended.
-use Rattle.std.specs.Prelude.{ℕ, List, ◌++◌, length, map, sum_by, codes, decimal}
-use Rattle.std.specs.List.{flat_map, zip}
+use Rattle.std.specs.Prelude.{ℕ, List, [], ◌∷◌, ◌++◌, length, sum_by, codes, decimal}
+use Rattle.std.specs.List.{flat_map}
 use Rattle.handler_word.specs.declared.mark.Mark.{Mark}
 use Rattle.handler_word.specs.MarkList.{recorded_count}
+use Rattle.machine_step.specs.declared.end.End.{End}
 use Rattle.machine_step.specs.declared.limits.Limits.{Limits}
 use Rattle.machine_step.specs.declared.setup.Setup.{Setup}
 use Rattle.machine_step.specs.Texts.{end_text, marks_line, line_feed}
 use Rattle.machine_step.specs.Traced.{Traced}
 use Rattle.trace_flush.specs.declared.line.AuditLine.{AuditLine}
 
--- what the audit says of a thread: what its line has, and the marks of its passings
-abbrev pub ThreadAudit : Type 0
-ThreadAudit = AuditLine × List Mark
+-- What an audit says of a thread: its number and its end; its passings, and those that recorded an event; its segments,
+-- and how many of them were recycled; and the marks of its passings. These are the numbers as they are printed. In the
+-- audit of a run they are those of the marks and of the run.
+pub record ThreadAudit : Type 0 where
+  pub thread : ℕ
+  pub end : End
+  pub passings : ℕ
+  pub recorded : ℕ
+  pub segments : ℕ
+  pub first : ℕ
+  pub marks : List Mark
 
--- the lines of threads, each with the marks of its thread
+-- what is said of a thread with this line and these marks
+abbrev pub thread_audit : AuditLine → List Mark → ThreadAudit
+thread_audit line marks = record {
+  thread = line.thread;
+  end = line.end;
+  passings = length marks;
+  recorded = recorded_count marks;
+  segments = line.segments;
+  first = line.first;
+  marks = marks;
+}
+
+-- what is said of threads with these lines
 abbrev pub thread_audits : List AuditLine → List Traced → List ThreadAudit
-thread_audits lines threads = zip lines (map (λ thread. thread.marks) threads)
+thread_audits (line ∷ lines) (thread ∷ threads) = thread_audit line thread.marks ∷ thread_audits lines threads
+thread_audits lines threads = []
+
+-- how many segments of all threads were recycled, by these lines
+abbrev pub recycled_by : List AuditLine → ℕ
+recycled_by lines = sum_by (λ line. line.first) lines
 
 -- ---- what the run was made with
 
@@ -45,20 +71,19 @@ setup_lines setup = buffers_text setup ++ limits_text setup.limits ++ stamps_tex
 
 -- how a thread ended, its passings and those that recorded an event, its segments, and how many of these were recycled
 abbrev pub thread_line : ThreadAudit → List ℕ
-thread_line (line, marks) =
-    codes "thread " ++ decimal line.thread ++ codes " " ++ end_text line.end ++ codes " passings " ++ decimal (length marks)
-    ++ codes " recorded " ++ decimal (recorded_count marks) ++ codes " segments " ++ decimal line.segments
-    ++ codes " first " ++ decimal line.first ++ line_feed
+thread_line said =
+    codes "thread " ++ decimal said.thread ++ codes " " ++ end_text said.end ++ codes " passings " ++ decimal said.passings
+    ++ codes " recorded " ++ decimal said.recorded ++ codes " segments " ++ decimal said.segments
+    ++ codes " first " ++ decimal said.first ++ line_feed
 
 -- a thread's two lines
 abbrev pub thread_lines : ThreadAudit → List ℕ
-thread_lines (line, marks) = thread_line (line, marks) ++ marks_line marks
+thread_lines said = thread_line said ++ marks_line said.marks
 
 -- how many segments of all threads were recycled
-abbrev pub recycled_line : List AuditLine → List ℕ
-recycled_line lines = codes "recycled " ++ decimal (sum_by (λ line. line.first) lines) ++ line_feed
+abbrev pub recycled_line : ℕ → List ℕ
+recycled_line recycled = codes "recycled " ++ decimal recycled ++ line_feed
 
 -- the whole text
-abbrev pub audit_text : Setup → List ThreadAudit → List ℕ
-audit_text setup threads =
-    setup_lines setup ++ flat_map thread_lines threads ++ recycled_line (map (λ thread. thread.0) threads)
+abbrev pub audit_text : Setup → List ThreadAudit → (recycled : ℕ) → List ℕ
+audit_text setup threads recycled = setup_lines setup ++ flat_map thread_lines threads ++ recycled_line recycled

@@ -1,5 +1,5 @@
 -- The trace of a run: what its file is.
-use Rattle.std.specs.Prelude.{◌≡◌, ◌+◌, ◌==◌, Bool, true, ℕ, List, filter, map, slice_get, Some}
+use Rattle.std.specs.Prelude.{◌≡◌, ◌==◌, Bool, true, ℕ, List, filter, map}
 use Rattle.std.specs.List.{enumerate_from, flat_map}
 use Rattle.fdr_record.specs.declared.event.Event.{Event}
 use Rattle.fdr_file.specs.declared.header.Header.{Header}
@@ -9,8 +9,7 @@ use Rattle.fdr_file.specs.Files.{file_bytes}
 use Rattle.fdr_file.specs.Grammar.{IsTrace}
 use Rattle.machine_step.specs.declared.setup.Setup.{Setup}
 use Rattle.traced_run.specs.Kept.{kept_buffers, kept_of}
-use Rattle.traced_run.specs.Losses.{recycled_of}
-use Rattle.traced_run.specs.Runs.{ThreadRun, events_of}
+use Rattle.traced_run.specs.Runs.{EachThread, ThreadRun, events_of}
 
 -- The header of a trace with this setup: version 3, a counter that runs at a constant frequency and never stops, that
 -- frequency in cycles per second, and the size of a buffer in bytes.
@@ -40,14 +39,14 @@ thread_blocks setup (thread, run) = map (segment_block setup thread) (kept_of se
 
 -- The bytes are the trace of a run. By the grammar of trace files, they are a header with the setup's frequency and
 -- size of buffers, and blocks. The blocks of each thread are the last whole segments of exactly the entries and exits
--- that its marks record. Only its lost segments are missing, which are its oldest. If the run has lost no segment, the
+-- that its marks record. Only its lost segments are missing, which are its oldest. If a thread has lost no segment, its
 -- blocks hold all of these events. The blocks are ordered by thread, and those of a thread by segment. There are no
 -- others.
 pub record IsTraceOf (setup : Setup) (runs : List ThreadRun) (bytes : List ℕ) : Type 0 where
   pub trace : Trace
   pub reads : IsTrace bytes trace
   pub header : trace.header ≡ run_header setup
-  pub blocks : (i : ℕ) (run : ThreadRun) → slice_get runs i ≡ Some run → blocks_of (i + 1) trace ≡ thread_blocks setup (i + 1, run)
-  pub whole : recycled_of runs ≡ 0 → (i : ℕ) (run : ThreadRun) → slice_get runs i ≡ Some run
-      → flat_map (λ block. block.events) (blocks_of (i + 1) trace) ≡ events_of run
+  pub blocks : EachThread runs (λ number run. blocks_of number trace ≡ thread_blocks setup (number, run))
+  pub whole : EachThread runs (λ number run. run.lost ≡ 0
+      → flat_map (λ block. block.events) (blocks_of number trace) ≡ events_of run)
   pub order : trace.blocks ≡ flat_map (thread_blocks setup) (enumerate_from 1 runs)

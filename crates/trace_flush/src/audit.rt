@@ -1,16 +1,16 @@
 //! The text of the audit.
 
-ghost use Rattle.std.specs.Prelude.{◌≡◌, ◌++◌, ◌<◌, ◌*◌, ◌^◌, length, All, sum_by};
+ghost use Rattle.std.specs.Prelude.{◌≡◌, ◌++◌, ◌<◌, ◌*◌, ◌^◌, length, All};
 ghost use Rattle.std.specs.List.{flat_map};
 ghost use Rattle.machine_step.specs.{Texts.{marks_line}, Traced.{IsDone}};
-ghost use Rattle.trace_flush.specs.Audit.{thread_audits, audit_text, buffers_text, limits_text, recycled_line, setup_lines, stamps_text};
+ghost use Rattle.trace_flush.specs.Audit.{audit_text, buffers_text, limits_text, recycled_by, recycled_line, setup_lines, stamps_text, thread_audit, thread_audits};
 ghost use Rattle.trace_flush.specs.private.Parts.{first_text, rest_of, said_of, segments_text, start_text};
-ghost use Rattle.xray_io.specs.Text.{AddsText};
+ghost use Rattle.xray_io.specs.{Text.{AddsText}, Writes.{WritesText}};
 
 use crate::line::AuditLine;
 use handler_word::Marks;
 use machine_step::{Cpu, Limits, Setup, add_marks, end_name};
-use xray_io::{Piece, Printed, Sink, Text, WriteFault};
+use xray_io::{Piece, Printed, Sink, Text, WriteFault, write_text};
 
 /// The audit of a run whose threads have all ended: what it was made with, two lines for each
 /// thread in order, and how many segments were recycled.
@@ -25,7 +25,8 @@ pub struct Audit<'a, 'i> {
 }
 
 impl Printed for Audit<'_, '_> {
-    ghost text = { λ audit. audit_text audit.setup.now (thread_audits audit.lines.now audit.cpus.now) };
+    ghost text = { λ audit. audit_text audit.setup.now (thread_audits audit.lines.now audit.cpus.now)
+        (recycled_by audit.lines.now) };
 
     ghost ready = { λ audit. (length audit.lines.now ≡ length audit.cpus.now)
         × All (λ cpu. IsDone cpu.want) audit.cpus.now };
@@ -35,6 +36,22 @@ impl Printed for Audit<'_, '_> {
         add_threads(to, Detail::Audit, self.lines, self.cpus)?;
         add_recycled(to, self.lines)
     }
+}
+
+/// Writes the audit of a run whose threads have all ended. `lines` has one line for each thread. On
+/// `WriteFault` a prefix of the audit was written, and the sink counted a fault.
+pub fn write_audit<S: Sink>(
+    setup: &Setup,
+    lines: &[AuditLine],
+    cpus: &[Cpu],
+    sink: &mut S,
+) -> Result<(), WriteFault>
+    requires count { length lines.now ≡ length cpus.now }
+    requires done { All (λ cpu. IsDone cpu.want) cpus.now }
+    ensures { WritesText S.written S.faults S.along sink.old sink.new
+        (audit_text setup.now (thread_audits lines.now cpus.now) (recycled_by lines.now)) result }
+{
+    write_text(&Audit { setup, lines, cpus }, sink)
 }
 
 /// Adds the line of the format and the line of the setup.
@@ -133,7 +150,7 @@ fn add_thread<S: Sink>(
     marks: &Marks,
 ) -> Result<(), WriteFault>
     ensures { AddsText S.written S.faults S.along text.old text.new
-        (said_of detail (line.now, marks.now.items)) result }
+        (said_of detail (thread_audit line.now marks.now.items)) result }
 {
     add_start(text, line, marks)?;
     add_rest(text, detail, line, marks)
@@ -142,7 +159,7 @@ fn add_thread<S: Sink>(
 /// Adds how a thread ended, its passings and those that recorded an event.
 fn add_start<S: Sink>(text: &mut Text<S>, line: &AuditLine, marks: &Marks) -> Result<(), WriteFault>
     ensures { AddsText S.written S.faults S.along text.old text.new
-        (start_text (line.now, marks.now.items)) result }
+        (start_text (thread_audit line.now marks.now.items)) result }
 {
     text.pieces(&[
         Piece::Bytes(b"thread "),
@@ -164,7 +181,7 @@ fn add_rest<S: Sink>(
     marks: &Marks,
 ) -> Result<(), WriteFault>
     ensures { AddsText S.written S.faults S.along text.old text.new
-        (rest_of detail (line.now, marks.now.items)) result }
+        (rest_of detail line.now marks.now.items) result }
 {
     match detail {
         Detail::Audit => add_whole_rest(text, line, marks),
@@ -215,7 +232,7 @@ pub(crate) fn add_recycled<S: Sink>(
     lines: &[AuditLine],
 ) -> Result<(), WriteFault>
     ensures { AddsText S.written S.faults S.along text.old text.new
-        (recycled_line lines.now) result }
+        (recycled_line (recycled_by lines.now)) result }
 {
     text.pieces(&[
         Piece::Bytes(b"recycled "),
@@ -226,7 +243,7 @@ pub(crate) fn add_recycled<S: Sink>(
 
 /// How many segments of all threads were recycled.
 fn recycled(lines: &[AuditLine]) -> u128
-    ensures { result ≡ sum_by (λ line. line.first) lines.now }
+    ensures { result ≡ recycled_by lines.now }
 {
     lines.iter().map(|line| u128::from(line.first)).sum()
 }

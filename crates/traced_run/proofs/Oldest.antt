@@ -40,3 +40,7 @@ pub all_events : HoldAll → (size : ℕ) (runs : List ThreadRun) → recycled_o
     → EachThread runs (λ number run. flat_map (λ s. s) (kept_of size run) ≡ events_of run)
 all_events hold size runs none i run found =
     ap (flat_map (λ (s : List Event). s)) (all_kept size runs none i run found) ∙ hold size (events_of run)
+
+pub own_events : HoldAll → (size : ℕ) (run : ThreadRun) → run.lost ≡ 0 → flat_map (λ s. s) (kept_of size run) ≡ events_of run
+own_events hold size run none =
+    ap (λ (n : ℕ). flat_map (λ (s : List Event). s) (drop n (segments_of size run))) none ∙ hold size (events_of run)

@@ -32,9 +32,12 @@ pub fn lost_and_left_segments_hold_all()
     segments_hold_all();
 }
 
-/// If a run has lost no segment, each thread has all of its segments. They hold all events that its
-/// marks record.
+/// If a thread has lost no segment, its segments that are left hold all events that its marks record
+/// (`thread`). If a run has lost no segment, each thread has all of its segments, and so they hold all
+/// of its events.
 pub fn a_run_without_losses_is_whole()
+    ensures thread { (size : ℕ) (run : ThreadRun) → run.lost ≡ 0
+        → flat_map (λ s. s) (kept_of size run) ≡ events_of run }
     ensures segments { (size : ℕ) (runs : List ThreadRun) → recycled_of runs ≡ 0
         → EachThread runs (λ number run. kept_of size run ≡ segments_of size run) }
     ensures events { (size : ℕ) (runs : List ThreadRun) → recycled_of runs ≡ 0

@@ -74,7 +74,7 @@ leaves_all : (said : Option Command) (before after : World) (outcome : Outcome) 
     → Means said before.desk.held outcome → written_by outcome ≡ Some (outputs, text)
     → Writes outputs text before.desk after.desk before.out after.out → LeavesAll said before after (With outcome)
 leaves_all said before after outcome outputs text meant is writes =
-    record { outcome = outcome; is = refl; meant = meant; outputs = outputs; text = text; writes = is; whole = writes.whole; out = writes.printed; calm = writes.calm }
+    record { outcome = outcome; is = refl; meant = meant; outputs = outputs; text = text; writes = is; whole = writes.whole; out = writes.printed; desk_calm = writes.desk_calm; calm = writes.calm }
 
 -- how the parts of the contract follow, one for each ending
 by_ending : CallLaws → (Way : List Call → Type 0) (said : Option Command) (before after : World) (ending : Ending)

@@ -1,6 +1,8 @@
 -- What words mean: only one thing if they are decided, a refusal and nothing else, and something in any case. Each
 -- command has a line.
-use Rattle.std.proofs.Common.{◌≡◌, ◌∙◌, ℕ, List, ◌∷◌, map, Option, Some, None, true, arith, codes, refl, sym}
+use Rattle.std.proofs.Common.{◌≡◌, ◌∙◌, ℕ, List, ◌∷◌, map, Option, Some, None, true, arith, codes, refl, subst, sym}
+use Rattle.std.specs.Prelude.{IsPermutation}
+use Rattle.std.proofs.lemmas.List.Sorted.{IsPermutation-refl}
 use Rattle.command_words.specs.Files.{AreOfTheirRows, inputs_in, names_of, row_of}
 use Rattle.xray_io.specs.Desk.{Entry}
 use Rattle.xray_io.specs.declared.wall.Wall.{Wall}
@@ -114,6 +116,13 @@ some_means laws (Some command) held told holds = command_some laws held told hol
 
 -- ---- rows
 
--- the inputs are those of the row
-pub inputs_of_row : (command : Command) → map (λ input. input.0) (inputs_of command) ≡ inputs_in (row_of command).files (names_of command)
-inputs_of_row = grind arith
+-- the inputs are those of the row, in its order
+in_order : (command : Command) → map (λ input. input.0) (inputs_of command) ≡ inputs_in (row_of command).files (names_of command)
+in_order = grind arith
+
+pub inputs_of_row : (command : Command)
+    → IsPermutation (inputs_in (row_of command).files (names_of command)) (map (λ input. input.0) (inputs_of command))
+inputs_of_row command =
+    let names = inputs_in (row_of command).files (names_of command) in
+    let P : List (List ℕ) → Type 0 = IsPermutation names in
+    subst P (sym (in_order command)) (IsPermutation-refl names)

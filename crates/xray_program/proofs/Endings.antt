@@ -100,9 +100,14 @@ fails_over outputs text desk mid desk_now out out_now name same counted (inr fai
     }
 
 writes_over : (outputs : List (List ℕ × List ℕ)) (text : List ℕ) (desk mid desk_now : DeskView) (out out_now : SinkView) → mid.held ≡ desk.held
+    → mid.read_faults ≡ desk.read_faults → mid.write_faults ≡ desk.write_faults
     → Writes outputs text mid desk_now out out_now → Writes outputs text desk desk_now out out_now
-writes_over outputs text desk mid desk_now out out_now same writes =
-    record { whole = subst (λ (h : List ℕ → Entry). OutputsAreWhole outputs h desk_now.held) same writes.whole; printed = writes.printed; calm = writes.calm }
+writes_over outputs text desk mid desk_now out out_now same calm counted writes = record {
+  whole = subst (λ (h : List ℕ → Entry). OutputsAreWhole outputs h desk_now.held) same writes.whole;
+  printed = writes.printed;
+  desk_calm = record { reads = writes.desk_calm.reads ∙ calm; writes = writes.desk_calm.writes ∙ counted };
+  calm = writes.calm;
+}
 
 unmade_over : (outputs : List (List ℕ × List ℕ)) (desk mid desk_now : DeskView) (name : List ℕ) (calls : List Call) → mid.held ≡ desk.held
     → IsUnmade outputs mid desk_now name calls → IsUnmade outputs desk desk_now name calls
@@ -168,11 +173,11 @@ ends_at_input command desk desk_now out Way (Err s) stop is stands same went = r
 -- a call that ended with its work
 pub ends_with_work : {S : Type 0} (along : S → S → List Call → Type 0) → Composes along → (first second third : S) (command : Command) (yields : Outcome → Type 0) (desk mid desk_now : DeskView) (out out_now : SinkView)
     (result : Result (Unit {0}) Stop) → ((reads : DeskReads) (outcome : Outcome) → yields outcome → Comes reads desk.held command outcome)
-    → mid.held ≡ desk.held → mid.write_faults ≡ desk.write_faults → Finishes yields mid desk_now out out_now (along second third) result
+    → mid.held ≡ desk.held → mid.read_faults ≡ desk.read_faults → mid.write_faults ≡ desk.write_faults → Finishes yields mid desk_now out out_now (along second third) result
     → KeepsOthers (outputs_of command) mid desk_now
     → Went (along first second) (λ calls. AcceptsFirst (λ reads. Comes reads desk.held command) (length (inputs_of command)) × ReadsAll (inputs_of command) calls)
     → Ends (Some command) desk desk_now out out_now (along first third) (answer_of result) (told_of result)
-ends_with_work along both first second third command yields desk mid desk_now out out_now result comes same counted done others taken = by_result result done
+ends_with_work along both first second third command yields desk mid desk_now out out_now result comes same calm counted done others taken = by_result result done
   where
     read : Went (along first second) (ReadsAll (inputs_of command))
     read = record { calls = taken.calls; way = taken.way; are = taken.are.1 }
@@ -195,7 +200,7 @@ ends_with_work along both first second third command yields desk mid desk_now ou
       ending = With (Done left.outputs left.text);
       status = refl;
       told = refl;
-      stands = (comes Sound _ left.comes, writes_over left.outputs left.text desk mid desk_now out out_now same left.writes);
+      stands = (comes Sound _ left.comes, writes_over left.outputs left.text desk mid desk_now out out_now same calm counted left.writes);
       names = kept;
       order = then_made left.outputs (With (Done left.outputs left.text))
           (λ calls later p q. record { before = calls; last = later; order = refl; reads = p; goes_on = q }) left.then_so;
@@ -217,7 +222,7 @@ ends_with_work along both first second third command yields desk mid desk_now ou
       ending = With (Fell left.outputs left.text (words_text words));
       status = refl;
       told = refl;
-      stands = (comes Sound _ left.comes, writes_over left.outputs left.text desk mid desk_now out out_now same left.writes);
+      stands = (comes Sound _ left.comes, writes_over left.outputs left.text desk mid desk_now out out_now same calm counted left.writes);
       names = kept;
       order = then_made left.outputs (With (Fell left.outputs left.text (words_text words)))
           (λ calls later p q. record { before = calls; last = later; order = refl; reads = p; goes_on = q }) left.then_so;

@@ -1,8 +1,8 @@
 -- The headline of `sim` and of `run`, from what they mean.
-use Rattle.std.specs.Prelude.{All, Ok, slice_get}
+use Rattle.std.specs.Prelude.{All, Ok}
 use Rattle.std.proofs.lemmas.List.{length-map}
 use Rattle.std.proofs.lemmas.List.Elements.{All-head, All-tail}
-use Rattle.std.proofs.Common.{◌≡◌, ◌+◌, ℕ, List, [], ◌∷◌, Option, Some, None, option_map, inl, inr, refl, subst, ◌∙◌, arith, codes}
+use Rattle.std.proofs.Common.{◌≡◌, ◌+◌, ℕ, List, [], ◌∷◌, Option, Some, None, option_map, inl, inr, refl, subst, ◌∙◌, codes}
 use Rattle.xray_io.specs.Desk.{Entry, Holds, made_to_hold}
 use Rattle.xray_io.specs.Sink.{Adds}
 use Rattle.machine_step.specs.Buffers.{spare_of}
@@ -14,12 +14,11 @@ use Rattle.patch_script.specs.Plans.{Plan, plan_of, waiting_line}
 use Rattle.patch_script.specs.Refusals.{commands_of}
 use Rattle.step_sim.specs.FaultWords.{waits_words}
 use Rattle.step_sim.specs.Replay.{of_thread}
-use Rattle.trace_flush.specs.Audit.{audit_text}
 use Rattle.trace_flush.specs.Flush.{trace_bytes}
-use Rattle.trace_flush.specs.Lines.{audits_of}
+use Rattle.trace_flush.specs.Lines.{audit_of_run}
 use Rattle.traced_run.specs.Decoded.{DecodesWhole}
 use Rattle.traced_run.specs.Losses.{AreLost}
-use Rattle.traced_run.specs.Runs.{ThreadRun}
+use Rattle.traced_run.specs.Runs.{EachThread, ThreadRun}
 use Rattle.xray_image.specs.Program.{Program, IsAccepted}
 use Rattle.xray_program.specs.Answers.{RunIsTraced, SimIsTraced}
 use Rattle.xray_program.specs.Commands.{Means}
@@ -28,12 +27,12 @@ use Rattle.xray_program.specs.Outcomes.{Outcome, Done}
 use Rattle.xray_program.specs.Outputs.{OutputsAreWhole}
 use Rattle.xray_program.specs.Run.{FollowsPlan, LoadsFollowPlan, RunComes, RunsBeside}
 use Rattle.xray_program.specs.Sim.{FollowsSchedule, Replayed, Replays, SimComes}
-use Rattle.xray_program.specs.Setups.{setup_of}
+use Rattle.xray_program.specs.Setups.{FitsReports, setup_of}
 use Rattle.xray_program.specs.Taking.{Form, Leaves, RefuseIf, Sound, Take}
 use Rattle.xray_program.specs.Traced.{IsTraced, Traces, written_of}
 use Rattle.command_words.specs.Words.{Command}
 use Rattle.xray_program.specs.private.CallLaws.{CallLaws}
-use Rattle.xray_program.specs.private.Works.{FitsReports, SaidFits}
+use Rattle.xray_program.specs.private.Works.{SaidFits}
 use Rattle.xray_io.specs.World.{World}
 use Rattle.xray_program.proofs.RunLoads.{leave_all}
 
@@ -70,12 +69,12 @@ left_alike Are outputs text (o, t, are, is) =
 files_hold : (trace audit : List ℕ) (setup : Setup) (runs : List ThreadRun) (outputs : List (List ℕ × List ℕ)) (old new : List ℕ → Entry)
     → outputs ≡ written_of trace audit setup runs → OutputsAreWhole outputs old new
     → (new trace ≡ made_to_hold (old trace) (trace_bytes setup runs))
-    × (new audit ≡ made_to_hold (old audit) (audit_text setup (audits_of setup runs)))
+    × (new audit ≡ made_to_hold (old audit) (audit_of_run setup runs))
 files_hold trace audit setup runs outputs old new are whole =
     let Made : List ℕ × List ℕ → Type 0 = λ output. new output.0 ≡ made_to_hold (old output.0) output.1 in
     let both : All Made (written_of trace audit setup runs) = subst (All Made) are whole in
     let one : List ℕ × List ℕ = (trace, trace_bytes setup runs) in
-    let other : List ℕ × List ℕ = (audit, audit_text setup (audits_of setup runs)) in
+    let other : List ℕ × List ℕ = (audit, audit_of_run setup runs) in
     (All-head Made one (other ∷ []) both, All-head Made other [] (All-tail Made one (other ∷ []) both))
 
 -- lawful runs whose trace, audit and state texts were written are traced
@@ -84,34 +83,28 @@ is_traced : CallLaws → (Lawful : Program → Plan → List ThreadRun → (ℕ 
     → IsAccepted image program → plan_of program setup.threads script ≡ Ok plan → (traces : Traces Were program setup t a outputs text)
     → OutputsAreWhole outputs before.desk.held after.desk.held → Adds before.out.written after.out.written text
     → (loads : ℕ → List Load) → Lawful program plan traces.runs loads
-    → ((i : ℕ) (run : ThreadRun) → slice_get traces.runs i ≡ Some run
-    → DecodesWhole program (i + 1) (hold_of (i + 1) (commands_of plan.lines)) run (loads (i + 1)))
+    → EachThread traces.runs (λ number run. DecodesWhole program number (hold_of number (commands_of plan.lines)) run (loads number))
     → AreLost setup.size (spare_of setup) traces.runs → IsTraced Lawful image script t a setup before after
 is_traced laws Lawful Were before after t a image script setup fits outputs text program plan accepted reads traces whole adds loads lawful decoded losses =
     let hold = files_hold t a setup traces.runs outputs before.desk.held after.desk.held traces.outputs_are whole in
     let Added : List ℕ → Type 0 = λ more. Adds before.out.written after.out.written more in
-    let traced = laws.traced image program setup traces.runs accepted fits.records traces.run in
     record {
-      program = program;
-      accepted = accepted;
-      plan = plan;
-      script_reads = reads;
+      fits = fits;
       runs = traces.runs;
-      run = traces.run;
-      loads = loads;
-      lawful = lawful;
-      whole = decoded;
-      executes = λ i run found. laws.executes image program setup.limits (i + 1) (hold_of (i + 1) (commands_of plan.lines)) run (loads (i + 1))
-          accepted (traces.run.plain i run found) (decoded i run found);
+      ran = record {
+        program = program;
+        accepted = accepted;
+        plan = plan;
+        script_reads = reads;
+        run = traces.run;
+        loads = loads;
+        lawful = lawful;
+        whole = decoded;
+        executes = λ i run found. laws.executes image program setup.limits (i + 1) (hold_of (i + 1) (commands_of plan.lines)) run (loads (i + 1))
+            accepted (traces.run.plain i run found) (decoded i run found);
+      };
       losses = losses;
-      file = trace_bytes setup traces.runs;
-      traced = traced;
-      short =
-          let few = laws.short image program setup traces.runs accepted fits.records fits.enough traces.run losses in omega (arith, few, fits.room);
-      reads_back = laws.read (trace_bytes setup traces.runs) traced.trace traced.reads;
-      trace_holds = hold.0;
-      audit_holds = hold.1;
-      out = subst Added traces.text_is adds;
+      left = record { trace_holds = hold.0; audit_holds = hold.1; out = subst Added traces.text_is adds };
     }
 
 -- ---- `sim`
@@ -159,7 +152,7 @@ beside_by : CallLaws → (before after : World) (i s t a image script : List ℕ
     → (outputs : List (List ℕ × List ℕ)) (text : List ℕ) → before.desk.held i ≡ Holds image → before.desk.held s ≡ Holds script
     → RunComes Sound before.desk.held i s t a setup (Done outputs text)
     → OutputsAreWhole outputs before.desk.held after.desk.held → Adds before.out.written after.out.written text
-    → IsTraced (LoadsFollowPlan setup) image script t a setup before after
+    → IsTraced LoadsFollowPlan image script t a setup before after
 beside_by laws before after i s t a image script setup fits outputs text image_held script_held comes whole adds =
     let held = before.desk.held in
     let first = read_on image_form held i
@@ -170,10 +163,9 @@ beside_by laws before after i s t a image script setup fits outputs text image_h
     let traces = left_alike (Traces (FollowsPlan setup first.value second.value) first.value setup t a) outputs text second.next in
     let commands = commands_of second.value.lines in
     let made = leave_all first.value commands traces.runs traces.lawful.follow in
-    is_traced laws (LoadsFollowPlan setup) (FollowsPlan setup first.value second.value) before after t a image script setup fits
+    is_traced laws LoadsFollowPlan (FollowsPlan setup first.value second.value) before after t a image script setup fits
     outputs text first.value second.value first.reads second.reads traces whole adds made.loads
     (record {
-      lawful = traces.lawful;
       follow = λ i run found. (made.are i run found).follow;
       released = λ i run found. (made.are i run found).released;
     })

@@ -1,3 +1,4 @@
+pub mod AcceptedInputs
 pub mod AccountLaws
 pub mod Answering
 pub mod AsmLaws

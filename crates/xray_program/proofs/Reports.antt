@@ -26,78 +26,78 @@ use Rattle.xray_program.proofs.Turns.{Leads, accepts, leads, leads_on, maybe_lea
 
 -- ---- the turns
 
--- what comes of the trace, and what follows, comes of the report
-to_image : (held : List ℕ → Entry) (trace : List ℕ) (image : Option (List ℕ)) (next : Trace → Option Program → Outcome → Type 0) (t : Trace)
-    → Gives trace_form (held trace) t
-    → Leads (λ reads. TakeReport reads held trace image next) (λ reads. TakeMaybe image_form 1 reads held image (λ program. next t program))
-to_image held trace image next t given =
-    leads_on trace_form 0 (λ reads. TakeReport reads held trace image next) held trace
-    (λ reads t. TakeMaybe image_form 1 reads held image (λ program. next t program)) t (leads (λ reads. TakeReport reads held trace image next)) given
+-- what comes of the log, and what follows, comes of the report
+to_image : {X : Type 0} (form : Form X) (held : List ℕ → Entry) (log : List ℕ) (image : Option (List ℕ)) (next : X → Option Program → Outcome → Type 0) (t : X)
+    → Gives form (held log) t
+    → Leads (λ reads. TakeReport form reads held log image next) (λ reads. TakeMaybe image_form 1 reads held image (λ program. next t program))
+to_image form held log image next t given =
+    leads_on form 0 (λ reads. TakeReport form reads held log image next) held log
+    (λ reads t. TakeMaybe image_form 1 reads held image (λ program. next t program)) t (leads (λ reads. TakeReport form reads held log image next)) given
 
 -- whatever follows the inputs comes of them
-pub report_taken : (trace : List ℕ) (image : Option (List ℕ)) (next : Trace → Option Program → Outcome → Type 0) (before after : DeskView)
-    (result : Result ReportInputs Stop) → IsReportTaken trace image before after result
-    → AreTaken (λ reads. TakeReport reads before.held trace image next) (λ inputs. next inputs.trace inputs.image) before after result
-report_taken trace image next before after (Ok inputs) (given, turn) = λ reads outcome is.
-    maybe_leads_on image_form 1 (λ reads. TakeReport reads before.held trace image next) before turn.mid after image (λ reads program. next inputs.trace program)
-    inputs.image (to_image before.held trace image next inputs.trace given) turn.same turn.taken reads outcome is
-report_taken trace image next before after (Err stop) (inl taken) =
-    stops_at trace_form 0 (λ reads. TakeReport reads before.held trace image next) before before after trace
+pub report_taken : {X : Type 0} (form : Form X) (log : List ℕ) (image : Option (List ℕ)) (next : X → Option Program → Outcome → Type 0) (before after : DeskView)
+    (result : Result (ReportInputs X) Stop) → IsReportTaken form log image before after result
+    → AreTaken (λ reads. TakeReport form reads before.held log image next) (λ inputs. next inputs.log inputs.image) before after result
+report_taken form log image next before after (Ok inputs) (given, turn) = λ reads outcome is.
+    maybe_leads_on image_form 1 (λ reads. TakeReport form reads before.held log image next) before turn.mid after image (λ reads program. next inputs.log program)
+    inputs.image (to_image form before.held log image next inputs.log given) turn.same turn.taken reads outcome is
+report_taken form log image next before after (Err stop) (inl taken) =
+    stops_at form 0 (λ reads. TakeReport form reads before.held log image next) before before after log
     (λ reads t. TakeMaybe image_form 1 reads before.held image (λ program. next t program)) stop
-    (leads (λ reads. TakeReport reads before.held trace image next)) refl (le_refl _) taken
-report_taken trace image next before after (Err stop) (inr (t, given, turn)) =
-    maybe_stops_at image_form 1 (λ reads. TakeReport reads before.held trace image next) before turn.mid after image (λ reads program. next t program) stop
-    (to_image before.held trace image next t given) turn.same turn.later turn.taken
+    (leads (λ reads. TakeReport form reads before.held log image next)) refl (le_refl _) taken
+report_taken form log image next before after (Err stop) (inr (t, given, turn)) =
+    maybe_stops_at image_form 1 (λ reads. TakeReport form reads before.held log image next) before turn.mid after image (λ reads program. next t program) stop
+    (to_image form before.held log image next t given) turn.same turn.later turn.taken
 
 -- the stop that a `?` passes on
-pub stop_of_trace : (trace : List ℕ) (image : Option (List ℕ)) (before after : DeskView) (result : Result ReportInputs Stop) (stop : Stop)
-    → IsErrAnd result (λ s. s ≡ stop) → IsTaken trace_form trace before after (Err stop) → IsReportTaken trace image before after result
-stop_of_trace trace image before after (Ok inputs) stop is taken = absurd is
-stop_of_trace trace image before after (Err s) stop is taken = inl (rw is taken)
+pub stop_of_log : {X : Type 0} (form : Form X) (log : List ℕ) (image : Option (List ℕ)) (before after : DeskView) (result : Result (ReportInputs X) Stop) (stop : Stop)
+    → IsErrAnd result (λ s. s ≡ stop) → IsTaken form log before after (Err stop) → IsReportTaken form log image before after result
+stop_of_log form log image before after (Ok inputs) stop is taken = absurd is
+stop_of_log form log image before after (Err s) stop is taken = inl (rw is taken)
 
-pub stop_of_image : (trace : List ℕ) (image : Option (List ℕ)) (before mid after : DeskView) (t : Trace) (result : Result ReportInputs Stop) (stop : Stop)
-    → IsErrAnd result (λ s. s ≡ stop) → mid.held ≡ before.held → before.read_faults ≤ mid.read_faults → Gives trace_form (before.held trace) t
-    → IsMaybeTaken image_form image mid after (Err stop) → IsReportTaken trace image before after result
-stop_of_image trace image before mid after t (Ok inputs) stop is same later given taken = absurd is
-stop_of_image trace image before mid after t (Err s) stop is same later given taken =
+pub stop_of_image : {X : Type 0} (form : Form X) (log : List ℕ) (image : Option (List ℕ)) (before mid after : DeskView) (t : X) (result : Result (ReportInputs X) Stop) (stop : Stop)
+    → IsErrAnd result (λ s. s ≡ stop) → mid.held ≡ before.held → before.read_faults ≤ mid.read_faults → Gives form (before.held log) t
+    → IsMaybeTaken image_form image mid after (Err stop) → IsReportTaken form log image before after result
+stop_of_image form log image before mid after t (Ok inputs) stop is same later given taken = absurd is
+stop_of_image form log image before mid after t (Err s) stop is same later given taken =
     inr (t, given, record { mid = mid; same = same; later = later; taken = rw is taken })
 
 -- ---- the calls
 
--- the trace is accepted
-pub trace_accepted : (held : List ℕ → Entry) (trace : List ℕ) (image : Option (List ℕ)) (t : Trace) → Gives trace_form (held trace) t
-    → AcceptsFirst (λ reads. StopsReport reads held trace image) 1
-trace_accepted held trace image t given =
-    accepts trace_form 0 (λ reads. StopsReport reads held trace image) held trace
-    (λ reads t. TakeMaybe image_form 1 reads held image (λ program outcome. ⊥)) t (leads (λ reads. StopsReport reads held trace image)) given
+-- the log is accepted
+pub log_accepted : {X : Type 0} (form : Form X) (held : List ℕ → Entry) (log : List ℕ) (image : Option (List ℕ)) (t : X) → Gives form (held log) t
+    → AcceptsFirst (λ reads. StopsReport form reads held log image) 1
+log_accepted form held log image t given =
+    accepts form 0 (λ reads. StopsReport form reads held log image) held log
+    (λ reads t. TakeMaybe image_form 1 reads held image (λ program outcome. ⊥)) t (leads (λ reads. StopsReport form reads held log image)) given
 
 -- the inputs before the image
-abbrev before_image : List ℕ → List (List ℕ × ℕ)
-before_image trace = (trace, trace_limit) ∷ []
+abbrev before_image : List ℕ → ℕ → List (List ℕ × ℕ)
+before_image log limit = (log, limit) ∷ []
 
 -- both gave values
-pub both_read : {S : Type 0} (along : S → S → List Call → Type 0) → Composes along → (first second third : S) (before mid after : DeskView)
-    (trace : List ℕ) (image : Option (List ℕ)) (t : Trace) (program : Option Program) → mid.held ≡ before.held
-    → Gives trace_form (before.held trace) t → IsMaybeTaken image_form image mid after (Ok program) → Went (along first second) (ReadsAll (before_image trace))
+pub both_read : {X : Type 0} (form : Form X) {S : Type 0} (along : S → S → List Call → Type 0) → Composes along → (first second third : S) (before mid after : DeskView)
+    (log : List ℕ) (image : Option (List ℕ)) (t : X) (program : Option Program) → mid.held ≡ before.held
+    → Gives form (before.held log) t → IsMaybeTaken image_form image mid after (Ok program) → Went (along first second) (ReadsAll (before_image log form.limit))
     → (let result : Result (Option Program) Stop = Ok program in Went (along second third) (IsMaybeTaking image image_limit result))
-    → Went (along first third) (λ calls. AcceptsFirst (λ reads. StopsReport reads before.held trace image) (length (report_inputs trace image))
-    × ReadsAll (report_inputs trace image) calls)
-both_read along both first second third before mid after trace image t program same given taken went then =
+    → Went (along first third) (λ calls. AcceptsFirst (λ reads. StopsReport form reads before.held log image) (length (report_inputs log form.limit image))
+    × ReadsAll (report_inputs log form.limit image) calls)
+both_read form along both first second third before mid after log image t program same given taken went then =
     all_taken
-    (maybe_accepts image_form (λ reads. StopsReport reads before.held trace image) before mid after (before_image trace) image (λ reads program outcome. ⊥) program
-    (trace_accepted before.held trace image t given) (to_image before.held trace image (λ t program outcome. ⊥) t given) same taken)
-    (maybe_read along both first second third (before_image trace) image image_limit program went then)
+    (maybe_accepts image_form (λ reads. StopsReport form reads before.held log image) before mid after (before_image log form.limit) image (λ reads program outcome. ⊥) program
+    (log_accepted form before.held log image t given) (to_image form before.held log image (λ t program outcome. ⊥) t given) same taken)
+    (maybe_read along both first second third (before_image log form.limit) image image_limit program went then)
 
 -- the image was a stop
-pub image_stopped : {S Y : Type 0} (along : S → S → List Call → Type 0) → Composes along → (first second third : S) (before after : DeskView)
-    (held : List ℕ → Entry) (trace : List ℕ) (image : Option (List ℕ)) (t : Trace) → Gives trace_form (held trace) t
+pub image_stopped : {X : Type 0} (form : Form X) {S Y : Type 0} (along : S → S → List Call → Type 0) → Composes along → (first second third : S) (before after : DeskView)
+    (held : List ℕ → Entry) (log : List ℕ) (image : Option (List ℕ)) (t : X) → Gives form (held log) t
     → (result : Result Y Stop) (stop : Stop) → IsErrAnd result (λ s. s ≡ stop)
-    → IsMaybeTaken image_form image before after (Err stop) → Went (along first second) (ReadsAll (before_image trace))
+    → IsMaybeTaken image_form image before after (Err stop) → Went (along first second) (ReadsAll (before_image log form.limit))
     → (let taken : Result (Option Program) Stop = Err stop in Went (along second third) (IsMaybeTaking image image_limit taken))
-    → Went (along first third) (AreTakings (λ reads. StopsReport reads held trace image) (report_inputs trace image) result)
-image_stopped along both first second third before after held trace image t given result stop is taken went then =
-    maybe_handed along both first second third image_form before after (before_image trace) image result stop
-    (λ reads. StopsReport reads held trace image) (trace_accepted held trace image t given) is taken went then
+    → Went (along first third) (AreTakings (λ reads. StopsReport form reads held log image) (report_inputs log form.limit image) result)
+image_stopped form along both first second third before after held log image t given result stop is taken went then =
+    maybe_handed along both first second third image_form before after (before_image log form.limit) image result stop
+    (λ reads. StopsReport form reads held log image) (log_accepted form held log image t given) is taken went then
 
 -- what comes if a turn fails, or if nothing is asked of what follows, comes whatever follows the inputs
 follows_more : (reads : DeskReads) (place : ℕ) (Less More : Type 0) → (Less → More) → GoesOn reads place Less → GoesOn reads place More
@@ -122,27 +122,27 @@ maybe_more reads held None more outcome is = absurd is
 maybe_more reads held (Some image) more outcome is =
     take_more image_form 1 reads held image (λ program outcome. ⊥) (λ program. more (Some program)) (λ program other never. absurd never) outcome is
 
-stops_too : (reads : DeskReads) (held : List ℕ → Entry) (trace : List ℕ) (image : Option (List ℕ)) (next : Trace → Option Program → Outcome → Type 0)
-    (outcome : Outcome) → StopsReport reads held trace image outcome → TakeReport reads held trace image next outcome
-stops_too reads held trace image next outcome is =
-    take_more trace_form 0 reads held trace (λ t. TakeMaybe image_form 1 reads held image (λ program other. ⊥))
+stops_too : {X : Type 0} (form : Form X) (reads : DeskReads) (held : List ℕ → Entry) (log : List ℕ) (image : Option (List ℕ)) (next : X → Option Program → Outcome → Type 0)
+    (outcome : Outcome) → StopsReport form reads held log image outcome → TakeReport form reads held log image next outcome
+stops_too form reads held log image next outcome is =
+    take_more form 0 reads held log (λ t. TakeMaybe image_form 1 reads held image (λ program other. ⊥))
     (λ t. TakeMaybe image_form 1 reads held image (λ program. next t program)) (λ t other. maybe_more reads held image (next t) other) outcome is
 
-accepts_too : (held : List ℕ → Entry) (trace : List ℕ) (image : Option (List ℕ)) (next : Trace → Option Program → Outcome → Type 0) (count : ℕ)
-    → AcceptsFirst (λ reads. StopsReport reads held trace image) count → AcceptsFirst (λ reads. TakeReport reads held trace image next) count
-accepts_too held trace image next zero is = tt
-accepts_too held trace image next (suc last) is = λ outcome. stops_too (AcceptedUpTo last) held trace image next outcome (is outcome)
+accepts_too : {X : Type 0} (form : Form X) (held : List ℕ → Entry) (log : List ℕ) (image : Option (List ℕ)) (next : X → Option Program → Outcome → Type 0) (count : ℕ)
+    → AcceptsFirst (λ reads. StopsReport form reads held log image) count → AcceptsFirst (λ reads. TakeReport form reads held log image next) count
+accepts_too form held log image next zero is = tt
+accepts_too form held log image next (suc last) is = λ outcome. stops_too form (AcceptedUpTo last) held log image next outcome (is outcome)
 
-stop_too : (held : List ℕ → Entry) (trace : List ℕ) (image : Option (List ℕ)) (next : Trace → Option Program → Outcome → Type 0) (name : List ℕ)
+stop_too : {X : Type 0} (form : Form X) (held : List ℕ → Entry) (log : List ℕ) (image : Option (List ℕ)) (next : X → Option Program → Outcome → Type 0) (name : List ℕ)
     (Last : (limit : ℕ) → List Call → Type 0) (calls : List Call)
-    → StopsAtInput (λ reads. StopsReport reads held trace image) (report_inputs trace image) name Last calls
-    → StopsAtInput (λ reads. TakeReport reads held trace image next) (report_inputs trace image) name Last calls
-stop_too held trace image next name Last calls at = record {
+    → StopsAtInput (λ reads. StopsReport form reads held log image) (report_inputs log form.limit image) name Last calls
+    → StopsAtInput (λ reads. TakeReport form reads held log image next) (report_inputs log form.limit image) name Last calls
+stop_too form held log image next name Last calls at = record {
   earlier = at.earlier;
   limit = at.limit;
   later = at.later;
   turn = at.turn;
-  accepted = accepts_too held trace image next (length at.earlier) at.accepted;
+  accepted = accepts_too form held log image next (length at.earlier) at.accepted;
   before = at.before;
   last = at.last;
   order = at.order;
@@ -150,26 +150,26 @@ stop_too held trace image next name Last calls at = record {
   stops = at.stops;
 }
 
-pub report_takings : (held : List ℕ → Entry) (trace : List ℕ) (image : Option (List ℕ)) (next : Trace → Option Program → Outcome → Type 0)
-    (Way : List Call → Type 0) (result : Result ReportInputs Stop)
-    → Went Way (AreTakings (λ reads. StopsReport reads held trace image) (report_inputs trace image) result)
-    → Went Way (AreTakings (λ reads. TakeReport reads held trace image next) (report_inputs trace image) result)
-report_takings held trace image next Way (Ok inputs) went = record {
+pub report_takings : {X : Type 0} (form : Form X) (held : List ℕ → Entry) (log : List ℕ) (image : Option (List ℕ)) (next : X → Option Program → Outcome → Type 0)
+    (Way : List Call → Type 0) (result : Result (ReportInputs X) Stop)
+    → Went Way (AreTakings (λ reads. StopsReport form reads held log image) (report_inputs log form.limit image) result)
+    → Went Way (AreTakings (λ reads. TakeReport form reads held log image next) (report_inputs log form.limit image) result)
+report_takings form held log image next Way (Ok inputs) went = record {
   calls = went.calls;
   way = went.way;
-  are = (accepts_too held trace image next (length (report_inputs trace image)) went.are.0, went.are.1);
+  are = (accepts_too form held log image next (length (report_inputs log form.limit image)) went.are.0, went.are.1);
 }
-report_takings held trace image next Way (Err stop) went = record {
+report_takings form held log image next Way (Err stop) went = record {
   calls = went.calls;
   way = went.way;
-  are = (went.are.0, went.are.1, stop_too held trace image next went.are.0 (λ limit. StopsTaking went.are.0 limit stop) went.calls went.are.2);
+  are = (went.are.0, went.are.1, stop_too form held log image next went.are.0 (λ limit. StopsTaking went.are.0 limit stop) went.calls went.are.2);
 }
 
 -- ---- what comes of a report
 
 pub report_alone : IsDecided image_form → (Sort : Outcome → Type 0) (held : List ℕ → Entry) (trace : List ℕ) (image : Option (List ℕ))
     (next : Trace → Option Program → Outcome → Type 0) → TellsAll held → ((t : Trace) (program : Option Program) → IsAlone Sort (next t program))
-    → IsAlone Sort (TakeReport Sound held trace image next)
+    → IsAlone Sort (TakeReport trace_form Sound held trace image next)
 report_alone is Sort held trace image next told one =
     take_alone trace_form (decided_by (codes "trace") trace_limit trace_of trace_words) Sort held trace
     (λ t. TakeMaybe image_form 1 Sound held image (λ program. next t program)) (told trace) (λ _ t _.
@@ -177,7 +177,7 @@ report_alone is Sort held trace image next told one =
 
 pub report_some : IsJudged image_form → (held : List ℕ → Entry) (trace : List ℕ) (image : Option (List ℕ))
     (next : Trace → Option Program → Outcome → Type 0) → TellsAll held → HoldsBytes held
-    → ((t : Trace) (program : Option Program) → SomeOutcome (next t program)) → SomeOutcome (TakeReport Sound held trace image next)
+    → ((t : Trace) (program : Option Program) → SomeOutcome (next t program)) → SomeOutcome (TakeReport trace_form Sound held trace image next)
 report_some is held trace image next told holds some =
     some_take trace_form (judged_by (codes "trace") trace_limit trace_of trace_words) held trace
     (λ t. TakeMaybe image_form 1 Sound held image (λ program. next t program)) (told trace) holds (λ _ t _.

@@ -16,12 +16,13 @@ use Rattle.sled_rule.specs.declared.views.WorkView.{WorkView}
 use Rattle.thread_run.specs.Runs.{HaveRunBeside}
 use Rattle.xray_image.specs.Program.{Program}
 use Rattle.fdr_file.specs.Files.{file_bytes}
-use Rattle.trace_flush.specs.Audit.{ThreadAudit, thread_audits, audit_text}
+use Rattle.trace_flush.specs.Audit.{ThreadAudit, audit_text, recycled_by, thread_audits}
 use Rattle.trace_flush.specs.Flush.{run_header, trace_bytes}
 use Rattle.trace_flush.specs.Lines.{audits_of, audit_lines_of}
 use Rattle.trace_flush.specs.declared.line.AuditLine.{AuditLine}
 use Rattle.traced_run.specs.Kept.{buffer_of, kept_buffers, segment_count, segments_of, stamp_of, thread_buffers}
 use Rattle.traced_run.specs.Left.{HasRun, Leaves}
+use Rattle.traced_run.specs.Losses.{recycled_of}
 use Rattle.traced_run.specs.Runs.{ThreadRun}
 use Rattle.machine_step.specs.EndedText.{thread_text}
 use Rattle.xray_program.specs.Traced.{state_texts, written_of}
@@ -107,6 +108,10 @@ abbrev pub AuditsRuns : Type 0
 AuditsRuns = (setup : Setup) (runs : List ThreadRun) (cpus : List Traced) (segments first : List ℕ) (buffers : List Filled)
     → Leaves setup runs cpus segments first buffers → thread_audits (audit_lines_of cpus segments first) cpus ≡ audits_of setup runs
 
+abbrev pub CountsLosses : Type 0
+CountsLosses = (setup : Setup) (runs : List ThreadRun) (cpus : List Traced) (segments first : List ℕ) (buffers : List Filled)
+    → Leaves setup runs cpus segments first buffers → recycled_by (audit_lines_of cpus segments first) ≡ recycled_of runs
+
 -- if lines are added to an empty list, they are all its lines
 pub only_lines : (lines old : List AuditLine) (ts us : List Traced) (segments ns first ms : List ℕ) → lines ≡ old ++ audit_lines_of us ns ms → old ≡ []
     → us ≡ ts → ns ≡ segments → ms ≡ first → lines ≡ audit_lines_of ts segments first
@@ -115,21 +120,23 @@ only_lines lines old ts us segments ns first ms is none same_threads same_segmen
     ∙ ap (λ (l : List ℕ). audit_lines_of ts l ms) same_segments ∙ ap (audit_lines_of ts segments) same_first
 
 -- what is written of the threads, of their lines and of the buffers in order is what is written of the run
-pub run_written : AuditsRuns → (trace audit : List ℕ) (setup : Setup) (runs : List ThreadRun) (cpus : List Traced) (segments first : List ℕ)
+pub run_written : AuditsRuns → CountsLosses → (trace audit : List ℕ) (setup : Setup) (runs : List ThreadRun) (cpus : List Traced) (segments first : List ℕ)
     (buffers : List Filled) → Leaves setup runs cpus segments first buffers → (ts : List Traced) (lines : List AuditLine) (kept : List Filled)
     → ts ≡ cpus → lines ≡ audit_lines_of cpus segments first → kept ≡ kept_buffers setup runs → (P : List (List ℕ × List ℕ) → List ℕ → Type 0)
-    → P ((trace, file_bytes (run_header setup) kept) ∷ (audit, audit_text setup (thread_audits lines ts)) ∷ []) (flat_map thread_text ts)
+    → P ((trace, file_bytes (run_header setup) kept) ∷ (audit, audit_text setup (thread_audits lines ts) (recycled_by lines)) ∷ []) (flat_map thread_text ts)
     → P (written_of trace audit setup runs) (state_texts 1 runs)
-run_written law trace audit setup runs cpus segments first buffers leaves ts lines kept same_threads same_lines same_buffers P holds =
+run_written law counts trace audit setup runs cpus segments first buffers leaves ts lines kept same_threads same_lines same_buffers P holds =
     let accounted : thread_audits lines ts ≡ audits_of setup runs =
     ap (λ (l : List AuditLine). thread_audits l ts) same_lines ∙ ap (thread_audits (audit_lines_of cpus segments first)) same_threads
     ∙ law setup runs cpus segments first buffers leaves in
     let printed : flat_map thread_text ts ≡ state_texts 1 runs =
     ap (flat_map thread_text) same_threads ∙ run_printed setup runs cpus segments first buffers leaves in
-    let Q : List Filled → Type 0 = λ l. P ((trace, file_bytes (run_header setup) l) ∷ (audit, audit_text setup (thread_audits lines ts)) ∷ []) (flat_map thread_text ts) in
-    let R : List ThreadAudit → Type 0 = λ l. P ((trace, trace_bytes setup runs) ∷ (audit, audit_text setup l) ∷ []) (flat_map thread_text ts) in
+    let Q : List Filled → Type 0 = λ l. P ((trace, file_bytes (run_header setup) l) ∷ (audit, audit_text setup (thread_audits lines ts) (recycled_by lines)) ∷ []) (flat_map thread_text ts) in
+    let lost : recycled_by lines ≡ recycled_of runs = ap recycled_by same_lines ∙ counts setup runs cpus segments first buffers leaves in
+    let R : List ThreadAudit → Type 0 = λ l. P ((trace, trace_bytes setup runs) ∷ (audit, audit_text setup l (recycled_by lines)) ∷ []) (flat_map thread_text ts) in
+    let T : ℕ → Type 0 = λ n. P ((trace, trace_bytes setup runs) ∷ (audit, audit_text setup (audits_of setup runs) n) ∷ []) (flat_map thread_text ts) in
     let S : List ℕ → Type 0 = λ l. P (written_of trace audit setup runs) l in
-    subst S printed (subst R accounted (subst Q same_buffers holds))
+    subst S printed (subst T lost (subst R accounted (subst Q same_buffers holds)))
 
 -- each buffer of a run was begun
 thread_begun : (setup : Setup) (thread : ℕ) (pairs : List (ℕ × List Event)) → AllByRecursion (λ b. IsTrue b.begun) (map (buffer_of (stamp_of setup) thread) pairs)

@@ -30,6 +30,7 @@ use Rattle.trace_flush.specs.Flush.{run_header, trace_bytes}
 use Rattle.trace_flush.specs.Lines.{audits_of}
 use Rattle.traced_run.specs.Kept.{kept_buffers}
 use Rattle.traced_run.specs.Left.{Leaves}
+use Rattle.traced_run.specs.Losses.{recycled_of}
 use Rattle.traced_run.specs.Runs.{ThreadRun}
 use Rattle.xray_image.specs.Program.{Program}
 use Rattle.xray_program.specs.Sim.{Replayed}
@@ -144,9 +145,10 @@ pub summary_is : (number : ℕ) (program : Program) (plan : Plan) (turns : List 
     → (runs : List ThreadRun) → Replayed program plan turns soak_setup runs → (cpus : List Traced) (segments first : List ℕ) (buffers : List Filled)
     → Leaves soak_setup runs cpus segments first buffers → (bytes : ℕ) (rows : List AccountRow)
     → IsReadBack (file_bytes (run_header soak_setup) buffers) bytes rows
-    → (threads : List ThreadAudit) → threads ≡ audits_of soak_setup runs → (text : List ℕ) → text ≡ summary_with number threads bytes rows
+    → (threads : List ThreadAudit) → threads ≡ audits_of soak_setup runs → (recycled : ℕ) → recycled ≡ recycled_of runs
+    → (text : List ℕ) → text ≡ summary_with number threads recycled bytes rows
     → IsSummary number text
-summary_is number program plan turns inputs runs replayed cpus segments first buffers leaves bytes rows back threads accounted text is =
+summary_is number program plan turns inputs runs replayed cpus segments first buffers leaves bytes rows back threads accounted recycled lost text is =
     let kept : buffers ≡ kept_buffers soak_setup runs = leaves.buffers_are in
     let file : file_bytes (run_header soak_setup) buffers ≡ trace_bytes soak_setup runs = ap (file_bytes (run_header soak_setup)) kept in
     let length_is : bytes ≡ length (trace_bytes soak_setup runs) = back.bytes_are ∙ ap length file in
@@ -159,5 +161,5 @@ summary_is number program plan turns inputs runs replayed cpus segments first bu
       replayed = replayed;
       trace = back.trace;
       reads_back = sym (ap trace_of file) ∙ back.reads;
-      is = is ∙ rw (accounted, length_is, back.rows_are) refl;
+      is = is ∙ rw (accounted, lost, length_is, back.rows_are) refl;
     }

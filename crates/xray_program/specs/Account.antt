@@ -17,6 +17,7 @@ use Rattle.command_words.specs.declared.report_options.SortOrder.TheVariants.{As
 use Rattle.fdr_file.specs.declared.trace.Trace.{Trace}
 use Rattle.xray_image.specs.Program.{Program}
 use Rattle.xray_io.specs.Desk.{Entry}
+use Rattle.xray_program.specs.Inputs.{trace_form}
 use Rattle.xray_program.specs.Outcomes.{Outcome, Done}
 use Rattle.xray_program.specs.Reports.{TakeReport}
 use Rattle.xray_program.specs.Taking.{DeskReads}
@@ -54,4 +55,4 @@ account_report options trace program =
 -- what comes of the command
 abbrev pub AccountComes : DeskReads → (List ℕ → Entry) → (trace : List ℕ) → (image : Option (List ℕ)) → AccountOptions → Outcome → Type 0
 AccountComes reads held trace image options =
-    TakeReport reads held trace image (λ t program outcome. outcome ≡ Done [] (account_report options t program))
+    TakeReport trace_form reads held trace image (λ t program outcome. outcome ≡ Done [] (account_report options t program))

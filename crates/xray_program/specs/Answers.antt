@@ -8,7 +8,7 @@ use Rattle.command_words.specs.declared.run_options.RunOptions.{RunOptions}
 use Rattle.xray_program.specs.Commands.{Means, HadItsTurn, outputs_named}
 use Rattle.xray_program.specs.Order.{InOrder, IsNoCall}
 use Rattle.xray_program.specs.Outcomes.{Outcome, Unread, Ending, With, Unwritten, NoMemory, status_of, status_at, err_line_at, written_by}
-use Rattle.xray_program.specs.Outputs.{OutputsAreWhole, FailsWriting, WritesNothing}
+use Rattle.xray_program.specs.Outputs.{OutputsAreWhole, FailsWriting, NoFault, WritesNothing}
 use Rattle.xray_program.specs.Run.{LoadsFollowPlan}
 use Rattle.xray_program.specs.Setups.{setup_of}
 use Rattle.xray_program.specs.Sim.{FollowsSchedule}
@@ -22,7 +22,7 @@ Says before after line =
     Adds before.written after.written line ⊎ (Rose before.faults after.faults × AddsPrefix before.written after.written line)
 
 -- The call ended with an outcome that is meant and writes. Its outputs are whole, out has exactly its text, and no fault
--- of out was counted.
+-- of the desk or of out was counted.
 pub record LeavesAll (said : Option Command) (before after : World) (ending : Ending) : Type 0 where
   pub outcome : Outcome
   pub is : ending ≡ With outcome
@@ -32,6 +32,7 @@ pub record LeavesAll (said : Option Command) (before after : World) (ending : En
   pub writes : written_by outcome ≡ Some (outputs, text)
   pub whole : OutputsAreWhole outputs before.desk.held after.desk.held
   pub out : Adds before.out.written after.out.written text
+  pub desk_calm : NoFault before.desk after.desk
   pub calm : after.out.faults ≡ before.out.faults
 
 -- it ended with an outcome that is meant
@@ -84,7 +85,7 @@ abbrev pub RunIsTraced : Option Command → (before after : World) → Type 0
 RunIsTraced said before after =
     (i s t a image script : List ℕ) (options : RunOptions) → said ≡ Some (Run i s t a options)
     → before.desk.held i ≡ Holds image → before.desk.held s ≡ Holds script
-    → IsTraced (LoadsFollowPlan (setup_of options)) image script t a (setup_of options) before after
+    → IsTraced LoadsFollowPlan image script t a (setup_of options) before after
 
 -- The whole contract of a call. Its status and its line on err are those of one ending.
 pub record Answered (said : Option Command) (before after : World) (Way : List Call → Type 0) (answer : ℕ) : Type 0 where

@@ -2,6 +2,7 @@
 use Rattle.std.specs.Prelude.{◌≡◌, ◌≢◌, ℕ, List, [], ◌∷◌, Bool, true, false, MatchOption, Option}
 use Rattle.std.specs.Option.{option_map_or}
 use Rattle.xray_io.specs.Desk.{Entry, Untold}
+use Rattle.command_words.specs.Limits.{trace_limit}
 use Rattle.xray_program.specs.Account.{AccountComes}
 use Rattle.xray_program.specs.Asm.{AsmComes}
 use Rattle.xray_program.specs.Convert.{ConvertComes}
@@ -20,17 +21,17 @@ use Rattle.command_words.specs.Words.{Command, Sim, Run, Plain, Extract, Asm, Ac
 
 -- ---- a line for each command
 
--- its inputs in the order of the words, each with its name and the most bytes that it may have; one that the words
--- leave out isn't listed
+-- Its inputs in the order in which they are taken, each with its name and the most bytes that it may have. One that the
+-- words leave out isn't listed.
 abbrev pub inputs_of : Command → List (List ℕ × ℕ)
 inputs_of (Sim image script schedule trace audit options) = (image, image_limit) ∷ (script, script_limit) ∷ (schedule, schedule_limit) ∷ []
 inputs_of (Run image script trace audit options) = (image, image_limit) ∷ (script, script_limit) ∷ []
 inputs_of (Plain image bounds) = (image, image_limit) ∷ []
 inputs_of (Extract image) = (image, image_limit) ∷ []
 inputs_of (Asm text image threshold) = (text, text_limit) ∷ []
-inputs_of (Account trace image options) = report_inputs trace image
-inputs_of (Stack trace image format) = report_inputs trace image
-inputs_of (Convert trace image) = report_inputs trace image
+inputs_of (Account trace image options) = report_inputs trace trace_limit image
+inputs_of (Stack trace image format) = report_inputs trace trace_limit image
+inputs_of (Convert trace image) = report_inputs trace trace_limit image
 inputs_of (Soak number) = []
 
 -- what comes of it
@@ -47,20 +48,39 @@ Comes reads held (Soak number) = SoakComes number
 
 -- whether only one outcome comes of it, over what a desk holds; this fails if threads run in an order of their own
 abbrev pub is_decided : Command → Bool
+is_decided (Sim image script schedule trace audit options) = true
 is_decided (Run image script trace audit options) = false
-is_decided command = true
+is_decided (Plain image bounds) = true
+is_decided (Extract image) = true
+is_decided (Asm text image threshold) = true
+is_decided (Account trace image options) = true
+is_decided (Stack trace image format) = true
+is_decided (Convert trace image) = true
+is_decided (Soak number) = true
 
 -- whether it waits for nobody, and starts no thread
 abbrev pub is_still : Command → Bool
+is_still (Sim image script schedule trace audit options) = true
 is_still (Run image script trace audit options) = false
-is_still command = true
+is_still (Plain image bounds) = true
+is_still (Extract image) = true
+is_still (Asm text image threshold) = true
+is_still (Account trace image options) = true
+is_still (Stack trace image format) = true
+is_still (Convert trace image) = true
+is_still (Soak number) = true
 
 -- whether it reports on a trace
 abbrev pub is_report : Command → Bool
+is_report (Sim image script schedule trace audit options) = false
+is_report (Run image script trace audit options) = false
+is_report (Plain image bounds) = false
+is_report (Extract image) = false
+is_report (Asm text image threshold) = false
 is_report (Account trace image options) = true
 is_report (Stack trace image format) = true
 is_report (Convert trace image) = true
-is_report command = false
+is_report (Soak number) = false
 
 -- ---- what was said: a command, or none
 

@@ -15,6 +15,7 @@ pub mod Soak
 pub mod Stack
 pub mod Convert
 pub mod Commands
+pub mod Accepted
 pub mod Answers
 pub mod Order
 pub mod private

@@ -9,6 +9,11 @@ use Rattle.xray_io.specs.World.{DeskView, SinkView}
 abbrev pub WritesNothing : (desk desk_now : DeskView) → (out out_now : SinkView) → Type 0
 WritesNothing desk desk_now out out_now = (desk_now.held ≡ desk.held) × (out_now.written ≡ out.written)
 
+-- no fault of the desk was counted, of reading or of writing
+pub record NoFault (desk desk_now : DeskView) : Type 0 where
+  pub reads : desk_now.read_faults ≡ desk.read_faults
+  pub writes : desk_now.write_faults ≡ desk.write_faults
+
 -- each output's name holds exactly its bytes
 abbrev pub OutputsAreWhole : List (List ℕ × List ℕ) → (held held_now : List ℕ → Entry) → Type 0
 OutputsAreWhole outputs held held_now = All (λ output. held_now output.0 ≡ made_to_hold (held output.0) output.1) outputs

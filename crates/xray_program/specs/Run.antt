@@ -1,5 +1,5 @@
 -- `run`: threads that run over an image while a script patches their sleds.
-use Rattle.std.specs.Prelude.{◌≡◌, ◌≢◌, ◌+◌, ℕ, List, All, Some, slice_get}
+use Rattle.std.specs.Prelude.{◌≡◌, ◌≢◌, ℕ, List, All}
 use Rattle.xray_io.specs.Desk.{Entry}
 use Rattle.xray_image.specs.Program.{Program}
 use Rattle.sled_words.specs.Words.{release_word}
@@ -12,7 +12,7 @@ use Rattle.machine_step.specs.Loads.{Load}
 use Rattle.machine_step.specs.Traced.{sleds_passed}
 use Rattle.traced_run.specs.Following.{AllMarksFollow, LoadsFollow}
 use Rattle.traced_run.specs.Losses.{AreLost}
-use Rattle.traced_run.specs.Runs.{ThreadRun}
+use Rattle.traced_run.specs.Runs.{EachThread, ThreadRun}
 use Rattle.xray_program.specs.Inputs.{image_form, script_form}
 use Rattle.xray_program.specs.Outcomes.{Outcome}
 use Rattle.xray_program.specs.Taking.{DeskReads, Take, Leaves}
@@ -35,11 +35,9 @@ RunComes reads held image script trace audit setup =
     Take (script_form program setup.threads) 1 reads held script (λ plan.
     RunsBeside trace audit setup program plan))
 
--- The headline's law for `run`. The runs are lawful. The loads of each thread follow the script to its end, and none of
--- them is of a release word that still held the thread.
-pub record LoadsFollowPlan (setup : Setup) (program : Program) (plan : Plan) (runs : List ThreadRun) (loads : ℕ → List Load) : Type 0 where
-  pub lawful : FollowsPlan setup program plan runs
-  pub follow : (i : ℕ) (run : ThreadRun) → slice_get runs i ≡ Some run
-      → LoadsFollow program (commands_of plan.lines) (i + 1) (sleds_passed run.passed) (loads (i + 1)) (total_of program (commands_of plan.lines))
-  pub released : (i : ℕ) (run : ThreadRun) → slice_get runs i ≡ Some run
-      → All (λ load. load.word ≡ release_word program (i + 1) → load.value ≢ 0) (loads (i + 1))
+-- The headline's law for `run`. The loads of each thread follow the script to its end, and none of them is of a release
+-- word that still held the thread.
+pub record LoadsFollowPlan (program : Program) (plan : Plan) (runs : List ThreadRun) (loads : ℕ → List Load) : Type 0 where
+  pub follow : EachThread runs (λ number run. LoadsFollow program (commands_of plan.lines) number (sleds_passed run.passed) (loads number)
+      (total_of program (commands_of plan.lines)))
+  pub released : EachThread runs (λ number run. All (λ load. load.word ≡ release_word program number → load.value ≢ 0) (loads number))

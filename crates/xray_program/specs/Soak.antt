@@ -14,6 +14,7 @@ use Rattle.step_sim.specs.Schedules.{schedule_of}
 use Rattle.trace_flush.specs.Flush.{trace_bytes}
 use Rattle.trace_flush.specs.Lines.{audits_of}
 use Rattle.trace_flush.specs.Summary.{summary_text}
+use Rattle.traced_run.specs.Losses.{recycled_of}
 use Rattle.traced_run.specs.Runs.{ThreadRun}
 use Rattle.xray_image.specs.Program.{Program, IsAccepted}
 use Rattle.xray_program.specs.Outcomes.{Outcome}
@@ -53,7 +54,7 @@ trace_lines bytes rows =
 -- the summary of runs, and of the trace that their file is read as
 abbrev pub soak_summary : (number : ℕ) → List ThreadRun → Trace → List ℕ
 soak_summary number runs trace =
-    codes "soak " ++ decimal number ++ line_feed ++ summary_text (audits_of soak_setup runs)
+    codes "soak " ++ decimal number ++ line_feed ++ summary_text (audits_of soak_setup runs) (recycled_of runs)
     ++ trace_lines (length (trace_bytes soak_setup runs)) (account_of trace.blocks)
 
 -- The inputs of a number are replayed, and the trace of the runs is read back from the bytes of its file. The text is

@@ -10,6 +10,7 @@ use Rattle.stack_rebuild.specs.declared.stack_text.StackForm.{StackForm}
 use Rattle.stack_rebuild.specs.declared.stack_text.StackForm.TheVariants as forms
 use Rattle.xray_image.specs.Program.{Program}
 use Rattle.xray_io.specs.Desk.{Entry}
+use Rattle.xray_program.specs.Inputs.{trace_form}
 use Rattle.xray_program.specs.Outcomes.{Outcome, Done}
 use Rattle.xray_program.specs.Reports.{TakeReport}
 use Rattle.xray_program.specs.Taking.{DeskReads, RefuseIf}
@@ -28,4 +29,4 @@ StacksCome trace format t program =
 
 -- what comes of the command
 abbrev pub StackComes : DeskReads → (List ℕ → Entry) → (trace : List ℕ) → (image : Option (List ℕ)) → StackFormat → Outcome → Type 0
-StackComes reads held trace image format = TakeReport reads held trace image (λ t program. StacksCome trace format t program)
+StackComes reads held trace image format = TakeReport trace_form reads held trace image (λ t program. StacksCome trace format t program)

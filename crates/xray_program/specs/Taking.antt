@@ -13,7 +13,7 @@ pub record Form (X : Type 0) : Type 1 where
 
 -- How inputs are taken: no read of a name that the desk holds fails; or any read may fail; or each input is accepted,
 -- so no turn fails; or each input up to the one at this place is accepted, and nothing is asked of what follows it.
--- Places count from 0, in the order of the words.
+-- Places count from 0, in the order in which the inputs are taken.
 pub data DeskReads : Type 0 where
   Sound : DeskReads
   Faulty : DeskReads
@@ -41,7 +41,9 @@ GoesOn Faulty place Next = Next
 GoesOn AllAccepted place Next = Next
 GoesOn (AcceptedUpTo last) place Next = (place ≡ last) ⊎ Next
 
--- the first `count` inputs of which this comes are accepted
+-- The first `count` inputs of a command are accepted: each of these names, one after another, may hold bytes that are
+-- within its limit and read as a value of its kind. It is said by what comes of the command. If each input up to the last
+-- of these has to be accepted, and nothing is asked of what follows it, then whatever outcome is named comes.
 abbrev pub AcceptsFirst : (DeskReads → Outcome → Type 0) → (count : ℕ) → Type 0
 AcceptsFirst comes zero = ⊤
 AcceptsFirst comes (suc last) = (outcome : Outcome) → comes (AcceptedUpTo last) outcome

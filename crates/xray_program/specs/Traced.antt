@@ -1,5 +1,5 @@
 -- What is left by a command that runs traced threads, whatever makes their runs lawful.
-use Rattle.std.specs.Prelude.{◌≡◌, ◌≤◌, ◌+◌, ℕ, List, [], ◌∷◌, ◌++◌, Ok, Some, length, slice_get}
+use Rattle.std.specs.Prelude.{◌≡◌, ◌≤◌, ◌+◌, ℕ, List, [], ◌∷◌, ◌++◌, Ok, length}
 use Rattle.command_words.specs.Limits.{trace_limit}
 use Rattle.fdr_file.specs.Traces.{trace_of}
 use Rattle.xray_io.specs.Desk.{made_to_hold}
@@ -16,10 +16,10 @@ use Rattle.machine_step.specs.Texts.{state_text}
 use Rattle.traced_run.specs.Decoded.{DecodesWhole}
 use Rattle.traced_run.specs.Executed.{Executes}
 use Rattle.traced_run.specs.Losses.{AreLost}
-use Rattle.traced_run.specs.Runs.{IsRun, ThreadRun}
-use Rattle.trace_flush.specs.Audit.{audit_text}
+use Rattle.traced_run.specs.Runs.{EachThread, IsRun, ThreadRun}
 use Rattle.trace_flush.specs.Flush.{IsTraceOf, trace_bytes}
-use Rattle.trace_flush.specs.Lines.{audits_of}
+use Rattle.trace_flush.specs.Lines.{audit_of_run}
+use Rattle.xray_program.specs.Setups.{FitsReports}
 
 -- the state texts of threads, one after another, numbered from a number on
 abbrev pub state_texts : ℕ → List ThreadRun → List ℕ
@@ -28,7 +28,7 @@ state_texts number (run ∷ runs) = state_text number run.end run.last run.marks
 
 -- the outputs of a run, each a name and its bytes: the trace, and then the audit
 abbrev pub written_of : (trace audit : List ℕ) → Setup → List ThreadRun → List (List ℕ × List ℕ)
-written_of trace audit setup runs = (trace, trace_bytes setup runs) ∷ (audit, audit_text setup (audits_of setup runs)) ∷ []
+written_of trace audit setup runs = (trace, trace_bytes setup runs) ∷ (audit, audit_of_run setup runs) ∷ []
 
 -- What lawful runs of the threads leave is written: the trace, the audit, and as text the state texts, thread 1 first.
 pub record Traces (Lawful : List ThreadRun → Type 0) (program : Program) (setup : Setup) (trace audit : List ℕ)
@@ -39,40 +39,53 @@ pub record Traces (Lawful : List ThreadRun → Type 0) (program : Program) (setu
   pub outputs_are : outputs ≡ written_of trace audit setup runs
   pub text_is : text ≡ state_texts 1 runs
 
--- The headline, for any law of runs and of the loads that their threads make. The image file is accepted, and the script
--- is read for it and for the number of threads. There are runs of the threads, and loads of each thread by its number,
--- which are lawful, such that:
+-- ---- the headline, for any law of runs and of the loads that their threads make
+
+-- The threads have run by this law. The image file is accepted, and the script is read for it and for the number of
+-- threads. There are loads of each thread by its number, such that:
 -- - each thread goes as its plain run does;
+-- - the runs and the loads are lawful;
 -- - each load of a thread is of the word that it wanted next, by its loads no passing decodes a torn sled, and its marks
 --   are those of its loads;
 -- - a thread that executes the code, each sled with the bytes that it loaded there, always comes to the same end as the
---   plain run, with the same registers except r10, zero flag, stack, output and counts;
--- - each thread that has segments of events keeps its last one; if there are more other segments than spare buffers,
---   exactly the excess is lost, and otherwise none is;
--- - the trace holds the trace of these runs: a header with the setup's numbers, and for each thread the last whole
---   segments of exactly the entries and exits that its marks record, and all of them if no segment was lost;
--- - the reports take this file: it isn't too long for them, and it reads as this trace;
--- - the audit holds how these runs ended: each thread's end, segments, lost segments and marks;
--- - the state texts of these runs were written on out, thread 1 first.
-pub record IsTraced (Lawful : Program → Plan → List ThreadRun → (ℕ → List Load) → Type 0) (image script trace audit : List ℕ)
-    (setup : Setup) (before after : World) : Type 0 where
+--   plain run, with the same registers except r10, zero flag, stack, output and counts.
+pub record RanLawfully (Lawful : Program → Plan → List ThreadRun → (ℕ → List Load) → Type 0) (image script : List ℕ) (setup : Setup)
+    (runs : List ThreadRun) : Type 0 where
   pub program : Program
   pub accepted : IsAccepted image program
   pub plan : Plan
   pub script_reads : plan_of program setup.threads script ≡ Ok plan
-  pub runs : List ThreadRun
   pub run : IsRun program setup runs
   pub loads : ℕ → List Load
   pub lawful : Lawful program plan runs loads
-  pub whole : (i : ℕ) (run : ThreadRun) → slice_get runs i ≡ Some run
-      → DecodesWhole program (i + 1) (hold_of (i + 1) (commands_of plan.lines)) run (loads (i + 1))
-  pub executes : (i : ℕ) (run : ThreadRun) → slice_get runs i ≡ Some run
-      → Executes program setup.limits (i + 1) (hold_of (i + 1) (commands_of plan.lines)) run (loads (i + 1))
-  pub losses : AreLost setup.size (spare_of setup) runs
-  pub file : List ℕ
-  pub traced : IsTraceOf setup runs file
-  pub short : length file ≤ trace_limit
-  pub reads_back : trace_of file ≡ Ok traced.trace
-  pub trace_holds : after.desk.held trace ≡ made_to_hold (before.desk.held trace) file
-  pub audit_holds : after.desk.held audit ≡ made_to_hold (before.desk.held audit) (audit_text setup (audits_of setup runs))
+  pub whole : EachThread runs (λ number run. DecodesWhole program number (hold_of number (commands_of plan.lines)) run (loads number))
+  pub executes : EachThread runs
+      (λ number run. Executes program setup.limits number (hold_of number (commands_of plan.lines)) run (loads number))
+
+-- The files of runs are written, and their state texts. The trace holds exactly the bytes of the trace of these runs. The
+-- audit holds how they ended: each thread's end, segments, lost segments and marks. The state texts were given to out,
+-- thread 1 first.
+pub record LeftFiles (trace audit : List ℕ) (setup : Setup) (runs : List ThreadRun) (before after : World) : Type 0 where
+  pub trace_holds : after.desk.held trace ≡ made_to_hold (before.desk.held trace) (trace_bytes setup runs)
+  pub audit_holds : after.desk.held audit ≡ made_to_hold (before.desk.held audit) (audit_of_run setup runs)
   pub out : Adds before.out.written after.out.written (state_texts 1 runs)
+
+-- The threads have run by this law, and their files are written. Each thread that has segments of events keeps its last
+-- one; if there are more other segments than spare buffers, exactly the excess is lost, and otherwise none is. The
+-- numbers of the setup fit a trace that the reports take. So the trace reads back: for each thread it has the last whole
+-- segments of exactly the entries and exits that its marks record (the law `reports_take_a_run`).
+pub record IsTraced (Lawful : Program → Plan → List ThreadRun → (ℕ → List Load) → Type 0) (image script trace audit : List ℕ)
+    (setup : Setup) (before after : World) : Type 0 where
+  pub fits : FitsReports setup
+  pub runs : List ThreadRun
+  pub ran : RanLawfully Lawful image script setup runs
+  pub losses : AreLost setup.size (spare_of setup) runs
+  pub left : LeftFiles trace audit setup runs before after
+
+-- ---- what the reports read of it
+
+-- The bytes of the trace of these runs are its trace, are at most as many as a report reads, and read as this trace.
+pub record IsReported (setup : Setup) (runs : List ThreadRun) : Type 0 where
+  pub traced : IsTraceOf setup runs (trace_bytes setup runs)
+  pub short : length (trace_bytes setup runs) ≤ trace_limit
+  pub reads_back : trace_of (trace_bytes setup runs) ≡ Ok traced.trace

@@ -22,14 +22,12 @@ use crate::stop::Stop;
 use crate::traced::TraceFiles;
 use crate::work::perform;
 use command_words::{Command, commands_follow_their_rows, read_words};
-use fdr_file::a_trace_is_read;
 use machine_step::what_follows_is_allowed;
 use patch_script::each_script_keeps_sleds;
 use std::alloc::Global;
 use std::sync::Wait;
 use std::thread::Threads;
 use step_sim::{a_replay_loses_few, lost_segments_are_the_oldest, no_replay_tears_a_sled};
-use trace_flush::{a_run_is_traced, a_trace_is_short};
 use traced_run::a_whole_run_executes_to_its_end;
 use xray_io::{Desk, Gate, Sink, Wall};
 
@@ -116,7 +114,7 @@ pub fn out_of_memory<E: Sink>(err: &mut E) -> u8
 
 /// A law. No thread of a replay decodes a torn sled, and none of a run does. So each thread that
 /// executes its code always comes to the end of its plain run. A replay loses as few segments as its
-/// buffers allow, and a thread's lost segments are its oldest ones. The trace reads back.
+/// buffers allow, and a thread's lost segments are its oldest ones.
 fn what_runs_leave()
     ensures { CallLaws }
 {
@@ -126,9 +124,6 @@ fn what_runs_leave()
     a_replay_loses_few();
     lost_segments_are_the_oldest();
     a_whole_run_executes_to_its_end();
-    a_run_is_traced();
-    a_trace_is_short();
-    a_trace_is_read();
 }
 
 /// The status of a call that ended so. If something stopped it, a line on `err` says what.

@@ -3,7 +3,7 @@ ghost use Rattle.std.specs.Prelude.{◌≡◌, ℕ, List, [], ◌∷◌, Contain
 ghost use Rattle.fault_words.specs.Words.{words_text};
 ghost use Rattle.xray_io.specs.Calls.{Went};
 ghost use Rattle.xray_io.specs.World.{desk_view, sink_view};
-ghost use Rattle.xray_program.specs.Outputs.{OutputsAreWhole};
+ghost use Rattle.xray_program.specs.Outputs.{NoFault, OutputsAreWhole};
 ghost use Rattle.xray_program.specs.private.Works.{AreMakings, Delivers, KeepsOthers, StopsOutputs, names_of};
 
 use crate::stop::Stop;
@@ -27,6 +27,8 @@ pub(crate) trait Outputs<'a> {
         ensures whole { OnOk result (OutputsAreWhole (all self.now) (D.held desk.old) (D.held desk.new)) }
         ensures stops { let seen = desk_view D.held D.read_faults D.write_faults in
             IfErr result (StopsOutputs (all self.now) (seen desk.old) (seen desk.new)) }
+        ensures calm { let seen = desk_view D.held D.read_faults D.write_faults in
+            OnOk result (NoFault (seen desk.old) (seen desk.new)) }
         ensures made { let seen = desk_view D.held D.read_faults D.write_faults in
             Went (D.along desk.old desk.new) (AreMakings (all self.now) (seen desk.old) (seen desk.new) result) }
         ensures others { let seen = desk_view D.held D.read_faults D.write_faults in

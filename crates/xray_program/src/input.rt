@@ -1,5 +1,5 @@
 //! An input in its turn: it is read, measured and judged before the next one is opened.
-ghost use Rattle.std.specs.Prelude.{◌≡◌, ◌≤◌, ℕ, List, Some, length, option_map, IfOk, IfErr};
+ghost use Rattle.std.specs.Prelude.{◌≡◌, ◌≤◌, ℕ, List, Some, length, option_map, IfOk, IfErr, OnOk};
 ghost use Rattle.xray_io.specs.{Calls.{Went}, World.{desk_view}};
 ghost use Rattle.xray_program.specs.private.Takes.{IsFaultStop, IsMaybeTaken, IsMaybeTaking, IsReadStop, IsTaken, IsTaking};
 ghost use Rattle.xray_program.specs.Taking.{Form};
@@ -54,6 +54,7 @@ pub(crate) fn take<'a, K: Kind, D: Desk>(
     ensures held { D.held desk.new ≡ D.held desk.old }
     ensures later { D.read_faults desk.old ≤ D.read_faults desk.new }
     ensures writes { D.write_faults desk.new ≡ D.write_faults desk.old }
+    ensures calm { OnOk result (D.read_faults desk.new ≡ D.read_faults desk.old) }
     ensures calls { Went (D.along desk.old desk.new) (IsTaking name.now (K.form kind.now).limit result) }
 {
     match read_whole(alloc, desk, name, kind.limit()) {
@@ -77,6 +78,7 @@ pub(crate) fn take_maybe<'a, K: Kind, D: Desk>(
     ensures held { D.held desk.new ≡ D.held desk.old }
     ensures later { D.read_faults desk.old ≤ D.read_faults desk.new }
     ensures writes { D.write_faults desk.new ≡ D.write_faults desk.old }
+    ensures calm { OnOk result (D.read_faults desk.new ≡ D.read_faults desk.old) }
     ensures calls { Went (D.along desk.old desk.new)
         (IsMaybeTaking (option_map (λ n. n.now) name.entry) (K.form kind.now).limit result) }
 {

@@ -1,9 +1,16 @@
 //! Laws of what the program means. Each law is the contract of a function that does nothing.
-ghost use Rattle.std.specs.Prelude.{◌≡◌, ◌<◌, ℕ, List, Option, None, All, map};
+ghost use Rattle.std.specs.Prelude.{◌≡◌, ◌≢◌, ◌<◌, ◌⊎◌, ℕ, List, Option, None, Some, All, IsPermutation, map};
 ghost use Rattle.command_words.specs.Files.{inputs_in, names_of, row_of};
+ghost use Rattle.machine_step.specs.Buffers.{spare_of};
+ghost use Rattle.machine_step.specs.declared.setup.Setup.{Setup};
+ghost use Rattle.traced_run.specs.{Losses.{AreLost}, Runs.{IsRun, ThreadRun}};
+ghost use Rattle.xray_image.specs.Program.{IsAccepted, Program};
 ghost use Rattle.xray_io.specs.Desk.{Entry, Holds};
+ghost use Rattle.xray_io.specs.World.{World};
+ghost use Rattle.xray_program.specs.{Accepted.{AreAccepted, CountsNoFault}, Answers.{IsAnswer}};
 ghost use Rattle.xray_program.specs.Commands.{IsDecided, Means, TellsAll, inputs_of};
-ghost use Rattle.xray_program.specs.Outcomes.{Outcome, written_by};
+ghost use Rattle.xray_program.specs.Outcomes.{Outcome, status_of, written_by};
+ghost use Rattle.xray_program.specs.{Setups.{FitsReports}, Traced.{IsReported}};
 ghost use Rattle.command_words.specs.Words.{Command};
 
 use crate::drawn::each_input_is_read;
@@ -11,7 +18,7 @@ use fdr_file::a_trace_is_read;
 use machine_step::{one_end, some_end, some_marks_follow};
 use patch_script::each_script_lets_threads_end;
 use step_sim::{one_run, some_run};
-use trace_flush::a_run_is_traced;
+use trace_flush::{a_run_is_traced, a_trace_is_short};
 use traced_run::some_losses_are_of_a_queue;
 use xray_image::{one_verdict, some_verdict};
 
@@ -59,8 +66,39 @@ pub fn some_meaning()
 }
 
 /// The inputs of a command, whose turns come one after another, are the files that are read by its
-/// row in the table of commands, in the order of their names.
+/// row in the table of commands. They may be taken in another order than that of their names.
 pub fn inputs_follow_the_rows()
-    ensures { (command : Command) → map (λ input. input.0) (inputs_of command)
-        ≡ inputs_in (row_of command).files (names_of command) }
+    ensures { (command : Command) → IsPermutation (inputs_in (row_of command).files (names_of command))
+        (map (λ input. input.0) (inputs_of command)) }
 {}
+
+/// If words say a command, each of its inputs is held, within its limit and accepted, nothing else is
+/// wrong with them (`AreAccepted`), and no fault is counted, then the status is 0, unless memory runs
+/// out. For `run` this is about a call that returns. `IsAnswer` is the field `complete` of the contract
+/// of a call.
+pub fn accepted_inputs_mean_done()
+    ensures { (command : Command) (before after : World) (status : ℕ)
+        → AreAccepted before.desk.held command → CountsNoFault before after
+        → IsAnswer (Some command) before after status → (status ≡ 0) ⊎ (status ≡ 5) }
+{
+    one_verdict();
+}
+
+/// No words mean an outcome with status 7, whatever the desk holds.
+pub fn no_words_mean_7()
+    ensures { (said : Option Command) (held : List ℕ → Entry) (outcome : Outcome)
+        → Means said held outcome → status_of outcome ≢ 7 }
+{}
+
+/// The reports take the trace of a run whose setup fits (`FitsReports`): its bytes are the trace of the
+/// run (`IsTraceOf`), a report reads that many bytes, and they read as this trace. With the headline,
+/// this says what the file of a `sim` or a `run` reads as.
+pub fn reports_take_a_run()
+    ensures { (image : List ℕ) (program : Program) (setup : Setup) (runs : List ThreadRun)
+        → IsAccepted image program → FitsReports setup → IsRun program setup runs
+        → AreLost setup.size (spare_of setup) runs → IsReported setup runs }
+{
+    a_run_is_traced();
+    a_trace_is_short();
+    a_trace_is_read();
+}

@@ -2,7 +2,7 @@
 //!
 //! The words are read first, together with the wall time (`command_words`). A command is one module
 //! (`sim`, `run`, `plain`, `extract`, `asm`, `account`, `stack`, `convert`, `soak`), which implements
-//! `Work`. It takes its inputs in the order of the words (`input`). Each is read, measured and
+//! `Work`. It takes its inputs in their order (`inputs_of`, `input`). Each is read, measured and
 //! judged before the next is opened, so the first that fails decides. Then it does its work, and
 //! writes its outputs and its text (`delivery`). What is written of traced threads is in `traced`.
 //! The inputs of `soak` are `drawn`, and its text is a `summary`. Last, if something stopped the
@@ -41,4 +41,8 @@ mod traced;
 mod work;
 
 pub use call::{may_wait, out_of_memory, xray, xray_still};
-pub use laws::{inputs_follow_the_rows, one_meaning, refusal_is_the_only_meaning, some_meaning};
+pub use laws::{
+    accepted_inputs_mean_done, inputs_follow_the_rows, no_words_mean_7, one_meaning,
+    refusal_is_the_only_meaning, reports_take_a_run, some_meaning,
+};
+pub use soak_inputs;

@@ -1,5 +1,5 @@
 //! `run`: threads that run over an image while a script patches their sleds.
-ghost use Rattle.std.specs.Prelude.{◌≡◌, ◌≤◌, ◌∷◌, [], IfOk, IsPermutation, List, Some, filter, map};
+ghost use Rattle.std.specs.Prelude.{◌≡◌, ◌≤◌, ◌∷◌, [], IfOk, IsPermutation, OnOk, List, Some, filter, map};
 ghost use Rattle.command_words.specs.Words.{outputs_of};
 ghost use Rattle.patch_script.specs.Refusals.{commands_of};
 ghost use Rattle.machine_step.specs.declared.setup.Setup.{Setup};
@@ -63,6 +63,7 @@ fn take_inputs<'a, D: Desk>(
     ensures held { D.held desk.new ≡ D.held desk.old }
     ensures later { D.read_faults desk.old ≤ D.read_faults desk.new }
     ensures writes { D.write_faults desk.new ≡ D.write_faults desk.old }
+    ensures calm { OnOk result (D.read_faults desk.new ≡ D.read_faults desk.old) }
     ensures calls { Went (D.along desk.old desk.new)
         (AreTakings (λ reads. Comes reads (D.held desk.old) (said_by command.now)) (inputs_of (said_by command.now)) result) }
 {

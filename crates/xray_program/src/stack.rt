@@ -4,11 +4,12 @@ ghost use Rattle.xray_program.specs.Stack.{form_of};
 
 use crate::delivery::{NoOutputs, deliver};
 use crate::input::fault_stop;
-use crate::inputs::TRACE;
+use crate::inputs::{TRACE, TraceKind};
 use crate::report_inputs::{ReportInputs, take_report};
 use crate::stop::Stop;
 use crate::work::Work;
 use command_words::StackFormat;
+use fdr_file::Trace;
 use stack_rebuild::{StackForm, StackText, stacks};
 use std::alloc::Global;
 use xray_io::{Desk, Sink};
@@ -29,26 +30,26 @@ impl<'a> Work<'a> for Stack<'a> {
     ghost use Rattle.command_words.specs.Words as words;
     ghost use Rattle.xray_program.specs.Stack.{StacksCome};
 
-    type Inputs = ReportInputs;
+    type Inputs = ReportInputs<Trace>;
 
     ghost says = { λ s. words.Stack s.trace.now (option_map (λ n. n.now) s.image) s.format };
 
-    ghost yields = { λ s inputs. StacksCome s.trace.now s.format inputs.trace inputs.image };
+    ghost yields = { λ s inputs. StacksCome s.trace.now s.format inputs.log inputs.image };
 
     ghost fits = { λ _ _. ⊤ };
 
-    fn take<D: Desk>(&self, alloc: Global, desk: &mut D) -> Result<ReportInputs, Stop<'a>> {
-        take_report(alloc, desk, self.trace, self.image)
+    fn take<D: Desk>(&self, alloc: Global, desk: &mut D) -> Result<ReportInputs<Trace>, Stop<'a>> {
+        take_report(alloc, desk, self.trace, &TraceKind, self.image)
     }
 
     fn finish<D: Desk, O: Sink>(
         &self,
         alloc: Global,
-        inputs: &ReportInputs,
+        inputs: &ReportInputs<Trace>,
         desk: &mut D,
         out: &mut O,
     ) -> Result<(), Stop<'a>> {
-        match stacks(alloc, &inputs.trace) {
+        match stacks(alloc, &inputs.log) {
             Ok(rows) => {
                 let text = StackText {
                     rows: &rows,

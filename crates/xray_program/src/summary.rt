@@ -3,7 +3,7 @@ ghost use Rattle.std.specs.Prelude.{◌≡◌, ◌++◌, All, IfOk, IsTrue, Ok, 
 ghost use Rattle.fdr_file.specs.{Files.{file_bytes}, Traces.{trace_of}};
 ghost use Rattle.fdr_file.specs.declared.trace.Trace.{Trace};
 ghost use Rattle.machine_step.specs.Texts.{line_feed};
-ghost use Rattle.trace_flush.specs.{Audit.{thread_audits}, Flush.{run_header}};
+ghost use Rattle.trace_flush.specs.{Audit.{recycled_by, thread_audits}, Flush.{run_header}};
 ghost use Rattle.xray_io.specs.{Memory.{sink_bytes}, Text.{AddsText}};
 ghost use Rattle.xray_program.specs.Soak.{IsSummary, soak_setup, trace_lines};
 ghost use Rattle.xray_program.specs.private.Drawn.{IsReadBack, summary_with};
@@ -53,7 +53,7 @@ fn summed_up(
 ) -> Result<MemSink, NoMemory>
     requires { length lines.now ≡ length cpus.now }
     ensures { IfOk result (λ sink. sink_bytes sink
-        ≡ summary_with number (thread_audits lines.now cpus.now) back.now.bytes back.now.rows.items) }
+        ≡ summary_with number (thread_audits lines.now cpus.now) (recycled_by lines.now) back.now.bytes back.now.rows.items) }
 {
     let mut sink = MemSink::new(alloc, Vec::new(alloc));
     let summary = Summary {
@@ -123,7 +123,7 @@ struct Summary<'a, 'i> {
 }
 
 impl Printed for Summary<'_, '_> {
-    ghost text = { λ all. summary_with all.number (thread_audits all.lines.now all.cpus.now)
+    ghost text = { λ all. summary_with all.number (thread_audits all.lines.now all.cpus.now) (recycled_by all.lines.now)
         all.back.now.bytes all.back.now.rows.items };
 
     ghost ready = { λ all. length all.lines.now ≡ length all.cpus.now };

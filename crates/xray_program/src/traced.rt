@@ -4,7 +4,7 @@ ghost use Rattle.std.specs.Prelude.{◌≡◌, ◌≢◌, ◌≤◌, [], ◌∷�
 ghost use Rattle.std.specs.List.{All, flat_map};
 ghost use Rattle.fdr_file.specs.Files.{file_bytes};
 ghost use Rattle.machine_step.specs.{EndedText.{thread_text}, Traced.{IsDone}};
-ghost use Rattle.trace_flush.specs.{Audit.{thread_audits, audit_text}, Flush.{run_header}};
+ghost use Rattle.trace_flush.specs.{Audit.{audit_text, recycled_by, thread_audits}, Flush.{run_header}};
 ghost use Rattle.traced_run.specs.{Left.{Leaves}, Runs.{ThreadRun}};
 ghost use Rattle.xray_io.specs.World.{desk_view, sink_view};
 ghost use Rattle.xray_program.specs.Traced.{state_texts, written_of};
@@ -103,7 +103,7 @@ fn deliver_texts<'a, D: Desk, O: Sink>(
     ensures delivers { let seen = desk_view D.held D.read_faults D.write_faults in
         let got = sink_view O.written O.faults in
         Delivers ((files.now.trace.now, file_bytes (run_header setup.now) buffers.now)
-        ∷ (files.now.audit.now, audit_text setup.now (thread_audits lines.now cpus.now)) ∷ [])
+        ∷ (files.now.audit.now, audit_text setup.now (thread_audits lines.now cpus.now) (recycled_by lines.now)) ∷ [])
         (flat_map thread_text cpus.now) None
         (seen desk.old) (seen desk.new) (got out.old) (got out.new) (D.along desk.old desk.new) result }
     ensures others { let seen = desk_view D.held D.read_faults D.write_faults in

@@ -1,5 +1,5 @@
 //! A command: which inputs it takes, and what it does with them.
-ghost use Rattle.std.specs.Prelude.{◌≡◌, ◌≤◌, ℕ, List, Some, IfOk};
+ghost use Rattle.std.specs.Prelude.{◌≡◌, ◌≤◌, ℕ, List, Some, IfOk, OnOk};
 ghost use Rattle.command_words.specs.Words.{Command, outputs_of};
 ghost use Rattle.xray_io.specs.{Calls.{Went}, World.{desk_view, sink_view}};
 ghost use Rattle.xray_program.specs.{Commands.{Comes, inputs_of}, Outcomes.{Outcome}};
@@ -29,7 +29,7 @@ pub(crate) trait Work<'a> {
     /// What has to be true between the inputs.
     ghost fits: { Self → Self.Inputs → Type 0 };
 
-    /// Takes the inputs in the order of the words. The first that fails decides.
+    /// Takes the inputs in their order (`inputs_of`). The first that fails decides.
     fn take<D: Desk>(&self, alloc: Global, desk: &mut D) -> Result<Self::Inputs, Stop<'a>>
         ensures taken { let seen = desk_view D.held D.read_faults D.write_faults in
             AreTaken (λ reads. Comes reads (D.held desk.old) (says self.now)) (yields self.now)
@@ -38,6 +38,7 @@ pub(crate) trait Work<'a> {
         ensures held { D.held desk.new ≡ D.held desk.old }
         ensures later { D.read_faults desk.old ≤ D.read_faults desk.new }
         ensures writes { D.write_faults desk.new ≡ D.write_faults desk.old }
+        ensures calm { OnOk result (D.read_faults desk.new ≡ D.read_faults desk.old) }
         ensures calls { Went (D.along desk.old desk.new)
             (AreTakings (λ reads. Comes reads (D.held desk.old) (says self.now)) (inputs_of (says self.now)) result) };
 

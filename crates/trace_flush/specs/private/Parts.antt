@@ -1,6 +1,6 @@
 -- The parts of what is said of a thread.
-use Rattle.std.specs.Prelude.{ℕ, List, ◌++◌, length, codes, decimal}
-use Rattle.handler_word.specs.MarkList.{recorded_count}
+use Rattle.std.specs.Prelude.{List, ℕ, ◌++◌, codes, decimal}
+use Rattle.handler_word.specs.declared.mark.Mark.{Mark}
 use Rattle.machine_step.specs.Texts.{end_text, line_feed, marks_line}
 use Rattle.trace_flush.specs.declared.audit.Detail.{Detail}
 use Rattle.trace_flush.specs.declared.audit.Detail.TheVariants.{Audit, Summary}
@@ -15,9 +15,9 @@ said_of Summary = summary_line
 
 -- how it ended, its passings and those that recorded an event
 abbrev pub start_text : ThreadAudit → List ℕ
-start_text (line, marks) =
-    codes "thread " ++ decimal line.thread ++ codes " " ++ end_text line.end ++ codes " passings " ++ decimal (length marks)
-    ++ codes " recorded " ++ decimal (recorded_count marks)
+start_text said =
+    codes "thread " ++ decimal said.thread ++ codes " " ++ end_text said.end ++ codes " passings " ++ decimal said.passings
+    ++ codes " recorded " ++ decimal said.recorded
 
 -- how many of its segments were recycled
 abbrev pub first_text : AuditLine → List ℕ
@@ -28,6 +28,6 @@ abbrev pub segments_text : AuditLine → List ℕ
 segments_text line = codes " segments " ++ decimal line.segments ++ first_text line
 
 -- what is said of it after its start
-abbrev pub rest_of : Detail → ThreadAudit → List ℕ
-rest_of Audit (line, marks) = segments_text line ++ marks_line marks
-rest_of Summary (line, marks) = first_text line
+abbrev pub rest_of : Detail → AuditLine → List Mark → List ℕ
+rest_of Audit line marks = segments_text line ++ marks_line marks
+rest_of Summary line marks = first_text line

@@ -1,8 +1,5 @@
 -- What the crates below say of runs, and the contract of a call rests on.
-use Rattle.std.specs.Prelude.{◌≡◌, ◌≤◌, ◌+◌, ◌*◌, ℕ, List, Option, Some, Ok, length, slice_get}
-use Rattle.fdr_file.specs.declared.trace.Trace.{Trace}
-use Rattle.fdr_file.specs.Grammar.{IsTrace}
-use Rattle.fdr_file.specs.Traces.{trace_of}
+use Rattle.std.specs.Prelude.{◌≡◌, ℕ, List, Option, Ok}
 use Rattle.xray_image.specs.Program.{IsAccepted, Program}
 use Rattle.sled_words.specs.ChangingCode.{KeepsSleds}
 use Rattle.patch_script.specs.CodeAt.{code_at}
@@ -17,10 +14,8 @@ use Rattle.machine_step.specs.declared.limits.Limits.{Limits}
 use Rattle.machine_step.specs.PlainStep.{PlainRun}
 use Rattle.traced_run.specs.Decoded.{DecodesWhole}
 use Rattle.traced_run.specs.Executed.{Executes}
-use Rattle.traced_run.specs.Fits.{SetupFits}
 use Rattle.traced_run.specs.Losses.{AreLost}
-use Rattle.traced_run.specs.Runs.{IsRun, ThreadRun}
-use Rattle.trace_flush.specs.Flush.{IsTraceOf, trace_bytes}
+use Rattle.traced_run.specs.Runs.{EachThread, ThreadRun}
 use Rattle.step_sim.specs.Replay.{of_thread}
 use Rattle.step_sim.specs.Replayed.{IsReplayOf, LoseOldest}
 use Rattle.step_sim.specs.Schedules.{schedule_of}
@@ -30,8 +25,7 @@ use Rattle.step_sim.specs.declared.turns.Turns.{Turns}
 abbrev pub TearsNone : Type 0
 TearsNone = (program : Program) (script : List PatchCommand) (text : List ℕ) (schedule : List Turns) (setup : Setup) (runs : List ThreadRun)
     → schedule_of setup.threads text ≡ Ok schedule → (replay : IsReplayOf program script schedule setup runs)
-    → (i : ℕ) (run : ThreadRun) → slice_get runs i ≡ Some run
-    → DecodesWhole program (i + 1) (hold_of (i + 1) script) run (of_thread replay.last.moment.loads (i + 1))
+    → EachThread runs (λ number run. DecodesWhole program number (hold_of number script) run (of_thread replay.last.moment.loads number))
 
 -- the segments that a replay loses are each thread's oldest
 abbrev pub LosesOldest : Type 0
@@ -54,27 +48,12 @@ FollowsWhole = (program : Program) (code : ℕ → ℕ → ℕ) (start : ℕ) (b
     (loads : List Load) (place : ℕ) → KeepsSleds program thread code → Follows program code start bound thread hold sleds loads place
     → PassingsAreWhole program thread hold sleds loads
 
--- the trace of a run reads back
-abbrev pub TracesRuns : Type 0
-TracesRuns = (bytes : List ℕ) (program : Program) (setup : Setup) (runs : List ThreadRun) → IsAccepted bytes program → SetupFits setup
-    → IsRun program setup runs → IsTraceOf setup runs (trace_bytes setup runs)
-
 -- a thread that executes the code with the bytes that it loaded always comes to the end of its plain run, if it tears no
 -- sled
 abbrev pub ExecutesRuns : Type 0
 ExecutesRuns = (bytes : List ℕ) (program : Program) (limits : Limits) (number : ℕ) (hold : Option ℕ) (run : ThreadRun) (loads : List Load)
     → IsAccepted bytes program → PlainRun program limits number run.passed run.end run.last → DecodesWhole program number hold run loads
     → Executes program limits number hold run loads
-
--- the trace of a run is no longer than its buffers allow
-abbrev pub TracesAreShort : Type 0
-TracesAreShort = (bytes : List ℕ) (program : Program) (setup : Setup) (runs : List ThreadRun) → IsAccepted bytes program → SetupFits setup
-    → setup.threads ≤ setup.max → IsRun program setup runs → AreLost setup.size (spare_of setup) runs
-    → length (trace_bytes setup runs) ≤ setup.max * (setup.size + 16) + 32
-
--- what is a trace by the grammar reads as it
-abbrev pub TracesRead : Type 0
-TracesRead = (bytes : List ℕ) (trace : Trace) → IsTrace bytes trace → trace_of bytes ≡ Ok trace
 
 -- as many segments are lost as the queue has no buffers for
 abbrev pub LosesAsQueued : Type 0
@@ -90,6 +69,3 @@ pub record CallLaws : Type 0 where
   pub wanted : FollowsWanted
   pub follows : FollowsWhole
   pub executes : ExecutesRuns
-  pub traced : TracesRuns
-  pub short : TracesAreShort
-  pub read : TracesRead

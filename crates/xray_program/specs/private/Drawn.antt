@@ -44,6 +44,6 @@ pub record IsReadBack (file : List ℕ) (bytes : ℕ) (rows : List AccountRow) :
   pub rows_are : rows ≡ account_of trace.blocks
 
 -- a summary of what threads, a file and an account say
-abbrev pub summary_with : (number : ℕ) → List ThreadAudit → (bytes : ℕ) → List AccountRow → List ℕ
-summary_with number threads bytes rows =
-    codes "soak " ++ decimal number ++ line_feed ++ summary_text threads ++ trace_lines bytes rows
+abbrev pub summary_with : (number : ℕ) → List ThreadAudit → (recycled bytes : ℕ) → List AccountRow → List ℕ
+summary_with number threads recycled bytes rows =
+    codes "soak " ++ decimal number ++ line_feed ++ summary_text threads recycled ++ trace_lines bytes rows

@@ -1,5 +1,5 @@
 -- How the work of a command ends, once its inputs were taken, and how a whole call ends, before the line on err.
-use Rattle.std.specs.Prelude.{◌≡◌, ◌≤◌, ◌+◌, ◌*◌, ◌⊎◌, ℕ, List, Contains, Option, Some, None, Result, Ok, Err, map}
+use Rattle.std.specs.Prelude.{◌≡◌, ◌⊎◌, ℕ, List, Contains, Option, Some, None, Result, Ok, Err, map}
 use Rattle.xray_io.specs.Calls.{Call, Went}
 use Rattle.xray_io.specs.Desk.{Absent}
 use Rattle.xray_io.specs.Faults.{Rose}
@@ -8,12 +8,9 @@ use Rattle.xray_io.specs.Sink.{Adds}
 use Rattle.xray_program.specs.Commands.{Means, HadItsTurn, outputs_named}
 use Rattle.xray_program.specs.Order.{FailsAtOutput, InOrder, IsNoCall, IsUnmade, MakesAll}
 use Rattle.xray_program.specs.Outcomes.{Outcome, BadLine, Unread, Refused, Done, Fell, Ending, With, Unwritten, NoMemory, status_at, err_line_at, written_by}
-use Rattle.xray_program.specs.Outputs.{OutputsAreWhole, FailsAt, FailsWriting, WritesNothing}
-use Rattle.command_words.specs.Words.{Command, Sim, Run}
-use Rattle.command_words.specs.Limits.{trace_limit}
-use Rattle.machine_step.specs.declared.setup.Setup.{Setup}
-use Rattle.traced_run.specs.Fits.{SetupFits}
-use Rattle.xray_program.specs.Setups.{setup_of}
+use Rattle.xray_program.specs.Outputs.{OutputsAreWhole, FailsAt, FailsWriting, NoFault, WritesNothing}
+use Rattle.command_words.specs.Words.{Command, Sim, Run, Plain, Extract, Asm, Account, Stack, Convert, Soak}
+use Rattle.xray_program.specs.Setups.{FitsReports, setup_of}
 use Rattle.xray_io.specs.World.{DeskView, SinkView}
 use Rattle.xray_program.specs.declared.stop.Stop.{Stop}
 use Rattle.xray_program.specs.declared.stop.Stop.TheVariants as stops
@@ -39,10 +36,11 @@ AreMakings outputs desk desk_now (Ok done) calls = MakesAll outputs calls
 AreMakings outputs desk desk_now (Err (stops.Unwritten n)) calls = FailsAtOutput outputs desk desk_now n.now calls
 AreMakings outputs desk desk_now (Err stop) calls = ⊥
 
--- outputs are whole, out has exactly a text, and no fault of out was counted
+-- outputs are whole, out has exactly a text, and no fault of the desk or of out was counted
 pub record Writes (outputs : List (List ℕ × List ℕ)) (text : List ℕ) (desk desk_now : DeskView) (out out_now : SinkView) : Type 0 where
   pub whole : OutputsAreWhole outputs desk.held desk_now.held
   pub printed : Adds out.written out_now.written text
+  pub desk_calm : NoFault desk desk_now
   pub calm : out_now.faults ≡ out.faults
 
 -- outputs and a text were written, and all is well unless something is wrong all the same; or one of them failed
@@ -117,23 +115,29 @@ StandsAfter said desk desk_now out out_now (Unwritten name outputs) =
     FailsToLeave (Means said desk.held) desk desk_now out out_now name (λ left. left ≡ outputs)
 StandsAfter said desk desk_now out out_now NoMemory = WritesNothing desk desk_now out out_now
 
--- the numbers of a setup fit the records of a trace, and its buffers fit a trace that the reports take
-pub record FitsReports (setup : Setup) : Type 0 where
-  pub records : SetupFits setup
-  pub enough : setup.threads ≤ setup.max
-  pub room : setup.max * (setup.size + 16) + 32 ≤ trace_limit
-
--- so do those of a command that runs traced threads
+-- the numbers of a command that runs traced threads fit a trace that the reports take
 abbrev pub FitsTraces : Command → Type 0
 FitsTraces (Sim image script schedule trace audit options) = FitsReports (setup_of options)
 FitsTraces (Run image script trace audit options) = FitsReports (setup_of options)
-FitsTraces command = Unit {0}
+FitsTraces (Plain image bounds) = Unit {0}
+FitsTraces (Extract image) = Unit {0}
+FitsTraces (Asm text image threshold) = Unit {0}
+FitsTraces (Account trace image options) = Unit {0}
+FitsTraces (Stack trace image format) = Unit {0}
+FitsTraces (Convert trace image) = Unit {0}
+FitsTraces (Soak number) = Unit {0}
 
 -- a command that writes no trace and no audit
 abbrev pub IsOther : Command → Type 0
 IsOther (Sim image script schedule trace audit options) = ⊥
 IsOther (Run image script trace audit options) = ⊥
-IsOther command = Unit {0}
+IsOther (Plain image bounds) = Unit {0}
+IsOther (Extract image) = Unit {0}
+IsOther (Asm text image threshold) = Unit {0}
+IsOther (Account trace image options) = Unit {0}
+IsOther (Stack trace image format) = Unit {0}
+IsOther (Convert trace image) = Unit {0}
+IsOther (Soak number) = Unit {0}
 
 abbrev pub SaidFits : Option Command → Type 0
 SaidFits None = Unit {0}

@@ -9,7 +9,4 @@ returns c = record {
   wanted = c.what_follows_is_allowed.ensures.wanted;
   follows = c.what_follows_is_allowed.ensures.whole;
   executes = c.a_whole_run_executes_to_its_end.ensures;
-  traced = c.a_run_is_traced.ensures;
-  short = c.a_trace_is_short.ensures;
-  read = c.a_trace_is_read.ensures.read;
 }

@@ -18,4 +18,4 @@ returns g c =
     ends_with_work g.D.Desk.along g.met.D.Desk.along_both c.args.desk.now c.take_inputs.new.desk c.finish.new.desk (said_by c.args.command.now)
     (comes_of c.args.command.now c.in_ok-inputs.inputs) (seen c.args.desk.now) (seen c.take_inputs.new.desk)
     (seen c.finish.new.desk) (got c.args.out.now) (got c.finish.new.out) c.finish.result c.in_ok-inputs.ensures.taken c.take_inputs.ensures.held
-    c.take_inputs.ensures.writes c.finish.ensures.finishes c.finish.ensures.others c.in_ok-inputs.ensures.calls
+    c.in_ok-inputs.ensures.calm c.take_inputs.ensures.writes c.finish.ensures.finishes c.finish.ensures.others c.in_ok-inputs.ensures.calls

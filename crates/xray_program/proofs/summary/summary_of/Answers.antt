@@ -4,7 +4,7 @@ use Rattle.std.proofs.lemmas.Result.{IfOk-weaker}
 use Rattle.fdr_buffer.specs.Filled.{Filled}
 use Rattle.fdr_file.specs.Files.{file_bytes}
 use Rattle.machine_step.specs.Traced.{IsDone}
-use Rattle.trace_flush.specs.Audit.{thread_audits}
+use Rattle.trace_flush.specs.Audit.{recycled_by, thread_audits}
 use Rattle.trace_flush.specs.Flush.{run_header}
 use Rattle.trace_flush.specs.Lines.{audit_lines_of}
 use Rattle.trace_flush.specs.declared.line.AuditLine.{AuditLine}
@@ -48,12 +48,15 @@ returns c =
     let threads = thread_audits c.deref-5.result.now c.deref-6.result.now in
     let accounted = ap (λ (l : List AuditLine). thread_audits l c.deref-6.result.now) lines
     ∙ ap (thread_audits (audit_lines_of end.cpus.items end.segments.items end.first.items)) c.deref-6.ensures.value
-    ∙ c.a_run_is_audited.ensures soak_setup left.runs end.cpus.items end.segments.items end.first.items end.buffers.items left.leaves in
+    ∙ c.a_run_is_audited.ensures.threads soak_setup left.runs end.cpus.items end.segments.items end.first.items end.buffers.items left.leaves in
+    let recycled = recycled_by c.deref-5.result.now in
+    let lost = ap recycled_by lines
+    ∙ c.a_run_is_audited.ensures.recycled soak_setup left.runs end.cpus.items end.segments.items end.first.items end.buffers.items left.leaves in
     let read = subst (λ (buffers : List Filled). IsReadBack (file_bytes (run_header soak_setup) buffers) back.bytes back.rows.items)
     c.deref.ensures.value c.in_ok-back.ensures in
-    let text = summary_with c.args.number threads back.bytes back.rows.items in
+    let text = summary_with c.args.number threads recycled back.bytes back.rows.items in
     IfOk-weaker c.summed_up.result (λ (sink : MemSink). sink_bytes sink ≡ text) (λ (sink : MemSink). IsSummary c.args.number (sink_bytes sink))
     (λ (sink : MemSink) (written : sink_bytes sink ≡ text).
     summary_is c.args.number inputs.image inputs.script inputs.schedule c.in_ok-inputs.ensures.inputs left.runs left.replay end.cpus.items
-    end.segments.items end.first.items end.buffers.items left.leaves back.bytes back.rows.items read threads accounted (sink_bytes sink) written)
+    end.segments.items end.first.items end.buffers.items left.leaves back.bytes back.rows.items read threads accounted recycled lost (sink_bytes sink) written)
     c.summed_up.ensures

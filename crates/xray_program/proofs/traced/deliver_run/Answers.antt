@@ -43,7 +43,7 @@ returns-clause-delivers g c = λ runs leaves.
     let lines = only_lines c.deref-5.result.now c.args.lines.items left.cpus.items c.deref.result.now left.segments.items c.deref-2.result.now
     left.first.items c.deref-3.result.now (c.deref-5.ensures.value ∙ c.add_audit_lines.ensures.lines) c.requires.none c.deref.ensures.value
     c.deref-2.ensures.value c.deref-3.ensures.value in
-    run_written c.a_run_is_audited.ensures files.trace.now files.audit.now setup runs left.cpus.items left.segments.items left.first.items left.buffers.items
+    run_written c.a_run_is_audited.ensures.threads c.a_run_is_audited.ensures.recycled files.trace.now files.audit.now setup runs left.cpus.items left.segments.items left.first.items left.buffers.items
     leaves c.deref-4.result.now c.deref-5.result.now c.deref-6.result.now c.deref-4.ensures.value lines
     (c.deref-6.ensures.value ∙ leaves.buffers_are)
     (λ outputs text. Delivers outputs text None (seen c.args.desk.now) (seen c.deliver_texts.new.desk) (got c.args.out.now) (got c.deliver_texts.new.out)

@@ -15,5 +15,5 @@ returns g c =
     let seen = desk_view g.D.Desk.held g.D.Desk.read_faults g.D.Desk.write_faults in
     let got = sink_view g.O.Sink.written g.O.Sink.faults in
     ends_with_work g.D.Desk.along g.met.D.Desk.along_both c.args.desk.now c.take.new.desk c.finish.new.desk (g.W.Work.says c.args.work.now) (g.W.Work.yields c.args.work.now c.in_ok-inputs.inputs) (seen c.args.desk.now) (seen c.take.new.desk)
-    (seen c.finish.new.desk) (got c.args.out.now) (got c.finish.new.out) c.finish.result c.in_ok-inputs.ensures.taken c.take.ensures.held
+    (seen c.finish.new.desk) (got c.args.out.now) (got c.finish.new.out) c.finish.result c.in_ok-inputs.ensures.taken c.take.ensures.held c.in_ok-inputs.ensures.calm
     c.take.ensures.writes c.finish.ensures.finishes c.finish.ensures.others c.in_ok-inputs.ensures.calls

@@ -19,11 +19,11 @@ returns-in-Ok-clause-finishes g c =
     let inputs = c.args.inputs.now in
     let shown = option_map (λ image. image.now) c.as_ref.result in
     let rows = c.deref.result.now in
-    let same : stack_text c.form_of.result shown (map told rows) ≡ stack_text (form_of s.format) inputs.image (stack_of inputs.trace.blocks) =
+    let same : stack_text c.form_of.result shown (map told rows) ≡ stack_text (form_of s.format) inputs.image (stack_of inputs.log.blocks) =
     ap (λ (form : StackForm). stack_text form shown (map told rows)) c.form_of.ensures
     ∙ (ap (λ (program : Option Program). stack_text (form_of s.format) program (map told rows)) c.as_ref.ensures.value
     ∙ (ap (λ (rs : List StackRow). stack_text (form_of s.format) inputs.image (map told rs)) c.deref.ensures.value
     ∙ ap (stack_text (form_of s.format) inputs.image) c.in-Ok.ensures.rows)) in
-    finishes (StacksCome s.trace.now s.format inputs.trace inputs.image) [] (stack_text c.form_of.result shown (map told rows)) None (seen c.args.desk.now)
+    finishes (StacksCome s.trace.now s.format inputs.log inputs.image) [] (stack_text c.form_of.result shown (map told rows)) None (seen c.args.desk.now)
     (seen c.deliver.new.desk) (got c.args.out.now) (got c.deliver.new.out) (g.D.Desk.along c.args.desk.now c.deliver.new.desk) c.deliver.result
-    (stack_prints s.trace.now s.format inputs.trace inputs.image _ c.in-Ok.ensures.shallow (ap (Done []) same)) c.deliver.ensures.delivers
+    (stack_prints s.trace.now s.format inputs.log inputs.image _ c.in-Ok.ensures.shallow (ap (Done []) same)) c.deliver.ensures.delivers

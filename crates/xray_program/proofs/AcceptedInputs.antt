@@ -1,0 +1,233 @@
+-- If each input of a command is accepted, all is done; and no outcome has status 7.
+use Rattle.std.proofs.Common.{◌≡◌, ◌≢◌, ◌⊎◌, ◌∙◌, ℕ, List, [], length, Option, Some, None, option_map, ◌∷◌, inl, inr, refl, sym, ap, subst, arith, codes}
+use Rattle.std.specs.Prelude.{⊤}
+use Rattle.fdr_file.specs.declared.trace.Trace.{Trace}
+use Rattle.fdr_file.specs.Traces.{trace_of}
+use Rattle.command_words.specs.Limits.{trace_limit}
+use Rattle.command_words.specs.declared.report_options.AccountOptions.{AccountOptions}
+use Rattle.command_words.specs.declared.report_options.StackFormat.{StackFormat}
+use Rattle.command_words.specs.declared.run_options.Bounds.{Bounds}
+use Rattle.command_words.specs.Words.{Command, Sim, Run, Plain, Extract, Asm, Account, Stack, Convert, Soak}
+use Rattle.machine_step.specs.declared.setup.Setup.{Setup}
+use Rattle.asm_text.specs.Assembling.{assembled}
+use Rattle.asm_text.specs.FaultWords.{asm_words}
+use Rattle.patch_script.specs.FaultWords.{script_words}
+use Rattle.patch_script.specs.Plans.{Plan, plan_of, waiting_line}
+use Rattle.stack_rebuild.specs.FaultWords.{deep_words}
+use Rattle.stack_rebuild.specs.Stacks.{deep_in, most_open, stack_of}
+use Rattle.stack_rebuild.specs.StackText.{stack_text}
+use Rattle.step_sim.specs.FaultWords.{schedule_words, waits_words}
+use Rattle.step_sim.specs.Schedules.{schedule_of}
+use Rattle.step_sim.specs.declared.turns.Turns.{Turns}
+use Rattle.trace_words.specs.TraceWords.{trace_words}
+use Rattle.xray_image.specs.Extract.{extract_text}
+use Rattle.xray_image.specs.Program.{Program}
+use Rattle.yaml_convert.specs.Yaml.{yaml_text}
+use Rattle.xray_io.specs.Desk.{Entry, Absent, Holds}
+use Rattle.xray_io.specs.World.{World}
+use Rattle.xray_program.specs.Accepted.{AreAccepted, CountsNoFault, HoldsImage, HoldsInput, HoldsReport}
+use Rattle.xray_program.specs.Answers.{IsAnswer}
+use Rattle.xray_program.specs.Commands.{Means}
+use Rattle.xray_program.specs.Inputs.{image_form, schedule_form, schedule_limit, script_form, script_limit, text_form, text_limit, trace_form}
+use Rattle.xray_program.specs.Outcomes.{Outcome, Done, status_of}
+use Rattle.xray_program.specs.Account.{account_report}
+use Rattle.xray_program.specs.Plain.{PlainPrints}
+use Rattle.xray_program.specs.Reports.{TakeReport}
+use Rattle.xray_program.specs.Run.{FollowsPlan}
+use Rattle.xray_program.specs.Setups.{setup_of}
+use Rattle.xray_program.specs.Sim.{Replayed, Replays}
+use Rattle.xray_program.specs.Soak.{IsSummary}
+use Rattle.xray_program.specs.Stack.{StacksCome, form_of}
+use Rattle.xray_program.specs.Taking.{Form, Leaves, Prints, RefuseIf, Sound, Take, TakeMaybe}
+use Rattle.xray_program.specs.Traced.{Traces}
+use Rattle.xray_program.proofs.Meanings.{IsDecided, decided_by}
+
+-- ---- all is done
+
+-- an outcome of which this comes is done
+abbrev IsDone : (Outcome → Type 0) → Type 0
+IsDone comes = (outcome : Outcome) → comes outcome → status_of outcome ≡ 0
+
+-- an input that is accepted leads on to what follows it
+accepted_take : {X : Type 0} (form : Form X) → IsDecided form → (place : ℕ) (held : List ℕ → Entry) (name : List ℕ) (next : X → Outcome → Type 0)
+    (value : X) → HoldsInput form (held name) value → IsDone (next value) → IsDone (Take form place Sound held name next)
+accepted_take form is place held name next value at done outcome (inl (gone, same)) = absurd (never at.bytes (sym at.holds ∙ gone))
+  where
+    never : (bytes : List ℕ) → Holds bytes ≡ Absent → ⊥
+    never bytes e = cc
+accepted_take form is place held name next value at done outcome (inr (bytes, may, inl (long, same))) =
+    let alike : bytes ≡ at.bytes = rw at.holds at may in
+    absurd (omega (arith, ap length alike, long, at.within))
+accepted_take form is place held name next value at done outcome (inr (bytes, may, inr (within, inl (refusal, refused, same)))) =
+    let alike : bytes ≡ at.bytes = rw at.holds at may in
+    absurd (is.not_both at.bytes value refusal at.reads (subst (λ b. form.Refuses b refusal) alike refused))
+accepted_take form is place held name next value at done outcome (inr (bytes, may, inr (within, inr (other, reads, comes)))) =
+    let alike : bytes ≡ at.bytes = rw at.holds at may in
+    let same = is.one at.bytes other value (subst (λ b. form.Reads b other) alike reads) at.reads in
+    done outcome (subst (λ v. next v outcome) same comes)
+
+accepted_maybe : IsDecided image_form → (place : ℕ) (held : List ℕ → Entry) (name : Option (List ℕ)) (next : Option Program → Outcome → Type 0)
+    (value : Option Program) → HoldsImage held name value → IsDone (next value) → IsDone (TakeMaybe image_form place Sound held name next)
+accepted_maybe is place held None next None at done = done
+accepted_maybe is place held None next (Some program) at done = absurd at
+accepted_maybe is place held (Some name) next None at done = absurd at
+accepted_maybe is place held (Some name) next (Some program) at done =
+    accepted_take image_form is place held name (λ v. next (Some v)) program at done
+
+-- what is left is done
+left_done : (Are : List (List ℕ × List ℕ) → List ℕ → Type 0) → IsDone (Leaves Are)
+left_done Are outcome (outputs, text, are, is) = ap status_of is
+
+-- nothing is wrong all the same
+unrefused : {L : Type 0} (words : L → List ℕ) (reason : Option L) (name kind : List ℕ) (next : Outcome → Type 0) → reason ≡ None → IsDone next
+    → IsDone (RefuseIf (option_map words reason) name kind next)
+unrefused words None name kind next none done = done
+unrefused {L} words (Some refusal) name kind next none done = absurd (never refusal none)
+  where
+    never : (l : L) → ◌≡◌ {A = Option L} (Some l) None → ⊥
+    never l e = cc
+
+-- a report whose inputs are accepted
+report_done : IsDecided image_form → (held : List ℕ → Entry) (trace : List ℕ) (image : Option (List ℕ)) (Is : Trace → Type 0)
+    (next : Trace → Option Program → Outcome → Type 0) → HoldsReport held trace image Is
+    → ((t : Trace) (program : Option Program) → Is t → IsDone (next t program)) → IsDone (TakeReport trace_form Sound held trace image next)
+report_done is held trace image Is next (t, program, at, of_image, so) done =
+    accepted_take trace_form (decided_by (codes "trace") trace_limit trace_of trace_words) 0 held trace
+    (λ u. TakeMaybe image_form 1 Sound held image (λ p. next u p)) t at
+    (accepted_maybe is 1 held image (λ p. next t p) program of_image (done t program so))
+
+-- what follows the inputs of a command
+
+abbrev sim_next : (s t a : List ℕ) → Setup → Program → Plan → List Turns → Outcome → Type 0
+sim_next s t a setup program plan turns = Leaves (Traces (Replayed program plan turns setup) program setup t a)
+
+abbrev run_next : (t a : List ℕ) → Setup → Program → Plan → Outcome → Type 0
+run_next t a setup program plan = Leaves (Traces (FollowsPlan setup program plan) program setup t a)
+
+abbrev plain_next : Bounds → Program → Outcome → Type 0
+plain_next bounds program = Prints (PlainPrints program bounds)
+
+abbrev extract_next : Program → Outcome → Type 0
+extract_next program outcome = outcome ≡ Done [] (extract_text program)
+
+abbrev asm_next : List ℕ → List ℕ → Outcome → Type 0
+asm_next image file outcome = outcome ≡ Done ((image, file) ∷ []) []
+
+abbrev account_next : AccountOptions → Trace → Option Program → Outcome → Type 0
+account_next options t program outcome = outcome ≡ Done [] (account_report options t program)
+
+abbrev stack_next : StackFormat → Trace → Option Program → Outcome → Type 0
+stack_next format t program outcome = outcome ≡ Done [] (stack_text (form_of format) program (stack_of t.blocks))
+
+abbrev convert_next : Trace → Option Program → Outcome → Type 0
+convert_next t program outcome = outcome ≡ Done [] (yaml_text program t)
+
+accepted_done : IsDecided image_form → (held : List ℕ → Entry) (command : Command) → AreAccepted held command → IsDone (Means (Some command) held)
+accepted_done is held (Sim i s c t a options) (program, plan, turns, at, of_script, of_schedule, still) =
+    let setup = setup_of options in
+    accepted_take image_form is 0 held i
+    (λ p. Take (script_form p setup.threads) 1 Sound held s (λ l. Take (schedule_form setup.threads) 2 Sound held c (Replays s t a setup p l))) program at
+    (accepted_take (script_form program setup.threads) (decided_by (codes "script") script_limit (plan_of program setup.threads) script_words) 1 held s
+    (λ l. Take (schedule_form setup.threads) 2 Sound held c (Replays s t a setup program l)) plan of_script
+    (accepted_take (schedule_form setup.threads) (decided_by (codes "schedule") schedule_limit (schedule_of setup.threads) schedule_words) 2 held c
+    (Replays s t a setup program plan) turns of_schedule
+    (unrefused waits_words (waiting_line plan.lines) s (codes "script") (sim_next s t a setup program plan turns) still
+    (left_done (Traces (Replayed program plan turns setup) program setup t a)))))
+accepted_done is held (Run i s t a options) (program, plan, at, of_script) =
+    let setup = setup_of options in
+    accepted_take image_form is 0 held i (λ p. Take (script_form p setup.threads) 1 Sound held s (λ l. run_next t a setup p l)) program at
+    (accepted_take (script_form program setup.threads) (decided_by (codes "script") script_limit (plan_of program setup.threads) script_words) 1 held s
+    (λ l. run_next t a setup program l) plan of_script (left_done (Traces (FollowsPlan setup program plan) program setup t a)))
+accepted_done is held (Plain i bounds) (program, at) =
+    accepted_take image_form is 0 held i (plain_next bounds) program at (left_done (λ outputs text. (outputs ≡ []) × PlainPrints program bounds text))
+accepted_done is held (Extract i) (program, at) = accepted_take image_form is 0 held i extract_next program at (λ outcome same. ap status_of same)
+accepted_done is held (Asm t i threshold) (file, at) =
+    accepted_take (text_form threshold) (decided_by (codes "text") text_limit (λ bytes. assembled bytes threshold) asm_words) 0 held t (asm_next i) file at
+    (λ outcome same. ap status_of same)
+accepted_done is held (Account t i options) at =
+    report_done is held t i (λ u. ⊤) (account_next options) at (λ u program so outcome same. ap status_of same)
+accepted_done is held (Stack t i format) at =
+    report_done is held t i (λ u. deep_in most_open u.blocks ≡ None) (λ u program. StacksCome t format u program) at
+    (λ u program shallow. unrefused deep_words (deep_in most_open u.blocks) t (codes "trace") (stack_next format u program) shallow
+    (λ outcome same. ap status_of same))
+accepted_done is held (Convert t i) at = report_done is held t i (λ u. ⊤) convert_next at (λ u program so outcome same. ap status_of same)
+accepted_done is held (Soak number) at = left_done (λ outputs text. (outputs ≡ []) × IsSummary number text)
+
+pub done_or_memory : IsDecided image_form → (command : Command) (before after : World) (status : ℕ) → AreAccepted before.desk.held command
+    → CountsNoFault before after → IsAnswer (Some command) before after status → (status ≡ 0) ⊎ (status ≡ 5)
+done_or_memory is command before after status accepted calm (inl (outcome, meant, same)) =
+    inl (sym same ∙ accepted_done is before.desk.held command accepted outcome meant)
+done_or_memory is command before after status accepted calm (inr (inl memory)) = inr memory
+done_or_memory is command before after status accepted calm (inr (inr (inl (three, rose)))) = absurd (calm.reads rose)
+done_or_memory is command before after status accepted calm (inr (inr (inr (four, inl rose)))) = absurd (calm.writes rose)
+done_or_memory is command before after status accepted calm (inr (inr (inr (four, inr rose)))) = absurd (calm.out rose)
+
+-- ---- none has status 7
+
+abbrev IsNot7 : (Outcome → Type 0) → Type 0
+IsNot7 comes = (outcome : Outcome) → comes outcome → status_of outcome ≢ 7
+
+-- an outcome of another status
+other_status : (outcome other : Outcome) (n : ℕ) → outcome ≡ other → status_of other ≡ n → n ≢ 7 → status_of outcome ≢ 7
+other_status outcome other n is status differs seven = differs (sym status ∙ (ap status_of (sym is) ∙ seven))
+
+take_not_7 : {X : Type 0} (form : Form X) (place : ℕ) (held : List ℕ → Entry) (name : List ℕ) (next : X → Outcome → Type 0)
+    → ((value : X) → IsNot7 (next value)) → IsNot7 (Take form place Sound held name next)
+take_not_7 form place held name next later outcome (inl (gone, is)) = other_status outcome _ 3 is refl (λ e. omega arith)
+take_not_7 form place held name next later outcome (inr (bytes, may, inl (long, is))) = other_status outcome _ 6 is refl (λ e. omega arith)
+take_not_7 form place held name next later outcome (inr (bytes, may, inr (within, inl (refusal, refused, is)))) =
+    other_status outcome _ 2 is refl (λ e. omega arith)
+take_not_7 form place held name next later outcome (inr (bytes, may, inr (within, inr (value, reads, comes)))) = later value outcome comes
+
+maybe_not_7 : (place : ℕ) (held : List ℕ → Entry) (name : Option (List ℕ)) (next : Option Program → Outcome → Type 0)
+    → ((value : Option Program) → IsNot7 (next value)) → IsNot7 (TakeMaybe image_form place Sound held name next)
+maybe_not_7 place held None next later = later None
+maybe_not_7 place held (Some name) next later = take_not_7 image_form place held name (λ v. next (Some v)) (λ v. later (Some v))
+
+done_not_7 : (comes : Outcome → Type 0) → IsDone comes → IsNot7 comes
+done_not_7 comes done outcome is seven = let zero_is : ◌≡◌ {A = ℕ} 0 7 = sym (done outcome is) ∙ seven in omega arith
+
+refused_not_7 : (reason : Option (List ℕ)) (name kind : List ℕ) (next : Outcome → Type 0) → IsNot7 next → IsNot7 (RefuseIf reason name kind next)
+refused_not_7 None name kind next later outcome is = later outcome is
+refused_not_7 (Some refusal) name kind next later outcome is = other_status outcome _ 2 is refl (λ e. omega arith)
+
+report_not_7 : (held : List ℕ → Entry) (trace : List ℕ) (image : Option (List ℕ)) (next : Trace → Option Program → Outcome → Type 0)
+    → ((t : Trace) (program : Option Program) → IsNot7 (next t program)) → IsNot7 (TakeReport trace_form Sound held trace image next)
+report_not_7 held trace image next later =
+    take_not_7 trace_form 0 held trace (λ t. TakeMaybe image_form 1 Sound held image (λ p. next t p))
+    (λ t. maybe_not_7 1 held image (λ p. next t p) (later t))
+
+not_7 : (held : List ℕ → Entry) (command : Command) → IsNot7 (Means (Some command) held)
+not_7 held (Sim i s c t a options) =
+    let setup = setup_of options in
+    take_not_7 image_form 0 held i
+    (λ p. Take (script_form p setup.threads) 1 Sound held s (λ l. Take (schedule_form setup.threads) 2 Sound held c (Replays s t a setup p l)))
+    (λ p. take_not_7 (script_form p setup.threads) 1 held s (λ l. Take (schedule_form setup.threads) 2 Sound held c (Replays s t a setup p l))
+    (λ l. take_not_7 (schedule_form setup.threads) 2 held c (Replays s t a setup p l)
+    (λ turns. refused_not_7 (option_map waits_words (waiting_line l.lines)) s (codes "script") (sim_next s t a setup p l turns)
+    (done_not_7 (sim_next s t a setup p l turns) (left_done (Traces (Replayed p l turns setup) p setup t a))))))
+not_7 held (Run i s t a options) =
+    let setup = setup_of options in
+    take_not_7 image_form 0 held i (λ p. Take (script_form p setup.threads) 1 Sound held s (λ l. run_next t a setup p l))
+    (λ p. take_not_7 (script_form p setup.threads) 1 held s (λ l. run_next t a setup p l)
+    (λ l. done_not_7 (run_next t a setup p l) (left_done (Traces (FollowsPlan setup p l) p setup t a))))
+not_7 held (Plain i bounds) =
+    take_not_7 image_form 0 held i (plain_next bounds)
+    (λ p. done_not_7 (plain_next bounds p) (left_done (λ outputs text. (outputs ≡ []) × PlainPrints p bounds text)))
+not_7 held (Extract i) = take_not_7 image_form 0 held i extract_next (λ p. done_not_7 (extract_next p) (λ outcome same. ap status_of same))
+not_7 held (Asm t i threshold) =
+    take_not_7 (text_form threshold) 0 held t (asm_next i) (λ file. done_not_7 (asm_next i file) (λ outcome same. ap status_of same))
+not_7 held (Account t i options) =
+    report_not_7 held t i (account_next options) (λ u program. done_not_7 (account_next options u program) (λ outcome same. ap status_of same))
+not_7 held (Stack t i format) =
+    report_not_7 held t i (λ u program. StacksCome t format u program)
+    (λ u program. refused_not_7 (option_map deep_words (deep_in most_open u.blocks)) t (codes "trace") (stack_next format u program)
+    (done_not_7 (stack_next format u program) (λ outcome same. ap status_of same)))
+not_7 held (Convert t i) =
+    report_not_7 held t i convert_next (λ u program. done_not_7 (convert_next u program) (λ outcome same. ap status_of same))
+not_7 held (Soak number) =
+    done_not_7 (λ outcome. Means (Some (Soak number)) held outcome) (left_done (λ outputs text. (outputs ≡ []) × IsSummary number text))
+
+pub none_fell : (said : Option Command) (held : List ℕ → Entry) (outcome : Outcome) → Means said held outcome → status_of outcome ≢ 7
+none_fell None held outcome is = other_status outcome _ 1 is refl (λ e. omega arith)
+none_fell (Some command) held outcome is = not_7 held command outcome is

@@ -1,0 +1,56 @@
+-- When the inputs of a command are accepted, and nothing else is wrong with them.
+use Rattle.std.specs.Prelude.{◌≡◌, ◌≤◌, ℕ, List, length, Option, Some, None, ⊤}
+use Rattle.fdr_file.specs.declared.trace.Trace.{Trace}
+use Rattle.patch_script.specs.Plans.{Plan, waiting_line}
+use Rattle.stack_rebuild.specs.Stacks.{deep_in, most_open}
+use Rattle.step_sim.specs.declared.turns.Turns.{Turns}
+use Rattle.xray_image.specs.Program.{Program}
+use Rattle.xray_io.specs.Desk.{Entry, Holds}
+use Rattle.xray_io.specs.Faults.{Rose}
+use Rattle.xray_io.specs.World.{World}
+use Rattle.xray_program.specs.Inputs.{image_form, schedule_form, script_form, text_form, trace_form}
+use Rattle.xray_program.specs.Taking.{Form}
+use Rattle.command_words.specs.Words.{Command, Sim, Run, Plain, Extract, Asm, Account, Stack, Convert, Soak}
+
+-- the desk reports that a name holds bytes of this kind, within its limit, which read as this value
+pub record HoldsInput {X : Type 0} (form : Form X) (entry : Entry) (value : X) : Type 0 where
+  pub bytes : List ℕ
+  pub holds : entry ≡ Holds bytes
+  pub within : length bytes ≤ form.limit
+  pub reads : form.Reads bytes value
+
+-- so does the name of an image, if the words name one
+abbrev pub HoldsImage : (List ℕ → Entry) → Option (List ℕ) → Option Program → Type 0
+HoldsImage held None None = ⊤
+HoldsImage held None (Some program) = ⊥
+HoldsImage held (Some name) None = ⊥
+HoldsImage held (Some name) (Some program) = HoldsInput image_form (held name) program
+
+-- the inputs of a report are a trace and an image of which this holds
+abbrev pub HoldsReport : (List ℕ → Entry) → (trace : List ℕ) → (image : Option (List ℕ)) → (Trace → Type 0) → Type 0
+HoldsReport held trace image Is =
+    (t : Trace) × (program : Option Program) × HoldsInput trace_form (held trace) t × HoldsImage held image program × Is t
+
+-- The desk holds each input of a command, within its limit, and each is accepted. No other cause of refusal applies: for
+-- `sim` nobody waits in the script, and for `stack` no thread of the trace has too many calls open at once.
+abbrev pub AreAccepted : (List ℕ → Entry) → Command → Type 0
+AreAccepted held (Sim image script schedule trace audit options) =
+    (program : Program) × (plan : Plan) × (turns : List Turns) × HoldsInput image_form (held image) program
+    × HoldsInput (script_form program options.bounds.threads) (held script) plan
+    × HoldsInput (schedule_form options.bounds.threads) (held schedule) turns × (waiting_line plan.lines ≡ None)
+AreAccepted held (Run image script trace audit options) =
+    (program : Program) × (plan : Plan) × HoldsInput image_form (held image) program
+    × HoldsInput (script_form program options.bounds.threads) (held script) plan
+AreAccepted held (Plain image bounds) = (program : Program) × HoldsInput image_form (held image) program
+AreAccepted held (Extract image) = (program : Program) × HoldsInput image_form (held image) program
+AreAccepted held (Asm text image threshold) = (file : List ℕ) × HoldsInput (text_form threshold) (held text) file
+AreAccepted held (Account trace image options) = HoldsReport held trace image (λ t. ⊤)
+AreAccepted held (Stack trace image format) = HoldsReport held trace image (λ t. deep_in most_open t.blocks ≡ None)
+AreAccepted held (Convert trace image) = HoldsReport held trace image (λ t. ⊤)
+AreAccepted held (Soak number) = ⊤
+
+-- no fault of the desk or of out is counted in a call
+pub record CountsNoFault (before after : World) : Type 0 where
+  pub reads : Rose before.desk.read_faults after.desk.read_faults → ⊥
+  pub writes : Rose before.desk.write_faults after.desk.write_faults → ⊥
+  pub out : Rose before.out.faults after.out.faults → ⊥
