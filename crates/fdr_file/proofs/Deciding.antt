@@ -140,7 +140,7 @@ record Unnamed (version : Version) (before : List Rec) (at : ℕ) (bytes : List 
   wrong : standing_faults version before (standings at bytes) ≡ e ∷ later
 
 -- a record has at most 16 bytes
-length_most : (bytes : List ℕ) → record_length bytes ≤ 16
+pub length_most : (bytes : List ℕ) → record_length bytes ≤ 16
 length_most bytes = elim (cases_Bool (eqb (slice_index bytes 0 % 2) 0)) [ inl e ↦ rw e (lit≤ tt) | inr e ↦ rw e (lit≤ tt) ]
 
 -- what is left after a record

@@ -7,4 +7,7 @@ pub mod Accepting
 pub mod Returning
 pub mod Described
 pub mod Memory
+pub mod Whole
+pub mod Steps
+pub mod Agreeing
 mod Flags

@@ -35,7 +35,7 @@ starts_first len at (byte ∷ bytes) some whole =
     ∙ ap (λ (k : ℕ). starts len 0 (at + n) (drop k (byte ∷ bytes))) (sym more))
 
 -- a record has some bytes
-length_some : (bytes : List ℕ) → 0 < record_length bytes
+pub length_some : (bytes : List ℕ) → 0 < record_length bytes
 length_some bytes = elim (cases_Bool (eqb (slice_index bytes 0 % 2) 0)) [ inl e ↦ rw e (lit< tt) | inr e ↦ rw e (lit< tt) ]
 
 pub stands_first : (at : ℕ) (bytes : List ℕ) → 0 < length bytes → standings at bytes ≡ (at, record_in bytes) ∷ standings (at + record_length bytes) (drop (record_length bytes) bytes)

@@ -18,7 +18,11 @@ pub(crate) struct Base {
 }
 
 /// The CPU and the counter after the record at this place, and the event that it says.
-fn step(at: u64, rec: Rec, base: Option<Base>) -> Result<(Base, Option<Event>), TraceFault>
+pub(crate) fn step(
+    at: u64,
+    rec: Rec,
+    base: Option<Base>,
+) -> Result<(Base, Option<Event>), TraceFault>
     ensures { result ≡ step_on at rec base }
 {
     match rec {

@@ -11,6 +11,7 @@ mod laws;
 mod preamble;
 mod reading;
 mod records;
+mod stage;
 mod trace;
 mod version;
 mod writing;
@@ -18,8 +19,8 @@ mod writing;
 pub use fault::TraceFault;
 pub use header::Header;
 pub use laws::{
-    a_file_reads_back, a_place_is_decoded, a_trace_is_read, no_bytes_are_out_of_memory,
-    what_is_read_is_a_trace,
+    a_file_is_read_by_records, a_file_reads_back, a_place_is_decoded, a_trace_is_read,
+    no_bytes_are_out_of_memory, what_is_read_is_a_trace,
 };
 pub use reading::read_trace;
 pub use trace::{Block, Blocks, Events, Items, Trace};
