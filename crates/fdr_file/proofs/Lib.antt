@@ -10,4 +10,5 @@ pub mod Memory
 pub mod Whole
 pub mod Steps
 pub mod Agreeing
+pub mod Following
 mod Flags

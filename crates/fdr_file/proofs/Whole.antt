@@ -14,11 +14,11 @@ length_again [] rest some = absurd (omega arith)
 length_again (b ∷ bytes) rest some = refl
 
 -- a number whose bytes are there
-number_again : (n : ℕ) (bytes rest : List ℕ) → n ≤ length bytes → little_number n (bytes ++ rest) ≡ little_number n bytes
+pub number_again : (n : ℕ) (bytes rest : List ℕ) → n ≤ length bytes → little_number n (bytes ++ rest) ≡ little_number n bytes
 number_again n bytes rest few =
     sym (little_from-take 0 n (length bytes) (bytes ++ rest) (omega arith)) ∙ ap (little_number n) (take_at bytes rest (length bytes) refl)
 
-field_again : (at n : ℕ) (bytes rest : List ℕ) → at + n ≤ length bytes → little_number n (drop at (bytes ++ rest)) ≡ little_number n (drop at bytes)
+pub field_again : (at n : ℕ) (bytes rest : List ℕ) → at + n ≤ length bytes → little_number n (drop at (bytes ++ rest)) ≡ little_number n (drop at bytes)
 field_again at n bytes rest few =
     ap (little_number n) (drop-append-le at bytes rest (omega arith)) ∙ number_again n (drop at bytes) rest (omega (arith, length-drop at bytes))
 

@@ -8,10 +8,13 @@ mod events;
 mod fault;
 mod header;
 mod laws;
+mod prefix;
 mod preamble;
 mod reading;
 mod records;
+mod scan;
 mod stage;
+mod taker;
 mod trace;
 mod version;
 mod writing;
@@ -23,6 +26,8 @@ pub use laws::{
     no_bytes_are_out_of_memory, what_is_read_is_a_trace,
 };
 pub use reading::read_trace;
+pub use scan::TraceScan;
+pub use taker::{KeepNothing, Taker};
 pub use trace::{Block, Blocks, Events, Items, Trace};
 pub use version::{VERSION, Version};
 pub use writing::{TraceFile, write_file};
