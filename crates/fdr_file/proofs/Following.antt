@@ -1,8 +1,8 @@
 -- A scan after more bytes of its stream, and at the end of it.
-use Rattle.std.proofs.Common.{◌≡◌, ℕ, ◌+◌, ◌%◌, ◌<◌, ◌≤◌, Bool, true, false, cond, eqb, leb, ltb, eq-eqb, List, [], ◌∷◌, ◌++◌, length, take, drop, slice_index, Option, Some, None, Result, Ok, Err, lit<, lit≤, inl, inr, refl, sym, ap, subst, ◌∙◌, append_assoc, append-nil, length-append, arith}
+use Rattle.std.proofs.Common.{◌≡◌, ℕ, ◌+◌, ◌%◌, ◌<◌, ◌≤◌, Bool, true, false, cond, eqb, leb, ltb, List, [], ◌∷◌, ◌++◌, length, take, drop, slice_index, Option, Some, None, Result, Ok, Err, lit≤, inl, inr, refl, sym, ap, subst, ◌∙◌, append_assoc, append-nil, length-append, arith}
 use Rattle.std.specs.Prelude.{◌&&◌}
 use Rattle.std.proofs.lemmas.Bool.{cases_Bool, eqb-false, eqb-true, leb-true, le-ltb, lt-ltb, ltb-false, ltb-true, ne_eqb}
-use Rattle.std.proofs.lemmas.List.{drop_at, length-take-le, take_all, take_more, take-append-drop}
+use Rattle.std.proofs.lemmas.List.{drop_at, length-take-le, take_more, take-append-drop}
 use Rattle.std.proofs.Math.ListN.{drop_of_length-le}
 use Rattle.xray_io.specs.Rows.{◌>>=◌, NeedsPart}
 use Rattle.xray_io.specs.declared.wall.Wall.{Wall}
@@ -23,17 +23,16 @@ use Rattle.fdr_file.specs.declared.stage.Span.{Span}
 use Rattle.fdr_file.specs.declared.stage.Stage.{Stage}
 use Rattle.fdr_file.specs.declared.stage.Stage.TheVariants.{Due, Within, Faulty}
 use Rattle.fdr_file.specs.declared.stage.Told.{Told}
-use Rattle.fdr_file.specs.declared.stage.Told.TheVariants.{Nothing, Begun, Noted}
+use Rattle.fdr_file.specs.declared.stage.Told.TheVariants.{Nothing, Begun}
 use Rattle.fdr_file.specs.declared.trace.Block.{Block}
-use Rattle.fdr_file.specs.declared.trace.Trace.{Trace}
 use Rattle.fdr_file.specs.declared.version.Version.{Version}
 use Rattle.fdr_file.specs.declared.version.Version.TheVariants.{Three}
-use Rattle.fdr_file.specs.Traces.{header_in, pid_named, preamble_bytes, record_in, record_length, size_named, thread_named, trace_of, type_in, version_in, wall_named}
+use Rattle.fdr_file.specs.Traces.{header_in, pid_named, preamble_bytes, record_in, record_length, size_named, thread_named, trace_of, wall_named}
 use Rattle.fdr_file.specs.private.Reading.{header_on, step_on}
 use Rattle.fdr_file.specs.private.Scan.{Advances, CanTell, HasLast, IsBegun, IsOpen, ReadsHeader, ReadsNothing, ReadsOn, Scans, ScansBy, answered_by, header_longer, header_taken, last_stage, record_advanced, record_longer, record_passed, stage_answers, with_blocks}
-use Rattle.fdr_file.specs.Scanning.{Scanned, after_wall, blocks_given, empty_block, inside_judged, inside_next, last_longer, longer_block, record_within, scan_start, scanned, scanned_ends, scanned_from, scanned_next, scanned_on, stage_after, stage_ends, stage_judged, stage_within, told_event, version_read, with_told}
+use Rattle.fdr_file.specs.Scanning.{Scanned, after_wall, blocks_given, empty_block, inside_next, last_longer, longer_block, record_within, scan_start, scanned, scanned_ends, scanned_from, scanned_next, scanned_on, stage_after, stage_ends, stage_judged, stage_within, told_event, version_read, with_told}
 use Rattle.fdr_file.proofs.Agreeing.{run_agrees}
-use Rattle.fdr_file.proofs.Deciding.{length_most}
+use Rattle.fdr_file.proofs.Deciding.{versioned}
 use Rattle.fdr_file.proofs.Memory.{never_memory}
 use Rattle.fdr_file.proofs.Steps.{at_stage, longer_last, reads_first, reads_none}
 use Rattle.fdr_file.proofs.TraceRows.{header_first}
@@ -45,11 +44,15 @@ use Rattle.fdr_file.proofs.Whole.{cut_is_short, field_again, length_again, numbe
 -- a whole header is the same, whatever follows it
 header_again : (bytes rest : List ℕ) → length bytes ≡ 32 → header_on (bytes ++ rest) ≡ header_on bytes
 header_again bytes rest whole =
-    rw (le-ltb (length (bytes ++ rest)) 32 (omega (arith, length-append bytes rest, whole)), le-ltb (length bytes) 32 (omega (arith, whole)), number_again 2 bytes rest (omega arith), field_again 2 2 bytes rest (omega arith),
-    field_again 4 4 bytes rest (omega arith), field_again 8 8 bytes rest (omega arith), field_again 16 8 bytes rest (omega arith)) refl
-
-abbrev versioned : List ℕ → Version → Result (Version × Header) TraceFault
-versioned bytes version = Ok (version, header_in bytes)
+    rw (
+      le-ltb (length (bytes ++ rest)) 32 (omega (arith, length-append bytes rest, whole)),
+      le-ltb (length bytes) 32 (omega (arith, whole)),
+      number_again 2 bytes rest (omega arith),
+      field_again 2 2 bytes rest (omega arith),
+      field_again 4 4 bytes rest (omega arith),
+      field_again 8 8 bytes rest (omega arith),
+      field_again 16 8 bytes rest (omega arith),
+    ) refl
 
 -- the version and the header
 record Headed (bytes : List ℕ) (version : Version) (header : Header) : Type 0 where

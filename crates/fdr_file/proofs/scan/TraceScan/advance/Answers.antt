@@ -1,7 +1,4 @@
-use Rattle.std.proofs.Common.{length, sym, subst, List, ℕ, take, refl}
-use Rattle.std.proofs.lemmas.List.{take_all}
-use Rattle.fdr_file.specs.declared.stage.Told.TheVariants.{Nothing}
-use Rattle.fdr_file.specs.private.Scan.{Advances}
+use Rattle.std.proofs.Common.{length, take}
 use Rattle.fdr_file.proofs.Following.{header_advances, record_advances, refused_advances}
 use Rattle.fdr_file.proofs.scan.TraceScan.advance.Goals as goal
 
