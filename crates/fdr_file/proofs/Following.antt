@@ -55,11 +55,11 @@ header_again bytes rest whole =
     ) refl
 
 -- the version and the header
-record Headed (bytes : List ℕ) (version : Version) (header : Header) : Type 0 where
-  version_is : version_read bytes ≡ Ok version
-  header_is : header_in bytes ≡ header
+pub record Headed (bytes : List ℕ) (version : Version) (header : Header) : Type 0 where
+  pub version_is : version_read bytes ≡ Ok version
+  pub header_is : header_in bytes ≡ header
 
-headed : (bytes : List ℕ) (version : Version) (header : Header) → header_on bytes ≡ Ok (version, header) → Headed bytes version header
+pub headed : (bytes : List ℕ) (version : Version) (header : Header) → header_on bytes ≡ Ok (version, header) → Headed bytes version header
 headed bytes version header is = by_version (version_read bytes) refl (sym (header_first bytes (versioned bytes)) ∙ is)
   where
     by_version : (o : Result Version TraceFault) → version_read bytes ≡ o → (o >>= versioned bytes) ≡ Ok (version, header) → Headed bytes version header
@@ -70,7 +70,7 @@ headed bytes version header is = by_version (version_read bytes) refl (sym (head
         record { version_is = e ∙ ap (λ (x : Version × Header). let y : Result Version TraceFault = Ok x.0 in y) both; header_is = ap (λ (x : Version × Header). x.1) both }
     by_version (Err f) e h = absurd cc
 
-unheaded : (bytes : List ℕ) (fault : TraceFault) → header_on bytes ≡ Err fault → version_read bytes ≡ Err fault
+pub unheaded : (bytes : List ℕ) (fault : TraceFault) → header_on bytes ≡ Err fault → version_read bytes ≡ Err fault
 unheaded bytes fault is = by_version (version_read bytes) refl (sym (header_first bytes (versioned bytes)) ∙ is)
   where
     by_version : (o : Result Version TraceFault) → version_read bytes ≡ o → (o >>= versioned bytes) ≡ Err fault → version_read bytes ≡ Err fault
@@ -87,7 +87,7 @@ no_blocks bytes fault is = ap (λ (o : Result Version TraceFault). (scanned_from
 -- ---- what a record says
 
 -- what is told is told after a block, if it is an event
-abbrev Leads : Stage → Stage × Told → Type 0
+abbrev pub Leads : Stage → Stage × Told → Type 0
 Leads stage said = (blocks : List Block) → IsOpen stage blocks → CanTell said.1 blocks × IsOpen said.0 (with_told said.1 blocks)
 
 after_open : (span : Span) (at : ℕ) (inside : Inside) (blocks : List Block) → IsBegun inside blocks → IsOpen (stage_after span at inside) blocks
@@ -140,7 +140,7 @@ record_leads version span at place (insides.Thread thread) r = wall_leads versio
 record_leads version span at place (insides.Wall thread wall) r = pid_leads span at place thread wall (pid_named r)
 record_leads version span at place (insides.Events base) r = event_leads span at base (step_on place r base)
 
-leads : (version : Version) (stage : Stage) (at len : ℕ) (a : Result Rec RecFault) → Leads stage (stage_judged version stage at len a)
+pub leads : (version : Version) (stage : Stage) (at len : ℕ) (a : Result Rec RecFault) → Leads stage (stage_judged version stage at len a)
 leads version Due at len a = extents_lead version at len a
 leads version (Faulty span fault) at len a = λ blocks begun. (tt, tt)
 leads version (Within span inside) at len a = by_found (record_within span at len a) refl
@@ -444,7 +444,7 @@ last_is version header scan stream h = by_prefix scan.prefix h.cut now
 abbrev Ends : Head → TraceScan → List ℕ → Type 0
 Ends head scan stream = with_blocks (answered_by head scan) (blocks_given stream) ≡ scanned_ends (length stream) (header_in stream) (scanned stream)
 
-refused_ends : (stream : List ℕ) (fault : TraceFault) → version_read stream ≡ Err fault → Err fault ≡ scanned_ends (length stream) (header_in stream) (scanned stream)
+pub refused_ends : (stream : List ℕ) (fault : TraceFault) → version_read stream ≡ Err fault → Err fault ≡ scanned_ends (length stream) (header_in stream) (scanned stream)
 refused_ends stream fault is =
     sym (ap (λ (o : Result Version TraceFault). scanned_ends (length stream) (header_in stream) (scanned_from o stream)) is ∙ rw (le-ltb (length stream) 0 (omega arith)) refl)
 

@@ -12,3 +12,4 @@ pub mod Steps
 pub mod Agreeing
 pub mod Following
 mod Flags
+pub mod Cursoring

@@ -2,3 +2,4 @@
 pub mod Faults
 pub mod Reading
 pub mod Scan
+pub mod Cursor

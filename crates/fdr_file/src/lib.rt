@@ -4,6 +4,7 @@
 #![tactic(auto)]
 
 mod block;
+mod cursor;
 mod events;
 mod fault;
 mod header;
@@ -19,6 +20,7 @@ mod trace;
 mod version;
 mod writing;
 
+pub use cursor::EventCursor;
 pub use fault::TraceFault;
 pub use header::Header;
 pub use laws::{

@@ -51,7 +51,7 @@ fn length_of_first(first: u8) -> usize
 }
 
 /// The length of the record that bytes begin with, by the first of them.
-fn record_len(bytes: &[u8]) -> usize
+pub(crate) fn record_len(bytes: &[u8]) -> usize
     requires { 0 < length bytes.now }
     ensures { result ≡ record_length bytes.now }
 {
@@ -59,7 +59,7 @@ fn record_len(bytes: &[u8]) -> usize
 }
 
 /// The record that bytes begin with.
-fn record_of(bytes: &[u8]) -> Result<Rec, RecFault>
+pub(crate) fn record_of(bytes: &[u8]) -> Result<Rec, RecFault>
     ensures { result ≡ record_in bytes.now }
 {
     match taken_at(bytes, 0) {
