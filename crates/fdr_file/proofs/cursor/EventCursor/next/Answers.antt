@@ -1,5 +1,4 @@
-use Rattle.std.proofs.Common.{◌∙◌, ap, arith, List, ℕ, length, sym}
-use Rattle.fdr_file.specs.declared.cursor.EventCursor.{EventCursor}
+use Rattle.std.proofs.Common.{◌∙◌}
 use Rattle.fdr_file.proofs.Cursoring.{left_none, pass_header, pass_none, pass_some, pass_bytes}
 use Rattle.fdr_file.proofs.cursor.EventCursor.next.Goals as goal
 
