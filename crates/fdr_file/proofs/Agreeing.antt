@@ -29,8 +29,8 @@ use Rattle.fdr_file.specs.declared.version.Version.TheVariants.{Three}
 use Rattle.fdr_file.specs.Places.{starts}
 use Rattle.fdr_file.specs.Traces.{block_in, block_length, block_of, header_in, pid_named, preamble_bytes, record_in, record_length, records_among, size_named, standings, thread_named, trace_of, wall_named}
 use Rattle.fdr_file.specs.private.Faults.{block_faults, blocks_faults, decided, standing_faults, told_by}
-use Rattle.fdr_file.specs.private.Reading.{Left, blocks_read, body_on, events_on, named_on, pid_on, preamble_on, read_first, record_on, step_on, with_front}
-use Rattle.fdr_file.specs.Scanning.{block_span, blocks_given, empty_block, extents_next, extents_span, inside_judged, inside_next, record_or, record_within, scanned, scanned_ends, scanned_from, scanned_on, stage_after, stage_ends, stage_judged, stage_within, told_event, version_read, with_told}
+use Rattle.fdr_file.specs.private.Reading.{Left, blocks_read, body_on, events_on, named_on, pid_on, preamble_on, read_first, record_on, with_front}
+use Rattle.fdr_file.specs.Scanning.{block_span, blocks_given, empty_block, extents_next, extents_span, inside_judged, inside_next, record_or, record_within, scanned, scanned_ends, scanned_from, scanned_on, stage_after, stage_ends, stage_judged, stage_within, step_on, told_event, version_read, with_told}
 use Rattle.fdr_file.proofs.Deciding.{body_decided, extents_is, file_ends, file_fails, file_goes_on, length_most}
 use Rattle.fdr_file.proofs.Steps.{at_stage, longer_last, reads_next, reads_none, stays_faulty}
 use Rattle.fdr_file.proofs.TraceRows.{header_first, header_has, rows_decide}

@@ -18,9 +18,9 @@ use Rattle.fdr_file.specs.declared.trace.Trace.{Trace}
 use Rattle.fdr_file.specs.declared.version.Version.{Version}
 use Rattle.fdr_file.specs.Places.{starts}
 use Rattle.fdr_file.specs.Scanning.{last_longer, longer_block, empty_block, scanned_from, scanned_over, stage_judged, with_told}
-use Rattle.fdr_file.specs.ThreadEvents.{ThreadEvent, block_events, thread_events}
+use Rattle.fdr_file.specs.ThreadEvents.{ThreadEvent, block_events, event_given, thread_events}
 use Rattle.fdr_file.specs.Traces.{record_in, record_length, trace_of}
-use Rattle.fdr_file.specs.private.Cursor.{cursor_header, cursor_passed, cursor_told, event_given, event_said, events_among, events_left, told_over}
+use Rattle.fdr_file.specs.private.Cursor.{cursor_header, cursor_passed, cursor_told, event_said, events_among, events_left, told_over}
 use Rattle.fdr_file.specs.private.Reading.{header_on}
 use Rattle.fdr_file.specs.private.Scan.{CanTell, HasLast, IsOpen}
 use Rattle.fdr_file.proofs.Agreeing.{given_reads, run_agrees}

@@ -11,7 +11,8 @@ use Rattle.fdr_file.specs.declared.events.Base.{Base}
 use Rattle.fdr_file.specs.declared.fault.TraceFault.{TraceFault}
 use Rattle.fdr_file.specs.Places.{starts}
 use Rattle.fdr_file.specs.Traces.{fault_at, record_in, record_length, standing_at, standings, Standing}
-use Rattle.fdr_file.specs.private.Reading.{Left, events_on, read_first, record_on, step_on, with_front}
+use Rattle.fdr_file.specs.private.Reading.{Left, events_on, read_first, record_on, with_front}
+use Rattle.fdr_file.specs.Scanning.{step_on}
 
 -- bytes of a part that was begun earlier are skipped
 pub starts_after : (len : List ℕ → ℕ) (left at : ℕ) (bytes : List ℕ) → starts len left at bytes ≡ starts len 0 (at + left) (drop left bytes)

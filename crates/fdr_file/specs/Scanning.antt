@@ -1,10 +1,12 @@
 -- The trace of a file, read record by record: the blocks that the records say so far, and where the reading stands.
-use Rattle.std.specs.Prelude.{ℕ, ◌+◌, ◌==◌, List, [], ◌∷◌, ◌++◌, drop, Option, Some, None, Result, Ok, Err, nat_lt, if◌then◌else◌}
+use Rattle.std.specs.Prelude.{ℕ, ◌+◌, ◌%◌, ◌^◌, ◌==◌, List, [], ◌∷◌, ◌++◌, drop, Option, Some, None, Result, Ok, Err, nat_lt, if◌then◌else◌}
 use Rattle.xray_io.specs.Rows.{First, NeedsPart, ◌>>=◌}
 use Rattle.xray_io.specs.declared.wall.Wall.{Wall}
 use Rattle.fdr_record.specs.declared.event.Event.{Event}
 use Rattle.fdr_record.specs.declared.rec.Rec.{Rec}
+use Rattle.fdr_record.specs.declared.rec.Rec.TheVariants.{NewBuffer, NewCpu, TscWrap, WallTime, Pid, Extents, Function}
 use Rattle.fdr_record.specs.declared.fault.RecFault.{RecFault}
+use Rattle.fdr_file.specs.declared.events.Base.{Base}
 use Rattle.fdr_file.specs.declared.fault.TraceFault.{TraceFault}
 use Rattle.fdr_file.specs.declared.fault.TraceFault.TheVariants as faults
 use Rattle.fdr_file.specs.declared.header.Header.{Header}
@@ -21,7 +23,6 @@ use Rattle.fdr_file.specs.declared.version.Version.{Version}
 use Rattle.fdr_file.specs.declared.version.Version.TheVariants.{Three}
 use Rattle.fdr_file.specs.Places.{starts}
 use Rattle.fdr_file.specs.Traces.{fault_at, header_rows, pid_named, preamble_bytes, record_in, record_length, size_named, thread_named, wall_named}
-use Rattle.fdr_file.specs.private.Reading.{step_on}
 
 -- ---- blocks that grow
 
@@ -75,6 +76,20 @@ record_within span at len found = if nat_lt span.end (at + len) then Err (faults
 -- what a thread and a wall time say
 abbrev pub after_wall : Version → ℕ → Wall → Inside × Told
 after_wall Three thread wall = (insides.Wall thread wall, Nothing)
+
+-- the CPU and counter after a record, and the event that it says
+abbrev pub step_on : ℕ → Rec → Option Base → Result (Base × Option Event) TraceFault
+step_on at (NewCpu cpu tsc) base = Ok (record { cpu = cpu; tsc = tsc }, None)
+step_on at (TscWrap tsc) None = Err (faults.NoBase at)
+step_on at (TscWrap tsc) (Some base) = Ok (record { cpu = base.cpu; tsc = tsc }, None)
+step_on at (Function kind func delta) None = Err (faults.NoBase at)
+step_on at (Function kind func delta) (Some base) =
+    let tsc = (base.tsc + delta) % 2 ^ 64 in
+    Ok (record { cpu = base.cpu; tsc = tsc }, Some (record { cpu = base.cpu; func = func; kind = kind; tsc = tsc }))
+step_on at (NewBuffer thread) base = Err (faults.Order at)
+step_on at (WallTime wall) base = Err (faults.Order at)
+step_on at (Pid pid) base = Err (faults.Order at)
+step_on at (Extents size) base = Err (faults.Order at)
 
 -- what the event of a record says, if it has one
 abbrev pub told_event : Option Event → Told
@@ -162,3 +177,8 @@ stage_ends len header blocks (Faulty span fault) = if nat_lt len span.end then E
 
 abbrev pub scanned_ends : ℕ → Header → Scanned → Result Trace TraceFault
 scanned_ends len header s = stage_ends len header s.blocks s.stage
+
+-- a header or a fault, with these blocks
+abbrev pub with_blocks : Result Header TraceFault → List Block → Result Trace TraceFault
+with_blocks (Ok header) blocks = Ok (record { header = header; blocks = blocks })
+with_blocks (Err fault) blocks = Err fault

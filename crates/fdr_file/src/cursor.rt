@@ -2,9 +2,9 @@
 
 ghost use Rattle.std.specs.Prelude.{◌≡◌, ◌<◌, [], ◌∷◌, Ok, MatchOption, length, drop};
 ghost use Rattle.fdr_file.specs.declared.trace.Trace.{Trace};
-ghost use Rattle.fdr_file.specs.ThreadEvents.{thread_events};
+ghost use Rattle.fdr_file.specs.ThreadEvents.{event_given, thread_events};
 ghost use Rattle.fdr_file.specs.Traces.{trace_of};
-ghost use Rattle.fdr_file.specs.private.Cursor.{cursor_header, cursor_passed, event_said, event_given, events_left};
+ghost use Rattle.fdr_file.specs.private.Cursor.{cursor_header, cursor_passed, event_said, events_left};
 
 use crate::header::{HEADER_BYTES, read_header};
 use crate::scan::{record_len, record_of};

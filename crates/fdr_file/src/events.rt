@@ -1,7 +1,8 @@
 //! The events of a block.
 
 ghost use Rattle.std.specs.Prelude.{◌≡◌, ◌≤◌, length, None};
-ghost use Rattle.fdr_file.specs.private.Reading.{Gives, events_on, left_at, step_on};
+ghost use Rattle.fdr_file.specs.private.Reading.{Gives, events_on, left_at};
+ghost use Rattle.fdr_file.specs.Scanning.{step_on};
 ghost use Rattle.fdr_file.specs.Traces.{standings};
 ghost use Rattle.std.specs.Prelude.{drop};
 

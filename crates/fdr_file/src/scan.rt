@@ -4,10 +4,10 @@ ghost use Rattle.std.specs.Prelude.{◌≡◌, ◌≢◌, ◌≤◌, ◌<◌, �
 ghost use Rattle.xray_io.specs.Faults.{Rose};
 ghost use Rattle.fdr_record.specs.Refusals.{length_by};
 ghost use Rattle.fdr_file.specs.declared.trace.Block.{Block};
-ghost use Rattle.fdr_file.specs.Scanning.{blocks_given, with_told};
+ghost use Rattle.fdr_file.specs.Scanning.{blocks_given, with_blocks, with_told};
 ghost use Rattle.fdr_file.specs.Traces.{record_in, record_length, trace_of};
 ghost use Rattle.fdr_file.specs.private.Reading.{header_on};
-ghost use Rattle.fdr_file.specs.private.Scan.{Advances, CanTell, Scans, answered_by, header_longer, header_taken, last_stage, record_advanced, record_longer, record_passed, stage_answers, with_blocks};
+ghost use Rattle.fdr_file.specs.private.Scan.{Advances, CanTell, Scans, answered_by, header_longer, header_taken, last_stage, record_advanced, record_longer, record_passed, stage_answers};
 
 use crate::header::{HEADER_BYTES, read_header};
 use crate::prefix::Prefix;

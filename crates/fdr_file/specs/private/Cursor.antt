@@ -34,10 +34,6 @@ events_left cursor =
 abbrev pub cursor_header : EventCursor → Header
 cursor_header cursor = cursor.header
 
--- an event as it is given
-abbrev pub event_given : ℕ × ℕ × Event → ThreadEvent
-event_given x = record { thread = x.0; pid = x.1; event = x.2 }
-
 -- the event that is said
 abbrev pub event_said : Told → Option Event
 event_said Nothing = None

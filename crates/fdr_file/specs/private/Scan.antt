@@ -13,7 +13,6 @@ use Rattle.fdr_file.specs.declared.stage.Stage.TheVariants.{Due, Within, Faulty}
 use Rattle.fdr_file.specs.declared.stage.Told.{Told}
 use Rattle.fdr_file.specs.declared.stage.Told.TheVariants.{Nothing, Begun, Noted}
 use Rattle.fdr_file.specs.declared.trace.Block.{Block}
-use Rattle.fdr_file.specs.declared.trace.Trace.{Trace}
 use Rattle.fdr_file.specs.declared.version.Version.{Version}
 use Rattle.fdr_file.specs.Traces.{record_in, record_length}
 use Rattle.fdr_file.specs.private.Reading.{header_on}
@@ -130,8 +129,3 @@ abbrev pub answered_by : Head → TraceScan → Result Header TraceFault
 answered_by heads.Due scan = Err (faults.Short 0)
 answered_by (heads.Read version header) scan = stage_answers header (scan.at + length scan.prefix) (last_stage version scan)
 answered_by (heads.Refused fault) scan = Err fault
-
--- what the header and the blocks are together
-abbrev pub with_blocks : Result Header TraceFault → List Block → Result Trace TraceFault
-with_blocks (Ok header) blocks = Ok (record { header = header; blocks = blocks })
-with_blocks (Err fault) blocks = Err fault
