@@ -13,7 +13,7 @@ use Rattle.fdr_file.specs.declared.version.Version.TheVariants.{Three}
 use Rattle.fdr_file.specs.Places.{starts}
 use Rattle.std.specs.List.{flat_map}
 use Rattle.std.proofs.lemmas.List.Concat.{flat_map-cons}
-use Rattle.fdr_file.proofs.TraceRows.{header_first, opened}
+use Rattle.fdr_file.proofs.TraceRows.{header_first}
 use Rattle.fdr_file.proofs.Walking.{stands_none, stands_taken, starts_first}
 use Rattle.std.proofs.lemmas.Grind.{common_steps}
 use Rattle.std.proofs.lemmas.List.{append-nil, drop-drop, drop-take, length-drop, length-take}
@@ -28,8 +28,9 @@ use Rattle.fdr_file.specs.declared.fault.TraceFault.{TraceFault}
 use Rattle.fdr_file.specs.declared.fault.TraceFault.TheVariants as faults
 use Rattle.fdr_file.specs.Events.{counter_at, cpu_of, deltas_since, events_after, whole_counter}
 use Rattle.fdr_file.specs.Traces.{PreambleItem, block_starts, extents_in, header_in, may_be, names_cpu, needs_cpu, preamble_bytes, preamble_of, record_in, records_among, Standing, block_in, block_of, block_standings, pid_named, block_length, record_length, standings, thread_named, wall_named}
+use Rattle.fdr_file.specs.Scanning.{step_on, version_read}
 use Rattle.fdr_file.specs.private.Faults.{by_places, blocks_faults, decided, record_faults, standing_faults, block_faults, told_by, unless}
-use Rattle.fdr_file.specs.private.Reading.{Left, blocks_read, body_on, end_named, end_on, events_on, header_on, left_at, named_on, pid_on, preamble_on, read_first, record_on, step_on}
+use Rattle.fdr_file.specs.private.Reading.{Left, blocks_read, body_on, end_named, end_on, events_on, header_on, left_at, named_on, pid_on, preamble_on, read_first, record_on}
 
 -- ---- the extents
 
@@ -140,7 +141,7 @@ record Unnamed (version : Version) (before : List Rec) (at : ℕ) (bytes : List 
   wrong : standing_faults version before (standings at bytes) ≡ e ∷ later
 
 -- a record has at most 16 bytes
-length_most : (bytes : List ℕ) → record_length bytes ≤ 16
+pub length_most : (bytes : List ℕ) → record_length bytes ≤ 16
 length_most bytes = elim (cases_Bool (eqb (slice_index bytes 0 % 2) 0)) [ inl e ↦ rw e (lit≤ tt) | inr e ↦ rw e (lit≤ tt) ]
 
 -- what is left after a record
@@ -289,13 +290,13 @@ block_fails version bytes at end e ended (inr is) = inr (sym (block_decided vers
 -- ---- a file
 
 -- the version of a file and its header
-abbrev versioned : List ℕ → Version → Result (Version × Header) TraceFault
+abbrev pub versioned : List ℕ → Version → Result (Version × Header) TraceFault
 versioned bytes version = Ok (version, header_in bytes)
 
 -- what follows a header
 pub file_opens : (bytes : List ℕ) (version : Version) (header : Header) → header_on bytes ≡ Ok (version, header) → by_places bytes ≡ blocks_read version header [] (block_starts bytes)
 file_opens bytes version header is =
-    header_first bytes (λ v. decided (blocks_faults v bytes) (told_by bytes)) ∙ by_version (opened bytes) (sym (header_first bytes (versioned bytes)) ∙ is)
+    header_first bytes (λ v. decided (blocks_faults v bytes) (told_by bytes)) ∙ by_version (version_read bytes) (sym (header_first bytes (versioned bytes)) ∙ is)
   where
     by_version : (o : Result Version TraceFault) → (o >>= versioned bytes) ≡ Ok (version, header) → (o >>= λ v. decided (blocks_faults v bytes) (told_by bytes)) ≡ blocks_read version header [] (block_starts bytes)
     by_version (Ok v) e =
@@ -308,7 +309,7 @@ file_opens bytes version header is =
 -- a header that has a fault
 pub file_unopened : (bytes : List ℕ) (e : TraceFault) → header_on bytes ≡ Err e → by_places bytes ≡ Err e
 file_unopened bytes e is =
-    header_first bytes (λ v. decided (blocks_faults v bytes) (told_by bytes)) ∙ by_version (opened bytes) (sym (header_first bytes (versioned bytes)) ∙ is)
+    header_first bytes (λ v. decided (blocks_faults v bytes) (told_by bytes)) ∙ by_version (version_read bytes) (sym (header_first bytes (versioned bytes)) ∙ is)
   where
     by_version : (o : Result Version TraceFault) → (o >>= versioned bytes) ≡ Err e → (o >>= λ v. decided (blocks_faults v bytes) (told_by bytes)) ≡ Err e
     by_version (Ok v) h = absurd cc

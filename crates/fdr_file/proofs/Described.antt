@@ -24,9 +24,10 @@ use Rattle.fdr_file.specs.declared.version.Version.{Version}
 use Rattle.fdr_file.specs.declared.version.Version.TheVariants.{Three}
 use Rattle.fdr_file.specs.Places.{starts}
 use Rattle.fdr_file.specs.Traces.{Standing, block_in, block_length, block_of, block_standings, extents_in, fault_at, flags_in, header_in, may_be, names_cpu, needs_cpu, pid_named, preamble_bytes, preamble_of, record_in, records_among, standings, thread_named, trace_of, version_in, wall_named}
+use Rattle.fdr_file.specs.Scanning.{version_read}
 use Rattle.fdr_file.specs.private.Faults.{block_faults, blocks_faults, decided, extents_faults, record_faults, standing_faults, told_by, unless}
 use Rattle.fdr_file.specs.Grammar.{AreBlocks, AreSpelled, BeginWithCpu, IsBlock, IsHeader, IsInner, IsTrace, block_records}
-use Rattle.fdr_file.proofs.TraceRows.{HasHeader, header_first, header_has, opened, rows_decide}
+use Rattle.fdr_file.proofs.TraceRows.{HasHeader, header_first, header_has, rows_decide}
 use Rattle.fdr_file.proofs.Decoding.{length_told, refused_again, told_again}
 use Rattle.fdr_file.proofs.Walking.{starts_first, stands_first}
 use Rattle.fdr_file.proofs.Deciding.{IsBehind, extents_is, may_behind, none_wrong, one_after}
@@ -293,9 +294,9 @@ header_described version bytes all has =
 
 pub trace_described : Decodes → (bytes : List ℕ) (trace : Trace) → AreBytes bytes → trace_of bytes ≡ Ok trace → IsTrace bytes trace
 trace_described decodes bytes trace all is =
-    by_version (opened bytes) refl (sym (header_first bytes (λ version. decided (blocks_faults version bytes) (told_by bytes))) ∙ sym (rows_decide bytes) ∙ is)
+    by_version (version_read bytes) refl (sym (header_first bytes (λ version. decided (blocks_faults version bytes) (told_by bytes))) ∙ sym (rows_decide bytes) ∙ is)
   where
-    by_version : (o : Result Version TraceFault) → opened bytes ≡ o → (o >>= λ version. decided (blocks_faults version bytes) (told_by bytes)) ≡ Ok trace → IsTrace bytes trace
+    by_version : (o : Result Version TraceFault) → version_read bytes ≡ o → (o >>= λ version. decided (blocks_faults version bytes) (told_by bytes)) ≡ Ok trace → IsTrace bytes trace
     by_version (Ok version) open_is e =
         let whole = none_wrong (blocks_faults version bytes) (told_by bytes) trace e in
         subst (IsTrace bytes) whole.1 (record {

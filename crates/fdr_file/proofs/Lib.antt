@@ -7,4 +7,9 @@ pub mod Accepting
 pub mod Returning
 pub mod Described
 pub mod Memory
+pub mod Whole
+pub mod Steps
+pub mod Agreeing
+pub mod Following
 mod Flags
+pub mod Cursoring

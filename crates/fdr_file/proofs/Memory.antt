@@ -11,8 +11,9 @@ use Rattle.fdr_file.specs.declared.fault.TraceFault.{TraceFault}
 use Rattle.fdr_file.specs.declared.fault.TraceFault.TheVariants as faults
 use Rattle.fdr_file.specs.declared.version.Version.{Version}
 use Rattle.fdr_file.specs.Traces.{Standing, block_standings, block_starts, fault_at, may_be, names_cpu, needs_cpu, preamble_bytes, preamble_of, record_in, size_named, trace_of, type_in, version_in, version_of}
+use Rattle.fdr_file.specs.Scanning.{version_read}
 use Rattle.fdr_file.specs.private.Faults.{block_faults, blocks_faults, decided, extents_faults, record_faults, size_faults, standing_faults, told_by, unless}
-use Rattle.fdr_file.proofs.TraceRows.{header_first, opened, rows_decide}
+use Rattle.fdr_file.proofs.TraceRows.{header_first, rows_decide}
 
 abbrev IsOfBytes : TraceFault → Type 0
 IsOfBytes fault = fault ≢ faults.NoMemory
@@ -73,7 +74,7 @@ decided_is : {A : Type 0} (found : List TraceFault) (x : A) → AreOfBytes found
 decided_is [] x are e = cc
 decided_is (fault ∷ later) x (here, rest) e = here cc
 
-header_is : (bytes : List ℕ) (fault : TraceFault) → opened bytes ≡ Err fault → IsOfBytes fault
+header_is : (bytes : List ℕ) (fault : TraceFault) → version_read bytes ≡ Err fault → IsOfBytes fault
 header_is bytes fault is = by_tests (ltb (length bytes) 32) (version_of (version_in bytes)) (eqb (type_in bytes) 1) is
   where
     by_tests : (short : Bool) (number : Option Version) (form : Bool)
@@ -86,8 +87,8 @@ header_is bytes fault is = by_tests (ltb (length bytes) 32) (version_of (version
 
 pub never_memory : (bytes : List ℕ) → trace_of bytes ≢ Err faults.NoMemory
 never_memory bytes is =
-    by_version (opened bytes) refl (sym (header_first bytes (λ version. decided (blocks_faults version bytes) (told_by bytes))) ∙ sym (rows_decide bytes) ∙ is)
+    by_version (version_read bytes) refl (sym (header_first bytes (λ version. decided (blocks_faults version bytes) (told_by bytes))) ∙ sym (rows_decide bytes) ∙ is)
   where
-    by_version : (o : Result Version TraceFault) → opened bytes ≡ o → (o >>= λ version. decided (blocks_faults version bytes) (told_by bytes)) ≡ Err faults.NoMemory → ⊥
+    by_version : (o : Result Version TraceFault) → version_read bytes ≡ o → (o >>= λ version. decided (blocks_faults version bytes) (told_by bytes)) ≡ Err faults.NoMemory → ⊥
     by_version (Ok version) open_is e = decided_is (blocks_faults version bytes) (told_by bytes) (blocks_are version (block_starts bytes)) e
     by_version (Err fault) open_is e = header_is bytes fault open_is cc

@@ -13,6 +13,7 @@ use Rattle.fdr_file.specs.declared.trace.Block.{Block}
 use Rattle.fdr_file.specs.declared.trace.Trace.{Trace}
 use Rattle.fdr_file.specs.declared.version.Version.{Version}
 use Rattle.fdr_file.specs.Traces.{Standing, block_in, block_rows, block_standings, block_starts, extents_rows, header_in, header_rows, may_be, names_cpu, needs_cpu, preamble_bytes, preamble_of, record_in, record_rows, size_named, trace_of, type_in, version_in, version_of}
+use Rattle.fdr_file.specs.Scanning.{version_read}
 use Rattle.fdr_file.specs.private.Faults.{block_faults, blocks_faults, by_places, decided, extents_faults, size_faults, standing_faults, told_by, unless}
 
 -- a number is below another one, or the other one is at most it
@@ -130,12 +131,8 @@ pub record HasHeader (bytes : List ℕ) (version : Version) : Type 0 where
   pub accepted : version_of (version_in bytes) ≡ Some version
   pub form : type_in bytes ≡ 1
 
--- the version of a header without a fault, or its fault
-abbrev pub opened : List ℕ → Result Version TraceFault
-opened bytes = header_rows bytes λ version. Ok version
-
 -- what follows a header, or its fault
-pub header_first : {A : Type 0} (bytes : List ℕ) (follows : Version → Result A TraceFault) → header_rows bytes follows ≡ (opened bytes >>= follows)
+pub header_first : {A : Type 0} (bytes : List ℕ) (follows : Version → Result A TraceFault) → header_rows bytes follows ≡ (version_read bytes >>= follows)
 header_first {A} bytes follows = by_tests (ltb (length bytes) 32) (version_of (version_in bytes)) (eqb (type_in bytes) 1)
   where
     by_tests : (short : Bool) (number : Option Version) (form : Bool)
@@ -148,7 +145,7 @@ header_first {A} bytes follows = by_tests (ltb (length bytes) 32) (version_of (v
     by_tests false (Some version) true = refl
 
 -- a header without a fault
-pub header_has : (bytes : List ℕ) (version : Version) → opened bytes ≡ Ok version → HasHeader bytes version
+pub header_has : (bytes : List ℕ) (version : Version) → version_read bytes ≡ Ok version → HasHeader bytes version
 header_has bytes version is = by_tests (ltb (length bytes) 32) (version_of (version_in bytes)) (eqb (type_in bytes) 1) refl refl refl is
   where
     by_tests : (short : Bool) (number : Option Version) (form : Bool) → ltb (length bytes) 32 ≡ short → version_of (version_in bytes) ≡ number → eqb (type_in bytes) 1 ≡ form
@@ -165,5 +162,5 @@ header_has bytes version is = by_tests (ltb (length bytes) 32) (version_of (vers
           form = eqb-true (type_in bytes) 1 g;
         }
 
-pub header_passes : (bytes : List ℕ) (version : Version) → HasHeader bytes version → opened bytes ≡ Ok version
+pub header_passes : (bytes : List ℕ) (version : Version) → HasHeader bytes version → version_read bytes ≡ Ok version
 header_passes bytes version h = rw (le-ltb (length bytes) 32 h.long, h.accepted, eq-eqb (type_in bytes) 1 h.form) refl

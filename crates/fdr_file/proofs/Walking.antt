@@ -11,7 +11,8 @@ use Rattle.fdr_file.specs.declared.events.Base.{Base}
 use Rattle.fdr_file.specs.declared.fault.TraceFault.{TraceFault}
 use Rattle.fdr_file.specs.Places.{starts}
 use Rattle.fdr_file.specs.Traces.{fault_at, record_in, record_length, standing_at, standings, Standing}
-use Rattle.fdr_file.specs.private.Reading.{Left, events_on, read_first, record_on, step_on, with_front}
+use Rattle.fdr_file.specs.private.Reading.{Left, events_on, read_first, record_on, with_front}
+use Rattle.fdr_file.specs.Scanning.{step_on}
 
 -- bytes of a part that was begun earlier are skipped
 pub starts_after : (len : List ℕ → ℕ) (left at : ℕ) (bytes : List ℕ) → starts len left at bytes ≡ starts len 0 (at + left) (drop left bytes)
@@ -35,7 +36,7 @@ starts_first len at (byte ∷ bytes) some whole =
     ∙ ap (λ (k : ℕ). starts len 0 (at + n) (drop k (byte ∷ bytes))) (sym more))
 
 -- a record has some bytes
-length_some : (bytes : List ℕ) → 0 < record_length bytes
+pub length_some : (bytes : List ℕ) → 0 < record_length bytes
 length_some bytes = elim (cases_Bool (eqb (slice_index bytes 0 % 2) 0)) [ inl e ↦ rw e (lit< tt) | inr e ↦ rw e (lit< tt) ]
 
 pub stands_first : (at : ℕ) (bytes : List ℕ) → 0 < length bytes → standings at bytes ≡ (at, record_in bytes) ∷ standings (at + record_length bytes) (drop (record_length bytes) bytes)

@@ -4,4 +4,5 @@ pub mod Traces
 pub mod ThreadEvents
 pub mod Files
 pub mod Grammar
+pub mod Scanning
 pub mod private

@@ -17,3 +17,7 @@ block_events block = map (λ event. record { thread = block.thread; pid = block.
 -- the events of blocks, in the order of the file
 abbrev pub thread_events : List Block → List ThreadEvent
 thread_events blocks = flat_map block_events blocks
+
+-- an event that is given with its thread and its process
+abbrev pub event_given : ℕ × ℕ × Event → ThreadEvent
+event_given x = record { thread = x.0; pid = x.1; event = x.2 }

@@ -1,7 +1,8 @@
 //! The events of a block.
 
 ghost use Rattle.std.specs.Prelude.{◌≡◌, ◌≤◌, length, None};
-ghost use Rattle.fdr_file.specs.private.Reading.{Gives, events_on, left_at, step_on};
+ghost use Rattle.fdr_file.specs.private.Reading.{Gives, events_on, left_at};
+ghost use Rattle.fdr_file.specs.Scanning.{step_on};
 ghost use Rattle.fdr_file.specs.Traces.{standings};
 ghost use Rattle.std.specs.Prelude.{drop};
 
@@ -18,7 +19,11 @@ pub(crate) struct Base {
 }
 
 /// The CPU and the counter after the record at this place, and the event that it says.
-fn step(at: u64, rec: Rec, base: Option<Base>) -> Result<(Base, Option<Event>), TraceFault>
+pub(crate) fn step(
+    at: u64,
+    rec: Rec,
+    base: Option<Base>,
+) -> Result<(Base, Option<Event>), TraceFault>
     ensures { result ≡ step_on at rec base }
 {
     match rec {

@@ -1,12 +1,13 @@
 //! Laws of the bytes of files. Each law is the contract of a function that does nothing.
 
-ghost use Rattle.std.specs.Prelude.{◌≡◌, ◌≢◌, ◌<◌, List, ℕ, All, Ok, Err};
+ghost use Rattle.std.specs.Prelude.{◌≡◌, ◌≢◌, ◌<◌, [], List, ℕ, All, Ok, Err, length};
 ghost use Rattle.fdr_buffer.specs.Filled.{Filled};
 ghost use Rattle.fdr_record.specs.Refusals.{Answers};
 ghost use Rattle.fdr_file.specs.declared.header.Header.{Header};
 ghost use Rattle.fdr_file.specs.declared.trace.Trace.{Trace};
 ghost use Rattle.fdr_file.specs.Files.{file_bytes, trace_told, BlockFits, HeaderFits};
-ghost use Rattle.fdr_file.specs.{Grammar.{IsTrace}, Traces.{record_in, trace_of}};
+ghost use Rattle.fdr_file.specs.{Grammar.{IsTrace}, Traces.{header_in, record_in, trace_of}};
+ghost use Rattle.fdr_file.specs.Scanning.{blocks_given, scanned, scanned_ends};
 
 use crate::TraceFault;
 use fdr_record::one_answer;
@@ -49,4 +50,14 @@ pub fn a_file_reads_back()
 /// What bytes read as doesn't depend on memory: no bytes read as `NoMemory`.
 pub fn no_bytes_are_out_of_memory()
     ensures { (bytes : List ℕ) → trace_of bytes ≢ Err TraceFault.NoMemory }
+{}
+
+/// A file reads as what the reading of its records, one after the other, ends in. So the blocks that
+/// the records of a trace say are its blocks.
+pub fn a_file_is_read_by_records()
+    ensures ends { (bytes : List ℕ)
+        → trace_of bytes ≡ scanned_ends (length bytes) (header_in bytes) (scanned bytes) }
+    ensures given { (bytes : List ℕ) (trace : Trace) → trace_of bytes ≡ Ok trace
+        → blocks_given bytes ≡ trace.blocks }
+    ensures none { blocks_given [] ≡ [] }
 {}

@@ -4,24 +4,32 @@
 #![tactic(auto)]
 
 mod block;
+mod cursor;
 mod events;
 mod fault;
 mod header;
 mod laws;
 mod preamble;
+mod prefix;
 mod reading;
 mod records;
+mod scan;
+mod stage;
+mod taker;
 mod trace;
 mod version;
 mod writing;
 
+pub use cursor::EventCursor;
 pub use fault::TraceFault;
 pub use header::Header;
 pub use laws::{
-    a_file_reads_back, a_place_is_decoded, a_trace_is_read, no_bytes_are_out_of_memory,
-    what_is_read_is_a_trace,
+    a_file_is_read_by_records, a_file_reads_back, a_place_is_decoded, a_trace_is_read,
+    no_bytes_are_out_of_memory, what_is_read_is_a_trace,
 };
 pub use reading::read_trace;
+pub use scan::TraceScan;
+pub use taker::{KeepNothing, Taker};
 pub use trace::{Block, Blocks, Events, Items, Trace};
 pub use version::{VERSION, Version};
 pub use writing::{TraceFile, write_file};

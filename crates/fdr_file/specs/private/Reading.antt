@@ -1,11 +1,10 @@
 -- Reading a trace from its first byte to its last, for the contracts of the reader's private functions.
-use Rattle.std.specs.Prelude.{◌≡◌, ◌⊎◌, ◌≤◌, ◌<◌, ℕ, ◌+◌, ◌^◌, ◌%◌, List, [], ◌∷◌, ◌++◌, length, drop, map, Option, Some, None, Result, Ok, Err, option_to_list, nat_lt, if◌then◌else◌}
+use Rattle.std.specs.Prelude.{◌≡◌, ◌⊎◌, ◌≤◌, ◌<◌, ℕ, ◌+◌, List, [], ◌∷◌, ◌++◌, length, drop, map, Option, Some, None, Result, Ok, Err, option_to_list, nat_lt, if◌then◌else◌}
 use Rattle.std.specs.List.{flat_map}
 use Rattle.xray_io.specs.Rows.{◌>>=◌}
 use Rattle.xray_io.specs.declared.wall.Wall.{Wall}
 use Rattle.fdr_record.specs.declared.event.Event.{Event}
 use Rattle.fdr_record.specs.declared.rec.Rec.{Rec}
-use Rattle.fdr_record.specs.declared.rec.Rec.TheVariants.{NewBuffer, NewCpu, TscWrap, WallTime, Pid, Extents, Function}
 use Rattle.fdr_record.specs.declared.fault.RecFault.{RecFault}
 use Rattle.fdr_record.specs.Records.{length_of}
 use Rattle.fdr_file.specs.declared.events.Base.{Base}
@@ -16,6 +15,7 @@ use Rattle.fdr_file.specs.declared.trace.Block.{Block}
 use Rattle.fdr_file.specs.declared.trace.Trace.{Trace}
 use Rattle.fdr_file.specs.declared.version.Version.{Version}
 use Rattle.fdr_file.specs.declared.version.Version.TheVariants.{Three}
+use Rattle.fdr_file.specs.Scanning.{step_on}
 use Rattle.fdr_file.specs.Traces.{Standing, block_in, fault_at, header_in, header_rows, preamble_bytes, record_in, record_length, pid_named, size_named, standings, thread_named, wall_named}
 use Rattle.fdr_file.specs.private.Faults.{block_faults, decided}
 
@@ -76,20 +76,6 @@ preamble_on version left = do
   Ok (thread.0, wall.0, pid.0, pid.1)
 
 -- ---- events
-
--- the CPU and counter after a record, and the event that it says
-abbrev pub step_on : ℕ → Rec → Option Base → Result (Base × Option Event) TraceFault
-step_on at (NewCpu cpu tsc) base = Ok (record { cpu = cpu; tsc = tsc }, None)
-step_on at (TscWrap tsc) None = Err (faults.NoBase at)
-step_on at (TscWrap tsc) (Some base) = Ok (record { cpu = base.cpu; tsc = tsc }, None)
-step_on at (Function kind func delta) None = Err (faults.NoBase at)
-step_on at (Function kind func delta) (Some base) =
-    let tsc = (base.tsc + delta) % 2 ^ 64 in
-    Ok (record { cpu = base.cpu; tsc = tsc }, Some (record { cpu = base.cpu; func = func; kind = kind; tsc = tsc }))
-step_on at (NewBuffer thread) base = Err (faults.Order at)
-step_on at (WallTime wall) base = Err (faults.Order at)
-step_on at (Pid pid) base = Err (faults.Order at)
-step_on at (Extents size) base = Err (faults.Order at)
 
 -- the events of what comes after a CPU and counter
 unfoldable pub events_on : Option Base → List Standing → Result (List Event) TraceFault

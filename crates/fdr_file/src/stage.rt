@@ -1,0 +1,203 @@
+//! Reading a trace record by record: where the reading stands.
+
+ghost use Rattle.std.specs.Prelude.{◌≡◌, ◌+◌};
+ghost use Rattle.fdr_file.specs.Scanning.{after_wall, extents_next, inside_judged, inside_next, record_within, stage_after, stage_judged, stage_within, told_event};
+
+use crate::events::{Base, step};
+use crate::{TraceFault, Version};
+use fdr_record::{Event, METADATA_BYTES, Rec, RecFault};
+use xray_io::Wall;
+
+/// A block's place, and the place after the block.
+#[derive(Clone, Copy)]
+pub(crate) struct Span {
+    pub(crate) begin: u64,
+    pub(crate) end: u128,
+}
+
+/// What the records of a block have said so far.
+#[derive(Clone, Copy)]
+pub(crate) enum Inside {
+    /// Nothing. The thread is next.
+    Opened,
+    /// The thread. The wall time is next.
+    Thread { thread: u32 },
+    /// The thread and the wall time. The process is next.
+    Wall { thread: u32, wall: Wall },
+    /// The preamble, and a CPU and a counter if one was named. CPUs, counters and functions are
+    /// next.
+    Events { base: Option<Base> },
+}
+
+/// Where the reading stands.
+#[derive(Clone, Copy)]
+pub(crate) enum Stage {
+    /// A block is next.
+    Due,
+    /// Within a block.
+    Within { span: Span, inside: Inside },
+    /// After a fault. It is the fault of the bytes if the block is whole.
+    Faulty { span: Span, fault: TraceFault },
+}
+
+/// What a record says of the blocks.
+#[derive(Clone, Copy)]
+pub(crate) enum Told {
+    /// Nothing yet.
+    Nothing,
+    /// A block begins.
+    Begun { thread: u32, wall: Wall, pid: u32 },
+    /// The last block has one more event.
+    Noted { event: Event },
+}
+
+/// The stage after the record that a block begins with.
+fn extents(version: Version, at: u64, found: Result<Rec, RecFault>) -> Stage
+    ensures { result ≡ extents_next version at found }
+{
+    let end = u128::from(at) + METADATA_BYTES as u128;
+    let span = Span { begin: at, end };
+    let rec = match found {
+        Ok(rec) => rec,
+        Err(fault) => {
+            let fault = TraceFault::Bad(at, fault);
+            return Stage::Faulty { span, fault };
+        }
+    };
+    let Rec::Extents { size } = rec else {
+        let fault = TraceFault::Order(at);
+        return Stage::Faulty { span, fault };
+    };
+    if size < version.preamble_bytes() {
+        let fault = TraceFault::Extents(at);
+        return Stage::Faulty { span, fault };
+    }
+    let end = end + u128::from(size);
+    Stage::Within {
+        span: Span { begin: at, end },
+        inside: Inside::Opened,
+    }
+}
+
+/// The record at a place within a block, if it ends within the block.
+fn within(span: Span, at: u64, len: usize, found: Result<Rec, RecFault>) -> Result<Rec, TraceFault>
+    ensures { result ≡ record_within span at len found }
+{
+    if span.end < u128::from(at) + len as u128 {
+        return Err(TraceFault::Extents(at));
+    }
+    match found {
+        Ok(rec) => Ok(rec),
+        Err(RecFault::Short) => Err(TraceFault::Extents(at)),
+        Err(fault @ (RecFault::Action(_) | RecFault::Kind(_))) => Err(TraceFault::Bad(at, fault)),
+    }
+}
+
+/// What is next after the wall time.
+fn past_wall(version: Version, thread: u32, wall: Wall) -> (Inside, Told)
+    ensures { result ≡ after_wall version thread wall }
+{
+    match version {
+        Version::Three => (Inside::Wall { thread, wall }, Told::Nothing),
+    }
+}
+
+/// What an event says of the blocks.
+fn noted(event: Option<Event>) -> Told
+    ensures { result ≡ told_event event }
+{
+    match event {
+        Some(event) => Told::Noted { event },
+        None => Told::Nothing,
+    }
+}
+
+/// What a record within a block says.
+fn go_on(version: Version, inside: Inside, at: u64, rec: Rec) -> Result<(Inside, Told), TraceFault>
+    ensures { result ≡ inside_next version inside at rec }
+{
+    match inside {
+        Inside::Opened => {
+            let Rec::NewBuffer { thread } = rec else {
+                return Err(TraceFault::Order(at));
+            };
+            Ok((Inside::Thread { thread }, Told::Nothing))
+        }
+        Inside::Thread { thread } => {
+            let Rec::WallTime { wall } = rec else {
+                return Err(TraceFault::Order(at));
+            };
+            Ok(past_wall(version, thread, wall))
+        }
+        Inside::Wall { thread, wall } => {
+            let Rec::Pid { pid } = rec else {
+                return Err(TraceFault::Order(at));
+            };
+            Ok((
+                Inside::Events { base: None },
+                Told::Begun { thread, wall, pid },
+            ))
+        }
+        Inside::Events { base } => {
+            let (base, event) = step(at, rec, base)?;
+            Ok((Inside::Events { base: Some(base) }, noted(event)))
+        }
+    }
+}
+
+/// What is at a place within a block says this, if it may stand there.
+fn judge_within(
+    version: Version,
+    span: Span,
+    inside: Inside,
+    at: u64,
+    len: usize,
+    found: Result<Rec, RecFault>,
+) -> Result<(Inside, Told), TraceFault>
+    ensures { result ≡ inside_judged version span inside at len found }
+{
+    let rec = within(span, at, len, found)?;
+    go_on(version, inside, at, rec)
+}
+
+/// The stage after a record within a block.
+fn after(
+    span: Span,
+    at: u64,
+    len: usize,
+    judged: Result<(Inside, Told), TraceFault>,
+) -> (Stage, Told)
+    ensures { result ≡ stage_within span (at + len) judged }
+{
+    match judged {
+        Ok((inside, told)) => {
+            if u128::from(at) + len as u128 == span.end {
+                (Stage::Due, told)
+            } else {
+                (Stage::Within { span, inside }, told)
+            }
+        }
+        Err(fault) => (Stage::Faulty { span, fault }, Told::Nothing),
+    }
+}
+
+/// The stage after what is at a place, and what it says of the blocks. `len` is the length of a
+/// record with this first byte.
+pub(crate) fn judge(
+    version: Version,
+    stage: Stage,
+    at: u64,
+    len: usize,
+    found: Result<Rec, RecFault>,
+) -> (Stage, Told)
+    ensures { result ≡ stage_judged version stage at len found }
+{
+    match stage {
+        Stage::Due => (extents(version, at, found), Told::Nothing),
+        Stage::Within { span, inside } => {
+            let judged = judge_within(version, span, inside, at, len, found);
+            after(span, at, len, judged)
+        }
+        Stage::Faulty { .. } => (stage, Told::Nothing),
+    }
+}
