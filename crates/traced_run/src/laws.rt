@@ -4,7 +4,7 @@ ghost use Rattle.std.specs.Prelude.{◌≡◌, ◌≤◌, ◌<◌, ◌^◌, ◌+
 ghost use Rattle.std.specs.List.{flat_map};
 ghost use Rattle.xray_image.specs.Program.{IsAccepted, Program};
 ghost use Rattle.fdr_buffer.specs.{Filled.{has_event}, Fits.{BufferFits}};
-ghost use Rattle.machine_step.specs.Buffers.{spare_of};
+ghost use Rattle.machine_step.specs.{Buffers.{spare_of}, Setups.{AreLimits, IsSetup}};
 ghost use Rattle.machine_step.specs.declared.end.End.{End};
 ghost use Rattle.machine_step.specs.declared.limits.Limits.{Limits};
 ghost use Rattle.machine_step.specs.declared.setup.Setup.{Setup};
@@ -12,7 +12,7 @@ ghost use Rattle.machine_step.specs.PlainStep.{Passing, PlainRun, State};
 ghost use Rattle.machine_step.specs.Loads.{Load};
 ghost use Rattle.traced_run.specs.Decoded.{DecodesWhole};
 ghost use Rattle.traced_run.specs.Executed.{Executes};
-ghost use Rattle.traced_run.specs.Fits.{PassingFits, SetupFits};
+ghost use Rattle.traced_run.specs.Fits.{PassingFits};
 ghost use Rattle.traced_run.specs.Kept.{kept_buffers, kept_of, segments_of, thread_buffers};
 ghost use Rattle.traced_run.specs.Losses.{AreLost, recycled_of, without_losses};
 ghost use Rattle.traced_run.specs.Runs.{EachThread, IsRun, ThreadRun, events_of};
@@ -70,22 +70,21 @@ pub fn passings_are_few(cpu: &Cpu)
     cpu.passings();
 }
 
-/// The ids of a plain run's passings fit the records of events. So do their stamps, if there is at
-/// least one processor, and at most as many as the field can count.
+/// The ids of a plain run's passings fit the records of events. So do their stamps, if threads may
+/// have its limits.
 pub fn passings_fit()
     ensures ids { (bytes : List ℕ) (program : Program) (limits : Limits) (thread : ℕ)
         (passed : List Passing) (end : End) (last : State) → IsAccepted bytes program
         → PlainRun program limits thread passed end last → All (λ p. p.id < 2 ^ 28) passed }
     ensures all { (bytes : List ℕ) (program : Program) (limits : Limits) (thread : ℕ)
-        (passed : List Passing) (end : End) (last : State) → IsAccepted bytes program
-        → 1 ≤ limits.cpus → limits.cpus < 2 ^ 16 → PlainRun program limits thread passed end last
-        → All PassingFits passed }
+        (passed : List Passing) (end : End) (last : State) → IsAccepted bytes program → AreLimits limits
+        → PlainRun program limits thread passed end last → All PassingFits passed }
 {}
 
 /// All that a run leaves in its buffers fits them, and fits the records that it is read from later.
 pub fn a_run_fits_its_buffers()
     ensures { (bytes : List ℕ) (program : Program) (setup : Setup) (runs : List ThreadRun)
-        → IsAccepted bytes program → SetupFits setup → IsRun program setup runs
+        → IsAccepted bytes program → IsSetup setup → IsRun program setup runs
         → All BufferFits (kept_buffers setup runs) }
 {
     segments_hold_all();
@@ -94,8 +93,8 @@ pub fn a_run_fits_its_buffers()
 
 /// A run leaves at most as many buffers as its setup has, and each has the setup's size.
 pub fn a_run_leaves_few_buffers()
-    ensures few { (setup : Setup) (runs : List ThreadRun) → length runs ≡ setup.threads
-        → setup.threads ≤ setup.max → AreLost setup.size (spare_of setup) runs
+    ensures few { (setup : Setup) (runs : List ThreadRun) → IsSetup setup
+        → length runs ≡ setup.threads → AreLost setup.size (spare_of setup) runs
         → length (kept_buffers setup runs) ≤ setup.max }
     ensures sizes { (setup : Setup) (runs : List ThreadRun)
         → All (λ buffer. buffer.size ≡ setup.size) (kept_buffers setup runs) }

@@ -2,6 +2,7 @@
 ghost use Rattle.std.specs.Prelude.{◌≡◌, ◌≤◌, ◌∷◌, [], IfOk, IsPermutation, OnOk, List, Some, filter, map};
 ghost use Rattle.command_words.specs.Words.{outputs_of};
 ghost use Rattle.patch_script.specs.Refusals.{commands_of};
+ghost use Rattle.machine_step.specs.Setups.{IsSetup};
 ghost use Rattle.machine_step.specs.declared.setup.Setup.{Setup};
 ghost use Rattle.sled_rule.specs.Seats.{work_view};
 ghost use Rattle.thread_run.specs.Runs.{HaveRunBeside};
@@ -20,7 +21,6 @@ use crate::run_inputs::{Run, RunInputs};
 use crate::setups::setup_of;
 use crate::stop::Stop;
 use crate::traced::{RunLeft, deliver_run, room_for};
-use fdr_buffer::{LARGEST_SIZE, LEAST_SIZE};
 use machine_step::{Setup, Steps};
 use patch_script::Script;
 use sled_rule::CodeTable;
@@ -115,11 +115,7 @@ fn run_beside<'s, T: Threads + Wait + Sync, G: Gate + Sync>(
 ) -> Result<RunEnd<'s>, NoMemory>
     requires program { script.program ≡ steps.now }
     requires threads { script.threads ≡ setup.now.threads }
-    requires some { 1 ≤ setup.now.threads }
-    requires few { setup.now.threads ≤ 16 }
-    requires stamps { (1 ≤ setup.now.limits.cpus) × (1 ≤ setup.now.limits.migrate) }
-    requires sizes { (LEAST_SIZE ≤ setup.now.size) × (setup.now.size ≤ LARGEST_SIZE) }
-    requires enough { setup.now.threads ≤ setup.now.max }
+    requires setup { IsSetup setup.now }
     ensures left { IfOk result (λ end. HaveRunBeside steps.now (commands_of script.lines) setup.now
         end.cpus.items (map work_view end.seats.items) end.segments.items end.first.items end.buffers.items) }
 {

@@ -30,6 +30,7 @@ fn makes_all_steps(rt: &HostRuntime, units: u32) -> Result<bool, Fail> {
 
 /// Whether a thread with room for `passings` marks begins: before its first passing, if it has one.
 fn begins(rt: &HostRuntime, steps: &Steps, passings: u32) -> Result<bool, Fail> {
+    assert!(rt; passings <= 1_048_576);
     let limits = Limits {
         passings,
         ..DEFAULT_LIMITS

@@ -45,7 +45,7 @@ returns-clause-finishes g c =
     let Done : Setup → Type 0 = λ with_it.
     Finishes (RunsBeside trace audit with_it inputs.image inputs.script) (seen c.args.desk.now)
     (seen c.deliver_run.new.desk) (got c.args.out.now) (got c.deliver_run.new.out) (g.D.Desk.along c.args.desk.now c.deliver_run.new.desk) c.deliver_run.result in
-    subst Done c.setup_of-setup.ensures
+    subst Done c.setup_of-setup.ensures.options
     (finishes (RunsBeside trace audit setup inputs.image inputs.script) outputs text None
     (seen c.args.desk.now) (seen c.deliver_run.new.desk) (got c.args.out.now) (got c.deliver_run.new.out)
     (g.D.Desk.along c.args.desk.now c.deliver_run.new.desk) c.deliver_run.result

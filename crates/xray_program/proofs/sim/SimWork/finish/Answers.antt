@@ -20,7 +20,7 @@ use Rattle.xray_program.proofs.sim.SimWork.finish.Goals as goal
 
 pub play-requires : goal.play-requires
 play-requires g c =
-    let threads : c.setup_of-setup.result.threads ≡ c.args.self.now.options.bounds.threads = ap (λ (setup : Setup). setup.threads) c.setup_of-setup.ensures in
+    let threads : c.setup_of-setup.result.threads ≡ c.args.self.now.options.bounds.threads = ap (λ (setup : Setup). setup.threads) c.setup_of-setup.ensures.options in
     let own = subst (λ (n : ℕ). All (AreTurnsOf n) c.args.inputs.now.schedule) (sym threads) c.requires.turns_of_threads in
     subst (λ (start : Start). All (AreTurnsOf start.setup.threads) c.args.inputs.now.schedule) (sym c.in-Ok.ensures.start) own
 
@@ -51,7 +51,7 @@ returns-in-Ok-clause-finishes g c =
     let Done : Setup → Type 0 = λ with_it.
     Finishes (Replays s.script.now s.files.trace.now s.files.audit.now with_it inputs.image inputs.script inputs.schedule) (seen c.args.desk.now)
     (seen c.deliver_run.new.desk) (got c.args.out.now) (got c.deliver_run.new.out) (g.D.Desk.along c.args.desk.now c.deliver_run.new.desk) c.deliver_run.result in
-    subst Done c.setup_of-setup.ensures
+    subst Done c.setup_of-setup.ensures.options
     (finishes (Replays s.script.now s.files.trace.now s.files.audit.now setup inputs.image inputs.script inputs.schedule) outputs text None
     (seen c.args.desk.now) (seen c.deliver_run.new.desk) (got c.args.out.now) (got c.deliver_run.new.out)
     (g.D.Desk.along c.args.desk.now c.deliver_run.new.desk) c.deliver_run.result
