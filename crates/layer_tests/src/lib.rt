@@ -51,4 +51,6 @@ mod setups;
 #[cfg(test)]
 mod sled_values;
 #[cfg(test)]
+mod stack_folds;
+#[cfg(test)]
 mod trace_files;
