@@ -25,6 +25,8 @@ mod event_traces;
 #[cfg(test)]
 mod fault_texts;
 #[cfg(test)]
+mod fed_traces;
+#[cfg(test)]
 mod image_files;
 #[cfg(test)]
 mod images;
