@@ -1,6 +1,6 @@
 -- The calls of a desk, in their order.
-use Rattle.std.proofs.Common.{◌≡◌, ◌++◌, ◌∙◌, ℕ, suc, List, [], ◌∷◌, length, Option, Some, None, Result, Ok, Err, refl, sym, ap, arith, subst, append_assoc}
-use Rattle.std.proofs.lemmas.List.{append-nil, length-append}
+use Rattle.std.proofs.Common.{◌≡◌, ◌++◌, ◌∙◌, ℕ, List, [], ◌∷◌, length, Option, Some, None, Result, Ok, Err, refl, sym, ap, subst, append_assoc}
+use Rattle.std.proofs.lemmas.List.{append-nil}
 use Rattle.std.specs.Prelude.{IsErrAnd, ⊤}
 use Rattle.xray_io.specs.Calls.{Call, Composes, HoldsOfNone, Went, went_on}
 use Rattle.xray_program.specs.Order.{ReadsAll, ReadsWhole}

@@ -9,7 +9,7 @@ use Rattle.xray_io.specs.declared.faults.WriteFault.{WriteFault}
 use Rattle.xray_program.specs.Accepted.{AcceptsInputs}
 use Rattle.xray_program.specs.Commands.{ComesOf, inputs_of}
 use Rattle.xray_program.specs.Taking.{AllAccepted}
-use Rattle.xray_program.specs.Outcomes.{Outcome, BadLine, Unread, TooLong, Refused, Done, Fell, Ending, With, Unwritten, NoMemory}
+use Rattle.xray_program.specs.Outcomes.{BadLine, Unread, TooLong, Refused, Done, Fell, Ending, With, Unwritten, NoMemory}
 use Rattle.command_words.specs.Words.{Command}
 
 -- ---- inputs
