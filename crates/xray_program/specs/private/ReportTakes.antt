@@ -1,13 +1,10 @@
 -- How the turns of a report's inputs end.
 use Rattle.std.specs.Prelude.{◌≡◌, ◌⊎◌, ◌≤◌, ℕ, List, Option, Result, Ok, Err}
 use Rattle.xray_image.specs.Program.{Program}
-use Rattle.xray_io.specs.Desk.{Entry}
 use Rattle.xray_io.specs.World.{DeskView}
 use Rattle.xray_program.specs.Inputs.{image_form}
-use Rattle.xray_program.specs.Outcomes.{Outcome}
-use Rattle.xray_program.specs.Reports.{TakeReport}
-use Rattle.xray_program.specs.private.Takes.{Gives, IsMaybeTaken, IsTaken}
-use Rattle.xray_program.specs.Taking.{DeskReads, Form}
+use Rattle.xray_program.specs.private.Takes.{IsMaybeTaken, IsTaken}
+use Rattle.xray_program.specs.Taking.{Form, IsAcceptedAs}
 use Rattle.xray_program.specs.declared.report_inputs.ReportInputs.{ReportInputs}
 use Rattle.xray_program.specs.declared.stop.Stop.{Stop}
 
@@ -22,11 +19,7 @@ pub record ImageTurn (image : Option (List ℕ)) (before after : DeskView) (resu
 abbrev pub IsReportTaken : {X : Type 0} → Form X → (log : List ℕ) → (image : Option (List ℕ)) → (before after : DeskView)
     → Result (ReportInputs X) Stop → Type 0
 IsReportTaken form log image before after (Ok inputs) =
-    Gives form (before.held log) inputs.log × ImageTurn image before after (Ok inputs.image)
+    IsAcceptedAs form (before.held log) inputs.log × ImageTurn image before after (Ok inputs.image)
 IsReportTaken {X} form log image before after (Err stop) =
     IsTaken form log before after (Err stop)
-    ⊎ ((value : X) × Gives form (before.held log) value × ImageTurn image before after (Err stop))
-
--- what comes of the inputs if one of them is a stop, and nothing follows
-abbrev pub StopsReport : {X : Type 0} → Form X → DeskReads → (List ℕ → Entry) → (log : List ℕ) → (image : Option (List ℕ)) → Outcome → Type 0
-StopsReport form reads held log image = TakeReport form reads held log image (λ _ _ _. ⊥)
+    ⊎ ((value : X) × IsAcceptedAs form (before.held log) value × ImageTurn image before after (Err stop))
