@@ -12,7 +12,7 @@ use Rattle.stack_rebuild.specs.Histories.{pair_after}
 use Rattle.account_report.specs.declared.tallies.Tallies.{Tallies}
 use Rattle.account_report.specs.declared.tallies.TheConstants.{FEW}
 use Rattle.account_report.specs.private.AllTallies.{AreTallies, entries_in}
-use Rattle.account_report.specs.private.Tallies.{Tallied, durations_in, has_event, has_events, no_tally, tally_among, tally_at, tally_of, with_event}
+use Rattle.account_report.specs.private.Tallies.{Tallied, durations_in, has_event, has_events, no_tally, tally_tabled, tally_listed, tally_of, with_event}
 use Rattle.account_report.proofs.LowIds.{found_first, found_other, ids_distinct}
 use Rattle.account_report.proofs.Rows.{key_found}
 use Rattle.account_report.proofs.Tallying.{tally_of-cons}
@@ -30,10 +30,10 @@ none_yet tallies first others = record {
     none true = refl
     none false = refl
 
-    among : (func : ℕ) → tally_among tallies.others func ≡ no_tally
+    among : (func : ℕ) → tally_tabled tallies.others func ≡ no_tally
     among func = ap (λ (es : List (ℕ × Tallied)). unwrap_or (lookup (nat_eq func) es) no_tally) others
 
-    each : (func : ℕ) (b : Bool) → cond b (tally_at tallies.first.items func) (tally_among tallies.others func) ≡ no_tally
+    each : (func : ℕ) (b : Bool) → cond b (tally_listed tallies.first.items func) (tally_tabled tallies.others func) ≡ no_tally
     each func true = ap (λ (ts : List Tallied). get_or ts func no_tally) first
     each func false = among func
 
@@ -106,7 +106,7 @@ found_in tallies history are func = by_place (nat_lt func (length tallies.first.
         let found = found_first func 0 func first tallies.others.entries (omega arith) within (higher tallies history are) in
         let low : nat_lt func FEW ≡ true = let below : func < FEW = omega (arith, are.few) in grind (arith, nat_tests) in
         let told : t ≡ tally_of history func =
-        sym (ap (λ (b : Bool). cond b t (tally_among tallies.others func)) low) ∙ are.each func in (
+        sym (ap (λ (b : Bool). cond b t (tally_tabled tallies.others func)) low) ∙ are.each func in (
           λ v is. one_found t v (has_events t) (sym found ∙ is) ∙ told,
           ap is_some found ∙ (some_found t (has_events t) ∙ (ap has_events told ∙ events_told history func)),
         )
@@ -119,15 +119,15 @@ found_in tallies history are func = by_place (nat_lt func (length tallies.first.
         not_low (has_event history func) (lookup (nat_eq func) tallies.others.entries)
         (are.present func ∙ ap (λ (b : Bool). b && has_event history func) place) in
         let told : no_tally ≡ tally_of history func =
-        sym (ap (λ (b : Bool). cond b (tally_at first func) (tally_among tallies.others func)) low ∙ get_or_past first func no_tally past) ∙ are.each func in (
+        sym (ap (λ (b : Bool). cond b (tally_listed first func) (tally_tabled tallies.others func)) low ∙ get_or_past first func no_tally past) ∙ are.each func in (
           λ v is. cc,
           ap is_some (found ∙ none) ∙ (ap has_events told ∙ events_told history func),
         )
     others past false low =
         let found = found_other func 0 first tallies.others.entries (omega (arith, past)) in
         let place : nat_le FEW func ≡ true = grind (arith, nat_tests) in
-        let told : tally_among tallies.others func ≡ tally_of history func =
-        sym (ap (λ (b : Bool). cond b (tally_at first func) (tally_among tallies.others func)) low) ∙ are.each func in (
+        let told : tally_tabled tallies.others func ≡ tally_of history func =
+        sym (ap (λ (b : Bool). cond b (tally_listed first func) (tally_tabled tallies.others func)) low) ∙ are.each func in (
           λ v is.
               let here : lookup (nat_eq func) tallies.others.entries ≡ Some v = sym found ∙ is in
               sym (ap (λ (o : Option Tallied). unwrap_or o no_tally) here) ∙ told,

@@ -1,7 +1,7 @@
 //! What is kept of all functions while events are taken.
 
 ghost use Rattle.std.specs.{Prelude.{◌≡◌, ◌≤◌, ◌<◌, ◌==◌, ◌&&◌, ◌||◌, ◌++◌, ℕ, [], length, map, nat_eq, nat_le, IsPermutation, is_some, if◌then◌else◌, IfOk, OnOk}, HashMap.{IsUnique, get}};
-ghost use Rattle.account_report.specs.private.Tallies.{durations_in, first_entries, row_of_entry, tally_among, tally_at, with_event};
+ghost use Rattle.account_report.specs.private.Tallies.{durations_in, first_entries, row_of_entry, tally_tabled, tally_listed, with_event};
 ghost use Rattle.account_report.specs.private.AllTallies.{AreTallies, entries_in, tally_in};
 
 use crate::row::AccountRow;
@@ -107,10 +107,10 @@ fn add_first(
     pair: &Option<Pair>,
 ) -> Result<(), NoMemory>
     requires { event.now.func < FEW }
-    ensures tallied { OnOk result ((func : ℕ) → tally_at first.new.items func
+    ensures tallied { OnOk result ((func : ℕ) → tally_listed first.new.items func
         ≡ (if event.now.func == func
-        then with_event event.now.kind (durations_in pair.now) (tally_at first.old.items func)
-        else tally_at first.old.items func)) }
+        then with_event event.now.kind (durations_in pair.now) (tally_listed first.old.items func)
+        else tally_listed first.old.items func)) }
     ensures few { OnOk result (length first.old.items ≤ FEW → length first.new.items ≤ FEW) }
 {
     let at = event.func as usize;
@@ -122,8 +122,8 @@ fn add_first(
 /// Adds functions without an event up to this id.
 fn reach(alloc: Global, first: &mut Vec<Tally>, at: usize) -> Result<(), NoMemory>
     requires { at < FEW }
-    ensures same { OnOk result ((func : ℕ) → tally_at first.new.items func
-        ≡ tally_at first.old.items func) }
+    ensures same { OnOk result ((func : ℕ) → tally_listed first.new.items func
+        ≡ tally_listed first.old.items func) }
     ensures there { OnOk result (at < length first.new.items) }
     ensures few { OnOk result (length first.old.items ≤ FEW → length first.new.items ≤ FEW) }
 {
@@ -140,10 +140,10 @@ fn add_other(
     event: &Event,
     pair: &Option<Pair>,
 ) -> Result<(), NoMemory>
-    ensures tallied { OnOk result ((func : ℕ) → tally_among others.new func
+    ensures tallied { OnOk result ((func : ℕ) → tally_tabled others.new func
         ≡ (if event.now.func == func
-        then with_event event.now.kind (durations_in pair.now) (tally_among others.old func)
-        else tally_among others.old func)) }
+        then with_event event.now.kind (durations_in pair.now) (tally_tabled others.old func)
+        else tally_tabled others.old func)) }
     ensures present { OnOk result ((func : ℕ) → is_some (get nat_eq others.new func)
         ≡ ((event.now.func == func) || is_some (get nat_eq others.old func))) }
 {

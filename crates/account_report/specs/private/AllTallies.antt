@@ -6,11 +6,11 @@ use Rattle.stack_rebuild.specs.Calls.{Standing, standing_after}
 use Rattle.stack_rebuild.specs.Histories.{history_of_thread}
 use Rattle.account_report.specs.declared.tallies.Tallies.{Tallies}
 use Rattle.account_report.specs.declared.tallies.TheConstants.{FEW}
-use Rattle.account_report.specs.private.Tallies.{Tallied, first_entries, has_event, tally_among, tally_at, tally_of}
+use Rattle.account_report.specs.private.Tallies.{Tallied, first_entries, has_event, tally_tabled, tally_listed, tally_of}
 
 -- the tally of a function
 abbrev pub tally_in : Tallies → ℕ → Tallied
-tally_in tallies func = if nat_lt func FEW then tally_at tallies.first.items func else tally_among tallies.others func
+tally_in tallies func = if nat_lt func FEW then tally_listed tallies.first.items func else tally_tabled tallies.others func
 
 -- what is kept of the functions is what a history says of them
 pub record AreTallies (tallies : Tallies) (history : List ThreadEvent) : Type 0 where

@@ -44,12 +44,12 @@ abbrev pub Table : Type 0 → Type 0
 Table X = HashMap ℕ X (BuildHasherDefault FoldHasher)
 
 -- the tally of a function in a list, by its id
-abbrev pub tally_at : List Tallied → ℕ → Tallied
-tally_at first func = slice_index_or first func no_tally
+abbrev pub tally_listed : List Tallied → ℕ → Tallied
+tally_listed first func = slice_index_or first func no_tally
 
 -- the tally of a function in a table
-abbrev pub tally_among : Table Tallied → ℕ → Tallied
-tally_among others func = unwrap_or (get nat_eq others func) no_tally
+abbrev pub tally_tabled : Table Tallied → ℕ → Tallied
+tally_tabled others func = unwrap_or (get nat_eq others func) no_tally
 
 -- whether a function had an event
 abbrev pub has_events : Tallied → Bool
