@@ -105,7 +105,8 @@ pub(crate) fn drawn_inputs(alloc: Global, number: u64) -> Result<SimInputs, NoMe
 fn image_of(alloc: Global, text: &[u8]) -> Result<Image, NoMemory>
     requires said { (said : StatementLines) × (statements_said text.now ≡ Ok said) }
     requires few { length (lines text.now) < u32.MAX }
-    ensures { (said : StatementLines) → statements_said text.now ≡ Ok said → IfOk result (λ program. program ≡ program_said 1 said) }
+    ensures { (said : StatementLines) → statements_said text.now ≡ Ok said
+        → IfOk result (λ program. program ≡ program_said 1 said) }
 {
     let file = unrefused(assemble(alloc, text, THRESHOLD))?;
     unrefused(read_image(alloc, &file))
