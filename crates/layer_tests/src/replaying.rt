@@ -1,6 +1,7 @@
 //! Calls of `step_sim` that allocate, at limits and at sizes between them: with enough memory they
 //! answer. `whole_runs` has replays, and what is refused.
 
+use crate::checks::check_same_list;
 use crate::draws::draw;
 use crate::setups::{DEFAULT_LIMITS, DEFAULT_SETUP};
 use example_images::OUTPUTS_AN_A;
@@ -11,7 +12,9 @@ use std::process::Abort;
 use std::test::Fail;
 use step_sim::*;
 use text_lines::count_lines;
+use trace_flush::write_audit;
 use xray_image::read_image;
+use xray_io::MemSink;
 
 /// The script that traces everything from before the start.
 const TRACED: &[u8] = b"patch\nset_handler\ninit\ngo";
@@ -94,5 +97,17 @@ fn replays_and_schedules_of_each_size_are_made(rt: HostRuntime) -> Result<(), Fa
         assert!(rt; all_return(&rt, alloc, &setup)?);
         assert!(rt; reads_all_lines(alloc, draw(&mut seed, 16_384))?);
     }
+    Ok(())
+}
+
+#[test]
+fn an_audit_without_threads_has_its_setup(rt: HostRuntime) -> Result<(), Fail> {
+    let mut sink = MemSink::new(rt.alloc(), Vec::new(rt.alloc()));
+    write_audit(&DEFAULT_SETUP, &[], &[], &mut sink)?;
+    let wanted = b"xray-audit 1\n\
+        threads=1 buffer-size=16384 buffer-max=100 fuel=10000000 passings=1048576 tick=1 tsc=0 cpus=1 \
+        migrate=1048576 pid=1 wall=0.0 frequency=0\n\
+        recycled 0\n";
+    check_same_list(&rt, sink.bytes(), wanted);
     Ok(())
 }

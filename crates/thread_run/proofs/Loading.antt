@@ -8,7 +8,7 @@ use mathlib.Core.List.{map-append}
 use Rattle.xray_io.specs.declared.faults.NoMemory.{NoMemory}
 use Rattle.xray_image.specs.Program.{IsAccepted, Program}
 use Rattle.sled_words.specs.Allowed.{IsAllowed}
-use Rattle.sled_words.specs.Words.{progress_word, release_word}
+use Rattle.sled_words.specs.Words.{IsCodeWord, release_word}
 use Rattle.patch_script.specs.declared.command.Command.{Command}
 use Rattle.patch_script.specs.Bounds.{bound_of}
 use Rattle.patch_script.specs.CodeAt.{code_at}
@@ -33,7 +33,7 @@ use Rattle.sled_rule.specs.declared.seats.WorkSeat.{WorkSeat}
 use Rattle.sled_rule.specs.declared.views.Load.{Load as SeatLoad}
 use Rattle.sled_rule.specs.declared.views.PatchView.{PatchView}
 use Rattle.sled_rule.specs.declared.views.WorkView.{WorkView}
-use Rattle.sled_rule.specs.Plans.{bound_in, code_in, code_words, start_in}
+use Rattle.sled_rule.specs.Plans.{IsCodeIn, bound_in, code_in, start_in}
 use Rattle.sled_rule.specs.Seats.{work_view, script_of, IsWorkerOf}
 use Rattle.sled_rule.specs.Steps.{IsFetched}
 use Rattle.sled_rule.specs.Views.{counting, loading, next_work}
@@ -53,12 +53,9 @@ unfolding bound_in
 bound_is plan thread passing = refl
 
 -- a word that a thread may load is one that may be fetched
-pub word_there : (plan : Plan) (t : Traced) (word : ℕ) → IsThreadIn plan t → word < progress_word t.program t.threads 1 → word < code_words plan
-unfolding code_words
+pub word_there : (plan : Plan) (t : Traced) (word : ℕ) → IsThreadIn plan t → IsCodeWord t.program t.threads word → IsCodeIn plan word
 word_there plan t word is low =
-    let same : word < progress_word plan.program plan.threads 1 =
-    subst (λ (n : ℕ). word < progress_word plan.program n 1) is.threads (subst (λ (q : Program). word < progress_word q t.threads 1) is.program low) in
-    omega (arith, same)
+    subst (λ (n : ℕ). IsCodeWord plan.program n word) is.threads (subst (λ (q : Program). IsCodeWord q t.threads word) is.program low)
 
 -- ---- the fetched value
 

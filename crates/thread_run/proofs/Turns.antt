@@ -143,7 +143,7 @@ pub no_nearer : (old new : Traced) (word : ℕ) → IsSameThread old new → old
     → MarksAdded old.marks new.marks new.want → loads_left new < loads_left old → ⊥
 no_nearer old new word same was is added less =
     let marks : new.marks ≡ old.marks = subst (MarksAdded old.marks new.marks) is added in
-    let left : loads_left new ≡ loads_left old = rw marks (rw same.program (rw same.limits (rw is (rw was refl)))) in
+    let left : loads_left new ≡ loads_left old = rw marks (rw same.program (rw same.thread (rw same.limits (rw is (rw was refl))))) in
     omega (arith, less, left)
 
 -- the count of a seat after a load, before the passing that it ended is counted
