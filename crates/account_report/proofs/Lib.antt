@@ -1,9 +1,9 @@
 pub mod AccountLines
+pub mod Folding
 pub mod Lone
 pub mod OneOrder
 pub mod OverStacks
 pub mod Rising
 pub mod RowOrder
 pub mod Rows
-pub mod Standing
 pub mod Tallying

@@ -1,9 +1,9 @@
 -- What one more event changes in what a history says of a function.
-use Rattle.std.proofs.Common.{◌≡◌, ◌+◌, ◌++◌, ◌∙◌, ℕ, Bool, true, false, cond, ◌&&◌, ◌||◌, List, [], ◌∷◌, length, map, reverse, take, refl, ap, sym, subst, arith, nat_eq, ◌<◌, get_or, Option, is_some}
+use Rattle.std.proofs.Common.{◌≡◌, ◌+◌, ◌++◌, ◌∙◌, ℕ, Bool, true, false, cond, ◌&&◌, ◌||◌, List, [], ◌∷◌, length, map, refl, ap, sym, arith, nat_eq, Option, is_some}
 use Rattle.std.specs.Prelude.{filter}
 use Rattle.std.specs.HashMap.{get}
 use Rattle.std.specs.Option.{option_to_list}
-use Rattle.std.proofs.lemmas.List.{append-nil, map-append, reverse-append, take_more}
+use Rattle.std.proofs.lemmas.List.{append-nil, map-append}
 use Rattle.std.proofs.lemmas.List.Elements.{filter-append}
 use Rattle.std.proofs.lemmas.List.Sums.{sum_by-cons}
 use Rattle.std.proofs.lemmas.Bool.{eq-eqb}
@@ -16,7 +16,7 @@ use Rattle.stack_rebuild.specs.declared.call.Pair.{Pair}
 use Rattle.stack_rebuild.specs.Calls.{Standing, enters, from_innermost, leaves, open_calls, pair_at, pair_at_kind, pair_of_call, standing_after, next_standing}
 use Rattle.stack_rebuild.specs.Histories.{ThreadPair, history_of_thread, pair_after, pairs_after, thread_event, thread_pair}
 use Rattle.account_report.specs.Account.{durations_of, is_entry_of, is_exit_of}
-use Rattle.account_report.specs.private.Tallies.{Reached, Table, Tallied, durations_in, going_on, tally_in, tally_of, with_event}
+use Rattle.account_report.specs.private.Tallies.{Reached, Table, Tallied, durations_in, tally_in, tally_of, with_event}
 
 -- a pair is of the function of its event
 abbrev is_pair_of : ℕ → Pair → Bool
@@ -93,20 +93,12 @@ tally_of-cons l h func =
     counted (nat_eq l.event.func func) l.event.kind (durations_in (pair_after l h)) (tally_of h func) (tally_of (l ∷ h) func) (durations_of-cons func l h)
     (sum_by-cons (λ x. cond (is_entry_of func x) 1 0) l h) (sum_by-cons (λ x. cond (is_exit_of func x) 1 0) l h)
 
--- an event of the thread is added to its part of a history, and one of another thread isn't
-pub of_thread-own : (thread pid : ℕ) (e : Event) (h : List ThreadEvent) → history_of_thread thread (thread_event thread pid e ∷ h) ≡ e ∷ history_of_thread thread h
+-- an event of the thread is added to its part of a history
+of_thread-own : (thread pid : ℕ) (e : Event) (h : List ThreadEvent) → history_of_thread thread (thread_event thread pid e ∷ h) ≡ e ∷ history_of_thread thread h
 of_thread-own thread pid e h = ap (λ b. cond b (e ∷ history_of_thread thread h) (history_of_thread thread h)) (eq-eqb thread thread refl)
 
--- a history that goes on with events goes on with one more
-going_on-more : (thread pid : ℕ) (events : List Event) (i : ℕ) (d : Event) (h : List ThreadEvent) → i < length events
-    → going_on thread pid (take (i + 1) events) h ≡ thread_event thread pid (get_or events i d) ∷ going_on thread pid (take i events) h
-going_on-more thread pid events i d h within =
-    ap (λ (es : List Event). going_on thread pid es h) (take_more events i d within)
-    ∙ (ap (λ (ls : List ThreadEvent). reverse ls ++ h) (map-append (thread_event thread pid) (take i events) (get_or events i d ∷ []))
-    ∙ ap (λ (ls : List ThreadEvent). ls ++ h) (reverse-append (map (thread_event thread pid) (take i events)) (thread_event thread pid (get_or events i d) ∷ [])))
-
 -- one more event of the thread
-reached_after : (thread pid : ℕ) (h : List ThreadEvent) (e : Event) (pair : Option Pair) (calls calls' : Standing) (tallies tallies' : Table Tallied)
+pub reached_after : (thread pid : ℕ) (h : List ThreadEvent) (e : Event) (pair : Option Pair) (calls calls' : Standing) (tallies tallies' : Table Tallied)
     → Reached thread h calls tallies → pair ≡ pair_at e calls.events calls.calls → calls' ≡ next_standing e calls
     → ((func : ℕ) → tally_in tallies' func ≡ cond (nat_eq e.func func) (with_event e.kind (durations_in pair) (tally_in tallies func)) (tally_in tallies func))
     → ((func : ℕ) → is_some (get nat_eq tallies' func) ≡ (nat_eq e.func func || is_some (get nat_eq tallies func)))
@@ -122,18 +114,3 @@ reached_after thread pid h e pair calls calls' tallies tallies' reached made sta
         present = λ func. present func ∙ ap (λ (b : Bool). nat_eq e.func func || b) (reached.tallied.present func);
       };
     }
-
-pub reached_more : (thread pid : ℕ) (h : List ThreadEvent) (events : List Event) (i : ℕ) (d : Event) (pair : Option Pair) (calls calls' : Standing) (tallies tallies' : Table Tallied)
-    → i < length events → Reached thread (going_on thread pid (take i events) h) calls tallies → pair ≡ pair_at (get_or events i d) calls.events calls.calls
-    → calls' ≡ next_standing (get_or events i d) calls
-    → ((func : ℕ) → tally_in tallies' func ≡ cond (nat_eq (get_or events i d).func func)
-    (with_event (get_or events i d).kind (durations_in pair) (tally_in tallies func)) (tally_in tallies func))
-    → ((func : ℕ) → is_some (get nat_eq tallies' func) ≡ (nat_eq (get_or events i d).func func || is_some (get nat_eq tallies func)))
-    → Reached thread (going_on thread pid (take (i + 1) events) h) calls' tallies'
-reached_more thread pid h events i d pair calls calls' tallies tallies' within reached made stands each present =
-    subst (λ (history : List ThreadEvent). Reached thread history calls' tallies') (sym (going_on-more thread pid events i d h within))
-    (reached_after thread pid (going_on thread pid (take i events) h) (get_or events i d) pair calls calls' tallies tallies' reached made stands each present)
-
--- what stands for an item that a slice doesn't have
-abbrev pub no_event : Event
-no_event = record { cpu = 0; func = 0; kind = Entry; tsc = 0 }

@@ -71,5 +71,8 @@ abbrev pub functions_in : List ThreadEvent → List ℕ
 functions_in history = each_once nat_cmp (map (λ e. e.event.func) history)
 
 -- a row for each function that has an event, in ascending order
+abbrev pub account_rows : List ThreadEvent → List AccountRow
+account_rows history = map (function_row history) (functions_in history)
+
 abbrev pub account_of : List Block → List AccountRow
-account_of blocks = map (function_row (history_of blocks)) (functions_in (history_of blocks))
+account_of blocks = account_rows (history_of blocks)

@@ -1,14 +1,16 @@
 //! The rows of the account.
 
-ghost use Rattle.std.specs.{Prelude.{◌≡◌, nat_eq, map, IfOk}, HashMap.{IsUnique}};
+ghost use Rattle.std.specs.{Prelude.{◌≡◌, ◌++◌, [], ◌∷◌, List, nat_eq, map, IfOk, OnOk}, HashMap.{IsUnique}};
 ghost use Rattle.std.specs.List.{IsDistinct};
-ghost use Rattle.account_report.specs.{Account.{account_of}, AccountText.{latencies_of}};
-ghost use Rattle.account_report.specs.private.Tallies.{row_of_entry};
+ghost use Rattle.fdr_file.specs.declared.trace.Block.{Block};
+ghost use Rattle.fdr_file.specs.ThreadEvents.{ThreadEvent};
+ghost use Rattle.account_report.specs.{Account.{account_of, account_rows}, AccountText.{latencies_of}};
+ghost use Rattle.account_report.specs.private.{Folding.{Folds}, Tallies.{AreTallies, row_of_entry}};
 
+use crate::fold::AccountFold;
 use crate::row::AccountRow;
-use crate::scan::tallies;
 use crate::tally::Tally;
-use fdr_file::Trace;
+use fdr_file::{Block, Taker, Trace};
 use stack_rebuild::{each_exit_ends_one_call, each_pair_is_a_whole_call};
 use std::alloc::Global;
 use std::collections::HashMap;
@@ -21,9 +23,40 @@ pub fn account(alloc: Global, trace: &Trace) -> Result<Vec<AccountRow>, NoMemory
     // As `order_rows` asks for.
     ensures distinct { IfOk result (λ rows. IsDistinct nat_eq (map (λ row. row.func) rows.items)) }
 {
+    let mut fold = AccountFold::new(alloc);
+    'folding: for block in trace.blocks.as_slice() {
+        take_block(&mut fold, block)?;
+    }
+    let (rows, _) = fold.rows()?;
+    Ok(rows)
+}
+
+/// Takes a block with its events.
+fn take_block(fold: &mut AccountFold, block: &Block) -> Result<(), NoMemory>
+    requires { (blocks : List Block) × Folds fold.old blocks }
+    ensures { OnOk result ((blocks : List Block) → Folds fold.old blocks
+        → Folds fold.new (blocks ++ block.now ∷ [])) }
+{
+    fold.block(block.thread, block.wall, block.pid)?;
+    'taking: for event in block.events.as_slice() {
+        fold.event(event)?;
+    }
+    Ok(())
+}
+
+/// The rows of the functions of a table, in ascending order of ids.
+pub(crate) fn rows_from(
+    alloc: Global,
+    tallies: HashMap<u32, Tally>,
+) -> Result<Vec<AccountRow>, NoMemory>
+    ensures rows { IfOk result (λ rows. (history : List ThreadEvent) → AreTallies tallies history
+        → rows.items ≡ account_rows history) }
+    ensures distinct { IfOk result (λ rows. (history : List ThreadEvent)
+        → AreTallies tallies history → IsDistinct nat_eq (map (λ row. row.func) rows.items)) }
+{
     each_exit_ends_one_call();
     each_pair_is_a_whole_call();
-    let mut rows = rows_of(alloc, tallies(alloc, trace)?)?;
+    let mut rows = rows_of(alloc, tallies)?;
     rows.sort_unstable_by_key(|row| row.func);
     Ok(rows)
 }

@@ -1,8 +1,9 @@
 -- The lines of a YAML document, as they are put together.
 use Rattle.std.proofs.Common.{◌≡◌, ◌++◌, ◌∙◌, ◌||◌, ◌<◌, arith, ℕ, Bool, true, cond, Option, List, [], ◌∷◌, length, map, nat_lt, refl, sym, ap, append_assoc}
-use Rattle.std.specs.Prelude.{codes, decimal}
+use Rattle.std.specs.Prelude.{codes, decimal, Ok}
 use Rattle.std.specs.List.{flat_map, list_any}
 use Rattle.std.proofs.lemmas.Bool.Decides.{nat_tests}
+use Rattle.std.proofs.lemmas.List.{append-nil}
 use Rattle.std.proofs.lemmas.List.Concat.{flat_map-append}
 use Rattle.std.proofs.lemmas.List.Folds.{flat_map-map}
 use Rattle.fdr_record.specs.declared.event.Event.{Event}
@@ -10,8 +11,9 @@ use Rattle.fdr_file.specs.declared.header.Header.{Header}
 use Rattle.fdr_file.specs.declared.trace.Block.{Block}
 use Rattle.fdr_file.specs.declared.trace.Trace.{Trace}
 use Rattle.fdr_file.specs.ThreadEvents.{ThreadEvent, block_events, thread_events}
+use Rattle.fdr_file.specs.Traces.{trace_of}
 use Rattle.xray_image.specs.Program.{Program}
-use Rattle.yaml_convert.specs.Yaml.{event_end, event_line, event_start, header_text, kind_text, records_start, records_text, truth_text, yaml_text}
+use Rattle.yaml_convert.specs.Yaml.{event_end, event_line, event_start, header_text, kind_text, records_start, records_text, truth_text, yaml_of_bytes, yaml_read, yaml_text}
 
 -- ---- pieces
 
@@ -87,3 +89,48 @@ whole_yaml_left program trace = refl
 pub whole_yaml : (program : Option Program) (trace : Trace)
     → header_text trace.header ++ (records_text program (thread_events trace.blocks) ++ codes "...\n") ≡ yaml_text program trace
 whole_yaml program trace = sym (append_assoc (header_text trace.header) (records_text program (thread_events trace.blocks)) (codes "...\n"))
+
+-- ---- lines of events that are given one after the other
+
+-- one more of them is given
+pub one_given : (all given left later : List ThreadEvent) (e : ThreadEvent) → all ≡ given ++ left → left ≡ e ∷ later → all ≡ (given ++ e ∷ []) ++ later
+one_given all given left later e before is =
+    before ∙ (ap (λ (es : List ThreadEvent). given ++ es) is ∙ sym (append_assoc given (e ∷ []) later))
+
+-- its line comes after theirs
+pub one_line : (program : Option Program) (given : List ThreadEvent) (e : ThreadEvent)
+    → flat_map (event_line program) given ++ event_line program e ≡ flat_map (event_line program) (given ++ e ∷ [])
+one_line program given e =
+    sym (flat_map-append (event_line program) given (e ∷ []) ∙ ap (λ (t : List ℕ). flat_map (event_line program) given ++ t) (append-nil (event_line program e)))
+
+-- the lines of all of them
+pub all_lines : (program : Option Program) (all given left later : List ThreadEvent) (e : ThreadEvent) → all ≡ given ++ left → left ≡ e ∷ later
+    → (flat_map (event_line program) given ++ event_line program e) ++ flat_map (event_line program) later ≡ flat_map (event_line program) all
+all_lines program all given left later e before is =
+    ap (λ (t : List ℕ). t ++ flat_map (event_line program) later) (one_line program given e)
+    ∙ (sym (flat_map-append (event_line program) (given ++ e ∷ []) later)
+    ∙ ap (flat_map (event_line program)) (sym (one_given all given left later e before is)))
+
+-- no more of them are given
+pub none_left : (all given left : List ThreadEvent) → all ≡ given ++ left → left ≡ [] → given ≡ all
+none_left all given left before is = sym (before ∙ (ap (λ (es : List ThreadEvent). given ++ es) is ∙ append-nil given))
+
+-- the records, of which the first is given
+pub first_line : (program : Option Program) (all later : List ThreadEvent) (e : ThreadEvent) → all ≡ e ∷ later
+    → (codes "records:\n" ++ event_line program e) ++ flat_map (event_line program) later ≡ records_text program all
+first_line program all later e is =
+    append_assoc (codes "records:\n") (event_line program e) (flat_map (event_line program) later) ∙ ap (records_text program) (sym is)
+
+-- ---- the document of bytes
+
+pub yaml_of_read : (program : Option Program) (bytes : List ℕ) (trace : Trace) → trace_of bytes ≡ Ok trace → yaml_text program trace ≡ yaml_of_bytes program bytes
+yaml_of_read program bytes trace read = ap (yaml_read program) (sym read)
+
+-- the document is put together of its header and its records
+pub yaml_of_parts : (program : Option Program) (bytes : List ℕ) (trace : Trace) (header : Header) (events : List ThreadEvent) → trace_of bytes ≡ Ok trace
+    → header ≡ trace.header → events ≡ thread_events trace.blocks
+    → (header_text header ++ records_text program events) ++ codes "...\n" ≡ yaml_of_bytes program bytes
+yaml_of_parts program bytes trace header events read same_header same_events =
+    ap (λ (h : Header). (header_text h ++ records_text program events) ++ codes "...\n") same_header
+    ∙ (ap (λ (es : List ThreadEvent). (header_text trace.header ++ records_text program es) ++ codes "...\n") same_events
+    ∙ yaml_of_read program bytes trace read)

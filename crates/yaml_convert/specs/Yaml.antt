@@ -1,12 +1,14 @@
 -- The YAML text of a trace.
-use Rattle.std.specs.Prelude.{◌++◌, Bool, true, false, ℕ, List, [], ◌∷◌, codes, decimal, Option}
+use Rattle.std.specs.Prelude.{◌++◌, Bool, true, false, ℕ, List, [], ◌∷◌, codes, decimal, Option, Result, Ok, Err}
 use Rattle.std.specs.List.{flat_map}
 use Rattle.fdr_record.specs.declared.event.Event.{Event}
 use Rattle.fdr_record.specs.declared.event.Kind.{Kind}
 use Rattle.fdr_record.specs.declared.event.Kind.TheVariants.{Entry, Exit, TailExit}
+use Rattle.fdr_file.specs.declared.fault.TraceFault.{TraceFault}
 use Rattle.fdr_file.specs.declared.header.Header.{Header}
 use Rattle.fdr_file.specs.declared.trace.Trace.{Trace}
 use Rattle.fdr_file.specs.ThreadEvents.{ThreadEvent, thread_events}
+use Rattle.fdr_file.specs.Traces.{trace_of}
 use Rattle.xray_image.specs.Program.{Program}
 use Rattle.function_names.specs.Name.{name_text}
 
@@ -50,3 +52,12 @@ records_text program events = records_start events ++ flat_map (event_line progr
 -- the header and a line for each event, block by block, between the marks of a YAML document
 abbrev pub yaml_text : Option Program → Trace → List ℕ
 yaml_text program trace = header_text trace.header ++ records_text program (thread_events trace.blocks) ++ codes "...\n"
+
+-- the same for the trace that was read, if there is one
+abbrev pub yaml_read : Option Program → Result Trace TraceFault → List ℕ
+yaml_read program (Ok trace) = yaml_text program trace
+yaml_read program (Err fault) = []
+
+-- the trace that bytes read as
+abbrev pub yaml_of_bytes : Option Program → List ℕ → List ℕ
+yaml_of_bytes program bytes = yaml_read program (trace_of bytes)

@@ -2,5 +2,7 @@
 #![tactic(auto)]
 
 mod yaml;
+mod yaml_bytes;
 
 pub use yaml::{YamlText, write_yaml};
+pub use yaml_bytes::{YamlBytes, write_yaml_bytes};

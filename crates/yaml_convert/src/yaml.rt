@@ -53,7 +53,7 @@ pub fn write_yaml<S: Sink>(
 }
 
 /// Adds the header.
-fn add_header<S: Sink>(text: &mut Text<S>, header: &Header) -> Result<(), WriteFault>
+pub(crate) fn add_header<S: Sink>(text: &mut Text<S>, header: &Header) -> Result<(), WriteFault>
     ensures { AddsText S.written S.faults S.along text.old text.new
         (header_text header.now) result }
 {
@@ -160,7 +160,7 @@ fn add_events<S: Sink>(
 }
 
 /// Adds the line of an event.
-fn add_event<S: Sink>(
+pub(crate) fn add_event<S: Sink>(
     text: &mut Text<S>,
     thread: u32,
     pid: u32,

@@ -1,17 +1,16 @@
 -- What is kept of each function while events are taken, for the contracts of private functions.
-use Rattle.std.specs.Prelude.{◌≡◌, ◌+◌, ◌-◌, ◌==◌, Bool, ℕ, List, [], ◌++◌, length, map, reverse, count_by, nat_eq, unwrap_or, is_some, Option}
+use Rattle.std.specs.Prelude.{◌≡◌, ◌+◌, ◌-◌, ◌==◌, Bool, ℕ, List, [], ◌++◌, length, map, count_by, nat_eq, unwrap_or, is_some, Option}
 use Rattle.std.specs.List.{list_any}
 use Rattle.std.specs.Option.{option_to_list}
 use Rattle.std.specs.HashMap.{get, HashMap}
 use Rattle.std.specs.declared.hash.FoldHasher.{FoldHasher}
 use Rattle.std.specs.declared.hash.BuildHasherDefault.{BuildHasherDefault}
-use Rattle.fdr_record.specs.declared.event.Event.{Event}
 use Rattle.fdr_record.specs.declared.event.Kind.{Kind}
 use Rattle.fdr_record.specs.declared.event.Kind.TheVariants.{Entry, Exit, TailExit}
 use Rattle.fdr_file.specs.ThreadEvents.{ThreadEvent}
 use Rattle.stack_rebuild.specs.declared.call.Pair.{Pair}
 use Rattle.stack_rebuild.specs.Calls.{Standing, standing_after}
-use Rattle.stack_rebuild.specs.Histories.{history_of_thread, thread_event}
+use Rattle.stack_rebuild.specs.Histories.{history_of_thread}
 use Rattle.account_report.specs.declared.row.AccountRow.{AccountRow}
 use Rattle.account_report.specs.Account.{durations_of, is_entry_of, is_exit_of, row_from}
 use Rattle.account_report.specs.Ascending.{ascending}
@@ -55,18 +54,10 @@ standing_in threads thread = unwrap_or (get nat_eq threads thread) (standing_aft
 abbrev pub has_event : List ThreadEvent → ℕ → Bool
 has_event history func = list_any (λ e. e.event.func == func) history
 
--- each thread is where its part of a history brings it
-pub record AreStanding (threads : Table Standing) (history : List ThreadEvent) : Type 0 where
-  pub each : (thread : ℕ) → standing_in threads thread ≡ standing_after (history_of_thread thread history)
-
 -- what is kept of the functions is what a history says of them
 pub record AreTallies (tallies : Table Tallied) (history : List ThreadEvent) : Type 0 where
   pub each : (func : ℕ) → tally_in tallies func ≡ tally_of history func
   pub present : (func : ℕ) → is_some (get nat_eq tallies func) ≡ has_event history func
-
--- a history that goes on with the events of a thread
-abbrev pub going_on : (thread pid : ℕ) → List Event → List ThreadEvent → List ThreadEvent
-going_on thread pid events history = reverse (map (thread_event thread pid) events) ++ history
 
 -- the calls of a thread and the tallies of the functions, after a history
 pub record Reached (thread : ℕ) (history : List ThreadEvent) (calls : Standing) (tallies : Table Tallied) : Type 0 where

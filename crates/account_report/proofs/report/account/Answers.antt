@@ -1,28 +1,24 @@
-use Rattle.std.proofs.Common.{◌≡◌, ◌∙◌, map, ℕ, List, Option, Some, ap, sym, subst, rules, nat_eq, unwrap_or}
-use Rattle.std.specs.Prelude.{IsPermutation}
-use Rattle.std.specs.Map.{lookup}
-use Rattle.std.specs.List.{IsDistinct}
-use Rattle.std.specs.List.Sorted.{IsNonDecreasingBy}
-use Rattle.std.proofs.lemmas.List.Sorted.{IsNonDecreasingBy-from_sort_by_key}
-use Rattle.stack_rebuild.specs.Histories.{history_of}
-use Rattle.account_report.specs.declared.row.AccountRow.{AccountRow}
-use Rattle.account_report.specs.private.Tallies.{Tallied, no_tally, tally_of}
-use Rattle.account_report.proofs.Rows.{own_rows, rows_sorted}
+use Rattle.std.proofs.Common.{◌≡◌, ◌+◌, ◌∙◌, ◌++◌, [], ◌∷◌, take, ap, sym, subst, arith}
+use Rattle.std.proofs.lemmas.List.{take_all, take_more}
+use Rattle.fdr_file.specs.declared.trace.Block.{Block}
+use Rattle.account_report.specs.private.Folding.{Folds}
 use Rattle.account_report.proofs.report.account.Goals as goal
+
+pub folding-preserved : goal.folding-preserved
+folding-preserved c =
+    let blocks = c.as_slice-block-items.result.now in
+    let i = c.folding.block-index in
+    let block = c.block-item.result in
+    let more : take (i + 1) blocks ≡ take i blocks ++ block ∷ [] =
+    take_more blocks i block (omega arith) ∙ ap (λ (b : Block). take i blocks ++ b ∷ []) (sym c.block-item.is) in
+    subst (Folds c.take_block.new.fold) (sym more) (c.in_ok-take_block.ensures (take i blocks) c.folding.invariant)
 
 pub returns-clause-rows : goal.returns-clause-rows
 returns-clause-rows c =
-    let history = history_of c.args.trace.now.blocks in
-    let es = c.in_ok-tallies.field-0.entries in
-    let rows = c.sort_unstable_by_key.new.self.items in
-    let told : (k : ℕ) (v : Tallied) → lookup (nat_eq k) es ≡ Some v → v ≡ tally_of history k =
-    λ k v found. sym (ap (λ (o : Option Tallied). unwrap_or o no_tally) found) ∙ c.in_ok-tallies.ensures.each k in
-    let up : IsNonDecreasingBy (λ (r : AccountRow). r.func) rows =
-    IsNonDecreasingBy-from_sort_by_key (λ (r : AccountRow). r.func) rows c.sort_unstable_by_key.ensures.sorted (λ a r q k. search rules) in
-    rows_sorted (record { apart = c.each_exit_ends_one_call.ensures.entries; whole = c.each_pair_is_a_whole_call.ensures }) history es rows c.in_ok-rows.ensures.unique told c.in_ok-tallies.ensures.present
-    (subst (λ (rs : List AccountRow). IsPermutation rs rows) c.in_ok-rows.ensures.rows c.sort_unstable_by_key.ensures.permutation) up
+    let blocks = c.as_slice-block-items.result.now in
+    c.in_ok-rows.ensures.rows c.args.trace.now.blocks
+    (subst (Folds c.folding.fold) (take_all c.folding.block-index blocks (omega arith) ∙ c.as_slice-block-items.ensures) c.folding.invariant)
 
 pub returns-clause-distinct : goal.returns-clause-distinct
 returns-clause-distinct c =
-    let rows = returns-clause-rows c in
-    subst (λ (rs : List AccountRow). IsDistinct nat_eq (map (λ (r : AccountRow). r.func) rs)) (sym rows) (own_rows (history_of c.args.trace.now.blocks))
+    c.in_ok-rows.ensures.distinct (take c.folding.block-index c.as_slice-block-items.result.now) c.folding.invariant

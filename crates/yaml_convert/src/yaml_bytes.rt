@@ -1,0 +1,91 @@
+//! The YAML text of a trace, from the bytes of its file.
+
+ghost use Rattle.std.specs.{Prelude.{◌≡◌, List, Ok}, List.{flat_map}, Option.{option_map}};
+ghost use Rattle.fdr_file.specs.declared.trace.Trace.{Trace};
+ghost use Rattle.fdr_file.specs.Traces.{trace_of};
+ghost use Rattle.fdr_file.specs.private.Cursor.{events_left};
+ghost use Rattle.xray_io.specs.{Text.{AddsText}, Writes.{WritesText}};
+ghost use Rattle.yaml_convert.specs.Yaml.{event_line, records_text, yaml_of_bytes, yaml_text};
+
+use crate::yaml::{add_event, add_header};
+use fdr_file::EventCursor;
+use xray_image::Image;
+use xray_io::{Printed, Sink, Text, WriteFault, write_text};
+
+/// The trace that bytes read as, as the YAML document that [`YamlText`](crate::YamlText) prints. No
+/// list of its events is made.
+///
+/// The bytes have to be a trace: `TraceScan` and `read_trace` of `fdr_file` say whether they are.
+#[derive(Clone, Copy, Debug)]
+pub struct YamlBytes<'a> {
+    /// The bytes of the file.
+    pub bytes: &'a [u8],
+    /// The image that names the functions of the events. If it has no name for one, or if there is no
+    /// image, `#` and the id are printed.
+    pub image: Option<&'a Image>,
+}
+
+impl Printed for YamlBytes<'_> {
+    ghost text = { λ yaml. yaml_of_bytes (option_map (λ image. image.now) yaml.image) yaml.bytes.now };
+
+    ghost ready = { λ yaml. (trace : Trace) × (trace_of yaml.bytes.now ≡ Ok trace) };
+
+    fn add_to<S: Sink>(&self, to: &mut Text<S>) -> Result<(), WriteFault> {
+        let mut cursor = EventCursor::new(self.bytes);
+        add_header(to, &cursor.header())?;
+        add_given(to, &mut cursor, self.image)?;
+        to.bytes(b"...\n")
+    }
+}
+
+/// Writes the trace that bytes read as, with the names that an image gives to its functions. The
+/// bytes have to be a trace. What is written is what `write_yaml` writes of it, but no list of its
+/// events is made. No memory is taken. After a `WriteFault` the sink was given a prefix of the text.
+pub fn write_yaml_bytes<S: Sink>(
+    bytes: &[u8],
+    image: Option<&Image>,
+    sink: &mut S,
+) -> Result<(), WriteFault>
+    requires { (trace : Trace) × (trace_of bytes.now ≡ Ok trace) }
+    ensures writes { (trace : Trace) → trace_of bytes.now ≡ Ok trace
+        → WritesText S.written S.faults S.along sink.old sink.new
+        (yaml_text (option_map (λ image. image.now) image.entry) trace) result }
+{
+    write_text(&YamlBytes { bytes, image }, sink)
+}
+
+/// Adds the records of the events that a cursor has still to give.
+fn add_given<S: Sink>(
+    text: &mut Text<S>,
+    cursor: &mut EventCursor,
+    image: Option<&Image>,
+) -> Result<(), WriteFault>
+    ensures { AddsText S.written S.faults S.along text.old text.new
+        (records_text (option_map (λ image. image.now) image.entry) (events_left cursor.old))
+        result }
+{
+    match cursor.next() {
+        None => text.bytes(b"records: []\n"),
+        Some((thread, pid, event)) => {
+            text.bytes(b"records:\n")?;
+            add_event(text, thread, pid, &event, image)?;
+            add_lines(text, cursor, image)
+        }
+    }
+}
+
+/// Adds the lines of these events.
+fn add_lines<S: Sink>(
+    text: &mut Text<S>,
+    cursor: &mut EventCursor,
+    image: Option<&Image>,
+) -> Result<(), WriteFault>
+    ensures { AddsText S.written S.faults S.along text.old text.new
+        (flat_map (event_line (option_map (λ image. image.now) image.entry))
+        (events_left cursor.old)) result }
+{
+    'lines: while let Some((thread, pid, event)) = cursor.next() {
+        add_event(text, thread, pid, &event, image)?;
+    }
+    Ok(())
+}
