@@ -37,6 +37,7 @@ mod soak;
 mod stack;
 mod stop;
 mod summary;
+mod trace_feed;
 mod traced;
 mod work;
 

@@ -18,14 +18,18 @@ pub record ImageTurn (image : Option (List ℕ)) (before after : DeskView) (resu
   pub later : before.read_faults ≤ mid.read_faults
   pub taken : IsMaybeTaken image_form image mid after result
 
--- both turns gave values; or one of them was a stop
-abbrev pub IsReportTaken : {X : Type 0} → Form X → (log : List ℕ) → (image : Option (List ℕ)) → (before after : DeskView)
-    → Result (ReportInputs X) Stop → Type 0
-IsReportTaken form log image before after (Ok inputs) =
-    Gives form (before.held log) inputs.log × ImageTurn image before after (Ok inputs.image)
-IsReportTaken {X} form log image before after (Err stop) =
+-- both turns gave values, that of the log one that says something of what the log reads as; or one of them was a stop
+abbrev pub IsReportTaken : {V X : Type 0} → Form X → (means : V → X → Type 0) → (log : List ℕ) → (image : Option (List ℕ)) → (before after : DeskView)
+    → Result (ReportInputs V) Stop → Type 0
+IsReportTaken {V} {X} form means log image before after (Ok inputs) =
+    (meant : X) × means inputs.log meant × Gives form (before.held log) meant × ImageTurn image before after (Ok inputs.image)
+IsReportTaken {V} {X} form means log image before after (Err stop) =
     IsTaken form log before after (Err stop)
-    ⊎ ((value : X) × Gives form (before.held log) value × ImageTurn image before after (Err stop))
+    ⊎ ((meant : X) × Gives form (before.held log) meant × ImageTurn image before after (Err stop))
+
+-- what comes of the inputs, whatever of this the value of the log is said of
+abbrev pub ComesOfMeant : {V X : Type 0} → (means : V → X → Type 0) → (next : X → Option Program → Outcome → Type 0) → ReportInputs V → Outcome → Type 0
+ComesOfMeant {V} {X} means next inputs outcome = (meant : X) → means inputs.log meant → next meant inputs.image outcome
 
 -- what comes of the inputs if one of them is a stop, and nothing follows
 abbrev pub StopsReport : {X : Type 0} → Form X → DeskReads → (List ℕ → Entry) → (log : List ℕ) → (image : Option (List ℕ)) → Outcome → Type 0
