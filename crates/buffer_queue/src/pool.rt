@@ -1,6 +1,7 @@
 //! The pool.
 
 ghost use Rattle.std.specs.Prelude.{◌≡◌, ◌<◌, ◌≤◌, ◌+◌, ◌-◌, ◌^◌, IfOk, length, true, vec_capacity, vec_len};
+ghost use Rattle.machine_step.specs.Setups.{IsSetup};
 ghost use Rattle.buffer_queue.specs.Left.{AddsLeft};
 ghost use Rattle.buffer_queue.specs.Passes.{sealed_of, sealing, AreNew, AreOf, IsOf};
 
@@ -9,7 +10,7 @@ use crate::law::Queue;
 use crate::pass::PoolPass;
 use crate::stocking::{first_pass, give_all, head_pass, stock_all};
 use crate::turning::{put, take};
-use fdr_buffer::{Buffer, LARGEST_SIZE, LEAST_SIZE};
+use fdr_buffer::Buffer;
 use machine_step::Setup;
 use std::alloc::Global;
 use std::marker::Model;
@@ -45,10 +46,7 @@ impl Pool {
         alloc: Global,
         setup: &Setup,
     ) -> Result<(Pool, Vec<(PoolPass, Buffer)>), NoMemory>
-        requires threads { 1 ≤ setup.now.threads }
-        requires enough { setup.now.threads ≤ setup.now.max }
-        requires least { LEAST_SIZE ≤ setup.now.size }
-        requires most { setup.now.size ≤ LARGEST_SIZE }
+        requires { IsSetup setup.now }
         ensures setup { IfOk result (λ made. made.0.setup ≡ setup.now) }
         ensures hands { IfOk result (λ made. AreNew made.0 1 setup.now.threads made.1.items) }
     {

@@ -1,7 +1,8 @@
 //! How a pool begins: fresh buffers are queued, and each thread gets a pass and a buffer.
 
-ghost use Rattle.std.specs.Prelude.{◌≡◌, ◌<◌, ◌≤◌, ◌+◌, ◌-◌, IfOk};
+ghost use Rattle.std.specs.Prelude.{◌≡◌, ◌<◌, ◌+◌, ◌-◌, IfOk};
 ghost use Rattle.crossbeam_queue.specs.Passes.{view, IsPassOf, IsSamePass, ruled_capacity};
+ghost use Rattle.machine_step.specs.Setups.{IsSetup};
 ghost use Rattle.buffer_queue.specs.Passes.{new_pass, AreNew};
 ghost use Rattle.buffer_queue.specs.private.{Ready.{pass_is, pool_is}, Steps.{MayGive, MayStock}};
 ghost use Rattle.buffer_queue.specs.Views.{opener};
@@ -11,7 +12,7 @@ use crate::law::{Gives, Opening, Opens, Queue, Stocks};
 use crate::pass::PoolPass;
 use crate::view::View;
 use crossbeam_queue::Pass;
-use fdr_buffer::{Buffer, LARGEST_SIZE, LEAST_SIZE};
+use fdr_buffer::Buffer;
 use machine_step::Setup;
 use std::alloc::Global;
 use std::marker::Brand;
@@ -23,8 +24,7 @@ fn open<O: Opening>(queue: &Queue, unused: Pass<Buffer, View>, setup: &Setup) ->
     requires queue { IsPassOf queue.now unused }
     requires view { view unused ≡ opener }
     requires picked { O.setup ≡ setup.now }
-    requires threads { 1 ≤ setup.now.threads }
-    requires enough { setup.now.threads ≤ setup.now.max }
+    requires setup { IsSetup setup.now }
     ensures queue { IsPassOf queue.now result }
     ensures head { view result ≡ head_view setup.now 1 0 }
 {
@@ -42,8 +42,7 @@ pub(crate) fn head_pass(
 ) -> Pass<Buffer, View>
     requires queue { IsPassOf queue.now unused }
     requires view { view unused ≡ opener }
-    requires threads { 1 ≤ setup.now.threads }
-    requires enough { setup.now.threads ≤ setup.now.max }
+    requires setup { IsSetup setup.now }
     ensures queue { IsPassOf queue.now result }
     ensures head { view result ≡ head_view setup.now 1 0 }
 {
@@ -75,9 +74,7 @@ pub(crate) fn stock_all<R: Wait>(
     requires queue { IsPassOf queue.now head }
     requires head { view head ≡ head_view setup.now 1 0 }
     requires room { ruled_capacity queue.now ≡ setup.now.max }
-    requires enough { setup.now.threads ≤ setup.now.max }
-    requires least { LEAST_SIZE ≤ setup.now.size }
-    requires most { setup.now.size ≤ LARGEST_SIZE }
+    requires setup { IsSetup setup.now }
     ensures queue { IfOk result (λ pass. IsPassOf queue.now pass) }
     ensures head { IfOk result (λ pass. view pass ≡ head_view setup.now 1 (setup.now.max - setup.now.threads)) }
 {
@@ -112,10 +109,7 @@ pub(crate) fn give_all(
 ) -> Result<Vec<(PoolPass, Buffer)>, NoMemory>
     requires queue { IsPassOf queue.now head.old }
     requires head { view head.old ≡ head_view setup.now 1 (setup.now.max - setup.now.threads) }
-    requires threads { 1 ≤ setup.now.threads }
-    requires enough { setup.now.threads ≤ setup.now.max }
-    requires least { LEAST_SIZE ≤ setup.now.size }
-    requires most { setup.now.size ≤ LARGEST_SIZE }
+    requires setup { IsSetup setup.now }
     ensures queue { IfOk result (λ hands. IsSamePass head.old head.new) }
     ensures head { IfOk result (λ hands.
         view head.new ≡ head_view setup.now setup.now.threads (setup.now.max - setup.now.threads)) }
@@ -135,7 +129,7 @@ pub(crate) fn give_all(
 pub(crate) fn first_pass(queue: &Queue, head: Pass<Buffer, View>, setup: &Setup) -> PoolPass
     requires queue { IsPassOf queue.now head }
     requires head { view head ≡ head_view setup.now setup.now.threads (setup.now.max - setup.now.threads) }
-    requires enough { setup.now.threads ≤ setup.now.max }
+    requires setup { IsSetup setup.now }
     ensures { result ≡ new_pass (pool_is queue.now.table.shared.table_id setup.now) 1 }
 {
     // Only the contract reads the setup.

@@ -1,5 +1,6 @@
 -- The limits of what options say.
 use Rattle.std.specs.Prelude.{ℕ}
+use Rattle.fdr_buffer.specs.declared.buffer.TheConstants.{TRACE_LIMIT}
 
 -- the most threads
 abbrev pub most_threads : ℕ
@@ -27,4 +28,4 @@ most_pid = 2147483647
 
 -- the most bytes of a trace file
 abbrev pub trace_limit : ℕ
-trace_limit = 67108864
+trace_limit = TRACE_LIMIT

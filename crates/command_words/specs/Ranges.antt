@@ -2,6 +2,7 @@
 -- threads' limits.
 use Rattle.std.specs.Prelude.{◌≢◌, ◌+◌, ◌*◌, ◌≤◌, ◌<◌, ◌^◌, ℕ, IfSome}
 use Rattle.fdr_buffer.specs.declared.buffer.TheConstants.{LARGEST_SIZE, LEAST_SIZE, MOST_BUFFERS}
+use Rattle.fdr_buffer.specs.Times.{IsTime}
 use Rattle.command_words.specs.declared.run_options.Bounds.{Bounds}
 use Rattle.command_words.specs.declared.run_options.Buffers.{Buffers}
 use Rattle.command_words.specs.declared.run_options.RunOptions.{RunOptions}
@@ -21,6 +22,7 @@ pub record AreBounds (bounds : Bounds) : Type 0 where
 
 -- passings may be stamped in this way
 pub record AreStamps (stamps : Stamps) : Type 0 where
+  pub counter : (stamps.tick < 2 ^ 64) × (stamps.tsc < 2 ^ 64) × (stamps.frequency < 2 ^ 64)
   pub cpus : (1 ≤ stamps.cpus) × (stamps.cpus ≤ most_cpus)
   pub migrate : (1 ≤ stamps.migrate) × (stamps.migrate ≤ most_stay)
 
@@ -38,6 +40,7 @@ pub record AreRunOptions (options : RunOptions) : Type 0 where
   pub enough : options.bounds.threads ≤ options.buffers.max
   pub room : options.buffers.max * (options.buffers.size + 16) + 32 ≤ trace_limit
   pub pid : options.pid ≤ most_pid
+  pub wall : IsTime options.wall
 
 -- all that a command holds is in its range, and no two outputs have the same name
 abbrev pub HasRanges : Command → Type 0

@@ -1,5 +1,6 @@
 //! The options of the commands that run threads.
 ghost use Rattle.std.specs.Prelude.{◌≡◌, IfSome};
+ghost use Rattle.fdr_buffer.specs.Times.{IsTime};
 ghost use Rattle.command_words.specs.Ranges.{AreBounds, AreBuffers, AreRunOptions, AreStamps};
 ghost use Rattle.command_words.specs.private.CodeViews.{line_view};
 ghost use Rattle.command_words.specs.Words.{bounds_in, buffers_in, have_room, run_options_in, stamps_in, wall_in};
@@ -9,10 +10,8 @@ use crate::tables::{
     BUFFER_MAX, BUFFER_SIZE, CPUS, FREQUENCY, FUEL, MIGRATE, PASSINGS, PID, THREADS, TICK, TSC,
     WALL,
 };
+use fdr_buffer::TRACE_LIMIT;
 use xray_io::Wall;
-
-/// The most bytes that a trace file may have.
-pub const TRACE_LIMIT: u64 = 67_108_864;
 
 /// How many bytes of a trace file come before its buffers: its header (`HEADER_BYTES` of `fdr_file`).
 const HEADER_BYTES: u64 = 32;
@@ -125,7 +124,9 @@ fn buffers_in(line: &Line<'_>) -> Option<Buffers>
 /// The wall time that the line gives, or else the one that is passed in. `None` if the value isn't
 /// a number of seconds.
 fn wall_in(wall: Wall, line: &Line<'_>) -> Option<Wall>
-    ensures { result ≡ wall_in wall (line_view line.now) }
+    requires { IsTime wall }
+    ensures reads { result ≡ wall_in wall (line_view line.now) }
+    ensures time { IfSome result IsTime }
 {
     match line.value(WALL.name) {
         Some(value) => {
@@ -139,6 +140,7 @@ fn wall_in(wall: Wall, line: &Line<'_>) -> Option<Wall>
 /// All options of a run. It begins at this wall time, unless the line gives another. `None` if a
 /// value isn't allowed, or if the buffers don't fit.
 pub(crate) fn run_options_in(wall: Wall, line: &Line<'_>) -> Option<RunOptions>
+    requires { IsTime wall }
     ensures reads { result ≡ run_options_in wall (line_view line.now) }
     ensures ranges { IfSome result AreRunOptions }
 {

@@ -1,5 +1,6 @@
 //! The command that a command line says.
 ghost use Rattle.std.specs.Prelude.{◌≡◌, IfOk, IfSome, option_map, true};
+ghost use Rattle.fdr_buffer.specs.Times.{IsTime};
 ghost use Rattle.command_words.specs.{Items.{texts}, Lines.{outputs_differ}, Ranges.{HasRanges}};
 ghost use Rattle.command_words.specs.{Tables.{run_row, sim_row}, Views.{command_view}, Words.{reading, run_in, sim_in}};
 ghost use Rattle.command_words.specs.private.CodeViews.{line_view, row_view};
@@ -104,7 +105,8 @@ pub enum Command<'a> {
 }
 
 /// The command that words say at a wall time, or `None` if they say none. The words are those after
-/// the program's own name. A run begins at the wall time, unless the words say another.
+/// the program's own name. A run begins at the wall time, unless the words say another. The
+/// microseconds of the wall time are below 1,000,000.
 ///
 /// # Errors
 /// `AllocError` means that an allocation was refused. There are no other errors.
@@ -113,6 +115,7 @@ pub fn read_words<'a>(
     wall: Wall,
     words: &'a [String],
 ) -> Result<Option<Command<'a>>, AllocError>
+    requires { IsTime wall }
     ensures reads { IfOk result (λ said. option_map command_view said ≡ reading wall (texts words.entry.now)) }
     ensures ranges { IfOk result (λ said. IfSome (option_map command_view said) HasRanges) }
 {
@@ -206,7 +209,8 @@ impl Verb {
 
 /// The command that a line of the verb says. `None` if it lacks a file, or if a value isn't allowed.
 fn command_in<'a>(verb: Verb, wall: Wall, line: &Line<'a>) -> Option<Command<'a>>
-    requires { outputs_differ (row_by verb).files (line_view line.now).files ≡ true }
+    requires outputs { outputs_differ (row_by verb).files (line_view line.now).files ≡ true }
+    requires wall { IsTime wall }
     ensures reads { option_map command_view result ≡ command_by verb wall (line_view line.now) }
     ensures ranges { IfSome (option_map command_view result) HasRanges }
 {
@@ -246,7 +250,8 @@ fn command_in<'a>(verb: Verb, wall: Wall, line: &Line<'a>) -> Option<Command<'a>
 
 /// The replay that a line asks for. `None` if it lacks a file, or if a value isn't allowed.
 fn sim_in<'a>(wall: Wall, line: &Line<'a>) -> Option<Command<'a>>
-    requires { outputs_differ sim_row.files (line_view line.now).files ≡ true }
+    requires outputs { outputs_differ sim_row.files (line_view line.now).files ≡ true }
+    requires wall { IsTime wall }
     ensures reads { option_map command_view result ≡ sim_in wall (line_view line.now) }
     ensures ranges { IfSome (option_map command_view result) HasRanges }
 {
@@ -265,7 +270,8 @@ fn sim_in<'a>(wall: Wall, line: &Line<'a>) -> Option<Command<'a>>
 
 /// The run that a line asks for. `None` if it lacks a file, or if a value isn't allowed.
 fn run_in<'a>(wall: Wall, line: &Line<'a>) -> Option<Command<'a>>
-    requires { outputs_differ run_row.files (line_view line.now).files ≡ true }
+    requires outputs { outputs_differ run_row.files (line_view line.now).files ≡ true }
+    requires wall { IsTime wall }
     ensures reads { option_map command_view result ≡ run_in wall (line_view line.now) }
     ensures ranges { IfSome (option_map command_view result) HasRanges }
 {

@@ -21,6 +21,9 @@ pub const LARGEST_SIZE: u32 = 1_048_576;
 /// The most buffers of a run.
 pub const MOST_BUFFERS: u32 = 1_024;
 
+/// The most bytes of a trace file, which holds all buffers of a run.
+pub const TRACE_LIMIT: u64 = 67_108_864;
+
 /// The bytes of one segment of a thread's events. First comes a preamble: the thread, a wall time
 /// and the process, as `begin` was given them. The records of the events follow. LLVM's
 /// `xray_fdr_controller.h` fills its buffers with the same kinds of records. The size of a buffer

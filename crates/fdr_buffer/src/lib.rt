@@ -9,5 +9,5 @@ mod laws;
 mod lead;
 mod writing;
 
-pub use buffer::{Buffer, LARGEST_SIZE, LEAST_SIZE, MOST_BUFFERS};
+pub use buffer::{Buffer, LARGEST_SIZE, LEAST_SIZE, MOST_BUFFERS, TRACE_LIMIT};
 pub use laws::{a_body_has_room, a_segment_grows, one_event_fits, segments_hold_all};

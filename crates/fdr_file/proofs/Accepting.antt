@@ -92,11 +92,12 @@ block_clean Three at block records inner based =
 -- ---- blocks
 
 -- what a block's bytes are, if others follow
-record Stands (version : Version) (bytes : List ℕ) (at : ℕ) (block : Block) (following : List ℕ) : Type 0 where
-  some : 0 < length bytes
-  clean : block_faults version (at, bytes) ≡ []
-  told : block_in (at, bytes) ≡ block
-  rest : drop (block_length bytes) bytes ≡ following
+pub record Stands (version : Version) (bytes : List ℕ) (at : ℕ) (block : Block) (following : List ℕ) : Type 0 where
+  pub some : 0 < length bytes
+  pub clean : block_faults version (at, bytes) ≡ []
+  pub told : block_in (at, bytes) ≡ block
+  pub size : length bytes ≡ block_length bytes + length following
+  pub rest : drop (block_length bytes) bytes ≡ following
 
 -- a preamble has its full length
 naming_long : (block : Block) (item : PreambleItem) → length_of (naming block item) ≡ 16
@@ -109,7 +110,7 @@ preamble_long block [] records bytes is = omega arith
 preamble_long block (item ∷ items) records bytes (front, following, parts, fits, spells, rest) =
     omega (arith, ap length parts, length-append front following, spells.whole, naming_long block item, preamble_long block items records following rest)
 
-block_stands : (version : Version) (bytes following : List ℕ) (at : ℕ) (block : Block) → IsBlock version bytes block → Stands version (bytes ++ following) at block following
+pub block_stands : (version : Version) (bytes following : List ℕ) (at : ℕ) (block : Block) → IsBlock version bytes block → Stands version (bytes ++ following) at block following
 block_stands version bytes following at block is =
     let n = length is.body in
     let all = is.extents ++ (is.body ++ following) in
@@ -131,6 +132,7 @@ block_stands version bytes following at block is =
       some = omega arith;
       clean = rw (long, found, least, whole, standing) inner;
       told = rw (standing, stand_records (at + 16) records) (sym is.told);
+      size = omega (arith, size, named);
       rest = ap (λ (k : ℕ). drop (16 + k) all) named ∙ sym (drop-drop n 16 all) ∙ ap (drop n) body ∙ drop_at is.body following n refl;
     })
 
@@ -165,10 +167,10 @@ version_fits number version is = by_number (eqb number 3) refl is
     by_number true e h = omega (arith, eqb-true number 3 e)
     by_number false e h = absurd cc
 
-abbrev Reads : Version → Header → List ℕ → List ℕ → Type 0
+abbrev pub Reads : Version → Header → List ℕ → List ℕ → Type 0
 Reads version header following bytes = HasHeader bytes version × (header_in bytes ≡ header) × (drop 32 bytes ≡ following)
 
-header_reads : (version : Version) (bytes following : List ℕ) (header : Header) → IsHeader version bytes header → Reads version header following (bytes ++ following)
+pub header_reads : (version : Version) (bytes following : List ℕ) (header : Header) → IsHeader version bytes header → Reads version header following (bytes ++ following)
 header_reads version bytes following header is =
     let rest = is.reserved ++ following in
     let all = little_bytes 2 header.version ++ (little_bytes 2 1 ++ (little_bytes 4 is.flags ++ (little_bytes 8 header.frequency ++ (little_bytes 8 header.size ++ rest)))) in

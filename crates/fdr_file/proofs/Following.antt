@@ -33,7 +33,7 @@ use Rattle.fdr_file.specs.private.Scan.{Advances, CanTell, HasLast, IsBegun, IsO
 use Rattle.fdr_file.specs.Scanning.{Scanned, after_wall, blocks_given, empty_block, inside_next, last_longer, longer_block, record_within, scan_start, scanned, scanned_ends, scanned_from, scanned_next, scanned_on, stage_after, stage_ends, stage_judged, stage_within, step_on, told_event, version_read, with_blocks, with_told}
 use Rattle.fdr_file.proofs.Agreeing.{run_agrees}
 use Rattle.fdr_file.proofs.Deciding.{versioned}
-use Rattle.fdr_file.proofs.Memory.{never_memory}
+use Rattle.fdr_file.proofs.PartFaults.{never_memory}
 use Rattle.fdr_file.proofs.Steps.{at_stage, longer_last, reads_first, reads_none}
 use Rattle.fdr_file.proofs.TraceRows.{header_first}
 use Rattle.fdr_file.proofs.Walking.{length_some}
@@ -42,7 +42,7 @@ use Rattle.fdr_file.proofs.Whole.{cut_is_short, field_again, length_again, numbe
 -- ---- headers
 
 -- a whole header is the same, whatever follows it
-header_again : (bytes rest : List ℕ) → length bytes ≡ 32 → header_on (bytes ++ rest) ≡ header_on bytes
+pub header_again : (bytes rest : List ℕ) → length bytes ≡ 32 → header_on (bytes ++ rest) ≡ header_on bytes
 header_again bytes rest whole =
     rw (
       le-ltb (length (bytes ++ rest)) 32 (omega (arith, length-append bytes rest, whole)),
@@ -78,7 +78,7 @@ unheaded bytes fault is = by_version (version_read bytes) refl (sym (header_firs
     by_version (Err f) e h = e ∙ cc
 
 -- no header
-short_given : (bytes : List ℕ) → length bytes < 32 → version_read bytes ≡ Err (faults.Short 0)
+pub short_given : (bytes : List ℕ) → length bytes < 32 → version_read bytes ≡ Err (faults.Short 0)
 short_given bytes few = rw (lt-ltb (length bytes) 32 few) refl
 
 no_blocks : (bytes : List ℕ) (fault : TraceFault) → version_read bytes ≡ Err fault → blocks_given bytes ≡ []
@@ -158,7 +158,7 @@ cut_says version (Within span inside) at len = elim (cases_Bool (ltb span.end (a
 -- ---- records
 
 -- a record that is whole
-step_whole : (version : Version) (s : Scanned) (at : ℕ) (w rest : List ℕ) → 0 < length w → length w ≡ record_length w
+pub step_whole : (version : Version) (s : Scanned) (at : ℕ) (w rest : List ℕ) → 0 < length w → length w ≡ record_length w
     → scanned_on version s at (w ++ rest) ≡ scanned_on version (scanned_next version s at w) (at + length w) rest
 step_whole version s at w rest some whole =
     let next : ℕ → Result Rec RecFault → Scanned = λ n a. let said = stage_judged version s.stage at n a in record { stage = said.0; blocks = with_told said.1 s.blocks } in
@@ -170,7 +170,7 @@ step_whole version s at w rest some whole =
     ∙ ap (λ (n : ℕ). scanned_on version (next n (record_in w)) (at + length w) rest) whole
 
 -- a record that is cut off
-step_cut : (version : Version) (s : Scanned) (at : ℕ) (w : List ℕ) → 0 < length w → length w < record_length w → scanned_on version s at w ≡ scanned_next version s at w
+pub step_cut : (version : Version) (s : Scanned) (at : ℕ) (w : List ℕ) → 0 < length w → length w < record_length w → scanned_on version s at w ≡ scanned_next version s at w
 step_cut version s at w some cut =
     reads_first version s at w some
     ∙ ap (λ (x : List ℕ). scanned_on version (scanned_next version s at w) (at + record_length w) x) (drop_of_length-le w (omega arith))

@@ -6,10 +6,12 @@ pub mod Gathered
 pub mod Accepting
 pub mod Returning
 pub mod Described
-pub mod Memory
+pub mod PartFaults
 pub mod Whole
 pub mod Steps
 pub mod Agreeing
 pub mod Following
 mod Flags
 pub mod Cursoring
+pub mod LongestPrefix
+pub mod TracePrefixes

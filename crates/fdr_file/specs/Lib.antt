@@ -5,4 +5,5 @@ pub mod ThreadEvents
 pub mod Files
 pub mod Grammar
 pub mod Scanning
+pub mod Prefixes
 pub mod private

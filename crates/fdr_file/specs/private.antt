@@ -4,3 +4,4 @@ pub mod Faults
 pub mod Reading
 pub mod Scan
 pub mod Cursor
+pub mod Prefixes

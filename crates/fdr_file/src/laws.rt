@@ -1,12 +1,14 @@
 //! Laws of the bytes of files. Each law is the contract of a function that does nothing.
 
-ghost use Rattle.std.specs.Prelude.{◌≡◌, ◌≢◌, ◌<◌, [], List, ℕ, All, Ok, Err, length};
+ghost use Rattle.std.specs.Prelude.{◌≡◌, ◌≢◌, ◌<◌, ◌≤◌, ◌++◌, [], List, ℕ, All, Ok, Err, Some, length, slice_index, take};
 ghost use Rattle.fdr_buffer.specs.Filled.{Filled};
 ghost use Rattle.fdr_record.specs.Refusals.{Answers};
 ghost use Rattle.fdr_file.specs.declared.header.Header.{Header};
-ghost use Rattle.fdr_file.specs.declared.trace.Trace.{Trace};
+ghost use Rattle.fdr_file.specs.declared.trace.{Block.{Block}, Trace.{Trace}};
+ghost use Rattle.fdr_file.specs.declared.version.Version.{Version};
 ghost use Rattle.fdr_file.specs.Files.{file_bytes, trace_told, BlockFits, HeaderFits};
-ghost use Rattle.fdr_file.specs.{Grammar.{IsTrace}, Traces.{header_in, record_in, trace_of}};
+ghost use Rattle.fdr_file.specs.{Grammar.{IsBlock, IsTrace}, Traces.{header_in, record_in, trace_of, version_of}};
+ghost use Rattle.fdr_file.specs.Prefixes.{first_blocks, longer_trace, trace_ends};
 ghost use Rattle.fdr_file.specs.Scanning.{blocks_given, scanned, scanned_ends};
 
 use crate::TraceFault;
@@ -60,4 +62,25 @@ pub fn a_file_is_read_by_records()
     ensures given { (bytes : List ℕ) (trace : Trace) → trace_of bytes ≡ Ok trace
         → blocks_given bytes ≡ trace.blocks }
     ensures none { blocks_given [] ≡ [] }
+{}
+
+/// A trace followed by a block of its version is a trace, with one more block.
+pub fn a_block_may_follow()
+    ensures { (version : Version) (bytes : List ℕ) (trace : Trace) (more : List ℕ) (block : Block)
+        → IsTrace bytes trace → version_of trace.header.version ≡ Some version
+        → IsBlock version more block → IsTrace (bytes ++ more) (longer_trace trace block) }
+{}
+
+/// The prefixes of a trace that are traces are those that end where its header or one of its blocks
+/// ends. Such a prefix has the trace's header and the first of its blocks.
+pub fn prefixes_end_with_blocks()
+    ensures within { (bytes : List ℕ) (trace : Trace) (count : ℕ) → IsTrace bytes trace
+        → count ≤ length trace.blocks → slice_index (trace_ends bytes) count ≤ length bytes }
+    ensures trace { (bytes : List ℕ) (trace : Trace) (count : ℕ) → IsTrace bytes trace
+        → count ≤ length trace.blocks
+        → IsTrace (take (slice_index (trace_ends bytes) count) bytes) (first_blocks count trace) }
+    ensures only { (bytes : List ℕ) (trace : Trace) (len : ℕ) (part : Trace)
+        → IsTrace bytes trace → len ≤ length bytes → IsTrace (take len bytes) part
+        → let count = length part.blocks in (count ≤ length trace.blocks)
+        × (len ≡ slice_index (trace_ends bytes) count) × (part ≡ first_blocks count trace) }
 {}

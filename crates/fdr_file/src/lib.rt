@@ -9,6 +9,7 @@ mod events;
 mod fault;
 mod header;
 mod laws;
+mod longest;
 mod preamble;
 mod prefix;
 mod reading;
@@ -24,9 +25,10 @@ pub use cursor::EventCursor;
 pub use fault::TraceFault;
 pub use header::Header;
 pub use laws::{
-    a_file_is_read_by_records, a_file_reads_back, a_place_is_decoded, a_trace_is_read,
-    no_bytes_are_out_of_memory, what_is_read_is_a_trace,
+    a_block_may_follow, a_file_is_read_by_records, a_file_reads_back, a_place_is_decoded,
+    a_trace_is_read, no_bytes_are_out_of_memory, prefixes_end_with_blocks, what_is_read_is_a_trace,
 };
+pub use longest::readable;
 pub use reading::read_trace;
 pub use scan::TraceScan;
 pub use taker::{KeepNothing, Taker};

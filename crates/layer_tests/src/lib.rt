@@ -25,6 +25,8 @@ mod event_traces;
 #[cfg(test)]
 mod fault_texts;
 #[cfg(test)]
+mod fed_traces;
+#[cfg(test)]
 mod image_files;
 #[cfg(test)]
 mod images;
@@ -50,5 +52,7 @@ mod scripts;
 mod setups;
 #[cfg(test)]
 mod sled_values;
+#[cfg(test)]
+mod stack_folds;
 #[cfg(test)]
 mod trace_files;

@@ -1,6 +1,7 @@
 //! Calls of `buffer_queue`: threads that seal segments in one pool.
 
-ghost use Rattle.std.specs.Prelude.{◌≡◌, ◌<◌, ◌+◌, ◌^◌, length};
+ghost use Rattle.std.specs.Prelude.{◌≡◌, ◌<◌, ◌≤◌, ◌+◌, ◌^◌, length};
+ghost use Rattle.machine_step.specs.Setups.{IsSetup};
 ghost use Rattle.buffer_queue.specs.Passes.{IsOf, new_hand};
 
 use buffer_queue::{Pool, PoolPass};
@@ -15,6 +16,9 @@ use xray_io::Wall;
 
 /// A setup with small buffers.
 fn setup_of(threads: u32, max: u32) -> Setup
+    requires threads { (1 ≤ threads) × (threads ≤ 16) }
+    requires max { (threads ≤ max) × (max ≤ 1_024) }
+    ensures setup { IsSetup result }
     ensures threads { result.threads ≡ threads }
     ensures max { result.max ≡ max }
     ensures size { result.size ≡ 128 }

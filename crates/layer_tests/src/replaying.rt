@@ -1,6 +1,8 @@
 //! Calls of `step_sim` that allocate, at limits and at sizes between them: with enough memory they
 //! answer. `whole_runs` has replays, and what is refused.
 
+ghost use Rattle.machine_step.specs.Setups.{IsSetup};
+
 use crate::checks::check_same_list;
 use crate::draws::draw;
 use crate::setups::{DEFAULT_LIMITS, DEFAULT_SETUP};
@@ -22,17 +24,36 @@ const TRACED: &[u8] = b"patch\nset_handler\ninit\ngo";
 /// The most bytes that the buffers of a replay have together.
 const ROOM: u32 = 67_108_864;
 
+/// The default setup with other numbers, which a command allows.
+fn setup_with(rt: &impl Abort, threads: u32, size: u32, max: u32, passings: u32) -> Setup
+    ensures { IsSetup result }
+{
+    assert!(rt; threads >= 1 && threads <= 16);
+    assert!(rt; size >= 72 && size <= 1_048_576);
+    assert!(rt; threads <= max && max <= 1_024);
+    assert!(rt; max * (size + 16) + 32 <= ROOM);
+    assert!(rt; passings <= 1_048_576);
+    Setup {
+        threads,
+        size,
+        max,
+        limits: Limits {
+            passings,
+            ..DEFAULT_LIMITS
+        },
+        ..DEFAULT_SETUP
+    }
+}
+
 /// What a replay of traced threads leaves, with a setup that a command allows and no schedule.
 fn replay_of<'a>(
     rt: &impl Abort,
     alloc: Global,
     steps: &'a Steps<'a>,
     setup: &Setup,
-) -> Result<SimEnd<'a>, Fail> {
-    assert!(rt; setup.threads >= 1 && setup.threads <= 16);
-    assert!(rt; setup.limits.cpus > 0 && setup.limits.migrate > 0);
-    assert!(rt; setup.size >= 72 && setup.size <= 1_048_576);
-    assert!(rt; setup.threads <= setup.max && setup.max <= 1_024);
+) -> Result<SimEnd<'a>, Fail>
+    requires { IsSetup setup.now }
+{
     assert!(rt; count_lines(TRACED) < 100);
     let script = read_script(alloc, TRACED, steps.image(), setup.threads)?;
     let schedule = read_schedule(alloc, b"", setup.threads)?;
@@ -40,7 +61,9 @@ fn replay_of<'a>(
 }
 
 /// Whether all threads of a replay with this setup return. A thread makes two passings.
-fn all_return(rt: &impl Abort, alloc: Global, setup: &Setup) -> Result<bool, Fail> {
+fn all_return(rt: &impl Abort, alloc: Global, setup: &Setup) -> Result<bool, Fail>
+    requires { IsSetup setup.now }
+{
     let image = read_image(alloc, &OUTPUTS_AN_A)?;
     let steps = Steps::new(alloc, &image)?;
     let end = replay_of(rt, alloc, &steps, setup)?;
@@ -66,12 +89,7 @@ fn replays_and_schedules_of_each_size_are_made(rt: HostRuntime) -> Result<(), Fa
         (16, 65_519, 1_024),
         (1, 1_048_576, 63),
     ] {
-        let setup = Setup {
-            threads,
-            size,
-            max,
-            ..DEFAULT_SETUP
-        };
+        let setup = setup_with(&rt, threads, size, max, DEFAULT_LIMITS.passings);
         assert!(rt; all_return(&rt, alloc, &setup)?);
     }
     // As many lines as there may be.
@@ -84,16 +102,7 @@ fn replays_and_schedules_of_each_size_are_made(rt: HostRuntime) -> Result<(), Fa
         let size = 72 + draw(&mut seed, 65_536);
         let max = (16 + draw(&mut seed, 1_009)).min(ROOM / 4 / size);
         let passings = 2 + draw(&mut seed, 1_048_575);
-        let setup = Setup {
-            threads,
-            size,
-            max,
-            limits: Limits {
-                passings,
-                ..DEFAULT_LIMITS
-            },
-            ..DEFAULT_SETUP
-        };
+        let setup = setup_with(&rt, threads, size, max, passings);
         assert!(rt; all_return(&rt, alloc, &setup)?);
         assert!(rt; reads_all_lines(alloc, draw(&mut seed, 16_384))?);
     }

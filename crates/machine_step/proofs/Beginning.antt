@@ -8,7 +8,7 @@ use Rattle.machine_step.specs.declared.end.End.{End}
 use Rattle.machine_step.specs.declared.stand.Stand.{Stand}
 use Rattle.machine_step.specs.declared.stand.Stand.TheVariants.{Gate, Loading, Ended}
 use Rattle.machine_step.specs.PlainStep.{State, Passing, PlainRun, opening, passing_at}
-use Rattle.machine_step.specs.private.Inside.{traced, want_at, IsSetUp, IsSound, StandsSo}
+use Rattle.machine_step.specs.private.Inside.{traced, want_at, IsOfThread, IsSound, StandsSo}
 use Rattle.machine_step.specs.Loads.{Load, next_from}
 use Rattle.machine_step.specs.private.Machine.{state_at, first_machine, IsWithin}
 use Rattle.machine_step.specs.private.Standing.{RunsBy}
@@ -21,7 +21,7 @@ use Rattle.machine_step.proofs.ToSled.{at_passing}
 
 -- its fields before the first load
 pub record Begun (a : Inside) : Type 0 where
-  pub setup : IsSetUp a.steps.now a.limits a.thread a.threads
+  pub setup : IsOfThread a.steps.now a.limits a.thread a.threads
   pub within : IsWithin a.limits a.machine
   pub room : a.marks.room ≡ a.limits.passings
   pub unmarked : a.marks.items ≡ []

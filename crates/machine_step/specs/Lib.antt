@@ -10,4 +10,5 @@ pub mod Ended
 pub mod Texts
 pub mod EndedText
 pub mod Buffers
+pub mod Setups
 pub mod private

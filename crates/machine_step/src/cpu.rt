@@ -3,7 +3,7 @@
 ghost use Rattle.std.specs.Prelude.{◌≡◌, ◌<◌, ◌≤◌, ◌↔◌, ◌++◌, ℕ, List, [], length, slice_index, Some, Option, IsTrue, IsSome, IfOk};
 ghost use Rattle.sled_words.specs.Words.{release_word, state_word};
 ghost use Rattle.machine_step.specs.declared.end.End.{End};
-ghost use Rattle.machine_step.specs.{PlainStep.{Passing, PlainRun, State}, Loads.{Load}};
+ghost use Rattle.machine_step.specs.{PlainStep.{Passing, PlainRun, State}, Loads.{Load}, Setups.{AreLimits}};
 ghost use Rattle.machine_step.specs.Events.{events_in, recorded};
 
 use crate::allowed::allows;
@@ -72,7 +72,7 @@ impl<'a> Cpu<'a> {
     ) -> Result<Cpu<'a>, NoMemory>
         requires thread { (1 ≤ thread) × (thread ≤ threads) }
         requires threads { threads ≤ MAX_THREADS }
-        requires stamps { (1 ≤ limits.cpus) × (1 ≤ limits.migrate) }
+        requires limits { AreLimits limits }
         ensures thread { IfOk result (IsThreadOf steps.now thread threads hold limits) }
         ensures fresh { IfOk result IsFresh }
         ensures loads { IfOk result (λ cpu. (passed : List Passing) (end : End) (last : State)

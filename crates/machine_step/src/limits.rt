@@ -1,11 +1,12 @@
 //! The limits of threads.
 
-/// The limits of a thread, and how its passings are stamped.
+/// The limits of a thread, and how its passings are stamped. What is asked of them is said by
+/// `AreLimits` of `specs/Setups.antt`.
 #[derive(Clone, Copy, Debug, PartialEq, Eq)]
 pub struct Limits {
-    /// The most instructions that a thread makes.
+    /// The most instructions that a thread makes, at most 1,000,000,000.
     pub fuel: u64,
-    /// The most passings that a thread makes.
+    /// The most passings that a thread makes, at most 1,048,576.
     pub passings: u32,
     /// By how many cycles each instruction advances the counter.
     pub tick: u64,
@@ -13,6 +14,6 @@ pub struct Limits {
     pub tsc: u64,
     /// How many CPUs there are, at least 1. They are numbered from 0.
     pub cpus: u16,
-    /// How many passings a thread makes before it moves to the next CPU, at least 1.
+    /// How many passings a thread makes before it moves to the next CPU, from 1 to 1,048,576.
     pub migrate: u32,
 }

@@ -4,7 +4,7 @@ ghost use Rattle.xray_image.specs.declared.sled.Sled.{Sled};
 ghost use Rattle.handler_word.specs.MarkList.{is_recorded};
 ghost use Rattle.machine_step.specs.Events.{event_kind, event_of};
 ghost use Rattle.machine_step.specs.private.Machine.{state_at};
-ghost use Rattle.machine_step.specs.PlainStep.{passing_at};
+ghost use Rattle.machine_step.specs.{PlainStep.{passing_at}, Setups.{AreLimits}};
 
 use crate::limits::Limits;
 use crate::machine::Machine;
@@ -23,7 +23,7 @@ pub(crate) fn event_at(
     limits: Limits,
     mark: Mark,
 ) -> Option<Event>
-    requires stamps { (1 ≤ limits.cpus) × (1 ≤ limits.migrate) }
+    requires limits { AreLimits limits }
     requires sled { sled < length image.now.sleds }
     ensures { (address k : ℕ) (at : Sled) → slice_get image.now.sleds sled ≡ Some at
         → result ≡ (if is_recorded mark
@@ -46,7 +46,7 @@ pub(crate) fn event_at(
 /// number plus how often the thread has moved, modulo the number of CPUs. It divides only if the
 /// thread has moved, or if its number isn't below that of the CPUs.
 fn cpu_at(thread: u32, passing: u32, limits: Limits) -> u16
-    requires stamps { (1 ≤ limits.cpus) × (1 ≤ limits.migrate) }
+    requires limits { AreLimits limits }
     ensures { result ≡ (thread + passing / limits.migrate) % limits.cpus }
 {
     if limits.cpus == 1 {

@@ -1,5 +1,5 @@
 -- The frames of open calls: one more, and the end of some.
-use Rattle.std.proofs.Common.{◌≡◌, ◌⊎◌, ◌-◌, ◌++◌, ◌<◌, ◌≤◌, ◌∙◌, ℕ, suc, Bool, true, false, cond, List, [], ◌∷◌, length, reverse, take, refl, ap, sym, subst, arith, nat_eq, get_or, set, Option, Some, None, length-append, append_assoc, inl, inr}
+use Rattle.std.proofs.Common.{◌≡◌, ◌⊎◌, ◌-◌, ◌++◌, ◌<◌, ◌≤◌, ◌∙◌, ℕ, suc, Bool, true, false, cond, List, [], ◌∷◌, length, reverse, take, refl, ap, sym, subst, arith, nat_eq, get_or, set, Option, Some, None, length-append, inl, inr}
 use Rattle.std.specs.Prelude.{All}
 use Rattle.std.proofs.Math.ListN.{get_or-append}
 use Rattle.std.proofs.Math.Seq.{get_or-append_seam, set-append_seam, take-append_seam}
@@ -18,9 +18,9 @@ use Rattle.stack_rebuild.specs.declared.thread_stack.Frame.{Frame}
 use Rattle.stack_rebuild.specs.Calls.{Standing, cycles_between, from_innermost, left_open, next_standing, open_after_kind, open_calls, pair_at, pair_of_call, standing_after}
 use Rattle.stack_rebuild.specs.Stacks.{Timed, path_of, spent_in}
 use Rattle.stack_rebuild.specs.private.PathNumbers.{path_at}
-use Rattle.stack_rebuild.specs.private.Scanning.{AreFrames, AreSums, Follows, IsFrame, Keeps, Opens, spending, top_of, with_spent, timed_in}
+use Rattle.stack_rebuild.specs.private.Scanning.{AreFrames, AreSums, Follows, IsFrame, Keeps, Opens, spending, timed_now, top_of, with_spent}
 use Rattle.stack_rebuild.proofs.Nesting.{AllBefore, Nested, ended_by, nested_ended, nested_history, pair_by}
-use Rattle.stack_rebuild.proofs.Spending.{adds, made, path_of-cons, spent_at_end, spent_more, timed_more}
+use Rattle.stack_rebuild.proofs.Spending.{adds, made, path_of-cons, spent_at_end, spent_more, timed_new}
 
 -- ---- the innermost frame
 
@@ -75,7 +75,7 @@ top_below n fs some all = by_top (reverse fs) (All-permutation (λ (frame : Fram
 
 -- ---- frames of calls
 
-frames_kept : (paths paths' : List (List ℕ)) (events events' : List Event) (fs : List Frame) (calls : List Call) → Keeps paths paths'
+pub frames_kept : (paths paths' : List (List ℕ)) (events events' : List Event) (fs : List Frame) (calls : List Call) → Keeps paths paths'
     → ((at : ℕ) → spent_in events' at ≡ spent_in events at) → AreFrames paths events fs calls → AreFrames paths' events' fs calls
 frames_kept paths paths' events events' [] [] keeps spent all = tt
 frames_kept paths paths' events events' [] (call ∷ outer) keeps spent all = all
@@ -210,8 +210,9 @@ nothing_spent : (e : Event) (history : List Event) → ended_by e.kind e.func (o
 nothing_spent e history none at =
     omega (arith, spent_more e history at (nested_ended (reverse history) e.kind e.func (open_calls history) (nested_history history).nested), ap (adds e at) none)
 
-nothing_made : (e : Event) (history : List Event) → ended_by e.kind e.func (open_calls history) ≡ [] → timed_in (reverse history) ≡ timed_in (reverse (e ∷ history))
-nothing_made e history none = sym (timed_more e history ∙ (ap (λ (cs : List Call). timed_in (reverse history) ++ made e history cs) none ∙ append-nil (timed_in (reverse history))))
+nothing_made : (e : Event) (history : List Event) (pairs : List Timed) → ended_by e.kind e.func (open_calls history) ≡ [] → pairs ≡ pairs ++ timed_now e history
+nothing_made e history pairs none =
+    sym (ap (λ (ps : List Timed). pairs ++ ps) (timed_new e history ∙ ap (made e history) none) ∙ append-nil pairs)
 
 path_top : (paths : List (List ℕ)) (events : List Event) (fs : List Frame) (calls : List Call) → path_at paths 0 ≡ [] → AreFrames paths events fs calls
     → path_at paths (top_of fs) ≡ path_of calls
@@ -223,7 +224,7 @@ path_top paths events (f ∷ fs) (call ∷ outer) root all = all.0.path
 -- an entry
 pub follows_entry : (e : Event) (history : List Event) (calls calls' : Standing) (fs fs' : List Frame) (paths paths' : List (List ℕ)) (ts ts' : List Tally) (pairs : List Timed)
     → e.kind ≡ Entry → calls' ≡ next_standing e calls → Opens e.func fs fs' paths paths' → ((ps : List Timed) → AreSums paths ts ps → AreSums paths' ts' ps)
-    → Follows calls fs paths ts pairs history → Follows calls' fs' paths' ts' pairs (e ∷ history)
+    → Follows calls fs paths ts pairs history → Follows calls' fs' paths' ts' (pairs ++ timed_now e history) (e ∷ history)
 follows_entry e history calls calls' fs fs' paths paths' ts ts' pairs entry stands opens sums known =
     let none : ended_by e.kind e.func (open_calls history) ≡ [] = ap (λ (k : Kind). ended_by k e.func (open_calls history)) entry in
     let opened : Call = record { entry = length history; func = e.func; tsc = e.tsc } in
@@ -241,7 +242,7 @@ follows_entry e history calls calls' fs fs' paths paths' ts ts' pairs entry stan
             },
             frames_kept paths paths' (reverse history) (reverse (e ∷ history)) (reverse fs) (open_calls history) opens.keeps (nothing_spent e history none) known.framed,
           ));
-      summed = subst (λ (ps : List Timed). AreSums paths' ts' (pairs ++ ps)) (nothing_made e history none) (sums (pairs ++ timed_in (reverse history)) known.summed);
+      summed = subst (AreSums paths' ts') (nothing_made e history pairs none) (sums pairs known.summed);
     }
 
 no_pair : (e : Event) (at : ℕ) (calls : List Call) → pair_of_call e at calls ≡ None → calls ≡ []
@@ -256,7 +257,7 @@ no_pair e at (ended ∷ outer) none = absurd (let same : 1 ≡ 0 = ap count none
 follows_none : (e : Event) (history : List Event) (calls calls' : Standing) (fs : List Frame) (paths : List (List ℕ)) (ts : List Tally) (pairs : List Timed)
     → open_calls (e ∷ history) ≡ left_open (open_calls history) (ended_by e.kind e.func (open_calls history))
     → pair_at e calls.events calls.calls ≡ None → calls' ≡ next_standing e calls
-    → Follows calls fs paths ts pairs history → Follows calls' fs paths ts pairs (e ∷ history)
+    → Follows calls fs paths ts pairs history → Follows calls' fs paths ts (pairs ++ timed_now e history) (e ∷ history)
 follows_none e history calls calls' fs paths ts pairs left made_none stands known =
     let none : ended_by e.kind e.func (open_calls history) ≡ [] =
     no_pair e (length history) (ended_by e.kind e.func (open_calls history))
@@ -266,7 +267,7 @@ follows_none e history calls calls' fs paths ts pairs left made_none stands know
       framed = subst (AreFrames paths (reverse (e ∷ history)) (reverse fs)) (sym now)
           (frames_kept paths paths (reverse history) (reverse (e ∷ history)) (reverse fs) (open_calls history) (record { kept = λ n within. (within, refl) })
           (nothing_spent e history none) known.framed);
-      summed = subst (λ (ps : List Timed). AreSums paths ts (pairs ++ ps)) (nothing_made e history none) known.summed;
+      summed = subst (AreSums paths ts) (nothing_made e history pairs none) known.summed;
     }
 
 left_kind : (k : Kind) (e : Event) (history : List Event) → e.kind ≡ k → (k ≡ Exit) ⊎ (k ≡ TailExit)
@@ -290,7 +291,7 @@ left_kind TailExit e history is exit =
 
 pub follows_exit : (e : Event) (history : List Event) (calls calls' : Standing) (fs : List Frame) (paths : List (List ℕ)) (ts : List Tally) (pairs : List Timed)
     → (e.kind ≡ Exit) ⊎ (e.kind ≡ TailExit) → pair_at e calls.events calls.calls ≡ None → calls' ≡ next_standing e calls
-    → Follows calls fs paths ts pairs history → Follows calls' fs paths ts pairs (e ∷ history)
+    → Follows calls fs paths ts pairs history → Follows calls' fs paths ts (pairs ++ timed_now e history) (e ∷ history)
 follows_exit e history calls calls' fs paths ts pairs is = follows_none e history calls calls' fs paths ts pairs (left_kind e.kind e history refl is)
 
 left_by : (k : Kind) (e : Event) (at : ℕ) (calls : List Call) (ended : Call) (outer : List Call) → ended_by k e.func calls ≡ ended ∷ outer
@@ -315,7 +316,7 @@ pub follows_pair : (e : Event) (history : List Event) (calls calls' : Standing) 
       duration = pair.duration;
       own = pair.duration - (get_or fs depth d).spent;
     } ∷ []))
-    → Follows calls fs paths ts pairs history → Follows calls' fs' paths' ts' pairs (e ∷ history)
+    → Follows calls fs paths ts pairs history → Follows calls' fs' paths' ts' (pairs ++ timed_now e history) (e ∷ history)
 follows_pair e history calls calls' fs fs' paths paths' ts ts' pairs pair depth d made_some stands deep same cut sums known =
     by_ended (ended_by e.kind e.func (open_calls history)) refl
   where
@@ -329,7 +330,7 @@ follows_pair e history calls calls' fs fs' paths paths' ts ts' pairs pair depth 
     standing : calls' ≡ standing_after (e ∷ history)
     standing = stands ∙ ap (next_standing e) known.stands
 
-    by_ended : (cs : List Call) → ended_by e.kind e.func (open_calls history) ≡ cs → Follows calls' fs' paths' ts' pairs (e ∷ history)
+    by_ended : (cs : List Call) → ended_by e.kind e.func (open_calls history) ≡ cs → Follows calls' fs' paths' ts' (pairs ++ timed_now e history) (e ∷ history)
     by_ended [] is = absurd (let none : None ≡ Some pair = ap (pair_of_call e (length history)) (sym is) ∙ made_now in some_none none)
       where
         some_none : None ≡ Some pair → ⊥
@@ -361,13 +362,12 @@ follows_pair e history calls calls' fs fs' paths paths' ts ts' pairs pair depth 
         ap (λ (n : ℕ). let p : Timed = record { path = path_at paths (get_or fs depth d).path; duration = n; own = n - (get_or fs depth d).spent } in p) lasted
         ∙ (ap (λ (path : List ℕ). let p : Timed = record { path = path; duration = cycles_between ended.tsc e.tsc; own = cycles_between ended.tsc e.tsc - (get_or fs depth d).spent } in p) at.frame.path
         ∙ ap (λ (n : ℕ). let p : Timed = record { path = path_of (ended ∷ outer); duration = cycles_between ended.tsc e.tsc; own = cycles_between ended.tsc e.tsc - n } in p) at.frame.spent) in
-        let listed : (pairs ++ timed_in (reverse history)) ++ new ∷ [] ≡ pairs ++ timed_in (reverse (e ∷ history)) =
-        append_assoc pairs (timed_in (reverse history)) (new ∷ [])
-        ∙ ap (λ (ps : List Timed). pairs ++ ps) (sym (timed_more e history ∙ ap (λ (cs : List Call). timed_in (reverse history) ++ made e history cs) is)) in
-        let summed : AreSums paths' ts' (pairs ++ timed_in (reverse (e ∷ history))) =
+        let listed : pairs ++ new ∷ [] ≡ pairs ++ timed_now e history =
+        ap (λ (ps : List Timed). pairs ++ ps) (sym (timed_new e history ∙ ap (made e history) is)) in
+        let summed : AreSums paths' ts' (pairs ++ timed_now e history) =
         subst (AreSums paths' ts') listed
-        (subst (λ (p : Timed). AreSums paths' ts' ((pairs ++ timed_in (reverse history)) ++ p ∷ [])) pair_is
-        (sums (pairs ++ timed_in (reverse history)) known.summed at.within)) in record {
+        (subst (λ (p : Timed). AreSums paths' ts' (pairs ++ p ∷ [])) pair_is
+        (sums pairs known.summed at.within)) in record {
           stands = standing;
           framed = subst (λ (ps : List (List ℕ)). AreFrames ps (reverse (e ∷ history)) (reverse fs') (open_calls (e ∷ history))) (sym same)
               (subst (AreFrames paths (reverse (e ∷ history)) (reverse fs')) (sym now) frames);

@@ -1,11 +1,10 @@
 -- Sums over the items of a list, group by group.
 use Rattle.std.proofs.Common.{◌≡◌, ◌+◌, ◌∙◌, ℕ, Bool, true, false, cond, List, [], ◌∷◌, map, refl, ap, sym, subst, arith, inl, inr}
 use Rattle.std.specs.Prelude.{filter, sum_by}
-use Rattle.std.specs.List.{flat_map}
 use Rattle.std.specs.declared.cmp.Ordering.{Ordering}
 use Rattle.std.specs.declared.cmp.Ordering.TheVariants.{Less}
 use Rattle.std.specs.Cmp.{IsTotalOrder}
-use Rattle.std.proofs.lemmas.List.Sums.{sum_by-append, sum_by-cons}
+use Rattle.std.proofs.lemmas.List.Sums.{sum_by-cons}
 use Rattle.stack_rebuild.proofs.Ascents.{Strict, never_both}
 use Rattle.stack_rebuild.proofs.Items.{IsIn}
 
@@ -38,11 +37,6 @@ sum_by-filter {X} test g (x ∷ xs) = by_first (test x) (sum_by-filter test g xs
         → sum_by g (cond b (x ∷ filter test xs) (filter test xs)) ≡ cond b (g x) 0 + sum_by (λ y. cond (test y) (g y) 0) xs
     by_first true following = omega (arith, following, sum_by-cons g x (filter test xs))
     by_first false following = omega (arith, following)
-
-pub sum_by-flat_map : {X Y : Type 0} (f : X → List Y) (g : Y → ℕ) (xs : List X) → sum_by g (flat_map f xs) ≡ sum_by (λ x. sum_by g (f x)) xs
-sum_by-flat_map f g [] = refl
-sum_by-flat_map f g (x ∷ xs) =
-    omega (arith, sum_by-flat_map f g xs, sum_by-append g (f x) (flat_map f xs), sum_by-cons (λ y. sum_by g (f y)) x xs)
 
 -- ---- groups
 

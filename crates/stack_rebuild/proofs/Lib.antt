@@ -1,10 +1,10 @@
-pub mod Adding
 pub mod Ascents
 pub mod Closing
-pub mod Depth
+pub mod Deep
+pub mod Folding
 pub mod Frames
 pub mod Groups
-pub mod InFileOrder
+pub mod Growing
 pub mod Items
 pub mod Lines
 pub mod Nesting
@@ -16,6 +16,5 @@ pub mod Results
 pub mod RowsOf
 pub mod Spending
 pub mod Sums
-pub mod Threads
 pub mod Trees
 pub mod Views

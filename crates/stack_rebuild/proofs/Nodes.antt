@@ -1,17 +1,25 @@
 -- The nodes of the tree of paths, and the steps that they are.
-use Rattle.std.proofs.Common.{◌≡◌, ◌+◌, ◌-◌, ◌++◌, ◌<◌, ◌≤◌, ◌∙◌, ℕ, List, [], ◌∷◌, length, map, drop, reverse, ap, sym, subst, arith, get_or, length-drop}
+use Rattle.std.proofs.Common.{◌≡◌, ◌+◌, ◌-◌, ◌++◌, ◌<◌, ◌≤◌, ◌∙◌, ℕ, List, [], ◌∷◌, length, map, drop, reverse, refl, ap, sym, subst, arith, get_or, length-drop}
 use Rattle.std.proofs.lemmas.List.{drop-append-le, get_or-map, length-map, map-append}
 use Rattle.std.proofs.lemmas.Grind.{get_or_after_one}
 use Rattle.stack_rebuild.specs.declared.node.Node.{Node}
 use Rattle.stack_rebuild.specs.declared.node.Step.{Step}
 use Rattle.stack_rebuild.specs.declared.tally.Tally.{Tally}
 use Rattle.stack_rebuild.specs.private.PathNumbers.{AreNumbered, Numbers, path_at, path_by, paths_after}
-use Rattle.stack_rebuild.specs.private.PathTree.{paths_in, step_of, steps_in, tally_in}
+use Rattle.stack_rebuild.specs.private.PathTree.{paths_in, step_of, steps_in, tallies_in, tally_in}
 use Rattle.stack_rebuild.specs.private.Scanning.{no_tally}
 use Rattle.stack_rebuild.proofs.Trees.{paths_more}
 
+pub steps_long : (nodes : List Node) → length (steps_in nodes) ≡ length nodes - 1
+steps_long nodes = omega (arith, length-drop 1 (map step_of nodes), length-map nodes step_of)
+
 pub length_steps : (nodes : List Node) → 0 < length nodes → length (steps_in nodes) + 1 ≡ length nodes
 length_steps nodes some = omega (arith, some, length-drop 1 (map step_of nodes), length-map nodes step_of)
+
+-- the tallies of nodes, if there is a node
+pub tallies_some : (nodes : List Node) → 0 < length nodes → tallies_in nodes ≡ map tally_in nodes
+tallies_some [] some = absurd (omega (arith, some))
+tallies_some (node ∷ nodes) some = refl
 
 -- one more node
 pub steps_more : (nodes : List Node) (node : Node) → 0 < length nodes → steps_in (nodes ++ node ∷ []) ≡ steps_in nodes ++ step_of node ∷ []

@@ -30,12 +30,12 @@ use Rattle.stack_rebuild.proofs.Sums.{has_own, has_path-same, path_cmp_equal}
 abbrev paths_of_rows : List PathRow → List (List ℕ)
 paths_of_rows rows = map (λ (row : PathRow). row.path) rows
 
-abbrev pub paths_of_pairs : List Timed → List (List ℕ)
+abbrev paths_of_pairs : List Timed → List (List ℕ)
 paths_of_pairs pairs = map (λ (pair : Timed). pair.path) pairs
 
 -- ---- items of lists
 
-pub in-append : {X : Type 0} (xs ys : List X) (z : X) → IsIn z (xs ++ ys) → IsIn z xs ⊎ IsIn z ys
+in-append : {X : Type 0} (xs ys : List X) (z : X) → IsIn z (xs ++ ys) → IsIn z xs ⊎ IsIn z ys
 in-append [] ys z is = inr is
 in-append (x ∷ xs) ys z (inl is) = inl (inl is)
 in-append {X} (x ∷ xs) ys z (inr is) = moved (in-append xs ys z is)
@@ -56,7 +56,7 @@ append-right (x ∷ xs) ys z is = inr (append-right xs ys z is)
 -- ---- the pairs of a path
 
 -- a path that is counted is that of a pair
-pub counted-in : (path : List ℕ) (pairs : List Timed) → 0 < count_by (has_path path) pairs → IsIn path (paths_of_pairs pairs)
+counted-in : (path : List ℕ) (pairs : List Timed) → 0 < count_by (has_path path) pairs → IsIn path (paths_of_pairs pairs)
 counted-in path [] some = absurd (omega arith)
 counted-in path (pair ∷ pairs) some = by_first (has_path path pair) refl (counted-in path pairs)
   where
@@ -64,7 +64,7 @@ counted-in path (pair ∷ pairs) some = by_first (has_path path pair) refl (coun
     by_first true is later = inl (sym (has_path-same path pair is))
     by_first false is later = inr (later (omega (arith, some, sum_by-cons (λ (p : Timed). cond (has_path path p) 1 0) pair pairs, ap {B = ℕ} (λ b. cond b 1 0) is)))
 
-pub in-counted : (path : List ℕ) (pairs : List Timed) → IsIn path (paths_of_pairs pairs) → 0 < count_by (has_path path) pairs
+in-counted : (path : List ℕ) (pairs : List Timed) → IsIn path (paths_of_pairs pairs) → 0 < count_by (has_path path) pairs
 in-counted path [] is = absurd is
 in-counted path (pair ∷ pairs) (inl is) =
     let has : has_path path pair ≡ true = ap (λ (p : List ℕ). has_path p pair) is ∙ has_own pair in
@@ -228,7 +228,7 @@ by_paths pairs (row ∷ rows) all =
     ap (λ (r : PathRow). r ∷ rows) (All-head (λ (r : PathRow). r ≡ path_row pairs r.path) row rows all)
     ∙ ap (λ (rs : List PathRow). path_row pairs row.path ∷ rs) (by_paths pairs rows (All-tail (λ (r : PathRow). r ≡ path_row pairs r.path) row rows all))
 
-pub numbered-at : (paths : List (List ℕ)) (pairs : List Timed) → AllNumbered paths pairs → (z : List ℕ) → IsIn z (paths_of_pairs pairs)
+numbered-at : (paths : List (List ℕ)) (pairs : List Timed) → AllNumbered paths pairs → (z : List ℕ) → IsIn z (paths_of_pairs pairs)
     → (n : ℕ) × (n < length paths) × (path_at paths n ≡ z)
 numbered-at paths [] all z is = absurd is
 numbered-at paths (pair ∷ pairs) all z (inl is) = (all.0.0, all.0.1, all.0.2 ∙ sym is)

@@ -1,14 +1,14 @@
 -- What one more event of a thread adds to its pairs, and to what was spent in its calls.
 use Rattle.std.proofs.Common.{◌≡◌, ◌+◌, ◌-◌, ◌++◌, ◌≤◌, ◌∙◌, ℕ, false, cond, List, [], ◌∷◌, length, map, reverse, take, refl, ap, sym, subst, arith, Option, sum_by}
 use Rattle.std.specs.Option.{option_to_list}
-use Rattle.std.proofs.lemmas.List.{length-reverse, length-take-le, map-append, reverse-append, reverse-reverse}
+use Rattle.std.proofs.lemmas.List.{length-reverse, length-take-le, reverse-append, reverse-reverse}
 use Rattle.std.proofs.lemmas.List.Sums.{sum_by-append, sum_by-cons}
 use Rattle.fdr_record.specs.declared.event.Event.{Event}
 use Rattle.stack_rebuild.specs.declared.call.Call.{Call}
 use Rattle.stack_rebuild.specs.declared.call.Pair.{Pair}
 use Rattle.stack_rebuild.specs.Calls.{cycles_between, open_calls, pair_of_call, pairs_in, pairs_of}
 use Rattle.stack_rebuild.specs.Stacks.{Timed, is_innermost, open_before, pair_path, path_of, spent_in, timed}
-use Rattle.stack_rebuild.specs.private.Scanning.{timed_in}
+use Rattle.stack_rebuild.specs.private.Scanning.{timed_now}
 use Rattle.stack_rebuild.proofs.Nesting.{AllBefore, AllEnded, Nested, NoneAt, before_less, ended_by, func_ended, nested_before, nested_ended, nested_history, none_before, none_ended, one_more, open_kept, pair_by}
 
 -- what a pair adds to what was spent in the call with its entry at a position
@@ -164,23 +164,16 @@ timed_made e history (ended ∷ outer) is nested func =
     } in
     ap (λ (t : Timed). t ∷ []) (same_timed (timed (reverse (e ∷ history)) pair) target path refl (ap (λ (n : ℕ). cycles_between ended.tsc e.tsc - n) spent))
 
-timed_more_by : (e : Event) (history : List Event) → Nested (reverse history) (ended_by e.kind e.func (open_calls history))
-    → ((at : ℕ) → NoneAt at (open_calls history) → NoneAt at (ended_by e.kind e.func (open_calls history)))
-    → ((ended : Call) (outer : List Call) → ended_by e.kind e.func (open_calls history) ≡ ended ∷ outer → ended.func ≡ e.func)
-    → timed_in (reverse (e ∷ history)) ≡ timed_in (reverse history) ++ made e history (ended_by e.kind e.func (open_calls history))
-timed_more_by e history nested none func =
-    let calls = ended_by e.kind e.func (open_calls history) in
-    let test = timed (reverse (e ∷ history)) in
-    let new = option_to_list (pair_of_call e (length history) calls) in
-    ap (map test) (pairs_more e history)
-    ∙ (map-append test (pairs_in history) new
-    ∙ (ap (λ (ts : List Timed). ts ++ map test new) (timed_kept e history (open_calls history) (pairs_in history) nested none (nested_history history).ended)
-    ∙ (ap (λ (ts : List Timed). map (timed (reverse history)) (pairs_in history) ++ ts) (timed_made e history calls refl nested func)
-    ∙ ap (λ (ps : List Pair). map (timed (reverse history)) ps ++ made e history calls) (sym (pairs_same history)))))
+-- the pairs of a thread stay as they were when one more event comes
+pub timed_still : (e : Event) (history : List Event) → map (timed (reverse (e ∷ history))) (pairs_in history) ≡ map (timed (reverse history)) (pairs_in history)
+timed_still e history =
+    timed_kept e history (open_calls history) (pairs_in history) (nested_ended (reverse history) e.kind e.func (open_calls history) (nested_history history).nested)
+    (λ at none. none_ended at e.kind e.func (open_calls history) none) (nested_history history).ended
 
--- the pairs of a thread after one more event
-pub timed_more : (e : Event) (history : List Event)
-    → timed_in (reverse (e ∷ history)) ≡ timed_in (reverse history) ++ made e history (ended_by e.kind e.func (open_calls history))
-timed_more e history =
-    timed_more_by e history (nested_ended (reverse history) e.kind e.func (open_calls history) (nested_history history).nested)
-    (λ at none. none_ended at e.kind e.func (open_calls history) none) (λ ended outer is. func_ended e.kind e.func (open_calls history) ended outer is)
+-- the pair of that event is that of the call that it ends
+pub timed_new : (e : Event) (history : List Event) → timed_now e history ≡ made e history (ended_by e.kind e.func (open_calls history))
+timed_new e history =
+    ap (λ (o : Option Pair). map (timed (reverse (e ∷ history))) (option_to_list o)) (pair_by e.kind e (length history) (open_calls history))
+    ∙ timed_made e history (ended_by e.kind e.func (open_calls history)) refl
+    (nested_ended (reverse history) e.kind e.func (open_calls history) (nested_history history).nested)
+    (λ ended outer is. func_ended e.kind e.func (open_calls history) ended outer is)

@@ -1,5 +1,5 @@
 -- The tallies of paths: one more path, and one more pair.
-use Rattle.std.proofs.Common.{◌≡◌, ◌⊎◌, ◌++◌, ◌<◌, ◌∙◌, ℕ, Bool, true, false, cond, List, [], ◌∷◌, length, refl, ap, sym, subst, arith, nat_eq, nat_lt, get_or, set, inl, inr, length-append}
+use Rattle.std.proofs.Common.{◌≡◌, ◌++◌, ◌<◌, ◌∙◌, ℕ, Bool, true, false, cond, List, [], ◌∷◌, length, refl, ap, sym, subst, arith, nat_eq, nat_lt, get_or, set, length-append}
 use Rattle.std.specs.declared.cmp.Ordering.{Ordering}
 use Rattle.std.specs.declared.cmp.Ordering.TheVariants.{Less, Equal, Greater}
 use Rattle.std.specs.Ordering.{is_eq, nat_cmp, ordering_then}
@@ -11,7 +11,7 @@ use Rattle.std.proofs.lemmas.List.{length-set, get_or-set_same, get_or-set_other
 use Rattle.std.proofs.lemmas.List.Sums.{sum_by-append, sum_by-cons}
 use Rattle.stack_rebuild.specs.declared.tally.Tally.{Tally}
 use Rattle.stack_rebuild.specs.Stacks.{Timed, has_path, path_cmp}
-use Rattle.stack_rebuild.specs.private.PathNumbers.{HasNumber, IsFresh, path_at}
+use Rattle.stack_rebuild.specs.private.PathNumbers.{path_at}
 use Rattle.stack_rebuild.specs.private.Scanning.{AllNumbered, AreSums, Keeps, no_tally, tally_of, with_pair}
 use Rattle.stack_rebuild.proofs.Trees.{apart_more, each_more, path_kept}
 
@@ -114,13 +114,6 @@ keeps_same paths paths' same = subst (Keeps paths) (sym same) (record { kept = �
 
 keeps_more : (paths : List (List ℕ)) (path : List ℕ) → Keeps paths (paths ++ path ∷ [])
 keeps_more paths path = record { kept = λ n within. (omega (arith, within, length-append paths (path ∷ [])), path_kept paths path n within) }
-
-pub keeps_number : (path : List ℕ) (n : ℕ) (paths paths' : List (List ℕ)) → HasNumber path n paths paths' → Keeps paths paths'
-keeps_number path n paths paths' number = by_way number.grows
-  where
-    by_way : (paths' ≡ paths) ⊎ IsFresh path n paths paths' → Keeps paths paths'
-    by_way (inl same) = keeps_same paths paths' same
-    by_way (inr fresh) = subst (Keeps paths) (sym fresh.more) (keeps_more paths path)
 
 -- ---- the sums of paths
 

@@ -72,9 +72,13 @@ path_row pairs path = record {
   own = sum_by (λ pair. if has_path path pair then pair.own else 0) pairs;
 }
 
--- a row for each path that has a pair, in ascending order
+-- a row for each path that has one of some pairs, in ascending order
+abbrev pub rows_of_pairs : List Timed → List PathRow
+rows_of_pairs pairs = map (path_row pairs) (each_once path_cmp (map (λ pair. pair.path) pairs))
+
+-- the stacks of blocks
 abbrev pub stack_of : List Block → List PathRow
-stack_of blocks = let pairs = all_timed blocks in map (path_row pairs) (each_once path_cmp (map (λ pair. pair.path) pairs))
+stack_of blocks = rows_of_pairs (all_timed blocks)
 
 -- what a row says
 abbrev pub told : StackRow → PathRow

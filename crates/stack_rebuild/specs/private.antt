@@ -1,6 +1,6 @@
 -- What the contracts of private functions cite. No promise of this crate rests on it.
-pub mod ByThread
 pub mod Counts
+pub mod Folding
 pub mod OpenCalls
 pub mod PathNumbers
 pub mod PathTree

@@ -1,7 +1,7 @@
 //! The tree of paths.
 
 ghost use Rattle.std.specs.Prelude.{◌≡◌, ◌<◌, length, map, OnOk, slice_index_or, slice_set};
-ghost use Rattle.stack_rebuild.specs.private.PathTree.{child_in, depth_in, sibling_in, step_of, tally_in};
+ghost use Rattle.stack_rebuild.specs.private.PathTree.{child_in, depth_in, sibling_in, step_of, steps_in, tallies_in, tally_in};
 ghost use Rattle.stack_rebuild.specs.private.Scanning.{no_tally, with_pair};
 
 use crate::tally::Tally;
@@ -106,6 +106,18 @@ pub(crate) fn depth_of(nodes: &[Node], number: usize) -> u32
         Some(node) => node.depth,
         None => 0,
     }
+}
+
+/// Adds the empty path, unless there is a path.
+pub(crate) fn plant(nodes: &mut Vec<Node>) -> Result<(), NoMemory>
+    ensures some { OnOk result (0 < length nodes.new.items) }
+    ensures steps { steps_in nodes.new.items ≡ steps_in nodes.old.items }
+    ensures tallies { tallies_in nodes.new.items ≡ tallies_in nodes.old.items }
+{
+    if nodes.is_empty() {
+        nodes.push(Node::empty())?;
+    }
+    Ok(())
 }
 
 /// Links the latest path with its parent. The first path that went on from the parent stays first,

@@ -6,7 +6,7 @@ ghost use Rattle.stack_rebuild.specs.private.PathNumbers.{HasNumber, path_at, pa
 ghost use Rattle.stack_rebuild.specs.private.Scanning.{AreSums, no_tally};
 ghost use Rattle.stack_rebuild.specs.Stacks.{Timed};
 
-use crate::node::{Node, Step, add_pair, child_of, depth_of, link, sibling_of, tally_of};
+use crate::node::{Node, Step, add_pair, child_of, depth_of, link, plant, sibling_of, tally_of};
 use crate::path_order::in_order;
 use crate::tally::Tally;
 use std::alloc::Global;
@@ -20,7 +20,8 @@ const MOST_LOOKS: usize = 4;
 /// The paths so far, each with a number and a tally. The empty path has number 0. In contracts they
 /// are a list of paths and a list of tallies, both by the numbers.
 ///
-/// They form a tree. A path is its last function, and the number of the path before that.
+/// They form a tree. A path is its last function, and the number of the path before that. The empty
+/// path is put there with the first other path, so that no memory is taken before.
 #[derive(Drop)]
 pub(crate) struct PathSums {
     /// The paths, by their numbers.
@@ -43,15 +44,13 @@ impl Model for PathSums {
 
 impl PathSums {
     /// Only the empty path, and no pairs.
-    pub(crate) fn new(alloc: Global) -> Result<PathSums, NoMemory>
-        ensures { IfOk result (λ sums. AreSums sums.paths sums.tallies []) }
+    pub(crate) fn new(alloc: Global) -> PathSums
+        ensures { AreSums result.paths result.tallies [] }
     {
-        let mut nodes = Vec::new(alloc);
-        nodes.push(Node::empty())?;
-        Ok(PathSums {
-            nodes,
+        PathSums {
+            nodes: Vec::new(alloc),
             numbers: HashMap::new(alloc),
-        })
+        }
     }
 
     /// The number of a path with one more function.
@@ -126,6 +125,7 @@ impl PathSums {
             → AreSums self.old.paths self.old.tallies pairs
             → AreSums self.new.paths self.new.tallies pairs) }
     {
+        plant(&mut self.nodes)?;
         let number = self.nodes.len();
         let node = Node::after(&self.nodes, step);
         self.nodes.push(node)?;
@@ -153,6 +153,7 @@ impl PathSums {
               own = own;
             } ∷ [])) }
     {
+        plant(&mut self.nodes)?;
         add_pair(&mut self.nodes, number, duration, own)
     }
 
@@ -190,10 +191,12 @@ impl PathSums {
     }
 
     /// The numbers of all paths, each once.
-    pub(crate) fn order(&self, alloc: Global) -> Result<Vec<usize>, NoMemory>
-        ensures { IfOk result (λ order.
-            IsPermutation (range_with_len 0 (length self.now.paths)) order.items) }
+    pub(crate) fn order(&mut self, alloc: Global) -> Result<Vec<usize>, NoMemory>
+        ensures order { IfOk result (λ order.
+            IsPermutation (range_with_len 0 (length self.old.paths)) order.items) }
+        ensures same { self.new ≡ self.old }
     {
+        plant(&mut self.nodes)?;
         in_order(alloc, &self.nodes)
     }
 }

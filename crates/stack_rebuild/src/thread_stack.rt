@@ -5,7 +5,7 @@ ghost use Rattle.fdr_record.specs.declared.event.Event.{Event};
 ghost use Rattle.stack_rebuild.specs.Calls.{next_standing, standing_after};
 ghost use Rattle.stack_rebuild.specs.private.PathNumbers.{path_at};
 ghost use Rattle.stack_rebuild.specs.declared.thread_stack.Frame.{Frame};
-ghost use Rattle.stack_rebuild.specs.private.Scanning.{AreSums, AreWithin, Follows, Opens, spending, top_of, with_spent};
+ghost use Rattle.stack_rebuild.specs.private.Scanning.{AreSums, AreWithin, Follows, Keeps, Opens, spending, timed_now, top_of, with_spent};
 ghost use Rattle.stack_rebuild.specs.Stacks.{Timed};
 
 use crate::calls::ThreadCalls;
@@ -62,7 +62,8 @@ impl ThreadStack {
             → Follows self.old.calls self.old.frames.items sums.old.paths sums.old.tallies
             pairs history
             → Follows self.new.calls self.new.frames.items sums.new.paths sums.new.tallies
-            pairs (event.now ∷ history)) }
+            (pairs ++ timed_now event.now history) (event.now ∷ history)) }
+        ensures keeps { OnOk result (Keeps sums.old.paths sums.new.paths) }
     {
         let pair = self.calls.take(event)?;
         let depth = self.calls.depth();

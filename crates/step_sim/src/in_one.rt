@@ -1,6 +1,7 @@
 //! A replay in one call.
 
 ghost use Rattle.std.specs.Prelude.{◌≡◌, ◌≤◌, ◌↔◌, ℕ, All, Err, Some, IfOk};
+ghost use Rattle.machine_step.specs.Setups.{IsSetup};
 ghost use Rattle.patch_script.specs.{Plans.{waiting_line}, Refusals.{commands_of}};
 ghost use Rattle.step_sim.specs.declared.sim_fault.SimFault.TheVariants.{Waits};
 ghost use Rattle.step_sim.specs.{Replayed.{IsSimulated}, Schedules.{AreTurnsOf}};
@@ -9,10 +10,8 @@ use crate::replay::SimEnd;
 use crate::schedule::Schedule;
 use crate::sim_fault::SimFault;
 use crate::start::SimStart;
-use fdr_buffer::{LARGEST_SIZE, LEAST_SIZE, MOST_BUFFERS};
 use machine_step::{Setup, Steps};
 use patch_script::Script;
-use sled_words::MAX_THREADS;
 use std::alloc::Global;
 
 /// Replays a schedule over the image of these steps, beside a script. The threads that are left
@@ -30,10 +29,7 @@ pub fn simulate<'a>(
 ) -> Result<SimEnd<'a>, SimFault>
     requires program { script.now.program ≡ steps.now }
     requires threads { script.now.threads ≡ setup.now.threads }
-    requires few { setup.now.threads ≤ MAX_THREADS }
-    requires stamps { (1 ≤ setup.now.limits.cpus) × (1 ≤ setup.now.limits.migrate) }
-    requires sizes { (LEAST_SIZE ≤ setup.now.size) × (setup.now.size ≤ LARGEST_SIZE) }
-    requires buffers { (setup.now.threads ≤ setup.now.max) × (setup.now.max ≤ MOST_BUFFERS) }
+    requires setup { IsSetup setup.now }
     requires turns { All (AreTurnsOf setup.now.threads) schedule.now }
     ensures waits { (line : ℕ) → (result ≡ Err (Waits line)) ↔ (waiting_line script.now.lines ≡ Some line) }
     ensures left { IfOk result (λ end. IsSimulated steps.now (commands_of script.now.lines) schedule.now setup.now

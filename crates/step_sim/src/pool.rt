@@ -3,6 +3,7 @@
 ghost use Rattle.std.specs.Prelude.{◌≡◌, ◌≢◌, ◌<◌, ◌≤◌, ◌+◌, ◌-◌, ◌^◌, ◌++◌, ◌∷◌, [], ℕ, List, All, IfOk, IfSome, Some, length, replicate, slice_get, slice_index, true, filter, vec_len, vec_capacity};
 ghost use Rattle.std.specs.List.{flat_map};
 ghost use Rattle.fdr_buffer.specs.Filled.{Filled, empty_buffer};
+ghost use Rattle.machine_step.specs.Setups.{IsSetup};
 ghost use Rattle.step_sim.specs.Recorded.{numbers_from};
 ghost use Rattle.step_sim.specs.private.Counts.{CanLose, is_of, lost_after, segments_held};
 
@@ -53,9 +54,7 @@ impl Pool {
 
     /// The buffers before the first event. None of them is begun.
     pub(crate) fn new(alloc: Global, setup: &Setup) -> Result<Pool, NoMemory>
-        requires least { LEAST_SIZE ≤ setup.now.size }
-        requires most { setup.now.size ≤ LARGEST_SIZE }
-        requires enough { setup.now.threads ≤ setup.now.max }
+        requires { IsSetup setup.now }
         ensures { IfOk result (PoolHolds (stamp_of setup.now) setup.now.threads (λ _. [])
             (first_stock (setup.now.max - setup.now.threads))) }
     {

@@ -1,6 +1,7 @@
 //! A replay before its first turn. All its memory is asked for here.
 
 ghost use Rattle.std.specs.Prelude.{◌≡◌, ◌≤◌, ◌↔◌, ℕ, All, Err, Some, IfOk, length};
+ghost use Rattle.machine_step.specs.Setups.{IsSetup};
 ghost use Rattle.patch_script.specs.{Plans.{waiting_line}, Refusals.{commands_of}};
 ghost use Rattle.step_sim.specs.declared.sim_fault.SimFault.TheVariants.{Waits};
 ghost use Rattle.step_sim.specs.{Replayed.{IsSimulated}, Schedules.{AreTurnsOf}};
@@ -12,10 +13,9 @@ use crate::replay::{SimEnd, play};
 use crate::schedule::Schedule;
 use crate::sim_fault::SimFault;
 use crate::thread::new_thread;
-use fdr_buffer::{Buffer, LARGEST_SIZE, LEAST_SIZE, MOST_BUFFERS, segments_hold_all};
+use fdr_buffer::{Buffer, segments_hold_all};
 use machine_step::{Cpu, Setup, Steps, a_traced_thread_ends_as_its_plain_run};
 use patch_script::Script;
-use sled_words::MAX_THREADS;
 use std::alloc::Global;
 use std::marker::Model;
 use traced_run::passings_fit;
@@ -60,10 +60,7 @@ impl<'a, 's> SimStart<'a, 's> {
     ) -> Result<SimStart<'a, 's>, SimFault>
         requires program { script.now.program ≡ steps.now }
         requires threads { script.now.threads ≡ setup.now.threads }
-        requires few { setup.now.threads ≤ MAX_THREADS }
-        requires stamps { (1 ≤ setup.now.limits.cpus) × (1 ≤ setup.now.limits.migrate) }
-        requires sizes { (LEAST_SIZE ≤ setup.now.size) × (setup.now.size ≤ LARGEST_SIZE) }
-        requires buffers { (setup.now.threads ≤ setup.now.max) × (setup.now.max ≤ MOST_BUFFERS) }
+        requires setup { IsSetup setup.now }
         ensures waits { (line : ℕ) → (result ≡ Err (Waits line)) ↔ (waiting_line script.now.lines ≡ Some line) }
         ensures start { IfOk result (λ start. start
             ≡ record { program = steps.now; script = commands_of script.now.lines; setup = setup.now }) }
@@ -134,8 +131,7 @@ fn new_threads<'a>(
     script: &Script,
     setup: &Setup,
 ) -> Result<Vec<Cpu<'a>>, NoMemory>
-    requires threads { setup.now.threads ≤ MAX_THREADS }
-    requires stamps { (1 ≤ setup.now.limits.cpus) × (1 ≤ setup.now.limits.migrate) }
+    requires { IsSetup setup.now }
     ensures count { IfOk result (λ cpus. length cpus.items ≡ setup.now.threads) }
     ensures begun { IfOk result (λ cpus. AllHaveBegun steps.now (commands_of script.now.lines)
         setup.now.threads setup.now.limits cpus.items) }

@@ -4,7 +4,7 @@ ghost use Rattle.std.specs.Prelude.{◌≡◌, ◌<◌, ◌≤◌, List, IfNone,
 ghost use Rattle.std.specs.Bool.{OnFalse, OnTrue};
 ghost use Rattle.patch_script.specs.Refusals.{commands_of};
 ghost use Rattle.machine_step.specs.declared.want.Want.{Want};
-ghost use Rattle.machine_step.specs.{Loads.{Load}, PlainStep.{Passing}};
+ghost use Rattle.machine_step.specs.{Loads.{Load}, PlainStep.{Passing}, Setups.{IsSetup}};
 ghost use Rattle.machine_step.specs.Traced.{HasLoaded, IsGate, IsSameThread, loads_left};
 ghost use Rattle.step_sim.specs.{Plays.{turns}, Replay.{Cast, Moment, thread_turn}};
 ghost use Rattle.step_sim.specs.private.{Turns.{RunsOut}, Standing.{HasBegun, Rests, StandAt}};
@@ -17,7 +17,6 @@ use crate::patcher::Patcher;
 use crate::pool::Pool;
 use machine_step::{Cpu, Setup, Steps, Want, some_end};
 use patch_script::Script;
-use sled_words::MAX_THREADS;
 use std::alloc::Global;
 use traced_run::{passings_are_few, some_file_holds};
 use xray_io::NoMemory;
@@ -31,8 +30,7 @@ pub(crate) fn new_thread<'a>(
     number: u32,
 ) -> Result<Cpu<'a>, NoMemory>
     requires number { (1 ≤ number) × (number ≤ setup.now.threads) }
-    requires threads { setup.now.threads ≤ MAX_THREADS }
-    requires stamps { (1 ≤ setup.now.limits.cpus) × (1 ≤ setup.now.limits.migrate) }
+    requires setup { IsSetup setup.now }
     ensures { IfOk result
         (HasBegun steps.now (commands_of script.now.lines) setup.now.threads setup.now.limits number) }
 {

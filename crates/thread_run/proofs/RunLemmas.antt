@@ -402,20 +402,22 @@ left_so hold plan pool workers left threads are count is =
           (subst (λ (k : ℕ). HasRunAlong plan.program (commands_of plan.lines) k run (cpu_of (at i run found).worker) (work_view (seat_of (at i run found).worker))) next
           (at i run found).is.along));
       leaves = record {
-        count = length-map workers (λ w. cpu_of w) ∙ sym runs_count;
-        cpus_are = λ i run t found there.
-            let next : 1 + i ≡ i + 1 = omega arith in
-            subst (HasRun (i + 1) run) (thread_is i run t found there)
-            (subst (λ (k : ℕ). HasRun k run (cpu_of (at i run found).worker)) next (at i run found).is.has);
-        segments_are = all_segments plan setup is.used buffers 1 workers runs all.1;
-        first_are = all_first plan setup is.used buffers 1 workers runs all.1;
-        buffers_are = refl;
+        leaves = record {
+          count = length-map workers (λ w. cpu_of w) ∙ sym runs_count;
+          cpus_are = λ i run t found there.
+              let next : 1 + i ≡ i + 1 = omega arith in
+              subst (HasRun (i + 1) run) (thread_is i run t found there)
+              (subst (λ (k : ℕ). HasRun k run (cpu_of (at i run found).worker)) next (at i run found).is.has);
+          segments_are = all_segments plan setup is.used buffers 1 workers runs all.1;
+          first_are = all_first plan setup is.used buffers 1 workers runs all.1;
+          buffers_are = refl;
+        };
+        buffers_are =
+            in_order hold setup runs buffers
+            (subst (λ (k : ℕ). AllByRecursion (IsBetween 1 (1 + k)) (filter has_event buffers)) (rs_count ∙ sym runs_count)
+            (all_between setup rows left is rs hands (length-map rs (λ (r : Recording). r.pass.sealed))))
+            (λ i run found. (at i run found).is.buffers_are);
       };
-      buffers_are =
-          in_order hold setup runs buffers
-          (subst (λ (k : ℕ). AllByRecursion (IsBetween 1 (1 + k)) (filter has_event buffers)) (rs_count ∙ sym runs_count)
-          (all_between setup rows left is rs hands (length-map rs (λ (r : Recording). r.pass.sealed))))
-          (λ i run found. (at i run found).is.buffers_are);
     }
 
 -- ---- workers that are made one after another

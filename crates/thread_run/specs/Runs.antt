@@ -1,11 +1,11 @@
 -- Whole runs of threads beside a script.
-use Rattle.std.specs.Prelude.{◌≡◌, ◌+◌, ℕ, List, [], Some, IsPermutation, filter, length, slice_get}
+use Rattle.std.specs.Prelude.{◌≡◌, ◌+◌, ℕ, List, [], Some, length, slice_get}
 use Rattle.xray_image.specs.Program.{Program}
 use Rattle.patch_script.specs.declared.command.Command.{Command}
 use Rattle.patch_script.specs.Micros.{total_of}
 use Rattle.patch_script.specs.Plans.{Plan}
 use Rattle.machine_step.specs.Buffers.{spare_of}
-use Rattle.fdr_buffer.specs.Filled.{Filled, has_event}
+use Rattle.fdr_buffer.specs.Filled.{Filled}
 use Rattle.machine_step.specs.declared.setup.Setup.{Setup}
 use Rattle.machine_step.specs.Ended.{EndsAsPlain}
 use Rattle.machine_step.specs.Traced.{Traced, sleds_passed}
@@ -14,8 +14,7 @@ use Rattle.sled_rule.specs.declared.views.WorkView.{WorkView}
 use Rattle.sled_rule.specs.Plans.{total_in}
 use Rattle.sled_rule.specs.Views.{ended_count}
 use Rattle.traced_run.specs.Following.{AllMarksFollow, LoadsFollow}
-use Rattle.traced_run.specs.Kept.{kept_buffers}
-use Rattle.traced_run.specs.Left.{AreThreadsOf, Leaves}
+use Rattle.traced_run.specs.Left.{AreThreadsOf, LeavesInAnyOrder}
 use Rattle.traced_run.specs.Losses.{AreLost}
 use Rattle.traced_run.specs.Runs.{IsRun, ThreadRun}
 use Rattle.thread_run.specs.Following.{given}
@@ -48,5 +47,4 @@ pub record HaveRunBeside (program : Program) (script : List Command) (setup : Se
   pub each : length seats ≡ length cpus
   pub along : (i : ℕ) (run : ThreadRun) (t : Traced) (seat : WorkView) → slice_get runs i ≡ Some run → slice_get cpus i ≡ Some t
       → slice_get seats i ≡ Some seat → HasRunAlong program script (i + 1) run t seat
-  pub leaves : Leaves setup runs cpus segments first (kept_buffers setup runs)
-  pub buffers_are : IsPermutation (filter has_event buffers) (kept_buffers setup runs)
+  pub leaves : LeavesInAnyOrder setup runs cpus segments first buffers

@@ -1,6 +1,7 @@
 //! Threads before their first load.
 
 ghost use Rattle.std.specs.Prelude.{◌≡◌, ◌≤◌, IfOk};
+ghost use Rattle.machine_step.specs.Setups.{AreLimits};
 ghost use Rattle.thread_run.specs.Workers.{IsFreshThread};
 
 use machine_step::{Cpu, Limits, Steps, some_end};
@@ -25,7 +26,7 @@ pub fn new_cpu<'a>(
     requires threads { script.now.threads ≡ threads }
     requires few { threads ≤ MAX_THREADS }
     requires number { (1 ≤ number) × (number ≤ threads) }
-    requires stamps { (1 ≤ limits.cpus) × (1 ≤ limits.migrate) }
+    requires limits { AreLimits limits }
     ensures fresh { IfOk result (IsFreshThread script.now) }
     ensures number { IfOk result (λ cpu. cpu.thread ≡ number) }
     ensures limits { IfOk result (λ cpu. cpu.limits ≡ limits) }

@@ -3,6 +3,7 @@
 ghost use Rattle.std.specs.Prelude.{◌≡◌, ◌≤◌, ◌+◌, ◌-◌, ◌==◌, ◌++◌, [], All, List, IfOk, OnErr, OnOk, count_by, length, map, vec_capacity, vec_len};
 ghost use Rattle.buffer_queue.specs.{Left.{IsLeft}, Passes.{sealed_of, AreNew, AreOf}};
 ghost use Rattle.fdr_buffer.specs.Filled.{Filled};
+ghost use Rattle.machine_step.specs.Setups.{IsSetup};
 ghost use Rattle.patch_script.specs.Refusals.{commands_of};
 ghost use Rattle.sled_rule.specs.{Plans.{start_in}, Seats.{patch_view, script_of, work_view, IsPatcherOf, IsWorkerOf}};
 ghost use Rattle.sled_rule.specs.Views.{first_patch};
@@ -15,7 +16,7 @@ use crate::running::run_threads;
 use crate::thread::new_cpu;
 use crate::worker::Worker;
 use buffer_queue::{Pool, PoolPass};
-use fdr_buffer::{Buffer, LARGEST_SIZE, LEAST_SIZE};
+use fdr_buffer::Buffer;
 use machine_step::{Cpu, Setup, Steps};
 use sled_patch::run_prefix;
 use sled_rule::{CodeTable, PatchSeat, WorkSeat};
@@ -73,11 +74,7 @@ pub fn run<'s, T: Threads + Wait + Sync, G: Gate + Sync>(
     requires begins { patch_view patcher.old ≡ first_patch (script_of table.now) }
     requires program { (script_of table.now).program ≡ steps.now }
     requires threads { (script_of table.now).threads ≡ setup.now.threads }
-    requires some { 1 ≤ setup.now.threads }
-    requires few { setup.now.threads ≤ MAX_THREADS }
-    requires stamps { (1 ≤ setup.now.limits.cpus) × (1 ≤ setup.now.limits.migrate) }
-    requires sizes { (LEAST_SIZE ≤ setup.now.size) × (setup.now.size ≤ LARGEST_SIZE) }
-    requires enough { setup.now.threads ≤ setup.now.max }
+    requires setup { IsSetup setup.now }
     ensures own { IsPatcherOf table.now patcher.new }
     ensures script { OnOk result (HasPatched (script_of table.now) (patch_view patcher.new)) }
     ensures unmoved { OnErr result ((patch_view patcher.new).place ≡ start_in (script_of table.now)) }
@@ -111,8 +108,7 @@ fn run_pooled<'s, 'p, T: Threads + Wait + Sync, G: Gate + Sync>(
     requires none { ((patch_view patcher.old).given ≡ 0) × ((patch_view patcher.old).met ≡ []) }
     requires program { (script_of table.now).program ≡ steps.now }
     requires threads { (script_of table.now).threads ≡ setup.now.threads }
-    requires few { setup.now.threads ≤ MAX_THREADS }
-    requires stamps { (1 ≤ setup.now.limits.cpus) × (1 ≤ setup.now.limits.migrate) }
+    requires setup { IsSetup setup.now }
     requires pool { pool.now.setup ≡ setup.now }
     requires hands { AreNew pool.now 1 setup.now.threads hands.items }
     ensures own { IsPatcherOf table.now patcher.new }
@@ -143,8 +139,7 @@ fn new_workers<'s, 't, 'p, T: Wait>(
     requires none { ((patch_view patcher.old).given ≡ 0) × ((patch_view patcher.old).met ≡ []) }
     requires program { (script_of table.now).program ≡ steps.now }
     requires threads { (script_of table.now).threads ≡ setup.now.threads }
-    requires few { setup.now.threads ≤ MAX_THREADS }
-    requires stamps { (1 ≤ setup.now.limits.cpus) × (1 ≤ setup.now.limits.migrate) }
+    requires setup { IsSetup setup.now }
     requires pool { pool.now.setup ≡ setup.now }
     requires hands { AreNew pool.now 1 setup.now.threads hands.items }
     ensures own { IsPatcherOf table.now patcher.new }
@@ -225,8 +220,7 @@ fn left_by<'s, R: Wait>(
     requires passes { AreOf pool 1 gathered.passes.items }
     requires count { (length gathered.segments.items ≡ setup.now.threads)
         × (length gathered.passes.items ≡ setup.now.threads) × (length gathered.hands.items ≡ setup.now.threads) }
-    requires enough { setup.now.threads ≤ setup.now.max }
-    requires few { setup.now.threads ≤ MAX_THREADS }
+    requires setup { IsSetup setup.now }
     requires no_first { first.items ≡ [] }
     requires no_buffer { buffers.items ≡ [] }
     requires room { (setup.now.threads ≤ vec_capacity first) × (setup.now.max ≤ vec_capacity buffers) }

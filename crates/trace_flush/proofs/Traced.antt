@@ -14,8 +14,8 @@ use Rattle.fdr_file.specs.declared.header.Header.{Header}
 use Rattle.fdr_file.specs.declared.trace.Block.{Block}
 use Rattle.fdr_file.specs.Files.{BlockFits, HeaderFits, block_told, file_bytes, trace_told}
 use Rattle.fdr_file.specs.Grammar.{IsTrace}
+use Rattle.machine_step.specs.Setups.{IsSetup}
 use Rattle.machine_step.specs.declared.setup.Setup.{Setup}
-use Rattle.traced_run.specs.Fits.{SetupFits}
 use Rattle.traced_run.specs.Kept.{buffer_of, kept_buffers, kept_of, segments_of, stamp_of, thread_buffers}
 use Rattle.traced_run.specs.Runs.{IsRun, ThreadRun, events_of}
 use Rattle.trace_flush.specs.Flush.{IsTraceOf, segment_block, run_header, is_of, thread_blocks, trace_bytes}
@@ -143,14 +143,14 @@ ReadsBack = (header : Header) (buffers : List Filled) → HeaderFits header → 
 
 abbrev pub RunsFit : Type 0
 RunsFit =
-    (bytes : List ℕ) (program : Program) (setup : Setup) (runs : List ThreadRun) → IsAccepted bytes program → SetupFits setup
+    (bytes : List ℕ) (program : Program) (setup : Setup) (runs : List ThreadRun) → IsAccepted bytes program → IsSetup setup
     → IsRun program setup runs → All BufferFits (kept_buffers setup runs)
 
 abbrev pub AreWhole : Type 0
 AreWhole = (size : ℕ) (run : ThreadRun) → run.lost ≡ 0 → flat_map (λ s. s) (kept_of size run) ≡ events_of run
 
 pub run_is_traced : ReadsBack → RunsFit → AreWhole → (bytes : List ℕ) (program : Program) (setup : Setup) (runs : List ThreadRun)
-    → IsAccepted bytes program → SetupFits setup → IsRun program setup runs → IsTraceOf setup runs (trace_bytes setup runs)
+    → IsAccepted bytes program → IsSetup setup → IsRun program setup runs → IsTraceOf setup runs (trace_bytes setup runs)
 run_is_traced back fit whole bytes program setup runs accepted fits is = record {
   trace = trace_told (run_header setup) buffers;
   reads = back (run_header setup) buffers (record { version = refl; frequency = fits.frequency; size = omega (arith, fits.most) })

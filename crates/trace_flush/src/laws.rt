@@ -5,8 +5,8 @@ ghost use Rattle.xray_image.specs.Program.{IsAccepted, Program};
 ghost use Rattle.fdr_buffer.specs.Filled.{Filled};
 ghost use Rattle.machine_step.specs.Buffers.{spare_of};
 ghost use Rattle.machine_step.specs.declared.setup.Setup.{Setup};
-ghost use Rattle.machine_step.specs.Traced.{Traced};
-ghost use Rattle.traced_run.specs.{Fits.{SetupFits}, Left.{Leaves}, Losses.{AreLost, recycled_of}, Runs.{IsRun, ThreadRun}};
+ghost use Rattle.machine_step.specs.{Setups.{IsSetup}, Traced.{Traced}};
+ghost use Rattle.traced_run.specs.{Left.{Leaves}, Losses.{AreLost, recycled_of}, Runs.{IsRun, ThreadRun}};
 ghost use Rattle.trace_flush.specs.Audit.{ThreadAudit, audit_text, recycled_by, thread_audits};
 ghost use Rattle.trace_flush.specs.{Flush.{trace_bytes, IsTraceOf}, Lines.{audit_lines_of, audit_of_run, audits_of}};
 ghost use Rattle.trace_flush.specs.Telling.{HasNumbers, HasRunNumbers, HasSetupNumbers};
@@ -47,7 +47,7 @@ pub fn one_run_of_an_audit()
 /// the last whole segments of exactly the events that they record.
 pub fn a_run_is_traced()
     ensures { (bytes : List ℕ) (program : Program) (setup : Setup) (runs : List ThreadRun)
-        → IsAccepted bytes program → SetupFits setup → IsRun program setup runs
+        → IsAccepted bytes program → IsSetup setup → IsRun program setup runs
         → IsTraceOf setup runs (trace_bytes setup runs) }
 {
     a_file_reads_back();
@@ -59,8 +59,8 @@ pub fn a_run_is_traced()
 /// buffer its size and the 16 bytes of its extents.
 pub fn a_trace_is_short()
     ensures { (bytes : List ℕ) (program : Program) (setup : Setup) (runs : List ThreadRun)
-        → IsAccepted bytes program → SetupFits setup → setup.threads ≤ setup.max
-        → IsRun program setup runs → AreLost setup.size (spare_of setup) runs
+        → IsAccepted bytes program → IsSetup setup → IsRun program setup runs
+        → AreLost setup.size (spare_of setup) runs
         → length (trace_bytes setup runs) ≤ setup.max * (setup.size + 16) + 32 }
 {
     a_run_fits_its_buffers();

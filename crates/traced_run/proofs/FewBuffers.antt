@@ -9,6 +9,7 @@ use Rattle.std.proofs.lemmas.List.Sums.{sum_by-cons}
 use Rattle.fdr_record.specs.declared.event.Event.{Event}
 use Rattle.fdr_buffer.specs.Filled.{Filled}
 use Rattle.machine_step.specs.Buffers.{spare_of}
+use Rattle.machine_step.specs.Setups.{IsSetup}
 use Rattle.machine_step.specs.declared.setup.Setup.{Setup}
 use Rattle.traced_run.specs.Kept.{buffer_of, kept_buffers, segment_count, segments_of, stamp_of, thread_buffers}
 use Rattle.traced_run.specs.Losses.{AreLost, recycled_of}
@@ -63,11 +64,11 @@ no_more : (count lost : ℕ) → (0 < count → lost < count) → (count ≡ 0 �
 no_more zero lost below none = omega (arith, none refl)
 no_more (suc count) lost below none = omega (arith, below (zero-lt-suc count))
 
-pub few_kept : (setup : Setup) (runs : List ThreadRun) → length runs ≡ setup.threads → setup.threads ≤ setup.max
+pub few_kept : (setup : Setup) (runs : List ThreadRun) → IsSetup setup → length runs ≡ setup.threads
     → AreLost setup.size (spare_of setup) runs → length (kept_buffers setup runs) ≤ setup.max
-few_kept setup runs count enough lost =
+few_kept setup runs its count lost =
     let below : All (IsBelow setup.size) runs = λ k d at. no_more (segment_count setup.size (get_or runs k d)) _ (lost.few.below k d at) (lost.few.none k d at) in
-    omega (arith, (counted setup 1 runs below).kept, lost.recycled, count, enough)
+    omega (arith, (counted setup 1 runs below).kept, lost.recycled, count, its.enough)
 
 -- ---- what size they have
 

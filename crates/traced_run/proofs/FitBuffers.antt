@@ -14,7 +14,8 @@ use Rattle.fdr_buffer.specs.Segments.{EventFits, body, has_room, segments}
 use Rattle.machine_step.specs.declared.setup.Setup.{Setup}
 use Rattle.machine_step.specs.Events.{recorded}
 use Rattle.machine_step.specs.PlainStep.{Passing}
-use Rattle.traced_run.specs.Fits.{PassingFits, SetupFits}
+use Rattle.machine_step.specs.Setups.{IsSetup}
+use Rattle.traced_run.specs.Fits.{PassingFits}
 use Rattle.traced_run.specs.Kept.{buffer_of, kept_buffers, segments_of, stamp_of, thread_buffers}
 use Rattle.traced_run.specs.Runs.{IsRun, ThreadRun, events_of}
 use Rattle.traced_run.proofs.FitPassings.{run_fits}
@@ -58,23 +59,23 @@ abbrev pub BodiesHaveRoom : Type 0
 BodiesHaveRoom =
     (size thread : ℕ) (wall : Wall) (pid : ℕ) (events : List Event) → IsTrue (has_room size events) → length (body thread wall pid events) ≤ size
 
-buffer_fits : BodiesHaveRoom → (setup : Setup) (thread : ℕ) → SetupFits setup → thread < 2 ^ 32 → (serial : ℕ) (events : List Event)
+buffer_fits : BodiesHaveRoom → (setup : Setup) (thread : ℕ) → IsSetup setup → thread < 2 ^ 32 → (serial : ℕ) (events : List Event)
     → SegmentFits setup.size events → BufferFits (buffer_of (stamp_of setup) thread (serial, events))
 buffer_fits bodies setup thread fits few serial events its = record {
-  preamble = record { thread = few; secs = fits.secs; micros = fits.micros; pid = fits.pid };
+  preamble = record { thread = few; secs = fits.wall_is.secs; micros = omega (arith, fits.wall_is.micros); pid = omega (arith, fits.pid) };
   events = All-from_recursion EventFits events its.fit;
   within = bodies setup.size thread setup.wall setup.pid events its.room;
   most = fits.most;
 }
 
-numbered_fit : BodiesHaveRoom → (setup : Setup) (thread : ℕ) → SetupFits setup → thread < 2 ^ 32 → (k : ℕ) (segs : List (List Event))
+numbered_fit : BodiesHaveRoom → (setup : Setup) (thread : ℕ) → IsSetup setup → thread < 2 ^ 32 → (k : ℕ) (segs : List (List Event))
     → AllByRecursion (SegmentFits setup.size) segs
     → AllByRecursion (λ (x : ℕ × List Event). BufferFits (buffer_of (stamp_of setup) thread x)) (enumerate_from k segs)
 numbered_fit bodies setup thread fits few k [] its = tt
 numbered_fit bodies setup thread fits few k (s ∷ segs) (here, rest) =
     (buffer_fits bodies setup thread fits few k s here, numbered_fit bodies setup thread fits few (k + 1) segs rest)
 
-thread_fits : HoldAll → HaveRoom → BodiesHaveRoom → (setup : Setup) (thread : ℕ) (run : ThreadRun) → SetupFits setup → thread < 2 ^ 32
+thread_fits : HoldAll → HaveRoom → BodiesHaveRoom → (setup : Setup) (thread : ℕ) (run : ThreadRun) → IsSetup setup → thread < 2 ^ 32
     → All PassingFits run.passed → All BufferFits (thread_buffers setup (thread, run))
 thread_fits hold room bodies setup thread run fits few passings =
     let events = recursion_from_All EventFits (events_of run) (events_fit run.passed run.marks passings) in
@@ -88,7 +89,7 @@ thread_fits hold room bodies setup thread run fits few passings =
 
 -- ---- all threads
 
-all_fit : HoldAll → HaveRoom → BodiesHaveRoom → (setup : Setup) (n : ℕ) (runs : List ThreadRun) → SetupFits setup → n + length runs ≤ 2 ^ 32
+all_fit : HoldAll → HaveRoom → BodiesHaveRoom → (setup : Setup) (n : ℕ) (runs : List ThreadRun) → IsSetup setup → n + length runs ≤ 2 ^ 32
     → ((i : ℕ) (run : ThreadRun) → slice_get runs i ≡ Some run → All PassingFits run.passed)
     → All BufferFits (flat_map (thread_buffers setup) (enumerate_from n runs))
 all_fit hold room bodies setup n [] fits few passings = All-nil BufferFits
@@ -99,7 +100,7 @@ all_fit hold room bodies setup n (run ∷ runs) fits few passings =
     (all_fit hold room bodies setup (n + 1) runs fits (omega (arith, few)) (λ i. passings (suc i))))
 
 pub run_buffers_fit : HoldAll → HaveRoom → BodiesHaveRoom → (bytes : List ℕ) (program : Program) (setup : Setup) (runs : List ThreadRun)
-    → IsAccepted bytes program → SetupFits setup → IsRun program setup runs → All BufferFits (kept_buffers setup runs)
+    → IsAccepted bytes program → IsSetup setup → IsRun program setup runs → All BufferFits (kept_buffers setup runs)
 run_buffers_fit hold room bodies bytes program setup runs accepted fits is =
-    all_fit hold room bodies setup 1 runs fits (omega (arith, is.count, fits.threads))
-    (λ i run found. run_fits bytes program setup.limits (i + 1) run.passed run.end run.last accepted fits.some_cpus fits.cpus (is.plain i run found))
+    all_fit hold room bodies setup 1 runs fits (omega (arith, is.count, fits.few_threads))
+    (λ i run found. run_fits bytes program setup.limits (i + 1) run.passed run.end run.last accepted fits.limits_are (is.plain i run found))

@@ -1,11 +1,12 @@
 -- The passings of a plain run fit the records of events.
-use Rattle.std.proofs.Common.{ℕ, ◌+◌, ◌*◌, ◌/◌, ◌<◌, ◌≤◌, ◌^◌, List, arith}
+use Rattle.std.proofs.Common.{ℕ, ◌+◌, ◌*◌, ◌/◌, ◌<◌, ◌^◌, List, arith}
 use Rattle.std.specs.Prelude.{All}
 use Rattle.std.proofs.lemmas.Nat.{mod_below}
 use Rattle.xray_image.specs.Program.{IsAccepted, Program}
 use Rattle.machine_step.specs.declared.limits.Limits.{Limits}
 use Rattle.machine_step.specs.declared.end.End.{End}
 use Rattle.machine_step.specs.PlainStep.{Passing, PlainRun, State}
+use Rattle.machine_step.specs.Setups.{AreLimits}
 use Rattle.machine_step.proofs.EachPassing.{OfEach, steps_each}
 use Rattle.traced_run.specs.Fits.{PassingFits}
 use Rattle.traced_run.proofs.SmallIds.{small_id}
@@ -18,15 +19,15 @@ run_ids bytes program limits thread passed end last accepted (n, run) =
     steps_each (λ p. p.id < 2 ^ 28) program limits thread n _ passed end last (λ s k sled found. small_id bytes program k sled accepted found) run
 
 pub run_fits : (bytes : List ℕ) (program : Program) (limits : Limits) (thread : ℕ) (passed : List Passing) (end : End) (last : State)
-    → IsAccepted bytes program → 1 ≤ limits.cpus → limits.cpus < 2 ^ 16 → PlainRun program limits thread passed end last → All PassingFits passed
-run_fits bytes program limits thread passed end last accepted some few (n, run) =
+    → IsAccepted bytes program → AreLimits limits → PlainRun program limits thread passed end last → All PassingFits passed
+run_fits bytes program limits thread passed end last accepted its (n, run) =
     steps_each PassingFits program limits thread n _ passed end last each run
   where
     each : OfEach PassingFits program limits thread
     each s k sled found = record {
       cpu =
-          let below = mod_below (thread + s.passings / limits.migrate) limits.cpus (omega (arith, some)) in
-          omega (arith, below, few);
+          let below = mod_below (thread + s.passings / limits.migrate) limits.cpus its.some_cpu in
+          omega (arith, below, its.few_cpus);
       id = small_id bytes program k sled accepted found;
       counter = mod_below (limits.tsc + limits.tick * s.instructions) (2 ^ 64) (omega arith);
     }

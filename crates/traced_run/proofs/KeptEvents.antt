@@ -1,14 +1,17 @@
 -- The buffers that a run leaves hold events.
-use Rattle.std.proofs.Common.{◌≡◌, ◌≢◌, ◌<◌, ℕ, zero, suc, ◌+◌, List, [], ◌∷◌, ◌++◌, refl, sym, ap, ◌∙◌, arith, length, drop, map, lt-ltb}
-use Rattle.std.specs.Prelude.{All, filter}
+use Rattle.std.proofs.Common.{◌≡◌, ◌≢◌, ◌<◌, ℕ, zero, suc, ◌+◌, List, [], ◌∷◌, ◌++◌, refl, sym, ap, ◌∙◌, arith, length, drop, map, lt-ltb, subst}
+use Rattle.std.specs.Prelude.{All, IsPermutation, filter}
 use Rattle.std.specs.List.{AllByRecursion, enumerate_from, flat_map}
 use Rattle.std.proofs.lemmas.List.Concat.{flat_map-cons}
 use Rattle.std.proofs.lemmas.List.Elements.{recursion_from_All, filter-append}
+use Rattle.std.proofs.lemmas.List.Sorted.{IsPermutation-refl}
 use Rattle.fdr_record.specs.declared.event.Event.{Event}
 use Rattle.fdr_buffer.specs.Filled.{Filled, has_event}
 use Rattle.fdr_buffer.specs.Segments.{segments}
 use Rattle.machine_step.specs.declared.setup.Setup.{Setup}
+use Rattle.machine_step.specs.Traced.{Traced}
 use Rattle.traced_run.specs.Kept.{buffer_of, kept_buffers, segments_of, stamp_of, thread_buffers}
+use Rattle.traced_run.specs.Left.{Leaves, LeavesInAnyOrder}
 use Rattle.traced_run.specs.Runs.{ThreadRun, events_of}
 
 -- the law that segments have events
@@ -49,3 +52,15 @@ all_filled have setup k (run ∷ runs) =
 
 pub kept_filled : HaveEvents → (setup : Setup) (runs : List ThreadRun) → filter has_event (kept_buffers setup runs) ≡ kept_buffers setup runs
 kept_filled have setup runs = all_filled have setup 1 runs
+
+-- what a run leaves in order, it leaves in any order
+pub in_any_order : HaveEvents → (setup : Setup) (runs : List ThreadRun) (cpus : List Traced) (segments first : List ℕ) (buffers : List Filled)
+    → Leaves setup runs cpus segments first buffers → LeavesInAnyOrder setup runs cpus segments first buffers
+in_any_order have setup runs cpus segments first buffers leaves =
+    let kept = kept_buffers setup runs in
+    record {
+      leaves = subst (Leaves setup runs cpus segments first) leaves.buffers_are leaves;
+      buffers_are =
+          subst (λ (bs : List Filled). IsPermutation (filter has_event bs) kept) (sym leaves.buffers_are)
+          (subst (λ (bs : List Filled). IsPermutation bs kept) (sym (kept_filled have setup runs)) (IsPermutation-refl kept));
+    }

@@ -1,9 +1,9 @@
 -- What a run leaves.
-use Rattle.std.specs.Prelude.{◌≡◌, ◌+◌, ℕ, List, length, map, slice_get, Some}
+use Rattle.std.specs.Prelude.{◌≡◌, ◌+◌, ℕ, List, IsPermutation, filter, length, map, slice_get, Some}
 use Rattle.xray_image.specs.Program.{Program}
 use Rattle.patch_script.specs.declared.command.Command.{Command}
 use Rattle.patch_script.specs.Micros.{hold_of}
-use Rattle.fdr_buffer.specs.Filled.{Filled}
+use Rattle.fdr_buffer.specs.Filled.{Filled, has_event}
 use Rattle.machine_step.specs.declared.setup.Setup.{Setup}
 use Rattle.machine_step.specs.Ended.{EndsAsPlain}
 use Rattle.machine_step.specs.Loads.{Load}
@@ -33,3 +33,9 @@ pub record Leaves (setup : Setup) (runs : List ThreadRun) (cpus : List Traced) (
   pub segments_are : segments ≡ map (segment_count setup.size) runs
   pub first_are : first ≡ map (λ run. run.lost) runs
   pub buffers_are : buffers ≡ kept_buffers setup runs
+
+-- What a run leaves whose buffers aren't put in order. Those that hold an event are those of the segments that are left,
+-- in any order.
+pub record LeavesInAnyOrder (setup : Setup) (runs : List ThreadRun) (cpus : List Traced) (segments first : List ℕ) (buffers : List Filled) : Type 0 where
+  pub leaves : Leaves setup runs cpus segments first (kept_buffers setup runs)
+  pub buffers_are : IsPermutation (filter has_event buffers) (kept_buffers setup runs)

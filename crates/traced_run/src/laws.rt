@@ -3,17 +3,18 @@
 ghost use Rattle.std.specs.Prelude.{◌≡◌, ◌≤◌, ◌<◌, ◌^◌, ◌++◌, List, ℕ, All, Option, filter, length, take};
 ghost use Rattle.std.specs.List.{flat_map};
 ghost use Rattle.xray_image.specs.Program.{IsAccepted, Program};
-ghost use Rattle.fdr_buffer.specs.{Filled.{has_event}, Fits.{BufferFits}};
-ghost use Rattle.machine_step.specs.Buffers.{spare_of};
+ghost use Rattle.fdr_buffer.specs.{Filled.{Filled, has_event}, Fits.{BufferFits}};
+ghost use Rattle.machine_step.specs.{Buffers.{spare_of}, Setups.{AreLimits, IsSetup}};
 ghost use Rattle.machine_step.specs.declared.end.End.{End};
 ghost use Rattle.machine_step.specs.declared.limits.Limits.{Limits};
 ghost use Rattle.machine_step.specs.declared.setup.Setup.{Setup};
 ghost use Rattle.machine_step.specs.PlainStep.{Passing, PlainRun, State};
-ghost use Rattle.machine_step.specs.Loads.{Load};
+ghost use Rattle.machine_step.specs.{Loads.{Load}, Traced.{Traced}};
 ghost use Rattle.traced_run.specs.Decoded.{DecodesWhole};
 ghost use Rattle.traced_run.specs.Executed.{Executes};
-ghost use Rattle.traced_run.specs.Fits.{PassingFits, SetupFits};
+ghost use Rattle.traced_run.specs.Fits.{PassingFits};
 ghost use Rattle.traced_run.specs.Kept.{kept_buffers, kept_of, segments_of, thread_buffers};
+ghost use Rattle.traced_run.specs.Left.{Leaves, LeavesInAnyOrder};
 ghost use Rattle.traced_run.specs.Losses.{AreLost, recycled_of, without_losses};
 ghost use Rattle.traced_run.specs.Runs.{EachThread, IsRun, ThreadRun, events_of};
 
@@ -46,12 +47,16 @@ pub fn a_run_without_losses_is_whole()
     segments_hold_all();
 }
 
-/// Each buffer that a run leaves holds an event: those of one thread, and those of all.
+/// Each buffer that a run leaves holds an event: those of one thread, and those of all. So what a run
+/// leaves in order it also leaves in any order.
 pub fn kept_buffers_hold_events()
     ensures one { (setup : Setup) (thread : ℕ) (run : ThreadRun)
         → filter has_event (thread_buffers setup (thread, run)) ≡ thread_buffers setup (thread, run) }
     ensures all { (setup : Setup) (runs : List ThreadRun)
         → filter has_event (kept_buffers setup runs) ≡ kept_buffers setup runs }
+    ensures any_order { (setup : Setup) (runs : List ThreadRun) (cpus : List Traced) (segments first : List ℕ)
+        (buffers : List Filled) → Leaves setup runs cpus segments first buffers
+        → LeavesInAnyOrder setup runs cpus segments first buffers }
 {
     segments_hold_all();
 }
@@ -70,22 +75,21 @@ pub fn passings_are_few(cpu: &Cpu)
     cpu.passings();
 }
 
-/// The ids of a plain run's passings fit the records of events. So do their stamps, if there is at
-/// least one processor, and at most as many as the field can count.
+/// The ids of a plain run's passings fit the records of events. So do their stamps, if threads may
+/// have its limits.
 pub fn passings_fit()
     ensures ids { (bytes : List ℕ) (program : Program) (limits : Limits) (thread : ℕ)
         (passed : List Passing) (end : End) (last : State) → IsAccepted bytes program
         → PlainRun program limits thread passed end last → All (λ p. p.id < 2 ^ 28) passed }
     ensures all { (bytes : List ℕ) (program : Program) (limits : Limits) (thread : ℕ)
-        (passed : List Passing) (end : End) (last : State) → IsAccepted bytes program
-        → 1 ≤ limits.cpus → limits.cpus < 2 ^ 16 → PlainRun program limits thread passed end last
-        → All PassingFits passed }
+        (passed : List Passing) (end : End) (last : State) → IsAccepted bytes program → AreLimits limits
+        → PlainRun program limits thread passed end last → All PassingFits passed }
 {}
 
 /// All that a run leaves in its buffers fits them, and fits the records that it is read from later.
 pub fn a_run_fits_its_buffers()
     ensures { (bytes : List ℕ) (program : Program) (setup : Setup) (runs : List ThreadRun)
-        → IsAccepted bytes program → SetupFits setup → IsRun program setup runs
+        → IsAccepted bytes program → IsSetup setup → IsRun program setup runs
         → All BufferFits (kept_buffers setup runs) }
 {
     segments_hold_all();
@@ -94,8 +98,8 @@ pub fn a_run_fits_its_buffers()
 
 /// A run leaves at most as many buffers as its setup has, and each has the setup's size.
 pub fn a_run_leaves_few_buffers()
-    ensures few { (setup : Setup) (runs : List ThreadRun) → length runs ≡ setup.threads
-        → setup.threads ≤ setup.max → AreLost setup.size (spare_of setup) runs
+    ensures few { (setup : Setup) (runs : List ThreadRun) → IsSetup setup
+        → length runs ≡ setup.threads → AreLost setup.size (spare_of setup) runs
         → length (kept_buffers setup runs) ≤ setup.max }
     ensures sizes { (setup : Setup) (runs : List ThreadRun)
         → All (λ buffer. buffer.size ≡ setup.size) (kept_buffers setup runs) }

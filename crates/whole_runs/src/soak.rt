@@ -5,6 +5,7 @@ use std::sync::Wait;
 use std::test::Fail;
 use std::thread::Threads;
 use xray_io::MemDesk;
+use xray_program::soak_inputs;
 
 /// What the model of `tools/soak_runs.py` prints for seed 1.
 const SUMMARY_OF_1: &str = "soak 1\n\
@@ -49,6 +50,26 @@ fn each_number_is_soaked(rt: HostRuntime) -> Result<(), Fail> {
         let first = run.out.as_str().lines().next().unwrap_or("");
         check_same(&rt, &first.strip_prefix("soak "), &Some(word.as_str()));
     }
+    Ok(())
+}
+
+/// The first lines of the text of seed 0, by the model of `soak_inputs`. The first function has two
+/// rounds.
+const TEXT_OF_0: &[u8] = b"base 0x1000\nfn f0 always\nmov eax, 17\nout 1\ncall f1\n\
+    mov eax, 109\nout 1\ncall f1\nret\nfn f1 always\n";
+
+/// Those of seed 1. The first function has one round.
+const TEXT_OF_1: &[u8] =
+    b"base 0x1000\nfn f0 always\nmov eax, 204\nout 1\ncall f2\nret\nfn f1 always\n";
+
+#[test]
+fn the_inputs_of_a_number_are_given(rt: HostRuntime) -> Result<(), Fail> {
+    let (text, script, schedule) = soak_inputs(rt.alloc(), 0)?;
+    assert!(rt; text.starts_with(TEXT_OF_0));
+    assert!(rt; script.starts_with(b"patch\nset_handler\ninit\ngo\n"));
+    assert!(rt; schedule.starts_with(b"t 2 131\nt 4 20\n"));
+    let (text, _script, _schedule) = soak_inputs(rt.alloc(), 1)?;
+    assert!(rt; text.starts_with(TEXT_OF_1));
     Ok(())
 }
 

@@ -1,6 +1,8 @@
 //! `xray`: LLVM's XRay function tracing, with sleds that are patched while threads run.
 #![tactic(auto)]
 
+ghost use Rattle.fdr_buffer.specs.Times.{IsTime};
+
 use std::process::ExitCode;
 use std::time::{SystemTime, UNIX_EPOCH};
 use std::{env, io};
@@ -43,7 +45,9 @@ fn words_after_name(rt: &HostRuntime) -> io::Result<Vec<String>> {
 
 /// The time of the clock. It is 1970-01-01 00:00:00 UTC if there is no clock, or if the clock is set
 /// before that.
-fn wall_time(rt: &HostRuntime) -> Wall {
+fn wall_time(rt: &HostRuntime) -> Wall
+    ensures { IsTime result }
+{
     match SystemTime::now(rt) {
         Ok(now) => since_epoch(now),
         Err(_) => EPOCH,
@@ -54,7 +58,9 @@ fn wall_time(rt: &HostRuntime) -> Wall {
 const EPOCH: Wall = Wall { secs: 0, micros: 0 };
 
 /// A time of the clock as seconds and microseconds.
-fn since_epoch(now: SystemTime) -> Wall {
+fn since_epoch(now: SystemTime) -> Wall
+    ensures { IsTime result }
+{
     match now.duration_since(UNIX_EPOCH) {
         Ok(passed) => Wall {
             secs: passed.as_secs(),

@@ -12,7 +12,7 @@ use Rattle.xray_program.specs.Outputs.{FailsWriting}
 use Rattle.command_words.specs.Words.{Command}
 use Rattle.xray_program.specs.private.CallLaws.{CallLaws}
 use Rattle.xray_program.specs.private.Stops.{answer_of, stop_status, told_of}
-use Rattle.xray_program.specs.private.Works.{Ends, KeepsOthers, SaidFits, StandsAfter, Writes}
+use Rattle.xray_program.specs.private.Works.{Ends, KeepsOthers, SaidHasRanges, StandsAfter, Writes}
 use Rattle.xray_program.specs.declared.stop.Stop.{Stop}
 use Rattle.xray_program.specs.declared.stop.Stop.TheVariants as stops
 use Rattle.xray_io.specs.World.{DeskView, World}
@@ -78,9 +78,9 @@ leaves_all said before after outcome outputs text meant is writes =
 
 -- how the parts of the contract follow, one for each ending
 by_ending : CallLaws → (Way : List Call → Type 0) (said : Option Command) (before after : World) (ending : Ending)
-    → (status_at ending ≡ 0 → SaidFits said) → StandsAfter said before.desk after.desk before.out after.out ending → KeepsOthers (outputs_named said) before.desk after.desk
+    → (status_at ending ≡ 0 → SaidHasRanges said) → StandsAfter said before.desk after.desk before.out after.out ending → KeepsOthers (outputs_named said) before.desk after.desk
     → Went Way (InOrder said before.desk after.desk ending) → Says before.err after.err (err_line_at ending) → Answered said before after Way (status_at ending)
-by_ending laws Way said before after (With BadLine) fits (is, nothing) kept order told = record {
+by_ending laws Way said before after (With BadLine) ranges (is, nothing) kept order told = record {
   ending = With BadLine;
   status = refl;
   told = told;
@@ -98,7 +98,7 @@ by_ending laws Way said before after (With BadLine) fits (is, nothing) kept orde
   complete = inl (BadLine, means_bad said before.desk.held is, refl);
   headline = λ e. absurd cc;
 }
-by_ending laws Way said before after (With (Refused n kind refusal)) fits (meant, nothing) kept order told = record {
+by_ending laws Way said before after (With (Refused n kind refusal)) ranges (meant, nothing) kept order told = record {
   ending = With (Refused n kind refusal);
   status = refl;
   told = told;
@@ -116,7 +116,7 @@ by_ending laws Way said before after (With (Refused n kind refusal)) fits (meant
   complete = inl (Refused n kind refusal, meant, refl);
   headline = λ e. absurd cc;
 }
-by_ending laws Way said before after (With (TooLong n)) fits (meant, nothing) kept order told = record {
+by_ending laws Way said before after (With (TooLong n)) ranges (meant, nothing) kept order told = record {
   ending = With (TooLong n);
   status = refl;
   told = told;
@@ -134,7 +134,7 @@ by_ending laws Way said before after (With (TooLong n)) fits (meant, nothing) ke
   complete = inl (TooLong n, meant, refl);
   headline = λ e. absurd cc;
 }
-by_ending laws Way said before after (With (Unread n)) fits ((turn, cause), nothing) kept order told = record {
+by_ending laws Way said before after (With (Unread n)) ranges ((turn, cause), nothing) kept order told = record {
   ending = With (Unread n);
   status = refl;
   told = told;
@@ -157,7 +157,7 @@ by_ending laws Way said before after (With (Unread n)) fits ((turn, cause), noth
         → IsAnswer said before after 3
     answers (inl rose) = inr (inr (inl (refl, rose)))
     answers (inr (absent, meant)) = inl (Unread n, meant, refl)
-by_ending laws Way said before after (With (Done outputs text)) fits (meant, writes) kept order told = record {
+by_ending laws Way said before after (With (Done outputs text)) ranges (meant, writes) kept order told = record {
   ending = With (Done outputs text);
   status = refl;
   told = told;
@@ -174,11 +174,11 @@ by_ending laws Way said before after (With (Done outputs text)) fits (meant, wri
   names = kept;
   complete = inl (Done outputs text, meant, refl);
   headline = λ e. (
-    simulated laws said before after (fits refl) outputs text meant writes.whole writes.printed,
-    beside laws said before after (fits refl) outputs text meant writes.whole writes.printed,
+    simulated laws said before after (ranges refl) outputs text meant writes.whole writes.printed,
+    beside laws said before after (ranges refl) outputs text meant writes.whole writes.printed,
   );
 }
-by_ending laws Way said before after (With (Fell outputs text trouble)) fits (meant, writes) kept order told = record {
+by_ending laws Way said before after (With (Fell outputs text trouble)) ranges (meant, writes) kept order told = record {
   ending = With (Fell outputs text trouble);
   status = refl;
   told = told;
@@ -196,7 +196,7 @@ by_ending laws Way said before after (With (Fell outputs text trouble)) fits (me
   complete = inl (Fell outputs text trouble, meant, refl);
   headline = λ e. absurd cc;
 }
-by_ending laws Way said before after (Unwritten n outputs) fits fails kept order told = record {
+by_ending laws Way said before after (Unwritten n outputs) ranges fails kept order told = record {
   ending = Unwritten n outputs;
   status = refl;
   told = told;
@@ -228,7 +228,7 @@ by_ending laws Way said before after (Unwritten n outputs) fits fails kept order
         → Rose before.desk.write_faults after.desk.write_faults ⊎ Rose before.out.faults after.out.faults
     fault (inl (at, silent)) = inl at.fault
     fault (inr at) = inr at.fault
-by_ending laws Way said before after NoMemory fits nothing kept order told = record {
+by_ending laws Way said before after NoMemory ranges nothing kept order told = record {
   ending = NoMemory;
   status = refl;
   told = told;
@@ -249,11 +249,11 @@ by_ending laws Way said before after NoMemory fits nothing kept order told = rec
 
 -- a call that ended in this way, with its line on err
 pub answered : CallLaws → (Way : List Call → Type 0) (said : Option Command) (before after : World) (answer : ℕ) (line : List ℕ)
-    → (answer ≡ 0 → SaidFits said) → Ends said before.desk after.desk before.out after.out Way answer line → Says before.err after.err line
+    → (answer ≡ 0 → SaidHasRanges said) → Ends said before.desk after.desk before.out after.out Way answer line → Says before.err after.err line
     → Answered said before after Way answer
-answered laws Way said before after answer line fits ends says =
+answered laws Way said before after answer line ranges ends says =
     subst (Answered said before after Way) ends.status
-    (by_ending laws Way said before after ends.ending (λ e. fits (sym ends.status ∙ e)) ends.stands ends.names ends.order
+    (by_ending laws Way said before after ends.ending (λ e. ranges (sym ends.status ∙ e)) ends.stands ends.names ends.order
     (subst (λ (l : List ℕ). Says before.err after.err l) (sym ends.told) says))
 
 -- what stopped a call isn't 0
@@ -266,14 +266,14 @@ stops_above (stops.Fell words) e = cc
 stops_above (stops.Unwritten n) e = cc
 stops_above stops.NoMemory e = cc
 
-fits_at : {P : Type 0} (ended : Result (Unit {0}) Stop) → OnOk ended P → answer_of ended ≡ 0 → P
-fits_at (Ok done) fits none = fits
-fits_at (Err stop) fits none = absurd (stops_above stop none)
+ranges_at : {P : Type 0} (ended : Result (Unit {0}) Stop) → OnOk ended P → answer_of ended ≡ 0 → P
+ranges_at (Ok done) ranges none = ranges
+ranges_at (Err stop) ranges none = absurd (stops_above stop none)
 
 -- a call that answers the status of its end, and says its line
 pub answers_its_end : CallLaws → {Way : List Call → Type 0} {said : Option Command} {before after : World} {answer : ℕ} (ended : Result (Unit {0}) Stop)
-    → Ends said before.desk after.desk before.out after.out Way (answer_of ended) (told_of ended) → OnOk ended (SaidFits said)
+    → Ends said before.desk after.desk before.out after.out Way (answer_of ended) (told_of ended) → OnOk ended (SaidHasRanges said)
     → Says before.err after.err (told_of ended) → answer ≡ answer_of ended → Answered said before after Way answer
-answers_its_end laws {Way = Way} {said = said} {before = before} {after = after} {answer = answer} ended ends fits says is =
+answers_its_end laws {Way = Way} {said = said} {before = before} {after = after} {answer = answer} ended ends ranges says is =
     subst (Answered said before after Way) (sym is)
-    (answered laws Way said before after (answer_of ended) (told_of ended) (fits_at ended fits) ends says)
+    (answered laws Way said before after (answer_of ended) (told_of ended) (ranges_at ended ranges) ends says)

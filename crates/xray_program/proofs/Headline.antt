@@ -7,6 +7,7 @@ use Rattle.xray_io.specs.Desk.{Entry, Holds, made_to_hold}
 use Rattle.xray_io.specs.Sink.{Adds}
 use Rattle.machine_step.specs.Buffers.{spare_of}
 use Rattle.machine_step.specs.Loads.{Load}
+use Rattle.machine_step.specs.Setups.{IsSetup}
 use Rattle.machine_step.specs.declared.setup.Setup.{Setup}
 use Rattle.machine_step.specs.PlainStep.{Passing}
 use Rattle.patch_script.specs.Micros.{hold_of}
@@ -27,14 +28,15 @@ use Rattle.xray_program.specs.Outcomes.{Outcome, Done}
 use Rattle.xray_program.specs.Outputs.{OutputsAreWhole}
 use Rattle.xray_program.specs.Run.{FollowsPlan, LoadsFollowPlan, RunComes, RunsBeside}
 use Rattle.xray_program.specs.Sim.{FollowsSchedule, Replayed, Replays, SimComes}
-use Rattle.xray_program.specs.Setups.{FitsReports, setup_of}
+use Rattle.xray_program.specs.Setups.{setup_of}
 use Rattle.xray_program.specs.Taking.{Form, Leaves, RefuseIf, Sound, Take}
 use Rattle.xray_program.specs.Traced.{IsTraced, Traces, written_of}
 use Rattle.command_words.specs.Words.{Command}
 use Rattle.xray_program.specs.private.CallLaws.{CallLaws}
-use Rattle.xray_program.specs.private.Works.{SaidFits}
+use Rattle.xray_program.specs.private.Works.{SaidHasRanges}
 use Rattle.xray_io.specs.World.{World}
 use Rattle.xray_program.proofs.RunLoads.{leave_all}
+use Rattle.xray_program.proofs.RunSetups.{options_make_a_setup}
 
 -- if all is done, an input that is held reads as a value, and the rest is done with it
 record Read {X : Type 0} (Reads : List ℕ → X → Type 0) (bytes : List ℕ) (Next : X → Type 0) : Type 0 where
@@ -79,17 +81,17 @@ files_hold trace audit setup runs outputs old new are whole =
 
 -- lawful runs whose trace, audit and state texts were written are traced
 is_traced : CallLaws → (Lawful : Program → Plan → List ThreadRun → (ℕ → List Load) → Type 0) (Were : List ThreadRun → Type 0) (before after : World)
-    (t a image script : List ℕ) (setup : Setup) → FitsReports setup → (outputs : List (List ℕ × List ℕ)) (text : List ℕ) (program : Program) (plan : Plan)
+    (t a image script : List ℕ) (setup : Setup) → IsSetup setup → (outputs : List (List ℕ × List ℕ)) (text : List ℕ) (program : Program) (plan : Plan)
     → IsAccepted image program → plan_of program setup.threads script ≡ Ok plan → (traces : Traces Were program setup t a outputs text)
     → OutputsAreWhole outputs before.desk.held after.desk.held → Adds before.out.written after.out.written text
     → (loads : ℕ → List Load) → Lawful program plan traces.runs loads
     → EachThread traces.runs (λ number run. DecodesWhole program number (hold_of number (commands_of plan.lines)) run (loads number))
     → AreLost setup.size (spare_of setup) traces.runs → IsTraced Lawful image script t a setup before after
-is_traced laws Lawful Were before after t a image script setup fits outputs text program plan accepted reads traces whole adds loads lawful decoded losses =
+is_traced laws Lawful Were before after t a image script setup is outputs text program plan accepted reads traces whole adds loads lawful decoded losses =
     let hold = files_hold t a setup traces.runs outputs before.desk.held after.desk.held traces.outputs_are whole in
     let Added : List ℕ → Type 0 = λ more. Adds before.out.written after.out.written more in
     record {
-      fits = fits;
+      is_setup = is;
       runs = traces.runs;
       ran = record {
         program = program;
@@ -109,12 +111,12 @@ is_traced laws Lawful Were before after t a image script setup fits outputs text
 
 -- ---- `sim`
 
-simulated_by : CallLaws → (before after : World) (i s c t a image script schedule : List ℕ) (setup : Setup) → FitsReports setup
+simulated_by : CallLaws → (before after : World) (i s c t a image script schedule : List ℕ) (setup : Setup) → IsSetup setup
     → (outputs : List (List ℕ × List ℕ)) (text : List ℕ) → before.desk.held i ≡ Holds image → before.desk.held s ≡ Holds script
     → before.desk.held c ≡ Holds schedule → SimComes Sound before.desk.held i s c t a setup (Done outputs text)
     → OutputsAreWhole outputs before.desk.held after.desk.held → Adds before.out.written after.out.written text
     → IsTraced (FollowsSchedule schedule setup) image script t a setup before after
-simulated_by laws before after i s c t a image script schedule setup fits outputs text image_held script_held schedule_held comes whole adds =
+simulated_by laws before after i s c t a image script schedule setup is outputs text image_held script_held schedule_held comes whole adds =
     let held = before.desk.held in
     let first = read_on image_form held i
     (λ program. Take (script_form program setup.threads) 1 Sound held s (λ plan. Take (schedule_form setup.threads) 2 Sound held c (Replays s t a setup program plan)))
@@ -125,7 +127,7 @@ simulated_by laws before after i s c t a image script schedule setup fits output
     let still = unrefused (waiting_line second.value.lines) s (codes "script")
     (Leaves (Traces (Replayed first.value second.value third.value setup) first.value setup t a)) outputs text third.next in
     let traces = left_alike (Traces (Replayed first.value second.value third.value setup) first.value setup t a) outputs text still.1 in
-    is_traced laws (FollowsSchedule schedule setup) (Replayed first.value second.value third.value setup) before after t a image script setup fits
+    is_traced laws (FollowsSchedule schedule setup) (Replayed first.value second.value third.value setup) before after t a image script setup is
     outputs text first.value second.value first.reads second.reads traces whole adds
     (λ number. of_thread traces.lawful.last.moment.loads number)
     (record {
@@ -139,21 +141,21 @@ simulated_by laws before after i s c t a image script schedule setup fits output
     (laws.tears first.value (commands_of second.value.lines) schedule third.value setup traces.runs third.reads traces.lawful)
     (laws.loses first.value (commands_of second.value.lines) schedule third.value setup traces.runs third.reads traces.lawful)
 
-pub simulated : CallLaws → (said : Option Command) (before after : World) → SaidFits said → (outputs : List (List ℕ × List ℕ)) (text : List ℕ)
+pub simulated : CallLaws → (said : Option Command) (before after : World) → SaidHasRanges said → (outputs : List (List ℕ × List ℕ)) (text : List ℕ)
     → Means said before.desk.held (Done outputs text) → OutputsAreWhole outputs before.desk.held after.desk.held
     → Adds before.out.written after.out.written text → SimIsTraced said before after
-simulated laws said before after fits outputs text meant whole adds i s c t a image script schedule options says image_held script_held schedule_held =
-    simulated_by laws before after i s c t a image script schedule (setup_of options) (subst SaidFits says fits) outputs text image_held script_held schedule_held (rw says at meant)
+simulated laws said before after ranges outputs text meant whole adds i s c t a image script schedule options says image_held script_held schedule_held =
+    simulated_by laws before after i s c t a image script schedule (setup_of options) (options_make_a_setup options (subst SaidHasRanges says ranges).0) outputs text image_held script_held schedule_held (rw says at meant)
     whole adds
 
 -- ---- `run`
 
-beside_by : CallLaws → (before after : World) (i s t a image script : List ℕ) (setup : Setup) → FitsReports setup
+beside_by : CallLaws → (before after : World) (i s t a image script : List ℕ) (setup : Setup) → IsSetup setup
     → (outputs : List (List ℕ × List ℕ)) (text : List ℕ) → before.desk.held i ≡ Holds image → before.desk.held s ≡ Holds script
     → RunComes Sound before.desk.held i s t a setup (Done outputs text)
     → OutputsAreWhole outputs before.desk.held after.desk.held → Adds before.out.written after.out.written text
     → IsTraced LoadsFollowPlan image script t a setup before after
-beside_by laws before after i s t a image script setup fits outputs text image_held script_held comes whole adds =
+beside_by laws before after i s t a image script setup is outputs text image_held script_held comes whole adds =
     let held = before.desk.held in
     let first = read_on image_form held i
     (λ program. Take (script_form program setup.threads) 1 Sound held s (λ plan. RunsBeside t a setup program plan))
@@ -163,7 +165,7 @@ beside_by laws before after i s t a image script setup fits outputs text image_h
     let traces = left_alike (Traces (FollowsPlan setup first.value second.value) first.value setup t a) outputs text second.next in
     let commands = commands_of second.value.lines in
     let made = leave_all first.value commands traces.runs traces.lawful.follow in
-    is_traced laws LoadsFollowPlan (FollowsPlan setup first.value second.value) before after t a image script setup fits
+    is_traced laws LoadsFollowPlan (FollowsPlan setup first.value second.value) before after t a image script setup is
     outputs text first.value second.value first.reads second.reads traces whole adds made.loads
     (record {
       follow = λ i run found. (made.are i run found).follow;
@@ -177,9 +179,9 @@ beside_by laws before after i s t a image script setup fits outputs text image_h
     })
     traces.lawful.losses
 
-pub beside : CallLaws → (said : Option Command) (before after : World) → SaidFits said → (outputs : List (List ℕ × List ℕ)) (text : List ℕ)
+pub beside : CallLaws → (said : Option Command) (before after : World) → SaidHasRanges said → (outputs : List (List ℕ × List ℕ)) (text : List ℕ)
     → Means said before.desk.held (Done outputs text) → OutputsAreWhole outputs before.desk.held after.desk.held
     → Adds before.out.written after.out.written text → RunIsTraced said before after
-beside laws said before after fits outputs text meant whole adds i s t a image script options says image_held script_held =
-    beside_by laws before after i s t a image script (setup_of options) (subst SaidFits says fits) outputs text image_held script_held (rw says at meant)
+beside laws said before after ranges outputs text meant whole adds i s t a image script options says image_held script_held =
+    beside_by laws before after i s t a image script (setup_of options) (options_make_a_setup options (subst SaidHasRanges says ranges).0) outputs text image_held script_held (rw says at meant)
     whole adds

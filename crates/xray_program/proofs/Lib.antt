@@ -18,6 +18,7 @@ pub mod Reports
 pub mod RunExists
 pub mod RunLaws
 pub mod RunLoads
+pub mod RunSetups
 pub mod RunTurns
 pub mod RunWritten
 pub mod Saying

@@ -1,27 +1,24 @@
 -- What is written of what a run leaves.
-use Rattle.std.proofs.Common.{◌≡◌, ◌<◌, ◌+◌, ◌++◌, ◌∙◌, ℕ, zero, suc, List, [], ◌∷◌, drop, filter, length, map, Some, refl, sym, ap, arith, subst}
-use Rattle.std.specs.Prelude.{IsPermutation, IsTrue}
+use Rattle.std.proofs.Common.{◌≡◌, ◌<◌, ◌+◌, ◌++◌, ◌∙◌, ℕ, zero, suc, List, [], ◌∷◌, drop, length, map, Some, refl, sym, ap, arith, subst}
+use Rattle.std.specs.Prelude.{IsTrue, Vec}
+use Rattle.std.specs.declared.alloc.Global.{Global}
 use Rattle.std.specs.List.{All, AllByRecursion, enumerate_from, flat_map, slice_get}
 use Rattle.std.proofs.lemmas.List.{length-map}
 use Rattle.std.proofs.lemmas.List.Concat.{flat_map-cons}
 use Rattle.std.proofs.lemmas.List.Elements.{All-cons, All-from_recursion, All-nil}
 use Rattle.std.proofs.lemmas.Option.{slice_get_within}
 use Rattle.fdr_record.specs.declared.event.Event.{Event}
-use Rattle.fdr_buffer.specs.Filled.{Filled, has_event}
+use Rattle.fdr_buffer.specs.Filled.{Filled}
 use Rattle.machine_step.specs.declared.setup.Setup.{Setup}
 use Rattle.machine_step.specs.Texts.{state_text}
 use Rattle.machine_step.specs.Traced.{IsDone, Traced}
-use Rattle.patch_script.specs.declared.command.Command.{Command}
-use Rattle.sled_rule.specs.declared.views.WorkView.{WorkView}
-use Rattle.thread_run.specs.Runs.{HaveRunBeside}
-use Rattle.xray_image.specs.Program.{Program}
 use Rattle.fdr_file.specs.Files.{file_bytes}
 use Rattle.trace_flush.specs.Audit.{ThreadAudit, audit_text, recycled_by, thread_audits}
 use Rattle.trace_flush.specs.Flush.{run_header, trace_bytes}
 use Rattle.trace_flush.specs.Lines.{audits_of, audit_lines_of}
 use Rattle.trace_flush.specs.declared.line.AuditLine.{AuditLine}
 use Rattle.traced_run.specs.Kept.{buffer_of, kept_buffers, segment_count, segments_of, stamp_of, thread_buffers}
-use Rattle.traced_run.specs.Left.{HasRun, Leaves}
+use Rattle.traced_run.specs.Left.{HasRun, Leaves, LeavesInAnyOrder}
 use Rattle.traced_run.specs.Losses.{recycled_of}
 use Rattle.traced_run.specs.Runs.{ThreadRun}
 use Rattle.machine_step.specs.EndedText.{thread_text}
@@ -162,24 +159,12 @@ all_begun setup runs buffers is =
     (All-from_recursion (λ (b : Filled). IsTrue b.begun) (kept_buffers setup runs) (runs_begun setup (enumerate_from 1 runs)))
 
 -- what a run leaves, in other hands
-pub leaves_same : (setup : Setup) (runs : List ThreadRun) (ts us : List Traced) (segments ns first ms : List ℕ) (buffers kept : List Filled)
-    → us ≡ ts → ns ≡ segments → ms ≡ first → kept ≡ buffers → Leaves setup runs ts segments first buffers → Leaves setup runs us ns ms kept
-leaves_same setup runs ts us segments ns first ms buffers kept same_threads same_segments same_first same_buffers leaves =
-    subst (Leaves setup runs us ns ms) (sym same_buffers)
-    (subst (λ (l : List ℕ). Leaves setup runs us ns l buffers) (sym same_first)
-    (subst (λ (l : List ℕ). Leaves setup runs us l first buffers) (sym same_segments)
-    (subst (λ (l : List Traced). Leaves setup runs l segments first buffers) (sym same_threads) leaves)))
-
--- What a run beside a script left, in other hands, with its buffers in the order of a trace.
-pub left_in_order : (program other : Program) (script : List Command) (setup : Setup) (ts us : List Traced) (seats : List WorkView) (segments ns first ms : List ℕ)
-    (buffers kept : List Filled) → program ≡ other → HaveRunBeside program script setup ts seats segments first buffers → us ≡ ts → ns ≡ segments
-    → ms ≡ first
-    → ((with_it : Setup) (runs : List ThreadRun) → IsPermutation (filter has_event buffers) (kept_buffers with_it runs) → kept ≡ kept_buffers with_it runs)
-    → (left : HaveRunBeside other script setup ts seats segments first buffers) × Leaves setup left.runs us ns ms kept
-left_in_order program other script setup ts us seats segments ns first ms buffers kept same_program ran same_threads same_segments same_first in_order =
-    let left : HaveRunBeside other script setup ts seats segments first buffers =
-    subst (λ (p : Program). HaveRunBeside p script setup ts seats segments first buffers) same_program ran in (
-      left,
-      leaves_same setup left.runs ts us segments ns first ms (kept_buffers setup left.runs) kept same_threads same_segments same_first
-          (in_order setup left.runs left.buffers_are) left.leaves,
-    )
+pub leaves_same : (setup : Setup) (runs : List ThreadRun) (ts us : Vec Traced Global) (segments ns first ms : Vec ℕ Global) (buffers kept : Vec Filled Global)
+    → (us ≡ ts) × (ns ≡ segments) × (ms ≡ first) × (kept ≡ buffers)
+    → LeavesInAnyOrder setup runs ts.items segments.items first.items buffers.items
+    → LeavesInAnyOrder setup runs us.items ns.items ms.items kept.items
+leaves_same setup runs ts us segments ns first ms buffers kept same left =
+    subst (λ (v : Vec Filled Global). LeavesInAnyOrder setup runs us.items ns.items ms.items v.items) (sym same.3)
+    (subst (λ (v : Vec ℕ Global). LeavesInAnyOrder setup runs us.items ns.items v.items buffers.items) (sym same.2)
+    (subst (λ (v : Vec ℕ Global). LeavesInAnyOrder setup runs us.items v.items first.items buffers.items) (sym same.1)
+    (subst (λ (v : Vec Traced Global). LeavesInAnyOrder setup runs v.items segments.items first.items buffers.items) (sym same.0) left)))

@@ -15,7 +15,7 @@ use Rattle.soak_inputs.specs.Inputs.{soak_commands, soak_script, soak_text, soak
 use Rattle.soak_inputs.specs.Said.{soak_said}
 use Rattle.step_sim.specs.declared.turns.Turns.{Turns}
 use Rattle.trace_flush.specs.Flush.{IsTraceOf, trace_bytes}
-use Rattle.traced_run.specs.Fits.{SetupFits}
+use Rattle.machine_step.specs.Setups.{IsSetup}
 use Rattle.traced_run.specs.Runs.{IsRun, ThreadRun}
 use Rattle.xray_image.specs.Ids.{id_count}
 use Rattle.xray_image.specs.Program.{IsAccepted, Program}
@@ -23,12 +23,13 @@ use Rattle.xray_program.specs.Inputs.{image_form}
 use Rattle.xray_program.specs.Soak.{AreInputs, IsSummary, SoakComes, soak_setup, soak_summary}
 use Rattle.xray_program.specs.private.Drawn.{InputLaws}
 use Rattle.xray_program.proofs.Meanings.{AnyOutcome, IsAlone, IsDecided, SomeOutcome, leaves_alone, some_leaves}
+use Rattle.xray_program.proofs.RunSetups.{soak_is_setup}
 use Rattle.xray_program.proofs.SimLaws.{OneRun, StillRun}
 
 -- what the crates below say: of the inputs of a number, and of the traces of runs
 abbrev pub RunTraced : Type 0
 RunTraced = (bytes : List ℕ) (program : Program) (setup : Setup) (runs : List ThreadRun)
-    → IsAccepted bytes program → SetupFits setup → IsRun program setup runs → IsTraceOf setup runs (trace_bytes setup runs)
+    → IsAccepted bytes program → IsSetup setup → IsRun program setup runs → IsTraceOf setup runs (trace_bytes setup runs)
 
 pub record DrawnLaws : Type 0 where
   pub inputs : InputLaws
@@ -103,16 +104,13 @@ soak_alone is one number =
 
 -- ---- something in any case
 
-soak_fits : SetupFits soak_setup
-soak_fits = grind arith
-
 some_summary : StillRun → DrawnLaws → (number : ℕ) → (text : List ℕ) × IsSummary number text
 some_summary some laws number =
     let inputs = inputs_read laws.inputs number in
     let program = soak_program number in
     let plan = soak_plan number in
     let run = some inputs.image program (commands_of plan.lines) (soak_turns number) soak_setup plan.lines inputs.accepted refl inputs.nobody_waits in
-    let traced = laws.traced inputs.image program soak_setup run.0 inputs.accepted soak_fits run.1.run in (
+    let traced = laws.traced inputs.image program soak_setup run.0 inputs.accepted soak_is_setup run.1.run in (
       soak_summary number run.0 traced.trace,
       record {
         program = program;

@@ -1,12 +1,9 @@
 -- What threads are run with, by the options of the words.
-use Rattle.std.specs.Prelude.{◌≤◌, ◌+◌, ◌*◌}
-use Rattle.command_words.specs.Limits.{trace_limit}
 use Rattle.command_words.specs.declared.run_options.Bounds.{Bounds}
 use Rattle.command_words.specs.declared.run_options.RunOptions.{RunOptions}
 use Rattle.command_words.specs.declared.run_options.Stamps.{Stamps}
 use Rattle.machine_step.specs.declared.limits.Limits.{Limits}
 use Rattle.machine_step.specs.declared.setup.Setup.{Setup}
-use Rattle.traced_run.specs.Fits.{SetupFits}
 
 -- the limits of each thread, and how its passings are stamped
 abbrev pub limits_of : Bounds → Stamps → Limits
@@ -35,10 +32,3 @@ setup_of options = record {
   wall = options.wall;
   frequency = options.stamps.frequency;
 }
-
--- The numbers of a setup fit the records of a trace, there is a buffer for each thread, and a trace with all buffers isn't
--- too long for the reports.
-pub record FitsReports (setup : Setup) : Type 0 where
-  pub records : SetupFits setup
-  pub enough : setup.threads ≤ setup.max
-  pub room : setup.max * (setup.size + 16) + 32 ≤ trace_limit

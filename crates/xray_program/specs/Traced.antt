@@ -10,6 +10,7 @@ use Rattle.patch_script.specs.Micros.{hold_of}
 use Rattle.patch_script.specs.Plans.{Plan, plan_of}
 use Rattle.patch_script.specs.Refusals.{commands_of}
 use Rattle.machine_step.specs.Buffers.{spare_of}
+use Rattle.machine_step.specs.Setups.{IsSetup}
 use Rattle.machine_step.specs.declared.setup.Setup.{Setup}
 use Rattle.machine_step.specs.Loads.{Load}
 use Rattle.machine_step.specs.Texts.{state_text}
@@ -19,7 +20,6 @@ use Rattle.traced_run.specs.Losses.{AreLost}
 use Rattle.traced_run.specs.Runs.{EachThread, IsRun, ThreadRun}
 use Rattle.trace_flush.specs.Flush.{IsTraceOf, trace_bytes}
 use Rattle.trace_flush.specs.Lines.{audit_of_run}
-use Rattle.xray_program.specs.Setups.{FitsReports}
 
 -- the state texts of threads, one after another, numbered from a number on
 abbrev pub state_texts : ℕ → List ThreadRun → List ℕ
@@ -72,11 +72,11 @@ pub record LeftFiles (trace audit : List ℕ) (setup : Setup) (runs : List Threa
 
 -- The threads have run by this law, and their files are written. Each thread that has segments of events keeps its last
 -- one; if there are more other segments than spare buffers, exactly the excess is lost, and otherwise none is. The
--- numbers of the setup fit a trace that the reports take. So the trace reads back: for each thread it has the last whole
+-- setup is one that a run may have. So the trace reads back: for each thread it has the last whole
 -- segments of exactly the entries and exits that its marks record (the law `reports_take_a_run`).
 pub record IsTraced (Lawful : Program → Plan → List ThreadRun → (ℕ → List Load) → Type 0) (image script trace audit : List ℕ)
     (setup : Setup) (before after : World) : Type 0 where
-  pub fits : FitsReports setup
+  pub is_setup : IsSetup setup
   pub runs : List ThreadRun
   pub ran : RanLawfully Lawful image script setup runs
   pub losses : AreLost setup.size (spare_of setup) runs

@@ -1,12 +1,13 @@
 //! The top call.
 ghost use Rattle.std.specs.Prelude.{◌≡◌, ◌↔◌, IfErr, IfOk, IsFalse, IsTrue, OnOk, Some, codes, slice_get, true};
+ghost use Rattle.fdr_buffer.specs.Times.{IsTime};
 ghost use Rattle.command_words.specs.{Items.{texts}, Ranges.{HasRanges}, Views.{command_view}};
 ghost use Rattle.command_words.specs.Words.{reading};
 ghost use Rattle.xray_io.specs.World.{desk_view, sink_view};
 ghost use Rattle.xray_program.specs.{Answers.{Answered, Says}, Commands.{IsStill, is_report}, Outcomes.{NoMemory, err_line_at}};
 ghost use Rattle.xray_program.specs.private.CallLaws.{CallLaws};
 ghost use Rattle.xray_program.specs.private.Stops.{answer_of, told_of, IsUnsaid};
-ghost use Rattle.xray_program.specs.private.Works.{Ends, FitsTraces, IsOther, SaidFits};
+ghost use Rattle.xray_program.specs.private.Works.{Ends, IsOther, SaidHasRanges};
 
 use crate::account::Account;
 use crate::asm::Asm;
@@ -34,6 +35,8 @@ use xray_io::{Desk, Gate, Sink, Wall};
 /// Does what `words` say, with the files of `desk`. `words` don't hold the program's own name, and
 /// don't say a `run`. If `may_wait` answers `false`, they say none. Answers the program's status.
 ///
+/// The microseconds of `wall` are below 1,000,000.
+///
 /// Status 0: all is done. 1: the words say no command. 2: an input is refused. 3: an input can't be
 /// read. 4: an output of the command, or `out`, failed. 5: memory ran out. 6: an input has more
 /// bytes than its limit. 7: all was written, and something is wrong all the same.
@@ -50,6 +53,7 @@ pub fn xray_still<D: Desk, O: Sink, E: Sink>(
     err: &mut E,
 ) -> u8
     requires still { IsStill (reading wall (texts words.now)) }
+    requires wall { IsTime wall }
     ensures { let seen = desk_view D.held D.read_faults D.write_faults in
         let got = sink_view O.written O.faults in
         let heard = sink_view E.written E.faults in
@@ -77,6 +81,7 @@ pub fn xray<T: Threads + Wait + Sync, D: Desk, O: Sink, E: Sink, G: Gate + Sync>
     err: &mut E,
     gate: &G,
 ) -> u8
+    requires { IsTime wall }
     ensures { let seen = desk_view D.held D.read_faults D.write_faults in
         let got = sink_view O.written O.faults in
         let heard = sink_view E.written E.faults in
@@ -143,6 +148,7 @@ fn answer<E: Sink>(ended: Result<(), Stop>, err: &mut E) -> u8
 
 /// The command that words say, or why they say none.
 fn command_said<'a>(alloc: Global, wall: Wall, words: &'a [String]) -> Result<Command<'a>, Stop<'a>>
+    requires { IsTime wall }
     ensures said { IfOk result (λ command. reading wall (texts words.entry.now) ≡ Some (command_view command)) }
     ensures ranges { IfOk result (λ command. HasRanges (command_view command)) }
     ensures stops { IfErr result (IsUnsaid (reading wall (texts words.entry.now))) }
@@ -164,11 +170,12 @@ fn perform_any_words<'a, T: Threads + Wait + Sync, D: Desk, O: Sink, G: Gate + S
     out: &mut O,
     gate: &G,
 ) -> Result<(), Stop<'a>>
+    requires { IsTime wall }
     ensures ends { let seen = desk_view D.held D.read_faults D.write_faults in
         let got = sink_view O.written O.faults in
         Ends (reading wall (texts words.now)) (seen desk.old) (seen desk.new) (got out.old) (got out.new)
         (D.along desk.old desk.new) (answer_of result) (told_of result) }
-    ensures fits { OnOk result (SaidFits (reading wall (texts words.now))) }
+    ensures ranges { OnOk result (SaidHasRanges (reading wall (texts words.now))) }
 {
     let command = command_said(alloc, wall, words)?;
     perform_any(rt, alloc, command, desk, out, gate)
@@ -188,7 +195,6 @@ fn perform_any<'a, T: Threads + Wait + Sync, D: Desk, O: Sink, G: Gate + Sync>(
         let got = sink_view O.written O.faults in
         Ends (Some (command_view command.entry)) (seen desk.old) (seen desk.new) (got out.old) (got out.new)
         (D.along desk.old desk.new) (answer_of result) (told_of result) }
-    ensures fits { OnOk result (FitsTraces (command_view command.entry)) }
 {
     match command {
         Command::Run {
@@ -225,11 +231,12 @@ fn perform_words<'a, D: Desk, O: Sink>(
     out: &mut O,
 ) -> Result<(), Stop<'a>>
     requires still { IsStill (reading wall (texts words.now)) }
+    requires wall { IsTime wall }
     ensures ends { let seen = desk_view D.held D.read_faults D.write_faults in
         let got = sink_view O.written O.faults in
         Ends (reading wall (texts words.now)) (seen desk.old) (seen desk.new) (got out.old) (got out.new)
         (D.along desk.old desk.new) (answer_of result) (told_of result) }
-    ensures fits { OnOk result (SaidFits (reading wall (texts words.now))) }
+    ensures ranges { OnOk result (SaidHasRanges (reading wall (texts words.now))) }
 {
     let command = command_said(alloc, wall, words)?;
     perform_command(alloc, command, desk, out)
@@ -248,7 +255,6 @@ fn perform_command<'a, D: Desk, O: Sink>(
         let got = sink_view O.written O.faults in
         Ends (Some (command_view command.entry)) (seen desk.old) (seen desk.new) (got out.old) (got out.new)
         (D.along desk.old desk.new) (answer_of result) (told_of result) }
-    ensures fits { OnOk result (FitsTraces (command_view command.entry)) }
 {
     match command {
         Command::Sim {
@@ -286,7 +292,6 @@ fn perform_other<'a, D: Desk, O: Sink>(
         let got = sink_view O.written O.faults in
         Ends (Some (command_view command.entry)) (seen desk.old) (seen desk.new) (got out.old) (got out.new)
         (D.along desk.old desk.new) (answer_of result) (told_of result) }
-    ensures fits { OnOk result (FitsTraces (command_view command.entry)) }
 {
     match command {
         Command::Sim { .. } | Command::Run { .. } => unreachable!(),
@@ -321,7 +326,6 @@ fn perform_report<'a, D: Desk, O: Sink>(
         let got = sink_view O.written O.faults in
         Ends (Some (command_view command.entry)) (seen desk.old) (seen desk.new) (got out.old) (got out.new)
         (D.along desk.old desk.new) (answer_of result) (told_of result) }
-    ensures fits { OnOk result (FitsTraces (command_view command.entry)) }
 {
     match command {
         Command::Account {

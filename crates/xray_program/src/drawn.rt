@@ -3,7 +3,7 @@ ghost use Rattle.std.specs.Prelude.{◌≡◌, ◌<◌, ◌≤◌, ℕ, length, 
 ghost use Rattle.std.specs.Str.Lines.{lines};
 ghost use Rattle.asm_text.specs.{Assembling.{statements_said}, Layout.{StatementLines}, Programs.{program_said}};
 ghost use Rattle.patch_script.specs.{Plans.{waiting_line}, Refusals.{commands_of}};
-ghost use Rattle.soak_inputs.specs.Inputs.{soak_script, soak_text};
+ghost use Rattle.soak_inputs.specs.Inputs.{soak_schedule, soak_script, soak_text};
 ghost use Rattle.step_sim.specs.Replayed.{IsSimulated};
 ghost use Rattle.xray_program.specs.Soak.{AreInputs, soak_setup};
 ghost use Rattle.xray_program.specs.private.{Drawn.{InputLaws}, SimInputs.{AreReadFor}};
@@ -14,8 +14,7 @@ use fault_words::Fault;
 use machine_step::{Limits, Setup, Steps};
 use patch_script::read_script;
 use soak_inputs::{
-    SOAK_THREADS, SoakInputs, soak_inputs, the_schedule_is_read, the_script_is_read,
-    the_text_is_assembled,
+    SOAK_THREADS, SoakInputs, the_schedule_is_read, the_script_is_read, the_text_is_assembled,
 };
 use std::alloc::Global;
 use step_sim::{SimEnd, SimStart, read_schedule};
@@ -69,6 +68,21 @@ pub(crate) fn each_input_is_read()
     the_schedule_is_read();
 }
 
+/// The inputs that `soak` draws from a number: the assembler text, the script and the schedule, in
+/// this order. `NoMemory` means that an allocation was refused.
+pub fn soak_inputs(alloc: Global, number: u64) -> Result<(Vec<u8>, Vec<u8>, Vec<u8>), NoMemory>
+    ensures text { IfOk result (λ inputs. inputs.0.items ≡ soak_text number) }
+    ensures script { IfOk result (λ inputs. inputs.1.items ≡ soak_script number) }
+    ensures schedule { IfOk result (λ inputs. inputs.2.items ≡ soak_schedule number) }
+{
+    let SoakInputs {
+        text,
+        script,
+        schedule,
+    } = soak_inputs::soak_inputs(alloc, number)?;
+    Ok((text, script, schedule))
+}
+
 /// The inputs of a number, each as it is read.
 pub(crate) fn drawn_inputs(alloc: Global, number: u64) -> Result<SimInputs, NoMemory>
     ensures inputs { IfOk result (λ inputs. AreInputs number inputs.image inputs.script inputs.schedule) }
@@ -76,11 +90,7 @@ pub(crate) fn drawn_inputs(alloc: Global, number: u64) -> Result<SimInputs, NoMe
 {
     // Called for its contract: none of the inputs is refused.
     each_input_is_read();
-    let SoakInputs {
-        text,
-        script,
-        schedule,
-    } = soak_inputs(alloc, number)?;
+    let (text, script, schedule) = soak_inputs(alloc, number)?;
     let image = image_of(alloc, &text)?;
     let script = unrefused(read_script(alloc, &script, &image, SOAK_THREADS))?;
     let schedule = unrefused(read_schedule(alloc, &schedule, SOAK_THREADS))?;

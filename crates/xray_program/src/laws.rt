@@ -10,7 +10,8 @@ ghost use Rattle.xray_io.specs.World.{World};
 ghost use Rattle.xray_program.specs.{Accepted.{AreAccepted, CountsNoFault}, Answers.{IsAnswer}};
 ghost use Rattle.xray_program.specs.Commands.{IsDecided, Means, TellsAll, inputs_of};
 ghost use Rattle.xray_program.specs.Outcomes.{Outcome, status_of, written_by};
-ghost use Rattle.xray_program.specs.{Setups.{FitsReports}, Traced.{IsReported}};
+ghost use Rattle.machine_step.specs.Setups.{IsSetup};
+ghost use Rattle.xray_program.specs.Traced.{IsReported};
 ghost use Rattle.command_words.specs.Words.{Command};
 
 use crate::drawn::each_input_is_read;
@@ -90,12 +91,12 @@ pub fn no_words_mean_7()
         → Means said held outcome → status_of outcome ≢ 7 }
 {}
 
-/// The reports take the trace of a run whose setup fits (`FitsReports`): its bytes are the trace of the
+/// The reports take the trace of a run that its setup allows (`IsSetup`): its bytes are the trace of the
 /// run (`IsTraceOf`), a report reads that many bytes, and they read as this trace. With the headline,
 /// this says what the file of a `sim` or a `run` reads as.
 pub fn reports_take_a_run()
     ensures { (image : List ℕ) (program : Program) (setup : Setup) (runs : List ThreadRun)
-        → IsAccepted image program → FitsReports setup → IsRun program setup runs
+        → IsAccepted image program → IsSetup setup → IsRun program setup runs
         → AreLost setup.size (spare_of setup) runs → IsReported setup runs }
 {
     a_run_is_traced();

@@ -1,12 +1,11 @@
 //! `run`: threads that run over an image while a script patches their sleds.
-ghost use Rattle.std.specs.Prelude.{◌≡◌, ◌≤◌, ◌∷◌, [], IfOk, IsPermutation, OnOk, List, Some, filter, map};
+ghost use Rattle.std.specs.Prelude.{◌≡◌, ◌≤◌, ◌∷◌, [], IfOk, OnOk, Some, map};
 ghost use Rattle.command_words.specs.Words.{outputs_of};
 ghost use Rattle.patch_script.specs.Refusals.{commands_of};
+ghost use Rattle.machine_step.specs.Setups.{IsSetup};
 ghost use Rattle.machine_step.specs.declared.setup.Setup.{Setup};
 ghost use Rattle.sled_rule.specs.Seats.{work_view};
 ghost use Rattle.thread_run.specs.Runs.{HaveRunBeside};
-ghost use Rattle.fdr_buffer.specs.Filled.{has_event};
-ghost use Rattle.traced_run.specs.{Kept.{kept_buffers}, Runs.{ThreadRun}};
 ghost use Rattle.xray_io.specs.{Calls.{Went}, World.{desk_view, sink_view}};
 ghost use Rattle.xray_program.specs.Commands.{Comes, inputs_of};
 ghost use Rattle.xray_program.specs.private.RunInputs.{comes_of, said_by, IsReadFor};
@@ -20,7 +19,6 @@ use crate::run_inputs::{Run, RunInputs};
 use crate::setups::setup_of;
 use crate::stop::Stop;
 use crate::traced::{RunLeft, deliver_run, room_for};
-use fdr_buffer::{LARGEST_SIZE, LEAST_SIZE};
 use machine_step::{Setup, Steps};
 use patch_script::Script;
 use sled_rule::CodeTable;
@@ -28,7 +26,6 @@ use std::alloc::Global;
 use std::sync::Wait;
 use std::thread::Threads;
 use thread_run::{RunEnd, run};
-use trace_flush::arrange;
 use xray_io::{Desk, Gate, NoMemory, Sink};
 
 /// Does all of `run`, and leaves err as it is. The threads start through `rt`. They and the patcher
@@ -101,7 +98,7 @@ fn finish<'a, T: Threads + Wait + Sync, D: Desk, O: Sink, G: Gate + Sync>(
     let lines = room_for(alloc, setup.threads)?;
     let steps = Steps::new(alloc, &image)?;
     let end = run_beside(rt, alloc, &steps, script, &setup, gate)?;
-    deliver_run(desk, out, &command.files, &setup, left_of(end), lines)
+    deliver_run(desk, out, &command.files, &setup, RunLeft::from(end), lines)
 }
 
 /// Runs all threads over an image's steps, and a script beside them.
@@ -115,40 +112,11 @@ fn run_beside<'s, T: Threads + Wait + Sync, G: Gate + Sync>(
 ) -> Result<RunEnd<'s>, NoMemory>
     requires program { script.program ≡ steps.now }
     requires threads { script.threads ≡ setup.now.threads }
-    requires some { 1 ≤ setup.now.threads }
-    requires few { setup.now.threads ≤ 16 }
-    requires stamps { (1 ≤ setup.now.limits.cpus) × (1 ≤ setup.now.limits.migrate) }
-    requires sizes { (LEAST_SIZE ≤ setup.now.size) × (setup.now.size ≤ LARGEST_SIZE) }
-    requires enough { setup.now.threads ≤ setup.now.max }
+    requires setup { IsSetup setup.now }
     ensures left { IfOk result (λ end. HaveRunBeside steps.now (commands_of script.lines) setup.now
         end.cpus.items (map work_view end.seats.items) end.segments.items end.first.items end.buffers.items) }
 {
     let (table, mut seat) = CodeTable::new(alloc, steps.image(), script, setup.threads)?;
     let end = run(rt, alloc, steps, &table, &mut seat, setup, gate)?;
     Ok(end)
-}
-
-/// What threads leave, for what is written of them. The buffers come into the order of a trace.
-fn left_of(end: RunEnd) -> RunLeft
-    ensures cpus { result.cpus.items ≡ end.entry.cpus.items }
-    ensures segments { result.segments.items ≡ end.entry.segments.items }
-    ensures first { result.first.items ≡ end.entry.first.items }
-    ensures buffers { (setup : Setup) (runs : List ThreadRun)
-        → IsPermutation (filter has_event end.entry.buffers.items) (kept_buffers setup runs)
-        → result.buffers.items ≡ kept_buffers setup runs }
-{
-    let RunEnd {
-        cpus,
-        seats: _,
-        segments,
-        first,
-        mut buffers,
-    } = end;
-    arrange(&mut buffers);
-    RunLeft {
-        cpus,
-        segments,
-        first,
-        buffers,
-    }
 }

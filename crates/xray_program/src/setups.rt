@@ -1,5 +1,7 @@
 //! What threads are run with, by the options of the words.
 ghost use Rattle.std.specs.Prelude.{◌≡◌};
+ghost use Rattle.command_words.specs.Ranges.{AreRunOptions};
+ghost use Rattle.machine_step.specs.Setups.{IsSetup};
 ghost use Rattle.xray_program.specs.Setups.{limits_of, plain_limits, setup_of};
 
 use command_words::{Bounds, RunOptions, Stamps};
@@ -37,7 +39,9 @@ pub(crate) fn plain_limits(bounds: Bounds) -> Limits
 
 /// What a run of traced threads is made with.
 pub(crate) fn setup_of(options: RunOptions) -> Setup
-    ensures { result ≡ setup_of options }
+    requires { AreRunOptions options }
+    ensures options { result ≡ setup_of options }
+    ensures is_setup { IsSetup result }
 {
     Setup {
         threads: options.bounds.threads,

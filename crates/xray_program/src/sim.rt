@@ -1,5 +1,4 @@
 //! `sim`: the replay of a schedule over an image and a script.
-ghost use Rattle.std.specs.Prelude.{◌≡◌, [], IfOk};
 ghost use Rattle.command_words.specs.Ranges.{AreRunOptions};
 
 use crate::input::{fault_stop, take};
@@ -12,7 +11,8 @@ use crate::work::Work;
 use command_words::RunOptions;
 use machine_step::Steps;
 use std::alloc::Global;
-use step_sim::{SimEnd, SimStart};
+use step_sim::SimStart;
+use traced_run::kept_buffers_hold_events;
 use xray_io::{Desk, Sink};
 
 /// `sim IMAGE SCRIPT SCHEDULE TRACE AUDIT`.
@@ -74,32 +74,12 @@ impl<'a> Work<'a> for Sim<'a> {
         let steps = Steps::new(alloc, &inputs.image)?;
         match SimStart::new(alloc, &steps, &inputs.script, &setup) {
             Ok(start) => {
-                let left = left_of(start.play(&inputs.schedule));
+                // Called for its contract: buffers in order are also in any order.
+                kept_buffers_hold_events();
+                let left = RunLeft::from(start.play(&inputs.schedule));
                 deliver_run(desk, out, &self.files, &setup, left, lines)
             }
             Err(fault) => Err(fault_stop(self.script, SCRIPT, &fault)),
         }
-    }
-}
-
-/// What a replay leaves, for what is written of it.
-fn left_of(end: SimEnd) -> RunLeft
-    ensures cpus { result.cpus.items ≡ end.entry.cpus.items }
-    ensures segments { result.segments.items ≡ end.entry.segments.items }
-    ensures first { result.first.items ≡ end.entry.first.items }
-    ensures buffers { result.buffers.items ≡ end.entry.buffers.items }
-{
-    let SimEnd {
-        cpus,
-        sealed: _,
-        segments,
-        first,
-        buffers,
-    } = end;
-    RunLeft {
-        cpus,
-        segments,
-        first,
-        buffers,
     }
 }

@@ -5,7 +5,7 @@ ghost use Rattle.std.specs.List.{All, flat_map};
 ghost use Rattle.fdr_file.specs.Files.{file_bytes};
 ghost use Rattle.machine_step.specs.{EndedText.{thread_text}, Traced.{IsDone}};
 ghost use Rattle.trace_flush.specs.{Audit.{audit_text, recycled_by, thread_audits}, Flush.{run_header}};
-ghost use Rattle.traced_run.specs.{Left.{Leaves}, Runs.{ThreadRun}};
+ghost use Rattle.traced_run.specs.{Left.{LeavesInAnyOrder}, Runs.{ThreadRun}};
 ghost use Rattle.xray_io.specs.World.{desk_view, sink_view};
 ghost use Rattle.xray_program.specs.Traced.{state_texts, written_of};
 ghost use Rattle.xray_program.specs.private.Works.{Delivers, KeepsOthers};
@@ -16,7 +16,9 @@ use fdr_buffer::Buffer;
 use fdr_file::TraceFile;
 use machine_step::{Cpu, Setup};
 use std::alloc::Global;
-use trace_flush::{Audit, AuditLine, a_run_is_audited, add_audit_lines, trace_header};
+use step_sim::SimEnd;
+use thread_run::RunEnd;
+use trace_flush::{Audit, AuditLine, a_run_is_audited, add_audit_lines, arrange, trace_header};
 use xray_io::{Desk, Each, NoMemory, Sink};
 
 /// The outputs of a command that runs traced threads.
@@ -39,8 +41,50 @@ pub(crate) struct RunLeft<'i> {
     /// How many of these segments are lost. Segments count from 0, so this is the number of the first
     /// one that is left.
     pub(crate) first: Vec<u32>,
-    /// The buffers of the segments that are left, in the order of a trace.
+    /// The buffers. Those with an event hold the segments that are left, in any order.
     pub(crate) buffers: Vec<Buffer>,
+}
+
+impl<'i> From<SimEnd<'i>> for RunLeft<'i> {
+    ghost from_gives = { λ end left. (left.cpus ≡ end.cpus) × (left.segments ≡ end.segments)
+        × (left.first ≡ end.first) × (left.buffers ≡ end.buffers) };
+
+    fn from(end: SimEnd<'i>) -> Self {
+        let SimEnd {
+            cpus,
+            sealed: _,
+            segments,
+            first,
+            buffers,
+        } = end;
+        RunLeft {
+            cpus,
+            segments,
+            first,
+            buffers,
+        }
+    }
+}
+
+impl<'i> From<RunEnd<'i>> for RunLeft<'i> {
+    ghost from_gives = { λ end left. (left.cpus ≡ end.cpus) × (left.segments ≡ end.segments)
+        × (left.first ≡ end.first) × (left.buffers ≡ end.buffers) };
+
+    fn from(end: RunEnd<'i>) -> Self {
+        let RunEnd {
+            cpus,
+            seats: _,
+            segments,
+            first,
+            buffers,
+        } = end;
+        RunLeft {
+            cpus,
+            segments,
+            first,
+            buffers,
+        }
+    }
 }
 
 /// Room for the audit's lines of `threads` threads. It is asked for before the threads start.
@@ -52,8 +96,8 @@ pub(crate) fn room_for(alloc: Global, threads: u32) -> Result<Vec<AuditLine>, No
     Ok(lines)
 }
 
-/// Writes what is left of a run: the trace, then the audit, and then the state texts on out.
-/// `lines` is empty, with room for one line per thread.
+/// Puts the buffers of a run in order, and writes what it left: the trace, then the audit, and then
+/// the state texts on out. `lines` is empty, with room for one line per thread.
 pub(crate) fn deliver_run<'a, D: Desk, O: Sink>(
     desk: &mut D,
     out: &mut O,
@@ -62,13 +106,13 @@ pub(crate) fn deliver_run<'a, D: Desk, O: Sink>(
     left: RunLeft,
     mut lines: Vec<AuditLine>,
 ) -> Result<(), Stop<'a>>
-    requires left { (runs : List ThreadRun) × Leaves setup.now runs
+    requires left { (runs : List ThreadRun) × LeavesInAnyOrder setup.now runs
         left.cpus.items left.segments.items left.first.items left.buffers.items }
     requires none { lines.items ≡ [] }
     requires room { length left.cpus.items ≤ vec_capacity lines }
     ensures delivers { let seen = desk_view D.held D.read_faults D.write_faults in
         let got = sink_view O.written O.faults in
-        (runs : List ThreadRun) → Leaves setup.now runs left.entry.cpus.items
+        (runs : List ThreadRun) → LeavesInAnyOrder setup.now runs left.entry.cpus.items
         left.entry.segments.items left.entry.first.items left.entry.buffers.items
         → Delivers (written_of files.now.trace.now files.now.audit.now setup.now runs) (state_texts 1 runs) None
         (seen desk.old) (seen desk.new) (got out.old) (got out.new) (D.along desk.old desk.new) result }
@@ -79,8 +123,9 @@ pub(crate) fn deliver_run<'a, D: Desk, O: Sink>(
         cpus,
         segments,
         first,
-        buffers,
+        mut buffers,
     } = left;
+    arrange(&mut buffers);
     // Called for its contract: the audit of these lines is that of the run.
     a_run_is_audited();
     add_audit_lines(&cpus, &segments, &first, &mut lines);

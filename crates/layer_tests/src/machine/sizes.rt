@@ -1,6 +1,8 @@
 //! Calls of `machine_step` that allocate, at their limits and at sizes between them: with enough
 //! memory they answer.
 
+ghost use Rattle.std.specs.Prelude.{◌≤◌};
+
 use super::end_of;
 use crate::draws::draw;
 use crate::setups::DEFAULT_LIMITS;
@@ -29,7 +31,9 @@ fn makes_all_steps(rt: &HostRuntime, units: u32) -> Result<bool, Fail> {
 }
 
 /// Whether a thread with room for `passings` marks begins: before its first passing, if it has one.
-fn begins(rt: &HostRuntime, steps: &Steps, passings: u32) -> Result<bool, Fail> {
+fn begins(rt: &HostRuntime, steps: &Steps, passings: u32) -> Result<bool, Fail>
+    requires { passings ≤ 1_048_576 }
+{
     let limits = Limits {
         passings,
         ..DEFAULT_LIMITS
@@ -59,11 +63,14 @@ fn threads_of_each_size_are_made(rt: HostRuntime) -> Result<(), Fail> {
     let image = read_image(rt.alloc(), &OUTPUTS_AN_A)?;
     let steps = Steps::new(rt.alloc(), &image)?;
     for passings in [0, 1, 2, 3, 4, 5, LIMIT - 1, LIMIT] {
+        assert!(rt; passings <= 1_048_576);
         assert!(rt; begins(&rt, &steps, passings)?);
     }
     let mut seed = 1;
     for _ in 0..8 {
-        assert!(rt; begins(&rt, &steps, draw(&mut seed, LIMIT))?);
+        let passings = draw(&mut seed, LIMIT);
+        assert!(rt; passings <= 1_048_576);
+        assert!(rt; begins(&rt, &steps, passings)?);
     }
     Ok(())
 }

@@ -13,6 +13,7 @@ use Rattle.machine_step.specs.declared.want.Want.{Want}
 use Rattle.machine_step.specs.declared.want.Want.TheVariants as wants
 use Rattle.machine_step.specs.PlainStep.{Passing, PlainRun}
 use Rattle.machine_step.specs.Course.{ComesTo}
+use Rattle.machine_step.specs.Setups.{AreLimits}
 use Rattle.machine_step.specs.private.Machine.{state_at, IsWithin}
 use Rattle.machine_step.specs.private.Stages.{word_at}
 use Rattle.machine_step.specs.private.Standing.{IsAtSled}
@@ -77,19 +78,19 @@ StandsSo a (Gate place sled) = IsAtPassing a place sled
 StandsSo a (Loading place sled stage) = IsAtPassing a place sled × IsStageOf a.hold a.machine.passings stage
 StandsSo a (Ended end) = IsPastEnd a end
 
--- what stays the same in a thread: some accepted file holds the image, and the numbers are in their ranges
-pub record IsSetUp (program : Program) (limits : Limits) (thread threads : ℕ) : Type 0 where
+-- What stays the same in a thread: some accepted file holds the image, and its limits and its number are in their
+-- ranges.
+pub record IsOfThread (program : Program) (limits : Limits) (thread threads : ℕ) : Type 0 where
   pub bytes : List ℕ
   pub accepted : IsAccepted bytes program
-  pub cpus : 0 < limits.cpus
-  pub migrate : 0 < limits.migrate
+  pub limits_are : AreLimits limits
   pub some_thread : 0 < thread
   pub no_more : thread ≤ threads
   pub few : threads ≤ 16
 
 -- the counts are within their limits, there is room for all marks, and the thread is on its plain run
 pub record IsSound (a : Inside) : Type 0 where
-  pub setup : IsSetUp a.steps.now a.limits a.thread a.threads
+  pub setup : IsOfThread a.steps.now a.limits a.thread a.threads
   pub within : IsWithin a.limits a.machine
   pub room : a.marks.room ≡ a.limits.passings
   pub made : length a.marks.items ≡ a.machine.passings

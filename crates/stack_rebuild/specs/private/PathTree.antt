@@ -1,11 +1,11 @@
 -- The tree of paths: what its nodes, and the fields of sums, say.
-use Rattle.std.specs.Prelude.{◌<◌, ℕ, List, drop, length, map, reverse}
+use Rattle.std.specs.Prelude.{ℕ, List, [], ◌∷◌, drop, map, reverse}
 use Rattle.stack_rebuild.specs.declared.node.Node.{Node}
 use Rattle.stack_rebuild.specs.declared.node.Step.{Step}
 use Rattle.stack_rebuild.specs.declared.tally.Tally.{Tally}
 use Rattle.stack_rebuild.specs.declared.path_sums.PathSums.TheInside.{Inside}
 use Rattle.stack_rebuild.specs.private.PathNumbers.{AreNumbered, paths_after}
-use Rattle.stack_rebuild.specs.private.Scanning.{Summed}
+use Rattle.stack_rebuild.specs.private.Scanning.{Summed, no_tally}
 
 -- the step that leads to a path
 abbrev pub step_of : Node → Step
@@ -32,10 +32,14 @@ steps_in nodes = drop 1 (map step_of nodes)
 abbrev pub paths_in : List Node → List (List ℕ)
 paths_in nodes = paths_after (reverse (steps_in nodes))
 
-abbrev pub summed_in : Inside → Summed
-summed_in a = record { paths = paths_in a.nodes.items; tallies = map tally_in a.nodes.items }
+-- the tallies of nodes; if there is none yet, there is only the empty path, without a pair
+abbrev pub tallies_in : List Node → List Tally
+tallies_in [] = no_tally ∷ []
+tallies_in (node ∷ nodes) = map tally_in (node ∷ nodes)
 
--- there is the empty path, and the table has the numbers of the steps
+abbrev pub summed_in : Inside → Summed
+summed_in a = record { paths = paths_in a.nodes.items; tallies = tallies_in a.nodes.items }
+
+-- the table has the numbers of the steps
 pub record IsTree (a : Inside) : Type 0 where
-  pub some : 0 < length a.nodes.items
   pub numbered : AreNumbered (paths_in a.nodes.items) (steps_in a.nodes.items) a.numbers

@@ -1,16 +1,17 @@
--- What is kept of paths and open calls while the events of a thread are taken, for the contracts of private functions.
+-- What is kept of paths and open calls while events are taken, for the contracts of private functions.
 use Rattle.std.specs.Prelude.{◌≡◌, ◌<◌, ◌+◌, ◌++◌, ℕ, List, [], ◌∷◌, length, map, reverse, sum_by, count_by, if◌then◌else◌, slice_index_or, All}
+use Rattle.std.specs.Option.{option_to_list}
 use Rattle.fdr_record.specs.declared.event.Event.{Event}
 use Rattle.stack_rebuild.specs.declared.call.Call.{Call}
 use Rattle.stack_rebuild.specs.declared.tally.Tally.{Tally}
 use Rattle.stack_rebuild.specs.declared.thread_stack.Frame.{Frame}
-use Rattle.stack_rebuild.specs.Calls.{Standing, open_calls, pairs_of, standing_after}
+use Rattle.stack_rebuild.specs.Calls.{Standing, open_calls, pair_at, standing_after}
 use Rattle.stack_rebuild.specs.Stacks.{Timed, has_path, path_of, spent_in, timed}
 use Rattle.stack_rebuild.specs.private.PathNumbers.{AreApart, path_at}
 
--- the pairs of a thread
-abbrev pub timed_in : List Event → List Timed
-timed_in events = map (timed events) (pairs_of events)
+-- the pair that an event makes after a history of its thread, with its path
+abbrev pub timed_now : Event → List Event → List Timed
+timed_now e history = map (timed (reverse (e ∷ history))) (option_to_list (pair_at e (length history) (open_calls history)))
 
 -- what pairs say of a path
 abbrev pub tally_of : List Timed → List ℕ → Tally
@@ -90,11 +91,11 @@ pub record Opens (func : ℕ) (old new : List Frame) (paths paths' : List (List 
   pub spent : frame.spent ≡ 0
   pub keeps : Keeps paths paths'
 
--- where the scan is after pairs of other threads and the history of a thread
+-- where a thread is after its history, with the frames of its open calls, and what pairs of all threads say of paths
 pub record Follows (calls : Standing) (frames : List Frame) (paths : List (List ℕ)) (tallies : List Tally) (pairs : List Timed) (history : List Event) : Type 0 where
   pub stands : calls ≡ standing_after history
   pub framed : AreFrames paths (reverse history) (reverse frames) (open_calls history)
-  pub summed : AreSums paths tallies (pairs ++ timed_in (reverse history))
+  pub summed : AreSums paths tallies pairs
 
 -- what stands for a frame that isn't there
 abbrev pub no_frame : Frame

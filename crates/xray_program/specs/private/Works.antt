@@ -9,8 +9,8 @@ use Rattle.xray_program.specs.Commands.{Means, HadItsTurn, outputs_named}
 use Rattle.xray_program.specs.Order.{FailsAtOutput, InOrder, IsNoCall, IsUnmade, MakesAll}
 use Rattle.xray_program.specs.Outcomes.{Outcome, BadLine, Unread, Refused, Done, Fell, Ending, With, Unwritten, NoMemory, status_at, err_line_at, written_by}
 use Rattle.xray_program.specs.Outputs.{OutputsAreWhole, FailsAt, FailsWriting, NoFault, WritesNothing}
+use Rattle.command_words.specs.Ranges.{HasRanges}
 use Rattle.command_words.specs.Words.{Command, Sim, Run, Plain, Extract, Asm, Account, Stack, Convert, Soak}
-use Rattle.xray_program.specs.Setups.{FitsReports, setup_of}
 use Rattle.xray_io.specs.World.{DeskView, SinkView}
 use Rattle.xray_program.specs.declared.stop.Stop.{Stop}
 use Rattle.xray_program.specs.declared.stop.Stop.TheVariants as stops
@@ -115,18 +115,6 @@ StandsAfter said desk desk_now out out_now (Unwritten name outputs) =
     FailsToLeave (Means said desk.held) desk desk_now out out_now name (λ left. left ≡ outputs)
 StandsAfter said desk desk_now out out_now NoMemory = WritesNothing desk desk_now out out_now
 
--- the numbers of a command that runs traced threads fit a trace that the reports take
-abbrev pub FitsTraces : Command → Type 0
-FitsTraces (Sim image script schedule trace audit options) = FitsReports (setup_of options)
-FitsTraces (Run image script trace audit options) = FitsReports (setup_of options)
-FitsTraces (Plain image bounds) = Unit {0}
-FitsTraces (Extract image) = Unit {0}
-FitsTraces (Asm text image threshold) = Unit {0}
-FitsTraces (Account trace image options) = Unit {0}
-FitsTraces (Stack trace image format) = Unit {0}
-FitsTraces (Convert trace image) = Unit {0}
-FitsTraces (Soak number) = Unit {0}
-
 -- a command that writes no trace and no audit
 abbrev pub IsOther : Command → Type 0
 IsOther (Sim image script schedule trace audit options) = ⊥
@@ -139,9 +127,10 @@ IsOther (Stack trace image format) = Unit {0}
 IsOther (Convert trace image) = Unit {0}
 IsOther (Soak number) = Unit {0}
 
-abbrev pub SaidFits : Option Command → Type 0
-SaidFits None = Unit {0}
-SaidFits (Some command) = FitsTraces command
+-- what words say is in its ranges
+abbrev pub SaidHasRanges : Option Command → Type 0
+SaidHasRanges None = Unit {0}
+SaidHasRanges (Some command) = HasRanges command
 
 -- how a call ends, before the line on err: with this status and this line
 pub record Ends (said : Option Command) (desk desk_now : DeskView) (out out_now : SinkView) (Way : List Call → Type 0) (answer : ℕ)

@@ -12,4 +12,4 @@ opens_as : (place : ℕ) (v : View) (s t : Setup) → v ≡ opener → t ≡ s �
 opens_as place v s t e f some_thread enough = subst (λ (y : View × Setup). Forks KeepsPool place y.0 spent (head_view y.1 1 0)) (λ i. (sym e i, sym f i)) (opens place s some_thread enough)
 
 pub another-requires-clause-rule : goal.another-requires-clause-rule
-another-requires-clause-rule g c = opens_as _ _ c.args.setup.now _ c.requires.view c.requires.picked c.requires.threads c.requires.enough
+another-requires-clause-rule g c = opens_as _ _ c.args.setup.now _ c.requires.view c.requires.picked c.requires.setup.some_thread c.requires.setup.enough

@@ -7,8 +7,8 @@ use Rattle.command_words.proofs.Outputs.{differ_in}
 use Rattle.command_words.proofs.Readings.{read_line}
 use Rattle.command_words.proofs.words.read_words.Goals as goal
 
-pub command_in-requires : goal.command_in-requires
-command_in-requires c =
+pub command_in-requires-clause-outputs : goal.command_in-requires-clause-outputs
+command_in-requires-clause-outputs c =
     let items = items_of (texts c.in-Some.rest.now) in
     differ_in (row_by c.in-Some-of.verb) items (line_view c.in-Some-2.line)
     (ap (option_map line_view) (sym c.in-Some-2.is) ∙ c.in_ok-line.ensures ∙ ap (λ row. line_of row items) c.row.ensures)

@@ -7,5 +7,5 @@ use Rattle.command_words.proofs.words.run_in.Goals as goal
 pub returns-in_ok-run_options_in-in-len4-clause-ranges : goal.returns-in_ok-run_options_in-in-len4-clause-ranges
 returns-in_ok-run_options_in-in-len4-clause-ranges c =
     let Differ : List (Bor (List ℕ)) → Type 0 = λ names. outputs_differ run_row.files (map (λ name. name.now) names) ≡ true in
-    let differ = subst Differ (sym c.as_slice.ensures.value) c.requires in
+    let differ = subst Differ (sym c.as_slice.ensures.value) c.requires.outputs in
     (c.in_ok-run_options_in-in-len4.ensures.ranges, run_differ c.as_slice.result.now _ c.in-len4.len_at_least c.in-len4.len_below differ)

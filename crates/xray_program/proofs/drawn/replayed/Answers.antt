@@ -5,8 +5,12 @@ use Rattle.patch_script.specs.Refusals.{commands_of}
 use Rattle.step_sim.specs.Schedules.{AreTurnsOf}
 use Rattle.step_sim.specs.Starts.{Start}
 use Rattle.xray_program.specs.Soak.{soak_setup}
+use Rattle.xray_program.proofs.RunSetups.{soak_is_setup}
 use Rattle.xray_program.proofs.SoakReads.{started, still_unrefused}
 use Rattle.xray_program.proofs.drawn.replayed.Goals as goal
+
+pub new-requires-clause-setup : goal.new-requires-clause-setup
+new-requires-clause-setup c = soak_is_setup
 
 pub unrefused-requires : goal.unrefused-requires
 unrefused-requires c =

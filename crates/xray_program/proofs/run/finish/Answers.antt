@@ -1,6 +1,9 @@
-use Rattle.std.proofs.Common.{[], None, refl, subst}
+use Rattle.std.proofs.Common.{[], None, map, refl, subst}
 use Rattle.machine_step.specs.declared.setup.Setup.{Setup}
 use Rattle.patch_script.specs.Refusals.{commands_of}
+use Rattle.sled_rule.specs.Seats.{work_view}
+use Rattle.thread_run.specs.Runs.{HaveRunBeside}
+use Rattle.xray_image.specs.Program.{Program}
 use Rattle.xray_io.specs.World.{desk_view, sink_view}
 use Rattle.xray_program.specs.Run.{FollowsPlan, RunsBeside}
 use Rattle.xray_program.specs.private.RunInputs.{comes_of}
@@ -8,18 +11,18 @@ use Rattle.xray_program.specs.Traced.{Traces, state_texts, written_of}
 use Rattle.xray_program.specs.private.Works.{Finishes}
 use Rattle.xray_program.specs.declared.stop.Stop.TheVariants as stops
 use Rattle.xray_program.proofs.Endings.{finishes, refuses}
-use Rattle.xray_program.proofs.RunWritten.{left_in_order}
+use Rattle.xray_program.proofs.RunWritten.{leaves_same}
 use Rattle.xray_program.proofs.run.finish.Goals as goal
 
 pub deliver_run-requires-clause-left : goal.deliver_run-requires-clause-left
 deliver_run-requires-clause-left g c =
+    let ran = c.in_ok-end.ensures.left in
     let end = c.in_ok-end.end in
-    let left = c.left_of.result in
-    let same = c.left_of.ensures in
-    let ran = left_in_order _ c.args.inputs.image (commands_of c.args.inputs.script.lines) c.setup_of-setup.result end.cpus.items left.cpus.items _
-    end.segments.items left.segments.items end.first.items left.first.items end.buffers.items left.buffers.items
-    c.in_ok-steps.ensures.program c.in_ok-end.ensures.left same.cpus same.segments same.first same.buffers in
-    (ran.0.runs, ran.1)
+    let left = c.from.result in (
+      ran.runs,
+      leaves_same c.setup_of-setup.result ran.runs end.cpus left.cpus end.segments left.segments end.first left.first end.buffers left.buffers
+          c.from.ensures ran.leaves,
+    )
 
 pub returns-clause-finishes : goal.returns-clause-finishes
 returns-clause-finishes g c =
@@ -29,12 +32,11 @@ returns-clause-finishes g c =
     let setup = c.setup_of-setup.result in
     let inputs = c.args.inputs in
     let end = c.in_ok-end.end in
-    let left = c.left_of.result in
-    let same = c.left_of.ensures in
-    let ran = left_in_order _ inputs.image (commands_of inputs.script.lines) setup end.cpus.items left.cpus.items _ end.segments.items
-    left.segments.items end.first.items left.first.items end.buffers.items left.buffers.items c.in_ok-steps.ensures.program
-    c.in_ok-end.ensures.left same.cpus same.segments same.first same.buffers in
-    let is = ran.0 in
+    let left = c.from.result in
+    let P : Program → Type 0 = λ program.
+    HaveRunBeside program (commands_of inputs.script.lines) setup end.cpus.items (map work_view end.seats.items) end.segments.items end.first.items
+    end.buffers.items in
+    let is : P inputs.image = subst P c.in_ok-steps.ensures.program c.in_ok-end.ensures.left in
     let trace = s.files.trace.now in
     let audit = s.files.audit.now in
     let outputs = written_of trace audit setup is.runs in
@@ -45,12 +47,12 @@ returns-clause-finishes g c =
     let Done : Setup → Type 0 = λ with_it.
     Finishes (RunsBeside trace audit with_it inputs.image inputs.script) (seen c.args.desk.now)
     (seen c.deliver_run.new.desk) (got c.args.out.now) (got c.deliver_run.new.out) (g.D.Desk.along c.args.desk.now c.deliver_run.new.desk) c.deliver_run.result in
-    subst Done c.setup_of-setup.ensures
+    subst Done c.setup_of-setup.ensures.options
     (finishes (RunsBeside trace audit setup inputs.image inputs.script) outputs text None
     (seen c.args.desk.now) (seen c.deliver_run.new.desk) (got c.args.out.now) (got c.deliver_run.new.out)
     (g.D.Desk.along c.args.desk.now c.deliver_run.new.desk) c.deliver_run.result
     (outputs, text, traces, refl)
-    (c.deliver_run.ensures.delivers is.runs ran.1))
+    (c.deliver_run.ensures.delivers is.runs (leaves_same setup is.runs end.cpus left.cpus end.segments left.segments end.first left.first end.buffers left.buffers c.from.ensures is.leaves)))
 
 pub returns-in_err-lines-clause-finishes : goal.returns-in_err-lines-clause-finishes
 returns-in_err-lines-clause-finishes g c =

@@ -1,31 +1,36 @@
-use Rattle.std.proofs.Common.{◌≡◌, ◌<◌, ◌∙◌, ◌++◌, ℕ, List, [], ◌∷◌, ap, arith, drop, get_or, length, map, refl, reverse, set, subst, sym}
+use Rattle.std.proofs.Common.{◌≡◌, ◌++◌, ◌<◌, ◌∙◌, ℕ, List, [], ◌∷◌, ap, arith, drop, get_or, length, map, refl, reverse, set, subst, sym}
 use Rattle.std.proofs.lemmas.List.{length-map}
 use Rattle.std.proofs.lemmas.Result.{on_ok_weaker}
 use Rattle.stack_rebuild.specs.declared.node.Step.{Step}
 use Rattle.stack_rebuild.specs.declared.tally.Tally.{Tally}
 use Rattle.stack_rebuild.specs.private.PathNumbers.{path_at, paths_after}
-use Rattle.stack_rebuild.specs.private.PathTree.{paths_in, tally_in}
+use Rattle.stack_rebuild.specs.private.PathTree.{paths_in, step_of, tallies_in, tally_in}
 use Rattle.stack_rebuild.specs.private.Scanning.{AreSums, Summed, no_tally, with_pair}
 use Rattle.stack_rebuild.specs.Stacks.{Timed}
+use Rattle.stack_rebuild.proofs.Nodes.{tallies_some}
 use Rattle.stack_rebuild.proofs.Sums.{sums_more}
 use Rattle.stack_rebuild.proofs.path_sums.PathSums.add.Goals as goal
 
 pub returns-clause-sums : goal.returns-clause-sums
 returns-clause-sums c =
-    let nodes = c.self.inside.nodes.items in
+    let nodes = c.plant.new.nodes.items in
     let nodes' = c.add_pair.new.nodes.items in
     let paths = c.args.self.now.paths in
     let tallies = c.args.self.now.tallies in
-    let told : map tally_in nodes ≡ tallies = ap (λ (s : Summed). s.tallies) c.self.view_is in
+    let some : 0 < length nodes = c.in_ok-plant.ensures.some in
+    let told : map tally_in nodes ≡ tallies =
+    sym (tallies_some nodes some) ∙ c.in_ok-plant.ensures.tallies ∙ ap (λ (s : Summed). s.tallies) c.self.view_is in
     let same : paths_in nodes' ≡ paths =
-    ap (λ (steps : List Step). paths_after (reverse (drop 1 steps))) c.add_pair.ensures.steps ∙ ap (λ (s : Summed). s.paths) c.self.view_is in
+    ap (λ (steps : List Step). paths_after (reverse (drop 1 steps))) c.add_pair.ensures.steps
+    ∙ ap (λ (steps : List Step). paths_after (reverse steps)) c.in_ok-plant.ensures.steps ∙ ap (λ (s : Summed). s.paths) c.self.view_is in
+    let still : 0 < length nodes' = omega (arith, some, length-map nodes step_of, length-map nodes' step_of, ap {B = ℕ} length c.add_pair.ensures.steps) in
     on_ok_weaker c.add_pair.result
     (λ added pairs sums low.
     let pair : Timed = record { path = path_at paths c.args.number; duration = c.args.duration; own = c.args.own } in
     let one : Tally = with_pair c.args.duration c.args.own (get_or tallies c.args.number no_tally) in
     let within : c.args.number < length nodes = omega (arith, low, sums.level, length-map nodes tally_in, ap {B = ℕ} length told) in
-    let made : map tally_in nodes' ≡ set tallies c.args.number one =
-    added within ∙ ap (λ (ts : List Tally). set ts c.args.number (with_pair c.args.duration c.args.own (get_or ts c.args.number no_tally))) told in
-    subst (λ (ps : List (List ℕ)). AreSums ps (map tally_in nodes') (pairs ++ pair ∷ [])) (sym same)
+    let made : tallies_in nodes' ≡ set tallies c.args.number one =
+    tallies_some nodes' still ∙ added within ∙ ap (λ (ts : List Tally). set ts c.args.number (with_pair c.args.duration c.args.own (get_or ts c.args.number no_tally))) told in
+    subst (λ (ps : List (List ℕ)). AreSums ps (tallies_in nodes') (pairs ++ pair ∷ [])) (sym same)
     (subst (λ (ts : List Tally). AreSums paths ts (pairs ++ pair ∷ [])) (sym made)
     (sums_more paths tallies pairs pair c.args.number no_tally (get_or tallies c.args.number no_tally) one sums low refl refl refl))) c.add_pair.ensures.tallies

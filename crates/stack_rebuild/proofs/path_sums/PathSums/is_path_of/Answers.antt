@@ -21,6 +21,6 @@ returns-in-Some c = λ is.
     number_at c.args.self.now.paths (steps_in nodes) c.self.inside.numbers c.args.step n (ap (λ (s : Summed). s.paths) c.self.view_is)
     c.self.invariant.numbered (
       some,
-      omega (arith, within, length_steps nodes c.self.invariant.some),
+      omega (arith, within, length_steps nodes (omega (arith, within))),
       step_at nodes n c.args.step node some within ∙ (ap step_of (sym here) ∙ (sym c.step.ensures ∙ same)),
     )

@@ -3,7 +3,7 @@ use Rattle.stack_rebuild.specs.declared.node.Step.{Step}
 use Rattle.stack_rebuild.specs.private.PathNumbers.{path_at, path_by}
 use Rattle.stack_rebuild.specs.private.PathTree.{paths_in, step_of}
 use Rattle.stack_rebuild.specs.private.Scanning.{Summed}
-use Rattle.stack_rebuild.proofs.Nodes.{climbs_to, length_steps}
+use Rattle.stack_rebuild.proofs.Nodes.{climbs_to, steps_long}
 use Rattle.stack_rebuild.proofs.path_sums.PathSums.step_to.Goals as goal
 
 pub returns : goal.returns
@@ -12,7 +12,7 @@ returns c =
     let n = c.args.number in
     let view : paths_in nodes ≡ c.args.self.now.paths = ap (λ (s : Summed). s.paths) c.self.view_is in
     let within : n < length nodes =
-    omega (arith, c.requires.within, ap {B = ℕ} length view, c.self.invariant.numbered.count, length_steps nodes c.self.invariant.some) in
+    omega (arith, c.requires.within, ap {B = ℕ} length view, c.self.invariant.numbered.count, steps_long nodes) in
     let own = climbs_to nodes c.self.inside.numbers n c.index.result.now c.self.invariant.numbered c.requires.some within in
     let at = ap step_of (sym c.index.ensures) ∙ sym c.step.ensures in record {
       climbs = subst (λ (s : Step). s.parent < n) at own.0;

@@ -1,7 +1,8 @@
-use Rattle.std.proofs.Common.{◌∙◌, sym}
+use Rattle.std.proofs.Common.{◌∙◌, refl, sym}
 use Rattle.stack_rebuild.specs.private.Scanning.{no_frame}
 use Rattle.stack_rebuild.proofs.Frames.{follows_entry, follows_exit, follows_pair}
 use Rattle.stack_rebuild.proofs.Results.{on_ok_both}
+use Rattle.stack_rebuild.proofs.Sums.{keeps_same}
 use Rattle.stack_rebuild.proofs.thread_stack.ThreadStack.take.Goals as goal
 
 pub returns-in-Some-clause-follows : goal.returns-in-Some-clause-follows
@@ -25,6 +26,7 @@ pub returns-in-Exit : goal.returns-in-Exit
 returns-in-Exit c = record {
   within = c.requires;
   calls = c.in_ok-pair.ensures.stands;
+  keeps = keeps_same c.args.sums.now.paths c.args.sums.now.paths refl;
   follows = λ pairs history known. follows_exit c.args.event.now history c.args.self.now.calls c.take.new.self c.args.self.now.frames.items
       c.args.sums.now.paths c.args.sums.now.tallies pairs c.in-Exit.is (sym c.in_ok-pair.ensures.pair ∙ c.in-None.is) c.in_ok-pair.ensures.stands known;
 }

@@ -20,9 +20,23 @@ use Rattle.xray_program.proofs.sim.SimWork.finish.Goals as goal
 
 pub play-requires : goal.play-requires
 play-requires g c =
-    let threads : c.setup_of-setup.result.threads ≡ c.args.self.now.options.bounds.threads = ap (λ (setup : Setup). setup.threads) c.setup_of-setup.ensures in
+    let threads : c.setup_of-setup.result.threads ≡ c.args.self.now.options.bounds.threads = ap (λ (setup : Setup). setup.threads) c.setup_of-setup.ensures.options in
     let own = subst (λ (n : ℕ). All (AreTurnsOf n) c.args.inputs.now.schedule) (sym threads) c.requires.turns_of_threads in
     subst (λ (start : Start). All (AreTurnsOf start.setup.threads) c.args.inputs.now.schedule) (sym c.in-Ok.ensures.start) own
+
+pub deliver_run-requires-clause-left : goal.deliver_run-requires-clause-left
+deliver_run-requires-clause-left g c =
+    let setup = c.setup_of-setup.result in
+    let end = c.play.result in
+    let left = c.from-left.result in
+    let P : Start → Type 0 = λ start.
+    IsSimulated start.program start.script c.args.inputs.now.schedule start.setup end.cpus.items end.sealed.items end.segments.items end.first.items
+    end.buffers.items in
+    let is = subst P c.in-Ok.ensures.start c.play.ensures in (
+      is.runs,
+      leaves_same setup is.runs end.cpus left.cpus end.segments left.segments end.first left.first end.buffers left.buffers c.from-left.ensures
+          (c.kept_buffers_hold_events.ensures.any_order setup is.runs end.cpus.items end.segments.items end.first.items end.buffers.items is.leaves),
+    )
 
 pub returns-in-Ok-clause-finishes : goal.returns-in-Ok-clause-finishes
 returns-in-Ok-clause-finishes g c =
@@ -32,7 +46,7 @@ returns-in-Ok-clause-finishes g c =
     let setup = c.setup_of-setup.result in
     let inputs = c.args.inputs.now in
     let end = c.play.result in
-    let left = c.left_of-left.result in
+    let left = c.from-left.result in
     let P : Start → Type 0 = λ start.
     IsSimulated start.program start.script inputs.schedule start.setup end.cpus.items end.sealed.items end.segments.items end.first.items end.buffers.items in
     let Q : Program → Type 0 = λ program.
@@ -40,9 +54,8 @@ returns-in-Ok-clause-finishes g c =
     end.buffers.items in
     let is : IsSimulated inputs.image (commands_of inputs.script.lines) inputs.schedule setup end.cpus.items end.sealed.items end.segments.items end.first.items
     end.buffers.items = subst Q c.in_ok-steps.ensures.program (subst P c.in-Ok.ensures.start c.play.ensures) in
-    let same = c.left_of-left.ensures in
-    let leaves = leaves_same setup is.runs end.cpus.items left.cpus.items end.segments.items left.segments.items end.first.items left.first.items
-    end.buffers.items left.buffers.items same.cpus same.segments same.first same.buffers is.leaves in
+    let leaves = leaves_same setup is.runs end.cpus left.cpus end.segments left.segments end.first left.first end.buffers left.buffers c.from-left.ensures
+    (c.kept_buffers_hold_events.ensures.any_order setup is.runs end.cpus.items end.segments.items end.first.items end.buffers.items is.leaves) in
     let outputs = written_of s.files.trace.now s.files.audit.now setup is.runs in
     let text = state_texts 1 is.runs in
     let Are = Traces (Replayed inputs.image inputs.script inputs.schedule setup) inputs.image setup s.files.trace.now s.files.audit.now in
@@ -51,7 +64,7 @@ returns-in-Ok-clause-finishes g c =
     let Done : Setup → Type 0 = λ with_it.
     Finishes (Replays s.script.now s.files.trace.now s.files.audit.now with_it inputs.image inputs.script inputs.schedule) (seen c.args.desk.now)
     (seen c.deliver_run.new.desk) (got c.args.out.now) (got c.deliver_run.new.out) (g.D.Desk.along c.args.desk.now c.deliver_run.new.desk) c.deliver_run.result in
-    subst Done c.setup_of-setup.ensures
+    subst Done c.setup_of-setup.ensures.options
     (finishes (Replays s.script.now s.files.trace.now s.files.audit.now setup inputs.image inputs.script inputs.schedule) outputs text None
     (seen c.args.desk.now) (seen c.deliver_run.new.desk) (got c.args.out.now) (got c.deliver_run.new.out)
     (g.D.Desk.along c.args.desk.now c.deliver_run.new.desk) c.deliver_run.result

@@ -1,0 +1,90 @@
+//! Calls of `StackFold` of `stack_rebuild`, which a scan of `fdr_file` feeds in pieces.
+
+ghost use Rattle.std.specs.Prelude.{◌≡◌, [], IfOk};
+
+use crate::checks::{check_same, check_same_text};
+use crate::event_traces::{NESTED, Said, file_of, printed};
+use fdr_file::{Taker, TraceScan};
+use fdr_record::Kind;
+use stack_rebuild::{MOST_OPEN, StackFault, StackFold, StackForm, StackRow, StackText};
+use std::alloc::Global;
+use std::process::Abort;
+use std::test::Fail;
+
+/// How many bytes a scan is fed at once. No record has so few, so that each is cut.
+const PIECE: usize = 7;
+
+/// Feeds a trace file to a new taker, in pieces.
+fn feed_pieces<K: Taker>(bytes: &[u8], taker: &mut K) -> Result<(), Fail>
+    requires { K.took taker.old [] }
+{
+    let mut scan = TraceScan::new();
+    let mut from = 0;
+    'feeding: while from < bytes.len() {
+        let len = PIECE.min(bytes.len() - from);
+        scan.feed(&bytes[from..from + len], taker)?;
+        from += len;
+    }
+    scan.finish()?;
+    Ok(())
+}
+
+/// The stacks of events, each in a block of its own.
+fn stacks_of(alloc: Global, events: &[Said]) -> Result<Result<Vec<StackRow>, StackFault>, Fail> {
+    let mut fold = StackFold::new(alloc);
+    feed_pieces(&file_of(alloc, events)?, &mut fold)?;
+    Ok(fold.rows())
+}
+
+/// Checks the text of the stacks of events.
+fn check_stacks(rt: &impl Abort, alloc: Global, events: &[Said], wanted: &str) -> Result<(), Fail> {
+    let rows = stacks_of(alloc, events)??;
+    let text = StackText {
+        rows: &rows,
+        image: None,
+        form: StackForm::Flame,
+    };
+    check_same_text(rt, printed(alloc, &text)?.as_str(), wanted);
+    Ok(())
+}
+
+/// Two threads whose blocks take turns. Each exit ends a call of its own thread.
+const TURNS: [Said; 8] = [
+    (1, Kind::Entry, 7, 0),
+    (2, Kind::Entry, 7, 100),
+    (1, Kind::Entry, 8, 1),
+    (2, Kind::Entry, 9, 110),
+    (1, Kind::Exit, 8, 4),
+    (2, Kind::Exit, 7, 140),
+    (1, Kind::Exit, 7, 10),
+    (2, Kind::Exit, 9, 150),
+];
+
+#[test]
+fn a_fold_that_is_fed_in_pieces_has_the_stacks_of_the_trace(rt: HostRuntime) -> Result<(), Fail> {
+    check_stacks(&rt, rt.alloc(), &[], "")?;
+    check_stacks(&rt, rt.alloc(), &NESTED, "#1;#1 25\n#1;#1;#1 10\n")?;
+    check_stacks(&rt, rt.alloc(), &TURNS, "#7 47\n#7;#8 3\n")?;
+    Ok(())
+}
+
+/// The thread that the fault names, if it names one.
+fn deep_thread(found: Result<Vec<StackRow>, StackFault>) -> Option<u32> {
+    match found {
+        Err(StackFault::Deep(thread)) => Some(thread),
+        Ok(_) | Err(StackFault::NoMemory) => None,
+    }
+}
+
+#[test]
+fn the_least_deep_thread_is_named_though_it_gets_deep_later(rt: HostRuntime) -> Result<(), Fail> {
+    let alloc = rt.alloc();
+    let mut events = Vec::new(alloc);
+    for thread in [5, 3, 4] {
+        for _ in 0..=MOST_OPEN {
+            events.push((thread, Kind::Entry, 1, 0))?;
+        }
+    }
+    check_same(&rt, &deep_thread(stacks_of(alloc, &events)?), &Some(3));
+    Ok(())
+}

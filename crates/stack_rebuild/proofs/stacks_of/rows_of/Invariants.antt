@@ -1,7 +1,0 @@
-use Rattle.std.proofs.Common.{◌≡◌, map, take}
-use Rattle.stack_rebuild.specs.private.Rows.{rows_for}
-use Rattle.stack_rebuild.specs.Stacks.{told}
-use Rattle.stack_rebuild.proofs.stacks_of.rows_of.Given as goal
-
-abbrev pub invariant-listing : goal.invariant-listing
-invariant-listing l = map told l.rows.items ≡ rows_for l.sums.paths l.sums.tallies (take l.number-index l.numbers)
