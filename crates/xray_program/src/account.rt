@@ -8,10 +8,10 @@ ghost use Rattle.xray_program.specs.private.Meant.{AccountMeans};
 
 use crate::account_options::{format_of, is_descending, key_of};
 use crate::delivery::{NoOutputs, deliver};
-use crate::input::StreamKind;
 use crate::inputs::TRACE;
 use crate::report_inputs::{ReportInputs, take_report};
 use crate::stop::Stop;
+use crate::stream::StreamKind;
 use crate::trace_feed::TraceFeed;
 use crate::work::Work;
 use account_report::{AccountFold, AccountRow, AccountText, order_rows};

@@ -5,10 +5,10 @@ ghost use Rattle.fdr_file.specs.Traces.{trace_of};
 ghost use Rattle.xray_program.specs.private.Meant.{BytesMean};
 
 use crate::delivery::{NoOutputs, deliver};
-use crate::input::StreamKind;
 use crate::inputs::TRACE;
 use crate::report_inputs::{ReportInputs, take_report};
 use crate::stop::Stop;
+use crate::stream::StreamKind;
 use crate::trace_feed::TraceFeed;
 use crate::work::Work;
 use command_words::TRACE_LIMIT;

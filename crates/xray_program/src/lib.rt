@@ -36,6 +36,7 @@ mod sim_inputs;
 mod soak;
 mod stack;
 mod stop;
+mod stream;
 mod summary;
 mod trace_feed;
 mod traced;

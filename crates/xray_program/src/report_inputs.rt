@@ -5,9 +5,10 @@ ghost use Rattle.xray_program.specs.Reports.{report_inputs};
 ghost use Rattle.xray_program.specs.private.ReportTakes.{IsReportTaken, StopsReport};
 ghost use Rattle.xray_program.specs.private.Takes.{AreTakings};
 
-use crate::input::{StreamKind, take_maybe, take_stream};
+use crate::input::take_maybe;
 use crate::inputs::ImageKind;
 use crate::stop::Stop;
+use crate::stream::{StreamKind, take_stream};
 use std::alloc::Global;
 use xray_image::Image;
 use xray_io::Desk;

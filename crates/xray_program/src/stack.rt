@@ -4,14 +4,16 @@ ghost use Rattle.xray_program.specs.Stack.{form_of};
 ghost use Rattle.xray_program.specs.private.Meant.{StacksMean};
 
 use crate::delivery::{NoOutputs, deliver};
-use crate::input::{StreamKind, fault_stop};
+use crate::input::fault_stop;
 use crate::inputs::TRACE;
 use crate::report_inputs::{ReportInputs, take_report};
 use crate::stop::Stop;
+use crate::stream::StreamKind;
+use crate::trace_feed::TraceFeed;
 use crate::work::Work;
 use command_words::{StackFormat, TRACE_LIMIT};
-use fdr_file::{Trace, read_trace};
-use stack_rebuild::{StackFault, StackForm, StackRow, StackText, stacks};
+use fdr_file::Trace;
+use stack_rebuild::{StackFault, StackFold, StackForm, StackRow, StackText};
 use std::alloc::Global;
 use trace_words::TraceRefusal;
 use xray_io::{Desk, Sink};
@@ -25,7 +27,7 @@ impl StreamKind for StackKind {
 
     type Meaning = Trace;
 
-    type Pieces = Vec<u8>;
+    type Pieces = TraceFeed<StackFold>;
 
     type Value = Result<Vec<StackRow>, StackFault>;
 
@@ -43,17 +45,17 @@ impl StreamKind for StackKind {
         TRACE_LIMIT
     }
 
-    fn begin(&self, alloc: Global) -> Vec<u8> {
-        Vec::new(alloc)
+    fn begin(&self, alloc: Global) -> TraceFeed<StackFold> {
+        TraceFeed::new(StackFold::new(alloc))
     }
 
     fn judge(
         &self,
-        alloc: Global,
-        bytes: Vec<u8>,
+        _alloc: Global,
+        feed: TraceFeed<StackFold>,
     ) -> Result<Result<Vec<StackRow>, StackFault>, TraceRefusal> {
-        match read_trace(alloc, &bytes) {
-            Ok(trace) => Ok(stacks(alloc, &trace)),
+        match feed.finish() {
+            Ok(fold) => Ok(fold.rows()),
             Err(fault) => Err(TraceRefusal { fault }),
         }
     }

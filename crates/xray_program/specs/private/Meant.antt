@@ -1,5 +1,5 @@
 -- What the reports know of a trace at its end.
-use Rattle.std.specs.Prelude.{◌≡◌, ℕ, Option, None, map, Result, Ok, Err, Vec}
+use Rattle.std.specs.Prelude.{◌≡◌, ℕ, None, map, Result, Ok, Err, Vec}
 use Rattle.std.specs.declared.alloc.Global.{Global}
 use Rattle.account_report.specs.Account.{account_of}
 use Rattle.account_report.specs.AccountText.{latencies_of}

@@ -18,7 +18,7 @@ pub record ImageTurn (image : Option (List ℕ)) (before after : DeskView) (resu
   pub later : before.read_faults ≤ mid.read_faults
   pub taken : IsMaybeTaken image_form image mid after result
 
--- both turns gave values, that of the log one that says something of what the log reads as; or one of them was a stop
+-- both turns gave values, and that of the log says what it says of what the log reads as; or one of them was a stop
 abbrev pub IsReportTaken : {V X : Type 0} → Form X → (means : V → X → Type 0) → (log : List ℕ) → (image : Option (List ℕ)) → (before after : DeskView)
     → Result (ReportInputs V) Stop → Type 0
 IsReportTaken {V} {X} form means log image before after (Ok inputs) =
@@ -27,7 +27,7 @@ IsReportTaken {V} {X} form means log image before after (Err stop) =
     IsTaken form log before after (Err stop)
     ⊎ ((meant : X) × Gives form (before.held log) meant × ImageTurn image before after (Err stop))
 
--- what comes of the inputs, whatever of this the value of the log is said of
+-- an outcome comes of the inputs: it follows from each reading of the log of which its value says what is known
 abbrev pub ComesOfMeant : {V X : Type 0} → (means : V → X → Type 0) → (next : X → Option Program → Outcome → Type 0) → ReportInputs V → Outcome → Type 0
 ComesOfMeant {V} {X} means next inputs outcome = (meant : X) → means inputs.log meant → next meant inputs.image outcome
 

@@ -2,7 +2,7 @@ use Rattle.std.proofs.Common.{◌≡◌, ◌<◌, ℕ, List, length, subst}
 use Rattle.xray_io.specs.Desk.{Holds}
 use Rattle.xray_io.specs.World.{desk_view}
 use Rattle.xray_program.proofs.Turns.{unread}
-use Rattle.xray_program.proofs.input.take_stream.Goals as goal
+use Rattle.xray_program.proofs.stream.take_stream.Goals as goal
 
 pub returns-clause-taken : goal.returns-clause-taken
 returns-clause-taken g c =
