@@ -1,5 +1,5 @@
 -- A fold after one more block, and after one more event.
-use Rattle.std.proofs.Common.{◌≡◌, ◌++◌, ◌∙◌, ◌||◌, ℕ, Bool, true, false, cond, List, [], ◌∷◌, map, reverse, refl, ap, sym, subst, nat_eq, unwrap_or, is_some, Option, Some}
+use Rattle.std.proofs.Common.{◌≡◌, ◌++◌, ◌∙◌, ◌||◌, ◌&&◌, ◌≤◌, nat_le, ℕ, Bool, true, false, cond, List, [], ◌∷◌, length, map, reverse, refl, ap, sym, subst, nat_eq, unwrap_or, is_some, Option, Some}
 use Rattle.std.specs.HashMap.{get}
 use Rattle.std.proofs.lemmas.Bool.{eqb-true, eqb-false, ne_eqb}
 use Rattle.std.proofs.lemmas.List.{append-nil, append_assoc, map-append, reverse-append}
@@ -12,8 +12,11 @@ use Rattle.stack_rebuild.specs.declared.call.Pair.{Pair}
 use Rattle.stack_rebuild.specs.Calls.{Standing, next_standing, pair_at, standing_after}
 use Rattle.stack_rebuild.specs.Histories.{history_of, history_of_thread, thread_event}
 use Rattle.account_report.specs.declared.fold.AccountFold.{AccountFold}
+use Rattle.account_report.specs.declared.tallies.Tallies.{Tallies}
+use Rattle.account_report.specs.declared.tallies.TheConstants.{FEW}
 use Rattle.account_report.specs.private.Folding.{Folds}
-use Rattle.account_report.specs.private.Tallies.{AreTallies, Reached, Table, Tallied, durations_in, standing_in, tally_in, with_event}
+use Rattle.account_report.specs.private.Tallies.{Table, durations_in, standing_in, with_event}
+use Rattle.account_report.specs.private.AllTallies.{AreTallies, Reached, tally_in}
 use Rattle.account_report.proofs.Tallying.{reached_after}
 
 -- ---- histories
@@ -89,7 +92,7 @@ gone_to fold new blocks last threads folds put taken others kept is none =
       others = λ other apart.
           others other apart ∙ (all other ∙ ap (λ (h : List ThreadEvent). standing_after (history_of_thread other h)) (sym same));
       tallied =
-          subst (AreTallies new.tallies) (sym same) (subst (λ (t : Table Tallied). AreTallies t (history_of blocks)) (sym kept) folds.tallied);
+          subst (AreTallies new.tallies) (sym same) (subst (λ (t : Tallies). AreTallies t (history_of blocks)) (sym kept) folds.tallied);
     }
 
 -- ---- one more event
@@ -105,9 +108,10 @@ pub added_to : (fold new : AccountFold) (blocks : List Block) (last : Block) (e 
     → pair ≡ pair_at e fold.calls.events fold.calls.calls → new.calls ≡ next_standing e fold.calls
     → ((func : ℕ) → tally_in new.tallies func
     ≡ cond (nat_eq e.func func) (with_event e.kind (durations_in pair) (tally_in fold.tallies func)) (tally_in fold.tallies func))
-    → ((func : ℕ) → is_some (get nat_eq new.tallies func) ≡ (nat_eq e.func func || is_some (get nat_eq fold.tallies func)))
+    → (length fold.tallies.first.items ≤ FEW → length new.tallies.first.items ≤ FEW)
+    → ((func : ℕ) → is_some (get nat_eq new.tallies.others func) ≡ ((nat_le FEW func && nat_eq e.func func) || is_some (get nat_eq fold.tallies.others func)))
     → Folds new (blocks ++ longer_block last e ∷ [])
-added_to fold new blocks last e pair folds thread threads made stands each present =
+added_to fold new blocks last e pair folds thread threads made stands each few present =
     let t = fold.thread in
     let before = history_of (blocks ++ last ∷ []) in
     let is : last.thread ≡ t = folds.last blocks last refl in
@@ -115,7 +119,7 @@ added_to fold new blocks last e pair folds thread threads made stands each prese
     let more : history_of (blocks ++ longer_block last e ∷ []) ≡ after =
     history_longer blocks last e ∙ ap (λ (k : ℕ). thread_event k last.pid e ∷ before) is in
     let reached : Reached t after new.calls new.tallies =
-    reached_after t last.pid before e pair fold.calls new.calls fold.tallies new.tallies (record { stands = folds.own; tallied = folds.tallied }) made stands each present in
+    reached_after t last.pid before e pair fold.calls new.calls fold.tallies new.tallies (record { stands = folds.own; tallied = folds.tallied }) made stands each few present in
     record {
       last = thread_of_last blocks (longer_block last e) new.thread (is ∙ sym thread);
       own = reached.stands

@@ -1,6 +1,8 @@
 pub mod AccountLines
 pub mod Folding
+pub mod Listing
 pub mod Lone
+pub mod LowIds
 pub mod OneOrder
 pub mod OverStacks
 pub mod Rising

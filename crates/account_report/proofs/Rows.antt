@@ -68,7 +68,7 @@ found_key k es found =
     let there = any-in (nat_eq k) (keys_of es) (sym (is_some-lookup (nat_eq k) es) ∙ found) in
     subst (λ (n : ℕ). IsIn n (keys_of es)) (sym (eqb-true k there.0 there.2)) there.1
 
-key_found : (k : ℕ) (es : Entries) → IsIn k (keys_of es) → is_some (lookup (nat_eq k) es) ≡ true
+pub key_found : (k : ℕ) (es : Entries) → IsIn k (keys_of es) → is_some (lookup (nat_eq k) es) ≡ true
 key_found k es is = is_some-lookup (nat_eq k) es ∙ in-any (nat_eq k) (keys_of es) k is (eq-eqb k k refl)
 
 pub flipped : (a b : ℕ) → nat_eq a b ≡ nat_eq b a

@@ -1,5 +1,5 @@
 -- What one more event changes in what a history says of a function.
-use Rattle.std.proofs.Common.{◌≡◌, ◌+◌, ◌++◌, ◌∙◌, ℕ, Bool, true, false, cond, ◌&&◌, ◌||◌, List, [], ◌∷◌, length, map, refl, ap, sym, arith, nat_eq, Option, is_some}
+use Rattle.std.proofs.Common.{◌≡◌, ◌+◌, ◌++◌, ◌∙◌, ℕ, Bool, true, false, cond, ◌&&◌, ◌||◌, ◌≤◌, List, [], ◌∷◌, length, map, refl, ap, sym, arith, nat_eq, nat_le, Option, is_some}
 use Rattle.std.specs.Prelude.{filter}
 use Rattle.std.specs.HashMap.{get}
 use Rattle.std.specs.Option.{option_to_list}
@@ -15,8 +15,11 @@ use Rattle.stack_rebuild.specs.declared.call.Call.{Call}
 use Rattle.stack_rebuild.specs.declared.call.Pair.{Pair}
 use Rattle.stack_rebuild.specs.Calls.{Standing, enters, from_innermost, leaves, open_calls, pair_at, pair_at_kind, pair_of_call, standing_after, next_standing}
 use Rattle.stack_rebuild.specs.Histories.{ThreadPair, history_of_thread, pair_after, pairs_after, thread_event, thread_pair}
+use Rattle.account_report.specs.declared.tallies.Tallies.{Tallies}
+use Rattle.account_report.specs.declared.tallies.TheConstants.{FEW}
 use Rattle.account_report.specs.Account.{durations_of, is_entry_of, is_exit_of}
-use Rattle.account_report.specs.private.Tallies.{Reached, Table, Tallied, durations_in, tally_in, tally_of, with_event}
+use Rattle.account_report.specs.private.Tallies.{Tallied, durations_in, has_event, tally_of, with_event}
+use Rattle.account_report.specs.private.AllTallies.{Reached, tally_in}
 
 -- a pair is of the function of its event
 abbrev is_pair_of : ℕ → Pair → Bool
@@ -97,13 +100,18 @@ tally_of-cons l h func =
 of_thread-own : (thread pid : ℕ) (e : Event) (h : List ThreadEvent) → history_of_thread thread (thread_event thread pid e ∷ h) ≡ e ∷ history_of_thread thread h
 of_thread-own thread pid e h = ap (λ b. cond b (e ∷ history_of_thread thread h) (history_of_thread thread h)) (eq-eqb thread thread refl)
 
+joined : (a b c : Bool) → ((a && b) || (a && c)) ≡ (a && (b || c))
+joined true b c = refl
+joined false b c = refl
+
 -- one more event of the thread
-pub reached_after : (thread pid : ℕ) (h : List ThreadEvent) (e : Event) (pair : Option Pair) (calls calls' : Standing) (tallies tallies' : Table Tallied)
+pub reached_after : (thread pid : ℕ) (h : List ThreadEvent) (e : Event) (pair : Option Pair) (calls calls' : Standing) (tallies tallies' : Tallies)
     → Reached thread h calls tallies → pair ≡ pair_at e calls.events calls.calls → calls' ≡ next_standing e calls
     → ((func : ℕ) → tally_in tallies' func ≡ cond (nat_eq e.func func) (with_event e.kind (durations_in pair) (tally_in tallies func)) (tally_in tallies func))
-    → ((func : ℕ) → is_some (get nat_eq tallies' func) ≡ (nat_eq e.func func || is_some (get nat_eq tallies func)))
+    → (length tallies.first.items ≤ FEW → length tallies'.first.items ≤ FEW)
+    → ((func : ℕ) → is_some (get nat_eq tallies'.others func) ≡ ((nat_le FEW func && nat_eq e.func func) || is_some (get nat_eq tallies.others func)))
     → Reached thread (thread_event thread pid e ∷ h) calls' tallies'
-reached_after thread pid h e pair calls calls' tallies tallies' reached made stands each present =
+reached_after thread pid h e pair calls calls' tallies tallies' reached made stands each few present =
     let made_after : pair ≡ pair_after (thread_event thread pid e) h = made ∙ ap (λ (s : Standing). pair_at e s.events s.calls) reached.stands in record {
       stands = stands ∙ (ap (next_standing e) reached.stands ∙ ap standing_after (sym (of_thread-own thread pid e h)));
       tallied = record {
@@ -111,6 +119,9 @@ reached_after thread pid h e pair calls calls' tallies tallies' reached made sta
             ∙ (ap (λ (t : Tallied). cond (nat_eq e.func func) (with_event e.kind (durations_in pair) t) t) (reached.tallied.each func)
             ∙ (ap (λ (p : Option Pair). cond (nat_eq e.func func) (with_event e.kind (durations_in p) (tally_of h func)) (tally_of h func)) made_after
             ∙ sym (tally_of-cons (thread_event thread pid e) h func)));
-        present = λ func. present func ∙ ap (λ (b : Bool). nat_eq e.func func || b) (reached.tallied.present func);
+        few = few reached.tallied.few;
+        present = λ func. present func
+            ∙ (ap (λ (b : Bool). (nat_le FEW func && nat_eq e.func func) || b) (reached.tallied.present func)
+            ∙ joined (nat_le FEW func) (nat_eq e.func func) (has_event h func));
       };
     }

@@ -1,3 +1,4 @@
 -- What the contracts of private functions cite. No promise of this crate rests on it.
 pub mod Tallies
 pub mod Folding
+pub mod AllTallies

@@ -9,7 +9,7 @@ ghost use Rattle.account_report.specs.private.{Folding.{Folds}, Tallies.{standin
 
 use crate::report::{latencies, rows_from};
 use crate::row::AccountRow;
-use crate::tally::{Tally, add_event};
+use crate::tallies::Tallies;
 use fdr_file::Taker;
 use fdr_record::Event;
 use stack_rebuild::ThreadCalls;
@@ -29,7 +29,7 @@ pub struct AccountFold {
     calls: ThreadCalls,
     /// Those of the other threads.
     threads: HashMap<u32, ThreadCalls>,
-    tallies: HashMap<u32, Tally>,
+    tallies: Tallies,
     refused: u64,
 }
 
@@ -66,7 +66,7 @@ impl AccountFold {
             thread: 0,
             calls: ThreadCalls::new(alloc),
             threads: HashMap::new(alloc),
-            tallies: HashMap::new(alloc),
+            tallies: Tallies::new(alloc),
             refused: 0,
         }
     }
@@ -108,7 +108,7 @@ impl AccountFold {
         ensures same { self.new.refused ≡ self.old.refused }
     {
         let pair = self.calls.take(event)?;
-        add_event(self.alloc, &mut self.tallies, event, &pair)?;
+        self.tallies.add(self.alloc, event, &pair)?;
         Ok(())
     }
 }

@@ -6,6 +6,7 @@ mod laws;
 mod order;
 mod report;
 mod row;
+mod tallies;
 mod tally;
 mod text;
 

@@ -1,19 +1,18 @@
 //! The rows of the account.
 
-ghost use Rattle.std.specs.{Prelude.{◌≡◌, ◌++◌, [], ◌∷◌, List, nat_eq, map, IfOk, OnOk}, HashMap.{IsUnique}};
+ghost use Rattle.std.specs.{Prelude.{◌≡◌, ◌++◌, [], ◌∷◌, List, nat_eq, map, IfOk, OnOk}};
 ghost use Rattle.std.specs.List.{IsDistinct};
 ghost use Rattle.fdr_file.specs.declared.trace.Block.{Block};
 ghost use Rattle.fdr_file.specs.ThreadEvents.{ThreadEvent};
 ghost use Rattle.account_report.specs.{Account.{account_of, account_rows}, AccountText.{latencies_of}};
-ghost use Rattle.account_report.specs.private.{Folding.{Folds}, Tallies.{AreTallies, row_of_entry}};
+ghost use Rattle.account_report.specs.private.{AllTallies.{AreTallies}, Folding.{Folds}};
 
 use crate::fold::AccountFold;
 use crate::row::AccountRow;
-use crate::tally::Tally;
+use crate::tallies::Tallies;
 use fdr_file::{Block, Taker, Trace};
 use stack_rebuild::{each_exit_ends_one_call, each_pair_is_a_whole_call};
 use std::alloc::Global;
-use std::collections::HashMap;
 use xray_io::NoMemory;
 
 /// The account of a trace: a row for each function that has an event, in ascending order of ids.
@@ -44,11 +43,8 @@ fn take_block(fold: &mut AccountFold, block: &Block) -> Result<(), NoMemory>
     Ok(())
 }
 
-/// The rows of the functions of a table, in ascending order of ids.
-pub(crate) fn rows_from(
-    alloc: Global,
-    tallies: HashMap<u32, Tally>,
-) -> Result<Vec<AccountRow>, NoMemory>
+/// The rows of functions, in ascending order of ids.
+pub(crate) fn rows_from(alloc: Global, tallies: Tallies) -> Result<Vec<AccountRow>, NoMemory>
     ensures rows { IfOk result (λ rows. (history : List ThreadEvent) → AreTallies tallies history
         → rows.items ≡ account_rows history) }
     ensures distinct { IfOk result (λ rows. (history : List ThreadEvent)
@@ -56,20 +52,8 @@ pub(crate) fn rows_from(
 {
     each_exit_ends_one_call();
     each_pair_is_a_whole_call();
-    let mut rows = rows_of(alloc, tallies)?;
+    let mut rows = tallies.into_rows(alloc)?;
     rows.sort_unstable_by_key(|row| row.func);
-    Ok(rows)
-}
-
-/// A row for each function of a table, in the table's order.
-fn rows_of(alloc: Global, tallies: HashMap<u32, Tally>) -> Result<Vec<AccountRow>, NoMemory>
-    ensures rows { IfOk result (λ rows. rows.items ≡ map row_of_entry tallies.entries) }
-    ensures unique { IsUnique nat_eq tallies }
-{
-    let mut rows = Vec::with_capacity(alloc, tallies.len())?;
-    'listing: for (func, tally) in tallies {
-        rows.push(tally.into_row(func))?;
-    }
     Ok(rows)
 }
 

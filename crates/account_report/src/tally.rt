@@ -1,15 +1,13 @@
 //! What is kept of each function while events are taken.
 
-ghost use Rattle.std.specs.Prelude.{◌≡◌, ◌+◌, ◌-◌, ◌==◌, ◌||◌, ℕ, length, nat_eq, is_some, if◌then◌else◌, IfOk, OnOk, slice_index};
-ghost use Rattle.std.specs.HashMap.{get};
+ghost use Rattle.std.specs.Prelude.{◌≡◌, ◌+◌, ◌-◌, length, IfOk, OnOk, slice_index};
 ghost use Rattle.account_report.specs.Account.{row_from};
-ghost use Rattle.account_report.specs.private.Tallies.{durations_in, no_tally, row_with, tally_in, with_event};
+ghost use Rattle.account_report.specs.private.Tallies.{durations_in, has_events, no_tally, row_with, with_event};
 
 use crate::row::AccountRow;
-use fdr_record::{Event, Kind};
+use fdr_record::Kind;
 use stack_rebuild::Pair;
 use std::alloc::Global;
-use std::collections::HashMap;
 use std::marker::Model;
 use xray_io::NoMemory;
 
@@ -35,7 +33,7 @@ impl Model for Tally {
 
 impl Tally {
     /// A function without an event.
-    fn new(alloc: Global) -> Tally
+    pub(crate) fn new(alloc: Global) -> Tally
         ensures { result ≡ no_tally }
     {
         Tally {
@@ -46,7 +44,7 @@ impl Tally {
     }
 
     /// One more event, and the pair that it makes.
-    fn add(&mut self, kind: Kind, pair: &Option<Pair>) -> Result<(), NoMemory>
+    pub(crate) fn add(&mut self, kind: Kind, pair: &Option<Pair>) -> Result<(), NoMemory>
         ensures { OnOk result (self.new ≡ with_event kind (durations_in pair.now) self.old) }
     {
         if let Some(pair) = pair {
@@ -57,6 +55,13 @@ impl Tally {
             Kind::Exit | Kind::TailExit => self.exits = one_more(self.exits)?,
         }
         Ok(())
+    }
+
+    /// Whether it had an event.
+    pub(crate) fn has_events(&self) -> bool
+        ensures { result ≡ has_events self.now }
+    {
+        self.entries > 0 || self.exits > 0
     }
 
     /// The row of the function with this id.
@@ -107,29 +112,4 @@ fn item(durations: &[u64], place: usize) -> u64
     ensures { result ≡ slice_index durations.now place }
 {
     durations.get(place).copied().unwrap_or(0)
-}
-
-/// One more event, and the pair that it makes.
-pub(crate) fn add_event(
-    alloc: Global,
-    tallies: &mut HashMap<u32, Tally>,
-    event: &Event,
-    pair: &Option<Pair>,
-) -> Result<(), NoMemory>
-    ensures tallied { OnOk result ((func : ℕ) → tally_in tallies.new func
-        ≡ (if event.now.func == func
-        then with_event event.now.kind (durations_in pair.now) (tally_in tallies.old func)
-        else tally_in tallies.old func)) }
-    ensures present { OnOk result ((func : ℕ) → is_some (get nat_eq tallies.new func)
-        ≡ ((event.now.func == func) || is_some (get nat_eq tallies.old func))) }
-{
-    match tallies.get_mut(&event.func) {
-        Some(tally) => tally.add(event.kind, pair),
-        None => {
-            let mut tally = Tally::new(alloc);
-            tally.add(event.kind, pair)?;
-            tallies.insert(event.func, tally)?;
-            Ok(())
-        }
-    }
 }

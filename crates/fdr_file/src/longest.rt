@@ -1,10 +1,9 @@
 //! The longest prefix of bytes that is a trace.
 
 ghost use Rattle.std.specs.Prelude.{◌≡◌, ◌≤◌, ◌<◌, ℕ, Ok, Err, IfOk, IfErr, OnErr, length, take};
-ghost use Rattle.fdr_file.specs.declared.fault.TraceFault.{TraceFault};
+ghost use Rattle.fdr_file.specs.declared.{fault.TraceFault.{TraceFault}, header.Header.{Header}};
 ghost use Rattle.fdr_file.specs.Prefixes.{IsHeaderFault, IsReadable, ReadsAsTrace};
 ghost use Rattle.fdr_file.specs.Traces.{trace_of};
-ghost use Rattle.fdr_file.specs.declared.header.Header.{Header};
 ghost use Rattle.fdr_file.specs.private.Prefixes.{end_after, passed_at};
 ghost use Rattle.fdr_file.specs.private.Reading.{header_on};
 

@@ -15,6 +15,8 @@ mod code_table;
 #[cfg(test)]
 mod command_lines;
 #[cfg(test)]
+mod damaged_traces;
+#[cfg(test)]
 mod devices;
 #[cfg(test)]
 mod drawn_inputs;

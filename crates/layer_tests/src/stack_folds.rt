@@ -1,38 +1,21 @@
 //! Calls of `StackFold` of `stack_rebuild`, which a scan of `fdr_file` feeds in pieces.
 
-ghost use Rattle.std.specs.Prelude.{◌≡◌, [], IfOk};
-
 use crate::checks::{check_same, check_same_text};
-use crate::event_traces::{NESTED, Said, file_of, printed};
-use fdr_file::{Taker, TraceScan};
+use crate::event_traces::{NESTED, Said, printed};
+use crate::fed_traces::{feed_pieces, file_of};
 use fdr_record::Kind;
 use stack_rebuild::{MOST_OPEN, StackFault, StackFold, StackForm, StackRow, StackText};
 use std::alloc::Global;
 use std::process::Abort;
 use std::test::Fail;
 
-/// How many bytes a scan is fed at once. No record has so few, so that each is cut.
+/// How many bytes a scan is fed at once. Each record is longer.
 const PIECE: usize = 7;
-
-/// Feeds a trace file to a new taker, in pieces.
-fn feed_pieces<K: Taker>(bytes: &[u8], taker: &mut K) -> Result<(), Fail>
-    requires { K.took taker.old [] }
-{
-    let mut scan = TraceScan::new();
-    let mut from = 0;
-    'feeding: while from < bytes.len() {
-        let len = PIECE.min(bytes.len() - from);
-        scan.feed(&bytes[from..from + len], taker)?;
-        from += len;
-    }
-    scan.finish()?;
-    Ok(())
-}
 
 /// The stacks of events, each in a block of its own.
 fn stacks_of(alloc: Global, events: &[Said]) -> Result<Result<Vec<StackRow>, StackFault>, Fail> {
     let mut fold = StackFold::new(alloc);
-    feed_pieces(&file_of(alloc, events)?, &mut fold)?;
+    feed_pieces(&file_of(alloc, events)?, PIECE, &mut fold)??;
     Ok(fold.rows())
 }
 

@@ -1,8 +1,8 @@
-//! Calls of `fdr_file`: files byte by byte, as the format says, and each refusal.
+//! Calls of `fdr_file`: files byte by byte, as the format says.
 
-use crate::checks::{check_same, check_same_at, check_same_list};
+use crate::checks::{check_same, check_same_list};
 use fdr_file::*;
-use fdr_record::{Event, Kind, RecFault};
+use fdr_record::{Event, Kind};
 use std::alloc::{AllocError, Global};
 use std::process::Abort;
 use std::test::Fail;
@@ -34,7 +34,7 @@ const ENTRY: &[u8] = b"\x10\0\0\0\0\0\0\0";
 const EXIT_AFTER_2: &[u8] = b"\x12\0\0\0\x02\0\0\0";
 
 /// The bytes of these parts, one after the other.
-fn file(alloc: Global, parts: &[&[u8]]) -> Result<Vec<u8>, AllocError> {
+pub(crate) fn file(alloc: Global, parts: &[&[u8]]) -> Result<Vec<u8>, AllocError> {
     let mut bytes = Vec::new(alloc);
     for part in parts {
         bytes.extend_from_slice(part)?;
@@ -43,7 +43,7 @@ fn file(alloc: Global, parts: &[&[u8]]) -> Result<Vec<u8>, AllocError> {
 }
 
 /// A file of one block, with an entry of function 1 at counter 0 and its exit at 2.
-fn one_block(alloc: Global) -> Result<Vec<u8>, AllocError> {
+pub(crate) fn one_block(alloc: Global) -> Result<Vec<u8>, AllocError> {
     file(
         alloc,
         &[HEADER, EXTENTS_80, PREAMBLE, CPU, ENTRY, EXIT_AFTER_2],
@@ -66,11 +66,6 @@ fn event(cpu: u16, func: u32, kind: Kind, tsc: u64) -> Event {
         kind,
         tsc,
     }
-}
-
-/// The fault of a file, if it has one.
-fn fault(alloc: Global, bytes: &[u8]) -> Option<TraceFault> {
-    read_trace(alloc, bytes).err()
 }
 
 /// What a block says of its buffer: the thread, the wall time and the process.
@@ -106,7 +101,7 @@ fn check_file(
 }
 
 /// The header with these bytes: a constant and nonstop counter, and buffers of 16,384 bytes.
-const HEADER_FIELDS: Header = Header {
+pub(crate) const HEADER_FIELDS: Header = Header {
     version: 3,
     constant: true,
     nonstop: true,
@@ -191,61 +186,62 @@ fn deltas_add_up_from_the_last_whole_counter(rt: HostRuntime) -> Result<(), Fail
     Ok(())
 }
 
-/// A place in the file of one block, the byte that is put there, and why the file is refused.
-const DAMAGES: [(usize, u8, TraceFault); 23] = [
-    (32, 0x01, TraceFault::Order(32)),
-    (32, 0x10, TraceFault::Order(32)),
-    (32, 0x0B, TraceFault::Bad(32, RecFault::Kind(5))),
-    (32, 0x06, TraceFault::Bad(32, RecFault::Action(3))),
-    (33, 0x2F, TraceFault::Extents(32)),
-    (33, 0x51, TraceFault::Short(32)),
-    (33, 0x4F, TraceFault::Extents(120)),
-    (40, 0x80, TraceFault::Short(32)),
-    (48, 0x09, TraceFault::Order(48)),
-    (64, 0x13, TraceFault::Order(64)),
-    (80, 0x05, TraceFault::Order(80)),
-    (96, 0x07, TraceFault::NoBase(96)),
-    (96, 0x01, TraceFault::Order(96)),
-    (96, 0x10, TraceFault::NoBase(96)),
-    (112, 0x0F, TraceFault::Order(112)),
-    (112, 0x11, TraceFault::Bad(112, RecFault::Kind(8))),
-    (112, 0x16, TraceFault::Bad(112, RecFault::Action(3))),
-    (112, 0x18, TraceFault::Bad(112, RecFault::Action(4))),
-    (120, 0x11, TraceFault::Extents(120)),
-    (0, 0x02, TraceFault::Version(2)),
-    (0, 0x04, TraceFault::Version(4)),
-    (1, 0x01, TraceFault::Version(259)),
-    (2, 0x00, TraceFault::Form(0)),
+/// A header with a constant and nonstop counter, and with buffers of 72 bytes.
+const HEADER_OF_72: &[u8] =
+    b"\x03\0\x01\0\x03\0\0\0\0\0\0\0\0\0\0\0\x48\0\0\0\0\0\0\0\0\0\0\0\0\0\0\0";
+
+/// Thread 2, the wall time 0, and process 1.
+const PREAMBLE_OF_2: &[u8] = b"\x01\x02\0\0\0\0\0\0\0\0\0\0\0\0\0\0\
+\x09\0\0\0\0\0\0\0\0\0\0\0\0\0\0\0\
+\x13\x01\0\0\0\0\0\0\0\0\0\0\0\0\0\0";
+
+/// CPU 0 at counter 1, and an exit of function 2.
+const CPU_AT_1: &[u8] = b"\x05\0\0\x01\0\0\0\0\0\0\0\0\0\0\0\0";
+
+const EXIT_OF_2: &[u8] = b"\x22\0\0\0\0\0\0\0";
+
+/// A file of 296 bytes with three blocks of one event each: the last one of thread 1, and the last
+/// two of thread 2.
+pub(crate) const THREE_BLOCKS: [&[u8]; 13] = [
+    HEADER_OF_72,
+    EXTENTS_72,
+    PREAMBLE,
+    CPU_AT_2,
+    EXIT,
+    EXTENTS_72,
+    PREAMBLE_OF_2,
+    CPU_AT_1,
+    EXIT_OF_2,
+    EXTENTS_72,
+    PREAMBLE_OF_2,
+    CPU_AT_2,
+    EXIT,
 ];
 
-/// The file of one block, with one byte changed.
-#[test]
-fn damaged_files_are_refused(rt: HostRuntime) -> Result<(), Fail> {
-    for (at, to, wanted) in &DAMAGES {
-        let mut bytes = one_block(rt.alloc())?;
-        if let Some(byte) = bytes.get_mut(*at) {
-            *byte = *to;
-        }
-        check_same_at(&rt, &fault(rt.alloc(), &bytes), &Some(*wanted), at);
-    }
-    Ok(())
-}
+/// Its header.
+pub(crate) const FIELDS_OF_72: Header = Header {
+    size: 72,
+    ..HEADER_FIELDS
+};
+
+/// Its events, each with its thread and its process.
+const THREE_EVENTS: [(u32, u32, Said); 3] = [
+    (1, 1, (0, 1, Kind::Exit, 2)),
+    (2, 1, (0, 2, Kind::Exit, 1)),
+    (2, 1, (0, 1, Kind::Exit, 2)),
+];
 
 #[test]
-fn a_file_cut_inside_its_header_or_a_block_is_short(rt: HostRuntime) -> Result<(), Fail> {
-    let block = file(rt.alloc(), &[EXTENTS_72, PREAMBLE, CPU, ENTRY])?;
-    let bytes = file(rt.alloc(), &[HEADER, &block, &block, &block])?;
-    check_same(&rt, &bytes.len(), &296);
-    for len in 0..=bytes.len() {
-        let wanted = match len {
-            0..=31 => Some(TraceFault::Short(0)),
-            32 | 120 | 208 | 296 => None,
-            33..=119 => Some(TraceFault::Short(32)),
-            121..=207 => Some(TraceFault::Short(120)),
-            _ => Some(TraceFault::Short(208)),
-        };
-        check_same_at(&rt, &fault(rt.alloc(), &bytes[..len]), &wanted, &len);
+fn a_cursor_gives_the_events_in_order(rt: HostRuntime) -> Result<(), Fail> {
+    let bytes = file(rt.alloc(), &THREE_BLOCKS)?;
+    read_trace(rt.alloc(), &bytes)?;
+    let mut cursor = EventCursor::new(&bytes);
+    check_same(&rt, &cursor.header(), &FIELDS_OF_72);
+    for (thread, pid, event) in &THREE_EVENTS {
+        let wanted = Some((*thread, *pid, said(*event)));
+        check_same(&rt, &cursor.next(), &wanted);
     }
+    check_same(&rt, &cursor.next(), &None);
     Ok(())
 }
 

@@ -72,7 +72,7 @@ path_row pairs path = record {
   own = sum_by (λ pair. if has_path path pair then pair.own else 0) pairs;
 }
 
--- a row for each path that has one of some pairs, in ascending order
+-- the rows of pairs: one for each path that a pair has, in ascending order
 abbrev pub rows_of_pairs : List Timed → List PathRow
 rows_of_pairs pairs = map (path_row pairs) (each_once path_cmp (map (λ pair. pair.path) pairs))
 

@@ -19,7 +19,7 @@ pub struct StackRow {
     pub own: u128,
 }
 
-/// Why `stacks` gives no rows.
+/// Why `stacks` and `StackFold::rows` give no rows.
 #[derive(Clone, Copy, Debug, PartialEq, Eq, Error)]
 pub enum StackFault {
     /// More than 4,096 calls of this thread are open at once. If there are several such threads, it

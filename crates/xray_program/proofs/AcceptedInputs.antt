@@ -49,30 +49,30 @@ abbrev IsDone : (Outcome → Type 0) → Type 0
 IsDone comes = (outcome : Outcome) → comes outcome → status_of outcome ≡ 0
 
 -- an input that is accepted leads on to what follows it
-accepted_take : {X : Type 0} (form : Form X) → IsDecided form → (place : ℕ) (held : List ℕ → Entry) (name : List ℕ) (next : X → Outcome → Type 0)
-    (value : X) → HoldsInput form (held name) value → IsDone (next value) → IsDone (Take form place Sound held name next)
-accepted_take form is place held name next value at done outcome (inl (gone, same)) = absurd (never at.bytes (sym at.holds ∙ gone))
+accepted_take : {X : Type 0} (form : Form X) → IsDecided form → (held : List ℕ → Entry) (name : List ℕ) (next : X → Outcome → Type 0)
+    (value : X) → HoldsInput form (held name) value → IsDone (next value) → IsDone (Take form Sound held name next)
+accepted_take form is held name next value at done outcome (inl (gone, same)) = absurd (never at.bytes (sym at.holds ∙ gone))
   where
     never : (bytes : List ℕ) → Holds bytes ≡ Absent → ⊥
     never bytes e = cc
-accepted_take form is place held name next value at done outcome (inr (bytes, may, inl (long, same))) =
+accepted_take form is held name next value at done outcome (inr (bytes, may, inl (long, same))) =
     let alike : bytes ≡ at.bytes = rw at.holds at may in
     absurd (omega (arith, ap length alike, long, at.within))
-accepted_take form is place held name next value at done outcome (inr (bytes, may, inr (within, inl (refusal, refused, same)))) =
+accepted_take form is held name next value at done outcome (inr (bytes, may, inr (within, inl (refusal, refused, same)))) =
     let alike : bytes ≡ at.bytes = rw at.holds at may in
     absurd (is.not_both at.bytes value refusal at.reads (subst (λ b. form.Refuses b refusal) alike refused))
-accepted_take form is place held name next value at done outcome (inr (bytes, may, inr (within, inr (other, reads, comes)))) =
+accepted_take form is held name next value at done outcome (inr (bytes, may, inr (within, inr (other, reads, comes)))) =
     let alike : bytes ≡ at.bytes = rw at.holds at may in
     let same = is.one at.bytes other value (subst (λ b. form.Reads b other) alike reads) at.reads in
     done outcome (subst (λ v. next v outcome) same comes)
 
-accepted_maybe : IsDecided image_form → (place : ℕ) (held : List ℕ → Entry) (name : Option (List ℕ)) (next : Option Program → Outcome → Type 0)
-    (value : Option Program) → HoldsImage held name value → IsDone (next value) → IsDone (TakeMaybe image_form place Sound held name next)
-accepted_maybe is place held None next None at done = done
-accepted_maybe is place held None next (Some program) at done = absurd at
-accepted_maybe is place held (Some name) next None at done = absurd at
-accepted_maybe is place held (Some name) next (Some program) at done =
-    accepted_take image_form is place held name (λ v. next (Some v)) program at done
+accepted_maybe : IsDecided image_form → (held : List ℕ → Entry) (name : Option (List ℕ)) (next : Option Program → Outcome → Type 0)
+    (value : Option Program) → HoldsImage held name value → IsDone (next value) → IsDone (TakeMaybe image_form Sound held name next)
+accepted_maybe is held None next None at done = done
+accepted_maybe is held None next (Some program) at done = absurd at
+accepted_maybe is held (Some name) next None at done = absurd at
+accepted_maybe is held (Some name) next (Some program) at done =
+    accepted_take image_form is held name (λ v. next (Some v)) program at done
 
 -- what is left is done
 left_done : (Are : List (List ℕ × List ℕ) → List ℕ → Type 0) → IsDone (Leaves Are)
@@ -92,9 +92,9 @@ report_done : IsDecided image_form → (held : List ℕ → Entry) (trace : List
     (next : Trace → Option Program → Outcome → Type 0) → HoldsReport held trace image Is
     → ((t : Trace) (program : Option Program) → Is t → IsDone (next t program)) → IsDone (TakeReport trace_form Sound held trace image next)
 report_done is held trace image Is next (t, program, at, of_image, so) done =
-    accepted_take trace_form (decided_by (codes "trace") trace_limit trace_of trace_words) 0 held trace
-    (λ u. TakeMaybe image_form 1 Sound held image (λ p. next u p)) t at
-    (accepted_maybe is 1 held image (λ p. next t p) program of_image (done t program so))
+    accepted_take trace_form (decided_by (codes "trace") trace_limit trace_of trace_words) held trace
+    (λ u. TakeMaybe image_form Sound held image (λ p. next u p)) t at
+    (accepted_maybe is held image (λ p. next t p) program of_image (done t program so))
 
 -- what follows the inputs of a command
 
@@ -125,24 +125,24 @@ convert_next t program outcome = outcome ≡ Done [] (yaml_text program t)
 accepted_done : IsDecided image_form → (held : List ℕ → Entry) (command : Command) → AreAccepted held command → IsDone (Means (Some command) held)
 accepted_done is held (Sim i s c t a options) (program, plan, turns, at, of_script, of_schedule, still) =
     let setup = setup_of options in
-    accepted_take image_form is 0 held i
-    (λ p. Take (script_form p setup.threads) 1 Sound held s (λ l. Take (schedule_form setup.threads) 2 Sound held c (Replays s t a setup p l))) program at
-    (accepted_take (script_form program setup.threads) (decided_by (codes "script") script_limit (plan_of program setup.threads) script_words) 1 held s
-    (λ l. Take (schedule_form setup.threads) 2 Sound held c (Replays s t a setup program l)) plan of_script
-    (accepted_take (schedule_form setup.threads) (decided_by (codes "schedule") schedule_limit (schedule_of setup.threads) schedule_words) 2 held c
+    accepted_take image_form is held i
+    (λ p. Take (script_form p setup.threads) Sound held s (λ l. Take (schedule_form setup.threads) Sound held c (Replays s t a setup p l))) program at
+    (accepted_take (script_form program setup.threads) (decided_by (codes "script") script_limit (plan_of program setup.threads) script_words) held s
+    (λ l. Take (schedule_form setup.threads) Sound held c (Replays s t a setup program l)) plan of_script
+    (accepted_take (schedule_form setup.threads) (decided_by (codes "schedule") schedule_limit (schedule_of setup.threads) schedule_words) held c
     (Replays s t a setup program plan) turns of_schedule
     (unrefused waits_words (waiting_line plan.lines) s (codes "script") (sim_next s t a setup program plan turns) still
     (left_done (Traces (Replayed program plan turns setup) program setup t a)))))
 accepted_done is held (Run i s t a options) (program, plan, at, of_script) =
     let setup = setup_of options in
-    accepted_take image_form is 0 held i (λ p. Take (script_form p setup.threads) 1 Sound held s (λ l. run_next t a setup p l)) program at
-    (accepted_take (script_form program setup.threads) (decided_by (codes "script") script_limit (plan_of program setup.threads) script_words) 1 held s
+    accepted_take image_form is held i (λ p. Take (script_form p setup.threads) Sound held s (λ l. run_next t a setup p l)) program at
+    (accepted_take (script_form program setup.threads) (decided_by (codes "script") script_limit (plan_of program setup.threads) script_words) held s
     (λ l. run_next t a setup program l) plan of_script (left_done (Traces (FollowsPlan setup program plan) program setup t a)))
 accepted_done is held (Plain i bounds) (program, at) =
-    accepted_take image_form is 0 held i (plain_next bounds) program at (left_done (λ outputs text. (outputs ≡ []) × PlainPrints program bounds text))
-accepted_done is held (Extract i) (program, at) = accepted_take image_form is 0 held i extract_next program at (λ outcome same. ap status_of same)
+    accepted_take image_form is held i (plain_next bounds) program at (left_done (λ outputs text. (outputs ≡ []) × PlainPrints program bounds text))
+accepted_done is held (Extract i) (program, at) = accepted_take image_form is held i extract_next program at (λ outcome same. ap status_of same)
 accepted_done is held (Asm t i threshold) (file, at) =
-    accepted_take (text_form threshold) (decided_by (codes "text") text_limit (λ bytes. assembled bytes threshold) asm_words) 0 held t (asm_next i) file at
+    accepted_take (text_form threshold) (decided_by (codes "text") text_limit (λ bytes. assembled bytes threshold) asm_words) held t (asm_next i) file at
     (λ outcome same. ap status_of same)
 accepted_done is held (Account t i options) at =
     report_done is held t i (λ u. ⊤) (account_next options) at (λ u program so outcome same. ap status_of same)
@@ -171,18 +171,18 @@ IsNot7 comes = (outcome : Outcome) → comes outcome → status_of outcome ≢ 7
 other_status : (outcome other : Outcome) (n : ℕ) → outcome ≡ other → status_of other ≡ n → n ≢ 7 → status_of outcome ≢ 7
 other_status outcome other n is status differs seven = differs (sym status ∙ (ap status_of (sym is) ∙ seven))
 
-take_not_7 : {X : Type 0} (form : Form X) (place : ℕ) (held : List ℕ → Entry) (name : List ℕ) (next : X → Outcome → Type 0)
-    → ((value : X) → IsNot7 (next value)) → IsNot7 (Take form place Sound held name next)
-take_not_7 form place held name next later outcome (inl (gone, is)) = other_status outcome _ 3 is refl (λ e. omega arith)
-take_not_7 form place held name next later outcome (inr (bytes, may, inl (long, is))) = other_status outcome _ 6 is refl (λ e. omega arith)
-take_not_7 form place held name next later outcome (inr (bytes, may, inr (within, inl (refusal, refused, is)))) =
+take_not_7 : {X : Type 0} (form : Form X) (held : List ℕ → Entry) (name : List ℕ) (next : X → Outcome → Type 0)
+    → ((value : X) → IsNot7 (next value)) → IsNot7 (Take form Sound held name next)
+take_not_7 form held name next later outcome (inl (gone, is)) = other_status outcome _ 3 is refl (λ e. omega arith)
+take_not_7 form held name next later outcome (inr (bytes, may, inl (long, is))) = other_status outcome _ 6 is refl (λ e. omega arith)
+take_not_7 form held name next later outcome (inr (bytes, may, inr (within, inl (refusal, refused, is)))) =
     other_status outcome _ 2 is refl (λ e. omega arith)
-take_not_7 form place held name next later outcome (inr (bytes, may, inr (within, inr (value, reads, comes)))) = later value outcome comes
+take_not_7 form held name next later outcome (inr (bytes, may, inr (within, inr (value, reads, comes)))) = later value outcome comes
 
-maybe_not_7 : (place : ℕ) (held : List ℕ → Entry) (name : Option (List ℕ)) (next : Option Program → Outcome → Type 0)
-    → ((value : Option Program) → IsNot7 (next value)) → IsNot7 (TakeMaybe image_form place Sound held name next)
-maybe_not_7 place held None next later = later None
-maybe_not_7 place held (Some name) next later = take_not_7 image_form place held name (λ v. next (Some v)) (λ v. later (Some v))
+maybe_not_7 : (held : List ℕ → Entry) (name : Option (List ℕ)) (next : Option Program → Outcome → Type 0)
+    → ((value : Option Program) → IsNot7 (next value)) → IsNot7 (TakeMaybe image_form Sound held name next)
+maybe_not_7 held None next later = later None
+maybe_not_7 held (Some name) next later = take_not_7 image_form held name (λ v. next (Some v)) (λ v. later (Some v))
 
 done_not_7 : (comes : Outcome → Type 0) → IsDone comes → IsNot7 comes
 done_not_7 comes done outcome is seven = let zero_is : ◌≡◌ {A = ℕ} 0 7 = sym (done outcome is) ∙ seven in omega arith
@@ -194,29 +194,29 @@ refused_not_7 (Some refusal) name kind next later outcome is = other_status outc
 report_not_7 : (held : List ℕ → Entry) (trace : List ℕ) (image : Option (List ℕ)) (next : Trace → Option Program → Outcome → Type 0)
     → ((t : Trace) (program : Option Program) → IsNot7 (next t program)) → IsNot7 (TakeReport trace_form Sound held trace image next)
 report_not_7 held trace image next later =
-    take_not_7 trace_form 0 held trace (λ t. TakeMaybe image_form 1 Sound held image (λ p. next t p))
-    (λ t. maybe_not_7 1 held image (λ p. next t p) (later t))
+    take_not_7 trace_form held trace (λ t. TakeMaybe image_form Sound held image (λ p. next t p))
+    (λ t. maybe_not_7 held image (λ p. next t p) (later t))
 
 not_7 : (held : List ℕ → Entry) (command : Command) → IsNot7 (Means (Some command) held)
 not_7 held (Sim i s c t a options) =
     let setup = setup_of options in
-    take_not_7 image_form 0 held i
-    (λ p. Take (script_form p setup.threads) 1 Sound held s (λ l. Take (schedule_form setup.threads) 2 Sound held c (Replays s t a setup p l)))
-    (λ p. take_not_7 (script_form p setup.threads) 1 held s (λ l. Take (schedule_form setup.threads) 2 Sound held c (Replays s t a setup p l))
-    (λ l. take_not_7 (schedule_form setup.threads) 2 held c (Replays s t a setup p l)
+    take_not_7 image_form held i
+    (λ p. Take (script_form p setup.threads) Sound held s (λ l. Take (schedule_form setup.threads) Sound held c (Replays s t a setup p l)))
+    (λ p. take_not_7 (script_form p setup.threads) held s (λ l. Take (schedule_form setup.threads) Sound held c (Replays s t a setup p l))
+    (λ l. take_not_7 (schedule_form setup.threads) held c (Replays s t a setup p l)
     (λ turns. refused_not_7 (option_map waits_words (waiting_line l.lines)) s (codes "script") (sim_next s t a setup p l turns)
     (done_not_7 (sim_next s t a setup p l turns) (left_done (Traces (Replayed p l turns setup) p setup t a))))))
 not_7 held (Run i s t a options) =
     let setup = setup_of options in
-    take_not_7 image_form 0 held i (λ p. Take (script_form p setup.threads) 1 Sound held s (λ l. run_next t a setup p l))
-    (λ p. take_not_7 (script_form p setup.threads) 1 held s (λ l. run_next t a setup p l)
+    take_not_7 image_form held i (λ p. Take (script_form p setup.threads) Sound held s (λ l. run_next t a setup p l))
+    (λ p. take_not_7 (script_form p setup.threads) held s (λ l. run_next t a setup p l)
     (λ l. done_not_7 (run_next t a setup p l) (left_done (Traces (FollowsPlan setup p l) p setup t a))))
 not_7 held (Plain i bounds) =
-    take_not_7 image_form 0 held i (plain_next bounds)
+    take_not_7 image_form held i (plain_next bounds)
     (λ p. done_not_7 (plain_next bounds p) (left_done (λ outputs text. (outputs ≡ []) × PlainPrints p bounds text)))
-not_7 held (Extract i) = take_not_7 image_form 0 held i extract_next (λ p. done_not_7 (extract_next p) (λ outcome same. ap status_of same))
+not_7 held (Extract i) = take_not_7 image_form held i extract_next (λ p. done_not_7 (extract_next p) (λ outcome same. ap status_of same))
 not_7 held (Asm t i threshold) =
-    take_not_7 (text_form threshold) 0 held t (asm_next i) (λ file. done_not_7 (asm_next i file) (λ outcome same. ap status_of same))
+    take_not_7 (text_form threshold) held t (asm_next i) (λ file. done_not_7 (asm_next i file) (λ outcome same. ap status_of same))
 not_7 held (Account t i options) =
     report_not_7 held t i (account_next options) (λ u program. done_not_7 (account_next options u program) (λ outcome same. ap status_of same))
 not_7 held (Stack t i format) =

@@ -15,7 +15,8 @@ use Rattle.xray_program.specs.Outputs.{OutputsAreWhole, AreUntouched, FailsAt, F
 use Rattle.xray_program.specs.private.Further.{ended_by}
 use Rattle.xray_program.specs.private.Stops.{IsUnsaid, answer_of, stop_line, stop_status, told_of}
 use Rattle.xray_program.specs.private.Takes.{IsStopAtInput, StopsTakings}
-use Rattle.xray_program.specs.Taking.{AcceptsFirst, DeskReads, Sound, AllAccepted}
+use Rattle.xray_program.specs.Accepted.{AcceptsInputs}
+use Rattle.xray_program.specs.Taking.{DeskReads, Sound, AllAccepted}
 use Rattle.command_words.specs.Words.{Command, outputs_of}
 use Rattle.xray_program.specs.private.Works.{AreMakings, Delivers, Ends, Finishes, KeepsOthers, StandsAfter, StopsOutputs, Writes}
 use Rattle.xray_io.specs.World.{DeskView, SinkView}
@@ -135,7 +136,7 @@ read_only inputs calls later reads none = subst (ReadsAll inputs) (sym (ap (λ (
 -- a call that ended at an input
 pub ends_at_input : (command : Command) (desk desk_now : DeskView) (out : SinkView) (Way : List Call → Type 0) (result : Result (Unit {0}) Stop) (stop : Stop)
     → IsErrAnd result (λ s. s ≡ stop) → IsStopAtInput (λ reads. Comes reads desk.held command) desk desk_now stop → desk_now.held ≡ desk.held
-    → Went Way (StopsTakings (λ reads. Comes reads desk.held command) (inputs_of command) stop) → Ends (Some command) desk desk_now out out Way (answer_of result) (told_of result)
+    → Went Way (StopsTakings (AcceptsInputs desk.held command) (inputs_of command) stop) → Ends (Some command) desk desk_now out out Way (answer_of result) (told_of result)
 ends_at_input command desk desk_now out Way (Ok done) stop is stands same went = absurd is
 ends_at_input command desk desk_now out Way (Err s) stop is stands same went = rw is (following stop stands went)
   where
@@ -150,20 +151,20 @@ ends_at_input command desk desk_now out Way (Err s) stop is stands same went = r
         record { ending = ending; status = status; told = told; stands = stands; names = kept; order = order }
 
     following : (stop : Stop) → IsStopAtInput (λ reads. Comes reads desk.held command) desk desk_now stop
-        → Went Way (StopsTakings (λ reads. Comes reads desk.held command) (inputs_of command) stop) → Ends (Some command) desk desk_now out out Way (stop_status stop) (stop_line stop)
+        → Went Way (StopsTakings (AcceptsInputs desk.held command) (inputs_of command) stop) → Ends (Some command) desk desk_now out out Way (stop_status stop) (stop_line stop)
     following stops.BadLine stands went = absurd stands
     following (stops.Unread n) stands went =
         ended (With (Unread n.now)) (stops.Unread n) refl refl (stands, (same, refl))
         (went_as Way _ (InOrder (Some command) desk desk_now (With (Unread n.now))) went (λ calls p.
-        let P : List ℕ → Type 0 = λ m. StopsAtInput (λ reads. Comes reads desk.held command) (inputs_of command) m (λ limit. ReadsUpToFault m (limit + 1)) calls in subst P (sym p.1) p.2))
+        let P : List ℕ → Type 0 = λ m. StopsAtInput (AcceptsInputs desk.held command) (inputs_of command) m (λ limit. ReadsUpToFault m (limit + 1)) calls in subst P (sym p.1) p.2))
     following (stops.TooLong n) stands went =
         ended (With (TooLong n.now)) (stops.TooLong n) refl refl (stands, (same, refl))
         (went_as Way _ (InOrder (Some command) desk desk_now (With (TooLong n.now))) went (λ calls p.
-        let P : List ℕ → Type 0 = λ m. StopsAtInput (λ reads. Comes reads desk.held command) (inputs_of command) m (λ limit. Reads m (limit + 1) 0 (limit + 1)) calls in subst P (sym p.1) p.2))
+        let P : List ℕ → Type 0 = λ m. StopsAtInput (AcceptsInputs desk.held command) (inputs_of command) m (λ limit. Reads m (limit + 1) 0 (limit + 1)) calls in subst P (sym p.1) p.2))
     following (stops.Refused n kind words) stands went =
         ended (With (Refused n.now kind.now (words_text words))) (stops.Refused n kind words) refl refl (stands, (same, refl))
         (went_as Way _ (InOrder (Some command) desk desk_now (With (Refused n.now kind.now (words_text words)))) went (λ calls p.
-        let P : List ℕ → Type 0 = λ m. StopsAtInput (λ reads. Comes reads desk.held command) (inputs_of command) m (λ limit. ReadsWhole m limit) calls in inl (subst P (sym p.1) p.2)))
+        let P : List ℕ → Type 0 = λ m. StopsAtInput (AcceptsInputs desk.held command) (inputs_of command) m (λ limit. ReadsWhole m limit) calls in inl (subst P (sym p.1) p.2)))
     following (stops.Fell words) stands went = absurd stands
     following (stops.Unwritten n) stands went = absurd stands
     following stops.NoMemory stands went =
@@ -175,7 +176,7 @@ pub ends_with_work : {S : Type 0} (along : S → S → List Call → Type 0) →
     (result : Result (Unit {0}) Stop) → ((reads : DeskReads) (outcome : Outcome) → yields outcome → Comes reads desk.held command outcome)
     → mid.held ≡ desk.held → mid.read_faults ≡ desk.read_faults → mid.write_faults ≡ desk.write_faults → Finishes yields mid desk_now out out_now (along second third) result
     → KeepsOthers (outputs_of command) mid desk_now
-    → Went (along first second) (λ calls. AcceptsFirst (λ reads. Comes reads desk.held command) (length (inputs_of command)) × ReadsAll (inputs_of command) calls)
+    → Went (along first second) (λ calls. AcceptsInputs desk.held command (length (inputs_of command)) × ReadsAll (inputs_of command) calls)
     → Ends (Some command) desk desk_now out out_now (along first third) (answer_of result) (told_of result)
 ends_with_work along both first second third command yields desk mid desk_now out out_now result comes same calm counted done others taken = by_result result done
   where

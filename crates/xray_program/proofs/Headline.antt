@@ -46,7 +46,7 @@ record Read {X : Type 0} (Reads : List ℕ → X → Type 0) (bytes : List ℕ) 
 
 read_on : {X : Type 0} (form : Form X) (held : List ℕ → Entry) (name : List ℕ) (next : X → Outcome → Type 0)
     (outputs : List (List ℕ × List ℕ)) (text content : List ℕ) → held name ≡ Holds content
-    → Take form 0 Sound held name next (Done outputs text) → Read form.Reads content (λ value. next value (Done outputs text))
+    → Take form Sound held name next (Done outputs text) → Read form.Reads content (λ value. next value (Done outputs text))
 read_on form held name next outputs text content holds (inl (failed, is)) = absurd cc
 read_on form held name next outputs text content holds (inr (bytes, may, inl (long, is))) = absurd cc
 read_on form held name next outputs text content holds (inr (bytes, may, inr (within, inl (refusal, refuses, is)))) = absurd cc
@@ -119,10 +119,10 @@ simulated_by : CallLaws → (before after : World) (i s c t a image script sched
 simulated_by laws before after i s c t a image script schedule setup is outputs text image_held script_held schedule_held comes whole adds =
     let held = before.desk.held in
     let first = read_on image_form held i
-    (λ program. Take (script_form program setup.threads) 1 Sound held s (λ plan. Take (schedule_form setup.threads) 2 Sound held c (Replays s t a setup program plan)))
+    (λ program. Take (script_form program setup.threads) Sound held s (λ plan. Take (schedule_form setup.threads) Sound held c (Replays s t a setup program plan)))
     outputs text image image_held comes in
     let second = read_on (script_form first.value setup.threads) held s
-    (λ plan. Take (schedule_form setup.threads) 2 Sound held c (Replays s t a setup first.value plan)) outputs text script script_held first.next in
+    (λ plan. Take (schedule_form setup.threads) Sound held c (Replays s t a setup first.value plan)) outputs text script script_held first.next in
     let third = read_on (schedule_form setup.threads) held c (Replays s t a setup first.value second.value) outputs text schedule schedule_held second.next in
     let still = unrefused (waiting_line second.value.lines) s (codes "script")
     (Leaves (Traces (Replayed first.value second.value third.value setup) first.value setup t a)) outputs text third.next in
@@ -158,7 +158,7 @@ beside_by : CallLaws → (before after : World) (i s t a image script : List ℕ
 beside_by laws before after i s t a image script setup is outputs text image_held script_held comes whole adds =
     let held = before.desk.held in
     let first = read_on image_form held i
-    (λ program. Take (script_form program setup.threads) 1 Sound held s (λ plan. RunsBeside t a setup program plan))
+    (λ program. Take (script_form program setup.threads) Sound held s (λ plan. RunsBeside t a setup program plan))
     outputs text image image_held comes in
     let second = read_on (script_form first.value setup.threads) held s
     (λ plan. RunsBeside t a setup first.value plan) outputs text script script_held first.next in

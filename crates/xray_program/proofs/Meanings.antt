@@ -51,7 +51,7 @@ too_many limit one other same long within = omega (arith, ap length same)
 pub take_alone : {X : Type 0} (form : Form X) → IsDecided form → (Sort : Outcome → Type 0) (held : List ℕ → Entry) (name : List ℕ)
     (next : X → Outcome → Type 0) → held name ≢ Untold
     → ((bytes : List ℕ) (value : X) → form.Reads bytes value → IsAlone Sort (next value))
-    → IsAlone Sort (Take form 0 Sound held name next)
+    → IsAlone Sort (Take form Sound held name next)
 take_alone form is Sort held name next told later a b sort (inl (gone, x)) (inl (gone', y)) = y ∙ sym x
 take_alone form is Sort held name next told later a b sort (inl (gone, x)) (inr (bytes', may', rest')) = absurd (rw gone at may')
 take_alone form is Sort held name next told later a b sort (inr (bytes, may, rest)) (inl (gone', y)) = absurd (rw gone' at may)
@@ -78,7 +78,7 @@ take_alone form is Sort held name next told later a b sort (inr (bytes, may, inr
 pub maybe_alone : {X : Type 0} (form : Form X) → IsDecided form → (Sort : Outcome → Type 0) (held : List ℕ → Entry) (name : Option (List ℕ))
     (next : Option X → Outcome → Type 0) → ((n : List ℕ) → held n ≢ Untold) → IsAlone Sort (next None)
     → ((bytes : List ℕ) (value : X) → form.Reads bytes value → IsAlone Sort (next (Some value)))
-    → IsAlone Sort (TakeMaybe form 0 Sound held name next)
+    → IsAlone Sort (TakeMaybe form Sound held name next)
 maybe_alone form is Sort held None next told none later = none
 maybe_alone form is Sort held (Some name) next told none later = take_alone form is Sort held name (λ value. next (Some value)) (told name) later
 
@@ -120,12 +120,12 @@ HoldsBytes held = (name bytes : List ℕ) → held name ≡ Holds bytes → AreB
 pub some_take : {X : Type 0} (form : Form X) → IsJudged form → (held : List ℕ → Entry) (name : List ℕ) (next : X → Outcome → Type 0)
     → held name ≢ Untold → HoldsBytes held
     → ((bytes : List ℕ) (value : X) → form.Reads bytes value → SomeOutcome (next value))
-    → SomeOutcome (Take form 0 Sound held name next)
+    → SomeOutcome (Take form Sound held name next)
 some_take {X} form is held name next told holds later = by_entry (held name) refl
   where
     by_judgement : (bytes : List ℕ) → MayHold (held name) bytes → length bytes ≤ form.limit
         → ((value : X) × form.Reads bytes value) ⊎ ((refusal : List ℕ) × form.Refuses bytes refusal)
-        → SomeOutcome (Take form 0 Sound held name next)
+        → SomeOutcome (Take form Sound held name next)
     by_judgement bytes may within (inl (value, reads)) =
         let rest = later bytes value reads in
         (rest.0, inr (bytes, may, inr (within, inr (value, reads, rest.1))))
@@ -133,13 +133,13 @@ some_take {X} form is held name next told holds later = by_entry (held name) ref
         (Refused name form.kind refusal, inr (bytes, may, inr (within, inl (refusal, refused, refl))))
 
     by_length : (bytes : List ℕ) → held name ≡ Holds bytes → (form.limit < length bytes) ⊎ (length bytes ≤ form.limit)
-        → SomeOutcome (Take form 0 Sound held name next)
+        → SomeOutcome (Take form Sound held name next)
     by_length bytes e (inl long) =
         (TooLong name, inr (bytes, subst (λ (entry : Entry). MayHold entry bytes) (sym e) refl, inl (long, refl)))
     by_length bytes e (inr within) =
         by_judgement bytes (subst (λ (entry : Entry). MayHold entry bytes) (sym e) refl) within (is bytes (holds name bytes e))
 
-    by_entry : (entry : Entry) → held name ≡ entry → SomeOutcome (Take form 0 Sound held name next)
+    by_entry : (entry : Entry) → held name ≡ entry → SomeOutcome (Take form Sound held name next)
     by_entry Untold e = absurd (told e)
     by_entry Absent e = (Unread name, inl (e, refl))
     by_entry (Holds bytes) e = by_length bytes e (cases_lt form.limit (length bytes))
@@ -148,7 +148,7 @@ some_take {X} form is held name next told holds later = by_entry (held name) ref
 pub some_maybe : {X : Type 0} (form : Form X) → IsJudged form → (held : List ℕ → Entry) (name : Option (List ℕ))
     (next : Option X → Outcome → Type 0) → ((n : List ℕ) → held n ≢ Untold) → HoldsBytes held → SomeOutcome (next None)
     → ((bytes : List ℕ) (value : X) → form.Reads bytes value → SomeOutcome (next (Some value)))
-    → SomeOutcome (TakeMaybe form 0 Sound held name next)
+    → SomeOutcome (TakeMaybe form Sound held name next)
 some_maybe form is held None next told holds none later = none
 some_maybe form is held (Some name) next told holds none later = some_take form is held name (λ value. next (Some value)) (told name) holds later
 

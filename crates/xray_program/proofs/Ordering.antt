@@ -1,17 +1,15 @@
 -- The calls of a desk, in their order.
-use Rattle.std.proofs.Common.{◌≡◌, ◌++◌, ◌∙◌, ℕ, suc, List, [], ◌∷◌, length, Option, Some, None, Result, Ok, Err, refl, sym, ap, arith, subst, append_assoc}
-use Rattle.std.proofs.lemmas.List.{append-nil, length-append}
-use Rattle.std.specs.Prelude.{IsErrAnd}
+use Rattle.std.proofs.Common.{◌≡◌, ◌++◌, ◌∙◌, ℕ, List, [], ◌∷◌, length, Option, Some, None, Result, Ok, Err, refl, sym, ap, subst, append_assoc}
+use Rattle.std.proofs.lemmas.List.{append-nil}
+use Rattle.std.specs.Prelude.{IsErrAnd, ⊤}
 use Rattle.xray_io.specs.Calls.{Call, Composes, HoldsOfNone, Went, went_on}
 use Rattle.xray_program.specs.Order.{ReadsAll, ReadsWhole}
-use Rattle.xray_io.specs.Desk.{Entry}
 use Rattle.xray_io.specs.World.{DeskView}
 use Rattle.xray_program.specs.Inputs.{optional_input}
-use Rattle.xray_program.specs.private.Takes.{AreTakings, Gives, IsMaybeTaken, IsMaybeTaking, IsNamed, IsTaken, IsTaking, StopsTaking, StopsTakings}
-use Rattle.xray_program.specs.Outcomes.{Outcome}
-use Rattle.xray_program.specs.Taking.{AcceptsFirst, DeskReads, Form, Take, TakeMaybe}
+use Rattle.xray_program.specs.private.Takes.{AreTakings, IsMaybeTaken, IsMaybeTaking, IsNamed, IsTaken, IsTaking, StopsTaking, StopsTakings}
+use Rattle.xray_program.specs.Taking.{Form}
 use Rattle.xray_program.specs.declared.stop.Stop.{Stop}
-use Rattle.xray_program.proofs.Turns.{Leads, accepts, leads}
+use Rattle.xray_program.specs.Accepted.{AcceptsInput}
 use Rattle.xray_program.specs.declared.stop.Stop.TheVariants as stops
 
 -- something else is said of the same calls
@@ -49,12 +47,12 @@ all_taken accepted went = record { calls = went.calls; way = went.way; are = (ac
 
 -- one was a stop
 pub stop_on : {S : Type 0} (along : S → S → List Call → Type 0) → Composes along → (first second third : S)
-    (inputs earlier later : List (List ℕ × ℕ)) (name : List ℕ) (limit : ℕ) (stop : Stop) (comes : DeskReads → Outcome → Type 0)
-    → inputs ≡ earlier ++ (name, limit) ∷ later → IsNamed name stop → AcceptsFirst comes (length earlier)
+    (inputs earlier later : List (List ℕ × ℕ)) (name : List ℕ) (limit : ℕ) (stop : Stop) (Accepts : ℕ → Type 0)
+    → inputs ≡ earlier ++ (name, limit) ∷ later → IsNamed name stop → Accepts (length earlier)
     → Went (along first second) (ReadsAll earlier) → Went (along second third) (StopsTaking name limit stop)
-    → Went (along first third) (StopsTakings comes inputs stop)
-stop_on along both first second third inputs earlier later name limit stop comes turn named accepted went then =
-    went_on along both first second third _ _ (StopsTakings comes inputs stop) went then (λ calls mine p q.
+    → Went (along first third) (StopsTakings Accepts inputs stop)
+stop_on along both first second third inputs earlier later name limit stop Accepts turn named accepted went then =
+    went_on along both first second third _ _ (StopsTakings Accepts inputs stop) went then (λ calls mine p q.
     (name, named, record { earlier = earlier; limit = limit; later = later; turn = turn; accepted = accepted; before = calls; last = mine; order = refl; reads = p; stops = q }))
 
 -- the only input of a command
@@ -67,19 +65,15 @@ named form name before after (stops.Fell words) taken = tt
 named form name before after (stops.Unwritten n) taken = tt
 named form name before after stops.NoMemory taken = tt
 
-pub only_taking : {X : Type 0} (form : Form X) (name : List ℕ) (next : X → Outcome → Type 0) (before after : DeskView) (Way : List Call → Type 0)
+pub only_taking : {X : Type 0} (form : Form X) (name : List ℕ) (before after : DeskView) (Way : List Call → Type 0)
     (result : Result X Stop) → IsTaken form name before after result → Went Way (IsTaking name form.limit result)
-    → Went Way (AreTakings (λ reads. Take form 0 reads before.held name next) ((name, form.limit) ∷ []) result)
-only_taking form name next before after Way (Ok value) taken went = record {
+    → Went Way (AreTakings (AcceptsInput form before.held name (λ value later. ⊤)) ((name, form.limit) ∷ []) result)
+only_taking form name before after Way (Ok value) taken went = record {
   calls = went.calls;
   way = went.way;
-  are = (
-    accepts form 0 (λ reads. Take form 0 reads before.held name next) before.held name (λ reads. next) value
-        (leads (λ reads. Take form 0 reads before.held name next)) taken,
-    (went.calls, [], sym (append-nil went.calls), went.are, refl),
-  );
+  are = ((value, taken, tt), (went.calls, [], sym (append-nil went.calls), went.are, refl));
 }
-only_taking form name next before after Way (Err stop) taken went = record {
+only_taking form name before after Way (Err stop) taken went = record {
   calls = went.calls;
   way = went.way;
   are = (
@@ -91,23 +85,23 @@ only_taking form name next before after Way (Err stop) taken went = record {
 
 -- the stop that a `?` passes on, of an input after these
 pub stop_handed : {S X Y : Type 0} (along : S → S → List Call → Type 0) → Composes along → (first second third : S) (form : Form X) (before after : DeskView)
-    (inputs earlier later : List (List ℕ × ℕ)) (name : List ℕ) (result : Result Y Stop) (stop : Stop) (comes : DeskReads → Outcome → Type 0)
-    → AcceptsFirst comes (length earlier) → IsErrAnd result (λ s. s ≡ stop) → inputs ≡ earlier ++ (name, form.limit) ∷ later
+    (inputs earlier later : List (List ℕ × ℕ)) (name : List ℕ) (result : Result Y Stop) (stop : Stop) (Accepts : ℕ → Type 0)
+    → Accepts (length earlier) → IsErrAnd result (λ s. s ≡ stop) → inputs ≡ earlier ++ (name, form.limit) ∷ later
     → IsTaken form name before after (Err stop) → Went (along first second) (ReadsAll earlier)
-    → Went (along second third) (StopsTaking name form.limit stop) → Went (along first third) (AreTakings comes inputs result)
-stop_handed along both first second third form before after inputs earlier later name (Ok value) stop comes accepted is turn taken went then = absurd is
-stop_handed along both first second third form before after inputs earlier later name (Err s) stop comes accepted is turn taken went then =
-    subst (λ (t : Stop). Went (along first third) (StopsTakings comes inputs t)) (sym is)
-    (stop_on along both first second third inputs earlier later name form.limit stop comes turn (named form name before after stop taken) accepted went then)
+    → Went (along second third) (StopsTaking name form.limit stop) → Went (along first third) (AreTakings Accepts inputs result)
+stop_handed along both first second third form before after inputs earlier later name (Ok value) stop Accepts accepted is turn taken went then = absurd is
+stop_handed along both first second third form before after inputs earlier later name (Err s) stop Accepts accepted is turn taken went then =
+    subst (λ (t : Stop). Went (along first third) (StopsTakings Accepts inputs t)) (sym is)
+    (stop_on along both first second third inputs earlier later name form.limit stop Accepts turn (named form name before after stop taken) accepted went then)
 
 -- the stop of the first input
 pub first_handed : {S X Y : Type 0} (along : S → S → List Call → Type 0) → Composes along → HoldsOfNone along → (first second : S) (form : Form X)
     (before after : DeskView) (inputs later : List (List ℕ × ℕ)) (name : List ℕ) (result : Result Y Stop) (stop : Stop)
-    (comes : DeskReads → Outcome → Type 0) → IsErrAnd result (λ s. s ≡ stop) → inputs ≡ (name, form.limit) ∷ later
+    (Accepts : ℕ → Type 0) → Accepts 0 → IsErrAnd result (λ s. s ≡ stop) → inputs ≡ (name, form.limit) ∷ later
     → IsTaken form name before after (Err stop) → Went (along first second) (StopsTaking name form.limit stop)
-    → Went (along first second) (AreTakings comes inputs result)
-first_handed along both none first second form before after inputs later name result stop comes is turn taken went =
-    stop_handed along both first first second form before after inputs [] later name result stop comes tt is turn taken (no_reads along none first) went
+    → Went (along first second) (AreTakings Accepts inputs result)
+first_handed along both none first second form before after inputs later name result stop Accepts no_input is turn taken went =
+    stop_handed along both first first second form before after inputs [] later name result stop Accepts no_input is turn taken (no_reads along none first) went
 
 -- ---- an input that the words may leave out, after these
 
@@ -122,30 +116,17 @@ maybe_read along both first second third earlier None limit value went then =
 maybe_read along both first second third earlier (Some name) limit value went then =
     read_on along both first second third earlier name limit went then
 
--- so it is accepted, if the words name it, and so are those before it
-pub maybe_accepts : {X : Type 0} (form : Form X) (comes : DeskReads → Outcome → Type 0) (before mid after : DeskView) (earlier : List (List ℕ × ℕ))
-    (name : Option (List ℕ)) (next : DeskReads → Option X → Outcome → Type 0) (value : Option X) → AcceptsFirst comes (length earlier)
-    → Leads comes (λ reads. TakeMaybe form (length earlier) reads before.held name (next reads))
-    → mid.held ≡ before.held → IsMaybeTaken form name mid after (Ok value) → AcceptsFirst comes (length (earlier ++ optional_input name form.limit))
-maybe_accepts form comes before mid after earlier None next value accepted leads same taken = rw (append-nil earlier) accepted
-maybe_accepts form comes before mid after earlier (Some name) next None accepted leads same taken = absurd taken
-maybe_accepts form comes before mid after earlier (Some name) next (Some value) accepted leads same taken =
-    let one : length (earlier ++ (name, form.limit) ∷ []) ≡ suc (length earlier) = length-append earlier ((name, form.limit) ∷ []) ∙ (omega arith) in
-    subst (AcceptsFirst comes) (sym one)
-    (accepts form (length earlier) comes before.held name (λ reads v. next reads (Some v)) value leads
-    (subst (λ (h : List ℕ → Entry). Gives form (h name) value) same taken))
-
 -- the stop that a `?` passes on, of such an input
 pub maybe_handed : {S X Y : Type 0} (along : S → S → List Call → Type 0) → Composes along → (first second third : S) (form : Form X) (before after : DeskView)
-    (earlier : List (List ℕ × ℕ)) (name : Option (List ℕ)) (result : Result Y Stop) (stop : Stop) (comes : DeskReads → Outcome → Type 0)
-    → AcceptsFirst comes (length earlier) → IsErrAnd result (λ s. s ≡ stop) → IsMaybeTaken form name before after (Err stop)
+    (earlier : List (List ℕ × ℕ)) (name : Option (List ℕ)) (result : Result Y Stop) (stop : Stop) (Accepts : ℕ → Type 0)
+    → Accepts (length earlier) → IsErrAnd result (λ s. s ≡ stop) → IsMaybeTaken form name before after (Err stop)
     → Went (along first second) (ReadsAll earlier)
     → (let taken : Result (Option X) Stop = Err stop in Went (along second third) (IsMaybeTaking name form.limit taken))
-    → Went (along first third) (AreTakings comes (earlier ++ optional_input name form.limit) result)
-maybe_handed {S} {X} along both first second third form before after earlier None result stop comes accepted is taken went then = absurd (never taken)
+    → Went (along first third) (AreTakings Accepts (earlier ++ optional_input name form.limit) result)
+maybe_handed {S} {X} along both first second third form before after earlier None result stop Accepts accepted is taken went then = absurd (never taken)
   where
     never : (let one : Result (Option X) Stop = Err stop in let other : Result (Option X) Stop = Ok None in one ≡ other) → ⊥
     never e = cc
-maybe_handed along both first second third form before after earlier (Some name) result stop comes accepted is taken went then =
-    stop_handed along both first second third form before after (earlier ++ (name, form.limit) ∷ []) earlier [] name result stop comes accepted is refl
+maybe_handed along both first second third form before after earlier (Some name) result stop Accepts accepted is taken went then =
+    stop_handed along both first second third form before after (earlier ++ (name, form.limit) ∷ []) earlier [] name result stop Accepts accepted is refl
     taken went then

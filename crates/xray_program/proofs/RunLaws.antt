@@ -16,7 +16,7 @@ use Rattle.xray_program.proofs.RunExists.{SomeRuns}
 
 -- what comes of an image
 abbrev AfterImage : (List ℕ → Entry) → (s t a : List ℕ) → Setup → Program → Outcome → Type 0
-AfterImage held s t a setup program = Take (script_form program setup.threads) 1 Sound held s (λ plan. RunsBeside t a setup program plan)
+AfterImage held s t a setup program = Take (script_form program setup.threads) Sound held s (λ plan. RunsBeside t a setup program plan)
 
 pub run_refuses : IsDecided image_form → (held : List ℕ → Entry) (i s t a : List ℕ) (setup : Setup) → TellsAll held
     → IsAlone IsRefusal (RunComes Sound held i s t a setup)

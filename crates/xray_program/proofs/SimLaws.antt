@@ -32,10 +32,10 @@ StillRun = (bytes : List ℕ) (program : Program) (script : List Command) (sched
 
 -- what comes of a script, and of an image
 abbrev AfterScript : (List ℕ → Entry) → (s c t a : List ℕ) → Setup → Program → Plan → Outcome → Type 0
-AfterScript held s c t a setup program plan = Take (schedule_form setup.threads) 2 Sound held c (λ turns. Replays s t a setup program plan turns)
+AfterScript held s c t a setup program plan = Take (schedule_form setup.threads) Sound held c (λ turns. Replays s t a setup program plan turns)
 
 abbrev AfterImage : (List ℕ → Entry) → (s c t a : List ℕ) → Setup → Program → Outcome → Type 0
-AfterImage held s c t a setup program = Take (script_form program setup.threads) 1 Sound held s (λ plan. AfterScript held s c t a setup program plan)
+AfterImage held s c t a setup program = Take (script_form program setup.threads) Sound held s (λ plan. AfterScript held s c t a setup program plan)
 
 -- ---- one thing
 

@@ -11,19 +11,26 @@ use Rattle.xray_image.specs.Program.{Program}
 use Rattle.xray_io.specs.Calls.{Call, Went}
 use Rattle.xray_io.specs.Desk.{Entry}
 use Rattle.xray_io.specs.World.{DeskView, SinkView}
+use Rattle.command_words.specs.Words as words
+use Rattle.xray_program.specs.Accepted.{AcceptsInputs}
 use Rattle.xray_program.specs.Inputs.{image_form, script_form, schedule_form}
 use Rattle.xray_program.specs.Order.{IsNoCall}
 use Rattle.xray_program.specs.Outcomes.{Outcome, Refused}
 use Rattle.xray_program.specs.Sim.{Replays, SimComes}
-use Rattle.xray_program.specs.private.Takes.{Gives, IsFaultStop}
+use Rattle.xray_program.specs.private.Takes.{IsFaultStop}
 use Rattle.xray_program.specs.Setups.{setup_of}
-use Rattle.xray_program.specs.Taking.{DeskReads, Form, RefuseIf, Sound, Take}
+use Rattle.xray_program.specs.Taking.{DeskReads, Form, RefuseIf, Sound, Take, IsAcceptedAs}
 use Rattle.xray_program.specs.private.Works.{Finishes}
 use Rattle.xray_program.specs.declared.sim.Sim.{Sim}
 use Rattle.xray_program.specs.declared.sim_inputs.SimInputs.{SimInputs}
 use Rattle.xray_program.specs.declared.stop.Stop.{Stop}
 use Rattle.xray_program.specs.declared.stop.Stop.TheVariants as stops
 use Rattle.xray_program.proofs.Turns.{Leads, leads, leads_on}
+
+-- its first inputs are accepted
+abbrev pub Accepts : (List ℕ → Entry) → Sim → (count : ℕ) → Type 0
+Accepts held sim =
+    AcceptsInputs held (words.Sim sim.image.now sim.script.now sim.schedule.now sim.files.trace.now sim.files.audit.now sim.options)
 
 -- what comes of the command; of its script and its schedule; of its schedule; and of its inputs
 abbrev pub Comes : (List ℕ → Entry) → Sim → DeskReads → Outcome → Type 0
@@ -36,32 +43,32 @@ AfterSchedule sim program plan reads turns =
 
 abbrev pub AfterScript : (List ℕ → Entry) → Sim → Program → DeskReads → Plan → Outcome → Type 0
 AfterScript held sim program reads plan =
-    Take (schedule_form sim.options.bounds.threads) 2 reads held sim.schedule.now (AfterSchedule sim program plan reads)
+    Take (schedule_form sim.options.bounds.threads) reads held sim.schedule.now (AfterSchedule sim program plan reads)
 
 abbrev pub AfterImage : (List ℕ → Entry) → Sim → DeskReads → Program → Outcome → Type 0
 AfterImage held sim reads program =
-    Take (script_form program sim.options.bounds.threads) 1 reads held sim.script.now (AfterScript held sim program reads)
+    Take (script_form program sim.options.bounds.threads) reads held sim.script.now (AfterScript held sim program reads)
 
 abbrev pub comes_of : Sim → SimInputs → Outcome → Type 0
 comes_of sim inputs = AfterSchedule sim inputs.image inputs.script Sound inputs.schedule
 
 -- how far the inputs lead
-pub to_script : (held : List ℕ → Entry) (sim : Sim) (program : Program) → Gives image_form (held sim.image.now) program
+pub to_script : (held : List ℕ → Entry) (sim : Sim) (program : Program) → IsAcceptedAs image_form (held sim.image.now) program
     → Leads (Comes held sim) (λ reads. AfterImage held sim reads program)
 to_script held sim program image =
-    leads_on image_form 0 (Comes held sim) held sim.image.now (AfterImage held sim) program (leads (Comes held sim)) image
+    leads_on image_form (Comes held sim) held sim.image.now (AfterImage held sim) program (leads (Comes held sim)) image
 
-pub to_schedule : (held : List ℕ → Entry) (sim : Sim) (program : Program) (plan : Plan) → Gives image_form (held sim.image.now) program
-    → Gives (script_form program sim.options.bounds.threads) (held sim.script.now) plan
+pub to_schedule : (held : List ℕ → Entry) (sim : Sim) (program : Program) (plan : Plan) → IsAcceptedAs image_form (held sim.image.now) program
+    → IsAcceptedAs (script_form program sim.options.bounds.threads) (held sim.script.now) plan
     → Leads (Comes held sim) (λ reads. AfterScript held sim program reads plan)
 to_schedule held sim program plan image script =
-    leads_on (script_form program sim.options.bounds.threads) 1 (Comes held sim) held sim.script.now (AfterScript held sim program) plan
+    leads_on (script_form program sim.options.bounds.threads) (Comes held sim) held sim.script.now (AfterScript held sim program) plan
     (to_script held sim program image) script
 
 -- a value that a desk gave that holds what another held
 pub given_before : {X : Type 0} (form : Form X) (held mid : List ℕ → Entry) (name : List ℕ) (value : X) → mid ≡ held
-    → Gives form (mid name) value → Gives form (held name) value
-given_before form held mid name value same = subst (λ (h : List ℕ → Entry). Gives form (h name) value) same
+    → IsAcceptedAs form (mid name) value → IsAcceptedAs form (held name) value
+given_before form held mid name value same = subst (λ (h : List ℕ → Entry). IsAcceptedAs form (h name) value) same
 
 -- a script that waits is refused, and if memory runs out nothing is written
 pub sim_refuses : (s t a : List ℕ) (setup : Setup) (program : Program) (plan : Plan) (turns : List Turns) (desk : DeskView) (out : SinkView)

@@ -1,6 +1,6 @@
 -- Inputs in their turn, and what comes of a command by these.
 use Rattle.std.specs.Prelude.{IsErrAnd}
-use Rattle.std.proofs.Common.{◌≡◌, ◌≢◌, ◌⊎◌, ◌<◌, ◌≤◌, ◌+◌, ◌∙◌, ℕ, suc, List, length, replicate, Option, Some, None, Result, Ok, Err, inl, inr, refl, sym, ap, arith, le_refl, subst}
+use Rattle.std.proofs.Common.{◌≡◌, ◌≢◌, ◌⊎◌, ◌<◌, ◌≤◌, ◌+◌, ◌∙◌, ℕ, List, length, replicate, Option, Some, None, Result, Ok, Err, inl, inr, refl, sym, ap, arith, le_refl, subst}
 use Rattle.std.proofs.lemmas.List.{length-replicate}
 use Rattle.fault_words.specs.Words.{words_text}
 use Rattle.xray_io.specs.Desk.{Entry, Untold, Absent, Holds}
@@ -8,8 +8,8 @@ use Rattle.xray_io.specs.Faults.{Rose}
 use Rattle.xray_io.specs.declared.faults.ReadError.{ReadError}
 use Rattle.xray_io.specs.declared.faults.ReadError.TheVariants as errors
 use Rattle.xray_program.specs.Outcomes.{Outcome, Unread, TooLong, Refused}
-use Rattle.xray_program.specs.private.Takes.{AreTaken, Gives, IsFaultStop, IsLost, IsMaybeTaken, IsReadStop, IsStopAtInput, IsTaken, IsTooLong}
-use Rattle.xray_program.specs.Taking.{AcceptedUpTo, AcceptsFirst, AllAccepted, DeskReads, Sound, Faulty, GoesOn, Form, MayHold, Take, TakeMaybe}
+use Rattle.xray_program.specs.private.Takes.{AreTaken, IsFaultStop, IsLost, IsMaybeTaken, IsReadStop, IsStopAtInput, IsTaken, IsTooLong}
+use Rattle.xray_program.specs.Taking.{DeskReads, Sound, Faulty, Form, MayHold, Take, TakeMaybe, IsAcceptedAs}
 use Rattle.xray_io.specs.World.{DeskView}
 use Rattle.xray_program.specs.declared.stop.Stop.{Stop}
 use Rattle.xray_program.specs.declared.stop.Stop.TheVariants as stops
@@ -30,7 +30,7 @@ too_long limit (Holds bytes) there told = record { bytes = bytes; held = refl; l
 
 -- bytes that were read whole read as a value
 pub gives : {X : Type 0} (form : Form X) (entry : Entry) (bytes : List ℕ) (value : X) → entry ≢ Absent
-    → ((content : List ℕ) → entry ≡ Holds content → bytes ≡ content) → length bytes ≤ form.limit → form.Reads bytes value → Gives form entry value
+    → ((content : List ℕ) → entry ≡ Holds content → bytes ≡ content) → length bytes ≤ form.limit → form.Reads bytes value → IsAcceptedAs form entry value
 gives form entry bytes value there whole within reads =
     record { bytes = bytes; held = may_hold entry bytes there whole; within = within; reads = reads }
 
@@ -73,38 +73,24 @@ Leads comes next = (reads : DeskReads) (outcome : Outcome) → next reads outcom
 pub leads : (comes : DeskReads → Outcome → Type 0) → Leads comes comes
 leads comes reads outcome is = is
 
--- what comes after an input follows it
-follows : (reads : DeskReads) (place : ℕ) (Next : Type 0) → Next → GoesOn reads place Next
-follows Sound place Next is = is
-follows Faulty place Next is = is
-follows AllAccepted place Next is = is
-follows (AcceptedUpTo last) place Next is = inr is
-
 -- an input that gave a value
-pub leads_on : {X : Type 0} (form : Form X) (place : ℕ) (comes : DeskReads → Outcome → Type 0) (held : List ℕ → Entry) (name : List ℕ)
-    (next : DeskReads → X → Outcome → Type 0) (value : X) → Leads comes (λ reads. Take form place reads held name (next reads))
-    → Gives form (held name) value → Leads comes (λ reads. next reads value)
-leads_on form place comes held name next value leads given reads outcome later =
-    leads reads outcome (inr (given.bytes, given.held, inr (given.within, inr (value, given.reads, follows reads place (next reads value outcome) later))))
-
--- so it and those before it are accepted
-pub accepts : {X : Type 0} (form : Form X) (place : ℕ) (comes : DeskReads → Outcome → Type 0) (held : List ℕ → Entry) (name : List ℕ)
-    (next : DeskReads → X → Outcome → Type 0) (value : X) → Leads comes (λ reads. Take form place reads held name (next reads))
-    → Gives form (held name) value → AcceptsFirst comes (suc place)
-accepts form place comes held name next value leads given = λ outcome.
-    leads (AcceptedUpTo place) outcome (inr (given.bytes, given.held, inr (given.within, inr (value, given.reads, inl refl))))
+pub leads_on : {X : Type 0} (form : Form X) (comes : DeskReads → Outcome → Type 0) (held : List ℕ → Entry) (name : List ℕ)
+    (next : DeskReads → X → Outcome → Type 0) (value : X) → Leads comes (λ reads. Take form reads held name (next reads))
+    → IsAcceptedAs form (held name) value → Leads comes (λ reads. next reads value)
+leads_on form comes held name next value leads given reads outcome later =
+    leads reads outcome (inr (given.bytes, given.held, inr (given.within, inr (value, given.reads, later))))
 
 -- a count that rose has risen since an earlier moment
 rose_since : (first before now : ℕ) → first ≤ before → Rose before now → Rose first now
 rose_since first before now up rose = omega arith
 
 -- an input that was a stop
-pub stops_at : {X : Type 0} (form : Form X) (place : ℕ) (comes : DeskReads → Outcome → Type 0) (before mid after : DeskView) (name : List ℕ)
-    (next : DeskReads → X → Outcome → Type 0) (stop : Stop) → Leads comes (λ reads. Take form place reads before.held name (next reads))
+pub stops_at : {X : Type 0} (form : Form X) (comes : DeskReads → Outcome → Type 0) (before mid after : DeskView) (name : List ℕ)
+    (next : DeskReads → X → Outcome → Type 0) (stop : Stop) → Leads comes (λ reads. Take form reads before.held name (next reads))
     → mid.held ≡ before.held → before.read_faults ≤ mid.read_faults → IsTaken form name mid after (Err stop)
     → IsStopAtInput comes before after stop
-stops_at form place comes before mid after name next stops.BadLine leads same up taken = taken
-stops_at {X} form place comes before mid after name next (stops.Unread n) leads same up (is, lost) =
+stops_at form comes before mid after name next stops.BadLine leads same up taken = taken
+stops_at {X} form comes before mid after name next (stops.Unread n) leads same up (is, lost) =
     (leads Faulty (Unread n.now) (inl (tt, ap Unread is)), cause lost)
   where
     cause : IsLost mid after name → Rose before.read_faults after.read_faults ⊎ ((before.held n.now ≡ Absent) × comes Sound (Unread n.now))
@@ -112,19 +98,19 @@ stops_at {X} form place comes before mid after name next (stops.Unread n) leads 
     cause (inr absent) =
         let gone : before.held name ≡ Absent = ap (λ (h : List ℕ → Entry). h name) (sym same) ∙ absent in
         inr (ap before.held is ∙ gone, leads Sound (Unread n.now) (inl (gone, ap Unread is)))
-stops_at form place comes before mid after name next (stops.TooLong n) leads same up (is, long) =
+stops_at form comes before mid after name next (stops.TooLong n) leads same up (is, long) =
     let may = subst (λ (h : List ℕ → Entry). MayHold (h name) long.bytes) same long.held in
     leads Sound (TooLong n.now) (inr (long.bytes, may, inl (long.long, ap TooLong is)))
-stops_at form place comes before mid after name next (stops.Refused n kind words) leads same up (is, of_kind, rejects) =
+stops_at form comes before mid after name next (stops.Refused n kind words) leads same up (is, of_kind, rejects) =
     let may = subst (λ (h : List ℕ → Entry). MayHold (h name) rejects.bytes) same rejects.held in
     leads Sound (Refused n.now kind.now (words_text words))
     (inr (rejects.bytes, may, inr (rejects.within, inl (words_text words, rejects.refused, refused))))
   where
     refused : Refused n.now kind.now (words_text words) ≡ Refused name form.kind (words_text words)
     refused = rw (is, of_kind) refl
-stops_at form place comes before mid after name next (stops.Fell trouble) leads same up taken = taken
-stops_at form place comes before mid after name next (stops.Unwritten n) leads same up taken = taken
-stops_at form place comes before mid after name next stops.NoMemory leads same up taken = tt
+stops_at form comes before mid after name next (stops.Fell trouble) leads same up taken = taken
+stops_at form comes before mid after name next (stops.Unwritten n) leads same up taken = taken
+stops_at form comes before mid after name next stops.NoMemory leads same up taken = tt
 
 -- the stop that a `?` passes on
 pub handed_on : {X : Type 0} (comes : DeskReads → Outcome → Type 0) (yields : X → Outcome → Type 0) (before after : DeskView) (result : Result X Stop)
@@ -133,64 +119,64 @@ handed_on comes yields before after (Ok inputs) stop is stands = absurd is
 handed_on comes yields before after (Err s) stop is stands = rw is stands
 
 -- so an input after these that was a stop, and the first one
-pub later_stop : {X Y : Type 0} (form : Form X) (place : ℕ) (comes : DeskReads → Outcome → Type 0) (yields : Y → Outcome → Type 0)
+pub later_stop : {X Y : Type 0} (form : Form X) (comes : DeskReads → Outcome → Type 0) (yields : Y → Outcome → Type 0)
     (before mid after : DeskView) (name : List ℕ) (next : DeskReads → X → Outcome → Type 0) (result : Result Y Stop) (stop : Stop)
-    → IsErrAnd result (λ s. s ≡ stop) → Leads comes (λ reads. Take form place reads before.held name (next reads))
+    → IsErrAnd result (λ s. s ≡ stop) → Leads comes (λ reads. Take form reads before.held name (next reads))
     → mid.held ≡ before.held → before.read_faults ≤ mid.read_faults → IsTaken form name mid after (Err stop)
     → AreTaken comes yields before after result
-later_stop form place comes yields before mid after name next result stop is leads same up taken =
-    handed_on comes yields before after result stop is (stops_at form place comes before mid after name next stop leads same up taken)
+later_stop form comes yields before mid after name next result stop is leads same up taken =
+    handed_on comes yields before after result stop is (stops_at form comes before mid after name next stop leads same up taken)
 
 pub first_stop : {X Y : Type 0} (form : Form X) (comes : DeskReads → Outcome → Type 0) (yields : Y → Outcome → Type 0) (before after : DeskView)
     (name : List ℕ) (next : DeskReads → X → Outcome → Type 0) (result : Result Y Stop) (stop : Stop) → IsErrAnd result (λ s. s ≡ stop)
-    → Leads comes (λ reads. Take form 0 reads before.held name (next reads)) → IsTaken form name before after (Err stop)
+    → Leads comes (λ reads. Take form reads before.held name (next reads)) → IsTaken form name before after (Err stop)
     → AreTaken comes yields before after result
 first_stop form comes yields before after name next result stop is leads taken =
-    later_stop form 0 comes yields before before after name next result stop is leads refl (le_refl _) taken
+    later_stop form comes yields before before after name next result stop is leads refl (le_refl _) taken
 
 -- the only input decides
 pub only_taken : {X : Type 0} (form : Form X) (name : List ℕ) (next : X → Outcome → Type 0) (before after : DeskView) (result : Result X Stop)
-    → IsTaken form name before after result → AreTaken (λ reads. Take form 0 reads before.held name next) next before after result
+    → IsTaken form name before after result → AreTaken (λ reads. Take form reads before.held name next) next before after result
 only_taken form name next before after (Ok value) taken =
-    leads_on form 0 (λ reads. Take form 0 reads before.held name next) before.held name (λ reads. next) value
-    (leads (λ reads. Take form 0 reads before.held name next)) taken
+    leads_on form (λ reads. Take form reads before.held name next) before.held name (λ reads. next) value
+    (leads (λ reads. Take form reads before.held name next)) taken
 only_taken form name next before after (Err stop) taken =
-    stops_at form 0 (λ reads. Take form 0 reads before.held name next) before before after name (λ reads. next) stop
-    (leads (λ reads. Take form 0 reads before.held name next)) refl (le_refl _) taken
+    stops_at form (λ reads. Take form reads before.held name next) before before after name (λ reads. next) stop
+    (leads (λ reads. Take form reads before.held name next)) refl (le_refl _) taken
 
 -- ---- an input that the words may leave out
 
 -- it gave a value, or none was taken
-pub maybe_leads_on : {X : Type 0} (form : Form X) (place : ℕ) (comes : DeskReads → Outcome → Type 0) (before mid after : DeskView) (name : Option (List ℕ))
-    (next : DeskReads → Option X → Outcome → Type 0) (value : Option X) → Leads comes (λ reads. TakeMaybe form place reads before.held name (next reads))
+pub maybe_leads_on : {X : Type 0} (form : Form X) (comes : DeskReads → Outcome → Type 0) (before mid after : DeskView) (name : Option (List ℕ))
+    (next : DeskReads → Option X → Outcome → Type 0) (value : Option X) → Leads comes (λ reads. TakeMaybe form reads before.held name (next reads))
     → mid.held ≡ before.held → IsMaybeTaken form name mid after (Ok value) → Leads comes (λ reads. next reads value)
-maybe_leads_on {X} form place comes before mid after None next value leads same taken reads outcome later =
+maybe_leads_on {X} form comes before mid after None next value leads same taken reads outcome later =
     leads reads outcome (subst (λ v. next reads v outcome) (none value taken) later)
   where
     none : (v : Option X) → (let one : Result (Option X) Stop = Ok v in let other : Result (Option X) Stop = Ok None in one ≡ other) → v ≡ None
     none v e = cc
-maybe_leads_on form place comes before mid after (Some name) next None leads same taken reads outcome later = absurd taken
-maybe_leads_on form place comes before mid after (Some name) next (Some value) leads same taken reads outcome later =
-    leads_on form place comes before.held name (λ reads v. next reads (Some v)) value leads
-    (subst (λ (h : List ℕ → Entry). Gives form (h name) value) same taken) reads outcome later
+maybe_leads_on form comes before mid after (Some name) next None leads same taken reads outcome later = absurd taken
+maybe_leads_on form comes before mid after (Some name) next (Some value) leads same taken reads outcome later =
+    leads_on form comes before.held name (λ reads v. next reads (Some v)) value leads
+    (subst (λ (h : List ℕ → Entry). IsAcceptedAs form (h name) value) same taken) reads outcome later
 
 -- it was a stop
-pub maybe_stops_at : {X : Type 0} (form : Form X) (place : ℕ) (comes : DeskReads → Outcome → Type 0) (before mid after : DeskView) (name : Option (List ℕ))
-    (next : DeskReads → Option X → Outcome → Type 0) (stop : Stop) → Leads comes (λ reads. TakeMaybe form place reads before.held name (next reads))
+pub maybe_stops_at : {X : Type 0} (form : Form X) (comes : DeskReads → Outcome → Type 0) (before mid after : DeskView) (name : Option (List ℕ))
+    (next : DeskReads → Option X → Outcome → Type 0) (stop : Stop) → Leads comes (λ reads. TakeMaybe form reads before.held name (next reads))
     → mid.held ≡ before.held → before.read_faults ≤ mid.read_faults → IsMaybeTaken form name mid after (Err stop)
     → IsStopAtInput comes before after stop
-maybe_stops_at {X} form place comes before mid after None next stop leads same up taken = absurd (never taken)
+maybe_stops_at {X} form comes before mid after None next stop leads same up taken = absurd (never taken)
   where
     never : (let one : Result (Option X) Stop = Err stop in let other : Result (Option X) Stop = Ok None in one ≡ other) → ⊥
     never e = cc
-maybe_stops_at form place comes before mid after (Some name) next stop leads same up taken =
-    stops_at form place comes before mid after name (λ reads v. next reads (Some v)) stop leads same up taken
+maybe_stops_at form comes before mid after (Some name) next stop leads same up taken =
+    stops_at form comes before mid after name (λ reads v. next reads (Some v)) stop leads same up taken
 
 -- so the stop that a `?` passes on
-pub maybe_stop : {X Y : Type 0} (form : Form X) (place : ℕ) (comes : DeskReads → Outcome → Type 0) (yields : Y → Outcome → Type 0)
+pub maybe_stop : {X Y : Type 0} (form : Form X) (comes : DeskReads → Outcome → Type 0) (yields : Y → Outcome → Type 0)
     (before mid after : DeskView) (name : Option (List ℕ)) (next : DeskReads → Option X → Outcome → Type 0) (result : Result Y Stop) (stop : Stop)
-    → IsErrAnd result (λ s. s ≡ stop) → Leads comes (λ reads. TakeMaybe form place reads before.held name (next reads))
+    → IsErrAnd result (λ s. s ≡ stop) → Leads comes (λ reads. TakeMaybe form reads before.held name (next reads))
     → mid.held ≡ before.held → before.read_faults ≤ mid.read_faults → IsMaybeTaken form name mid after (Err stop)
     → AreTaken comes yields before after result
-maybe_stop form place comes yields before mid after name next result stop is leads same up taken =
-    handed_on comes yields before after result stop is (maybe_stops_at form place comes before mid after name next stop leads same up taken)
+maybe_stop form comes yields before mid after name next result stop is leads same up taken =
+    handed_on comes yields before after result stop is (maybe_stops_at form comes before mid after name next stop leads same up taken)

@@ -1,5 +1,5 @@
 -- When the inputs of a command are accepted, and nothing else is wrong with them.
-use Rattle.std.specs.Prelude.{◌≡◌, ◌≤◌, ℕ, List, length, Option, Some, None, ⊤}
+use Rattle.std.specs.Prelude.{◌≡◌, ◌≤◌, ℕ, zero, suc, List, length, Option, Some, None, ⊤}
 use Rattle.fdr_file.specs.declared.trace.Trace.{Trace}
 use Rattle.patch_script.specs.Plans.{Plan, waiting_line}
 use Rattle.stack_rebuild.specs.Stacks.{deep_in, most_open}
@@ -9,7 +9,7 @@ use Rattle.xray_io.specs.Desk.{Entry, Holds}
 use Rattle.xray_io.specs.Faults.{Rose}
 use Rattle.xray_io.specs.World.{World}
 use Rattle.xray_program.specs.Inputs.{image_form, schedule_form, script_form, text_form, trace_form}
-use Rattle.xray_program.specs.Taking.{Form}
+use Rattle.xray_program.specs.Taking.{Form, IsAcceptedAs}
 use Rattle.command_words.specs.Words.{Command, Sim, Run, Plain, Extract, Asm, Account, Stack, Convert, Soak}
 
 -- the desk reports that a name holds bytes of this kind, within its limit, which read as this value
@@ -48,6 +48,40 @@ AreAccepted held (Account trace image options) = HoldsReport held trace image (�
 AreAccepted held (Stack trace image format) = HoldsReport held trace image (λ t. deep_in most_open t.blocks ≡ None)
 AreAccepted held (Convert trace image) = HoldsReport held trace image (λ t. ⊤)
 AreAccepted held (Soak number) = ⊤
+
+-- ---- the first inputs, in the order in which they are taken
+
+-- The first inputs are accepted, as many as `count` says: this one, with a value, and of those after it, for that value,
+-- one fewer.
+abbrev pub AcceptsInput : {X : Type 0} → Form X → (List ℕ → Entry) → List ℕ → (X → (count : ℕ) → Type 0) → (count : ℕ) → Type 0
+AcceptsInput form held name next zero = ⊤
+AcceptsInput {X} form held name next (suc count) = (value : X) × IsAcceptedAs form (held name) value × next value count
+
+-- so of the image of a report, if the words name one
+abbrev pub AcceptsImage : (List ℕ → Entry) → Option (List ℕ) → (count : ℕ) → Type 0
+AcceptsImage held None count = ⊤
+AcceptsImage held (Some name) count = AcceptsInput image_form held name (λ program later. ⊤) count
+
+-- and of the inputs of a report
+abbrev pub AcceptsReport : {X : Type 0} → Form X → (List ℕ → Entry) → (log : List ℕ) → (image : Option (List ℕ)) → (count : ℕ) → Type 0
+AcceptsReport form held log image count = AcceptsInput form held log (λ value later. AcceptsImage held image later) count
+
+-- the first inputs of a command are accepted, as many as `count` says
+abbrev pub AcceptsInputs : (List ℕ → Entry) → Command → (count : ℕ) → Type 0
+AcceptsInputs held (Sim image script schedule trace audit options) count =
+    AcceptsInput image_form held image (λ program.
+    AcceptsInput (script_form program options.bounds.threads) held script (λ plan.
+    AcceptsInput (schedule_form options.bounds.threads) held schedule (λ turns later. ⊤))) count
+AcceptsInputs held (Run image script trace audit options) count =
+    AcceptsInput image_form held image (λ program.
+    AcceptsInput (script_form program options.bounds.threads) held script (λ plan later. ⊤)) count
+AcceptsInputs held (Plain image bounds) count = AcceptsInput image_form held image (λ program later. ⊤) count
+AcceptsInputs held (Extract image) count = AcceptsInput image_form held image (λ program later. ⊤) count
+AcceptsInputs held (Asm text image threshold) count = AcceptsInput (text_form threshold) held text (λ file later. ⊤) count
+AcceptsInputs held (Account trace image options) count = AcceptsReport trace_form held trace image count
+AcceptsInputs held (Stack trace image format) count = AcceptsReport trace_form held trace image count
+AcceptsInputs held (Convert trace image) count = AcceptsReport trace_form held trace image count
+AcceptsInputs held (Soak number) count = ⊤
 
 -- no fault of the desk or of out is counted in a call
 pub record CountsNoFault (before after : World) : Type 0 where

@@ -8,4 +8,4 @@ use Rattle.xray_program.specs.Taking.{DeskReads, Take}
 -- what comes of the command
 abbrev pub AsmComes : DeskReads → (List ℕ → Entry) → (text image : List ℕ) → (threshold : ℕ) → Outcome → Type 0
 AsmComes reads held text image threshold =
-    Take (text_form threshold) 0 reads held text (λ file outcome. outcome ≡ Done ((image, file) ∷ []) [])
+    Take (text_form threshold) reads held text (λ file outcome. outcome ≡ Done ((image, file) ∷ []) [])

@@ -8,4 +8,4 @@ use Rattle.xray_program.specs.Taking.{DeskReads, Take}
 
 -- what comes of the command
 abbrev pub ExtractComes : DeskReads → (List ℕ → Entry) → (image : List ℕ) → Outcome → Type 0
-ExtractComes reads held image = Take image_form 0 reads held image (λ program outcome. outcome ≡ Done [] (extract_text program))
+ExtractComes reads held image = Take image_form reads held image (λ program outcome. outcome ≡ Done [] (extract_text program))

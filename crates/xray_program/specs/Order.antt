@@ -1,14 +1,15 @@
 -- The order in which a call asks its desk.
-use Rattle.std.specs.Prelude.{◌≡◌, ◌⊎◌, ℕ, ◌+◌, List, [], ◌∷◌, ◌++◌, length, codes, Option, Ok, Err}
+use Rattle.std.specs.Prelude.{◌≡◌, ◌⊎◌, ℕ, ◌+◌, List, [], ◌∷◌, ◌++◌, length, codes, MatchOption, Option, Ok, Err, ⊤}
 use Rattle.std.specs.Option.{option_map_or}
 use Rattle.xray_io.specs.Calls.{Call}
 use Rattle.xray_io.specs.Outputs.{IsMaking, Makes}
 use Rattle.xray_io.specs.Reads.{Reads, ReadsSome, ReadsUpTo, ReadsUpToFault}
 use Rattle.xray_io.specs.World.{DeskView}
 use Rattle.xray_io.specs.declared.faults.WriteFault.{WriteFault}
+use Rattle.xray_program.specs.Accepted.{AcceptsInputs}
 use Rattle.xray_program.specs.Commands.{ComesOf, inputs_of}
-use Rattle.xray_program.specs.Taking.{AcceptsFirst, AllAccepted, DeskReads}
-use Rattle.xray_program.specs.Outcomes.{Outcome, BadLine, Unread, TooLong, Refused, Done, Fell, Ending, With, Unwritten, NoMemory}
+use Rattle.xray_program.specs.Taking.{AllAccepted}
+use Rattle.xray_program.specs.Outcomes.{BadLine, Unread, TooLong, Refused, Done, Fell, Ending, With, Unwritten, NoMemory}
 use Rattle.command_words.specs.Words.{Command}
 
 -- ---- inputs
@@ -24,14 +25,14 @@ ReadsAll [] calls = calls ≡ []
 ReadsAll (input ∷ inputs) calls =
     (mine : List Call) × (later : List Call) × (calls ≡ mine ++ later) × ReadsWhole input.0 input.1 mine × ReadsAll inputs later
 
--- Of the inputs of which this comes, those before one of them were read whole, and each was accepted. `Last` holds of
--- the calls for that one, and no later input was asked for.
-pub record StopsAtInput (comes : DeskReads → Outcome → Type 0) (inputs : List (List ℕ × ℕ)) (name : List ℕ) (Last : (limit : ℕ) → List Call → Type 0) (calls : List Call) : Type 0 where
+-- The inputs before one of them were read whole, and each was accepted, as `Accepts` says of their number. `Last` holds
+-- of the calls for that one, and no later input was asked for.
+pub record StopsAtInput (Accepts : (count : ℕ) → Type 0) (inputs : List (List ℕ × ℕ)) (name : List ℕ) (Last : (limit : ℕ) → List Call → Type 0) (calls : List Call) : Type 0 where
   pub earlier : List (List ℕ × ℕ)
   pub limit : ℕ
   pub later : List (List ℕ × ℕ)
   pub turn : inputs ≡ earlier ++ (name, limit) ∷ later
-  pub accepted : AcceptsFirst comes (length earlier)
+  pub accepted : Accepts (length earlier)
   pub before : List Call
   pub last : List Call
   pub order : calls ≡ before ++ last
@@ -78,9 +79,9 @@ pub record ReadsThen (inputs : List (List ℕ × ℕ)) (Then : List Call → Typ
   pub reads : ReadsAll inputs before
   pub goes_on : Then last
 
--- what comes of the inputs that were said, over what a desk holds
-abbrev pub comes_over : Option Command → DeskView → DeskReads → Outcome → Type 0
-comes_over said desk reads = ComesOf reads said desk.held
+-- the first inputs that were said are accepted, as many as `count` says; if the words say no command, there are none
+abbrev pub AcceptsSaid : Option Command → DeskView → (count : ℕ) → Type 0
+AcceptsSaid said desk count = MatchOption said ⊤ (λ command. AcceptsInputs desk.held command count)
 
 -- the inputs that were said
 abbrev pub inputs_said : Option Command → List (List ℕ × ℕ)
@@ -92,11 +93,11 @@ inputs_said said = option_map_or inputs_of said []
 abbrev pub InOrder : Option Command → (desk desk_now : DeskView) → Ending → List Call → Type 0
 InOrder said desk desk_now (With BadLine) calls = calls ≡ []
 InOrder said desk desk_now (With (Unread name)) calls =
-    StopsAtInput (comes_over said desk) (inputs_said said) name (λ limit. ReadsUpToFault name (limit + 1)) calls
+    StopsAtInput (AcceptsSaid said desk) (inputs_said said) name (λ limit. ReadsUpToFault name (limit + 1)) calls
 InOrder said desk desk_now (With (TooLong name)) calls =
-    StopsAtInput (comes_over said desk) (inputs_said said) name (λ limit. Reads name (limit + 1) 0 (limit + 1)) calls
+    StopsAtInput (AcceptsSaid said desk) (inputs_said said) name (λ limit. Reads name (limit + 1) 0 (limit + 1)) calls
 InOrder said desk desk_now (With (Refused name kind refusal)) calls =
-    StopsAtInput (comes_over said desk) (inputs_said said) name (λ limit. ReadsWhole name limit) calls
+    StopsAtInput (AcceptsSaid said desk) (inputs_said said) name (λ limit. ReadsWhole name limit) calls
     ⊎ (ComesOf AllAccepted said desk.held (Refused name kind refusal) × ReadsAll (inputs_said said) calls)
 InOrder said desk desk_now (With (Done outputs text)) calls = ReadsThen (inputs_said said) (MakesAll outputs) calls
 InOrder said desk desk_now (With (Fell outputs text trouble)) calls = ReadsThen (inputs_said said) (MakesAll outputs) calls
@@ -104,6 +105,6 @@ InOrder said desk desk_now (Unwritten name outputs) calls =
     ReadsThen (inputs_said said) (IsUnmade outputs desk desk_now name) calls
 InOrder said desk desk_now NoMemory calls =
     (calls ≡ [])
-    ⊎ ((name : List ℕ) × StopsAtInput (comes_over said desk) (inputs_said said) name
+    ⊎ ((name : List ℕ) × StopsAtInput (AcceptsSaid said desk) (inputs_said said) name
     (λ limit last. ReadsSome name (limit + 1) last ⊎ ReadsWhole name limit last) calls)
-    ⊎ (AcceptsFirst (comes_over said desk) (length (inputs_said said)) × ReadsAll (inputs_said said) calls)
+    ⊎ (AcceptsSaid said desk (length (inputs_said said)) × ReadsAll (inputs_said said) calls)

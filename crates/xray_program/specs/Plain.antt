@@ -31,4 +31,4 @@ pub record PlainPrints (program : Program) (bounds : Bounds) (text : List ℕ) :
 
 -- what comes of the command
 abbrev pub PlainComes : DeskReads → (List ℕ → Entry) → (image : List ℕ) → Bounds → Outcome → Type 0
-PlainComes reads held image bounds = Take image_form 0 reads held image (λ program. Prints (PlainPrints program bounds))
+PlainComes reads held image bounds = Take image_form reads held image (λ program. Prints (PlainPrints program bounds))

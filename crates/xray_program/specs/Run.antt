@@ -31,8 +31,8 @@ RunsBeside trace audit setup program plan = Leaves (Traces (FollowsPlan setup pr
 -- what comes of the command
 abbrev pub RunComes : DeskReads → (List ℕ → Entry) → (image script trace audit : List ℕ) → Setup → Outcome → Type 0
 RunComes reads held image script trace audit setup =
-    Take image_form 0 reads held image (λ program.
-    Take (script_form program setup.threads) 1 reads held script (λ plan.
+    Take image_form reads held image (λ program.
+    Take (script_form program setup.threads) reads held script (λ plan.
     RunsBeside trace audit setup program plan))
 
 -- The headline's law for `run`. The loads of each thread follow the script to its end, and none of them is of a release

@@ -31,9 +31,9 @@ Replays script trace audit setup program plan turns =
 -- what comes of the command
 abbrev pub SimComes : DeskReads → (List ℕ → Entry) → (image script schedule trace audit : List ℕ) → Setup → Outcome → Type 0
 SimComes reads held image script schedule trace audit setup =
-    Take image_form 0 reads held image (λ program.
-    Take (script_form program setup.threads) 1 reads held script (λ plan.
-    Take (schedule_form setup.threads) 2 reads held schedule (λ turns.
+    Take image_form reads held image (λ program.
+    Take (script_form program setup.threads) reads held script (λ plan.
+    Take (schedule_form setup.threads) reads held schedule (λ turns.
     Replays script trace audit setup program plan turns)))
 
 -- The headline's law for `sim`. The schedule is read for the number of threads, and nothing waits in the script. The

@@ -1,8 +1,8 @@
 //! The inputs of a report on a log, which is a trace.
 ghost use Rattle.std.specs.Prelude.{◌≡◌, ◌≤◌, OnOk, option_map};
 ghost use Rattle.xray_io.specs.{Calls.{Went}, World.{desk_view}};
-ghost use Rattle.xray_program.specs.Reports.{report_inputs};
-ghost use Rattle.xray_program.specs.private.ReportTakes.{IsReportTaken, StopsReport};
+ghost use Rattle.xray_program.specs.{Accepted.{AcceptsReport}, Reports.{report_inputs}};
+ghost use Rattle.xray_program.specs.private.ReportTakes.{IsReportTaken};
 ghost use Rattle.xray_program.specs.private.Takes.{AreTakings};
 
 use crate::input::take_maybe;
@@ -37,7 +37,7 @@ pub(crate) fn take_report<'a, K: StreamKind, D: Desk>(
     ensures writes { D.write_faults desk.new ≡ D.write_faults desk.old }
     ensures calm { OnOk result (D.read_faults desk.new ≡ D.read_faults desk.old) }
     ensures calls { let image = option_map (λ n. n.now) image.entry in Went (D.along desk.old desk.new)
-        (AreTakings (λ reads. StopsReport (K.form kind.now) reads (D.held desk.old) log.now image)
+        (AreTakings (AcceptsReport (K.form kind.now) (D.held desk.old) log.now image)
         (report_inputs log.now (K.form kind.now).limit image) result) }
 {
     let log = take_stream(alloc, desk, log, kind)?;

@@ -7,7 +7,7 @@ ghost use Rattle.machine_step.specs.declared.setup.Setup.{Setup};
 ghost use Rattle.sled_rule.specs.Seats.{work_view};
 ghost use Rattle.thread_run.specs.Runs.{HaveRunBeside};
 ghost use Rattle.xray_io.specs.{Calls.{Went}, World.{desk_view, sink_view}};
-ghost use Rattle.xray_program.specs.Commands.{Comes, inputs_of};
+ghost use Rattle.xray_program.specs.{Accepted.{AcceptsInputs}, Commands.{Comes, inputs_of}};
 ghost use Rattle.xray_program.specs.private.RunInputs.{comes_of, said_by, IsReadFor};
 ghost use Rattle.xray_program.specs.private.Stops.{answer_of, told_of};
 ghost use Rattle.xray_program.specs.private.Takes.{AreTaken, AreTakings};
@@ -62,7 +62,7 @@ fn take_inputs<'a, D: Desk>(
     ensures writes { D.write_faults desk.new ≡ D.write_faults desk.old }
     ensures calm { OnOk result (D.read_faults desk.new ≡ D.read_faults desk.old) }
     ensures calls { Went (D.along desk.old desk.new)
-        (AreTakings (λ reads. Comes reads (D.held desk.old) (said_by command.now)) (inputs_of (said_by command.now)) result) }
+        (AreTakings (AcceptsInputs (D.held desk.old) (said_by command.now)) (inputs_of (said_by command.now)) result) }
 {
     let threads = command.options.bounds.threads;
     let image = take(alloc, desk, command.image, &ImageKind)?;

@@ -2,7 +2,7 @@
 ghost use Rattle.std.specs.Prelude.{◌≡◌, ◌≤◌, ℕ, List, Some, IfOk, OnOk};
 ghost use Rattle.command_words.specs.Words.{Command, outputs_of};
 ghost use Rattle.xray_io.specs.{Calls.{Went}, World.{desk_view, sink_view}};
-ghost use Rattle.xray_program.specs.{Commands.{Comes, inputs_of}, Outcomes.{Outcome}};
+ghost use Rattle.xray_program.specs.{Accepted.{AcceptsInputs}, Commands.{Comes, inputs_of}, Outcomes.{Outcome}};
 ghost use Rattle.xray_program.specs.private.Stops.{answer_of, told_of};
 ghost use Rattle.xray_program.specs.private.Takes.{AreTaken, AreTakings};
 ghost use Rattle.xray_program.specs.private.Works.{Ends, Finishes, KeepsOthers};
@@ -40,7 +40,7 @@ pub(crate) trait Work<'a> {
         ensures writes { D.write_faults desk.new ≡ D.write_faults desk.old }
         ensures calm { OnOk result (D.read_faults desk.new ≡ D.read_faults desk.old) }
         ensures calls { Went (D.along desk.old desk.new)
-            (AreTakings (λ reads. Comes reads (D.held desk.old) (says self.now)) (inputs_of (says self.now)) result) };
+            (AreTakings (AcceptsInputs (D.held desk.old) (says self.now)) (inputs_of (says self.now)) result) };
 
     /// Does the work over the inputs, and writes what comes of them.
     fn finish<D: Desk, O: Sink>(

@@ -1,5 +1,5 @@
 -- What is kept of each function while events are taken, for the contracts of private functions.
-use Rattle.std.specs.Prelude.{◌≡◌, ◌+◌, ◌-◌, ◌==◌, Bool, ℕ, List, [], ◌++◌, length, map, count_by, nat_eq, unwrap_or, is_some, Option}
+use Rattle.std.specs.Prelude.{◌+◌, ◌-◌, ◌==◌, ◌||◌, Bool, ℕ, List, [], ◌∷◌, ◌++◌, length, map, count_by, nat_eq, nat_lt, slice_index_or, unwrap_or, if◌then◌else◌, Option}
 use Rattle.std.specs.List.{list_any}
 use Rattle.std.specs.Option.{option_to_list}
 use Rattle.std.specs.HashMap.{get, HashMap}
@@ -10,7 +10,6 @@ use Rattle.fdr_record.specs.declared.event.Kind.TheVariants.{Entry, Exit, TailEx
 use Rattle.fdr_file.specs.ThreadEvents.{ThreadEvent}
 use Rattle.stack_rebuild.specs.declared.call.Pair.{Pair}
 use Rattle.stack_rebuild.specs.Calls.{Standing, standing_after}
-use Rattle.stack_rebuild.specs.Histories.{history_of_thread}
 use Rattle.account_report.specs.declared.row.AccountRow.{AccountRow}
 use Rattle.account_report.specs.Account.{durations_of, is_entry_of, is_exit_of, row_from}
 use Rattle.account_report.specs.Ascending.{ascending}
@@ -44,8 +43,17 @@ durations_in pair = map (λ p. p.duration) (option_to_list pair)
 abbrev pub Table : Type 0 → Type 0
 Table X = HashMap ℕ X (BuildHasherDefault FoldHasher)
 
-abbrev pub tally_in : Table Tallied → ℕ → Tallied
-tally_in tallies func = unwrap_or (get nat_eq tallies func) no_tally
+-- the tally of a function in a list, by its id
+abbrev pub tally_listed : List Tallied → ℕ → Tallied
+tally_listed first func = slice_index_or first func no_tally
+
+-- the tally of a function in a table
+abbrev pub tally_tabled : Table Tallied → ℕ → Tallied
+tally_tabled others func = unwrap_or (get nat_eq others func) no_tally
+
+-- whether a function had an event
+abbrev pub has_events : Tallied → Bool
+has_events tally = nat_lt 0 tally.entries || nat_lt 0 tally.exits
 
 abbrev pub standing_in : Table Standing → ℕ → Standing
 standing_in threads thread = unwrap_or (get nat_eq threads thread) (standing_after [])
@@ -53,16 +61,6 @@ standing_in threads thread = unwrap_or (get nat_eq threads thread) (standing_aft
 -- a function has an event in a history
 abbrev pub has_event : List ThreadEvent → ℕ → Bool
 has_event history func = list_any (λ e. e.event.func == func) history
-
--- what is kept of the functions is what a history says of them
-pub record AreTallies (tallies : Table Tallied) (history : List ThreadEvent) : Type 0 where
-  pub each : (func : ℕ) → tally_in tallies func ≡ tally_of history func
-  pub present : (func : ℕ) → is_some (get nat_eq tallies func) ≡ has_event history func
-
--- the calls of a thread and the tallies of the functions, after a history
-pub record Reached (thread : ℕ) (history : List ThreadEvent) (calls : Standing) (tallies : Table Tallied) : Type 0 where
-  pub stands : calls ≡ standing_after (history_of_thread thread history)
-  pub tallied : AreTallies tallies history
 
 -- the row of a function with these durations, in any order, and with these numbers of entries and exits; each pair has
 -- one of both
@@ -73,3 +71,8 @@ row_with func durations entries exits =
 -- the row of a function in a table
 abbrev pub row_of_entry : ℕ × Tallied → AccountRow
 row_of_entry (func, tally) = row_with func tally.durations tally.entries tally.exits
+
+-- the functions in a list that had an event, the first of which has this id
+abbrev pub first_entries : ℕ → List Tallied → List (ℕ × Tallied)
+first_entries func [] = []
+first_entries func (tally ∷ later) = if has_events tally then (func, tally) ∷ first_entries (func + 1) later else first_entries (func + 1) later

@@ -1,13 +1,11 @@
 -- How the turns of a report's inputs end.
 use Rattle.std.specs.Prelude.{◌≡◌, ◌⊎◌, ◌≤◌, ℕ, List, Option, Result, Ok, Err}
 use Rattle.xray_image.specs.Program.{Program}
-use Rattle.xray_io.specs.Desk.{Entry}
 use Rattle.xray_io.specs.World.{DeskView}
 use Rattle.xray_program.specs.Inputs.{image_form}
 use Rattle.xray_program.specs.Outcomes.{Outcome}
-use Rattle.xray_program.specs.Reports.{TakeReport}
-use Rattle.xray_program.specs.private.Takes.{Gives, IsMaybeTaken, IsTaken}
-use Rattle.xray_program.specs.Taking.{DeskReads, Form}
+use Rattle.xray_program.specs.private.Takes.{IsMaybeTaken, IsTaken}
+use Rattle.xray_program.specs.Taking.{Form, IsAcceptedAs}
 use Rattle.xray_program.specs.declared.report_inputs.ReportInputs.{ReportInputs}
 use Rattle.xray_program.specs.declared.stop.Stop.{Stop}
 
@@ -22,15 +20,11 @@ pub record ImageTurn (image : Option (List ℕ)) (before after : DeskView) (resu
 abbrev pub IsReportTaken : {V X : Type 0} → Form X → (means : V → X → Type 0) → (log : List ℕ) → (image : Option (List ℕ)) → (before after : DeskView)
     → Result (ReportInputs V) Stop → Type 0
 IsReportTaken {V} {X} form means log image before after (Ok inputs) =
-    (meant : X) × means inputs.log meant × Gives form (before.held log) meant × ImageTurn image before after (Ok inputs.image)
+    (meant : X) × means inputs.log meant × IsAcceptedAs form (before.held log) meant × ImageTurn image before after (Ok inputs.image)
 IsReportTaken {V} {X} form means log image before after (Err stop) =
     IsTaken form log before after (Err stop)
-    ⊎ ((meant : X) × Gives form (before.held log) meant × ImageTurn image before after (Err stop))
+    ⊎ ((meant : X) × IsAcceptedAs form (before.held log) meant × ImageTurn image before after (Err stop))
 
 -- an outcome comes of the inputs: it follows from each reading of the log of which its value says what is known
 abbrev pub ComesOfMeant : {V X : Type 0} → (means : V → X → Type 0) → (next : X → Option Program → Outcome → Type 0) → ReportInputs V → Outcome → Type 0
 ComesOfMeant {V} {X} means next inputs outcome = (meant : X) → means inputs.log meant → next meant inputs.image outcome
-
--- what comes of the inputs if one of them is a stop, and nothing follows
-abbrev pub StopsReport : {X : Type 0} → Form X → DeskReads → (List ℕ → Entry) → (log : List ℕ) → (image : Option (List ℕ)) → Outcome → Type 0
-StopsReport form reads held log image = TakeReport form reads held log image (λ _ _ _. ⊥)

@@ -9,17 +9,10 @@ use Rattle.xray_io.specs.declared.faults.ReadError.TheVariants as errors
 use Rattle.fault_words.specs.Words.{words_text}
 use Rattle.xray_program.specs.Order.{ReadsAll, ReadsWhole, StopsAtInput}
 use Rattle.xray_program.specs.Outcomes.{Outcome, Unread, TooLong, Refused}
-use Rattle.xray_program.specs.Taking.{AcceptsFirst, Form, MayHold, DeskReads, Sound, Faulty}
+use Rattle.xray_program.specs.Taking.{Form, IsAcceptedAs, MayHold, DeskReads, Sound, Faulty}
 use Rattle.xray_io.specs.World.{DeskView}
 use Rattle.xray_program.specs.declared.stop.Stop.{Stop}
 use Rattle.xray_program.specs.declared.stop.Stop.TheVariants as stops
-
--- bytes that the name may hold read as this value
-pub record Gives {X : Type 0} (form : Form X) (entry : Entry) (value : X) : Type 0 where
-  pub bytes : List ℕ
-  pub held : MayHold entry bytes
-  pub within : length bytes ≤ form.limit
-  pub reads : form.Reads bytes value
 
 -- bytes that the name may hold are refused in this way
 pub record Rejects {X : Type 0} (form : Form X) (entry : Entry) (refusal : List ℕ) : Type 0 where
@@ -40,7 +33,7 @@ IsLost before after name = Rose before.read_faults after.read_faults ⊎ (before
 
 -- the turn of the input of this name ends with a value, or with a stop, which names the input unless memory ran out
 abbrev pub IsTaken : {X : Type 0} → Form X → List ℕ → (before after : DeskView) → Result X Stop → Type 0
-IsTaken form name before after (Ok value) = Gives form (before.held name) value
+IsTaken form name before after (Ok value) = IsAcceptedAs form (before.held name) value
 IsTaken form name before after (Err (stops.Unread n)) = (n.now ≡ name) × IsLost before after name
 IsTaken form name before after (Err (stops.TooLong n)) = (n.now ≡ name) × IsTooLong form.limit (before.held name)
 IsTaken form name before after (Err (stops.Refused n kind words)) =
@@ -50,7 +43,7 @@ IsTaken form name before after (Err stop) = ⊥
 
 -- the turn of an input, if its value only says something of what it reads as
 abbrev pub IsTakenAs : {V X : Type 0} → Form X → (means : V → X → Type 0) → List ℕ → (before after : DeskView) → Result V Stop → Type 0
-IsTakenAs {V} {X} form means name before after (Ok value) = (meant : X) × means value meant × Gives form (before.held name) meant
+IsTakenAs {V} {X} form means name before after (Ok value) = (meant : X) × means value meant × IsAcceptedAs form (before.held name) meant
 IsTakenAs form means name before after (Err stop) = IsTaken form name before after (Err stop)
 
 -- the turn of an input that the words may leave out
@@ -118,13 +111,13 @@ IsNamed name (stops.TooLong n) = n.now ≡ name
 IsNamed name (stops.Refused n kind words) = n.now ≡ name
 IsNamed name stop = ⊤
 
--- The calls of the turns of inputs, of which this comes, and the last of which was a stop. Those before it were
--- accepted, and no other input was asked for after it.
-abbrev pub StopsTakings : (DeskReads → Outcome → Type 0) → List (List ℕ × ℕ) → Stop → List Call → Type 0
-StopsTakings comes inputs stop calls =
-    (name : List ℕ) × IsNamed name stop × StopsAtInput comes inputs name (λ limit. StopsTaking name limit stop) calls
+-- The calls of the turns of inputs, the last of which was a stop. Those before it were accepted, as `Accepts` says of
+-- their number, and no other input was asked for after it.
+abbrev pub StopsTakings : (Accepts : (count : ℕ) → Type 0) → List (List ℕ × ℕ) → Stop → List Call → Type 0
+StopsTakings Accepts inputs stop calls =
+    (name : List ℕ) × IsNamed name stop × StopsAtInput Accepts inputs name (λ limit. StopsTaking name limit stop) calls
 
--- the calls of the turns of inputs of which this comes; if each gave a value, each was accepted
-abbrev pub AreTakings : {X : Type 0} → (DeskReads → Outcome → Type 0) → List (List ℕ × ℕ) → Result X Stop → List Call → Type 0
-AreTakings comes inputs (Ok value) calls = AcceptsFirst comes (length inputs) × ReadsAll inputs calls
-AreTakings comes inputs (Err stop) calls = StopsTakings comes inputs stop calls
+-- the calls of the turns of inputs; if each gave a value, each was accepted
+abbrev pub AreTakings : {X : Type 0} → (Accepts : (count : ℕ) → Type 0) → List (List ℕ × ℕ) → Result X Stop → List Call → Type 0
+AreTakings Accepts inputs (Ok value) calls = Accepts (length inputs) × ReadsAll inputs calls
+AreTakings Accepts inputs (Err stop) calls = StopsTakings Accepts inputs stop calls

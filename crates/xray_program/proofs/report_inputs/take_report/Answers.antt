@@ -2,7 +2,7 @@ use Rattle.std.proofs.Common.{option_map, refl}
 use Rattle.xray_io.specs.World.{desk_view}
 use Rattle.xray_program.specs.Inputs.{image_limit, optional_input}
 use Rattle.xray_program.specs.Reports.{report_inputs}
-use Rattle.xray_program.specs.private.ReportTakes.{StopsReport}
+use Rattle.xray_program.specs.Accepted.{AcceptsReport}
 use Rattle.xray_program.proofs.Ordering.{first_handed, read_first}
 use Rattle.xray_program.proofs.Reports.{both_read, image_stopped, stop_of_image, stop_of_log}
 use Rattle.xray_program.proofs.report_inputs.take_report.Goals as goal
@@ -41,7 +41,7 @@ returns-in_err-log-clause-calls g c =
     let image = option_map (λ n. n.now) c.args.image in
     first_handed g.D.Desk.along g.met.D.Desk.along_both g.met.D.Desk.along_none c.args.desk.now c.take_stream.new.desk form (seen c.args.desk.now)
     (seen c.take_stream.new.desk) (report_inputs c.args.log.now form.limit image) (optional_input image image_limit) c.args.log.now c.from_residual.result _
-    (λ reads. StopsReport form reads (g.D.Desk.held c.args.desk.now) c.args.log.now image)
+    (AcceptsReport form (g.D.Desk.held c.args.desk.now) c.args.log.now image) tt
     c.from_residual.ensures.1 refl c.in_err-log.ensures.taken c.in_err-log.ensures.calls
 
 pub returns-in_err-image-clause-calls : goal.returns-in_err-image-clause-calls

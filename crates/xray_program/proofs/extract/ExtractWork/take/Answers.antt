@@ -18,5 +18,5 @@ pub returns-clause-calls : goal.returns-clause-calls
 returns-clause-calls g c =
     let seen = desk_view g.D.Desk.held g.D.Desk.read_faults g.D.Desk.write_faults in
     let s = c.args.self.now in
-    only_taking image_form s.image.now (λ program outcome. outcome ≡ Done [] (extract_text program)) (seen c.args.desk.now) (seen c.take.new.desk)
+    only_taking image_form s.image.now (seen c.args.desk.now) (seen c.take.new.desk)
     (g.D.Desk.along c.args.desk.now c.take.new.desk) c.take.result c.take.ensures.taken c.take.ensures.calls

@@ -3,7 +3,7 @@ use Rattle.xray_io.specs.World.{desk_view}
 use Rattle.xray_program.specs.Stack.{StacksCome}
 use Rattle.xray_program.specs.Inputs.{trace_form}
 use Rattle.xray_program.specs.private.Meant.{StacksMean}
-use Rattle.xray_program.proofs.Reports.{report_taken, report_takings}
+use Rattle.xray_program.proofs.Reports.{report_taken}
 use Rattle.xray_program.proofs.stack.StackWork.take.Goals as goal
 
 pub returns-clause-taken : goal.returns-clause-taken
@@ -14,8 +14,4 @@ returns-clause-taken g c =
     (seen c.args.desk.now) (seen c.take_report.new.desk) c.take_report.result c.take_report.ensures.taken
 
 pub returns-clause-calls : goal.returns-clause-calls
-returns-clause-calls g c =
-    let s = c.args.self.now in
-    report_takings trace_form (g.D.Desk.held c.args.desk.now) s.trace.now (option_map (λ n. n.now) s.image)
-    (λ t program. StacksCome s.trace.now s.format t program) (g.D.Desk.along c.args.desk.now c.take_report.new.desk)
-    c.take_report.result c.take_report.ensures.calls
+returns-clause-calls g c = c.take_report.ensures.calls
