@@ -9,9 +9,10 @@ usage: crates/whole_runs/tools/damaged_files.py [PROGRAM] [--files N] [--seed N]
     --memory: the address space of a run, beside 20 times its input, 64 if left out; 0 for no limit
     --seconds: the processor time of a run, 1 if left out
 
-The files are those of examples/, and random ones without a fault. Each gets one to three damages: bytes are changed, inserted or
-removed, a number becomes extreme, the file is cut, or joined with another one, of the same kind or of another. A few are longer
-than their limit, and a few are gone. Each is given to every command that reads its kind, beside sound files of the other kinds.
+The files are those of examples/, and random ones without a fault, of which each is damaged in a few ways. A file gets one to
+three damages: bytes are changed, inserted or removed, a number becomes extreme, the file is cut, or joined with another one, of
+the same kind or of another. A few are longer than their limit, and a few are gone. Each is given to every command that reads its
+kind, beside sound files of the other kinds.
 
 A run has to end with status 0, 2, 3 or 6, within its time and its address space. Unless the status is 0 it prints one line on
 standard error and nothing on standard output. Otherwise it prints nothing on standard error. The status, both streams and the
@@ -24,16 +25,16 @@ folder in which its files are kept, and then the status is 1.
 import argparse
 import collections
 import dataclasses
+import functools
 import os
 import pathlib
 import random
 import re
-import resource
 import shutil
 import signal
+import subprocess
 import sys
 import tempfile
-import time
 
 sys.dont_write_bytecode = True  # the modules are in the repository, and their compiled forms aren't
 import image_model  # noqa: E402
@@ -51,6 +52,8 @@ ENDLESS = 60
 # How many bytes of address space a run may take for each byte of its input.
 BYTES_FOR_A_BYTE = 20
 ALLOWED = (0, 2, 3, 6)
+# How many damaged files are made from a file of each kind.
+DAMAGED_OF_A_SET = 5
 THREADS = 2
 # Without fuel the model would take long for a damaged image that is accepted.
 RUN = ["--fuel=1000", f"--threads={THREADS}"]
@@ -142,6 +145,12 @@ def sound_files(draw):
         if draw.random() < 0.3 and (kind != "script" or is_accepted(replay_model.commands_of, example, given, THREADS)):
             files[kind] = example
     return files
+
+
+@functools.lru_cache(maxsize=1)
+def files_of_set(seed, number):
+    """A file of each kind without a fault, by a number."""
+    return sound_files(random.Random(f"{seed} set {number}"))
 
 
 # ---- Damages
@@ -239,46 +248,33 @@ class Taken:
     seconds: float
 
 
-def limits_for(memory, length):
-    """What is done in a new process before it becomes the program: its limits are set."""
+# Runs a program within an address space of some KiB, or of any size, and without a dump of its memory.
+LIMITED = 'ulimit -c 0; ulimit -v "$1"; shift; exec "$@"'
 
-    def limit():
-        if memory:
-            most = memory * (1 << 20) + BYTES_FOR_A_BYTE * length
-            resource.setrlimit(resource.RLIMIT_AS, (most, most))
-        resource.setrlimit(resource.RLIMIT_CORE, (0, 0))
 
-    return limit
+def space_of(memory, length):
+    """The address space of a run whose input has this length, as a word of `ulimit -v`."""
+    return str(memory * 1024 + BYTES_FOR_A_BYTE * length // 1024) if memory else "unlimited"
 
 
 def ended(process):
     """The status and the processor time of a process, which is killed if it counts as endless."""
-    begin = time.monotonic()
-    while True:
-        found, status, used = os.wait4(process, os.WNOHANG)
-        if found:
-            return os.waitstatus_to_exitcode(status), used.ru_utime + used.ru_stime
-        if time.monotonic() - begin > ENDLESS:
-            os.kill(process, signal.SIGKILL)
-        time.sleep(0.0005)
+    signal.signal(signal.SIGALRM, lambda *_: os.kill(process, signal.SIGKILL))
+    signal.alarm(ENDLESS)
+    _, status, used = os.wait4(process, 0)
+    signal.alarm(0)
+    return os.waitstatus_to_exitcode(status), used.ru_utime + used.ru_stime
 
 
-def run(xray, folder, streams, words, limit):
+def run(xray, folder, streams, words, space):
     """Runs the program in a folder, with its streams in files of another one."""
     out, err = streams / "out", streams / "err"
-    process = os.fork()
-    if process == 0:
-        try:
-            os.chdir(folder)
-            for stream, path in ((0, os.devnull), (1, out), (2, err)):
-                opened = os.open(path, os.O_RDONLY if stream == 0 else os.O_WRONLY | os.O_CREAT | os.O_TRUNC)
-                os.dup2(opened, stream)
-            limit()
-            os.execv(xray, [str(xray), *words])
-        finally:
-            os._exit(126)
-    status, seconds = ended(process)
-    return Taken(model.Outcome(status, out.read_bytes(), err.read_bytes()), seconds)
+    with open(out, "wb") as written, open(err, "wb") as reported:
+        process = subprocess.Popen(
+            ["sh", "-c", LIMITED, "sh", space, xray, *words], cwd=folder, stdin=subprocess.DEVNULL, stdout=written, stderr=reported
+        )
+        process.returncode, seconds = ended(process.pid)
+    return Taken(model.Outcome(process.returncode, out.read_bytes(), err.read_bytes()), seconds)
 
 
 def broken_rules(taken, most):
@@ -301,7 +297,7 @@ def judged(xray, folder, streams, words, files, most):
     for name, content in files.items():
         (folder / name).write_bytes(content)
     length = sum(len(files.get(word, b"")) for word in words)
-    taken = run(xray, folder, streams, words, limits_for(most.memory, length))
+    taken = run(xray, folder, streams, words, space_of(most.memory, length))
     left = {path.name: path.read_bytes() for path in folder.iterdir()}
     shown = shown_in({name.encode(): content for name, content in left.items() if name not in files}, 0)
     try:
@@ -355,7 +351,7 @@ class Tries:
         """The kind of a damaged file, and all files beside it."""
         draw = random.Random(f"{self.seed} {number}")
         kind = self.kinds[number % len(self.kinds)]
-        files = sound_files(draw)
+        files = dict(files_of_set(self.seed, number // DAMAGED_OF_A_SET))
         others = [*EXAMPLES[kind], *files.values()]
         content = damaged(draw, kind, files.pop(kind), others)
         return kind, files if content is None else {**files, kind: content}
