@@ -1,5 +1,8 @@
 -- A scan: what its fields say of the bytes that it was fed.
-use Rattle.std.specs.Prelude.{◌≡◌, ◌<◌, ⊤, ℕ, ◌+◌, ◌==◌, ◌&&◌, List, [], ◌∷◌, ◌++◌, length, slice_index, Result, Ok, Err, nat_lt, nat_le, if◌then◌else◌}
+use Rattle.std.specs.Prelude.{◌≡◌, ◌<◌, ⊤, ℕ, ◌+◌, ◌==◌, ◌&&◌, List, [], ◌∷◌, ◌++◌, length, slice_index, Option, Some, Result, Ok, Err, nat_lt, nat_le, if◌then◌else◌}
+use Rattle.xray_io.specs.Rows.{◌>>=◌}
+use Rattle.fdr_record.specs.declared.event.Event.{Event}
+use Rattle.fdr_file.specs.declared.events.Base.{Base}
 use Rattle.fdr_file.specs.declared.fault.TraceFault.{TraceFault}
 use Rattle.fdr_file.specs.declared.fault.TraceFault.TheVariants as faults
 use Rattle.fdr_file.specs.declared.header.Header.{Header}
@@ -8,6 +11,7 @@ use Rattle.fdr_file.specs.declared.scan.Head.TheVariants as heads
 use Rattle.fdr_file.specs.declared.scan.TraceScan.{TraceScan}
 use Rattle.fdr_file.specs.declared.stage.Inside.{Inside}
 use Rattle.fdr_file.specs.declared.stage.Inside.TheVariants as insides
+use Rattle.fdr_file.specs.declared.stage.Span.{Span}
 use Rattle.fdr_file.specs.declared.stage.Stage.{Stage}
 use Rattle.fdr_file.specs.declared.stage.Stage.TheVariants.{Due, Within, Faulty}
 use Rattle.fdr_file.specs.declared.stage.Told.{Told}
@@ -16,7 +20,7 @@ use Rattle.fdr_file.specs.declared.trace.Block.{Block}
 use Rattle.fdr_file.specs.declared.version.Version.{Version}
 use Rattle.fdr_file.specs.Traces.{record_in, record_length}
 use Rattle.fdr_file.specs.private.Reading.{header_on}
-use Rattle.fdr_file.specs.Scanning.{blocks_given, scanned, scanned_on, stage_judged, with_told}
+use Rattle.fdr_file.specs.Scanning.{blocks_given, record_or, scanned, scanned_on, stage_after, stage_judged, step_on, with_told}
 
 -- ---- what is told
 
@@ -111,6 +115,24 @@ pub record Advances (new : TraceScan) (stream more : List ℕ) (told : Told) : T
   pub scans : Scans new (stream ++ more)
   pub grows : blocks_given (stream ++ more) ≡ with_told told (blocks_given stream)
   pub can : CanTell told (blocks_given stream)
+
+-- ---- the events of a block
+
+-- the events of a block go on, after a record with this CPU and counter
+pub record EventsNext (scan : TraceScan) (span : Span) (base : Base) : Type 0 where
+  pub version : Version
+  pub header : Header
+  pub head : scan.head ≡ heads.Read version header
+  pub stage : scan.stage ≡ Within span (insides.Events (Some base))
+  pub none : scan.prefix ≡ []
+
+-- the CPU and counter after the record that bytes begin with, and the event that it says
+abbrev pub event_on : ℕ → Base → List ℕ → Result (Base × Option Event) TraceFault
+event_on at base bytes = record_or at (record_in bytes) >>= λ r. step_on at r (Some base)
+
+-- after a record of a block's events that ends at this place, with this CPU and counter
+abbrev pub among_events : TraceScan → Span → ℕ → Base → TraceScan
+among_events scan span at base = record scan { stage = stage_after span at (insides.Events (Some base)); at = at }
 
 -- ---- the end
 
