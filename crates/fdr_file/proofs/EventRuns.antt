@@ -1,5 +1,5 @@
 -- A scan that goes past records among the events of a block.
-use Rattle.std.proofs.Common.{◌≡◌, ℕ, ◌+◌, ◌<◌, ◌≤◌, List, [], ◌∷◌, ◌++◌, length, take, drop, Option, Some, Result, Ok, Err, refl, sym, ap, subst, ◌∙◌, append_assoc, length-drop, arith}
+use Rattle.std.proofs.Common.{◌≡◌, ℕ, ◌+◌, ◌<◌, ◌≤◌, List, [], ◌++◌, length, take, drop, Option, Some, Result, Ok, Err, refl, sym, ap, subst, ◌∙◌, append_assoc, length-drop, arith}
 use Rattle.std.specs.Prelude.{IfOk}
 use Rattle.std.proofs.Math.Seq.{take-add}
 use Rattle.std.proofs.lemmas.List.{take-append-drop, take-append-le}
@@ -18,7 +18,8 @@ use Rattle.fdr_file.specs.declared.stage.Told.{Told}
 use Rattle.fdr_file.specs.declared.version.Version.{Version}
 use Rattle.fdr_file.specs.Scanning.{blocks_given, record_or, stage_after, stage_judged, stage_within, step_on, told_event, with_told}
 use Rattle.fdr_file.specs.Traces.{record_in, record_length}
-use Rattle.fdr_file.specs.private.Scan.{Advances, CanTell, EventsNext, Scans, among_events, event_on, record_advanced}
+use Rattle.fdr_file.specs.Streams.{Scans}
+use Rattle.fdr_file.specs.private.Scan.{Advances, CanTell, EventsNext, among_events, event_on, record_advanced}
 use Rattle.fdr_file.proofs.Following.{record_advances}
 
 -- a record among the events of a block

@@ -5,11 +5,12 @@ ghost use Rattle.fdr_file.specs.declared.trace.Trace.{Trace};
 ghost use Rattle.fdr_file.specs.ThreadEvents.{event_given, thread_events};
 ghost use Rattle.fdr_file.specs.Scanning.{told_event};
 ghost use Rattle.fdr_file.specs.Traces.{trace_of};
-ghost use Rattle.fdr_file.specs.private.Cursor.{cursor_header, cursor_passed, event_said, events_left};
+ghost use Rattle.fdr_file.specs.EventsLeft.{cursor_header, events_left};
+ghost use Rattle.fdr_file.specs.private.Cursor.{cursor_passed, event_said};
 
 use crate::events::take_step;
 use crate::header::{HEADER_BYTES, read_header};
-use crate::scan::{record_len, record_of};
+use crate::records::{record_len, record_of};
 use crate::stage::{Inside, Stage, Told, judge, stage_at, within_events};
 use crate::{Header, Version};
 use fdr_record::Event;

@@ -2,20 +2,18 @@
 
 ghost use Rattle.std.specs.Prelude.{◌≡◌, ◌≢◌, ◌≤◌, ◌<◌, ◌+◌, ◌^◌, ℕ, [], ◌∷◌, ◌++◌, List, Err, length, take, IfOk, OnOk, OnErr, IfSome};
 ghost use Rattle.xray_io.specs.Faults.{Rose};
-ghost use Rattle.fdr_record.specs.Refusals.{length_by};
 ghost use Rattle.fdr_file.specs.declared.trace.Block.{Block};
-ghost use Rattle.fdr_file.specs.Scanning.{blocks_given, with_blocks, with_told};
-ghost use Rattle.fdr_file.specs.Traces.{record_in, record_length, trace_of};
-ghost use Rattle.fdr_file.specs.private.Reading.{header_on};
-ghost use Rattle.fdr_file.specs.private.Scan.{Advances, CanTell, EventsNext, Scans, answered_by, header_longer, header_taken, last_stage, record_advanced, record_longer, record_passed, stage_answers};
+ghost use Rattle.fdr_file.specs.Scanning.{blocks_given, header_on, with_blocks, with_told};
+ghost use Rattle.fdr_file.specs.Traces.{record_length, trace_of};
+ghost use Rattle.fdr_file.specs.Streams.{Scans};
+ghost use Rattle.fdr_file.specs.private.Scan.{Advances, CanTell, EventsNext, answered_by, header_longer, header_taken, last_stage, record_advanced, record_longer, record_passed, stage_answers};
 
 use crate::events::{Base, take_step};
 use crate::header::{HEADER_BYTES, read_header};
 use crate::prefix::Prefix;
-use crate::records::taken_at;
+use crate::records::{record_len, record_of};
 use crate::stage::{Inside, Span, Stage, Told, judge, noted, stage_at, within_events};
 use crate::{Header, Taker, TraceFault, Version};
-use fdr_record::{FUNCTION_BYTES, METADATA_BYTES, Rec, RecFault};
 use xray_io::NoMemory;
 
 /// What is known of the header.
@@ -38,35 +36,6 @@ pub struct TraceScan {
     at: u64,
     /// The bytes from there on, as long as the record, or the header, isn't whole.
     prefix: Prefix,
-}
-
-/// The length of a record with this first byte.
-fn length_of_first(first: u8) -> usize
-    ensures { result ≡ length_by first }
-{
-    if first % 2 == 0 {
-        FUNCTION_BYTES
-    } else {
-        METADATA_BYTES
-    }
-}
-
-/// The length of the record that bytes begin with, by the first of them.
-pub(crate) fn record_len(bytes: &[u8]) -> usize
-    requires { 0 < length bytes.now }
-    ensures { result ≡ record_length bytes.now }
-{
-    length_of_first(bytes[0])
-}
-
-/// The record that bytes begin with.
-pub(crate) fn record_of(bytes: &[u8]) -> Result<Rec, RecFault>
-    ensures { result ≡ record_in bytes.now }
-{
-    match taken_at(bytes, 0) {
-        Ok((rec, _)) => Ok(rec),
-        Err(fault) => Err(fault),
-    }
 }
 
 /// How many of the bytes from a place on belong to a block, if there are so many.

@@ -2,7 +2,7 @@ use Rattle.std.proofs.Common.{◌≡◌, ℕ, ◌+◌, ◌-◌, List, ◌++◌, 
 use Rattle.std.proofs.lemmas.List.{length-drop, length-take, take_all, take_rest}
 use Rattle.std.proofs.Math.Seq.{take-add}
 use Rattle.fdr_file.specs.Scanning.{blocks_given}
-use Rattle.fdr_file.specs.private.Scan.{Scans}
+use Rattle.fdr_file.specs.Streams.{Scans}
 use Rattle.fdr_file.proofs.scan.TraceScan.feed.Goals as goal
 
 -- the stream with more bytes of the piece

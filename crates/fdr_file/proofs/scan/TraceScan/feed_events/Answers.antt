@@ -1,6 +1,6 @@
 use Rattle.std.proofs.Common.{ℕ, ◌≤◌, List, ◌++◌, length, take, subst}
 use Rattle.fdr_file.specs.Scanning.{blocks_given}
-use Rattle.fdr_file.specs.private.Scan.{Scans}
+use Rattle.fdr_file.specs.Streams.{Scans}
 use Rattle.fdr_file.proofs.EventRuns.{if_ok_both, take_part}
 use Rattle.fdr_file.proofs.scan.TraceScan.feed_events.Goals as goal
 

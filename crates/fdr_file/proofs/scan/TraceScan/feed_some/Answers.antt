@@ -2,7 +2,7 @@ use Rattle.std.proofs.Common.{◌≡◌, ℕ, ◌+◌, ◌-◌, List, ◌++◌, 
 use Rattle.std.proofs.lemmas.List.{length-drop, length-take, take_rest}
 use Rattle.fdr_file.specs.declared.trace.Block.{Block}
 use Rattle.fdr_file.specs.Scanning.{blocks_given}
-use Rattle.fdr_file.specs.private.Scan.{Scans}
+use Rattle.fdr_file.specs.Streams.{Scans}
 use Rattle.fdr_file.proofs.EventRuns.{runs_longer}
 use Rattle.fdr_file.proofs.scan.TraceScan.feed_some.Goals as goal
 

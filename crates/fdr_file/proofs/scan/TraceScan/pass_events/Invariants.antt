@@ -1,6 +1,7 @@
 use Rattle.std.proofs.Common.{ℕ, List, ◌+◌, ◌++◌, ◌-◌, ◌≤◌, length, take}
 use Rattle.fdr_file.specs.Scanning.{blocks_given}
-use Rattle.fdr_file.specs.private.Scan.{Scans, among_events}
+use Rattle.fdr_file.specs.Streams.{Scans}
+use Rattle.fdr_file.specs.private.Scan.{among_events}
 use Rattle.fdr_file.proofs.scan.TraceScan.pass_events.Given as goal
 
 -- the bytes so far are a part of the stream, if the stage and the place are those after them
