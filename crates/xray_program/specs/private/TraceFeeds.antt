@@ -2,7 +2,7 @@
 use Rattle.std.specs.Prelude.{ℕ, List}
 use Rattle.fdr_file.specs.declared.trace.Block.{Block}
 use Rattle.fdr_file.specs.Scanning.{blocks_given}
-use Rattle.fdr_file.specs.private.Scan.{Scans}
+use Rattle.fdr_file.specs.Streams.{Scans}
 use Rattle.xray_program.specs.declared.trace_feed.TraceFeed.{TraceFeed}
 
 -- the scan was fed these bytes, and the taker took the blocks that they give
