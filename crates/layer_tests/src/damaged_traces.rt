@@ -170,3 +170,43 @@ fn prefixes_that_end_with_a_block_are_traces(rt: HostRuntime) -> Result<(), Fail
     }
     Ok(())
 }
+
+/// The header of a file that is read whole, and how many blocks and events it has.
+fn read_as_one(alloc: Global, bytes: &[u8]) -> Result<(Header, Counts), TraceFault> {
+    let trace = read_trace(alloc, bytes)?;
+    let mut counts = Counts {
+        blocks: 0,
+        events: 0,
+    };
+    for block in trace.blocks.as_slice() {
+        counts.blocks = counts.blocks.saturating_add(1);
+        counts.events = counts.events.saturating_add(block.events.as_slice().len());
+    }
+    Ok((trace.header, counts))
+}
+
+/// Checks that a file is read the same whole and in pieces of each size, when a byte at a place was
+/// changed to each value.
+fn check_each_value(rt: &impl Abort, alloc: Global, bytes: &[u8], at: usize) -> Result<(), Fail> {
+    let mut changed = Vec::from_slice(alloc, bytes)?;
+    for to in 0..=u8::MAX {
+        if let Some(byte) = changed.get_mut(at) {
+            *byte = to;
+        }
+        let whole = read_as_one(alloc, &changed);
+        check_same_at(rt, &read_in_pieces(&changed, 1), &whole, &(at, to));
+        check_same_at(rt, &read_in_pieces(&changed, 7), &whole, &(at, to));
+        check_same_at(rt, &read_in_pieces(&changed, 4096), &whole, &(at, to));
+    }
+    Ok(())
+}
+
+/// The file of three blocks, with each of its bytes changed to each value.
+#[test]
+fn a_changed_byte_is_read_the_same_in_pieces(rt: HostRuntime) -> Result<(), Fail> {
+    let bytes = file(rt.alloc(), &THREE_BLOCKS)?;
+    for at in 0..bytes.len() {
+        check_each_value(&rt, rt.alloc(), &bytes, at)?;
+    }
+    Ok(())
+}

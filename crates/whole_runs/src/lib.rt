@@ -17,6 +17,8 @@ mod gate_calls;
 #[cfg(test)]
 mod gates;
 #[cfg(test)]
+mod pieces;
+#[cfg(test)]
 mod plain;
 #[cfg(test)]
 mod run;
