@@ -138,10 +138,12 @@ pub fn status_of<
         said.push(String::from_str(alloc, word)?)?;
     }
     let wall = Wall { secs: 7, micros: 8 };
-    if may_wait(&said) {
-        return Ok(xray(rt, alloc, &said, wall, desk, out, err, gate));
-    }
-    Ok(xray_still(alloc, &said, wall, desk, out, err))
+    let status = if may_wait(&said) {
+        xray(rt, alloc, &said, wall, desk, out, err, gate)
+    } else {
+        xray_still(alloc, &said, wall, desk, out, err)
+    };
+    Ok(status)
 }
 
 /// Checks the status of a run, and what it wrote on out and on err.
