@@ -101,6 +101,21 @@ FULL_DISK = [
         "xray: /dev/full: write fault\n4\nxray: /dev/full: write fault\n4\nno audit\nxray: /dev/full: write fault\n4\n"
         "trace is whole\nxray: output: write fault\n4\naudit is whole\nxray: output: write fault\n4\nxray: output: write fault\n4\n",
     ),
+    Row(
+        "What `run` leaves is the same.",
+        "run() { xray run main.xrim traced.script \"$@\" --wall 0; }; run trace audit > out; cp trace whole; cp audit all\n"
+        "echo old > audit; run /dev/full audit; echo $?; cat audit; run trace /dev/full; echo $?; same trace whole\n"
+        "run trace audit > /dev/full; echo $?; same trace whole; same audit all",
+        "xray: /dev/full: write fault\n4\nold\nxray: /dev/full: write fault\n4\ntrace is whole\n"
+        "xray: output: write fault\n4\ntrace is whole\naudit is whole\n",
+    ),
+    Row(
+        "Each command that prints reports that standard output can't be written.",
+        "for words in 'plain call.xrim' 'extract call.xrim' 'account TRACE' 'account TRACE call.xrim --format csv' \\\n"
+        "'stack TRACE' 'stack TRACE --format flame' 'convert TRACE' 'soak 7'\n"
+        "do xray ${words/TRACE/whole.small.trace} > /dev/full; echo $?; done",
+        "xray: output: write fault\n4\n" * 8,
+    ),
 ]
 
 PIPES = [
@@ -120,6 +135,12 @@ PIPES = [
         "{ sleep 0.2; xray nothing; echo $? > status; } 2>&1 > /dev/null | true; cat status\n"
         "xray plain gone 2> /dev/full; echo $?; xray plain long.asm 2>&-; echo $?",
         "1\n3\n2\n",
+    ),
+    Row(
+        "If only a part of the line on standard error can be written, the line is cut, and everything else is the same.",
+        "head -c 1014 /dev/zero > err; (trap '' XFSZ; ulimit -f 1; xray plain gone 2>> err); echo $?\n"
+        "wc -c < err; tail -c 10 err",
+        "3\n1024\nxray: gone",
     ),
     Row(
         "If the reader of an output's pipe ends early, that output failed.",
@@ -152,6 +173,15 @@ NAMES = [
         "same trace whole.small.trace; xray plain main.xrim/; echo $?; xray asm call.asm folder/no/made; echo $?",
         "xray: folder: read fault\n3\nxray: folder: write fault\n4\nxray: folder: write fault\n4\ntrace is whole\n"
         "xray: main.xrim/: read fault\n3\nxray: folder/no/made: write fault\n4\n",
+    ),
+    Row(
+        "No input can be a folder.",
+        "mkdir folder; for words in 'asm folder made' 'plain folder' 'extract folder' 'account folder' 'stack folder' \\\n"
+        "'convert folder' 'account whole.small.trace folder' 'sim folder traced.script order.schedule t a' \\\n"
+        "'sim main.xrim folder order.schedule t a' 'sim main.xrim traced.script folder t a' \\\n"
+        "'run folder traced.script t a' 'run main.xrim folder t a'; do xray $words; echo $?; done\n"
+        "absent made; absent t; absent a",
+        "xray: folder: read fault\n3\n" * 12 + "no made\nno t\nno a\n",
     ),
     Row(
         "A file without permission can't be read, and an output without permission stays as it was.",
@@ -189,6 +219,13 @@ SIGNALS = [
         "143\nfirst is a prefix\nno audit\n0\n0\n",
     ),
     Row(
+        "A signal while an input is read: nothing is written, and outputs are as they were.",
+        "mkfifo pipe; echo old > audit; (xray sim main.xrim traced.script pipe trace audit > out 2> err & echo $! > id\n"
+        "(sleep 0.2; kill $(cat id); sleep 0.1) > pipe; wait $(cat id); echo $?) 2> /dev/null\n"
+        "absent trace; cat audit; wc -c < out; wc -c < err",
+        "143\nno trace\nold\n0\n0\n",
+    ),
+    Row(
         "A program that is stopped and continued does the same as without.",
         "mkfifo pipe\n"
         "xray sim main.xrim traced.script pipe trace audit --wall 0 > out & exec 3> pipe\n"
@@ -204,6 +241,11 @@ SIGNALS = [
 ]
 
 SAME_FILES = [
+    Row(
+        "An output isn't compared with the file of standard error, so the line there may overwrite its start.",
+        "sim f /dev/full 2> f; echo $?; head -c 29 f; cmp -i 29 f whole.small.trace; wc -c < f",
+        "4\nxray: /dev/full: write fault\n128\n",
+    ),
     Row(
         "Names are compared as they are written: an output with the name of another file is a bad command line.",
         "sim trace trace; echo $?; sim main.xrim audit; echo $?; absent trace; absent audit",
