@@ -31,7 +31,10 @@ const I: Input = ("i", &[&IMAGE]);
 const S: Input = ("s", &[b"patch\nset_handler\ninit\ngo\n"]);
 
 /// A text of a move, an output and a return.
-const X: Input = ("x", &[b"base 0x1000\nfn main always\nmov eax, 65\nout 1\nret\n"]);
+const X: Input = (
+    "x",
+    &[b"base 0x1000\nfn main always\nmov eax, 65\nout 1\nret\n"],
+);
 
 /// The commands. Another command is another row.
 const COMMANDS: [Command; 10] = [
@@ -165,10 +168,12 @@ fn whole_of<R: Abort + Threads + Wait + Sync + AllocGlobal>(
 /// The status that a run has to have, and its line on err.
 fn ending_of(alloc: Global, left: &Left) -> Result<(u8, String), Fail> {
     match left.desk.fault() {
-        Some(DeskFault {
-            call: DeskCall::Read,
-            name,
-        }) => Ok((3, format!(in alloc; "xray: {name}: read fault\n")?)),
+        Some(
+            DeskFault {
+                call: DeskCall::Read,
+                name,
+            },
+        ) => Ok((3, format!(in alloc; "xray: {name}: read fault\n")?)),
         Some(fault) => Ok((4, format!(in alloc; "xray: {}: write fault\n", fault.name)?)),
         None => {
             if left.out.has_failed() {
@@ -245,7 +250,10 @@ fn tried<R: Abort + Threads + Wait + Sync + AllocGlobal>(
     check_same_at(rt, &left.status, &status, command.words);
     let (has_line, text) = (left.err.has_failed(), line.as_str().as_bytes());
     check_written(rt, left.err.bytes(), text, has_line);
-    let later = left.desk.later_calls().saturating_add(left.out.later_calls());
+    let later = left
+        .desk
+        .later_calls()
+        .saturating_add(left.out.later_calls());
     check_same_at(rt, &later, &0, command.words);
     check_outputs(rt, command, whole, &left);
     check_inputs(rt, command, &left.desk)?;

@@ -118,13 +118,7 @@ pub fn run_at<R: Threads + Wait + Sync + AllocGlobal, D: Desk, G: Gate + Sync>(
 }
 
 /// Runs the top call with a gate, over a desk and sinks, and returns its status.
-pub fn status_of<
-    R: Threads + Wait + Sync + AllocGlobal,
-    D: Desk,
-    O: Sink,
-    E: Sink,
-    G: Gate + Sync,
->(
+pub fn status_of<R: Threads + Wait + Sync + AllocGlobal, D: Desk, O: Sink, E: Sink, G: Gate + Sync>(
     rt: &R,
     line: &str,
     desk: &mut D,
