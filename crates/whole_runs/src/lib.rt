@@ -11,7 +11,11 @@ mod bad_lines;
 #[cfg(test)]
 mod checks;
 #[cfg(test)]
+mod damaged;
+#[cfg(test)]
 mod faults;
+#[cfg(test)]
+mod faults_in_turn;
 #[cfg(test)]
 mod gate_calls;
 #[cfg(test)]

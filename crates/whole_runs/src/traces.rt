@@ -60,12 +60,12 @@ const USUAL: [(&str, &str); 12] = [
 const ENTERED: &[&[u8]] = &[EXTENTS_72, PREAMBLE, CPU, ENTRY];
 
 /// One with its exit at counter 2, and the same of thread 2.
-const LEFT: &[&[u8]] = &[EXTENTS_72, PREAMBLE, CPU_AT_2, EXIT];
+pub const LEFT: &[&[u8]] = &[EXTENTS_72, PREAMBLE, CPU_AT_2, EXIT];
 
-const LEFT_BY_2: &[&[u8]] = &[EXTENTS_72, PREAMBLE_OF_2, CPU_AT_2, EXIT];
+pub const LEFT_BY_2: &[&[u8]] = &[EXTENTS_72, PREAMBLE_OF_2, CPU_AT_2, EXIT];
 
 /// One with thread 2's exit of function 2 at counter 1.
-const LEFT_F_BY_2: &[&[u8]] = &[EXTENTS_72, PREAMBLE_OF_2, CPU_AT_1, EXIT_OF_2];
+pub const LEFT_F_BY_2: &[&[u8]] = &[EXTENTS_72, PREAMBLE_OF_2, CPU_AT_1, EXIT_OF_2];
 
 /// The row of a call that is recorded, with a wall time of 0. The other rows say how they differ.
 const CALLED: Row = Row {

@@ -20,6 +20,9 @@ No run of `sim` or `run` may end with status 5 for an allocation that is made on
 shows a longer run of the same words: between two of its allocations lies most of its processor time, and the threads run there.
 The longer run has to make as many allocations as the small one.
 
+If the refused allocation was needed to start a thread, `run` does that thread's work on another one. A script that waits may then
+never come to its end. Only for such a script a run may also use up its processor time, with nothing written.
+
 The allocations are those of the C library's functions, in all threads of the program. A preloaded library counts them, so this
 needs a C compiler, `cc`.
 """
@@ -28,7 +31,9 @@ import dataclasses
 import os
 import pathlib
 import re
+import resource
 import shutil
+import signal
 import subprocess
 import sys
 import tempfile
@@ -48,7 +53,8 @@ COMMANDS = {
     "sim over old outputs": "sim call.xrim live.script live.schedule old.trace old.audit --wall 0 --threads 2",
     "sim of long threads": f"sim {TURNS} order.schedule trace audit {BUFFERS} 10",
     "run": "run main.xrim traced.script trace audit --wall 0",
-    "run over old outputs": "run main.xrim waiting.script old.trace old.audit --wall 0",
+    "run over old outputs": "run call.xrim traced.script old.trace old.audit --wall 0",
+    "run of a script that waits": "run main.xrim waiting.script trace audit --wall 0",
     "run of long threads": f"run {TURNS} trace audit {BUFFERS} 10",
     "account": "account calls.trace",
     "account with an image": "account calls.trace call.xrim --sort sum --sortorder desc --top 1 --format csv",
@@ -60,6 +66,10 @@ COMMANDS = {
 }
 # Longer runs of the same words, whose threads take most of the time.
 LONGER = {name: f"{COMMANDS[name]}0000" for name in ("sim of long threads", "run of long threads")}
+# The commands whose script waits for a thread.
+WAITING = ["run of a script that waits"]
+# Seconds of processor time after which a run counts as endless.
+ENDLESS = 10
 TURNS_TEXT = "fn main always\nagain:\n    call f\n    jmp again\nfn f always\n    ret\n"
 OLD = ["old.image", "old.trace", "old.audit"]
 OUT_OF_MEMORY = (5, b"", b"xray: out of memory\n", {})
@@ -180,8 +190,9 @@ class Runs:
         if setting is not None:
             environment |= {"LD_PRELOAD": str(self.library), "TOLD": str(tell), **setting}
         done = subprocess.run(
-            [self.program, *words.split()], cwd=self.folder, env=environment, pass_fds=[tell], capture_output=True, timeout=300
-        )
+            [self.program, *words.split()], cwd=self.folder, env=environment, pass_fds=[tell], capture_output=True,
+            preexec_fn=lambda: resource.setrlimit(resource.RLIMIT_CPU, (ENDLESS, ENDLESS + 1)),
+        )  # fmt: skip
         os.close(tell)
         with open(told, "rb") as pipe:
             tells = pipe.read()
@@ -212,13 +223,15 @@ class Runs:
         return at + 1, lines
 
 
-def outcome(comes, alone):
-    """Which of the three things a run with a refusal does, or None."""
+def outcome(comes, alone, may_wait):
+    """Which of the things that it may do a run with a refusal does, or None. A script that waits may be endless."""
     status, out, err, made = comes
     if comes == OUT_OF_MEMORY:
         return "out of memory"
     if comes == alone:
         return "the same"
+    if may_wait and comes == (-signal.SIGXCPU, b"", b"", {}):
+        return "endless"
     whole = all(made[name] is not None and made[name] == alone[3].get(name) for name in made)
     if out == b"" and whole and FAULT.get(status, re.compile(b"(?!)")).fullmatch(err):
         return "a fault of a file"
@@ -228,7 +241,7 @@ def outcome(comes, alone):
 def differences(name, runs, most):
     """The lines that report where a command's runs do what they may not do, and how often each other thing happened."""
     words = COMMANDS[name]
-    counts = dict.fromkeys(["out of memory", "the same", "a fault of a file"], 0)
+    counts = dict.fromkeys(["out of memory", "the same", "a fault of a file", *["endless"] * (name in WAITING)], 0)
     alone = runs.alone(words)
     if alone[0] != 0:
         return [f"{name}: status {alone[0]} with enough memory: {alone[2]!r}"], counts
@@ -238,7 +251,7 @@ def differences(name, runs, most):
             was_refused, comes = runs.refused(words, Refusal(number, and_after))
             if not was_refused:
                 return lines + ([f"{name}: differs with the tool alone"] if comes != alone else []), counts
-            found = outcome(comes, alone)
+            found = outcome(comes, alone, name in WAITING)
             if found is not None and not (found == "out of memory" and number > before):
                 counts[found] += 1
                 continue
