@@ -88,7 +88,7 @@ loads_begun a begun all end last run =
       last = last;
       run = run;
       wanted = λ i load found. absurd cc;
-      allowed = all_none (λ (load : Load). IsAllowed a.steps.now a.thread load.word load.value);
+      allowed = all_none (λ (load : Load). IsAllowed a.steps.now a.threads a.thread load.word load.value);
       marks = begun.unmarked ∙ sym (no_marks a.steps.now a.thread a.hold 0 (sleds_passed all));
       wants = wants_at a sound [] all all end last (wanted_after (traced a) all []) run refl none
           (ap (λ n. next_from a.steps.now a.thread a.hold n (sleds_passed all) []) (sym none))

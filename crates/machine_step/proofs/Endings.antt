@@ -30,7 +30,7 @@ ends_as_plain bytes t own passed loads end last accepted loaded done stands run 
     let from = opening t.program t.thread in
     let same = same_run t.program one t.limits t.thread ends.run.0 run.0 from ends.passed passed here.0 end there last ends.run.1 run.1 in
     let alike = same_run t.program one t.limits t.thread loaded.run.0 run.0 from own passed loaded.end end loaded.last last loaded.run.1 run.1 in
-    let whole = all_whole t.program t.thread t.hold (sleds_passed own) loads loaded.wanted loaded.allowed in
+    let whole = all_whole t.program t.threads t.thread t.hold (sleds_passed own) loads loaded.wanted loaded.allowed in
     record {
       run = run;
       done = here.1 ∙ ap Done same.ends;

@@ -31,7 +31,7 @@ use Rattle.machine_step.proofs.Tracing.{before_of}
 
 -- the value is allowed for the word of its stage
 allowed_here : (a : Inside) (place k : ℕ) (at_stage : Stage) (value : ℕ) → a.stand ≡ Loading place k at_stage → Allows (traced a) (traced a).want value
-    → IsAllowed a.steps.now a.thread (word_at a.steps.now a.thread k at_stage) value
+    → IsAllowed a.steps.now a.threads a.thread (word_at a.steps.now a.thread k at_stage) value
 allowed_here a place k at_stage value is allows =
     subst (λ (s : Stand). Allows (traced a) (want_at a.steps.now a.thread a.machine.passings s) value) is allows
 

@@ -107,12 +107,12 @@ all_one : {X : Type 0} (P : X → Type 0) (x : X) → P x → All P (x ∷ [])
 all_one P x p zero d below = p
 all_one P x p (suc k) d below = absurd (omega arith)
 
-allowed_more : (program : Program) (thread : ℕ) (loads : List Load) (load : Load)
-    → All (λ (l : Load). IsAllowed program thread l.word l.value) loads
-    → IsAllowed program thread load.word load.value → All (λ (l : Load). IsAllowed program thread l.word l.value) (loads ++ load ∷ [])
-allowed_more program thread loads load allowed is =
-    All-append (λ (l : Load). IsAllowed program thread l.word l.value) loads (load ∷ []) allowed
-    (all_one (λ (l : Load). IsAllowed program thread l.word l.value) load is)
+allowed_more : (program : Program) (threads thread : ℕ) (loads : List Load) (load : Load)
+    → All (λ (l : Load). IsAllowed program threads thread l.word l.value) loads
+    → IsAllowed program threads thread load.word load.value → All (λ (l : Load). IsAllowed program threads thread l.word l.value) (loads ++ load ∷ [])
+allowed_more program threads thread loads load allowed is =
+    All-append (λ (l : Load). IsAllowed program threads thread l.word l.value) loads (load ∷ []) allowed
+    (all_one (λ (l : Load). IsAllowed program threads thread l.word l.value) load is)
 
 -- ---- what was loaded, with one more load
 
@@ -121,7 +121,7 @@ abbrev pub passed_on : Inside → Machine → MarkList → Stand → Inside
 passed_on a m ms stand = record a { machine = m; marks = ms; stand = stand }
 
 loaded_more : (a : Inside) (m : Machine) (ms : MarkList) (stand : Stand) (place k : ℕ) (at_stage : Stage) (value : ℕ) → a.stand ≡ Loading place k at_stage
-    → IsAllowed a.steps.now a.thread (word_at a.steps.now a.thread k at_stage) value
+    → IsAllowed a.steps.now a.threads a.thread (word_at a.steps.now a.thread k at_stage) value
     → (all : List Passing) (loads : List Load) (has : HasLoaded (traced a) all loads)
     → let more = loads ++ record { word = word_at a.steps.now a.thread k at_stage; value = value } ∷ [] in
     ms.items ≡ marks_of a.steps.now a.thread a.hold (sleds_passed all) more
@@ -134,7 +134,7 @@ loaded_more a m ms stand place k at_stage value is allowed all loads has marks w
       last = has.last;
       run = has.run;
       wanted = wanted_more (traced a) all loads load has.wanted (wanted_word a place k at_stage is all loads has);
-      allowed = allowed_more a.steps.now a.thread loads load has.allowed allowed;
+      allowed = allowed_more a.steps.now a.threads a.thread loads load has.allowed allowed;
       marks = marks;
       wants = wants;
     }
@@ -142,7 +142,7 @@ loaded_more a m ms stand place k at_stage value is allowed all loads has marks w
 -- ---- a passing that goes on
 
 pub goes_on_loads : (a : Inside) → IsSound a → (place k : ℕ) (at_stage next : Stage) (value : ℕ) → a.stand ≡ Loading place k at_stage
-    → after_load at_stage value ≡ Loads next → IsAllowed a.steps.now a.thread (word_at a.steps.now a.thread k at_stage) value
+    → after_load at_stage value ≡ Loads next → IsAllowed a.steps.now a.threads a.thread (word_at a.steps.now a.thread k at_stage) value
     → (all : List Passing) (loads : List Load) → HasLoaded (traced a) all loads
     → HasLoaded (traced (standing a (Loading place k next))) all (loads ++ record { word = word_at a.steps.now a.thread k at_stage; value = value } ∷ [])
 goes_on_loads a sound place k at_stage next value is following allowed all loads has =
@@ -272,7 +272,7 @@ wants_at b sound passed rest all end last wanted run is long wants (Ended e) pas
     )
 
 pub ends_loads : (a : Inside) → IsSound a → (place k : ℕ) (at_stage : Stage) (value : ℕ) (is : a.stand ≡ Loading place k at_stage) (mark : Mark)
-    → after_load at_stage value ≡ Ends mark → IsAllowed a.steps.now a.thread (word_at a.steps.now a.thread k at_stage) value
+    → after_load at_stage value ≡ Ends mark → IsAllowed a.steps.now a.threads a.thread (word_at a.steps.now a.thread k at_stage) value
     → (m : Machine) (ms : MarkList) (stand : Stand) → (at : IsAtPassing a place k) → Ending a m ms stand at.address mark
     → (all : List Passing) (loads : List Load) → HasLoaded (traced a) all loads
     → HasLoaded (traced (passed_on a m ms stand)) all (loads ++ record { word = word_at a.steps.now a.thread k at_stage; value = value } ∷ [])

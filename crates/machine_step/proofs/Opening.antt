@@ -1,5 +1,5 @@
 -- A traced thread that is let into a passing.
-use Rattle.std.proofs.Common.{◌≡◌, ℕ, ◌<◌, ◌≤◌, ◌==◌, Bool, true, false, List, length, Option, Some, None, refl, sym, ap, ◌∙◌, subst, arith}
+use Rattle.std.proofs.Common.{◌≡◌, ℕ, ◌<◌, ◌≤◌, ◌==◌, inl, Bool, true, false, List, length, Option, Some, None, refl, sym, ap, ◌∙◌, subst, arith}
 use Rattle.std.specs.Prelude.{◌↔◌, slice_get, IsTrue}
 use Rattle.std.proofs.lemmas.Bool.{eqb-true}
 use Rattle.std.proofs.lemmas.Option.{slice_get_within}
@@ -102,8 +102,8 @@ allows_by a sound place k at_stage value is answer allows =
     let before = before_of a sound place k at in
     let here = allows before.sled before.found in
     subst (λ (s : Stand). IsTrue answer ↔ Allows (traced a) (want_at a.steps.now a.thread a.machine.passings s) value) (sym is) (
-      λ true. allowed_at a.steps.now a.thread k value before.sled at_stage sound.setup.some_thread before.found (here.0 true),
-      λ allowed. here.1 (allows_at a.steps.now a.thread k value before.sled at_stage sound.setup.some_thread before.found allowed),
+      λ true. allowed_at a.steps.now a.threads a.thread k value before.sled at_stage sound.setup.some_thread before.found (here.0 true),
+      λ allowed. here.1 (allows_at a.steps.now a.threads a.thread k value before.sled at_stage sound.setup.some_thread before.found allowed),
     )
 
 -- ---- the word that it wants
@@ -111,13 +111,13 @@ allows_by a sound place k at_stage value is answer allows =
 -- the words of a passing are code words
 word_within : (program : Program) (thread threads k : ℕ) (at_stage : Stage) → k < length program.sleds → thread ≤ threads
     → IsCodeWord program threads (word_at program thread k at_stage)
-word_within program thread threads k stages.Release within no_more = omega arith
-word_within program thread threads k stages.Head within no_more = omega arith
-word_within program thread threads k stages.Id within no_more = omega arith
-word_within program thread threads k stages.Opcode within no_more = omega arith
-word_within program thread threads k stages.Offset within no_more = omega arith
-word_within program thread threads k stages.Handler within no_more = omega arith
-word_within program thread threads k stages.State within no_more = omega arith
+word_within program thread threads k stages.Release within no_more = inl (omega arith)
+word_within program thread threads k stages.Head within no_more = inl (omega arith)
+word_within program thread threads k stages.Id within no_more = inl (omega arith)
+word_within program thread threads k stages.Opcode within no_more = inl (omega arith)
+word_within program thread threads k stages.Offset within no_more = inl (omega arith)
+word_within program thread threads k stages.Handler within no_more = inl (omega arith)
+word_within program thread threads k stages.State within no_more = inl (omega arith)
 
 loadable : (a : Inside) → IsSound a → (stand : Stand) → StandsSo a stand
     → IsLoadable (traced a) (want_at a.steps.now a.thread a.machine.passings stand)

@@ -14,7 +14,7 @@ two_sleds =
     ∷ record { address = 4114; function = 4096; id = 1; kind = Exit; always = true; shift = 512 } ∷ []
 
 example : Program
-example = record { base = 4096; entry = 4096; code = []; functions = []; units = []; sleds = two_sleds; trampolines = record { entry = 0x201000; exit = 0x201010; tail = 0x201020 } }
+example = record { base = 4096; entry = 4096; code = []; functions = []; units = []; sleds = two_sleds; trampolines = record { entry = 0x201000; exit = 0x201010; tail = 0x201020; args = 0x201030 } }
 
 load : ℕ → ℕ → Load
 load word value = record { word = word; value = value }

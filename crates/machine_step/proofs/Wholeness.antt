@@ -252,12 +252,12 @@ IsPartAllowed program load =
     (k : ℕ) (sled : Sled) (part : Part) → slice_get program.sleds k ≡ Some sled → load.word ≡ word_of k part
     → IsAllowedPart program.trampolines sled part load.value
 
-parts_allowed : (program : Program) (thread : ℕ) (loads : List Load) → All (λ load. IsAllowed program thread load.word load.value) loads
+parts_allowed : (program : Program) (threads thread : ℕ) (loads : List Load) → All (λ load. IsAllowed program threads thread load.word load.value) loads
     → Each (IsPartAllowed program) loads
-parts_allowed program thread [] allowed = tt
-parts_allowed program thread (load ∷ loads) allowed =
-    let P : Load → Type 0 = λ l. IsAllowed program thread l.word l.value in
-    ((All-head P load loads allowed).part, parts_allowed program thread loads (All-tail P load loads allowed))
+parts_allowed program threads thread [] allowed = tt
+parts_allowed program threads thread (load ∷ loads) allowed =
+    let P : Load → Type 0 = λ l. IsAllowed program threads thread l.word l.value in
+    ((All-head P load loads allowed).part, parts_allowed program threads thread loads (All-tail P load loads allowed))
 
 -- what is in a list is in a longer one
 one_more : (loads : List Load) (load : Load) (k : ℕ) (part : Part) (value : ℕ) → Loaded loads k part value → Loaded (load ∷ loads) k part value
@@ -371,25 +371,25 @@ own_from program Is thread hold number (j ∷ sleds) loads fit each n k own at_n
     (λ more rest others m at_m own_m. own_from program Is thread hold (number + 1) sleds more rest others m k own at_m own_m)
     (from_start program thread (is_held_at hold number) j loads) refl n at_n cut
 
-whole_from : (program : Program) (thread : ℕ) (hold : Option ℕ) (sleds : List ℕ) (loads : List Load)
-    → Fit (next_load program thread hold sleds) loads → All (λ load. IsAllowed program thread load.word load.value) loads
+whole_from : (program : Program) (threads thread : ℕ) (hold : Option ℕ) (sleds : List ℕ) (loads : List Load)
+    → Fit (next_load program thread hold sleds) loads → All (λ load. IsAllowed program threads thread load.word load.value) loads
     → AreWhole program thread hold sleds loads
-whole_from program thread hold sleds loads fit allowed n k sled own at_n at_k cut =
-    let its = own_from program (IsPartAllowed program) thread hold 0 sleds loads fit (parts_allowed program thread loads allowed) n k own at_n cut in
+whole_from program threads thread hold sleds loads fit allowed n k sled own at_n at_k cut =
+    let its = own_from program (IsPartAllowed program) thread hold 0 sleds loads fit (parts_allowed program threads thread loads allowed) n k own at_n cut in
     whole_of program k sled at_k its.0 its.1
 
-pub all_whole : (program : Program) (thread : ℕ) (hold : Option ℕ) (sleds : List ℕ) (loads : List Load) → AreWanted program thread hold sleds loads
-    → All (λ load. IsAllowed program thread load.word load.value) loads → AreWhole program thread hold sleds loads
-all_whole program thread hold sleds loads wanted allowed =
-    whole_from program thread hold sleds loads (fit_from (next_load program thread hold sleds) loads wanted) allowed
+pub all_whole : (program : Program) (threads thread : ℕ) (hold : Option ℕ) (sleds : List ℕ) (loads : List Load) → AreWanted program thread hold sleds loads
+    → All (λ load. IsAllowed program threads thread load.word load.value) loads → AreWhole program thread hold sleds loads
+all_whole program threads thread hold sleds loads wanted allowed =
+    whole_from program threads thread hold sleds loads (fit_from (next_load program thread hold sleds) loads wanted) allowed
 
-pub follows_whole : (program : Program) (code : ℕ → ℕ → ℕ) (start : ℕ) (bound : ℕ → ℕ) (thread : ℕ) → KeepsSleds program thread code
+pub follows_whole : (program : Program) (threads : ℕ) (code : ℕ → ℕ → ℕ) (start : ℕ) (bound : ℕ → ℕ) (thread : ℕ) → KeepsSleds program threads thread code
     → (hold : Option ℕ) (sleds : List ℕ) (loads : List Load) (place : ℕ)
     → Follows program code start bound thread hold sleds loads place → AreWhole program thread hold sleds loads
-follows_whole program code start bound thread keeps hold sleds loads place follows =
-    whole_from program thread hold sleds loads
+follows_whole program threads code start bound thread keeps hold sleds loads place follows =
+    whole_from program threads thread hold sleds loads
     (fit_along program code (next_load program thread hold sleds) start loads place (follows_fits program code start bound thread hold sleds follows))
-    (loads_allowed program code start bound thread keeps hold sleds follows)
+    (loads_allowed program threads code start bound thread keeps hold sleds follows)
 
 -- each load, of which nothing is asked
 no_facts : (loads : List Load) → Each (λ load. Unit {0}) loads

@@ -88,9 +88,9 @@ part_below k n part below = omega (arith, (its_number part).0, below)
 
 -- ---- what is allowed at a stage is what is allowed for its word
 
-part_allowed : (program : Program) (thread k value : ℕ) (sled : Sled) (part : Part) → slice_get program.sleds k ≡ Some sled
-    → IsAllowedPart program.trampolines sled part value → IsAllowed program thread (word_of k part) value
-part_allowed program thread k value sled part found allowed =
+part_allowed : (program : Program) (threads thread k value : ℕ) (sled : Sled) (part : Part) → slice_get program.sleds k ≡ Some sled
+    → IsAllowedPart program.trampolines sled part value → IsAllowed program threads thread (word_of k part) value
+part_allowed program threads thread k value sled part found allowed =
     let within = slice_get_within program.sleds k sled found in
     let below = part_below k (length program.sleds) part within in
     record {
@@ -102,6 +102,7 @@ part_allowed program thread k value sled part found allowed =
       handler = λ same. absurd (omega arith);
       state = λ same. absurd (omega arith);
       release = λ some same. absurd (omega arith);
+      arg_handler = λ same. absurd (omega arith);
     }
   where
     some_is : (a b : Sled) → Some a ≡ Some b → a ≡ b
@@ -113,37 +114,40 @@ no_part program word value above k sled part found same =
     let within = slice_get_within program.sleds k sled found in
     let below = part_below k (length program.sleds) part within in absurd (omega arith)
 
-pub allowed_at : (program : Program) (thread k value : ℕ) (sled : Sled) (stage : Stage) → 0 < thread → slice_get program.sleds k ≡ Some sled
-    → AllowsAt program.trampolines sled stage value → IsAllowed program thread (word_at program thread k stage) value
-allowed_at program thread k value sled stages.Release some found allowed = record {
+pub allowed_at : (program : Program) (threads thread k value : ℕ) (sled : Sled) (stage : Stage) → 0 < thread → slice_get program.sleds k ≡ Some sled
+    → AllowsAt program.trampolines sled stage value → IsAllowed program threads thread (word_at program thread k stage) value
+allowed_at program threads thread k value sled stages.Release some found allowed = record {
   part = no_part program (release_word program thread) value (omega arith);
   handler = λ same. absurd (omega arith);
   state = λ same. absurd (omega arith);
   release = λ some same. allowed;
+  arg_handler = λ same. allowed;
 }
-allowed_at program thread k value sled stages.Head some found allowed = part_allowed program thread k value sled parts.Head found allowed
-allowed_at program thread k value sled stages.Id some found allowed = part_allowed program thread k value sled parts.Id found allowed
-allowed_at program thread k value sled stages.Opcode some found allowed = part_allowed program thread k value sled parts.Opcode found allowed
-allowed_at program thread k value sled stages.Offset some found allowed = part_allowed program thread k value sled parts.Offset found allowed
-allowed_at program thread k value sled stages.Handler some found allowed = record {
+allowed_at program threads thread k value sled stages.Head some found allowed = part_allowed program threads thread k value sled parts.Head found allowed
+allowed_at program threads thread k value sled stages.Id some found allowed = part_allowed program threads thread k value sled parts.Id found allowed
+allowed_at program threads thread k value sled stages.Opcode some found allowed = part_allowed program threads thread k value sled parts.Opcode found allowed
+allowed_at program threads thread k value sled stages.Offset some found allowed = part_allowed program threads thread k value sled parts.Offset found allowed
+allowed_at program threads thread k value sled stages.Handler some found allowed = record {
   part = no_part program (handler_word program) value (omega arith);
   handler = λ same. allowed;
   state = λ same. absurd (omega arith);
   release = λ some same. absurd (omega arith);
+  arg_handler = λ same. absurd (omega arith);
 }
-allowed_at program thread k value sled stages.State some found allowed = record {
+allowed_at program threads thread k value sled stages.State some found allowed = record {
   part = no_part program (state_word program) value (omega arith);
   handler = λ same. absurd (omega arith);
   state = λ same. allowed;
   release = λ some same. absurd (omega arith);
+  arg_handler = λ same. absurd (omega arith);
 }
 
-pub allows_at : (program : Program) (thread k value : ℕ) (sled : Sled) (stage : Stage) → 0 < thread → slice_get program.sleds k ≡ Some sled
-    → IsAllowed program thread (word_at program thread k stage) value → AllowsAt program.trampolines sled stage value
-allows_at program thread k value sled stages.Release some found allowed = allowed.release some refl
-allows_at program thread k value sled stages.Head some found allowed = allowed.part k sled parts.Head found refl
-allows_at program thread k value sled stages.Id some found allowed = allowed.part k sled parts.Id found refl
-allows_at program thread k value sled stages.Opcode some found allowed = allowed.part k sled parts.Opcode found refl
-allows_at program thread k value sled stages.Offset some found allowed = allowed.part k sled parts.Offset found refl
-allows_at program thread k value sled stages.Handler some found allowed = allowed.handler refl
-allows_at program thread k value sled stages.State some found allowed = allowed.state refl
+pub allows_at : (program : Program) (threads thread k value : ℕ) (sled : Sled) (stage : Stage) → 0 < thread → slice_get program.sleds k ≡ Some sled
+    → IsAllowed program threads thread (word_at program thread k stage) value → AllowsAt program.trampolines sled stage value
+allows_at program threads thread k value sled stages.Release some found allowed = allowed.release some refl
+allows_at program threads thread k value sled stages.Head some found allowed = allowed.part k sled parts.Head found refl
+allows_at program threads thread k value sled stages.Id some found allowed = allowed.part k sled parts.Id found refl
+allows_at program threads thread k value sled stages.Opcode some found allowed = allowed.part k sled parts.Opcode found refl
+allows_at program threads thread k value sled stages.Offset some found allowed = allowed.part k sled parts.Offset found refl
+allows_at program threads thread k value sled stages.Handler some found allowed = allowed.handler refl
+allows_at program threads thread k value sled stages.State some found allowed = allowed.state refl

@@ -15,6 +15,7 @@ abbrev pub event_kind : SledKind → Kind
 event_kind sleds.Entry = events.Entry
 event_kind sleds.Exit = events.Exit
 event_kind sleds.Tail = events.TailExit
+event_kind sleds.Args = events.Entry
 
 -- the event of a passing
 abbrev pub event_of : Passing → Event

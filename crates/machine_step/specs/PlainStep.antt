@@ -106,6 +106,7 @@ fuelled limits s next = if s.instructions == limits.fuel then Ends ends.Fuel s e
 abbrev pub after_passing : Limits → State → SledKind → Next
 after_passing limits s kinds.Entry = Goes (record s { address = s.address + 11 })
 after_passing limits s kinds.Tail = Goes (record s { address = s.address + 11 })
+after_passing limits s kinds.Args = Goes (record s { address = s.address + 11 })
 after_passing limits s kinds.Exit = fuelled limits s (returns s s.stack)
 
 -- a passing of a sled, with the stamp of its event

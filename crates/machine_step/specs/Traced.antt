@@ -151,14 +151,14 @@ pub record HasLoaded (t : Traced) (passed : List Passing) (loads : List Load) : 
   pub last : State
   pub run : PlainRun t.program t.limits t.thread passed end last
   pub wanted : AreWanted t.program t.thread t.hold (sleds_passed passed) loads
-  pub allowed : All (λ load. IsAllowed t.program t.thread load.word load.value) loads
+  pub allowed : All (λ load. IsAllowed t.program t.threads t.thread load.word load.value) loads
   pub marks : t.marks ≡ marks_of t.program t.thread t.hold (sleds_passed passed) loads
   pub wants : IsWant t passed (wanted_after t passed loads) end t.want
 
 -- a value may be given to a thread: it wants a word, and the value is allowed there
 abbrev pub Allows : Traced → Want → ℕ → Type 0
 Allows t (Gate passing) value = ⊥
-Allows t (Loads word) value = IsAllowed t.program t.thread word value
+Allows t (Loads word) value = IsAllowed t.program t.threads t.thread word value
 Allows t (Done end) value = ⊥
 
 -- the load of this value, of the word that is wanted

@@ -33,7 +33,7 @@ fn is_unpatched_head(kind: SledKind, value: u64) -> bool
     ensures { IsTrue result ↔ IsUnpatchedHead kind value }
 {
     match kind {
-        SledKind::Entry | SledKind::Tail => value == JUMP_HEAD,
+        SledKind::Entry | SledKind::Tail | SledKind::Args => value == JUMP_HEAD,
         SledKind::Exit => value <= u64::from(u16::MAX) && value % 256 == u64::from(RET),
     }
 }

@@ -55,17 +55,17 @@ pub fn what_follows_is_allowed()
         (sleds : List ℕ) (loads : List Load) (place : ℕ)
         → Follows program code start bound thread hold sleds loads place
         → AreWanted program thread hold sleds loads }
-    ensures loaded { (program : Program) (code : ℕ → ℕ → ℕ) (start : ℕ) (bound : ℕ → ℕ) (thread : ℕ) (hold : Option ℕ)
-        (sleds : List ℕ) (loads : List Load) (place : ℕ) → KeepsSleds program thread code
+    ensures loaded { (program : Program) (threads : ℕ) (code : ℕ → ℕ → ℕ) (start : ℕ) (bound : ℕ → ℕ)
+        (thread : ℕ) (hold : Option ℕ) (sleds : List ℕ) (loads : List Load) (place : ℕ) → KeepsSleds program threads thread code
         → Follows program code start bound thread hold sleds loads place
-        → All (λ load. IsAllowed program thread load.word load.value) loads }
-    ensures next { (program : Program) (code : ℕ → ℕ → ℕ) (start : ℕ) (bound : ℕ → ℕ) (thread : ℕ) (hold : Option ℕ)
-        (sleds : List ℕ) (loads : List Load) (place word : ℕ) → KeepsSleds program thread code
+        → All (λ load. IsAllowed program threads thread load.word load.value) loads }
+    ensures next { (program : Program) (threads : ℕ) (code : ℕ → ℕ → ℕ) (start : ℕ) (bound : ℕ → ℕ)
+        (thread : ℕ) (hold : Option ℕ) (sleds : List ℕ) (loads : List Load) (place word : ℕ) → KeepsSleds program threads thread code
         → Follows program code start bound thread hold sleds loads place
         → next_load program thread hold sleds loads ≡ Some word
-        → IsAllowed program thread word (code place word) }
-    ensures whole { (program : Program) (code : ℕ → ℕ → ℕ) (start : ℕ) (bound : ℕ → ℕ) (thread : ℕ) (hold : Option ℕ)
-        (sleds : List ℕ) (loads : List Load) (place : ℕ) → KeepsSleds program thread code
+        → IsAllowed program threads thread word (code place word) }
+    ensures whole { (program : Program) (threads : ℕ) (code : ℕ → ℕ → ℕ) (start : ℕ) (bound : ℕ → ℕ)
+        (thread : ℕ) (hold : Option ℕ) (sleds : List ℕ) (loads : List Load) (place : ℕ) → KeepsSleds program threads thread code
         → Follows program code start bound thread hold sleds loads place
         → AreWhole program thread hold sleds loads }
 {}
@@ -74,9 +74,9 @@ pub fn what_follows_is_allowed()
 /// sled is torn. Each passing that has its mark decodes its sled whole, wherever the values come
 /// from.
 pub fn allowed_loads_are_whole()
-    ensures { (program : Program) (thread : ℕ) (hold : Option ℕ) (sleds : List ℕ) (loads : List Load)
+    ensures { (program : Program) (threads thread : ℕ) (hold : Option ℕ) (sleds : List ℕ) (loads : List Load)
         → AreWanted program thread hold sleds loads
-        → All (λ load. IsAllowed program thread load.word load.value) loads
+        → All (λ load. IsAllowed program threads thread load.word load.value) loads
         → AreWhole program thread hold sleds loads }
 {}
 

@@ -86,7 +86,7 @@ fn event_kind(kind: SledKind) -> Kind
     ensures { result ≡ event_kind kind }
 {
     match kind {
-        SledKind::Entry => Kind::Entry,
+        SledKind::Entry | SledKind::Args => Kind::Entry,
         SledKind::Exit => Kind::Exit,
         SledKind::Tail => Kind::TailExit,
     }
