@@ -1,3 +1,4 @@
 pub mod Records
+pub mod Arguments
 pub mod Refusals
 pub mod Reading
