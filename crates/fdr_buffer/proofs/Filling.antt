@@ -9,7 +9,7 @@ use Rattle.std.proofs.lemmas.List.Elements.{All-from_recursion, All-push}
 use Rattle.xray_io.specs.declared.wall.Wall.{Wall}
 use Rattle.fdr_record.specs.declared.event.Event.{Event}
 use Rattle.fdr_record.specs.Records.{record_bytes}
-use Rattle.fdr_record.specs.Arguments.{ArgFits}
+use Rattle.fdr_record.specs.Recordable.{ArgFits}
 use Rattle.fdr_buffer.specs.declared.buffer.TheConstants.{LEAST_SIZE, LARGEST_SIZE}
 use Rattle.fdr_buffer.specs.declared.buffer.Buffer.TheInside.{Inside}
 use Rattle.fdr_buffer.specs.Segments.{bytes_of, is_out_of_reach, records_of, records_after, segment_bytes, preamble, body, has_room, EventFits}

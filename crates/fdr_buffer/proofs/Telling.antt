@@ -11,7 +11,7 @@ use Rattle.fdr_record.specs.declared.event.Kind.TheVariants.{Entry, Exit, TailEx
 use Rattle.fdr_record.specs.declared.event.Event.{Event}
 use Rattle.fdr_record.specs.declared.rec.Rec.TheVariants.{NewCpu, TscWrap, CallArg, Function}
 use Rattle.fdr_record.specs.Records.{action_of, head_of, record_bytes}
-use Rattle.fdr_record.specs.Arguments.{ArgFits}
+use Rattle.fdr_record.specs.Recordable.{ArgFits}
 use Rattle.fdr_buffer.specs.Segments.{arg_records, function_records, is_out_of_reach, records_on_new_cpu, records_on_same_cpu, records_of, records_after, bytes_of, segment_bytes, EventFits}
 use Rattle.fdr_buffer.specs.private.Telling.{kind_told, bytes_left, event_first, events_after, events_in}
 

@@ -8,7 +8,7 @@ use Rattle.fdr_record.specs.declared.event.Kind.TheVariants.{Entry, Exit, TailEx
 use Rattle.fdr_record.specs.declared.rec.Rec.{Rec}
 use Rattle.fdr_record.specs.declared.rec.Rec.TheVariants.{NewBuffer, NewCpu, TscWrap, WallTime, Pid, CallArg, Function}
 use Rattle.fdr_record.specs.Records.{record_bytes}
-use Rattle.fdr_record.specs.Arguments.{ArgFits}
+use Rattle.fdr_record.specs.Recordable.{ArgFits}
 
 -- the function record of an event
 abbrev pub function_record : Event → ℕ → Rec

@@ -4,7 +4,7 @@ ghost use Rattle.std.specs.Prelude.{◌≡◌, ◌<◌, ◌≤◌, ◌^◌, [], 
 ghost use Rattle.fdr_buffer.specs.{Segments.{has_room}, Filled.{Filled, empty_buffer, used_bytes}};
 ghost use Rattle.fdr_buffer.specs.private.Buffer.{filled_in, IsFilled};
 ghost use Rattle.fdr_buffer.specs.Fits.{BufferFits};
-ghost use Rattle.fdr_record.specs.Arguments.{ArgFits};
+ghost use Rattle.fdr_record.specs.Recordable.{IsRecordable};
 
 use crate::lead::Lead;
 use crate::writing::{put_event, put_preamble};
@@ -115,8 +115,7 @@ impl Buffer {
     pub fn put(&mut self, event: &Event)
         requires begun { IsTrue self.old.begun }
         requires room { IsTrue (has_room self.old.size (self.old.events ++ event.now ∷ [])) }
-        requires id { event.now.func < 2 ^ 28 }
-        requires arg { ArgFits event.now.kind event.now.arg }
+        requires recordable { IsRecordable event.now }
         ensures { self.new ≡ record self.old { events = self.old.events ++ event.now ∷ [] } }
     {
         let lead = Lead::of(self.last, event);

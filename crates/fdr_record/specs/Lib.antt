@@ -1,4 +1,4 @@
 pub mod Records
-pub mod Arguments
+pub mod Recordable
 pub mod Refusals
 pub mod Reading
