@@ -1,5 +1,5 @@
 -- The bytes of a segment say its events.
-use Rattle.std.proofs.Common.{◌≡◌, ℕ, ◌+◌, ◌-◌, ◌*◌, ◌/◌, ◌%◌, ◌^◌, ◌<◌, ◌≤◌, false, List, [], ◌∷◌, ◌++◌, Option, Some, None, refl, sym, ap, ◌∙◌, arith, inl, inr, eq-eqb, lit<, All}
+use Rattle.std.proofs.Common.{◌≡◌, ℕ, ◌+◌, ◌-◌, ◌*◌, ◌/◌, ◌%◌, ◌^◌, ◌<◌, ◌≤◌, false, List, [], ◌∷◌, ◌++◌, get_or, Option, Some, None, refl, sym, ap, ◌∙◌, arith, inl, inr, eq-eqb, lit<, All}
 use Rattle.std.proofs.lemmas.Bool.{cases_Bool}
 use Rattle.std.proofs.lemmas.Bool.Decides.{eqb_tells, nat_tests}
 use Rattle.std.proofs.lemmas.List.Concat.{flat_map-append}
@@ -38,15 +38,19 @@ event_with : (cpu func tsc x arg : ℕ) (kind : Kind) (events : List Event) → 
     → record { cpu = cpu; func = func; kind = kind; tsc = tsc; arg = x } ∷ events ≡ record { cpu = cpu; func = func; kind = kind; tsc = tsc; arg = arg } ∷ events
 event_with cpu func tsc x arg kind events is = rw is refl
 
+-- the bytes of a function record after the first one, and those behind it
+abbrev after_first : (ℕ → ℕ) → List ℕ → List ℕ
+after_first byte following = byte 1 ∷ byte 2 ∷ byte 3 ∷ byte 4 ∷ byte 5 ∷ byte 6 ∷ byte 7 ∷ following
+
 -- the event of a function record, of which the first byte was read, and of the argument that follows it
-event_read : (kind : Kind) (cpu func tsc arg a b c d e f g : ℕ) (rest : List ℕ) → arg < 2 ^ 64 → ArgFits kind arg
-    → (let following = bytes_of (arg_records kind arg) ++ rest in event_first cpu func tsc (Some kind) following (events_after (bytes_left (Some kind)) cpu tsc (a ∷ b ∷ c ∷ d ∷ e ∷ f ∷ g ∷ following)))
+event_read : (kind : Kind) (cpu func tsc arg : ℕ) (byte : ℕ → ℕ) (rest : List ℕ) → arg < 2 ^ 64 → ArgFits kind arg
+    → (let following = bytes_of (arg_records kind arg) ++ rest in event_first cpu func tsc (Some kind) following (events_after (bytes_left (Some kind)) cpu tsc (after_first byte following)))
     ≡ record { cpu = cpu; func = func; kind = kind; tsc = tsc; arg = arg } ∷ events_after 0 cpu tsc rest
 unfolding events_after
-event_read Entry cpu func tsc arg a b c d e f g rest lt none = event_with cpu func tsc 0 arg Entry _ (sym none)
-event_read Exit cpu func tsc arg a b c d e f g rest lt none = event_with cpu func tsc 0 arg Exit _ (sym none)
-event_read TailExit cpu func tsc arg a b c d e f g rest lt none = event_with cpu func tsc 0 arg TailExit _ (sym none)
-event_read EntryArgs cpu func tsc arg a b c d e f g rest lt any = event_with cpu func tsc _ arg EntryArgs _ (little_number-reads_back 8 arg [] lt)
+event_read Entry cpu func tsc arg byte rest lt none = event_with cpu func tsc 0 arg Entry _ (sym none)
+event_read Exit cpu func tsc arg byte rest lt none = event_with cpu func tsc 0 arg Exit _ (sym none)
+event_read TailExit cpu func tsc arg byte rest lt none = event_with cpu func tsc 0 arg TailExit _ (sym none)
+event_read EntryArgs cpu func tsc arg byte rest lt any = event_with cpu func tsc _ arg EntryArgs _ (little_number-reads_back 8 arg [] lt)
 
 action_small : (kind : Kind) → action_of kind < 8
 action_small Entry = omega arith
@@ -80,8 +84,10 @@ function_told cpu tsc func delta arg kind rest fits lt arg_fits logged =
     let small = action_small kind in
     let even = eq-eqb (head_of kind func % 256 % 2) 0 (head_even (action_of kind) func) in
     let head = little_number-reads_back 4 (head_of kind func) [] (head_fits (action_of kind) func small fits) in
-    rw even (event_made cpu tsc _ func _ delta _ kind (bytes_of (arg_records kind arg) ++ rest) _ (ap (λ (n : ℕ). n / 16) head ∙ head_func (action_of kind) func small) (ap kind_told (action_back (action_of kind) func small) ∙ kind_back kind) (little_number-reads_back 4 delta [] lt)
-    ∙ event_read kind cpu func (tsc + delta) arg _ _ _ _ _ _ _ rest arg_fits logged)
+    let byte : ℕ → ℕ = λ i. get_or (record_bytes (Function kind func delta)) i 0 in
+    let following = bytes_of (arg_records kind arg) ++ rest in
+    rw even (event_made cpu tsc _ func _ delta _ kind following (after_first byte following) (ap (λ (n : ℕ). n / 16) head ∙ head_func (action_of kind) func small) (ap kind_told (action_back (action_of kind) func small) ∙ kind_back kind) (little_number-reads_back 4 delta [] lt)
+    ∙ event_read kind cpu func (tsc + delta) arg byte rest arg_fits logged)
 
 -- an event by its parts
 event_is : (event : Event) (cpu tsc : ℕ) (rest : List ℕ) → cpu ≡ event.cpu → tsc ≡ event.tsc

@@ -41,7 +41,12 @@ impl Lead {
         ensures tsc { event.now.tsc < 2 ^ 64 }
         ensures arg { event.now.arg < 2 ^ 64 }
     {
-        let Event { cpu, tsc, .. } = *event;
+        let Event {
+            cpu,
+            tsc,
+            arg: _arg,
+            ..
+        } = *event;
         let Some(before) = before else {
             return Lead::Cpu;
         };
