@@ -17,12 +17,13 @@ use Rattle.fdr_file.specs.declared.trace.Block.{Block}
 use Rattle.fdr_file.specs.declared.trace.Trace.{Trace}
 use Rattle.fdr_file.specs.declared.version.Version.{Version}
 use Rattle.fdr_file.specs.Places.{starts}
-use Rattle.fdr_file.specs.Scanning.{last_longer, longer_block, empty_block, scanned_from, scanned_over, stage_judged, with_told}
+use Rattle.fdr_file.specs.Scanning.{empty_block, header_on, last_longer, longer_block, scanned_from, scanned_over, stage_judged, with_told}
 use Rattle.fdr_file.specs.ThreadEvents.{ThreadEvent, block_events, event_given, thread_events}
 use Rattle.fdr_file.specs.Traces.{record_in, record_length, trace_of}
-use Rattle.fdr_file.specs.private.Cursor.{cursor_header, cursor_passed, cursor_told, event_said, events_among, events_left, told_over}
-use Rattle.fdr_file.specs.private.Reading.{header_on}
-use Rattle.fdr_file.specs.private.Scan.{CanTell, HasLast, IsOpen}
+use Rattle.fdr_file.specs.EventsLeft.{cursor_header, events_among, events_left, told_over}
+use Rattle.fdr_file.specs.private.Cursor.{cursor_passed, cursor_told, event_said}
+use Rattle.fdr_file.specs.Streams.{HasLast, IsOpen}
+use Rattle.fdr_file.specs.private.Scan.{CanTell}
 use Rattle.fdr_file.proofs.Agreeing.{given_reads, run_agrees}
 use Rattle.fdr_file.proofs.Following.{headed, leads, refused_ends, unheaded}
 use Rattle.fdr_file.proofs.Steps.{at_stage, longer_last}

@@ -28,9 +28,9 @@ use Rattle.fdr_file.specs.declared.fault.TraceFault.{TraceFault}
 use Rattle.fdr_file.specs.declared.fault.TraceFault.TheVariants as faults
 use Rattle.fdr_file.specs.Events.{counter_at, cpu_of, deltas_since, events_after, whole_counter}
 use Rattle.fdr_file.specs.Traces.{PreambleItem, block_starts, extents_in, header_in, may_be, names_cpu, needs_cpu, preamble_bytes, preamble_of, record_in, records_among, Standing, block_in, block_of, block_standings, pid_named, block_length, record_length, standings, thread_named, wall_named}
-use Rattle.fdr_file.specs.Scanning.{step_on, version_read}
+use Rattle.fdr_file.specs.Scanning.{header_on, step_on, version_read}
 use Rattle.fdr_file.specs.private.Faults.{by_places, blocks_faults, decided, record_faults, standing_faults, block_faults, told_by, unless}
-use Rattle.fdr_file.specs.private.Reading.{Left, blocks_read, body_on, end_named, end_on, events_on, header_on, left_at, named_on, pid_on, preamble_on, read_first, record_on}
+use Rattle.fdr_file.specs.private.Reading.{Left, blocks_read, body_on, end_named, end_on, events_on, left_at, named_on, pid_on, preamble_on, read_first, record_on}
 
 -- ---- the extents
 

@@ -28,9 +28,9 @@ use Rattle.fdr_file.specs.declared.trace.Block.{Block}
 use Rattle.fdr_file.specs.declared.version.Version.{Version}
 use Rattle.fdr_file.specs.declared.version.Version.TheVariants.{Three}
 use Rattle.fdr_file.specs.Traces.{header_in, pid_named, preamble_bytes, record_in, record_length, size_named, thread_named, trace_of, wall_named}
-use Rattle.fdr_file.specs.private.Reading.{header_on}
-use Rattle.fdr_file.specs.private.Scan.{Advances, CanTell, HasLast, IsBegun, IsOpen, ReadsHeader, ReadsNothing, ReadsOn, Scans, ScansBy, answered_by, header_longer, header_taken, last_stage, record_advanced, record_longer, record_passed, stage_answers}
-use Rattle.fdr_file.specs.Scanning.{Scanned, after_wall, blocks_given, empty_block, inside_next, last_longer, longer_block, record_within, scan_start, scanned, scanned_ends, scanned_from, scanned_next, scanned_on, stage_after, stage_ends, stage_judged, stage_within, step_on, told_event, version_read, with_blocks, with_told}
+use Rattle.fdr_file.specs.Streams.{HasLast, IsBegun, IsOpen, ReadsHeader, ReadsNothing, ReadsOn, Scans, ScansBy}
+use Rattle.fdr_file.specs.private.Scan.{Advances, CanTell, answered_by, header_longer, header_taken, last_stage, record_advanced, record_longer, record_passed, stage_answers}
+use Rattle.fdr_file.specs.Scanning.{after_wall, blocks_given, empty_block, header_on, inside_next, last_longer, longer_block, record_within, scan_start, Scanned, scanned, scanned_ends, scanned_from, scanned_next, scanned_on, stage_after, stage_ends, stage_judged, stage_within, step_on, told_event, version_read, with_blocks, with_told}
 use Rattle.fdr_file.proofs.Agreeing.{run_agrees}
 use Rattle.fdr_file.proofs.Deciding.{versioned}
 use Rattle.fdr_file.proofs.PartFaults.{never_memory}

@@ -22,7 +22,7 @@ use Rattle.fdr_file.specs.declared.trace.Trace.{Trace}
 use Rattle.fdr_file.specs.declared.version.Version.{Version}
 use Rattle.fdr_file.specs.declared.version.Version.TheVariants.{Three}
 use Rattle.fdr_file.specs.Places.{starts}
-use Rattle.fdr_file.specs.Traces.{fault_at, header_rows, pid_named, preamble_bytes, record_in, record_length, size_named, thread_named, wall_named}
+use Rattle.fdr_file.specs.Traces.{fault_at, header_in, header_rows, pid_named, preamble_bytes, record_in, record_length, size_named, thread_named, wall_named}
 
 -- ---- blocks that grow
 
@@ -155,6 +155,10 @@ scan_start = record { stage = Due; blocks = [] }
 -- the version of a file, or the fault of its header
 abbrev pub version_read : List ℕ → Result Version TraceFault
 version_read bytes = header_rows bytes λ version. Ok version
+
+-- the version and the header of a file, or the fault of its header
+abbrev pub header_on : List ℕ → Result (Version × Header) TraceFault
+header_on bytes = header_rows bytes λ version. Ok (version, header_in bytes)
 
 -- what a file has after its header, or the fault of the header
 abbrev pub scanned_from : Result Version TraceFault → List ℕ → Scanned

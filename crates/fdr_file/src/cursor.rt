@@ -1,14 +1,17 @@
 //! The events of a trace, one after the other, from its bytes.
 
-ghost use Rattle.std.specs.Prelude.{◌≡◌, ◌<◌, [], ◌∷◌, Ok, MatchOption, length, drop};
+ghost use Rattle.std.specs.Prelude.{◌≡◌, ◌<◌, [], ◌∷◌, Ok, IfSome, MatchOption, length, drop};
 ghost use Rattle.fdr_file.specs.declared.trace.Trace.{Trace};
 ghost use Rattle.fdr_file.specs.ThreadEvents.{event_given, thread_events};
+ghost use Rattle.fdr_file.specs.Scanning.{told_event};
 ghost use Rattle.fdr_file.specs.Traces.{trace_of};
-ghost use Rattle.fdr_file.specs.private.Cursor.{cursor_header, cursor_passed, event_said, events_left};
+ghost use Rattle.fdr_file.specs.EventsLeft.{cursor_header, events_left};
+ghost use Rattle.fdr_file.specs.private.Cursor.{cursor_passed, event_said};
 
+use crate::events::take_step;
 use crate::header::{HEADER_BYTES, read_header};
-use crate::scan::{record_len, record_of};
-use crate::stage::{Stage, Told, judge};
+use crate::records::{record_len, record_of};
+use crate::stage::{Inside, Stage, Told, judge, stage_at, within_events};
 use crate::{Header, Version};
 use fdr_record::Event;
 
@@ -81,8 +84,45 @@ impl<'a> EventCursor<'a> {
         None
     }
 
+    /// The stage after the next record, the place after it, and the event that it says, if it is a
+    /// whole record among the events of a block.
+    fn step(&self) -> Option<(Stage, usize, Option<Event>)>
+        requires { self.now.at < length self.now.bytes.now }
+        ensures passes { IfSome result (λ x. (record self.now { at = x.1; stage = x.0 }, told_event x.2)
+            ≡ cursor_passed self.now (drop self.now.at self.now.bytes.now)) }
+        ensures further { IfSome result (λ x. self.now.at < x.1) }
+    {
+        let Some((span, base)) = within_events(self.stage) else {
+            return None;
+        };
+        let Some((told, event, next)) = take_step(self.bytes, self.at, self.at as u64, base) else {
+            return None;
+        };
+        let end = next as u128;
+        if end > span.end {
+            return None;
+        }
+        let inside = Inside::Events { base: Some(told) };
+        Some((stage_at(span, end, inside), next, event))
+    }
+
     /// Goes past a record. Returns the event that it says, if it says one.
     fn pass(&mut self) -> Option<Event>
+        requires { self.old.at < length self.old.bytes.now }
+        ensures passes { let passed = cursor_passed self.old (drop self.old.at self.old.bytes.now) in
+            (self.new ≡ passed.0) × (result ≡ event_said passed.1) }
+        ensures further { self.old.at < self.new.at }
+    {
+        let Some((stage, next, event)) = self.step() else {
+            return self.pass_any();
+        };
+        self.stage = stage;
+        self.at = next;
+        event
+    }
+
+    /// The same, for any record.
+    fn pass_any(&mut self) -> Option<Event>
         requires { self.old.at < length self.old.bytes.now }
         ensures passes { let passed = cursor_passed self.old (drop self.old.at self.old.bytes.now) in
             (self.new ≡ passed.0) × (result ≡ event_said passed.1) }

@@ -1,12 +1,12 @@
 //! The events of a block.
 
-ghost use Rattle.std.specs.Prelude.{◌≡◌, ◌≤◌, length, None};
-ghost use Rattle.fdr_file.specs.private.Reading.{Gives, events_on, left_at};
+ghost use Rattle.std.specs.Prelude.{◌≡◌, ◌≤◌, ◌<◌, ◌+◌, length, drop, None, Ok, IfSome};
+ghost use Rattle.fdr_file.specs.private.Reading.{Gives, events_on};
+ghost use Rattle.fdr_file.specs.private.Scan.{event_on};
 ghost use Rattle.fdr_file.specs.Scanning.{step_on};
-ghost use Rattle.fdr_file.specs.Traces.{standings};
-ghost use Rattle.std.specs.Prelude.{drop};
+ghost use Rattle.fdr_file.specs.Traces.{record_length, standings};
 
-use crate::records::record_at;
+use crate::records::{record_at, taken_at};
 use crate::{Events, TraceFault};
 use fdr_record::{Event, Rec};
 use std::alloc::Global;
@@ -47,6 +47,29 @@ pub(crate) fn step(
             Err(TraceFault::Order(at))
         }
     }
+}
+
+/// The record at a place of a block's bytes, after a record with a CPU and a counter: the CPU and the
+/// counter after it, the event that it says, and the place after it. `None` if it isn't whole, or may
+/// not stand there. `place` is its place in the file.
+pub(crate) fn take_step(
+    bytes: &[u8],
+    at: usize,
+    place: u64,
+    base: Base,
+) -> Option<(Base, Option<Event>, usize)>
+    requires { at ≤ length bytes.now }
+    ensures says { IfSome result (λ x. event_on place base (drop at bytes.now) ≡ Ok (x.0, x.1)) }
+    ensures next { IfSome result (λ x. (x.2 ≡ at + record_length (drop at bytes.now))
+        × (at < x.2) × (x.2 ≤ length bytes.now)) }
+{
+    let Ok((rec, next)) = taken_at(bytes, at) else {
+        return None;
+    };
+    let Ok((told, event)) = step(place, rec, Some(base)) else {
+        return None;
+    };
+    Some((told, event, next))
 }
 
 /// The events of the records from this place on, to the end of the block's bytes.

@@ -1,6 +1,6 @@
 //! Reading a trace record by record: where the reading stands.
 
-ghost use Rattle.std.specs.Prelude.{◌≡◌, ◌+◌};
+ghost use Rattle.std.specs.Prelude.{◌≡◌, ◌+◌, Some, IfSome};
 ghost use Rattle.fdr_file.specs.Scanning.{after_wall, extents_next, inside_judged, inside_next, record_within, stage_after, stage_judged, stage_within, told_event};
 
 use crate::events::{Base, step};
@@ -49,6 +49,20 @@ pub(crate) enum Told {
     Begun { thread: u32, wall: Wall, pid: u32 },
     /// The last block has one more event.
     Noted { event: Event },
+}
+
+/// The place of the block, and the CPU and the counter, if a record among the events of a block is
+/// next, and a CPU was named before.
+pub(crate) fn within_events(stage: Stage) -> Option<(Span, Base)>
+    ensures { IfSome result (λ x. stage ≡ Stage.Within x.0 (Inside.Events (Some x.1))) }
+{
+    let Stage::Within { span, inside } = stage else {
+        return None;
+    };
+    let Inside::Events { base: Some(base) } = inside else {
+        return None;
+    };
+    Some((span, base))
 }
 
 /// The stage after the record that a block begins with.
@@ -103,7 +117,7 @@ fn past_wall(version: Version, thread: u32, wall: Wall) -> (Inside, Told)
 }
 
 /// What an event says of the blocks.
-fn noted(event: Option<Event>) -> Told
+pub(crate) fn noted(event: Option<Event>) -> Told
     ensures { result ≡ told_event event }
 {
     match event {
@@ -160,7 +174,18 @@ fn judge_within(
     go_on(version, inside, at, rec)
 }
 
-/// The stage after a record within a block.
+/// The stage after a record of a block that ends at this place.
+pub(crate) fn stage_at(span: Span, at: u128, inside: Inside) -> Stage
+    ensures { result ≡ stage_after span at inside }
+{
+    if at == span.end {
+        Stage::Due
+    } else {
+        Stage::Within { span, inside }
+    }
+}
+
+/// The stage after a record within a block, and what it says.
 fn after(
     span: Span,
     at: u64,
@@ -171,11 +196,8 @@ fn after(
 {
     match judged {
         Ok((inside, told)) => {
-            if u128::from(at) + len as u128 == span.end {
-                (Stage::Due, told)
-            } else {
-                (Stage::Within { span, inside }, told)
-            }
+            let next = u128::from(at) + len as u128;
+            (stage_at(span, next, inside), told)
         }
         Err(fault) => (Stage::Faulty { span, fault }, Told::Nothing),
     }

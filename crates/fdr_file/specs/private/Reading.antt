@@ -16,7 +16,7 @@ use Rattle.fdr_file.specs.declared.trace.Trace.{Trace}
 use Rattle.fdr_file.specs.declared.version.Version.{Version}
 use Rattle.fdr_file.specs.declared.version.Version.TheVariants.{Three}
 use Rattle.fdr_file.specs.Scanning.{step_on}
-use Rattle.fdr_file.specs.Traces.{Standing, block_in, fault_at, header_in, header_rows, preamble_bytes, record_in, record_length, pid_named, size_named, standings, thread_named, wall_named}
+use Rattle.fdr_file.specs.Traces.{Standing, block_in, fault_at, preamble_bytes, record_in, record_length, pid_named, size_named, standings, thread_named, wall_named}
 use Rattle.fdr_file.specs.private.Faults.{block_faults, decided}
 
 -- what a function answered, as a view of it, is what reading gives
@@ -116,10 +116,6 @@ body_on version left = do
   Ok (record { thread = preamble.0; wall = preamble.1; pid = preamble.2; events = events })
 
 -- ---- a file
-
--- the version and the header of a file
-abbrev pub header_on : List ℕ → Result (Version × Header) TraceFault
-header_on bytes = header_rows bytes λ version. Ok (version, header_in bytes)
 
 -- the trace of these blocks, and of those that begin at places after them
 abbrev pub blocks_read : Version → Header → List Block → List Left → Result Trace TraceFault

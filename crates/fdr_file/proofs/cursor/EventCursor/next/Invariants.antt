@@ -1,5 +1,5 @@
 use Rattle.std.proofs.Common.{◌≡◌, ◌-◌, length}
-use Rattle.fdr_file.specs.private.Cursor.{cursor_header, events_left}
+use Rattle.fdr_file.specs.EventsLeft.{cursor_header, events_left}
 use Rattle.fdr_file.proofs.cursor.EventCursor.next.Given as goal
 
 -- no event has come so far
