@@ -3,17 +3,18 @@
 ghost use Rattle.std.specs.Prelude.{◌≡◌, ◌≢◌, ◌≤◌, ◌<◌, ◌+◌, ◌^◌, ℕ, [], ◌∷◌, ◌++◌, List, Err, length, take, IfOk, OnOk, OnErr, IfSome};
 ghost use Rattle.xray_io.specs.Faults.{Rose};
 ghost use Rattle.fdr_file.specs.declared.trace.Block.{Block};
-ghost use Rattle.fdr_file.specs.Scanning.{blocks_given, header_on, with_blocks, with_told};
+ghost use Rattle.fdr_file.specs.Scanning.{blocks_given, header_on, with_blocks, with_event, with_told};
 ghost use Rattle.fdr_file.specs.Traces.{record_length, trace_of};
-ghost use Rattle.fdr_file.specs.Streams.{Scans};
+ghost use Rattle.fdr_file.specs.Streams.{HasLast, Scans};
 ghost use Rattle.fdr_file.specs.private.Scan.{Advances, CanTell, EventsNext, answered_by, header_longer, header_taken, last_stage, record_advanced, record_longer, record_passed, stage_answers};
 
 use crate::events::{Base, take_step};
 use crate::header::{HEADER_BYTES, read_header};
 use crate::prefix::Prefix;
 use crate::records::{record_len, record_of};
-use crate::stage::{Inside, Span, Stage, Told, judge, noted, stage_at, within_events};
+use crate::stage::{Inside, Span, Stage, Told, end_among, judge, stage_at, within_events};
 use crate::{Header, Taker, TraceFault, Version};
+use fdr_record::Event;
 use xray_io::NoMemory;
 
 /// What is known of the header.
@@ -51,6 +52,20 @@ fn len_within(span: Span, at: u64, len: usize) -> usize
     }
 }
 
+/// Gives a taker an event, if there is one.
+fn note<K: Taker>(taker: &mut K, event: Option<Event>) -> Result<(), NoMemory>
+    requires { (blocks : List Block) × K.took taker.old blocks × HasLast blocks }
+    ensures took { OnOk result ((blocks : List Block) → K.took taker.old blocks
+        → HasLast blocks → K.took taker.new (with_event event blocks)) }
+    ensures refused { OnErr result (Rose (K.refusals taker.old) (K.refusals taker.new)) }
+    ensures later { K.refusals taker.old ≤ K.refusals taker.new }
+{
+    match event {
+        Some(event) => taker.event(&event),
+        None => Ok(()),
+    }
+}
+
 /// Tells a taker what a record says.
 fn tell<K: Taker>(taker: &mut K, told: Told) -> Result<(), NoMemory>
     requires { (blocks : List Block) × K.took taker.old blocks × CanTell told blocks }
@@ -62,7 +77,10 @@ fn tell<K: Taker>(taker: &mut K, told: Told) -> Result<(), NoMemory>
     match told {
         Told::Nothing => Ok(()),
         Told::Begun { thread, wall, pid } => taker.block(thread, wall, pid),
-        Told::Noted { event } => taker.event(&event),
+        Told::Noted { entry, event } => {
+            note(taker, entry)?;
+            note(taker, event)
+        }
     }
 }
 
@@ -226,14 +244,16 @@ impl TraceScan {
     {
         let mut base = start;
         let mut from = 0;
-        'events: while let Some((told, event, next)) = take_step(
+        let end = end_among(span, self.at, bytes);
+        'events: while let Some(((known, entry, event), next)) = take_step(
             bytes,
             from,
             self.at + from as u64,
+            end,
             base,
         ) {
-            tell(taker, noted(event))?;
-            base = told;
+            tell(taker, Told::Noted { entry, event })?;
+            base = known;
             from = next;
         }
         self.at += from as u64;

@@ -7,17 +7,19 @@ use Rattle.fdr_file.specs.declared.stage.Told.TheVariants.{Nothing, Begun, Noted
 use Rattle.fdr_file.specs.Scanning.{stage_judged}
 use Rattle.fdr_file.specs.Traces.{record_in, record_length}
 
--- the event that is said
+-- the first event that is said
 abbrev pub event_said : Told → Option Event
 event_said Nothing = None
 event_said (Begun thread wall pid) = None
-event_said (Noted event) = Some event
+event_said (Noted None event) = event
+event_said (Noted (Some entry) event) = Some entry
 
--- the thread and process after this
+-- the thread and process after this, and the event that comes after the first
 abbrev pub cursor_told : EventCursor → Told → EventCursor
 cursor_told cursor Nothing = cursor
 cursor_told cursor (Begun thread wall pid) = record cursor { thread = thread; pid = pid }
-cursor_told cursor (Noted event) = cursor
+cursor_told cursor (Noted None event) = cursor
+cursor_told cursor (Noted (Some entry) event) = record cursor { pending = event }
 
 -- after the record that bytes begin with, and what it says
 abbrev pub cursor_passed : EventCursor → List ℕ → EventCursor × Told

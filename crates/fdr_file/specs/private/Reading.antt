@@ -1,5 +1,5 @@
 -- Reading a trace from its first byte to its last, for the contracts of the reader's private functions.
-use Rattle.std.specs.Prelude.{◌≡◌, ◌⊎◌, ◌≤◌, ◌<◌, ℕ, ◌+◌, List, [], ◌∷◌, ◌++◌, length, drop, map, Option, Some, None, Result, Ok, Err, option_to_list, nat_lt, if◌then◌else◌}
+use Rattle.std.specs.Prelude.{◌≡◌, ◌⊎◌, ◌≤◌, ◌<◌, ℕ, ◌+◌, List, [], ◌∷◌, ◌++◌, length, drop, map, Option, Some, None, Result, Ok, Err, option_to_list, Bool, true, false, nat_lt, if◌then◌else◌}
 use Rattle.std.specs.List.{flat_map}
 use Rattle.xray_io.specs.Rows.{◌>>=◌}
 use Rattle.xray_io.specs.declared.wall.Wall.{Wall}
@@ -77,13 +77,18 @@ preamble_on version left = do
 
 -- ---- events
 
+-- no record is left
+abbrev pub is_end : List Standing → Bool
+is_end [] = true
+is_end (first ∷ following) = false
+
 -- the events of what comes after a CPU and counter
 unfoldable pub events_on : Option Base → List Standing → Result (List Event) TraceFault
 events_on base [] = Ok []
 events_on base ((at, Ok r) ∷ following) = do
-  step ← step_on at r base
+  step ← step_on (is_end following) at r base
   events ← events_on (Some step.0) following
-  Ok (option_to_list step.1 ++ events)
+  Ok ((option_to_list step.1 ++ option_to_list step.2) ++ events)
 events_on base ((at, Err fault) ∷ following) = Err (fault_at at fault)
 
 -- these events, and those that are read after them

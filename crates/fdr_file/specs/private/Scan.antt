@@ -1,5 +1,5 @@
 -- A scan, from one call to the next: what each function does to its fields.
-use Rattle.std.specs.Prelude.{◌≡◌, ⊤, ℕ, ◌+◌, ◌==◌, ◌&&◌, List, [], ◌∷◌, ◌++◌, length, slice_index, Option, Some, Result, Ok, Err, nat_lt, nat_le, if◌then◌else◌}
+use Rattle.std.specs.Prelude.{◌≡◌, ⊤, ℕ, ◌+◌, ◌==◌, ◌&&◌, Bool, List, [], ◌∷◌, ◌++◌, length, slice_index, Option, Some, Result, Ok, Err, nat_lt, nat_le, if◌then◌else◌}
 use Rattle.xray_io.specs.Rows.{◌>>=◌}
 use Rattle.fdr_record.specs.declared.event.Event.{Event}
 use Rattle.fdr_file.specs.declared.events.Base.{Base}
@@ -25,7 +25,7 @@ use Rattle.fdr_file.specs.Streams.{HasLast, Scans}
 abbrev pub CanTell : Told → List Block → Type 0
 CanTell Nothing blocks = ⊤
 CanTell (Begun thread wall pid) blocks = ⊤
-CanTell (Noted event) blocks = HasLast blocks
+CanTell (Noted entry event) blocks = HasLast blocks
 
 -- after the header
 abbrev pub header_taken : TraceScan → Result (Version × Header) TraceFault → TraceScan
@@ -74,9 +74,9 @@ pub record EventsNext (scan : TraceScan) (span : Span) (base : Base) : Type 0 wh
   pub stage : scan.stage ≡ Within span (insides.Events (Some base))
   pub none : scan.prefix ≡ []
 
--- the CPU and counter after the record that bytes begin with, and the event that it says
-abbrev pub event_on : ℕ → Base → List ℕ → Result (Base × Option Event) TraceFault
-event_on at base bytes = record_or at (record_in bytes) >>= λ r. step_on at r (Some base)
+-- what is known after the record that bytes begin with, and the events that it settles; it may end its block
+abbrev pub event_on : Bool → ℕ → Base → List ℕ → Result (Base × Option Event × Option Event) TraceFault
+event_on ends at base bytes = record_or at (record_in bytes) >>= λ r. step_on ends at r (Some base)
 
 -- after a record of a block's events that ends at this place, with this CPU and counter
 abbrev pub among_events : TraceScan → Span → ℕ → Base → TraceScan
