@@ -40,8 +40,8 @@ ends_as_plain bytes t own passed loads end last accepted loaded done stands run 
       output = ap (λ (s : State). s.output) same.lasts;
       instructions = ap (λ (s : State). s.instructions) same.lasts;
       passings = ap (λ (s : State). s.passings) same.lasts;
-      wanted = subst (λ (ps : List Passing). AreWanted t.program t.thread t.hold (sleds_passed ps) loads) alike.passings loaded.wanted;
+      wanted = subst (λ (ps : List Passing). AreWanted t.program t.threads t.thread t.hold (sleds_passed ps) loads) alike.passings loaded.wanted;
       each = sym ends.count ∙ ap length same.passings;
-      marks = loaded.marks ∙ ap (λ (ps : List Passing). marks_of t.program t.thread t.hold (sleds_passed ps) loads) alike.passings;
-      whole = subst (λ (ps : List Passing). AreWhole t.program t.thread t.hold (sleds_passed ps) loads) alike.passings whole;
+      marks = loaded.marks ∙ ap (λ (ps : List Passing). marks_of t.program t.threads t.thread t.hold (sleds_passed ps) loads) alike.passings;
+      whole = subst (λ (ps : List Passing). AreWhole t.program t.threads t.thread t.hold (sleds_passed ps) loads) alike.passings whole;
     }

@@ -19,22 +19,28 @@ FLIGHT_DATA_RECORDER = 1
 CONSTANT, NONSTOP = 1, 2
 
 # The actions of function records.
-ENTRY, EXIT, TAIL_EXIT = range(3)
+ENTRY, EXIT, TAIL_EXIT, ENTRY_ARGS = range(4)
 # The kinds of metadata records.
-NEW_BUFFER, NEW_CPU, TSC_WRAP, WALL_TIME, EXTENTS, PID = 0, 2, 3, 4, 7, 9
+NEW_BUFFER, NEW_CPU, TSC_WRAP, WALL_TIME, CALL_ARGUMENT, EXTENTS, PID = 0, 2, 3, 4, 6, 7, 9
 FUNCTION = "function"
 # The fields of each kind, from the record's second byte on.
-FIELDS = {NEW_BUFFER: "<I", NEW_CPU: "<HQ", TSC_WRAP: "<Q", WALL_TIME: "<QI", EXTENTS: "<Q", PID: "<I"}
+FIELDS = {
+    NEW_BUFFER: "<I", NEW_CPU: "<HQ", TSC_WRAP: "<Q", WALL_TIME: "<QI", CALL_ARGUMENT: "<Q", EXTENTS: "<Q", PID: "<I",
+}  # fmt: skip
 
 
 @dataclasses.dataclass(frozen=True)
 class Event:
-    """What a passing records: the CPU, the function's id, the action, and the cycle counter."""
+    """What a passing records: the CPU, the function's id, the action, the cycle counter, and an argument.
+
+    The argument is 0 if the action isn't an entry with one.
+    """
 
     cpu: int
     function: int
     action: int
     tsc: int
+    argument: int = 0
 
 
 @dataclasses.dataclass(frozen=True)
@@ -77,7 +83,9 @@ def metadata(kind, *fields):
 
 
 def function_record(event, delta):
-    return struct.pack("<II", event.function << 4 | event.action << 1, delta)
+    """The function record of an event, with the record of its argument if its action has one."""
+    record = struct.pack("<II", event.function << 4 | event.action << 1, delta)
+    return record + metadata(CALL_ARGUMENT, event.argument) if event.action == ENTRY_ARGS else record
 
 
 def event_bytes(event, before):
@@ -197,7 +205,7 @@ class Reader:
         if first % 2 == 0:
             word, delta = struct.unpack_from("<II", self.content, self.at)
             action = word >> 1 & 7
-            if action > TAIL_EXIT:
+            if action > ENTRY_ARGS:
                 raise Refused("Bad", self.at, "Action", action)
             return FUNCTION, (word >> 4, action, delta)
         kind = first >> 1
@@ -255,8 +263,8 @@ def records_to(reader, end):
             raise Refused("Extents", reader.at)
         kind, fields = reader.record()
         number = len(records)
-        due = [(NEW_BUFFER,), (WALL_TIME,), (PID,)][number] if number < 3 else (NEW_CPU, TSC_WRAP, FUNCTION)
-        if kind not in due:
+        due = [(NEW_BUFFER,), (WALL_TIME,), (PID,)][number] if number < 3 else (NEW_CPU, TSC_WRAP, CALL_ARGUMENT, FUNCTION)
+        if kind not in due or kind == CALL_ARGUMENT and not takes_argument(records[-1]):
             raise Refused("Order", reader.at)
         if kind in (TSC_WRAP, FUNCTION) and not has_base:
             raise Refused("NoBase", reader.at)
@@ -266,10 +274,25 @@ def records_to(reader, end):
     return records
 
 
+def takes_argument(record):
+    """Whether an argument may follow a record directly: a function record that has one, or another argument."""
+    kind, fields = record
+    return kind == CALL_ARGUMENT or kind == FUNCTION and fields[1] == ENTRY_ARGS
+
+
 def events_in(records):
-    """The events of a block: each counter is the last whole one plus all deltas after it, in 64 bits."""
+    """The events of a block: each counter is the last whole one plus all deltas after it, in 64 bits.
+
+    Of several arguments the first one counts. Without one it is 0.
+    """
     events = []
+    before = None
     for kind, fields in records:
+        last, before = before, kind
+        if kind == CALL_ARGUMENT:
+            if last == FUNCTION:
+                events[-1] = dataclasses.replace(events[-1], argument=fields[0])
+            continue
         if kind == NEW_CPU:
             cpu, tsc = fields
         elif kind == TSC_WRAP:
