@@ -9,7 +9,7 @@ use Rattle.subset_decode.specs.declared.instr.Instr.TheVariants.{Mov, Call, Jmp}
 use Rattle.subset_decode.specs.Encoding.{IsEncodable, spelling}
 use Rattle.xray_image.specs.declared.sled.Sled.{Sled}
 use Rattle.xray_image.specs.declared.sled.SledKind.{SledKind}
-use Rattle.xray_image.specs.declared.sled.SledKind.TheVariants.{Entry, Exit, Tail}
+use Rattle.xray_image.specs.declared.sled.SledKind.TheVariants.{Entry, Exit, Tail, Args}
 use Rattle.xray_image.specs.declared.unit.Unit.{Unit}
 use Rattle.xray_image.specs.declared.unit.What.{What}
 use Rattle.xray_image.specs.declared.unit.What.TheVariants as whats
@@ -62,6 +62,12 @@ module _ (bytes : List ℕ) (program : Program) (a : IsAccepted bytes program) (
     step = jumps (ap (loaded_bytes Head) is ∙ jump_bytes);
   }
   unpatched_passes Tail r s head loaded is = record {
+    r10 = r;
+    bytes = loaded_bytes Head head;
+    fetched = head_alone head loaded;
+    step = jumps (ap (loaded_bytes Head) is ∙ jump_bytes);
+  }
+  unpatched_passes Args r s head loaded is = record {
     r10 = r;
     bytes = loaded_bytes Head head;
     fetched = head_alone head loaded;
@@ -121,6 +127,12 @@ module _ (bytes : List ℕ) (program : Program) (a : IsAccepted bytes program) (
       step = called (ap patched_opcode is);
     }
     patched_passes Tail is found = record {
+      r10 = sled.id;
+      bytes = patched_bytes (patched_opcode sled.kind);
+      fetched = all_fetched found;
+      step = called (ap patched_opcode is);
+    }
+    patched_passes Args is found = record {
       r10 = sled.id;
       bytes = patched_bytes (patched_opcode sled.kind);
       fetched = all_fetched found;
