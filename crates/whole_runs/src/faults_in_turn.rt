@@ -54,7 +54,7 @@ const COMMANDS: [Command; 10] = [
         outputs: &[],
     },
     Command {
-        words: "sim i s c t a --wall 0 --threads 2 --buffer-size 72 --buffer-max 3",
+        words: "sim i s c t a --wall 0 --threads 2 --buffer-size 88 --buffer-max 3 --cpus 2 --migrate 1",
         inputs: &[I, S, ("c", &[b"t 2 1\np 1\n"])],
         outputs: &["t", "a"],
     },
