@@ -19,7 +19,7 @@ use Rattle.machine_step.specs.Loads.{Load, Marked, Reading, Wants, from_handler,
 use Rattle.machine_step.specs.PlainStep.{Passing}
 use Rattle.traced_run.proofs.RecordedEvents.{recorded_short}
 use Rattle.step_sim.specs.Recorded.{segments_at}
-use Rattle.step_sim.specs.Replay.{Cast, Moment, of_thread, thread_turn, wanted_by}
+use Rattle.step_sim.specs.Replay.{Cast, Moment, of_thread, thread_turn, wanted_by, thread_count}
 use Rattle.step_sim.proofs.ReplayAlong.{turn_with, turn_without}
 use Rattle.step_sim.proofs.TurnLemmas.{turn_own}
 
@@ -238,7 +238,7 @@ turn_segments cast passed size thread m = by_wanted (wanted_by cast thread m) re
     by_wanted None e = subst (λ (n : Moment). Turned (of_thread n.loads thread)) (sym (turn_without cast thread m e)) same
     by_wanted (Some word) e = elim (cases_lt (thread - 1) (length m.loads)) [
       | inl within ↦
-          subst Turned (sym (turn_own cast thread m word within e)) (grown (record { word = word; value = code_at cast.program cast.script m.place word }))
+          subst Turned (sym (turn_own cast thread m word within e)) (grown (record { word = word; value = code_at cast.program (thread_count cast) cast.script m.place word }))
       | inr past ↦
           subst Turned (sym (ap (λ (n : Moment). of_thread n.loads thread) (turn_with cast thread m word e)
           ∙ ap (λ (ls : List (List Load)). of_thread ls thread) (set_past m.loads (thread - 1) _ past))) same

@@ -125,7 +125,7 @@ pub record Begun (program : Program) (script : List Command) (setup : Setup) (p 
 
 pub begins_recording : (program : Program) (script : List Command) (setup : Setup) (p : Patcher) (ts : List Traced) (pool : Pool)
     → length ts ≡ setup.threads → AllHaveBegun program script setup.threads setup.limits ts → ((number : ℕ) → hold_of number script ≡ None)
-    → IsPatcherAt program script (start_of program script) p → vec_len p.words ≡ word_count program setup.threads
+    → IsPatcherAt program setup.threads script (start_of program setup.threads script) p → vec_len p.words ≡ word_count program setup.threads
     → (bytes : List ℕ) × IsAccepted bytes program → SmallIds
     → PoolHolds (stamp_of setup) setup.threads (λ _. []) (first_stock (setup.max - setup.threads)) pool
     → Begun program script setup p ts pool

@@ -15,7 +15,7 @@ use Rattle.machine_step.specs.Loads.{Load, Reading, Wants, Marked, from_state, f
 use Rattle.step_sim.specs.declared.turns.Turns.{Turns}
 use Rattle.step_sim.specs.declared.turns.Turns.TheVariants.{Thread, Patcher}
 use Rattle.step_sim.specs.Plays.{turns}
-use Rattle.step_sim.specs.Replay.{Cast, Moment, Replay, first_moment, marks_at, moment_rules, of_thread, patcher_turn, thread_turn, wanted_by}
+use Rattle.step_sim.specs.Replay.{Cast, Moment, Replay, first_moment, marks_at, moment_rules, of_thread, patcher_turn, thread_turn, wanted_by, thread_count}
 use Rattle.step_sim.specs.private.Turns.{line_turns, scheduled}
 use Rattle.step_sim.proofs.Bounds.{no_holds}
 use Rattle.step_sim.proofs.Plays.{Ends, all_run_out}
@@ -164,7 +164,7 @@ left_at cast thread m = left cast.program (of_thread cast.passings thread) (of_t
 turn_falls : (cast : Cast) (thread : ℕ) (m : Moment) (word : ℕ) → hold_of thread cast.script ≡ None → thread - 1 < length m.loads
     → wanted_by cast thread m ≡ Some word → left_at cast thread (thread_turn cast thread m) < left_at cast thread m
 turn_falls cast thread m word free within wants =
-    let load : Load = record { word = word; value = code_at cast.program cast.script m.place word } in
+    let load : Load = record { word = word; value = code_at cast.program (thread_count cast) cast.script m.place word } in
     let unheld = subst (λ (h : Option ℕ). next_load cast.program thread h (of_thread cast.passings thread) (of_thread m.loads thread) ≡ Some word) free wants in
     subst (λ (ls : List Load). left cast.program (of_thread cast.passings thread) ls < left_at cast thread m)
     (sym (turn_own cast thread m word within wants))

@@ -16,6 +16,10 @@ pub record Cast : Type 0 where
   pub script : List Command
   pub passings : List (List ℕ)
 
+-- how many threads there are
+abbrev pub thread_count : Cast → ℕ
+thread_count cast = length cast.passings
+
 -- where a replay is: how many micro steps were made, and the loads of each thread
 pub record Moment : Type 0 where
   pub place : ℕ
@@ -24,7 +28,7 @@ pub record Moment : Type 0 where
 -- at first: the micro steps before `go`, and no loads
 abbrev pub first_moment : Cast → Moment
 first_moment cast = record {
-  place = start_of cast.program cast.script;
+  place = start_of cast.program (thread_count cast) cast.script;
   loads = map (λ _. []) cast.passings;
 }
 
@@ -47,12 +51,15 @@ thread_turn cast thread moment = loaded (wanted_by cast thread moment)
     loaded (Some word) = record moment {
       loads = slice_set moment.loads (thread - 1)
           (of_thread moment.loads thread
-          ++ record { word = word; value = code_at cast.program cast.script moment.place word } ∷ []);
+          ++ record {
+            word = word;
+            value = code_at cast.program (thread_count cast) cast.script moment.place word;
+          } ∷ []);
     }
 
 -- The patcher's turn is a micro step. At the script's end it does nothing.
 abbrev pub patcher_turn : Cast → Moment → Moment
-patcher_turn cast moment = record moment { place = min (moment.place + 1) (total_of cast.program cast.script) }
+patcher_turn cast moment = record moment { place = min (moment.place + 1) (total_of cast.program (thread_count cast) cast.script) }
 
 -- what a replay plays with its moments
 abbrev pub moment_rules : Cast → Rules Moment
