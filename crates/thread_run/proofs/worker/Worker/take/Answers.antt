@@ -80,7 +80,7 @@ returns-clause-lacks g c =
         own = c.fetch-value.ensures.own;
         thread = same_in plan t c.give-event.new.self at.thread gave.thread;
         seat = ap (λ (x : WorkView). x.thread) fetched.view ∙ at.seat ∙ sym gave.thread.thread;
-        within = subst (λ (x : WorkView). x.seen ≤ total_of plan.program (commands_of plan.lines)) (sym fetched.view)
+        within = subst (λ (x : WorkView). x.seen ≤ total_of plan.program plan.threads (commands_of plan.lines)) (sym fetched.view)
             (found_within plan t v.seen c.args.word value fetched.place found);
         passed = at.passed;
         along = along_more plan t c.give-event.new.self v _ at.passed c.args.word value fetched.place at.thread at.along c.requires.wants found
