@@ -1,7 +1,7 @@
 //! Damaged traces and images, and prefixes of a trace: each is refused with the place of its first
 //! fault, by every command that reads it.
 use crate::runs::{IMAGE, assert_no_fault, assert_stopped, image_desk, run_line};
-use crate::trace_bytes::{BUFFERS_OF_72, FORMAT, ONE_CALL, file};
+use crate::trace_bytes::{BUFFERS_OF_88, FORMAT, ONE_CALL, file};
 use crate::traces::{LEFT, LEFT_BY_2, LEFT_F_BY_2};
 use std::alloc::Global;
 use std::process::Abort;
@@ -134,7 +134,7 @@ fn a_damaged_image_is_refused_at_its_first_fault(rt: HostRuntime) -> Result<(), 
 
 /// The file of three blocks, each with an exit.
 fn three_blocks(alloc: Global) -> Result<Vec<u8>, Fail> {
-    let mut bytes = file(alloc, &[FORMAT, BUFFERS_OF_72])?;
+    let mut bytes = file(alloc, &[FORMAT, BUFFERS_OF_88])?;
     for block in [LEFT, LEFT_F_BY_2, LEFT_BY_2] {
         bytes.extend_from_slice(&file(alloc, block)?)?;
     }

@@ -2,7 +2,7 @@
 use crate::checks::{check_same, check_same_at};
 use crate::runs::{assert_left, assert_stopped, run_line};
 use crate::trace_bytes::{
-    BUFFERS_OF_72, CPU_AT_1, CPU_AT_2, EXIT, EXIT_OF_2, EXTENTS_72, FORMAT, HEADER, PREAMBLE,
+    BUFFERS_OF_88, CPU_AT_1, CPU_AT_2, EXIT, EXIT_OF_2, EXTENTS_72, FORMAT, HEADER, PREAMBLE,
     PREAMBLE_OF_2, file,
 };
 use std::alloc::Global;
@@ -19,7 +19,7 @@ const REPORTS: [&str; 3] = ["account t", "stack t", "convert t"];
 /// A file of three blocks of an event, of the threads 1, 2 and 2: 296 bytes.
 const THREE_BLOCKS: [&[u8]; 14] = [
     FORMAT,
-    BUFFERS_OF_72,
+    BUFFERS_OF_88,
     EXTENTS_72,
     PREAMBLE,
     CPU_AT_2,
