@@ -5,6 +5,8 @@
 #[cfg(test)]
 mod account;
 #[cfg(test)]
+mod args;
+#[cfg(test)]
 mod asm;
 #[cfg(test)]
 mod bad_lines;
