@@ -1,7 +1,9 @@
 //! `sim` of functions that log their first argument: what either handler does, changed between two loads of a passing,
 //! and the records of arguments.
 use crate::asm::{ARGUMENT, ODD_EXIT_END};
-use crate::runs::{assert_held, assert_left, assert_made, assert_no_fault, desk_of, run_line, text_of_end};
+use crate::runs::{
+    assert_held, assert_left, assert_made, assert_no_fault, desk_of, run_line, text_of_end,
+};
 use crate::sim::SIM;
 use crate::trace_bytes::{CPU, ENTRY, EXTENTS_80, EXTENTS_96, HEADER, PREAMBLE, file};
 use std::process::Abort;
@@ -14,30 +16,74 @@ use std::thread::Threads;
 /// argument handler was found, and last the log's state.
 const MARKS: [(&str, &str, &str); 18] = [
     // The argument handler is removed before its word is loaded, and after that.
-    ("patch\nset_handler\nset_arg_handler\ninit\ngo\nremove_arg_handler", "t 1 4\np 1", "+2"),
-    ("patch\nset_handler\nset_arg_handler\ninit\ngo\nremove_arg_handler", "t 1 5\np 1", "a1 +1"),
+    (
+        "patch\nset_handler\nset_arg_handler\ninit\ngo\nremove_arg_handler",
+        "t 1 4\np 1",
+        "+2",
+    ),
+    (
+        "patch\nset_handler\nset_arg_handler\ninit\ngo\nremove_arg_handler",
+        "t 1 5\np 1",
+        "a1 +1",
+    ),
     // It is set before its word is loaded, and after that, with a handler and without.
-    ("patch\nset_handler\ninit\ngo\nset_arg_handler", "t 1 4\np 1", "a1 +1"),
-    ("patch\nset_handler\ninit\ngo\nset_arg_handler", "t 1 5\np 1", "+2"),
+    (
+        "patch\nset_handler\ninit\ngo\nset_arg_handler",
+        "t 1 4\np 1",
+        "a1 +1",
+    ),
+    (
+        "patch\nset_handler\ninit\ngo\nset_arg_handler",
+        "t 1 5\np 1",
+        "+2",
+    ),
     ("patch\ninit\ngo\nset_arg_handler", "t 1 5\np 1", "n2"),
     // Both are set, and the handler is removed in the middle: an argument handler that was found needs no other.
-    ("patch\nset_handler\nset_arg_handler\ninit\ngo\nremove_handler", "t 1 5\np 1", "a1 n1"),
+    (
+        "patch\nset_handler\nset_arg_handler\ninit\ngo\nremove_handler",
+        "t 1 5\np 1",
+        "a1 n1",
+    ),
     // No argument handler is found. The handler is removed before its word is loaded, and after that.
-    ("patch\nset_handler\ninit\ngo\nremove_handler", "t 1 5\np 1", "n2"),
-    ("patch\nset_handler\ninit\ngo\nremove_handler", "t 1 6\np 1", "+1 n1"),
+    (
+        "patch\nset_handler\ninit\ngo\nremove_handler",
+        "t 1 5\np 1",
+        "n2",
+    ),
+    (
+        "patch\nset_handler\ninit\ngo\nremove_handler",
+        "t 1 6\np 1",
+        "+1 n1",
+    ),
     // The handler takes the place of the argument handler, before the word of that is loaded, and after that.
-    ("patch\nset_arg_handler\ninit\ngo\nset_handler\nremove_arg_handler", "t 1 4\np 2", "+2"),
-    ("patch\nset_arg_handler\ninit\ngo\nset_handler\nremove_arg_handler", "t 1 5\np 2", "a1 +1"),
+    (
+        "patch\nset_arg_handler\ninit\ngo\nset_handler\nremove_arg_handler",
+        "t 1 4\np 2",
+        "+2",
+    ),
+    (
+        "patch\nset_arg_handler\ninit\ngo\nset_handler\nremove_arg_handler",
+        "t 1 5\np 2",
+        "a1 +1",
+    ),
     // The log doesn't record, with either handler.
     ("patch\nset_arg_handler\ngo", "", "f1 n1"),
     ("patch\nset_handler\ngo", "", "f2"),
-    ("patch\nset_handler\nset_arg_handler\ninit\ngo\nfinalize", "t 1 5\np 1", "f2"),
+    (
+        "patch\nset_handler\nset_arg_handler\ninit\ngo\nfinalize",
+        "t 1 5\np 1",
+        "f2",
+    ),
     ("patch\nset_handler\ninit\ngo\nfinalize", "t 1 6\np 2", "f2"),
     // The log begins to record after the argument handler was found.
     ("patch\nset_arg_handler\ngo\ninit", "t 1 5\np 1", "f1 n1"),
     ("patch\nset_arg_handler\ngo\ninit", "t 1 5\np 2", "a1 n1"),
     // The sleds are unpatched after the head was loaded, or patched except for the head.
-    ("patch\nset_arg_handler\ninit\ngo\nunpatch", "t 1 1\np 2", "a1 .1"),
+    (
+        "patch\nset_arg_handler\ninit\ngo\nunpatch",
+        "t 1 1\np 2",
+        "a1 .1",
+    ),
     ("set_arg_handler\ninit\ngo\npatch", "p 3\nt 1 1", ".2"),
 ];
 
@@ -57,11 +103,13 @@ fn either_handler_changes_between_two_loads_of_a_passing(rt: HostRuntime) -> Res
 }
 
 /// A function that logs its argument is called with 20 and with 7, and changes the register before it returns.
-const TWO_CALLS: &str = "base 0x1000\nentry main\nfn main never\nmov edi, 20\ncall f\nmov edi, 7\ncall f\nret\n\
+const TWO_CALLS: &str =
+    "base 0x1000\nentry main\nfn main never\nmov edi, 20\ncall f\nmov edi, 7\ncall f\nret\n\
     fn f args\nmov edi, 9\nret\n";
 
 /// One is called with 2^64 - 1.
-const LARGEST: &str = "base 0x1000\nentry main\nfn main never\nmov ecx, 1\nsub rdi, rcx\nsub rdi, rcx\ncall f\nret\n\
+const LARGEST: &str =
+    "base 0x1000\nentry main\nfn main never\nmov ecx, 1\nsub rdi, rcx\nsub rdi, rcx\ncall f\nret\n\
     fn f args\nret\n";
 
 /// Both handlers are set.
@@ -83,7 +131,14 @@ const BLOCKS: [(&str, &str, &[&[u8]]); 5] = [
     (
         ARGUMENT,
         BOTH,
-        &[EXTENTS_96, PREAMBLE, CPU, ENTRY_ARGS, NUMBER_1, EXIT_AFTER_1],
+        &[
+            EXTENTS_96,
+            PREAMBLE,
+            CPU,
+            ENTRY_ARGS,
+            NUMBER_1,
+            EXIT_AFTER_1,
+        ],
     ),
     (
         ARGUMENT,

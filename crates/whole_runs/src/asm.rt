@@ -19,7 +19,7 @@ pub const STRAIGHT_LINE: &str = "base 0x1000\nfn main always\nmov eax, 65\nout 1
 pub const ODD_EXIT: &str = "base 0x1000\nfn main always\nout 0\nret\n";
 
 /// The same text, with a function that logs its first argument.
-const ARGUMENT: &str = "base 0x1000\nfn main args\nout 0\nret\n";
+pub const ARGUMENT: &str = "base 0x1000\nfn main args\nout 0\nret\n";
 
 /// A call over an alignment byte.
 pub const CALL: &str = "base 0x1000\nfn main always\ncall f\nret\nfn f always\nret\n";
@@ -82,7 +82,7 @@ const FIBONACCI_CODE: &[u8] = &[
 const STRAIGHT_LINE_END: End = ("returned", 3, 2, MOVED, "41");
 
 /// How it ends in the image with an exit sled at an odd place.
-const ODD_EXIT_END: End = ("returned", 2, 2, STARTED, "00");
+pub const ODD_EXIT_END: End = ("returned", 2, 2, STARTED, "00");
 
 /// How it ends in the image of a call.
 pub const CALL_END: End = ("returned", 3, 4, STARTED, "-");

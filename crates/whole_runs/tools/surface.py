@@ -68,7 +68,7 @@ fn decode(bytes: &[u8], at: usize) -> Result<(Instr, usize), DecodeFault>
 
 crate xray_image
 struct Image
-enum SledKind { Entry, Exit, Tail }
+enum SledKind { Entry, Exit, Tail, Args }
 struct Sled { address: u64, function: u64, id: u32, kind: SledKind, always: bool, shift: u32 }
 enum What { Plain(Instr), Sled(u32), Pad }
 struct Unit { address: u64, what: What }
@@ -100,7 +100,7 @@ fn Script::waits(&self) -> Option<u32>
 
 crate handler_word
 struct Marks
-enum Mark { Skipped, NoHandler, NotLogging, Recorded }
+enum Mark { Skipped, NoHandler, NotLogging, Recorded, RecordedArg }
 fn Marks::new(room: u32) -> Result<Marks, NoMemory>; add(&mut self, mark: Mark); len(&self) -> u32; get(&self, n: u32) -> Mark; recorded(&self) -> u32
 fn write_runs(marks: &Marks, sink: &mut S) -> Result<(), WriteFault>
 
