@@ -201,7 +201,7 @@ def image_of(file):
     """The image in a file's bytes."""
     if len(file) < HEADER_LENGTH:
         raise Refused("Short")
-    magic, version, base, length, functions, sleds, entry, *trampolines, _ = struct.unpack_from("<4sIQIIII4Q", file)
+    magic, version, base, length, functions, sleds, entry, *trampolines = struct.unpack_from("<4sIQIIII4Q", file)
     if magic != b"XRIM":
         raise Refused("Magic")
     if version != 1:
@@ -268,7 +268,7 @@ def check_map(image):
     starts = [start for start, _ in image.functions]
     for number, (entry, sled) in enumerate(zip(image.entries, image.sleds)):
         function = starts[bisect.bisect_right(starts, entry.address) - 1]
-        kinds = (0, 2) if sled.name == "entry" else (1,)
+        kinds = (0, 2, 3) if sled.name == "entry" else (1,)
         if entry.function != function or entry.kind not in kinds or entry.version >= 2:
             raise Refused("Odd", number)
     for number, entry in enumerate(image.entries):
@@ -285,7 +285,7 @@ def check_targets(image):
 
 # ---- The sled map's text
 
-KINDS = ["function-enter", "function-exit", "tail-exit"]
+KINDS = ["function-enter", "function-exit", "tail-exit", "function-enter-arg"]
 
 
 def sled_map_text(image):
