@@ -68,7 +68,7 @@ fn decode(bytes: &[u8], at: usize) -> Result<(Instr, usize), DecodeFault>
 
 crate xray_image
 struct Image
-enum SledKind { Entry, Exit, Tail }
+enum SledKind { Entry, Exit, Tail, Args }
 struct Sled { address: u64, function: u64, id: u32, kind: SledKind, always: bool, shift: u32 }
 enum What { Plain(Instr), Sled(u32), Pad }
 struct Unit { address: u64, what: What }
