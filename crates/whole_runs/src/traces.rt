@@ -60,9 +60,10 @@ const USUAL: [(&str, &str); 12] = [
 /// A block with the entry of function 1 at counter 0.
 const ENTERED: &[&[u8]] = &[EXTENTS_72, PREAMBLE, CPU, ENTRY];
 
-/// One with its exit at counter 2, and the same of thread 2 on CPU 1.
+/// One with its exit at counter 2.
 pub const LEFT: &[&[u8]] = &[EXTENTS_72, PREAMBLE, CPU_AT_2, EXIT];
 
+/// The same of thread 2, on CPU 1.
 pub const LEFT_BY_2: &[&[u8]] = &[EXTENTS_72, PREAMBLE_OF_2, CPU_1_AT_2, EXIT];
 
 /// One with the entry of function 1, and the entry and the exit of function 2.
