@@ -51,7 +51,7 @@ impl Tally {
             self.durations.push(pair.duration)?;
         }
         match kind {
-            Kind::Entry => self.entries = one_more(self.entries)?,
+            Kind::Entry | Kind::EntryArgs => self.entries = one_more(self.entries)?,
             Kind::Exit | Kind::TailExit => self.exits = one_more(self.exits)?,
         }
         Ok(())

@@ -17,9 +17,9 @@ event_kind sleds.Exit = events.Exit
 event_kind sleds.Tail = events.TailExit
 event_kind sleds.Args = events.Entry
 
--- the event of a passing
+-- the event of a passing, without an argument
 abbrev pub event_of : Passing → Event
-event_of p = record { cpu = p.cpu; func = p.id; kind = event_kind p.kind; tsc = p.counter }
+event_of p = record { cpu = p.cpu; func = p.id; kind = event_kind p.kind; tsc = p.counter; arg = 0 }
 
 -- the events of passings with these marks: those of the passings that were recorded, in order
 abbrev pub recorded : List Passing → List Mark → List Event

@@ -13,7 +13,7 @@ use handler_word::Mark;
 use xray_image::{Image, SledKind};
 
 /// The event of the passing of a sled that a machine is about to make, if its mark says that it is
-/// recorded.
+/// recorded. It has no argument.
 #[inline]
 pub(crate) fn event_at(
     image: &Image,
@@ -39,6 +39,7 @@ pub(crate) fn event_at(
         func: sled.id,
         kind: event_kind(sled.kind),
         tsc: counter_at(machine.instructions, limits),
+        arg: 0,
     })
 }
 

@@ -4,6 +4,7 @@ use Rattle.std.specs.Prelude.{All, IfSome, slice_get}
 use Rattle.std.proofs.lemmas.Bool.{cases_eq}
 use Rattle.std.proofs.lemmas.List.{append-nil}
 use Rattle.fdr_record.specs.declared.event.Event.{Event}
+use Rattle.fdr_record.specs.Recordable.{IsRecordable}
 use Rattle.fdr_buffer.specs.Segments.{segments}
 use Rattle.machine_step.specs.Events.{events_in, recorded}
 use Rattle.patch_script.specs.Micros.{hold_of}
@@ -11,7 +12,7 @@ use Rattle.machine_step.specs.declared.end.End.{End}
 use Rattle.machine_step.specs.Loads.{Load, marks_of}
 use Rattle.machine_step.specs.PlainStep.{Passing, PlainRun, State}
 use Rattle.machine_step.specs.Traced.{HasLoaded, IsKept, IsSameThread, Traced, sleds_passed}
-use Rattle.traced_run.proofs.RecordedEvents.{event_small, recorded_short}
+use Rattle.traced_run.proofs.RecordedEvents.{event_recordable, recorded_short}
 use Rattle.step_sim.specs.declared.patcher.Patcher.{Patcher}
 use Rattle.step_sim.specs.declared.pool.Pool.{Pool}
 use Rattle.step_sim.specs.Plays.{turns}
@@ -138,7 +139,7 @@ GivesEvent mid new event =
 -- the pool can note the event
 pub can_note : (p : Patcher) (old mid new : Traced) (pool : Pool) (event : Option Event) (thread : ℕ) → Records p old pool
     → IsSameThread old mid → KeepsLoads old mid → GivesEvent mid new event → thread ≡ mid.thread → length mid.marks < 2 ^ 32
-    → IfSome event (λ e. CanNote pool thread × (e.func < 2 ^ 28))
+    → IfSome event (λ e. CanNote pool thread × IsRecordable e)
 can_note p old mid new pool None thread records same keeps gives number few = tt
 can_note p old mid new pool (Some event) thread (r, pooled, at) same keeps gives number few =
     let run = its_run r pooled p old mid pool at same in
@@ -158,7 +159,7 @@ can_note p old mid new pool (Some event) thread (r, pooled, at) same keeps gives
         omega (arith, here, at.stands.thread.last, at.threads_are),
         count,
       ),
-      event_small passed mid.marks new.marks event (its_small r pooled p old pool at) (gives passed run.0 run.1 run.2),
+      event_recordable passed mid.marks new.marks event (its_small r pooled p old pool at) (gives passed run.0 run.1 run.2),
     )
 
 -- the same thread, with the pool after its load

@@ -1,5 +1,5 @@
 -- What a run leaves in its buffers fits them.
-use Rattle.std.proofs.Common.{◌≡◌, ℕ, zero, suc, ◌+◌, ◌<◌, ◌≤◌, ◌^◌, List, [], ◌∷◌, ◌++◌, Some, refl, sym, subst, arith, length, drop}
+use Rattle.std.proofs.Common.{◌≡◌, ℕ, zero, suc, ◌+◌, ◌<◌, ◌≤◌, ◌^◌, List, [], ◌∷◌, ◌++◌, Some, refl, sym, subst, arith, length, drop, lit<}
 use Rattle.std.specs.Prelude.{All, IsTrue, slice_get}
 use Rattle.std.specs.List.{AllByRecursion, enumerate_from, flat_map}
 use Rattle.std.proofs.lemmas.List.Concat.{flat_map-cons}
@@ -20,12 +20,12 @@ use Rattle.traced_run.specs.Kept.{buffer_of, kept_buffers, segments_of, stamp_of
 use Rattle.traced_run.specs.Runs.{IsRun, ThreadRun, events_of}
 use Rattle.traced_run.proofs.FitPassings.{run_fits}
 use Rattle.traced_run.proofs.Oldest.{HoldAll}
-use Rattle.traced_run.proofs.RecordedEvents.{recorded_each}
+use Rattle.traced_run.proofs.RecordedEvents.{no_argument, recorded_each}
 
 -- ---- events
 
 events_fit : (passed : List Passing) (marks : List Mark) → All PassingFits passed → All EventFits (recorded passed marks)
-events_fit = recorded_each PassingFits EventFits (λ p fits. record { cpu = fits.cpu; func = fits.id; tsc = fits.counter })
+events_fit = recorded_each PassingFits EventFits (λ p fits. record { cpu = fits.cpu; func = fits.id; tsc = fits.counter; arg = lit< tt; logged = no_argument p.kind })
 
 -- ---- segments
 

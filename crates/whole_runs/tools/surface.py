@@ -48,9 +48,9 @@ fn Text::done(self) -> Result<(), WriteFault>
 
 crate fdr_record
 trait Recorder
-enum Kind { Entry, Exit, TailExit }
-struct Event { cpu: u16, func: u32, kind: Kind, tsc: u64 }
-enum Rec { NewBuffer { thread: u32 }, NewCpu { cpu: u16, tsc: u64 }, TscWrap { tsc: u64 }, WallTime { wall: Wall }, Pid { pid: u32 }, Extents { size: u64 }, Function { kind: Kind, func: u32, delta: u32 } }
+enum Kind { Entry, Exit, TailExit, EntryArgs }
+struct Event { cpu: u16, func: u32, kind: Kind, tsc: u64, arg: u64 }
+enum Rec { NewBuffer { thread: u32 }, NewCpu { cpu: u16, tsc: u64 }, TscWrap { tsc: u64 }, WallTime { wall: Wall }, Pid { pid: u32 }, CallArg { value: u64 }, Extents { size: u64 }, Function { kind: Kind, func: u32, delta: u32 } }
 enum RecFault { Short, Action(u8), Kind(u8) }
 fn rec_len(rec: &Rec) -> usize
 fn put_rec(rec: &Rec, buf: &mut [u8], at: usize) -> usize

@@ -81,7 +81,7 @@ RUN_OPTIONS = {
 # Without `--wall` the wall time is that of the run.
 TRACE_OPTIONS = {
     **RUN_OPTIONS,
-    "buffer-size": Numbers(72, 1_048_576, 16_384),
+    "buffer-size": Numbers(88, 1_048_576, 16_384),
     "buffer-max": Numbers(1, 1024, 100),
     "tick": Numbers(0, LARGEST_64, 1),
     "tsc": Numbers(0, LARGEST_64, 0),

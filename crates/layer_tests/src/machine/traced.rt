@@ -18,6 +18,7 @@ const ENTERED: Event = Event {
     func: 1,
     kind: Kind::Entry,
     tsc: 0,
+    arg: 0,
 };
 
 const LEFT: Event = Event {
@@ -25,6 +26,7 @@ const LEFT: Event = Event {
     func: 1,
     kind: Kind::Exit,
     tsc: 2,
+    arg: 0,
 };
 
 /// Loads of a thread, and the events that come of them.
