@@ -1,5 +1,5 @@
 //! `asm`, and what the other commands do with the images that it writes.
-use crate::checks::check_same_at;
+use crate::checks::{check_same, check_same_at};
 use crate::runs::{
     End, IMAGE, MOVED, STARTED, assert_held, assert_left, assert_length, assert_stopped, run_line,
     text_of_end,
@@ -17,6 +17,9 @@ pub const STRAIGHT_LINE: &str = "base 0x1000\nfn main always\nmov eax, 65\nout 1
 
 /// An exit sled that needs its alignment byte.
 pub const ODD_EXIT: &str = "base 0x1000\nfn main always\nout 0\nret\n";
+
+/// The same text, with a function that logs its first argument.
+const ARGUMENT: &str = "base 0x1000\nfn main args\nout 0\nret\n";
 
 /// A call over an alignment byte.
 pub const CALL: &str = "base 0x1000\nfn main always\ncall f\nret\nfn f always\nret\n";
@@ -109,6 +112,11 @@ const ODD_EXIT_MAP: &[Mapped] = &[
     (1, 0x100E, 0x1000, "function-exit", "main"),
 ];
 
+const ARGUMENT_MAP: &[Mapped] = &[
+    (1, 0x1000, 0x1000, "function-enter-arg", "main"),
+    (1, 0x100E, 0x1000, "function-exit", "main"),
+];
+
 const CALL_MAP: &[Mapped] = &[
     (1, 0x1000, 0x1000, "function-enter", "main"),
     (1, 0x1010, 0x1000, "function-exit", "main"),
@@ -170,7 +178,7 @@ fn assert_done<R: Abort + Threads + Wait + Sync + AllocGlobal>(
 /// A text, and the length, the code, the end and the sled map of its image.
 type Made = (&'static str, usize, &'static [u8], End, &'static [Mapped]);
 
-const MADE: [Made; 5] = [
+const MADE: [Made; 6] = [
     (
         STRAIGHT_LINE,
         170,
@@ -179,13 +187,14 @@ const MADE: [Made; 5] = [
         STRAIGHT_LINE_MAP,
     ),
     (ODD_EXIT, 166, ODD_EXIT_CODE, ODD_EXIT_END, ODD_EXIT_MAP),
+    (ARGUMENT, 166, ODD_EXIT_CODE, ODD_EXIT_END, ARGUMENT_MAP),
     (CALL, 266, CALL_CODE, CALL_END, CALL_MAP),
     (TAIL_JUMP, 263, TAIL_JUMP_CODE, TAIL_JUMP_END, TAIL_JUMP_MAP),
     (FIBONACCI, 326, FIBONACCI_CODE, FIBONACCI_END, FIBONACCI_MAP),
 ];
 
 #[test]
-fn five_texts_become_images_that_run_and_have_their_sleds(rt: HostRuntime) -> Result<(), Fail> {
+fn six_texts_become_images_that_run_and_have_their_sleds(rt: HostRuntime) -> Result<(), Fail> {
     for (text, length, code, end, map) in &MADE {
         let mut desk = text_desk(rt.alloc(), &[], text.as_bytes())?;
         assert_done(&rt, "asm t i", &mut desk, "")?;
@@ -197,6 +206,38 @@ fn five_texts_become_images_that_run_and_have_their_sleds(rt: HostRuntime) -> Re
         let map = text_of_map(rt.alloc(), map)?;
         assert_done(&rt, "extract i", &mut desk, &map)?;
     }
+    Ok(())
+}
+
+/// The place of the map in the image of the straight line, and the map with relative addresses.
+const RELATIVE_MAP: (usize, &[u8]) = (
+    106,
+    &[
+        0x00, 0x00, 0xF0, 0xFF, 0xFF, 0xFF, 0xFF, 0xFF, 0xF8, 0xFF, 0xEF, 0xFF, 0xFF, 0xFF, 0xFF,
+        0xFF, 0, 1, 2, 0, 0, 0, 0, 0, 0, 0, 0, 0, 0, 0, 0, 0, 0xF2, 0xFF, 0xEF, 0xFF, 0xFF, 0xFF,
+        0xFF, 0xFF, 0xD8, 0xFF, 0xEF, 0xFF, 0xFF, 0xFF, 0xFF, 0xFF, 1, 1, 2, 0, 0, 0, 0, 0, 0, 0,
+        0, 0, 0, 0, 0, 0,
+    ],
+);
+
+#[test]
+fn relative_addresses_of_a_map_are_those_of_its_sleds(rt: HostRuntime) -> Result<(), Fail> {
+    for (text, length, code, end, map) in &MADE {
+        let mut desk = text_desk(rt.alloc(), &[], text.as_bytes())?;
+        assert_done(&rt, "asm t --map-version=2 i", &mut desk, "")?;
+        assert_length(&rt, desk.get("i"), *length);
+        let file = desk.get("i").unwrap_or(OLD);
+        check_same_at(&rt, &file.get(CODE..CODE + code.len()), &Some(*code), text);
+        let end = text_of_end(rt.alloc(), end)?;
+        assert_done(&rt, "plain i", &mut desk, &end)?;
+        let map = text_of_map(rt.alloc(), map)?;
+        assert_done(&rt, "extract i", &mut desk, &map)?;
+    }
+    let (at, map) = RELATIVE_MAP;
+    let mut desk = text_desk(rt.alloc(), &[], STRAIGHT_LINE.as_bytes())?;
+    assert_done(&rt, "asm t i --map-version 2", &mut desk, "")?;
+    let file = desk.get("i").unwrap_or(OLD);
+    check_same(&rt, &file.get(at..at + map.len()), &Some(map));
     Ok(())
 }
 
@@ -233,7 +274,7 @@ fn assert_refused<R: Abort + Threads + Wait + Sync + AllocGlobal>(
 }
 
 /// Texts, and the lines on err.
-const REFUSALS: [(&str, &str); 29] = [
+const REFUSALS: [(&str, &str); 30] = [
     ("", "xray: t: text Syntax 1\n"),
     ("mov eax, 1", "xray: t: text Syntax 1\n"),
     ("fn a", "xray: t: text Syntax 2\n"),
@@ -243,6 +284,7 @@ const REFUSALS: [(&str, &str); 29] = [
     ("base 16\nbase 16\nfn a\nret", "xray: t: text Syntax 2\n"),
     ("entry a\nentry a\nfn a\nret", "xray: t: text Syntax 2\n"),
     ("x:\nfn a\nret", "xray: t: text Syntax 1\n"),
+    ("fn a arg\nret", "xray: t: text Syntax 1\n"),
     ("fn a\nmov eax,1\nret", "xray: t: text Syntax 2\n"),
     ("fn a\nout 0X1\nret", "xray: t: text Syntax 2\n"),
     ("fn a\nout 18446744073709551616", "xray: t: text Syntax 2\n"),

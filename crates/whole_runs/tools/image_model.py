@@ -15,6 +15,11 @@ BASE_LIMIT = 0x7FFF00000000
 HEADER_LENGTH = 64
 ENTRY_LENGTH = 32
 SLED_LENGTH = 11
+# How far above the base address the sled map is, and how far behind an entry's start the field of the function is.
+MAP_DISTANCE = 0x100000
+FUNCTION_FIELD = 8
+RELATIVE_VERSION = 2
+NEWEST_VERSION = 2
 
 RSP, R10 = 4, 10
 RESERVED = (RSP, R10)
@@ -162,7 +167,7 @@ def units_of(code):
 
 @dataclasses.dataclass(frozen=True)
 class Entry:
-    """An entry of the sled map."""
+    """An entry of the sled map, with absolute addresses."""
 
     address: int
     function: int
@@ -201,7 +206,7 @@ def image_of(file):
     """The image in a file's bytes."""
     if len(file) < HEADER_LENGTH:
         raise Refused("Short")
-    magic, version, base, length, functions, sleds, entry, *trampolines, _ = struct.unpack_from("<4sIQIIII4Q", file)
+    magic, version, base, length, functions, sleds, entry, *trampolines = struct.unpack_from("<4sIQIIII4Q", file)
     if magic != b"XRIM":
         raise Refused("Magic")
     if version != 1:
@@ -216,7 +221,7 @@ def image_of(file):
         raise Refused("Limit Entry")
     if base % 16 != 0 or base > BASE_LIMIT:
         raise Refused("Limit Base")
-    code, table, sled_map = parts_of(file, length, functions, sleds)
+    code, table, sled_map = parts_of(file, base, length, functions, sleds)
     image = Image(base, units_of(code), table, sled_map, entry, tuple(trampolines))
     check_names(image)
     check_map(image)
@@ -224,7 +229,12 @@ def image_of(file):
     return image
 
 
-def parts_of(file, length, functions, sleds):
+def absolute(version, at, field):
+    """The address that a field at an address says."""
+    return (at + field) % (1 << 64) if version == RELATIVE_VERSION else field
+
+
+def parts_of(file, base, length, functions, sleds):
     """The code, the functions with their names, and the entries of the sled map."""
     at = HEADER_LENGTH
 
@@ -241,8 +251,11 @@ def parts_of(file, length, functions, sleds):
         start, count = struct.unpack("<QB", taken(9))
         table.append((start, taken(count)))
     sled_map = []
-    for _ in range(sleds):
+    for number in range(sleds):
         address, function, kind, always, version = struct.unpack("<QQBBB13x", taken(ENTRY_LENGTH))
+        entry_at = base + MAP_DISTANCE + ENTRY_LENGTH * number
+        address = absolute(version, entry_at, address)
+        function = absolute(version, entry_at + FUNCTION_FIELD, function)
         sled_map.append(Entry(address, function, kind, always != 0, version))
     if at < len(file):
         raise Refused("Trailing")
@@ -268,8 +281,8 @@ def check_map(image):
     starts = [start for start, _ in image.functions]
     for number, (entry, sled) in enumerate(zip(image.entries, image.sleds)):
         function = starts[bisect.bisect_right(starts, entry.address) - 1]
-        kinds = (0, 2) if sled.name == "entry" else (1,)
-        if entry.function != function or entry.kind not in kinds or entry.version >= 2:
+        kinds = (0, 2, 3) if sled.name == "entry" else (1,)
+        if entry.function != function or entry.kind not in kinds or entry.version > NEWEST_VERSION:
             raise Refused("Odd", number)
     for number, entry in enumerate(image.entries):
         distance = image.trampolines[entry.kind] - (entry.address + SLED_LENGTH)
@@ -285,7 +298,7 @@ def check_targets(image):
 
 # ---- The sled map's text
 
-KINDS = ["function-enter", "function-exit", "tail-exit"]
+KINDS = ["function-enter", "function-exit", "tail-exit", "function-enter-arg"]
 
 
 def sled_map_text(image):

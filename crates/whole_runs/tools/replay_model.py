@@ -37,6 +37,7 @@ def number_of(word):
 # The commands, with what they take.
 COMMANDS = {
     "patch": "", "unpatch": "", "patch_function": "I", "unpatch_function": "I", "set_handler": "", "remove_handler": "",
+    "set_arg_handler": "", "remove_arg_handler": "",
     "init": "", "finalize": "", "go": "", "hold": "TN", "release": "T", "await": "TN",
 }  # fmt: skip
 WAITING = ("hold", "release", "await")
@@ -146,12 +147,17 @@ EXIT_HEAD = 0x2EC3
 # What unpatching leaves of an exit sled that was patched before.
 RETURN_HEAD = 0xBAC3
 INITIALIZED = 2
+# The actions that passings of sleds record, by the kinds of the sleds.
+ACTIONS = (0, 1, 2, 0)
 
 
 class Words:
-    """The words of an image's sleds, the handler's and the log's, and how a script changes them."""
+    """The words of an image's sleds, the handler's, the log's, two for each thread and the argument handler's.
 
-    def __init__(self, image):
+    A script changes them, but not the second words of threads, which count passings.
+    """
+
+    def __init__(self, image, threads):
         self.sleds = image.sleds
         self.ids = image.ids
         self.patched = [
@@ -160,10 +166,11 @@ class Words:
         ]
         self.handler = 4 * len(self.sleds)
         self.state = self.handler + 1
+        self.arg_handler = self.state + 2 * threads + 1
         self.values = []
         for sled in self.sleds:
             self.values += [ENTRY_HEAD if sled.name == "entry" else EXIT_HEAD, 0x841F0F66, 0, sled.operands[0]]
-        self.values += [0, 0]
+        self.values += [0] * (self.arg_handler + 1 - self.handler)
 
     @staticmethod
     def opcode(sled):
@@ -193,6 +200,10 @@ class Words:
                 yield self.handler, 1
             case "remove_handler", _:
                 yield self.handler, 0
+            case "set_arg_handler", _:
+                yield self.arg_handler, 1
+            case "remove_arg_handler", _:
+                yield self.arg_handler, 0
             case "init", _:
                 yield self.state, 1
                 yield self.state, 2
@@ -272,7 +283,7 @@ class TracedThread(Thread):
         """What a passing of a sled records, before it is counted."""
         cpu = (self.number + self.passings // self.options["migrate"]) % self.options["cpus"]
         tsc = (self.options["tsc"] + self.options["tick"] * self.instructions) % WORD_64
-        return Event(cpu, self.words.ids[sled], self.image.entries[sled].kind, tsc)
+        return Event(cpu, self.words.ids[sled], ACTIONS[self.image.entries[sled].kind], tsc)
 
 
 # ---- Schedules and their replay
@@ -301,7 +312,7 @@ def turns_of(text, threads):
 
 def replayed(image, commands, turns, options):
     """The threads after a replay, all of them at their ends, and the buffers of what they recorded."""
-    words = Words(image)
+    words = Words(image, options["threads"])
     start = next(number for number, command in enumerate(commands) if command.name == "go")
     collections.deque(words.stores(commands[:start]), maxlen=0)
     # What unpatching leaves in a head depends on what was stored before, so the rest uses the same words.

@@ -61,13 +61,13 @@ class Course:
     """The micro steps of a script, and which value each word has after some of them."""
 
     def __init__(self, image, commands, threads):
-        words = Words(image)
+        words = Words(image, threads)
         self.words = words
         self.release = {thread: words.state + thread for thread in range(1, threads + 1)}
         self.holds = {command.thread: command.numbers[1] for command in commands if command.name == "hold"}
         # For each word, the places at which its value changes, and the values from there on.
-        self.places = [[0] for _ in range(words.state + 1 + threads)]
-        self.values = [[value] for value in words.values] + [[0] for _ in range(threads)]
+        self.places = [[0] for _ in words.values]
+        self.values = [[value] for value in words.values]
         self.awaits = collections.defaultdict(list)
         self.start = self.total = 0
         for command in commands:

@@ -48,9 +48,9 @@ fn Text::done(self) -> Result<(), WriteFault>
 
 crate fdr_record
 trait Recorder
-enum Kind { Entry, Exit, TailExit, EntryArgs }
-struct Event { cpu: u16, func: u32, kind: Kind, tsc: u64, arg: u64 }
-enum Rec { NewBuffer { thread: u32 }, NewCpu { cpu: u16, tsc: u64 }, TscWrap { tsc: u64 }, WallTime { wall: Wall }, Pid { pid: u32 }, CallArg { value: u64 }, Extents { size: u64 }, Function { kind: Kind, func: u32, delta: u32 } }
+enum Kind { Entry, Exit, TailExit }
+struct Event { cpu: u16, func: u32, kind: Kind, tsc: u64 }
+enum Rec { NewBuffer { thread: u32 }, NewCpu { cpu: u16, tsc: u64 }, TscWrap { tsc: u64 }, WallTime { wall: Wall }, Pid { pid: u32 }, Extents { size: u64 }, Function { kind: Kind, func: u32, delta: u32 } }
 enum RecFault { Short, Action(u8), Kind(u8) }
 fn rec_len(rec: &Rec) -> usize
 fn put_rec(rec: &Rec, buf: &mut [u8], at: usize) -> usize
@@ -68,7 +68,7 @@ fn decode(bytes: &[u8], at: usize) -> Result<(Instr, usize), DecodeFault>
 
 crate xray_image
 struct Image
-enum SledKind { Entry, Exit, Tail }
+enum SledKind { Entry, Exit, Tail, Args }
 struct Sled { address: u64, function: u64, id: u32, kind: SledKind, always: bool, shift: u32 }
 enum What { Plain(Instr), Sled(u32), Pad }
 struct Unit { address: u64, what: What }
@@ -82,7 +82,7 @@ fn write_extract(image: &Image, sink: &mut S) -> Result<(), WriteFault>
 
 crate asm_text
 enum AsmFault { Syntax(u32), Register(u32), Range(u32), Repeat(u32), Limit(u32), Label(u32), NoMemory }
-fn assemble(text: &[u8], threshold: u32) -> Result<Vec<u8>, AsmFault>
+fn assemble(text: &[u8], threshold: u32, relative: bool) -> Result<Vec<u8>, AsmFault>
 
 crate sled_words
 enum Part { Head, Id, Opcode, Offset }

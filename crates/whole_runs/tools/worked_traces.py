@@ -549,7 +549,7 @@ def row_differences(name, world, row, commands):
 def unpatched_exit_differences():
     """The bytes of an exit sled that was patched and unpatched: a return, and the rest of the patched sled."""
     straight = image_model.image_of(STRAIGHT_LINE)
-    words = replay_model.Words(straight)
+    words = replay_model.Words(straight, 1)
     list(words.stores(replay_model.commands_of(lines("patch / unpatch / go"), straight, 1)))
     head, number, opcode, distance = words.values[4:8]
     left = head.to_bytes(2, "little") + number.to_bytes(4, "little") + bytes([opcode]) + distance.to_bytes(4, "little")
