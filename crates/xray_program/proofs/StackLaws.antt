@@ -4,13 +4,12 @@ use Rattle.command_words.specs.declared.report_options.StackFormat.{StackFormat}
 use Rattle.fdr_file.specs.declared.trace.Trace.{Trace}
 use Rattle.stack_rebuild.specs.FaultWords.{deep_words}
 use Rattle.stack_rebuild.specs.Stacks.{deep_in, most_open, stack_of}
-use Rattle.stack_rebuild.specs.StackText.{stack_text}
 use Rattle.xray_image.specs.Program.{Program}
 use Rattle.xray_io.specs.Desk.{Entry}
 use Rattle.xray_program.specs.Commands.{TellsAll}
 use Rattle.xray_program.specs.Inputs.{image_form}
 use Rattle.xray_program.specs.Outcomes.{Outcome, Done}
-use Rattle.xray_program.specs.Stack.{StackComes, StacksCome, form_of}
+use Rattle.xray_program.specs.Stack.{StackComes, StacksCome, stacks_text}
 use Rattle.xray_program.specs.Taking.{Sound}
 use Rattle.xray_program.proofs.Meanings.{AnyOutcome, HoldsBytes, IsAlone, IsDecided, IsJudged, SomeOutcome, refuse_alone, some_refuse}
 use Rattle.xray_program.proofs.Reports.{report_alone, report_some}
@@ -19,7 +18,7 @@ abbrev reason : Trace → Option (List ℕ)
 reason t = option_map deep_words (deep_in most_open t.blocks)
 
 abbrev printed : StackFormat → Trace → Option Program → Outcome → Type 0
-printed format t program outcome = outcome ≡ Done [] (stack_text (form_of format) program (stack_of t.blocks))
+printed format t program outcome = outcome ≡ Done [] (stacks_text format program t)
 
 pub stack_alone : IsDecided image_form → (held : List ℕ → Entry) (trace : List ℕ) (image : Option (List ℕ)) (format : StackFormat)
     → TellsAll held → IsAlone AnyOutcome (StackComes Sound held trace image format)
@@ -31,7 +30,7 @@ pub stack_some : IsJudged image_form → (held : List ℕ → Entry) (trace : Li
     → TellsAll held → HoldsBytes held → SomeOutcome (StackComes Sound held trace image format)
 stack_some is held trace image format told holds =
     report_some is held trace image (λ t program. StacksCome trace format t program) told holds
-    (λ t program. some_refuse (reason t) trace (codes "trace") (printed format t program) (λ none. (Done [] (stack_text (form_of format) program (stack_of t.blocks)), refl)))
+    (λ t program. some_refuse (reason t) trace (codes "trace") (printed format t program) (λ none. (Done [] (stacks_text format program t), refl)))
 
 -- if no thread has too many calls open, its stacks come
 pub stack_prints : (trace : List ℕ) (format : StackFormat) (t : Trace) (program : Option Program) (outcome : Outcome)

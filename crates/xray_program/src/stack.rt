@@ -1,6 +1,6 @@
 //! `stack`: on which paths the functions of a trace were called, and for how long.
-ghost use Rattle.std.specs.Prelude.{◌≡◌, option_map};
-ghost use Rattle.xray_program.specs.Stack.{form_of};
+ghost use Rattle.std.specs.Prelude.{◌≡◌, map, option_map};
+ghost use Rattle.stack_rebuild.specs.Stacks.{told};
 
 use crate::delivery::{NoOutputs, deliver};
 use crate::input::fault_stop;
@@ -10,9 +10,11 @@ use crate::stop::Stop;
 use crate::work::Work;
 use command_words::StackFormat;
 use fdr_file::Trace;
-use stack_rebuild::{StackForm, StackText, stacks};
+use flame_graph::FlameGraph;
+use stack_rebuild::{StackForm, StackRow, StackText, stacks};
 use std::alloc::Global;
-use xray_io::{Desk, Sink};
+use xray_image::Image;
+use xray_io::{Desk, Printed, Sink, Text, WriteFault};
 
 /// `stack TRACE [IMAGE]`.
 #[derive(Drop)]
@@ -51,10 +53,11 @@ impl<'a> Work<'a> for Stack<'a> {
     ) -> Result<(), Stop<'a>> {
         match stacks(alloc, &inputs.log) {
             Ok(rows) => {
-                let text = StackText {
+                let text = StackReport {
                     rows: &rows,
                     image: inputs.image.as_ref(),
-                    form: form_of(self.format),
+                    frequency: inputs.log.header.frequency,
+                    format: self.format,
                 };
                 deliver(desk, out, &NoOutputs, &text, None)
             }
@@ -63,12 +66,50 @@ impl<'a> Work<'a> for Stack<'a> {
     }
 }
 
-/// The form of stacks, as the report has it.
-fn form_of(format: StackFormat) -> StackForm
-    ensures { result ≡ form_of format }
-{
-    match format {
-        StackFormat::Human => StackForm::Human,
-        StackFormat::Flame => StackForm::Flame,
+/// Stacks in a format.
+struct StackReport<'a> {
+    rows: &'a [StackRow],
+    image: Option<&'a Image>,
+    /// How often the counter advances, in cycles a second, or 0.
+    frequency: u64,
+    format: StackFormat,
+}
+
+impl Printed for StackReport<'_> {
+    ghost use Rattle.flame_graph.specs.Frames.{AreAscending};
+    ghost use Rattle.xray_program.specs.Stack.{rows_text};
+
+    ghost text = { λ report. rows_text report.format report.frequency
+        (option_map (λ image. image.now) report.image) (map told report.rows.now) };
+
+    ghost ready = { λ report. AreAscending (map told report.rows.now) };
+
+    fn add_to<S: Sink>(&self, to: &mut Text<S>) -> Result<(), WriteFault> {
+        match self.format {
+            StackFormat::Human => self.in_lines(StackForm::Human).add_to(to),
+            StackFormat::Flame => self.in_lines(StackForm::Flame).add_to(to),
+            StackFormat::Svg => FlameGraph {
+                rows: self.rows,
+                image: self.image,
+                frequency: self.frequency,
+            }
+            .add_to(to),
+        }
+    }
+}
+
+impl<'a> StackReport<'a> {
+    /// The same with a line for each row.
+    fn in_lines(&self, form: StackForm) -> StackText<'a>
+        ensures form { result.form ≡ form }
+        ensures rows { result.rows.now ≡ self.now.rows.now }
+        ensures image { option_map (λ image. image.now) result.image
+            ≡ option_map (λ image. image.now) self.now.image }
+    {
+        StackText {
+            rows: self.rows,
+            image: self.image,
+            form,
+        }
     }
 }
