@@ -1,8 +1,9 @@
-//! Writes a trace of 60 MiB for the bench of reports: `generate TRACE THREADS SEED`.
+//! Writes a trace of 60 MiB for the bench of reports: `generate TRACE THREADS SEED DEEPEST`.
 //!
 //! The file has 3,836 full blocks of 16,384 bytes, thread by thread: 7,825,440 events. Each thread
-//! goes up and down a graph of calls among 50 functions, at most 20 deep, and each exit ends the
-//! innermost call. Wall times rise from block to block, in both seconds and microseconds, so LLVM's
+//! goes up and down a graph of calls among 50 functions, at most DEEPEST deep, and each exit ends the
+//! innermost call. Each function calls three others, so calls that are at most 6 deep have at most
+//! 1,092 paths. Wall times rise from block to block, in both seconds and microseconds, so LLVM's
 //! reader keeps the blocks in their order. All threads begin at the same counter, since LLVM's
 //! account takes no event below the first one.
 
@@ -12,7 +13,6 @@ const HEADER_LENGTH: usize = 32;
 const METADATA_LENGTH: usize = 16;
 const FIRST_COUNTER: u64 = 1000;
 const FUNCTIONS: u32 = 50;
-const DEEPEST: usize = 20;
 
 const NEW_BUFFER: u8 = 0x01;
 const NEW_CPU: u8 = 0x05;
@@ -35,10 +35,11 @@ impl Draw {
     }
 }
 
-/// A thread's open calls, its counter, and the number of its blocks.
+/// A thread's open calls, how many there may be, its counter, and the number of its blocks.
 struct Thread {
     number: u32,
     open: Vec<u32>,
+    deepest: usize,
     counter: u64,
     blocks: u64,
 }
@@ -46,7 +47,7 @@ struct Thread {
 impl Thread {
     /// The function and the action of the next event, and how far the counter goes on before it.
     fn event(&mut self, draw: &mut Draw) -> (u32, u32, u32) {
-        let goes_down = self.open.len() < DEEPEST && draw.below(2) == 0;
+        let goes_down = self.open.len() < self.deepest && draw.below(2) == 0;
         let delta = 1 + draw.below(200);
         match self.open.pop() {
             Some(function) if !goes_down => (function, EXIT, delta),
@@ -124,16 +125,18 @@ fn header() -> Vec<u8> {
 
 fn main() {
     let words: Vec<String> = std::env::args().collect();
-    let [_, path, threads, seed] = &words[..] else {
-        panic!("generate TRACE THREADS SEED");
+    let [_, path, threads, seed, deepest] = &words[..] else {
+        panic!("generate TRACE THREADS SEED DEEPEST");
     };
     let threads: u32 = threads.parse().expect("a number of threads");
+    let deepest: usize = deepest.parse().expect("a number of open calls");
     let mut draw = Draw(seed.parse().expect("a seed"));
     let mut file = header();
     for number in 1..=threads {
         let mut thread = Thread {
             number,
-            open: Vec::with_capacity(DEEPEST),
+            open: Vec::with_capacity(deepest),
+            deepest,
             counter: FIRST_COUNTER,
             blocks: 0,
         };

@@ -8,4 +8,5 @@ pub mod OverStacks
 pub mod Rising
 pub mod RowOrder
 pub mod Rows
+pub mod Selecting
 pub mod Tallying

@@ -6,7 +6,7 @@ use Rattle.std.proofs.lemmas.Bool.Decides.{nat_tests}
 use Rattle.std.proofs.lemmas.List.{get_or_past}
 use Rattle.stack_rebuild.proofs.Items.{IsIn}
 use Rattle.fdr_record.specs.declared.event.Kind.{Kind}
-use Rattle.fdr_record.specs.declared.event.Kind.TheVariants.{Entry, Exit, TailExit}
+use Rattle.fdr_record.specs.declared.event.Kind.TheVariants.{Entry, Exit, TailExit, EntryArgs}
 use Rattle.fdr_file.specs.ThreadEvents.{ThreadEvent}
 use Rattle.stack_rebuild.specs.Histories.{pair_after}
 use Rattle.account_report.specs.declared.tallies.Tallies.{Tallies}
@@ -42,6 +42,7 @@ none_yet tallies first others = record {
 with_events : (b : Bool) (kind : Kind) (ds : List ℕ) (t : Tallied) → has_events (cond b (with_event kind ds t) t) ≡ (b || has_events t)
 with_events false kind ds t = refl
 with_events true Entry ds t = let some : nat_lt 0 (t.entries + 1) ≡ true = grind (arith, nat_tests) in ap (λ (b : Bool). b || nat_lt 0 t.exits) some
+with_events true EntryArgs ds t = let some : nat_lt 0 (t.entries + 1) ≡ true = grind (arith, nat_tests) in ap (λ (b : Bool). b || nat_lt 0 t.exits) some
 with_events true Exit ds t = either (nat_lt 0 t.entries) (nat_lt 0 (t.exits + 1)) (grind (arith, nat_tests))
   where
     either : (a b : Bool) → b ≡ true → (a || b) ≡ true

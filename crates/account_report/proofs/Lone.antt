@@ -13,7 +13,7 @@ use Rattle.std.proofs.lemmas.List.Folds.{list_any-append}
 use Rattle.std.proofs.lemmas.List.Sums.{sum_by-cons}
 use Rattle.fdr_record.specs.declared.event.Event.{Event}
 use Rattle.fdr_record.specs.declared.event.Kind.{Kind}
-use Rattle.fdr_record.specs.declared.event.Kind.TheVariants.{Entry, Exit, TailExit}
+use Rattle.fdr_record.specs.declared.event.Kind.TheVariants.{Entry, Exit, TailExit, EntryArgs}
 use Rattle.fdr_file.specs.ThreadEvents.{ThreadEvent}
 use Rattle.stack_rebuild.specs.declared.call.Call.{Call}
 use Rattle.stack_rebuild.specs.declared.call.Pair.{Pair}
@@ -81,6 +81,7 @@ made e at calls pair is = by_kind e.kind refl is
 
     by_kind : (k : Kind) → e.kind ≡ k → pair_at_kind k e at calls ≡ Some pair → Made e at pair
     by_kind Entry k p = absurd (none_is_not pair p)
+    by_kind EntryArgs k p = absurd (none_is_not pair p)
     by_kind Exit k p = by_found (ap enters k) (ap leaves k) (from_innermost e.func calls) p
     by_kind TailExit k p = by_found (ap enters k) (ap leaves k) (from_innermost e.func calls) p
 

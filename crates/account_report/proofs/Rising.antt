@@ -20,7 +20,7 @@ use Rattle.account_report.specs.Ascending.{ascending, put_in}
 abbrev pub count : ℕ → List ℕ → ℕ
 count k xs = count_by (nat_eq k) xs
 
-abbrev one_at : ℕ → ℕ → ℕ
+abbrev pub one_at : ℕ → ℕ → ℕ
 one_at k x = cond (nat_eq k x) 1 0
 
 pub count-cons : (k x : ℕ) (xs : List ℕ) → count k (x ∷ xs) ≡ one_at k x + count k xs
@@ -81,7 +81,7 @@ rises_from_sorted n (x ∷ xs) up = (
 
 -- ---- numbers in ascending order
 
-all_from-put_in : (low x : ℕ) (xs : List ℕ) → low ≤ x → AllFrom low xs → AllFrom low (put_in nat_lt x xs)
+pub all_from-put_in : (low x : ℕ) (xs : List ℕ) → low ≤ x → AllFrom low xs → AllFrom low (put_in nat_lt x xs)
 all_from-put_in low x [] below all = (below, tt)
 all_from-put_in low x (y ∷ ys) below all = by_first (nat_lt x y) (all_from-put_in low x ys below all.1)
   where
@@ -106,11 +106,11 @@ count-put_in k x (y ∷ ys) = by_first (nat_lt x y) (count-put_in k x ys)
     by_first true following = count-cons k x (y ∷ ys)
     by_first false following = omega (arith, count-cons k y (put_in nat_lt x ys), count-cons k y ys, following)
 
-rises-ascending : (xs : List ℕ) → Rises (ascending xs)
+pub rises-ascending : (xs : List ℕ) → Rises (ascending xs)
 rises-ascending [] = tt
 rises-ascending (x ∷ xs) = rises-put_in x (ascending xs) (rises-ascending xs)
 
-count-ascending : (k : ℕ) (xs : List ℕ) → count k (ascending xs) ≡ count k xs
+pub count-ascending : (k : ℕ) (xs : List ℕ) → count k (ascending xs) ≡ count k xs
 count-ascending k [] = refl
 count-ascending k (x ∷ xs) = omega (arith, count-put_in k x (ascending xs), count-cons k x xs, count-ascending k xs)
 

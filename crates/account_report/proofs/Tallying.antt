@@ -9,7 +9,7 @@ use Rattle.std.proofs.lemmas.List.Sums.{sum_by-cons}
 use Rattle.std.proofs.lemmas.Bool.{eq-eqb}
 use Rattle.fdr_record.specs.declared.event.Event.{Event}
 use Rattle.fdr_record.specs.declared.event.Kind.{Kind}
-use Rattle.fdr_record.specs.declared.event.Kind.TheVariants.{Entry, Exit, TailExit}
+use Rattle.fdr_record.specs.declared.event.Kind.TheVariants.{Entry, Exit, TailExit, EntryArgs}
 use Rattle.fdr_file.specs.ThreadEvents.{ThreadEvent}
 use Rattle.stack_rebuild.specs.declared.call.Call.{Call}
 use Rattle.stack_rebuild.specs.declared.call.Pair.{Pair}
@@ -37,6 +37,7 @@ call_kept e at func (call ∷ outer) = refl
 kind_kept : (k : Kind) (e : Event) (at func : ℕ) (calls : List Call)
     → filter (is_pair_of func) (option_to_list (pair_at_kind k e at calls)) ≡ cond (nat_eq e.func func) (option_to_list (pair_at_kind k e at calls)) []
 kind_kept Entry e at func calls = none_kept (nat_eq e.func func)
+kind_kept EntryArgs e at func calls = none_kept (nat_eq e.func func)
 kind_kept Exit e at func calls = call_kept e at func (from_innermost e.func calls)
 kind_kept TailExit e at func calls = call_kept e at func (from_innermost e.func calls)
 
@@ -86,6 +87,7 @@ same_tally x y d e f =
 counted : (b : Bool) (k : Kind) (ds : List ℕ) (old new : Tallied) → new.durations ≡ old.durations ++ cond b ds []
     → new.entries ≡ cond (b && enters k) 1 0 + old.entries → new.exits ≡ cond (b && leaves k) 1 0 + old.exits → new ≡ cond b (with_event k ds old) old
 counted true Entry ds old new d e f = same_tally new _ d (omega arith) (omega arith)
+counted true EntryArgs ds old new d e f = same_tally new _ d (omega arith) (omega arith)
 counted true Exit ds old new d e f = same_tally new _ d (omega arith) (omega arith)
 counted true TailExit ds old new d e f = same_tally new _ d (omega arith) (omega arith)
 counted false k ds old new d e f = same_tally new old (d ∙ append-nil old.durations) (omega arith) (omega arith)

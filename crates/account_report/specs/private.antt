@@ -2,3 +2,4 @@
 pub mod Tallies
 pub mod Folding
 pub mod AllTallies
+pub mod Ranks

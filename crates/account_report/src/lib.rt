@@ -4,6 +4,7 @@
 mod fold;
 mod laws;
 mod order;
+mod ranks;
 mod report;
 mod row;
 mod tallies;

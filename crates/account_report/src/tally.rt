@@ -1,9 +1,9 @@
 //! What is kept of each function while events are taken.
 
-ghost use Rattle.std.specs.Prelude.{◌≡◌, ◌+◌, ◌-◌, length, IfOk, OnOk, slice_index};
-ghost use Rattle.account_report.specs.Account.{row_from};
+ghost use Rattle.std.specs.Prelude.{◌≡◌, ◌+◌, sum, IfOk, OnOk};
 ghost use Rattle.account_report.specs.private.Tallies.{durations_in, has_events, no_tally, row_with, with_event};
 
+use crate::ranks::ranks_in;
 use crate::row::AccountRow;
 use fdr_record::Kind;
 use stack_rebuild::Pair;
@@ -51,7 +51,7 @@ impl Tally {
             self.durations.push(pair.duration)?;
         }
         match kind {
-            Kind::Entry => self.entries = one_more(self.entries)?,
+            Kind::Entry | Kind::EntryArgs => self.entries = one_more(self.entries)?,
             Kind::Exit | Kind::TailExit => self.exits = one_more(self.exits)?,
         }
         Ok(())
@@ -73,8 +73,7 @@ impl Tally {
             entries,
             exits,
         } = self;
-        durations.sort_unstable();
-        row(func, &durations, entries, exits)
+        row(func, &mut durations, entries, exits)
     }
 }
 
@@ -86,30 +85,31 @@ fn one_more(count: u64) -> Result<u64, NoMemory>
     count.checked_add(1).ok_or(NoMemory)
 }
 
-/// The row of a function with these durations, in ascending order, and with these numbers of
-/// entries and exits. Each pair has one entry and one exit.
-fn row(func: u32, durations: &[u64], entries: u64, exits: u64) -> AccountRow
-    ensures { result ≡ row_from func durations.now
-        (entries - length durations.now) (exits - length durations.now) }
+/// The row of a function with these durations, in any order, and with these numbers of entries and
+/// exits. Each pair has one entry and one exit.
+fn row(func: u32, durations: &mut [u64], entries: u64, exits: u64) -> AccountRow
+    ensures { result ≡ row_with func durations.old entries exits }
 {
-    let n = durations.len();
+    let count = durations.len() as u64;
+    let sum = total(durations);
+    let ranks = ranks_in(durations);
     AccountRow {
         func,
-        count: n as u64,
-        min: item(durations, 0),
-        med: item(durations, n / 2),
-        p90: item(durations, (9 * n as u128 / 10) as usize),
-        p99: item(durations, (99 * n as u128 / 100) as usize),
-        max: item(durations, n.saturating_sub(1)),
-        sum: durations.iter().map(|duration| u128::from(*duration)).sum(),
-        entries: entries.saturating_sub(n as u64),
-        exits: exits.saturating_sub(n as u64),
+        count,
+        min: ranks.min,
+        med: ranks.med,
+        p90: ranks.p90,
+        p99: ranks.p99,
+        max: ranks.max,
+        sum,
+        entries: entries.saturating_sub(count),
+        exits: exits.saturating_sub(count),
     }
 }
 
-/// The item at a place, or 0 if there is none.
-fn item(durations: &[u64], place: usize) -> u64
-    ensures { result ≡ slice_index durations.now place }
+/// The sum of durations.
+fn total(durations: &[u64]) -> u128
+    ensures { result ≡ sum durations.now }
 {
-    durations.get(place).copied().unwrap_or(0)
+    durations.iter().map(|duration| u128::from(*duration)).sum()
 }

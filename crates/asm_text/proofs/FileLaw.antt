@@ -25,6 +25,7 @@ pub record IsReadHeader (f : File) (bytes : List ℕ) : Type 0 where
   pub entry_trampoline : number8_at bytes 32 ≡ f.base + 0x200000
   pub exit_trampoline : number8_at bytes 40 ≡ f.base + 0x200010
   pub tail_trampoline : number8_at bytes 48 ≡ f.base + 0x200020
+  pub args_trampoline : number8_at bytes 56 ≡ f.base + 0x200030
 
 header_front : (f : File) (rest : List ℕ) → FileFits f → f.base ≤ 0x7FFF00000000 → f.entry < 256 ^ 4 → IsReadHeader f (image_header_bytes f ++ rest)
 header_front f rest fits low entry_fits =
@@ -47,6 +48,7 @@ header_front f rest fits low entry_fits =
       entry_trampoline = little_number-reads_back 8 (f.base + 0x200000) (second ++ (third ++ (last ++ rest))) (omega arith);
       exit_trampoline = little_number-reads_back 8 (f.base + 0x200010) (third ++ (last ++ rest)) (omega arith);
       tail_trampoline = little_number-reads_back 8 (f.base + 0x200020) (last ++ rest) (omega arith);
+      args_trampoline = little_number-reads_back 8 (f.base + 0x200030) rest (omega arith);
     }
 
 pub header_back : (f : File) → FileFits f → f.base ≤ 0x7FFF00000000 → f.entry < 256 ^ 4 → IsReadHeader f (image_bytes f)
@@ -97,21 +99,22 @@ module _ (f : File) (pieces : List Piece) (ordered : IsInOrder f pieces) where
   program_read : program_in f pieces ≡ program_of (image_bytes f) (record { code = f.code; functions = f.functions; entries = f.entries; rest = [] }) pieces
   program_read =
       let bytes = image_bytes f in
-      let made : ℕ → ℕ → ℕ → ℕ → ℕ → Program = λ base number entry exit tail. record {
+      let made : ℕ → ℕ → ℕ → ℕ → ℕ → ℕ → Program = λ base number entry exit tail args. record {
         base = base;
         entry = option_map_or (λ g. g.start) (slice_get f.functions number) 0;
         code = f.code;
         functions = f.functions;
         units = units_from base 0 pieces;
         sleds = map (sled_of f.entries) (zip (places_from base pieces) f.entries);
-        trampolines = record { entry = entry; exit = exit; tail = tail };
+        trampolines = record { entry = entry; exit = exit; tail = tail; args = args };
       } in
       sym
-      (ap (λ n. made n (entry_index bytes) (number8_at bytes 32) (number8_at bytes 40) (number8_at bytes 48)) header.base
-      ∙ ap (λ n. made f.base n (number8_at bytes 32) (number8_at bytes 40) (number8_at bytes 48)) header.entry
-      ∙ ap (λ n. made f.base f.entry n (number8_at bytes 40) (number8_at bytes 48)) header.entry_trampoline
-      ∙ ap (λ n. made f.base f.entry (f.base + 0x200000) n (number8_at bytes 48)) header.exit_trampoline
-      ∙ ap (λ n. made f.base f.entry (f.base + 0x200000) (f.base + 0x200010) n) header.tail_trampoline)
+      (ap (λ n. made n (entry_index bytes) (number8_at bytes 32) (number8_at bytes 40) (number8_at bytes 48) (number8_at bytes 56)) header.base
+      ∙ ap (λ n. made f.base n (number8_at bytes 32) (number8_at bytes 40) (number8_at bytes 48) (number8_at bytes 56)) header.entry
+      ∙ ap (λ n. made f.base f.entry n (number8_at bytes 40) (number8_at bytes 48) (number8_at bytes 56)) header.entry_trampoline
+      ∙ ap (λ n. made f.base f.entry (f.base + 0x200000) n (number8_at bytes 48) (number8_at bytes 56)) header.exit_trampoline
+      ∙ ap (λ n. made f.base f.entry (f.base + 0x200000) (f.base + 0x200010) n (number8_at bytes 56)) header.tail_trampoline
+      ∙ ap (λ n. made f.base f.entry (f.base + 0x200000) (f.base + 0x200010) (f.base + 0x200020) n) header.args_trampoline)
 
   pub accepted_file : IsAccepted (image_bytes f) (program_in f pieces)
   accepted_file =

@@ -3,7 +3,7 @@ use Rattle.std.proofs.Common.{◌≡◌, ℕ, ◌+◌, Bool, false, [], ◌∷�
 use Rattle.std.specs.List.{flat_map}
 use Rattle.std.proofs.lemmas.List.Sums.{sum_by-append}
 use Rattle.std.proofs.lemmas.Grind.{flat_map-append}
-use Rattle.asm_text.specs.declared.statement.Choice.TheVariants.{ByLength, Always, Never}
+use Rattle.asm_text.specs.declared.statement.Choice.TheVariants.{ByLength, Always, Args, Never}
 use Rattle.asm_text.specs.Statements.{Statement, Base, Entry, Func, Label, Does}
 use Rattle.asm_text.specs.Layout.{StatementLines, Owner, Placed, unless_never, owner_of, no_owner, parts_of_line, parts_at, placed_from, lines_placed, all_parts, width, widths}
 use Rattle.asm_text.specs.private.FirstPass.{traced_after, traced_by}
@@ -27,6 +27,7 @@ same_owner place owner (Base address) xs ys = refl
 same_owner place owner (Entry name) xs ys = refl
 same_owner place owner (Func name ByLength) xs ys = refl
 same_owner place owner (Func name Always) xs ys = refl
+same_owner place owner (Func name Args) xs ys = refl
 same_owner place owner (Func name Never) xs ys = refl
 same_owner place owner (Label name) xs ys = refl
 same_owner place owner (Does operation) xs ys = refl
@@ -66,6 +67,7 @@ traced_after-is place owner (Base address) following = refl
 traced_after-is place owner (Entry name) following = refl
 traced_after-is place owner (Func name ByLength) following = refl
 traced_after-is place owner (Func name Always) following = refl
+traced_after-is place owner (Func name Args) following = refl
 traced_after-is place owner (Func name Never) following = refl
 traced_after-is place owner (Label name) following = refl
 traced_after-is place owner (Does operation) following = refl

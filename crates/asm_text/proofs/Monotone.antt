@@ -4,7 +4,7 @@ use Rattle.std.specs.Prelude.{sum_by}
 use Rattle.std.specs.List.{flat_map}
 use Rattle.std.proofs.lemmas.List.Sums.{sum_by-append}
 use Rattle.xray_image.specs.Units.{JumpSled, ReturnSled}
-use Rattle.asm_text.specs.declared.statement.Choice.TheVariants.{ByLength, Always, Never}
+use Rattle.asm_text.specs.declared.statement.Choice.TheVariants.{ByLength, Always, Args, Never}
 use Rattle.asm_text.specs.declared.statement.Branch.TheVariants as branches
 use Rattle.asm_text.specs.Statements.{Plain, Go, TailJump, Return, Statement, Base, Entry, Func, Label, Does}
 use Rattle.asm_text.specs.Layout.{StatementLines, Part, Owner, by_threshold, unless_never, owner_of, no_owner, parts_of_line, parts_at, placed_from, all_parts, width, widths, sleds_of_part, sled_shift}
@@ -52,6 +52,7 @@ counted_too threshold p q o c (Base address) xs ys i h = i h
 counted_too threshold p q o c (Entry name) xs ys i h = i h
 counted_too threshold p q o c (Func name ByLength) xs ys i h = refl
 counted_too threshold p q o c (Func name Always) xs ys i h = refl
+counted_too threshold p q o c (Func name Args) xs ys i h = refl
 counted_too threshold p q o c (Func name Never) xs ys i h = h
 counted_too threshold p q o c (Label name) xs ys i h = i h
 counted_too threshold p q o c (Does operation) xs ys i h = i h

@@ -8,7 +8,7 @@ use Rattle.xray_image.specs.Container.{Function}
 use Rattle.asm_text.specs.declared.statement.Choice.{Choice}
 use Rattle.asm_text.specs.declared.statement.Branch.TheVariants as branches
 use Rattle.asm_text.specs.Statements.{Plain, Go, TailJump, Return, Statement, Base, Entry, Func, Label, Does}
-use Rattle.asm_text.specs.Layout.{StatementLines, Placed, Owner, Choosing, owner_of, owner_at, instruction_lines, no_owner, parts_of_line, parts_at, placed_from, lines_placed, widths, sled_shift, sled_kind, functions, function_in}
+use Rattle.asm_text.specs.Layout.{StatementLines, Placed, Owner, Choosing, owner_of, owner_at, instruction_lines, no_owner, parts_of_line, parts_at, placed_from, lines_placed, widths, sled_shift, sled_kind, functions, function_in, entry_kind}
 use Rattle.asm_text.proofs.WidthLemmas.{widths_aligned, widths_aligned_branch}
 
 -- the last start at or below an address, or else another
@@ -137,7 +137,7 @@ head_among chosen base place owner number (Func name choice) following o fs h al
     by_traced true all traced =
         last_below o (base + (place + place % 2)) (record { start = base + (place + place % 2); name = name }) fs (omega arith)
         ∙ last_above (Some (base + (place + place % 2))) (base + (place + place % 2)) fs
-        (above base (base + (place + place % 2)) (place + widths (parts_of_line true place (Func name choice))) fs (omega (arith, sled_width place (Func name choice) 0 refl)) all)
+        (above base (base + (place + place % 2)) (place + widths (parts_of_line true place (Func name choice))) fs (omega (arith, sled_width place (Func name choice) (entry_kind choice) refl)) all)
     by_traced false all traced = absurd (cc traced)
 head_among chosen base place owner number (Label name) following o fs h all k traced kind = absurd (cc kind)
 head_among chosen base place owner number (Does operation) following o fs h all k traced kind =

@@ -8,6 +8,7 @@ use Rattle.std.proofs.lemmas.Int.{ints}
 use Rattle.xray_image.specs.Units.{Piece, Instruction, JumpSled, ReturnSled, Align, SledPlace, piece_bytes, places_from}
 use Rattle.xray_image.specs.Container.{Function, MapEntry}
 use Rattle.xray_image.specs.Program.{EachSled, KindFits, LiesIn, IsEntryOf, Reaches, trampoline_of, kind_of}
+use Rattle.asm_text.specs.declared.statement.Choice.TheVariants.{ByLength, Always, Args, Never}
 use Rattle.asm_text.specs.declared.statement.Branch.{Branch}
 use Rattle.asm_text.specs.declared.statement.Branch.TheVariants as branches
 use Rattle.asm_text.specs.Statements.{Plain, Go, TailJump, Return, Statement, Base, Entry, Func, Label, Does}
@@ -108,7 +109,10 @@ line_places : (all : List Placed) (base following : ℕ) (p : Placed) (traced : 
     → places_from (base + p.place) (map (piece_of all following) (parts_of_line traced p.place s)) ≡ places_of base (sled_line traced p (sled_kind s))
 line_places all base following p traced (Base address) = no_sled base traced p
 line_places all base following p traced (Entry name) = no_sled base traced p
-line_places all base following p true (Func name choice) = sled_only all following base p.place (JumpSled sled_shift)
+line_places all base following p true (Func name ByLength) = sled_only all following base p.place (JumpSled sled_shift)
+line_places all base following p true (Func name Always) = sled_only all following base p.place (JumpSled sled_shift)
+line_places all base following p true (Func name Args) = sled_only all following base p.place (JumpSled sled_shift)
+line_places all base following p true (Func name Never) = sled_only all following base p.place (JumpSled sled_shift)
 line_places all base following p false (Func name choice) = refl
 line_places all base following p traced (Label name) = no_sled base traced p
 line_places all base following p true (Does (Plain instr)) = refl
@@ -200,21 +204,24 @@ each_line base fs P (line ∷ following) facts h zero place entry e d =
 each_line base fs P (line ∷ following) facts h (suc i) place entry e d = each_line base fs P following facts.1 h i place entry e d
 
 -- the kinds that lines have
-kind_cases : (K : ℕ → Type 0) → K 0 → K 1 → K 2 → (s : Statement) (k : ℕ) → sled_kind s ≡ Some k → K k
-kind_cases K a b c (Base address) k e = absurd (cc e)
-kind_cases K a b c (Entry name) k e = absurd (cc e)
-kind_cases K a b c (Func name choice) k e = let at : 0 ≡ k = cc e in subst K at a
-kind_cases K a b c (Label name) k e = absurd (cc e)
-kind_cases K a b c (Does (Plain instr)) k e = absurd (cc e)
-kind_cases K a b c (Does (Go branch name)) k e = absurd (cc e)
-kind_cases K a b c (Does (TailJump name)) k e = let at : 2 ≡ k = cc e in subst K at c
-kind_cases K a b c (Does Return) k e = let at : 1 ≡ k = cc e in subst K at b
+kind_cases : (K : ℕ → Type 0) → K 0 → K 1 → K 2 → K 3 → (s : Statement) (k : ℕ) → sled_kind s ≡ Some k → K k
+kind_cases K a b c d (Base address) k e = absurd (cc e)
+kind_cases K a b c d (Entry name) k e = absurd (cc e)
+kind_cases K a b c d (Func name ByLength) k e = let at : 0 ≡ k = cc e in subst K at a
+kind_cases K a b c d (Func name Always) k e = let at : 0 ≡ k = cc e in subst K at a
+kind_cases K a b c d (Func name Args) k e = let at : 3 ≡ k = cc e in subst K at d
+kind_cases K a b c d (Func name Never) k e = let at : 0 ≡ k = cc e in subst K at a
+kind_cases K a b c d (Label name) k e = absurd (cc e)
+kind_cases K a b c d (Does (Plain instr)) k e = absurd (cc e)
+kind_cases K a b c d (Does (Go branch name)) k e = absurd (cc e)
+kind_cases K a b c d (Does (TailJump name)) k e = let at : 2 ≡ k = cc e in subst K at c
+kind_cases K a b c d (Does Return) k e = let at : 1 ≡ k = cc e in subst K at b
 
 kind_fits : (s : Statement) (k : ℕ) → sled_kind s ≡ Some k → KindFits (eqb k 1) k
-kind_fits s k e = kind_cases (λ n. KindFits (eqb n 1) n) (inl refl) refl (inr refl) s k e
+kind_fits s k e = kind_cases (λ n. KindFits (eqb n 1) n) (inl refl) refl (inr (inl refl)) (inr (inr refl)) s k e
 
 -- a trampoline's distance fits its field
-distance_near : (base far place : ℕ) → 0x200000 ≤ far → far ≤ 0x200020 → place ≤ 1048576 → FitsSigned w32 (pos (base + far) -ℤ pos (base + (place + place % 2) + 11))
+distance_near : (base far place : ℕ) → 0x200000 ≤ far → far ≤ 0x200030 → place ≤ 1048576 → FitsSigned w32 (pos (base + far) -ℤ pos (base + (place + place % 2) + 11))
 distance_near base far place low high h = omega (arith, ints)
 
 near_line : (base : ℕ) (fs : List Function) (line : Placed × ℕ) → SledFacts base fs line → Reaches (trampolines_at base) (place_for base line) (entry_for base line)
@@ -223,6 +230,7 @@ near_line base fs line facts =
     (distance_near base 0x200000 line.0.place (omega arith) (omega arith) facts.0)
     (distance_near base 0x200010 line.0.place (omega arith) (omega arith) facts.0)
     (distance_near base 0x200020 line.0.place (omega arith) (omega arith) facts.0)
+    (distance_near base 0x200030 line.0.place (omega arith) (omega arith) facts.0)
     line.0.statement line.1 facts.1
 
 each_sled : (base : ℕ) (chosen : Choosing) (said : StatementLines) (P : SledPlace → MapEntry → Type 0) → AllLie 1048576 (lines_placed chosen said)

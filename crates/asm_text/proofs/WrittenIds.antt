@@ -7,7 +7,7 @@ use Rattle.std.proofs.lemmas.List.Sums.{sum_by-cons}
 use Rattle.xray_image.specs.Container.{MapEntry}
 use Rattle.xray_image.specs.Program.{distinct}
 use Rattle.xray_image.specs.Units.{JumpSled}
-use Rattle.asm_text.specs.declared.statement.Choice.TheVariants.{ByLength, Always, Never}
+use Rattle.asm_text.specs.declared.statement.Choice.TheVariants.{ByLength, Always, Args, Never}
 use Rattle.asm_text.specs.Statements.{Plain, Go, TailJump, Return, Statement, Base, Entry, Func, Label, Does}
 use Rattle.asm_text.specs.Layout.{StatementLines, Owner, by_threshold, owner_of, no_owner, is_function, parts_of_line, placed_from, lines_placed, widths, sled_shift, map_entries, base_of}
 use Rattle.asm_text.specs.Programs.{sled_said}
@@ -105,6 +105,18 @@ module _ (threshold base : ℕ) where
       let here : Owner = record { traced = true; always = true; start = place + place % 2 } in
       let width = widths (parts_of_line true place (Func name Always)) in
       let left = functions_in (entries_after place owner (Func name Always) following) in
+      let fresh : list_any (λ y. y == start) seen ≡ false = not_seen start seen (weaker (base + place) start seen (omega arith) known.below) in
+      let known_then : IsKnown base (place + width) here (start ∷ seen) = record {
+        own = λ h. or_left (start == start) (list_any (λ y. y == start) seen) (eq-eqb start start refl);
+        below = (omega (arith, widths_aligned place (JumpSled sled_shift)), weaker (base + place) (base + (place + width)) seen (omega arith) known.below);
+      } in
+      ap (λ t. length (cond t (distinct seen left) (start ∷ distinct (start ∷ seen) left))) fresh
+      ∙ (let more = rest (place + width) here (start ∷ seen) known_then in omega (arith, more))
+  one place owner seen number (Func name Args) following known always rest =
+      let start = base + (place + place % 2) in
+      let here : Owner = record { traced = true; always = true; start = place + place % 2 } in
+      let width = widths (parts_of_line true place (Func name Args)) in
+      let left = functions_in (entries_after place owner (Func name Args) following) in
       let fresh : list_any (λ y. y == start) seen ≡ false = not_seen start seen (weaker (base + place) start seen (omega arith) known.below) in
       let known_then : IsKnown base (place + width) here (start ∷ seen) = record {
         own = λ h. or_left (start == start) (list_any (λ y. y == start) seen) (eq-eqb start start refl);

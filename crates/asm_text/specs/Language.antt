@@ -4,7 +4,7 @@ use Rattle.text_lines.specs.Keywords.{in_table}
 use Rattle.subset_decode.specs.declared.instr.Instr.{Instr}
 use Rattle.subset_decode.specs.declared.instr.Instr.TheVariants as instrs
 use Rattle.asm_text.specs.declared.statement.Choice.{Choice}
-use Rattle.asm_text.specs.declared.statement.Choice.TheVariants.{ByLength, Always, Never}
+use Rattle.asm_text.specs.declared.statement.Choice.TheVariants.{ByLength, Always, Args, Never}
 use Rattle.asm_text.specs.declared.statement.Branch.TheVariants as branches
 use Rattle.asm_text.specs.declared.keyword.Keyword.{Keyword}
 use Rattle.asm_text.specs.declared.keyword.Keyword.TheVariants as words
@@ -28,7 +28,7 @@ statement_keyword_of word = in_table statement_keywords word
 
 -- the words after a function's name
 abbrev pub choices : List (List ℕ × Choice)
-choices = (codes "always", Always) ∷ (codes "never", Never) ∷ []
+choices = (codes "always", Always) ∷ (codes "never", Never) ∷ (codes "args", Args) ∷ []
 
 abbrev pub choice_of : List ℕ → Option Choice
 choice_of word = in_table choices word

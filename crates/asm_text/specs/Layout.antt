@@ -7,7 +7,7 @@ use Rattle.subset_decode.specs.declared.instr.Instr.TheVariants as instrs
 use Rattle.xray_image.specs.Units.{Piece, Instruction, JumpSled, ReturnSled, Align, piece_bytes, sleds_in}
 use Rattle.xray_image.specs.Container.{Function, MapEntry}
 use Rattle.asm_text.specs.declared.statement.Choice.{Choice}
-use Rattle.asm_text.specs.declared.statement.Choice.TheVariants.{ByLength, Always, Never}
+use Rattle.asm_text.specs.declared.statement.Choice.TheVariants.{ByLength, Always, Args, Never}
 use Rattle.asm_text.specs.declared.statement.Branch.{Branch}
 use Rattle.asm_text.specs.declared.statement.Branch.TheVariants as branches
 use Rattle.asm_text.specs.Statements.{Operation, Plain, Go, TailJump, Return, Statement, Base, Entry, Func, Label, Does}
@@ -85,21 +85,24 @@ instruction_lines (line ∷ following) =
 abbrev pub Choosing : Type 0
 Choosing = Choice → ℕ → Bool
 
--- those that say always, and those that don't say never and have at least as many instruction lines as the threshold
+-- those that say always or args, and those that say nothing and have at least as many instruction lines as the
+-- threshold
 abbrev pub by_threshold : ℕ → Choosing
 by_threshold threshold Always count = true
+by_threshold threshold Args count = true
 by_threshold threshold Never count = false
 by_threshold threshold ByLength count = nat_le threshold count
 
 -- all that don't say never
 abbrev pub unless_never : Choosing
 unless_never Always count = true
+unless_never Args count = true
 unless_never Never count = false
 unless_never ByLength count = true
 
 -- ---- places
 
--- the function that a line belongs to: whether it is instrumented, whether it says always, and where it starts
+-- the function that a line belongs to: whether it is instrumented, whether it always is, and where it starts
 pub record Owner : Type 0 where
   pub traced : Bool
   pub always : Bool
@@ -108,9 +111,11 @@ pub record Owner : Type 0 where
 abbrev pub no_owner : Owner
 no_owner = record { traced = false; always = false; start = 0 }
 
+-- a function that says always or args is always instrumented
 abbrev pub is_always : Choice → Bool
 is_always ByLength = false
 is_always Always = true
+is_always Args = true
 is_always Never = false
 
 -- a function that begins at a place; an instrumented one starts with its entry sled, after any alignment byte
@@ -220,7 +225,14 @@ function_in base p (Does operation) = None
 abbrev pub functions : ℕ → List Placed → List Function
 functions base lines = filter_map (λ p. function_in base p p.statement) lines
 
--- the kind of the sled that a line of an instrumented function has: 0 entry, 1 exit, 2 tail
+-- the kind of the entry sled of a function: 3, with argument logging, if it says args, and otherwise 0
+abbrev pub entry_kind : Choice → ℕ
+entry_kind ByLength = 0
+entry_kind Always = 0
+entry_kind Args = 3
+entry_kind Never = 0
+
+-- the kind of the sled that a line of an instrumented function has: of its entry, 1 exit, 2 tail
 abbrev pub operation_kind : Operation → Option ℕ
 operation_kind (Plain instr) = None
 operation_kind (Go branch name) = None
@@ -230,7 +242,7 @@ operation_kind Return = Some 1
 abbrev pub sled_kind : Statement → Option ℕ
 sled_kind (Base address) = None
 sled_kind (Entry name) = None
-sled_kind (Func name choice) = Some 0
+sled_kind (Func name choice) = Some (entry_kind choice)
 sled_kind (Label name) = None
 sled_kind (Does operation) = operation_kind operation
 

@@ -34,7 +34,12 @@ sled_said entries e = record {
 
 -- the trampolines, by the kind of the sleds that call them, at fixed distances from the base
 abbrev pub trampolines_at : ℕ → Trampolines
-trampolines_at base = record { entry = base + 0x200000; exit = base + 0x200010; tail = base + 0x200020 }
+trampolines_at base = record {
+  entry = base + 0x200000;
+  exit = base + 0x200010;
+  tail = base + 0x200020;
+  args = base + 0x200030;
+}
 
 -- the program that lines say, with a sled for each line of an instrumented function that has one
 abbrev pub program_said : ℕ → StatementLines → Program

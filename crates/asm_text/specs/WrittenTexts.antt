@@ -36,7 +36,7 @@ WrittenTextsRead = (all : List (List (List ℕ))) (statements : List Statement) 
     → IsOrderly (enumerate_from 1 statements) → length statements ≤ most_functions
     → statements_said (written_text all) ≡ Ok (enumerate_from 1 statements)
 
--- a function, if the line begins one, says always
+-- a function, if the line begins one, is always instrumented
 abbrev pub is_always_function : Statement → Bool
 is_always_function (Base address) = true
 is_always_function (Entry name) = true
@@ -44,7 +44,7 @@ is_always_function (Func name choice) = is_always choice
 is_always_function (Label name) = true
 is_always_function (Does operation) = true
 
--- if each function says always, then each has an id
+-- if each function is always instrumented, then each has an id
 abbrev pub AllHaveIds : Type 0
 AllHaveIds = (threshold : ℕ) (said : StatementLines) → list_all (λ line. is_always_function line.1) said ≡ true
     → id_count (program_said threshold said) ≡ count_by (λ line. is_function line.1) said

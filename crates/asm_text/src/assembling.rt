@@ -13,10 +13,11 @@ use crate::write::write_file;
 use std::alloc::Global;
 use text_lines::count_lines;
 
-/// The image file of an assembler text. A function gets sleds if it says `always`, and none if it
-/// says `never`. If it says neither, it gets sleds if it has at least `threshold` instruction
-/// lines. The sleds are those of compiler-rt's `xray_x86_64.cpp`: one at the function's entry, one
-/// in place of each `ret`, and one before each tail jump.
+/// The image file of an assembler text. A function gets sleds if it says `always` or `args`, and
+/// none if it says `never`. If it says nothing, it gets sleds if it has at least `threshold`
+/// instruction lines. The sleds are those of compiler-rt's `xray_x86_64.cpp`: one at the function's
+/// entry, one in place of each `ret`, and one before each tail jump. If the function says `args`,
+/// the entry sled logs the first argument.
 ///
 /// A text that can't be assembled is refused by its first fault; see `AsmFault`. `NoMemory` may
 /// come in place of any answer. The text has to have fewer than `u32::MAX` lines.

@@ -53,7 +53,7 @@ pub(crate) fn kind_of(statement: &Statement) -> Option<u8>
     ensures { result ≡ sled_kind (statement_said statement.now) }
 {
     match statement {
-        Statement::Function { .. } => Some(SledKind::Entry.number()),
+        Statement::Function { choice, .. } => Some(choice.entry_kind().number()),
         Statement::Does(Operation::Return) => Some(SledKind::Exit.number()),
         Statement::Does(Operation::TailJump { .. }) => Some(SledKind::Tail.number()),
         Statement::Does(Operation::Plain(_) | Operation::Go { .. })

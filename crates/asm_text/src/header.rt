@@ -17,7 +17,7 @@ const EXIT_TRAMPOLINE: u64 = 0x20_0010;
 /// The distance of the tail trampoline from the base.
 const TAIL_TRAMPOLINE: u64 = 0x20_0020;
 
-/// The distance from the base of the trampoline for entries with arguments.
+/// The distance of the argument trampoline from the base.
 const ARGUMENT_TRAMPOLINE: u64 = 0x20_0030;
 
 /// What the header counts.

@@ -50,15 +50,16 @@ pub(crate) fn keyword_of(word: &[u8]) -> Option<Keyword>
     keyword_in(&KEYWORDS, word)
 }
 
-/// The choice that the word after a function's name makes.
+/// The choices, as texts have them.
+const CHOICES: [(&[u8], Choice); 3] = [
+    (b"always", Choice::Always),
+    (b"never", Choice::Never),
+    (b"args", Choice::Args),
+];
+
+/// The choice that the word after a function's name makes, if it makes one.
 pub(crate) fn choice_of(word: &[u8]) -> Option<Choice>
     ensures { result ≡ choice_of word.now }
 {
-    if word == b"always".as_slice() {
-        Some(Choice::Always)
-    } else if word == b"never".as_slice() {
-        Some(Choice::Never)
-    } else {
-        None
-    }
+    keyword_in(&CHOICES, word)
 }

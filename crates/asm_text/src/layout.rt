@@ -16,7 +16,7 @@ use xray_image::format::CODE_LIMIT;
 pub(crate) struct Owner {
     /// Whether it is instrumented.
     pub(crate) traced: bool,
-    /// Whether it says `always`.
+    /// Whether it says `always` or `args`.
     pub(crate) always: bool,
     /// Where it starts: at its entry sled, if it has one.
     pub(crate) start: u32,
@@ -54,7 +54,7 @@ fn is_traced(threshold: u32, choice: Choice, following: &[NumberedStatement]) ->
     ensures { result ≡ by_threshold threshold choice (instruction_lines (lines_in following.now)) }
 {
     match choice {
-        Choice::Always => true,
+        Choice::Always | Choice::Args => true,
         Choice::Never => false,
         Choice::ByLength => threshold as usize <= instruction_lines(following),
     }
@@ -77,7 +77,7 @@ fn line_owner(
             let traced = is_traced(threshold, *choice, following);
             Owner {
                 traced,
-                always: *choice == Choice::Always,
+                always: choice.is_always(),
                 start: if traced { place + place % 2 } else { place },
             }
         }

@@ -4,6 +4,7 @@ ghost use Rattle.std.specs.Prelude.{◌≡◌, option_copied};
 
 use crate::registers::{Register, RegisterWord};
 use subset_decode::Instr;
+use xray_image::SledKind;
 
 /// When a function is instrumented.
 #[derive(Clone, Copy, PartialEq, Eq)]
@@ -12,8 +13,35 @@ pub(crate) enum Choice {
     ByLength,
     /// In any case.
     Always,
+    /// In any case, with argument logging at its entry.
+    Args,
     /// In no case.
     Never,
+}
+
+impl Choice {
+    ghost use Rattle.xray_image.specs.Kinds.{kind_number};
+    ghost use Rattle.asm_text.specs.Layout.{entry_kind, is_always};
+
+    /// Whether the function is always instrumented.
+    pub(crate) fn is_always(self) -> bool
+        ensures { result ≡ is_always self }
+    {
+        match self {
+            Choice::Always | Choice::Args => true,
+            Choice::ByLength | Choice::Never => false,
+        }
+    }
+
+    /// The kind of the function's entry sled, if it has one.
+    pub(crate) fn entry_kind(self) -> SledKind
+        ensures { kind_number result ≡ entry_kind self }
+    {
+        match self {
+            Choice::ByLength | Choice::Always | Choice::Never => SledKind::Entry,
+            Choice::Args => SledKind::Args,
+        }
+    }
 }
 
 /// The branches that go to a name.

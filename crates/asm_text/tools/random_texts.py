@@ -64,6 +64,7 @@ class Choice(enum.Enum):
     BY_LENGTH = ""
     ALWAYS = "always"
     NEVER = "never"
+    ARGS = "args"
 
 
 class Sled(enum.IntEnum):
@@ -72,6 +73,7 @@ class Sled(enum.IntEnum):
     ENTRY = 0
     EXIT = 1
     TAIL = 2
+    ARGS = 3
 
 
 class Refusal(enum.Enum):
@@ -175,7 +177,7 @@ def as_name(word):
 
 
 def as_choice(word):
-    return {"always": Choice.ALWAYS, "never": Choice.NEVER}.get(word)
+    return {"always": Choice.ALWAYS, "never": Choice.NEVER, "args": Choice.ARGS}.get(word)
 
 
 # What the words after each keyword have to be, by how many there are.
@@ -277,9 +279,17 @@ def prefix(register):
     return b"\x41" if register.is_extended else b""
 
 
+# What a `fn` line says of a function that is instrumented however long it is.
+ALWAYS = (Choice.ALWAYS, Choice.ARGS)
+
 # The lines that have a sled if their function is instrumented, and the two bytes that each kind begins with.
 SLEDS = {"fn": Sled.ENTRY, "ret": Sled.EXIT, "tailjmp": Sled.TAIL}
-HEADS = {Sled.ENTRY: b"\xEB\x09", Sled.EXIT: b"\xC3\x2E", Sled.TAIL: b"\xEB\x09"}
+HEADS = {Sled.ENTRY: b"\xEB\x09", Sled.EXIT: b"\xC3\x2E", Sled.TAIL: b"\xEB\x09", Sled.ARGS: b"\xEB\x09"}
+
+
+def sled_kind(said):
+    """The kind of a line's sled. That of a function that logs its first argument has a kind of its own."""
+    return Sled.ARGS if said.is_function and said.choice is Choice.ARGS else SLEDS[said.keyword]
 
 
 @dataclasses.dataclass(frozen=True)
@@ -301,7 +311,7 @@ class Placed:
         distance = places[self.said.name] - self.end if self.said.keyword in BRANCHES else 0
         if self.sled is None:
             return encoding(self.said, distance)
-        kind = SLEDS[self.said.keyword]
+        kind = sled_kind(self.said)
         sled = ALIGNMENT * (self.sled - self.first) + HEADS[kind] + NOP
         return sled if kind is Sled.EXIT else sled + encoding(self.said, distance)
 
@@ -430,7 +440,7 @@ def functions_of(statements):
 def is_instrumented(function, threshold):
     choice = function[0].choice
     instructions = sum(said.is_instruction for said in function)
-    return choice is Choice.ALWAYS or (choice is Choice.BY_LENGTH and instructions >= threshold)
+    return choice in ALWAYS or (choice is Choice.BY_LENGTH and instructions >= threshold)
 
 
 def layout(functions, threshold):
@@ -464,9 +474,9 @@ def map_of(rows, base):
     for row in rows:
         if row.said.is_function:
             function = base + row.start
-            is_always = row.said.choice is Choice.ALWAYS
+            is_always = row.said.choice in ALWAYS
         if row.sled is not None:
-            entries.append((base + row.sled, function, SLEDS[row.said.keyword], is_always))
+            entries.append((base + row.sled, function, sled_kind(row.said), is_always))
     return entries
 
 
@@ -496,11 +506,13 @@ def assembled(text, threshold):
 
 # ---- Random texts: programs without a fault, each line a list of words
 
-NAMES = ["main", "a", "A", "_", ".L0", "$x", "f1", "x.y$z_9", "ret", "fn", "always", "never", "rax", "n" * NAME_LIMIT]
+NAMES = [
+    "main", "a", "A", "_", ".L0", "$x", "f1", "x.y$z_9", "ret", "fn", "always", "never", "args", "rax", "n" * NAME_LIMIT,
+]  # fmt: skip
 NAMED_LOW = [word for word in LOW if word not in RESERVED]
 NAMED_WIDE = [word for word in WIDE if word not in RESERVED]
 # What follows the name in a `fn` line. Nothing is more frequent, since thresholds need it.
-CHOICES = ["", "", " always", " never"]
+CHOICES = ["", "", " always", " never", " args"]
 
 
 def program(draw):
@@ -553,6 +565,7 @@ def spelled(draw, value):
 STRANGE = [
     "nop", "Ret", "ret ret", "ret: ret", "a :", ":", "a::", "1a:", "a-b:", "n" * (NAME_LIMIT + 1) + ":",
     "fn", "FN a", "fn 1a", "fn a b", "fn a Always", "fn a always never", "fn a,", "fn a:",
+    "fn a arg", "fn a Args", "fn a args always",
     "base", "base 0x", "base 16 16", "base a", "base 18446744073709551616", "entry", "entry a b", "entry 1",
     "mov", "mov eax 1", "mov eax,1", "mov eax , 1", "mov ,eax 1", "mov eax,, 1", "mov eax,", "mov eax, 1 1",
     "mov 1, eax", "mov eax, ecx", "mov eax, esp", "mov rax, 1", "mov al, 1", "mov EAX, 1", "mov r16d, 1",

@@ -50,7 +50,7 @@ pub struct Stamps {
 /// The buffers of a run's events.
 #[derive(Clone, Copy, Debug, PartialEq, Eq)]
 pub struct Buffers {
-    /// The size of a buffer in bytes, from 72 to 1,048,576.
+    /// The size of a buffer in bytes, from 88 to 1,048,576.
     pub size: u32,
     /// How many buffers there are: at least one per thread, at most 1,024.
     pub max: u32,

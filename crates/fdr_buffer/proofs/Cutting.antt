@@ -1,11 +1,14 @@
 -- The cut of events into segments.
-use Rattle.std.proofs.Common.{◌≡◌, ◌≢◌, ℕ, ◌≤◌, true, false, List, [], ◌∷◌, ◌++◌, refl, ap, ◌∙◌, append_assoc, arith, inl, inr}
+use Rattle.std.proofs.Common.{◌≡◌, ◌≢◌, ℕ, ◌≤◌, true, false, List, [], ◌∷◌, ◌++◌, length, refl, ap, ◌∙◌, append_assoc, arith, inl, inr}
 use Rattle.std.proofs.lemmas.Bool.{cases_Bool, le-leb}
+use Rattle.std.proofs.lemmas.List.{append-nil}
 use Rattle.std.specs.List.{flat_map, AllByRecursion}
 use Rattle.std.specs.Prelude.{if◌then◌else◌}
 use Rattle.fdr_record.specs.declared.event.Event.{Event}
+use Rattle.fdr_record.specs.declared.event.Kind.{Kind}
+use Rattle.fdr_record.specs.declared.event.Kind.TheVariants.{Entry, Exit, TailExit, EntryArgs}
 use Rattle.fdr_buffer.specs.declared.buffer.TheConstants.{LEAST_SIZE}
-use Rattle.fdr_buffer.specs.Segments.{has_room, segments_from, segments}
+use Rattle.fdr_buffer.specs.Segments.{arg_records, bytes_of, has_room, records_on_new_cpu, segment_bytes, segments_from, segments}
 
 -- the last segment and the next event
 abbrev pub with_next : ℕ → List Event → Event → List (List Event)
@@ -86,8 +89,16 @@ hold_some size [] = tt
 hold_some size (event ∷ events) = from_some size (event ∷ []) events (one_not_empty event)
 
 -- every buffer has room for one event
+arg_short : (kind : Kind) (arg : ℕ) → length (bytes_of (arg_records kind arg)) ≤ 16
+arg_short Entry arg = omega arith
+arg_short Exit arg = omega arith
+arg_short TailExit arg = omega arith
+arg_short EntryArgs arg = omega arith
+
 one_has_room : (size : ℕ) (event : Event) → LEAST_SIZE ≤ size → has_room size (event ∷ []) ≡ true
-one_has_room size event least = le-leb _ _ (omega arith)
+one_has_room size event least =
+    let all : segment_bytes (event ∷ []) ≡ bytes_of (records_on_new_cpu event) = ap bytes_of (append-nil (records_on_new_cpu event)) in
+    le-leb _ _ (omega (arith, ap length all, arg_short event.kind event.arg, least))
 
 from_room : (size : ℕ) (opened events : List Event) → LEAST_SIZE ≤ size → has_room size opened ≡ true → AllByRecursion (λ s. has_room size s ≡ true) (segments_from size opened events)
 from_room size opened [] least fits = (fits, tt)

@@ -9,6 +9,7 @@ use Rattle.std.proofs.lemmas.List.Elements.{All-from_recursion, All-push}
 use Rattle.xray_io.specs.declared.wall.Wall.{Wall}
 use Rattle.fdr_record.specs.declared.event.Event.{Event}
 use Rattle.fdr_record.specs.Records.{record_bytes}
+use Rattle.fdr_record.specs.Recordable.{ArgFits}
 use Rattle.fdr_buffer.specs.declared.buffer.TheConstants.{LEAST_SIZE, LARGEST_SIZE}
 use Rattle.fdr_buffer.specs.declared.buffer.Buffer.TheInside.{Inside}
 use Rattle.fdr_buffer.specs.Segments.{bytes_of, is_out_of_reach, records_of, records_after, segment_bytes, preamble, body, has_room, EventFits}
@@ -180,6 +181,8 @@ pub record IsToldBy (a : Inside) (lead : Lead) (event : Event) : Type 0 where
   pub records : lead_records lead event ≡ records_of a.last event
   pub cpu : event.cpu < 2 ^ 16
   pub tsc : event.tsc < 2 ^ 64
+  pub arg : event.arg < 2 ^ 64
+  pub logged : ArgFits event.kind event.arg
 
 -- adding an event leaves a buffer with one event more
 pub put_leaves : (a : Inside) (now : Filled) (event : Event) (lead : Lead) (bytes : List ℕ) (used : ℕ) → filled_in a ≡ now → IsFilled a → now.begun ≡ true → HasRoomFor event now → event.func < 2 ^ 28 → IsToldBy a lead event
@@ -189,7 +192,7 @@ put_leaves a now event lead bytes used seen filled begun room id told size writt
     let begun' : ltb 0 a.used ≡ true = ap (λ (v : Filled). v.begun) seen ∙ begun in
     let room' : HasRoomFor event (filled_in a) = subst (HasRoomFor event) (sym seen) room in
     let b = grown a bytes used event in
-    let grows : Grows a b event = grown_grows a bytes used event size (record { cpu = told.cpu; func = id; tsc = told.tsc }) (written ∙ rw told.records refl) (next ∙ rw told.records refl) in
+    let grows : Grows a b event = grown_grows a bytes used event size (record { cpu = told.cpu; func = id; tsc = told.tsc; arg = told.arg; logged = told.logged }) (written ∙ rw told.records refl) (next ∙ rw told.records refl) in
     let holds : Holds b (events_told a ++ event ∷ []) = holds_more a b (events_told a) event filled grows begun' room' in
     (is_filled b (events_told a ++ event ∷ []) holds, more_is a b (events_told a) event grows begun' holds ∙ ap (λ (v : Filled). with_event v event) seen)
 

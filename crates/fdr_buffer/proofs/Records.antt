@@ -8,10 +8,10 @@ use Rattle.fdr_record.specs.Records.{record_bytes}
 use Rattle.fdr_buffer.specs.Segments.{bytes_of, records_of, records_after, segment_bytes}
 use Rattle.fdr_buffer.specs.private.Last.{last_after, last_of}
 
--- two records after a prefix
-pub two_records : (front mid all : List ℕ) (a b : Rec) → mid ≡ front ++ record_bytes a → all ≡ mid ++ record_bytes b → all ≡ front ++ bytes_of (a ∷ b ∷ [])
-two_records front mid all a b first second =
-    second ∙ ap (λ (x : List ℕ). x ++ record_bytes b) first ∙ append_assoc front (record_bytes a) (record_bytes b) ∙ ap (λ (x : List ℕ). front ++ (record_bytes a ++ x)) (sym (append-nil (record_bytes b)))
+-- a record after a prefix, and more records after it
+pub more_records : (front mid all : List ℕ) (r : Rec) (records : List Rec) → mid ≡ front ++ record_bytes r → all ≡ mid ++ bytes_of records → all ≡ front ++ bytes_of (r ∷ records)
+more_records front mid all r records first rest =
+    rest ∙ ap (λ (x : List ℕ). x ++ bytes_of records) first ∙ append_assoc front (record_bytes r) (bytes_of records)
 
 -- the last of some events, with one more
 last_after-push : (before : Option Event) (events : List Event) (event : Event) → last_after before (events ++ event ∷ []) ≡ Some event

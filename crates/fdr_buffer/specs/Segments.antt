@@ -3,13 +3,27 @@ use Rattle.std.specs.Prelude.{◌<◌, ◌^◌, ◌+◌, ◌-◌, ◌||◌, ℕ,
 use Rattle.std.specs.List.{flat_map}
 use Rattle.xray_io.specs.declared.wall.Wall.{Wall}
 use Rattle.fdr_record.specs.declared.event.Event.{Event}
+use Rattle.fdr_record.specs.declared.event.Kind.{Kind}
+use Rattle.fdr_record.specs.declared.event.Kind.TheVariants.{Entry, Exit, TailExit, EntryArgs}
 use Rattle.fdr_record.specs.declared.rec.Rec.{Rec}
-use Rattle.fdr_record.specs.declared.rec.Rec.TheVariants.{NewBuffer, NewCpu, TscWrap, WallTime, Pid, Function}
+use Rattle.fdr_record.specs.declared.rec.Rec.TheVariants.{NewBuffer, NewCpu, TscWrap, WallTime, Pid, CallArg, Function}
 use Rattle.fdr_record.specs.Records.{record_bytes}
+use Rattle.fdr_record.specs.Recordable.{ArgFits}
 
 -- the function record of an event
 abbrev pub function_record : Event → ℕ → Rec
 function_record event delta = Function event.kind event.func delta
+
+-- the record of the argument that an event of this kind logs
+abbrev pub arg_records : Kind → ℕ → List Rec
+arg_records Entry arg = []
+arg_records Exit arg = []
+arg_records TailExit arg = []
+arg_records EntryArgs arg = CallArg arg ∷ []
+
+-- the function record of an event, and its argument if it logs one
+abbrev pub function_records : Event → ℕ → List Rec
+function_records event delta = function_record event delta ∷ arg_records event.kind event.arg
 
 -- no delta of 32 bits leads from the counter before to this one
 abbrev pub is_out_of_reach : ℕ → ℕ → Bool
@@ -17,13 +31,13 @@ is_out_of_reach before tsc = nat_lt tsc before || nat_lt (before + (2 ^ 32 - 1))
 
 -- the records of the first event of a segment, or of one on another CPU
 abbrev pub records_on_new_cpu : Event → List Rec
-records_on_new_cpu event = NewCpu event.cpu event.tsc ∷ function_record event 0 ∷ []
+records_on_new_cpu event = NewCpu event.cpu event.tsc ∷ function_records event 0
 
 -- the records of an event on the same CPU as the event before, by the counter of that one
 abbrev pub records_on_same_cpu : ℕ → Event → List Rec
 records_on_same_cpu before event =
-    if is_out_of_reach before event.tsc then TscWrap event.tsc ∷ function_record event 0 ∷ []
-    else function_record event (event.tsc - before) ∷ []
+    if is_out_of_reach before event.tsc then TscWrap event.tsc ∷ function_records event 0
+    else function_records event (event.tsc - before)
 
 -- the records of an event, by the event before it in its segment
 abbrev pub records_of : Option Event → Event → List Rec
@@ -76,3 +90,5 @@ pub record EventFits (event : Event) : Type 0 where
   pub cpu : event.cpu < 2 ^ 16
   pub func : event.func < 2 ^ 28
   pub tsc : event.tsc < 2 ^ 64
+  pub arg : event.arg < 2 ^ 64
+  pub logged : ArgFits event.kind event.arg

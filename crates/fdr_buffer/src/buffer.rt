@@ -4,6 +4,7 @@ ghost use Rattle.std.specs.Prelude.{◌≡◌, ◌<◌, ◌≤◌, ◌^◌, [], 
 ghost use Rattle.fdr_buffer.specs.{Segments.{has_room}, Filled.{Filled, empty_buffer, used_bytes}};
 ghost use Rattle.fdr_buffer.specs.private.Buffer.{filled_in, IsFilled};
 ghost use Rattle.fdr_buffer.specs.Fits.{BufferFits};
+ghost use Rattle.fdr_record.specs.Recordable.{IsRecordable};
 
 use crate::lead::Lead;
 use crate::writing::{put_event, put_preamble};
@@ -12,8 +13,9 @@ use std::alloc::Global;
 use std::marker::Model;
 use xray_io::{NoMemory, Wall};
 
-/// The least size of a buffer, in bytes: its preamble, and the records of one event.
-pub const LEAST_SIZE: u32 = 72;
+/// The least size of a buffer, in bytes: its preamble, and the most that the records of one event
+/// take, which are a CPU, an entry and the entry's argument.
+pub const LEAST_SIZE: u32 = 88;
 
 /// The largest size of a buffer, in bytes.
 pub const LARGEST_SIZE: u32 = 1_048_576;
@@ -104,15 +106,16 @@ impl Buffer {
         requires { IsTrue self.now.begun }
         ensures { result ≡ has_room self.now.size (self.now.events ++ event.now ∷ []) }
     {
-        Lead::of(self.last, event).len() <= self.bytes.len() - self.used
+        Lead::of(self.last, event).len(event) <= self.bytes.len() - self.used
     }
 
     /// Adds an event after the others. The buffer has to be begun, and the event has to fit; `fits`
-    /// says whether it does. The function's id has to be below 2^28.
+    /// says whether it does. The function's id has to be below 2^28, and the argument 0 if the
+    /// event's kind logs none.
     pub fn put(&mut self, event: &Event)
         requires begun { IsTrue self.old.begun }
         requires room { IsTrue (has_room self.old.size (self.old.events ++ event.now ∷ [])) }
-        requires id { event.now.func < 2 ^ 28 }
+        requires recordable { IsRecordable event.now }
         ensures { self.new ≡ record self.old { events = self.old.events ++ event.now ∷ [] } }
     {
         let lead = Lead::of(self.last, event);

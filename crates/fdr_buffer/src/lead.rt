@@ -1,11 +1,22 @@
 //! What comes before an event's function record.
 
-ghost use Rattle.std.specs.Prelude.{◌≡◌, ◌<◌, ◌^◌, length};
+ghost use Rattle.std.specs.Prelude.{◌≡◌, ◌<◌, ◌≤◌, ◌^◌, ℕ, length};
 ghost use Rattle.fdr_record.specs.declared.event.Event.{Event};
-ghost use Rattle.fdr_buffer.specs.Segments.{bytes_of, records_of};
+ghost use Rattle.fdr_buffer.specs.Segments.{bytes_of, function_records, records_of};
 ghost use Rattle.fdr_buffer.specs.private.Leads.{lead_records};
 
-use fdr_record::{Event, FUNCTION_BYTES, METADATA_BYTES};
+use fdr_record::{Event, FUNCTION_BYTES, Kind, METADATA_BYTES};
+
+/// The length in bytes of the function record of an event, and of its argument if it logs one.
+fn function_len(event: &Event) -> usize
+    ensures length { (delta : ℕ) → result ≡ length (bytes_of (function_records event.now delta)) }
+    ensures few { result ≤ 24 }
+{
+    match event.kind {
+        Kind::Entry | Kind::Exit | Kind::TailExit => FUNCTION_BYTES,
+        Kind::EntryArgs => FUNCTION_BYTES + METADATA_BYTES,
+    }
+}
 
 /// How an event's records say its CPU and counter.
 #[derive(Clone, Copy, PartialEq, Eq)]
@@ -28,8 +39,14 @@ impl Lead {
         ensures records { lead_records result event.now ≡ records_of before event.now }
         ensures cpu { event.now.cpu < 2 ^ 16 }
         ensures tsc { event.now.tsc < 2 ^ 64 }
+        ensures arg { event.now.arg < 2 ^ 64 }
     {
-        let Event { cpu, tsc, .. } = *event;
+        let Event {
+            cpu,
+            tsc,
+            arg: _arg,
+            ..
+        } = *event;
         let Some(before) = before else {
             return Lead::Cpu;
         };
@@ -42,14 +59,13 @@ impl Lead {
         }
     }
 
-    /// The length in bytes of the records of any event with this lead: 24 with a record that comes
-    /// first, and 8 without.
-    pub(crate) fn len(self) -> usize
-        ensures { (event : Event) → result ≡ length (bytes_of (lead_records self event)) }
+    /// The length in bytes of the records of an event with this lead.
+    pub(crate) fn len(self, event: &Event) -> usize
+        ensures { result ≡ length (bytes_of (lead_records self event.now)) }
     {
         match self {
-            Lead::Cpu | Lead::Wrap => METADATA_BYTES + FUNCTION_BYTES,
-            Lead::Delta(_) => FUNCTION_BYTES,
+            Lead::Cpu | Lead::Wrap => METADATA_BYTES + function_len(event),
+            Lead::Delta(_) => function_len(event),
         }
     }
 }

@@ -1,12 +1,12 @@
 //! Writing the records of preambles and events into a buffer's bytes.
 
 ghost use Rattle.std.specs.Prelude.{◌≡◌, ◌≤◌, ◌<◌, ◌+◌, ◌^◌, [], ◌++◌, length, take};
-ghost use Rattle.fdr_buffer.specs.Segments.{body, bytes_of, function_record, preamble_length};
+ghost use Rattle.fdr_buffer.specs.Segments.{body, bytes_of, function_record, function_records, preamble_length};
 ghost use Rattle.fdr_buffer.specs.private.Leads.{lead_records};
 ghost use Rattle.fdr_record.specs.Records.{length_of, record_bytes, IdFits};
 
 use crate::lead::Lead;
-use fdr_record::{Event, Rec, put_rec};
+use fdr_record::{Event, Kind, Rec, put_rec};
 use xray_io::Wall;
 
 /// Writes the records that a buffer begins with, and answers the place after them.
@@ -43,6 +43,23 @@ fn function(event: &Event, delta: u32) -> Rec
     }
 }
 
+/// Writes the function record of an event at the place `at`, where the records so far end, and its
+/// argument if it logs one. Answers the place after them.
+#[tactic(auto, using(std::proofs::Common::append_assoc))]
+fn put_function(bytes: &mut [u8], at: usize, event: &Event, delta: u32) -> usize
+    requires room { at + length (bytes_of (function_records event.now delta)) ≤ length bytes.old }
+    requires id { event.now.func < 2 ^ 28 }
+    ensures bytes { take result bytes.new ≡ take at bytes.old
+        ++ bytes_of (function_records event.now delta) }
+    ensures next { result ≡ at + length (bytes_of (function_records event.now delta)) }
+{
+    let at = append(bytes, at, &function(event, delta));
+    match event.kind {
+        Kind::Entry | Kind::Exit | Kind::TailExit => at,
+        Kind::EntryArgs => append(bytes, at, &Rec::CallArg { value: event.arg }),
+    }
+}
+
 /// Writes the records of an event at the place `at`, where the records so far end. Answers the
 /// place after them.
 #[tactic(auto, using(std::proofs::Common::append_assoc))]
@@ -60,12 +77,12 @@ pub(crate) fn put_event(bytes: &mut [u8], at: usize, lead: Lead, event: &Event) 
                 tsc: event.tsc,
             };
             let at = append(bytes, at, &cpu);
-            append(bytes, at, &function(event, 0))
+            put_function(bytes, at, event, 0)
         }
         Lead::Wrap => {
             let at = append(bytes, at, &Rec::TscWrap { tsc: event.tsc });
-            append(bytes, at, &function(event, 0))
+            put_function(bytes, at, event, 0)
         }
-        Lead::Delta(delta) => append(bytes, at, &function(event, delta)),
+        Lead::Delta(delta) => put_function(bytes, at, event, delta),
     }
 }

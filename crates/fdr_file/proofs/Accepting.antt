@@ -8,7 +8,7 @@ use Rattle.std.proofs.lemmas.List.Concat.{flat_map-cons}
 use Rattle.byteorder.specs.Endian.{little_bytes}
 use Rattle.byteorder.specs.Numbers.{little_number-reads_back}
 use Rattle.fdr_record.specs.declared.rec.Rec.{Rec}
-use Rattle.fdr_record.specs.declared.rec.Rec.TheVariants.{NewBuffer, NewCpu, TscWrap, WallTime, Pid, Extents, Function}
+use Rattle.fdr_record.specs.declared.rec.Rec.TheVariants.{NewBuffer, NewCpu, TscWrap, WallTime, Pid, CallArg, Extents, Function}
 use Rattle.fdr_record.specs.Records.{length_of, BeginsWith, Spells}
 use Rattle.fdr_file.specs.declared.header.Header.{Header}
 use Rattle.fdr_file.specs.declared.fault.TraceFault.{TraceFault}
@@ -17,9 +17,9 @@ use Rattle.fdr_file.specs.declared.trace.Trace.{Trace}
 use Rattle.fdr_file.specs.declared.version.Version.{Version}
 use Rattle.fdr_file.specs.declared.version.Version.TheVariants.{Three}
 use Rattle.fdr_file.specs.Places.{starts}
-use Rattle.fdr_file.specs.Traces.{PreambleItem, Standing, TheProcess, TheThread, TheWallTime, block_in, block_length, block_standings, extents_in, header_in, names_cpu, preamble_bytes, preamble_of, record_in, records_among, standings, trace_of, version_in, version_of}
+use Rattle.fdr_file.specs.Traces.{PreambleItem, Standing, TheProcess, TheThread, TheWallTime, block_in, block_length, block_standings, extents_in, first_takes_arg, header_in, names_cpu, preamble_bytes, preamble_of, record_in, records_among, standings, trace_of, version_in, version_of}
 use Rattle.fdr_file.specs.private.Faults.{by_places, block_faults, blocks_faults, decided, standing_faults, told_by}
-use Rattle.fdr_file.specs.Grammar.{AreBlocks, AreSpelled, BeginWithCpu, IsBlock, IsHeader, IsInner, IsTrace, block_records, naming}
+use Rattle.fdr_file.specs.Grammar.{ArgsFollow, AreBlocks, AreSpelled, BeginWithCpu, IsBlock, IsHeader, IsInner, IsTrace, block_records, naming}
 use Rattle.fdr_file.proofs.TraceRows.{HasHeader, header_first, header_passes, rows_decide}
 use Rattle.fdr_file.proofs.Decoding.{length_told, told_again}
 use Rattle.fdr_file.proofs.Walking.{starts_first, stands_first}
@@ -43,6 +43,7 @@ length_between (NewCpu cpu tsc) = (lit≤ tt, lit≤ tt)
 length_between (TscWrap tsc) = (lit≤ tt, lit≤ tt)
 length_between (WallTime wall) = (lit≤ tt, lit≤ tt)
 length_between (Pid pid) = (lit≤ tt, lit≤ tt)
+length_between (CallArg value) = (lit≤ tt, lit≤ tt)
 length_between (Extents size) = (lit≤ tt, lit≤ tt)
 length_between (Function kind func delta) = (lit≤ tt, lit≤ tt)
 
@@ -67,27 +68,29 @@ or_true true = refl
 or_true false = refl
 
 -- records after a CPU have no fault
-stand_clean : (version : Version) (before : List Rec) (at : ℕ) (records : List Rec) → IsBehind version before → list_any names_cpu before ≡ true → AllByRecursion IsInner records → standing_faults version before (stand_from at records) ≡ []
-stand_clean version before at [] many cpu inner = refl
-stand_clean version before at (r ∷ records) many cpu (here, rest) =
+stand_clean : (version : Version) (before : List Rec) (at : ℕ) (records : List Rec) → IsBehind version before → list_any names_cpu before ≡ true → AllByRecursion IsInner records → ArgsFollow (first_takes_arg before) records
+    → standing_faults version before (stand_from at records) ≡ []
+stand_clean version before at [] many cpu inner args = refl
+stand_clean version before at (r ∷ records) many cpu (here, rest) (arg, args) =
     let next : list_any names_cpu (r ∷ before) ≡ true = after (names_cpu r) cpu in
-    rw (may_behind version before r many, here, cpu) (stand_clean version (r ∷ before) (at + length_of r) records (one_after version before r many) next rest)
+    rw (may_behind version before r many, here, arg, cpu) (stand_clean version (r ∷ before) (at + length_of r) records (one_after version before r many) next rest args)
   where
     after : {b : Bool} (a : Bool) → b ≡ true → (a || b) ≡ true
     after true e = refl
     after false e = e
 
-preamble_clean : (version : Version) (before : List Rec) (at : ℕ) (records : List Rec) → IsBehind version before → AllByRecursion IsInner records → BeginWithCpu records → standing_faults version before (stand_from at records) ≡ []
-preamble_clean version before at [] many inner based = refl
-preamble_clean version before at (NewCpu cpu tsc ∷ records) many (here, rest) based =
+preamble_clean : (version : Version) (before : List Rec) (at : ℕ) (records : List Rec) → IsBehind version before → AllByRecursion IsInner records → BeginWithCpu records → ArgsFollow false records → standing_faults version before (stand_from at records) ≡ []
+preamble_clean version before at [] many inner based args = refl
+preamble_clean version before at (NewCpu cpu tsc ∷ records) many (here, rest) based (arg, args) =
     let r : Rec = NewCpu cpu tsc in
-    rw (may_behind version before r many, or_true (list_any names_cpu before)) (stand_clean version (r ∷ before) (at + 16) records (one_after version before r many) refl rest)
-preamble_clean version before at (r ∷ records) many inner based = absurd cc
+    rw (may_behind version before r many, or_true (list_any names_cpu before)) (stand_clean version (r ∷ before) (at + 16) records (one_after version before r many) refl rest args)
+preamble_clean version before at (r ∷ records) many inner based args = absurd cc
 
 -- the records of a block have no fault
-block_clean : (version : Version) (at : ℕ) (block : Block) (records : List Rec) → AllByRecursion IsInner records → BeginWithCpu records → standing_faults version [] (stand_from at (block_records version block records)) ≡ []
-block_clean Three at block records inner based =
-    preamble_clean Three (Pid block.pid ∷ WallTime block.wall ∷ NewBuffer block.thread ∷ []) (at + 16 + 16 + 16) records (0, refl) inner based
+block_clean : (version : Version) (at : ℕ) (block : Block) (records : List Rec) → AllByRecursion IsInner records → BeginWithCpu records → ArgsFollow false records
+    → standing_faults version [] (stand_from at (block_records version block records)) ≡ []
+block_clean Three at block records inner based args =
+    preamble_clean Three (Pid block.pid ∷ WallTime block.wall ∷ NewBuffer block.thread ∷ []) (at + 16 + 16 + 16) records (0, refl) inner based args
 
 -- ---- blocks
 
@@ -124,7 +127,7 @@ block_stands version bytes following at block is =
     let standing : block_standings (at, all) ≡ stand_from (at + 16) records =
     ap (λ (k : ℕ). standings (at + 16) (take k (drop 16 all))) named ∙ ap (λ (x : List ℕ). standings (at + 16) (take n x)) body ∙ ap (standings (at + 16)) (take_at is.body following n refl)
     ∙ spelled_stand (at + 16) records is.body is.spelled in
-    let inner = block_clean version (at + 16) block is.records is.inner is.based in
+    let inner = block_clean version (at + 16) block is.records is.inner is.based is.args in
     let long : ltb (length all) 16 ≡ false = le-ltb (length all) 16 (omega arith) in
     let least : leb (preamble_bytes version) n ≡ true = le-leb (preamble_bytes version) n many in
     let whole : leb (16 + n) (length all) ≡ true = le-leb (16 + n) (length all) (omega arith) in

@@ -1,5 +1,5 @@
 -- What a file reads as is what the reading of all its records ends in.
-use Rattle.std.proofs.Common.{◌≡◌, ℕ, zero, suc, ◌+◌, ◌-◌, ◌<◌, ◌≤◌, Bool, true, false, cond, eqb, ltb, List, [], ◌∷◌, ◌++◌, length, take, drop, Option, Some, None, Result, Ok, Err, inl, inr, refl, sym, ap, ◌∙◌, append-nil, arith}
+use Rattle.std.proofs.Common.{◌≡◌, ℕ, zero, suc, ◌+◌, ◌-◌, ◌<◌, ◌≤◌, Bool, true, false, cond, eqb, ltb, List, [], ◌∷◌, ◌++◌, length, take, drop, Option, Some, None, Result, Ok, Err, inl, inr, refl, sym, ap, ◌∙◌, append_assoc, append-nil, arith}
 use Rattle.std.specs.Prelude.{◌⊎◌, option_to_list}
 use Rattle.std.proofs.lemmas.Bool.{cases_Bool, eq-eqb, le-leb, lt-leb, le-ltb, lt-ltb, ltb-false, ltb-true, ne_eqb}
 use Rattle.std.proofs.lemmas.Grind.{common_steps}
@@ -21,7 +21,7 @@ use Rattle.fdr_file.specs.declared.stage.Inside.TheVariants as insides
 use Rattle.fdr_file.specs.declared.stage.Stage.{Stage}
 use Rattle.fdr_file.specs.declared.stage.Stage.TheVariants.{Due, Within, Faulty}
 use Rattle.fdr_file.specs.declared.stage.Told.{Told}
-use Rattle.fdr_file.specs.declared.stage.Told.TheVariants.{Nothing, Begun}
+use Rattle.fdr_file.specs.declared.stage.Told.TheVariants.{Nothing, Begun, Noted}
 use Rattle.fdr_file.specs.declared.trace.Block.{Block}
 use Rattle.fdr_file.specs.declared.trace.Trace.{Trace}
 use Rattle.fdr_file.specs.declared.version.Version.{Version}
@@ -30,11 +30,11 @@ use Rattle.fdr_file.specs.Places.{starts}
 use Rattle.fdr_file.specs.Traces.{block_in, block_length, block_of, header_in, pid_named, preamble_bytes, record_in, record_length, records_among, size_named, standings, thread_named, trace_of, wall_named}
 use Rattle.fdr_file.specs.private.Faults.{block_faults, blocks_faults, decided, standing_faults, told_by}
 use Rattle.fdr_file.specs.private.Reading.{Left, blocks_read, body_on, events_on, named_on, pid_on, preamble_on, read_first, record_on, with_front}
-use Rattle.fdr_file.specs.Scanning.{block_span, blocks_given, empty_block, extents_next, extents_span, inside_judged, inside_next, record_or, record_within, scanned, scanned_ends, scanned_from, scanned_on, stage_after, stage_ends, stage_judged, stage_within, step_on, told_event, version_read, with_told}
+use Rattle.fdr_file.specs.Scanning.{block_span, blocks_given, empty_block, extents_next, extents_span, inside_judged, inside_next, record_or, record_within, scanned, scanned_ends, scanned_from, scanned_on, stage_after, stage_ends, stage_judged, stage_within, step_on, version_read, with_event, with_told}
 use Rattle.fdr_file.proofs.Deciding.{body_decided, extents_is, file_ends, file_fails, file_goes_on, length_most}
-use Rattle.fdr_file.proofs.Steps.{at_stage, longer_last, reads_next, reads_none, stays_faulty}
+use Rattle.fdr_file.proofs.Steps.{at_stage, event_last, reads_next, reads_none, stays_faulty, with_events}
 use Rattle.fdr_file.proofs.TraceRows.{header_first, header_has, rows_decide}
-use Rattle.fdr_file.proofs.Walking.{events_more, events_refuse, events_stop, length_some}
+use Rattle.fdr_file.proofs.Walking.{same_test, events_more, events_refuse, events_stop, length_some}
 use Rattle.fdr_file.proofs.Whole.{cut_is_short, length_again, whole_again}
 
 -- ---- a record within a block
@@ -93,13 +93,18 @@ ends_faulty version total header stage blocks at bytes span fault some whole is 
 
 -- ---- events
 
-abbrev with_events : Block → List Event → Block
-with_events block events = record block { events = events }
+told_block : (entry event : Option Event) (front : List Block) (block : Block)
+    → with_told (Noted entry event) (front ++ block ∷ []) ≡ front ++ with_events block (block.events ++ (option_to_list entry ++ option_to_list event)) ∷ []
+told_block entry event front block =
+    ap (with_event event) (event_last entry front block)
+    ∙ event_last event front (with_events block (block.events ++ option_to_list entry))
+    ∙ ap (λ (es : List Event). front ++ with_events block es ∷ []) (append_assoc block.events (option_to_list entry) (option_to_list event))
 
-told_block : (event : Option Event) (front : List Block) (block : Block)
-    → with_told (told_event event) (front ++ block ∷ []) ≡ front ++ with_events block (block.events ++ option_to_list event) ∷ []
-told_block None front block = ap (λ (es : List Event). front ++ with_events block es ∷ []) (sym (append-nil block.events))
-told_block (Some event) front block = longer_last event front block
+-- a record is the last of its block if no byte is left
+ends_block : (end at k left : ℕ) (bytes : List ℕ) → end ≡ at + left → k ≤ left → left ≤ length bytes → eqb (length (take (left - k) (drop k bytes))) 0 ≡ eqb (at + k) end
+ends_block end at k left bytes place fits within =
+    let long : length (take (left - k) (drop k bytes)) ≡ left - k = omega (arith, length-take (left - k) (drop k bytes), length-drop k bytes) in
+    same_test (length (take (left - k) (drop k bytes))) 0 (at + k) end (λ e. omega (arith, e, long, place, fits)) (λ e. omega (arith, e, long, place, fits))
 
 -- the blocks from a place on
 abbrev Onward : Version → ℕ → Header → ℕ → List ℕ → List Block → Result Trace TraceFault
@@ -130,31 +135,32 @@ events_run version (suc n) total header span front block base at bytes (suc l) f
     rw (ne_eqb at span.end (λ e. omega (arith, e, end))) (by_found (events_run version n) (record_within span at (record_length bytes) (record_in bytes)) refl)
   where
     by_step : EventsRun version n → (r : Rec) → record_within span at (record_length bytes) (record_in bytes) ≡ Ok r → record_on (at, take (suc l) bytes) ≡ Ok (r, Rest at bytes (suc l))
-        → (y : Result (Base × Option Event) TraceFault) → step_on at r base ≡ y → EventsGoal version total header span front block base at bytes (suc l)
+        → (y : Result (Base × Option Event × Option Event) TraceFault) → step_on (eqb (at + record_length bytes) span.end) at r base ≡ y → EventsGoal version total header span front block base at bytes (suc l)
     by_step again r is on (Err f) stepped =
+        let ends = ends_block span.end at (record_length bytes) (suc l) bytes end (omega (arith, end, within_fits span at (record_length bytes) (record_in bytes) r is)) within in
         ends_faulty version total header (Within span (insides.Events base)) (front ++ block ∷ []) at bytes span f (omega (arith, within)) whole (rw (is, stepped) refl)
         ∙ ap (EventsEnd version total header span front block bytes (suc l))
-        (sym (events_refuse block.events base at (take (suc l) bytes) r _ f _ (omega (arith, length-take-le (suc l) bytes within)) on stepped refl))
-    by_step again r is on (Ok (after, event)) stepped =
+        (sym (events_refuse block.events base at (take (suc l) bytes) r _ f _ (omega (arith, length-take-le (suc l) bytes within)) on (ap (λ (b : Bool). step_on b at r base) ends ∙ stepped) refl))
+    by_step again r is on (Ok (after, entry, event)) stepped =
         let k = record_length bytes in
         let rest = drop k bytes in
         let left = suc l - k in
         let fits : k ≤ suc l = omega (arith, end, within_fits span at k (record_in bytes) r is) in
-        let longer = with_events block (block.events ++ option_to_list event) in
+        let longer = with_events block (block.events ++ (option_to_list entry ++ option_to_list event)) in
         let stage = stage_after span (at + k) (insides.Events (Some after)) in
         let onward = again total header span front longer (Some after) (at + k) rest left (omega (arith, few, length-drop k bytes, length_some bytes, within)) (omega (arith, length-drop k bytes, within)) (omega (arith, end)) whole in
         let back : k + left ≡ suc l = omega arith in
         let dropped : drop left rest ≡ drop (suc l) bytes = drop-drop left k bytes ∙ ap (λ (m : ℕ). drop m bytes) back in
-        let read = events_more block.events base at (take (suc l) bytes) r (at + k, take left rest) (after, event) _ (omega (arith, length-take-le (suc l) bytes within)) on stepped refl in
-        ap (scanned_ends total header) (reads_next version (Within span (insides.Events base)) stage (told_event event) (front ++ block ∷ []) at bytes (omega (arith, within)) (rw (is, stepped) refl)
-        ∙ ap (λ (bs : List Block). scanned_on version (at_stage stage bs) (at + k) rest) (told_block event front block))
+        let read = events_more block.events base at (take (suc l) bytes) r (at + k, take left rest) (after, entry, event) _ (omega (arith, length-take-le (suc l) bytes within)) on (ap (λ (b : Bool). step_on b at r base) (ends_block span.end at k (suc l) bytes end fits within) ∙ stepped) refl in
+        ap (scanned_ends total header) (reads_next version (Within span (insides.Events base)) stage (Noted entry event) (front ++ block ∷ []) at bytes (omega (arith, within)) (rw (is, stepped) refl)
+        ∙ ap (λ (bs : List Block). scanned_on version (at_stage stage bs) (at + k) rest) (told_block entry event front block))
         ∙ onward
         ∙ ap (λ (x : List ℕ). with_front longer.events (events_on (Some after) (standings (at + k) (take left rest))) >>= λ events. Onward version total header span.end x (front ++ with_events block events ∷ [])) dropped
         ∙ ap (EventsEnd version total header span front block bytes (suc l)) read
 
     by_found : EventsRun version n → (x : Result Rec TraceFault) → record_within span at (record_length bytes) (record_in bytes) ≡ x → EventsGoal version total header span front block base at bytes (suc l)
     by_found again (Ok r) is =
-        by_step again r is (record_cut span at bytes (suc l) (omega arith) within end ∙ rw is refl) (step_on at r base) refl
+        by_step again r is (record_cut span at bytes (suc l) (omega arith) within end ∙ rw is refl) (step_on (eqb (at + record_length bytes) span.end) at r base) refl
     by_found again (Err f) is =
         let on : record_on (at, take (suc l) bytes) ≡ Err f = record_cut span at bytes (suc l) (omega arith) within end ∙ rw is refl in
         ends_faulty version total header (Within span (insides.Events base)) (front ++ block ∷ []) at bytes span f (omega (arith, within)) whole (rw is refl)
@@ -165,7 +171,7 @@ events_run version (suc n) total header span front block base at bytes (suc l) f
 
 -- what a record that has to name something leads to
 abbrev Names : {A : Type 0} → Version → (Rec → Option A) → (A → Inside × Told) → Inside → Type 0
-Names version named go inside = (at : ℕ) (r : Rec) → inside_next version inside at r ≡ NeedsPart (named r) (Err (faults.Order at)) (λ x. Ok (go x))
+Names version named go inside = (ends : Bool) (at : ℕ) (r : Rec) → inside_next version inside ends at r ≡ NeedsPart (named r) (Err (faults.Order at)) (λ x. Ok (go x))
 
 abbrev StepTo : {A : Type 0} → Version → (Rec → Option A) → (A → Inside × Told) → ℕ → Header → Span → Inside → List Block → ℕ → List ℕ → ℕ → Type 0
 StepTo {A} version named go total header span inside blocks at bytes left =
@@ -183,7 +189,7 @@ step_to {A} version named go total header span inside blocks at bytes left names
     by_name : (r : Rec) → record_within span at (record_length bytes) (record_in bytes) ≡ Ok r → record_on (at, take left bytes) ≡ Ok (r, Rest at bytes left) → (o : Option A) → named r ≡ o
         → StepTo version named go total header span inside blocks at bytes left
     by_name r found on (Some x) name =
-        let says : inside_next version inside at r ≡ Ok (go x) = names at r ∙ rw name refl in
+        let says : inside_next version inside (eqb (at + record_length bytes) span.end) at r ≡ Ok (go x) = names (eqb (at + record_length bytes) span.end) at r ∙ rw name refl in
         inr (
           x,
           rw (on, name) refl,
@@ -191,7 +197,7 @@ step_to {A} version named go total header span inside blocks at bytes left names
           omega (arith, end, within_fits span at (record_length bytes) (record_in bytes) r found),
         )
     by_name r found on None name =
-        let says : inside_next version inside at r ≡ Err (faults.Order at) = names at r ∙ rw name refl in
+        let says : inside_next version inside (eqb (at + record_length bytes) span.end) at r ≡ Err (faults.Order at) = names (eqb (at + record_length bytes) span.end) at r ∙ rw name refl in
         inl (faults.Order at, rw (on, name) refl, ends_faulty version total header (Within span inside) blocks at bytes span (faults.Order at) (omega (arith, some, within)) whole (rw (found, says) refl))
 
     by_found : (a : Result Rec TraceFault) → record_within span at (record_length bytes) (record_in bytes) ≡ a → StepTo version named go total header span inside blocks at bytes left
@@ -218,7 +224,7 @@ body_run : (version : Version) (total : ℕ) (header : Header) (span : Span) (bl
 unfolding body_on preamble_on pid_on
 body_run Three total header span blocks at bytes left many within end whole =
     let n = record_length bytes in
-    elim (step_to Three thread_named (λ thread. (insides.Thread thread, Nothing)) total header span insides.Opened blocks at bytes left (λ k r. refl) (omega arith) within end whole) [
+    elim (step_to Three thread_named (λ thread. (insides.Thread thread, Nothing)) total header span insides.Opened blocks at bytes left (λ ends k r. refl) (omega arith) within end whole) [
       | inl (f, on, run) ↦ rw on run
       | inr (thread, on, run, fits) ↦
           let at1 = at + n in
@@ -228,7 +234,7 @@ body_run Three total header span blocks at bytes left many within end whole =
           let long1 = length-drop n bytes in
           let most = length_most bytes in
           let run' = run ∙ ap (λ (s : Stage). scanned_on Three (at_stage s blocks) at1 bytes1) (still_within span at1 left1 (insides.Thread thread) (omega (arith, end)) (omega arith)) in
-          elim (step_to Three wall_named (λ wall. (insides.Wall thread wall, Nothing)) total header span (insides.Thread thread) blocks at1 bytes1 left1 (λ k r. refl) (omega arith) (omega arith) (omega (arith, end)) whole) [
+          elim (step_to Three wall_named (λ wall. (insides.Wall thread wall, Nothing)) total header span (insides.Thread thread) blocks at1 bytes1 left1 (λ ends k r. refl) (omega arith) (omega arith) (omega (arith, end)) whole) [
             | inl (f, on1, run1) ↦ rw (on, on1) (ap (scanned_ends total header) run' ∙ run1)
             | inr (wall, on1, run1, fits1) ↦
                 let at2 = at1 + n1 in
@@ -238,7 +244,7 @@ body_run Three total header span blocks at bytes left many within end whole =
                 let long2 = length-drop n1 bytes1 in
                 let most1 = length_most bytes1 in
                 let run1' = run1 ∙ ap (λ (s : Stage). scanned_on Three (at_stage s blocks) at2 bytes2) (still_within span at2 left2 (insides.Wall thread wall) (omega (arith, end)) (omega arith)) in
-                elim (step_to Three pid_named (λ pid. (insides.Events None, Begun thread wall pid)) total header span (insides.Wall thread wall) blocks at2 bytes2 left2 (λ k r. refl) (omega arith) (omega arith) (omega (arith, end)) whole) [
+                elim (step_to Three pid_named (λ pid. (insides.Events None, Begun thread wall pid)) total header span (insides.Wall thread wall) blocks at2 bytes2 left2 (λ ends k r. refl) (omega arith) (omega arith) (omega (arith, end)) whole) [
                   | inl (f, on2, run2) ↦ rw (on, on1, on2) (ap (scanned_ends total header) (run' ∙ run1') ∙ run2)
                   | inr (pid, on2, run2, fits2) ↦
                       let bytes3 = drop n2 bytes2 in

@@ -1,6 +1,6 @@
 -- What is read from first to last is what the places of a file decide.
 use Rattle.std.proofs.Common.{◌≡◌, ℕ, zero, suc, ◌+◌, ◌%◌, ◌≤◌, ◌<◌, ◌^◌, Bool, true, false, cond, eqb, ltb, List, [], ◌∷◌, ◌++◌, length, slice_index, lit≤, take, drop, map, Option, Some, None, Result, Ok, Err, add-zero, refl, sym, ap, ◌∙◌, append_assoc, arith, inl, inr}
-use Rattle.std.specs.Prelude.{option_to_list, ◌||◌, ◌⊎◌, not, sum, is_some}
+use Rattle.std.specs.Prelude.{option_to_list, ◌||◌, ◌&&◌, ◌⊎◌, not, sum, is_some}
 use Rattle.std.specs.List.{list_any}
 use Rattle.std.proofs.lemmas.Bool.{cases_Bool, ltb-false, le-leb}
 use Rattle.xray_io.specs.declared.wall.Wall.{Wall}
@@ -19,18 +19,22 @@ use Rattle.std.proofs.lemmas.Grind.{common_steps}
 use Rattle.std.proofs.lemmas.List.{append-nil, drop-drop, drop-take, length-drop, length-take}
 use Rattle.std.proofs.lemmas.List.Sums.{sum_by-cons}
 use Rattle.fdr_record.specs.declared.event.Event.{Event}
+use Rattle.fdr_record.specs.declared.event.Kind.{Kind}
+use Rattle.fdr_record.specs.declared.event.Kind.TheVariants.{Entry, Exit, TailExit, EntryArgs}
 use Rattle.fdr_record.specs.declared.rec.Rec.{Rec}
-use Rattle.fdr_record.specs.declared.rec.Rec.TheVariants.{NewBuffer, NewCpu, TscWrap, WallTime, Pid, Extents, Function}
+use Rattle.fdr_record.specs.declared.rec.Rec.TheVariants.{NewBuffer, NewCpu, TscWrap, WallTime, Pid, CallArg, Extents, Function}
 use Rattle.fdr_record.specs.declared.fault.RecFault.{RecFault}
 use Rattle.fdr_record.specs.Reading.{function_record_at, metadata_record_at}
+use Rattle.fdr_file.specs.declared.events.Argument.{Argument}
+use Rattle.fdr_file.specs.declared.events.Argument.TheVariants as arguments
 use Rattle.fdr_file.specs.declared.events.Base.{Base}
 use Rattle.fdr_file.specs.declared.fault.TraceFault.{TraceFault}
 use Rattle.fdr_file.specs.declared.fault.TraceFault.TheVariants as faults
-use Rattle.fdr_file.specs.Events.{counter_at, cpu_of, deltas_since, events_after, whole_counter}
-use Rattle.fdr_file.specs.Traces.{PreambleItem, block_starts, extents_in, header_in, may_be, names_cpu, needs_cpu, preamble_bytes, preamble_of, record_in, records_among, Standing, block_in, block_of, block_standings, pid_named, block_length, record_length, standings, thread_named, wall_named}
-use Rattle.fdr_file.specs.Scanning.{step_on, version_read}
+use Rattle.fdr_file.specs.Events.{arg_of, arg_said, counter_at, cpu_of, deltas_since, events_after, whole_counter}
+use Rattle.fdr_file.specs.Traces.{PreambleItem, block_starts, extents_in, first_takes_arg, header_in, is_arg, logs_arg, may_be, names_cpu, needs_cpu, preamble_bytes, preamble_of, record_in, records_among, Standing, block_in, block_of, block_standings, pid_named, block_length, record_length, standings, thread_named, wall_named}
+use Rattle.fdr_file.specs.Scanning.{entry_due, entry_with, header_on, step_on, version_read}
 use Rattle.fdr_file.specs.private.Faults.{by_places, blocks_faults, decided, record_faults, standing_faults, block_faults, told_by, unless}
-use Rattle.fdr_file.specs.private.Reading.{Left, blocks_read, body_on, end_named, end_on, events_on, header_on, left_at, named_on, pid_on, preamble_on, read_first, record_on}
+use Rattle.fdr_file.specs.private.Reading.{Left, blocks_read, body_on, end_named, end_on, events_on, is_end, left_at, named_on, pid_on, preamble_on, read_first, record_on}
 
 -- ---- the extents
 
@@ -45,10 +49,25 @@ extents_is bytes size e = grind (arith, common_steps)
 
 -- ---- events
 
--- the CPU and counter are those that the records say
+-- an argument may be next
+abbrev may_come : Argument → Bool
+may_come arguments.Barred = false
+may_come (arguments.Awaited func) = true
+may_come arguments.Known = true
+
+-- the CPU and counter are those that the records say, and an argument may be next if the last of them takes one
 abbrev IsBase : Option Base → List Rec → Type 0
-IsBase None before = list_any names_cpu before ≡ false
-IsBase (Some base) before = (list_any names_cpu before ≡ true) × (base.cpu ≡ cpu_of before) × (base.tsc % 2 ^ 64 ≡ counter_at before)
+IsBase None before = (list_any names_cpu before ≡ false) × (first_takes_arg before ≡ false)
+IsBase (Some base) before =
+    (list_any names_cpu before ≡ true) × (base.cpu ≡ cpu_of before) × (base.tsc % 2 ^ 64 ≡ counter_at before) × (may_come base.argument ≡ first_takes_arg before)
+
+-- the entry whose argument these records may begin with
+abbrev due : Option Base → List Rec → List Event
+due base records = option_to_list (entry_with base (arg_said records))
+
+-- no entry waits for its argument at the end
+abbrev IsSettled : Option Base → List Standing → Type 0
+IsSettled base said = is_end said ≡ true → entry_with base 0 ≡ None
 
 decided_more : {A : Type 0} (front : List A) (found : List TraceFault) (rest : List A) → (decided found rest >>= λ xs. Ok (front ++ xs)) ≡ decided found (front ++ rest)
 decided_more front [] rest = refl
@@ -73,15 +92,23 @@ or_true true = refl
 or_true false = refl
 
 abbrev Decides : Version → Option Base → List Rec → List Standing → Type 0
-Decides version base before said = events_on base said ≡ decided (standing_faults version before said) (events_after before (records_among said))
+Decides version base before said =
+    events_on base said ≡ decided (standing_faults version before said) (due base (records_among said) ++ events_after before (records_among said))
 
-one_more : (version : Version) (base : Option Base) (before : List Rec) (at : ℕ) (r : Rec) (following : List Standing) (next : Base) (event : Option Event) → step_on at r base ≡ Ok (next, event) → record_faults version before at r ≡ []
-    → events_after before (r ∷ records_among following) ≡ option_to_list event ++ events_after (r ∷ before) (records_among following) → Decides version (Some next) (r ∷ before) following → Decides version base before ((at, Ok r) ∷ following)
+one_more : (version : Version) (base : Option Base) (before : List Rec) (at : ℕ) (r : Rec) (following : List Standing) (next : Base) (entry event : Option Event)
+    → step_on (is_end following) at r base ≡ Ok (next, entry, event) → record_faults version before at r ≡ []
+    → (let later = records_among following in due base (r ∷ later) ++ events_after before (r ∷ later) ≡ (option_to_list entry ++ option_to_list event) ++ (due (Some next) later ++ events_after (r ∷ before) later))
+    → Decides version (Some next) (r ∷ before) following → Decides version base before ((at, Ok r) ∷ following)
 unfolding events_on
-one_more version base before at r following next event stepped clean told rest =
-    rw (stepped, rest, clean, told) (decided_more (option_to_list event) (standing_faults version (r ∷ before) following) (events_after (r ∷ before) (records_among following)))
+one_more version base before at r following next entry event stepped clean told rest =
+    let later = records_among following in
+    rw (stepped, rest, clean, told) (decided_more (option_to_list entry ++ option_to_list event) (standing_faults version (r ∷ before) following) (due (Some next) later ++ events_after (r ∷ before) later))
 
-no_more : (version : Version) (base : Option Base) (before : List Rec) (at : ℕ) (r : Rec) (following : List Standing) (e : TraceFault) (later : List TraceFault) → step_on at r base ≡ Err e → record_faults version before at r ≡ e ∷ later
+-- the entry before, and nothing else
+entry_alone : (entry : Option Event) (events : List Event) → option_to_list entry ++ events ≡ (option_to_list entry ++ []) ++ events
+entry_alone entry events = sym (append_assoc (option_to_list entry) [] events)
+
+no_more : (version : Version) (base : Option Base) (before : List Rec) (at : ℕ) (r : Rec) (following : List Standing) (e : TraceFault) (later : List TraceFault) → step_on (is_end following) at r base ≡ Err e → record_faults version before at r ≡ e ∷ later
     → Decides version base before ((at, Ok r) ∷ following)
 unfolding events_on
 no_more version base before at r following e later stepped wrong = rw (stepped, wrong) refl
@@ -96,37 +123,109 @@ counter_more tsc whole sum delta e = omega arith
 twice : (n : ℕ) → n % 2 ^ 64 % 2 ^ 64 ≡ n % 2 ^ 64
 twice n = omega arith
 
-pub events_decided : (version : Version) (base : Option Base) (before : List Rec) (said : List Standing) → IsBehind version before → IsBase base before → Decides version base before said
+-- the event of a function record, by the records before it
+event_made : (kind : Kind) (func cpu tsc c t a arg : ℕ) (events : List Event) → cpu ≡ c → tsc ≡ t → a ≡ arg
+    → record { cpu = c; func = func; kind = kind; tsc = t; arg = a } ∷ events ≡ record { cpu = cpu; func = func; kind = kind; tsc = tsc; arg = arg } ∷ events
+event_made kind func cpu tsc c t a arg events e f g = rw (sym e, sym f, g) refl
+
+abbrev counter_after : Base → ℕ → ℕ
+counter_after base delta = (base.tsc + delta) % 2 ^ 64
+
+counter_is : (base : Base) (kind : Kind) (func delta : ℕ) (before : List Rec) → base.tsc % 2 ^ 64 ≡ counter_at before → counter_after base delta ≡ counter_at (Function kind func delta ∷ before)
+counter_is base kind func delta before is =
+    counter_more base.tsc (whole_counter before) (sum (deltas_since before)) delta is ∙ ap (λ (s : ℕ). (whole_counter before + s) % 2 ^ 64) (sym (sum_by-cons (λ x. x) delta (deltas_since before)))
+
+-- the same, of the counter that is kept
+again : (base : Base) (kind : Kind) (func delta : ℕ) (before : List Rec) → base.tsc % 2 ^ 64 ≡ counter_at before → counter_after base delta % 2 ^ 64 ≡ counter_at (Function kind func delta ∷ before)
+again base kind func delta before is = twice (base.tsc + delta) ∙ counter_is base kind func delta before is
+
+-- a function record whose event is told at once
+plain_function : (version : Version) (base : Base) (before : List Rec) (at : ℕ) (kind : Kind) (func delta : ℕ) (following : List Standing) → (logs_arg kind && not (is_end following)) ≡ false → arg_of kind (records_among following) ≡ 0
+    → IsBehind version before → IsBase (Some base) before
+    → Decides version (Some (record { cpu = base.cpu; tsc = counter_after base delta; argument = arguments.Barred })) (Function kind func delta ∷ before) following
+    → Decides version (Some base) before ((at, Ok (Function kind func delta)) ∷ following)
+plain_function version base before at kind func delta following plain none many is rest =
+    let f : Rec = Function kind func delta in
+    let tsc = counter_after base delta in
+    let later = records_among following in
+    let entry = entry_with (Some base) 0 in
+    let event : Event = record { cpu = base.cpu; func = func; kind = kind; tsc = tsc; arg = 0 } in
+    let told = event_made kind func base.cpu tsc (cpu_of before) (counter_at (f ∷ before)) (arg_of kind later) 0 (events_after (f ∷ before) later) is.1 (counter_is base kind func delta before is.2) none in
+    one_more version (Some base) before at f following (record { cpu = base.cpu; tsc = tsc; argument = arguments.Barred }) entry (Some event) (rw plain refl) (rw (may_behind version before f many, is.0) refl)
+    (ap (λ (es : List Event). option_to_list entry ++ es) told ∙ sym (append_assoc (option_to_list entry) (event ∷ []) (events_after (f ∷ before) later))) rest
+
+-- a function record whose event waits for its argument
+waiting_function : (version : Version) (base : Base) (before : List Rec) (at func delta : ℕ) (first : Standing) (following : List Standing) → IsBehind version before → IsBase (Some base) before
+    → Decides version (Some (record { cpu = base.cpu; tsc = counter_after base delta; argument = arguments.Awaited func })) (Function EntryArgs func delta ∷ before) (first ∷ following)
+    → Decides version (Some base) before ((at, Ok (Function EntryArgs func delta)) ∷ first ∷ following)
+waiting_function version base before at func delta first following many is rest =
+    let f : Rec = Function EntryArgs func delta in
+    let tsc = counter_after base delta in
+    let later = records_among (first ∷ following) in
+    let entry = entry_with (Some base) 0 in
+    let told = event_made EntryArgs func base.cpu tsc (cpu_of before) (counter_at (f ∷ before)) (arg_said later) (arg_said later) (events_after (f ∷ before) later) is.1 (counter_is base EntryArgs func delta before is.2) refl in
+    one_more version (Some base) before at f (first ∷ following) (record { cpu = base.cpu; tsc = tsc; argument = arguments.Awaited func }) entry None refl (rw (may_behind version before f many, is.0) refl)
+    (ap (λ (es : List Event). option_to_list entry ++ es) told ∙ entry_alone entry _) rest
+
+-- an argument
+argument_decided : (version : Version) (base : Base) (before : List Rec) (at value : ℕ) (following : List Standing) → IsBehind version before → IsBase (Some base) before
+    → ((next : Base) → IsBase (Some next) (CallArg value ∷ before) → next.argument ≡ arguments.Known → Decides version (Some next) (CallArg value ∷ before) following)
+    → Decides version (Some base) before ((at, Ok (CallArg value)) ∷ following)
+argument_decided version base before at value following many is rest = by_argument base.argument refl
+  where
+    by_argument : (a : Argument) → base.argument ≡ a → Decides version (Some base) before ((at, Ok (CallArg value)) ∷ following)
+    by_argument arguments.Barred e =
+        let takes : first_takes_arg before ≡ false = sym is.3 ∙ ap may_come e in
+        no_more version (Some base) before at (CallArg value) following (faults.Order at) (unless (list_any names_cpu before || false) (faults.NoBase at)) (rw e refl) (rw (may_behind version before (CallArg value) many, takes) refl)
+    by_argument (arguments.Awaited func) e =
+        let takes : first_takes_arg before ≡ true = sym is.3 ∙ ap may_come e in
+        let next : Base = record base { argument = arguments.Known } in
+        one_more version (Some base) before at (CallArg value) following next (entry_with (Some base) value) None (rw e refl) (rw (may_behind version before (CallArg value) many, takes, is.0) refl)
+        (entry_alone (entry_with (Some base) value) (events_after (CallArg value ∷ before) (records_among following))) (rest next (is.0, is.1, is.2, refl) refl)
+    by_argument arguments.Known e =
+        let takes : first_takes_arg before ≡ true = sym is.3 ∙ ap may_come e in
+        one_more version (Some base) before at (CallArg value) following base None None (rw e refl) (rw (may_behind version before (CallArg value) many, takes, is.0) refl)
+        (rw e refl) (rest base (is.0, is.1, is.2, ap may_come e) e)
+
+pub events_decided : (version : Version) (base : Option Base) (before : List Rec) (said : List Standing) → IsBehind version before → IsBase base before → IsSettled base said → Decides version base before said
 unfolding events_on
-events_decided version base before [] many is = refl
-events_decided version base before ((at, Err fault) ∷ following) many is = refl
-events_decided version base before ((at, Ok (NewCpu cpu tsc)) ∷ following) many is =
-    let next : Base = record { cpu = cpu; tsc = tsc } in
-    one_more version base before at (NewCpu cpu tsc) following next None refl (rw (may_behind version before (NewCpu cpu tsc) many, or_true (list_any names_cpu before)) refl) refl
-    (events_decided version (Some next) (NewCpu cpu tsc ∷ before) following (one_after version before (NewCpu cpu tsc) many) (refl, refl, ap (λ (n : ℕ). n % 2 ^ 64) (sym (add-zero tsc))))
-events_decided version None before ((at, Ok (TscWrap tsc)) ∷ following) many is =
-    no_more version None before at (TscWrap tsc) following (faults.NoBase at) [] refl (rw (may_behind version before (TscWrap tsc) many, is) refl)
-events_decided version (Some base) before ((at, Ok (TscWrap tsc)) ∷ following) many is =
-    let next : Base = record { cpu = base.cpu; tsc = tsc } in
-    one_more version (Some base) before at (TscWrap tsc) following next None refl (rw (may_behind version before (TscWrap tsc) many, is.0) refl) refl
-    (events_decided version (Some next) (TscWrap tsc ∷ before) following (one_after version before (TscWrap tsc) many) (is.0, is.1, ap (λ (n : ℕ). n % 2 ^ 64) (sym (add-zero tsc))))
-events_decided version None before ((at, Ok (Function kind func delta)) ∷ following) many is =
-    no_more version None before at (Function kind func delta) following (faults.NoBase at) [] refl (rw (may_behind version before (Function kind func delta) many, is) refl)
-events_decided version (Some base) before ((at, Ok (Function kind func delta)) ∷ following) many is =
-    let tsc = (base.tsc + delta) % 2 ^ 64 in
-    let next : Base = record { cpu = base.cpu; tsc = tsc } in
-    let counter : tsc ≡ counter_at (Function kind func delta ∷ before) = counter_more base.tsc (whole_counter before) (sum (deltas_since before)) delta is.2 ∙ ap (λ (s : ℕ). (whole_counter before + s) % 2 ^ 64) (sym (sum_by-cons (λ x. x) delta (deltas_since before))) in
-    let event : Event = record { cpu = base.cpu; func = func; kind = kind; tsc = tsc } in
-    let make : ℕ → ℕ → Event = λ c t. record { cpu = c; func = func; kind = kind; tsc = t } in
-    let told : make (cpu_of before) (counter_at (Function kind func delta ∷ before)) ≡ event =
-    ap (λ (c : ℕ). make c (counter_at (Function kind func delta ∷ before))) (sym is.1) ∙ ap (make base.cpu) (sym counter) in
-    one_more version (Some base) before at (Function kind func delta) following next (Some event) refl (rw (may_behind version before (Function kind func delta) many, is.0) refl)
-    (ap (λ (e : Event). e ∷ events_after (Function kind func delta ∷ before) (records_among following)) told)
-    (events_decided version (Some next) (Function kind func delta ∷ before) following (one_after version before (Function kind func delta) many) (is.0, is.1, twice (base.tsc + delta) ∙ counter))
-events_decided version base before ((at, Ok (NewBuffer thread)) ∷ following) many is = no_more version base before at (NewBuffer thread) following (faults.Order at) (unless (list_any names_cpu before || true) (faults.NoBase at)) refl (rw (may_behind version before (NewBuffer thread) many) refl)
-events_decided version base before ((at, Ok (WallTime wall)) ∷ following) many is = no_more version base before at (WallTime wall) following (faults.Order at) (unless (list_any names_cpu before || true) (faults.NoBase at)) refl (rw (may_behind version before (WallTime wall) many) refl)
-events_decided version base before ((at, Ok (Pid pid)) ∷ following) many is = no_more version base before at (Pid pid) following (faults.Order at) (unless (list_any names_cpu before || true) (faults.NoBase at)) refl (rw (may_behind version before (Pid pid) many) refl)
-events_decided version base before ((at, Ok (Extents size)) ∷ following) many is = no_more version base before at (Extents size) following (faults.Order at) (unless (list_any names_cpu before || true) (faults.NoBase at)) refl (rw (may_behind version before (Extents size) many) refl)
+events_decided version base before [] many is settled = rw (settled refl) refl
+events_decided version base before ((at, Err fault) ∷ following) many is settled = refl
+events_decided version base before ((at, Ok (NewCpu cpu tsc)) ∷ following) many is settled =
+    let next : Base = record { cpu = cpu; tsc = tsc; argument = arguments.Barred } in
+    one_more version base before at (NewCpu cpu tsc) following next (entry_with base 0) None refl (rw (may_behind version before (NewCpu cpu tsc) many, or_true (list_any names_cpu before)) refl) (entry_alone (entry_with base 0) _)
+    (events_decided version (Some next) (NewCpu cpu tsc ∷ before) following (one_after version before (NewCpu cpu tsc) many) (refl, refl, ap (λ (n : ℕ). n % 2 ^ 64) (sym (add-zero tsc)), refl) (λ _. refl))
+events_decided version None before ((at, Ok (TscWrap tsc)) ∷ following) many is settled =
+    no_more version None before at (TscWrap tsc) following (faults.NoBase at) [] refl (rw (may_behind version before (TscWrap tsc) many, is.0) refl)
+events_decided version (Some base) before ((at, Ok (TscWrap tsc)) ∷ following) many is settled =
+    let next : Base = record { cpu = base.cpu; tsc = tsc; argument = arguments.Barred } in
+    one_more version (Some base) before at (TscWrap tsc) following next (entry_with (Some base) 0) None refl (rw (may_behind version before (TscWrap tsc) many, is.0) refl) (entry_alone (entry_with (Some base) 0) _)
+    (events_decided version (Some next) (TscWrap tsc ∷ before) following (one_after version before (TscWrap tsc) many) (is.0, is.1, ap (λ (n : ℕ). n % 2 ^ 64) (sym (add-zero tsc)), refl) (λ _. refl))
+events_decided version None before ((at, Ok (Function kind func delta)) ∷ following) many is settled =
+    no_more version None before at (Function kind func delta) following (faults.NoBase at) [] refl (rw (may_behind version before (Function kind func delta) many, is.0) refl)
+events_decided version (Some base) before ((at, Ok (Function Entry func delta)) ∷ following) many is settled =
+    plain_function version base before at Entry func delta following refl refl many is
+    (events_decided version (Some _) (Function Entry func delta ∷ before) following (one_after version before (Function Entry func delta) many) (is.0, is.1, again base Entry func delta before is.2, refl) (λ _. refl))
+events_decided version (Some base) before ((at, Ok (Function Exit func delta)) ∷ following) many is settled =
+    plain_function version base before at Exit func delta following refl refl many is
+    (events_decided version (Some _) (Function Exit func delta ∷ before) following (one_after version before (Function Exit func delta) many) (is.0, is.1, again base Exit func delta before is.2, refl) (λ _. refl))
+events_decided version (Some base) before ((at, Ok (Function TailExit func delta)) ∷ following) many is settled =
+    plain_function version base before at TailExit func delta following refl refl many is
+    (events_decided version (Some _) (Function TailExit func delta ∷ before) following (one_after version before (Function TailExit func delta) many) (is.0, is.1, again base TailExit func delta before is.2, refl) (λ _. refl))
+events_decided version (Some base) before ((at, Ok (Function EntryArgs func delta)) ∷ []) many is settled =
+    plain_function version base before at EntryArgs func delta [] refl refl many is refl
+events_decided version (Some base) before ((at, Ok (Function EntryArgs func delta)) ∷ first ∷ following) many is settled =
+    waiting_function version base before at func delta first following many is
+    (events_decided version (Some _) (Function EntryArgs func delta ∷ before) (first ∷ following) (one_after version before (Function EntryArgs func delta) many) (is.0, is.1, again base EntryArgs func delta before is.2, refl) (λ none. cc))
+events_decided version None before ((at, Ok (CallArg value)) ∷ following) many is settled =
+    no_more version None before at (CallArg value) following (faults.Order at) (unless (list_any names_cpu before || false) (faults.NoBase at)) refl (rw (may_behind version before (CallArg value) many, is.1) refl)
+events_decided version (Some base) before ((at, Ok (CallArg value)) ∷ following) many is settled =
+    argument_decided version base before at value following many is
+    (λ next is' known. events_decided version (Some next) (CallArg value ∷ before) following (one_after version before (CallArg value) many) is' (λ none. ap (λ (a : Argument). entry_due a next 0) known))
+events_decided version base before ((at, Ok (NewBuffer thread)) ∷ following) many is settled = no_more version base before at (NewBuffer thread) following (faults.Order at) (unless (list_any names_cpu before || true) (faults.NoBase at)) refl (rw (may_behind version before (NewBuffer thread) many) refl)
+events_decided version base before ((at, Ok (WallTime wall)) ∷ following) many is settled = no_more version base before at (WallTime wall) following (faults.Order at) (unless (list_any names_cpu before || true) (faults.NoBase at)) refl (rw (may_behind version before (WallTime wall) many) refl)
+events_decided version base before ((at, Ok (Pid pid)) ∷ following) many is settled = no_more version base before at (Pid pid) following (faults.Order at) (unless (list_any names_cpu before || true) (faults.NoBase at)) refl (rw (may_behind version before (Pid pid) many) refl)
+events_decided version base before ((at, Ok (Extents size)) ∷ following) many is settled = no_more version base before at (Extents size) following (faults.Order at) (unless (list_any names_cpu before || true) (faults.NoBase at)) refl (rw (may_behind version before (Extents size) many) refl)
 
 -- ---- a preamble
 
@@ -208,19 +307,19 @@ decided_in make (fault ∷ later) x = refl
 pub body_decided : (version : Version) (at : ℕ) (bytes : List ℕ) → preamble_bytes version ≤ length bytes → body_on version (at, bytes) ≡ decided (standing_faults version [] (standings at bytes)) (block_of (records_among (standings at bytes)))
 unfolding body_on preamble_on pid_on
 body_decided Three at bytes long =
-    elim (found Three thread_named NewBuffer [] at bytes thread_is (λ r none. ap (λ (o : Option ℕ). unless (is_some o) (faults.Order at) ++ unless (false || not (needs_cpu r)) (faults.NoBase at)) none) (omega arith)) [
+    elim (found Three thread_named NewBuffer [] at bytes thread_is (λ r none. ap (λ (o : Option ℕ). unless (is_some o && (not (is_arg r) || false)) (faults.Order at) ++ unless (false || not (needs_cpu r)) (faults.NoBase at)) none) (omega arith)) [
       | inr (e, on, wrong) ↦ rw (on, wrong.wrong) refl
       | inl (thread, left, on, first) ↦
-          elim (found Three wall_named WallTime (NewBuffer thread ∷ []) left.0 left.1 wall_is (λ r none. ap (λ (o : Option Wall). unless (is_some o) (faults.Order left.0) ++ unless (false || not (needs_cpu r)) (faults.NoBase left.0)) none) (omega (arith, first.long))) [
+          elim (found Three wall_named WallTime (NewBuffer thread ∷ []) left.0 left.1 wall_is (λ r none. ap (λ (o : Option Wall). unless (is_some o && (not (is_arg r) || false)) (faults.Order left.0) ++ unless (false || not (needs_cpu r)) (faults.NoBase left.0)) none) (omega (arith, first.long))) [
             | inr (e, on', wrong) ↦ rw (on, on', first.stands, wrong.wrong) refl
             | inl (wall, left', on', second) ↦
-                elim (found Three pid_named Pid (WallTime wall ∷ NewBuffer thread ∷ []) left'.0 left'.1 pid_is (λ r none. ap (λ (o : Option ℕ). unless (is_some o) (faults.Order left'.0) ++ unless (false || not (needs_cpu r)) (faults.NoBase left'.0)) none) (omega (arith, first.long, second.long))) [
+                elim (found Three pid_named Pid (WallTime wall ∷ NewBuffer thread ∷ []) left'.0 left'.1 pid_is (λ r none. ap (λ (o : Option ℕ). unless (is_some o && (not (is_arg r) || false)) (faults.Order left'.0) ++ unless (false || not (needs_cpu r)) (faults.NoBase left'.0)) none) (omega (arith, first.long, second.long))) [
                   | inr (e, on'', wrong) ↦ rw (on, on', on'', first.stands, second.stands, wrong.wrong) refl
                   | inl (pid, left'', on'', third) ↦
                       let before : List Rec = Pid pid ∷ WallTime wall ∷ NewBuffer thread ∷ [] in
                       let said = standings left''.0 left''.1 in
                       let make : List Event → Block = λ events. record { thread = thread; wall = wall; pid = pid; events = events } in
-                      rw (on, on', on'', first.stands, second.stands, third.stands, events_decided Three None before said (0, refl) refl) (decided_in make (standing_faults Three before said) (events_after before (records_among said)))
+                      rw (on, on', on'', first.stands, second.stands, third.stands, events_decided Three None before said (0, refl) (refl, refl) (λ none. refl)) (decided_in make (standing_faults Three before said) (events_after before (records_among said)))
                 ]
           ]
     ]

@@ -6,9 +6,9 @@ use Rattle.std.proofs.lemmas.List.{length-take, take-append-drop, drop_at}
 use Rattle.byteorder.specs.Endian.{little_bytes, little_number}
 use Rattle.byteorder.specs.Numbers.{little_number-reads_back, length-bytes_low_first}
 use Rattle.fdr_record.specs.declared.event.Kind.{Kind}
-use Rattle.fdr_record.specs.declared.event.Kind.TheVariants.{Entry, Exit, TailExit}
+use Rattle.fdr_record.specs.declared.event.Kind.TheVariants.{Entry, Exit, TailExit, EntryArgs}
 use Rattle.fdr_record.specs.declared.rec.Rec.{Rec}
-use Rattle.fdr_record.specs.declared.rec.Rec.TheVariants.{NewBuffer, NewCpu, TscWrap, WallTime, Pid, Extents, Function}
+use Rattle.fdr_record.specs.declared.rec.Rec.TheVariants.{NewBuffer, NewCpu, TscWrap, WallTime, Pid, CallArg, Extents, Function}
 use Rattle.fdr_record.specs.declared.fault.RecFault.{RecFault}
 use Rattle.fdr_record.specs.Records.{action_of, head_of, told_by, length_of, FieldsFit, BeginsWith}
 use Rattle.fdr_record.specs.Refusals.{Refuses}
@@ -42,11 +42,13 @@ action_small : (kind : Kind) → action_of kind < 8
 action_small Entry = lit< tt
 action_small Exit = lit< tt
 action_small TailExit = lit< tt
+action_small EntryArgs = lit< tt
 
 kind_again : (kind : Kind) → kind_read (action_of kind) ≡ Ok kind
 kind_again Entry = refl
 kind_again Exit = refl
 kind_again TailExit = refl
+kind_again EntryArgs = refl
 
 abbrev Comes : Rec → List ℕ → Type 0
 Comes r bytes = record_in bytes ≡ Ok r
@@ -68,6 +70,11 @@ told_again (Pid pid) bytes fits is =
     let following = is.filler ++ drop 16 bytes in
     let long = is_whole bytes (little_bytes 4 pid ++ following) 19 is.whole e in
     subst (Comes (Pid pid)) (sym e) (rw (long, one_back 4 pid following fits) refl)
+told_again (CallArg value) bytes fits is =
+    let e = unspelled 16 (told_by (CallArg value)) is.filler bytes is.told in
+    let following = is.filler ++ drop 16 bytes in
+    let long = is_whole bytes (little_bytes 8 value ++ following) 13 is.whole e in
+    subst (Comes (CallArg value)) (sym e) (rw (long, one_back 8 value following fits) refl)
 told_again (Extents size) bytes fits is =
     let e = unspelled 16 (told_by (Extents size)) is.filler bytes is.told in
     let following = is.filler ++ drop 16 bytes in
@@ -106,6 +113,7 @@ length_told (NewCpu cpu tsc) bytes fits is = subst (HasLength 16) (sym (unspelle
 length_told (TscWrap tsc) bytes fits is = subst (HasLength 16) (sym (unspelled 16 (told_by (TscWrap tsc)) is.filler bytes is.told)) refl
 length_told (WallTime wall) bytes fits is = subst (HasLength 16) (sym (unspelled 16 (told_by (WallTime wall)) is.filler bytes is.told)) refl
 length_told (Pid pid) bytes fits is = subst (HasLength 16) (sym (unspelled 16 (told_by (Pid pid)) is.filler bytes is.told)) refl
+length_told (CallArg value) bytes fits is = subst (HasLength 16) (sym (unspelled 16 (told_by (CallArg value)) is.filler bytes is.told)) refl
 length_told (Extents size) bytes fits is = subst (HasLength 16) (sym (unspelled 16 (told_by (Extents size)) is.filler bytes is.told)) refl
 length_told (Function kind func delta) bytes fits is =
     let head = head_of kind func in

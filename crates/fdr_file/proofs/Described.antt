@@ -1,6 +1,6 @@
 -- What reads as a trace is one by the grammar.
 use Rattle.std.proofs.Common.{◌≡◌, ℕ, zero, suc, ◌+◌, ◌≤◌, ◌<◌, Bool, true, false, cond, ltb, leb, List, [], ◌∷◌, ◌++◌, All, length, take, drop, map, Result, Ok, Err, refl, sym, ap, subst, ◌∙◌, arith}
-use Rattle.std.specs.Prelude.{◌||◌, not, is_some}
+use Rattle.std.specs.Prelude.{◌||◌, ◌&&◌, not, is_some}
 use Rattle.std.specs.List.{flat_map, list_any, AllByRecursion}
 use Rattle.std.proofs.lemmas.Bool.{leb-true}
 use Rattle.std.proofs.lemmas.List.{drop-drop, length-append, length-drop, length-take, take-append-drop}
@@ -23,10 +23,10 @@ use Rattle.fdr_file.specs.declared.trace.Trace.{Trace}
 use Rattle.fdr_file.specs.declared.version.Version.{Version}
 use Rattle.fdr_file.specs.declared.version.Version.TheVariants.{Three}
 use Rattle.fdr_file.specs.Places.{starts}
-use Rattle.fdr_file.specs.Traces.{Standing, block_in, block_length, block_of, block_standings, extents_in, fault_at, flags_in, header_in, may_be, names_cpu, needs_cpu, pid_named, preamble_bytes, preamble_of, record_in, records_among, standings, thread_named, trace_of, version_in, wall_named}
+use Rattle.fdr_file.specs.Traces.{Standing, block_in, block_length, block_of, block_standings, extents_in, fault_at, first_takes_arg, flags_in, header_in, may_be, may_stand, names_cpu, needs_cpu, pid_named, preamble_bytes, preamble_of, record_in, records_among, standings, thread_named, trace_of, version_in, wall_named}
 use Rattle.fdr_file.specs.Scanning.{version_read}
 use Rattle.fdr_file.specs.private.Faults.{block_faults, blocks_faults, decided, extents_faults, record_faults, standing_faults, told_by, unless}
-use Rattle.fdr_file.specs.Grammar.{AreBlocks, AreSpelled, BeginWithCpu, IsBlock, IsHeader, IsInner, IsTrace, block_records}
+use Rattle.fdr_file.specs.Grammar.{ArgsFollow, AreBlocks, AreSpelled, BeginWithCpu, IsBlock, IsHeader, IsInner, IsTrace, block_records}
 use Rattle.fdr_file.proofs.TraceRows.{HasHeader, header_first, header_has, rows_decide}
 use Rattle.fdr_file.proofs.Decoding.{length_told, refused_again, told_again}
 use Rattle.fdr_file.proofs.Walking.{starts_first, stands_first}
@@ -47,6 +47,10 @@ Decodes = (bytes : List ℕ) → AreBytes bytes → (a : Result Rec RecFault) ×
 both_empty : {A : Type 0} (xs ys : List A) → xs ++ ys ≡ [] → (xs ≡ []) × (ys ≡ [])
 both_empty [] ys e = (refl, e)
 both_empty (x ∷ xs) ys e = absurd cc
+
+and_both : (a b : Bool) → (a && b) ≡ true → (a ≡ true) × (b ≡ true)
+and_both true b e = (refl, e)
+and_both false b e = absurd cc
 
 unless_true : (b : Bool) (f : TraceFault) → unless b f ≡ [] → b ≡ true
 unless_true true f e = refl
@@ -121,13 +125,16 @@ pid_of : (r : Rec) → is_some (pid_named r) ≡ true → (x : ℕ) × (r ≡ Pi
 pid_of (Pid x) e = (x, refl)
 pid_of r e = absurd cc
 
-inner_is : (version : Version) (before : List Rec) (at : ℕ) (records : List Rec) → IsBehind version before → standing_faults version before (stand_from at records) ≡ [] → AllByRecursion IsInner records
-inner_is version before at [] many clean = tt
+inner_is : (version : Version) (before : List Rec) (at : ℕ) (records : List Rec) → IsBehind version before → standing_faults version before (stand_from at records) ≡ []
+    → AllByRecursion IsInner records × ArgsFollow (first_takes_arg before) records
+inner_is version before at [] many clean = (tt, tt)
 inner_is version before at (r ∷ records) many clean =
     let here = both_empty (record_faults version before at r) (standing_faults version (r ∷ before) (stand_from (at + length_of r) records)) clean in
-    let order = both_empty (unless (may_be (preamble_of version) (length before) r) (faults.Order at)) (unless (list_any names_cpu before || not (needs_cpu r)) (faults.NoBase at)) here.0 in
-    let may : (names_cpu r || needs_cpu r) ≡ true = sym (may_behind version before r many) ∙ unless_true (may_be (preamble_of version) (length before) r) (faults.Order at) order.0 in
-    (may, inner_is version (r ∷ before) (at + length_of r) records (one_after version before r many) here.1)
+    let order = both_empty (unless (may_stand version before r) (faults.Order at)) (unless (list_any names_cpu before || not (needs_cpu r)) (faults.NoBase at)) here.0 in
+    let stands = and_both _ _ (unless_true (may_stand version before r) (faults.Order at) order.0) in
+    let may : (names_cpu r || needs_cpu r) ≡ true = sym (may_behind version before r many) ∙ stands.0 in
+    let rest = inner_is version (r ∷ before) (at + length_of r) records (one_after version before r many) here.1 in
+    ((may, rest.0), (stands.1, rest.1))
 
 names : (a b : Bool) → (a || b) ≡ true → not b ≡ true → a ≡ true
 names true b e f = refl
@@ -138,8 +145,9 @@ based_is : (version : Version) (before : List Rec) (at : ℕ) (records : List Re
 based_is version before at [] many none clean = tt
 based_is version before at (r ∷ records) many none clean =
     let here = both_empty (record_faults version before at r) (standing_faults version (r ∷ before) (stand_from (at + length_of r) records)) clean in
-    let order = both_empty (unless (may_be (preamble_of version) (length before) r) (faults.Order at)) (unless (list_any names_cpu before || not (needs_cpu r)) (faults.NoBase at)) here.0 in
-    let may : (names_cpu r || needs_cpu r) ≡ true = sym (may_behind version before r many) ∙ unless_true (may_be (preamble_of version) (length before) r) (faults.Order at) order.0 in
+    let order = both_empty (unless (may_stand version before r) (faults.Order at)) (unless (list_any names_cpu before || not (needs_cpu r)) (faults.NoBase at)) here.0 in
+    let stands = and_both _ _ (unless_true (may_stand version before r) (faults.Order at) order.0) in
+    let may : (names_cpu r || needs_cpu r) ≡ true = sym (may_behind version before r many) ∙ stands.0 in
     let base : not (needs_cpu r) ≡ true = sym (ap (λ (b : Bool). b || not (needs_cpu r)) none) ∙ unless_true (list_any names_cpu before || not (needs_cpu r)) (faults.NoBase at) order.1 in
     names (names_cpu r) (needs_cpu r) may base
 
@@ -151,13 +159,15 @@ record Shaped (version : Version) (records : List Rec) : Type 0 where
   told : block ≡ block_of records
   may : AllByRecursion IsInner inner
   based : BeginWithCpu inner
+  args : ArgsFollow false inner
 
 -- a record that may be at this place of the preamble
 stands_at : (version : Version) (before : List Rec) (at : ℕ) (r : Rec) (records : List Rec) → standing_faults version before (stand_from at (r ∷ records)) ≡ [] → (may_be (preamble_of version) (length before) r ≡ true) × (standing_faults version (r ∷ before) (stand_from (at + length_of r) records) ≡ [])
 stands_at version before at r records clean =
     let here = both_empty (record_faults version before at r) (standing_faults version (r ∷ before) (stand_from (at + length_of r) records)) clean in
-    let order = both_empty (unless (may_be (preamble_of version) (length before) r) (faults.Order at)) (unless (list_any names_cpu before || not (needs_cpu r)) (faults.NoBase at)) here.0 in
-    (unless_true (may_be (preamble_of version) (length before) r) (faults.Order at) order.0, here.1)
+    let order = both_empty (unless (may_stand version before r) (faults.Order at)) (unless (list_any names_cpu before || not (needs_cpu r)) (faults.NoBase at)) here.0 in
+    let stands = and_both _ _ (unless_true (may_stand version before r) (faults.Order at) order.0) in
+    (stands.0, here.1)
 
 shaped : (version : Version) (at : ℕ) (records : List Rec) (bytes : List ℕ) → preamble_bytes version ≤ length bytes → AreSpelled records bytes → standing_faults version [] (stand_from at records) ≡ [] → Shaped version records
 shaped Three at [] bytes long is clean = absurd (omega (arith, ap length is))
@@ -177,13 +187,15 @@ shaped Three at (a ∷ b ∷ c ∷ inner) bytes long is clean =
     (subst (λ (x : Rec). standing_faults Three (c ∷ b ∷ x ∷ []) (stand_from (at + length_of a + length_of b + length_of c) inner) ≡ []) t.1 three.1)) in
     let are : a ∷ b ∷ c ∷ inner ≡ NewBuffer t.0 ∷ WallTime w.0 ∷ Pid p.0 ∷ inner =
     ap (λ (x : Rec). x ∷ b ∷ c ∷ inner) t.1 ∙ ap (λ (x : Rec). NewBuffer t.0 ∷ x ∷ c ∷ inner) w.1 ∙ ap (λ (x : Rec). NewBuffer t.0 ∷ WallTime w.0 ∷ x ∷ inner) p.1 in
+    let inner_are = inner_is Three _ _ inner (0, refl) rest in
     record {
       block = block_of (NewBuffer t.0 ∷ WallTime w.0 ∷ Pid p.0 ∷ inner);
       inner = inner;
       are = are;
       told = ap block_of (sym are);
-      may = inner_is Three _ _ inner (0, refl) rest;
+      may = inner_are.0;
       based = based_is Three _ _ inner (0, refl) refl rest;
+      args = inner_are.1;
     }
 
 -- ---- blocks
@@ -240,6 +252,7 @@ block_described version decodes at bytes all clean =
         spelled = subst (λ (x : List Rec). AreSpelled x body) shape.are said.spelled;
         inner = shape.may;
         based = shape.based;
+        args = shape.args;
         told = shape.told ∙ ap block_of shape.are;
       }),
       omega (arith, named, fit.whole),

@@ -23,14 +23,14 @@ use Rattle.fdr_file.specs.declared.stage.Span.{Span}
 use Rattle.fdr_file.specs.declared.stage.Stage.{Stage}
 use Rattle.fdr_file.specs.declared.stage.Stage.TheVariants.{Due, Within, Faulty}
 use Rattle.fdr_file.specs.declared.stage.Told.{Told}
-use Rattle.fdr_file.specs.declared.stage.Told.TheVariants.{Nothing, Begun}
+use Rattle.fdr_file.specs.declared.stage.Told.TheVariants.{Nothing, Begun, Noted}
 use Rattle.fdr_file.specs.declared.trace.Block.{Block}
 use Rattle.fdr_file.specs.declared.version.Version.{Version}
 use Rattle.fdr_file.specs.declared.version.Version.TheVariants.{Three}
 use Rattle.fdr_file.specs.Traces.{header_in, pid_named, preamble_bytes, record_in, record_length, size_named, thread_named, trace_of, wall_named}
-use Rattle.fdr_file.specs.private.Reading.{header_on}
-use Rattle.fdr_file.specs.private.Scan.{Advances, CanTell, HasLast, IsBegun, IsOpen, ReadsHeader, ReadsNothing, ReadsOn, Scans, ScansBy, answered_by, header_longer, header_taken, last_stage, record_advanced, record_longer, record_passed, stage_answers}
-use Rattle.fdr_file.specs.Scanning.{Scanned, after_wall, blocks_given, empty_block, inside_next, last_longer, longer_block, record_within, scan_start, scanned, scanned_ends, scanned_from, scanned_next, scanned_on, stage_after, stage_ends, stage_judged, stage_within, step_on, told_event, version_read, with_blocks, with_told}
+use Rattle.fdr_file.specs.Streams.{HasLast, IsBegun, IsOpen, ReadsHeader, ReadsNothing, ReadsOn, Scans, ScansBy}
+use Rattle.fdr_file.specs.private.Scan.{Advances, CanTell, answered_by, header_longer, header_taken, last_stage, record_advanced, record_longer, record_passed, stage_answers}
+use Rattle.fdr_file.specs.Scanning.{after_wall, blocks_given, empty_block, header_on, inside_next, last_longer, longer_block, record_within, scan_start, Scanned, scanned, scanned_ends, scanned_from, scanned_next, scanned_on, stage_after, stage_ends, stage_judged, stage_within, step_on, version_read, with_blocks, with_event, with_told}
 use Rattle.fdr_file.proofs.Agreeing.{run_agrees}
 use Rattle.fdr_file.proofs.Deciding.{versioned}
 use Rattle.fdr_file.proofs.PartFaults.{never_memory}
@@ -122,23 +122,23 @@ pid_leads span at place thread wall None = refused_leads span at (insides.Wall t
 pid_leads span at place thread wall (Some pid) = λ blocks begun.
     (tt, after_open span at (insides.Events None) (with_told (Begun thread wall pid) blocks) (record { front = blocks; last = empty_block thread wall pid; is = refl }))
 
-event_has : (event : Option Event) (blocks : List Block) → HasLast blocks → CanTell (told_event event) blocks × HasLast (with_told (told_event event) blocks)
-event_has None blocks has = (tt, has)
-event_has (Some event) blocks has =
-    (has, record { front = has.front; last = longer_block has.last event; is = ap (last_longer event) has.is ∙ longer_last event has.front has.last })
+-- a last block stays one
+pub one_has : (event : Option Event) (blocks : List Block) → HasLast blocks → HasLast (with_event event blocks)
+one_has None blocks has = has
+one_has (Some event) blocks has =
+    record { front = has.front; last = longer_block has.last event; is = ap (last_longer event) has.is ∙ longer_last event has.front has.last }
 
-event_leads : (span : Span) (at : ℕ) (base : Option Base) (step : Result (Base × Option Event) TraceFault)
-    → LeadsIn span at (insides.Events base) (step >>= λ x. Ok (insides.Events (Some x.0), told_event x.1))
+event_leads : (span : Span) (at : ℕ) (base : Option Base) (step : Result (Base × Option Event × Option Event) TraceFault)
+    → LeadsIn span at (insides.Events base) (step >>= λ x. Ok (insides.Events (Some x.0), Noted x.1 x.2))
 event_leads span at base (Err f) = refused_leads span at (insides.Events base) f
-event_leads span at base (Ok (next, event)) = λ blocks has.
-    let h = event_has event blocks has in
-    (h.0, after_open span at (insides.Events (Some next)) (with_told (told_event event) blocks) h.1)
+event_leads span at base (Ok (next, entry, event)) = λ blocks has.
+    (has, after_open span at (insides.Events (Some next)) (with_told (Noted entry event) blocks) (one_has event (with_event entry blocks) (one_has entry blocks has)))
 
-record_leads : (version : Version) (span : Span) (at place : ℕ) (inside : Inside) (r : Rec) → LeadsIn span at inside (inside_next version inside place r)
-record_leads version span at place insides.Opened r = thread_leads span at place (thread_named r)
-record_leads version span at place (insides.Thread thread) r = wall_leads version span at place thread (wall_named r)
-record_leads version span at place (insides.Wall thread wall) r = pid_leads span at place thread wall (pid_named r)
-record_leads version span at place (insides.Events base) r = event_leads span at base (step_on place r base)
+record_leads : (version : Version) (span : Span) (at place : ℕ) (inside : Inside) (ends : Bool) (r : Rec) → LeadsIn span at inside (inside_next version inside ends place r)
+record_leads version span at place insides.Opened ends r = thread_leads span at place (thread_named r)
+record_leads version span at place (insides.Thread thread) ends r = wall_leads version span at place thread (wall_named r)
+record_leads version span at place (insides.Wall thread wall) ends r = pid_leads span at place thread wall (pid_named r)
+record_leads version span at place (insides.Events base) ends r = event_leads span at base (step_on ends place r base)
 
 pub leads : (version : Version) (stage : Stage) (at len : ℕ) (a : Result Rec RecFault) → Leads stage (stage_judged version stage at len a)
 leads version Due at len a = extents_lead version at len a
@@ -146,7 +146,7 @@ leads version (Faulty span fault) at len a = λ blocks begun. (tt, tt)
 leads version (Within span inside) at len a = by_found (record_within span at len a) refl
   where
     by_found : (x : Result Rec TraceFault) → record_within span at len a ≡ x → Leads (Within span inside) (stage_judged version (Within span inside) at len a)
-    by_found (Ok r) e = rw e (record_leads version span (at + len) at inside r)
+    by_found (Ok r) e = rw e (record_leads version span (at + len) at inside (eqb (at + len) span.end) r)
     by_found (Err f) e = rw e (refused_leads span (at + len) inside f)
 
 -- a record that is cut off says nothing

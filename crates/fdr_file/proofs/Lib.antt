@@ -11,6 +11,7 @@ pub mod Whole
 pub mod Steps
 pub mod Agreeing
 pub mod Following
+pub mod EventRuns
 mod Flags
 pub mod Cursoring
 pub mod LongestPrefix

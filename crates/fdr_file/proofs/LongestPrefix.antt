@@ -18,10 +18,9 @@ use Rattle.fdr_file.specs.declared.trace.Trace.{Trace}
 use Rattle.fdr_file.specs.declared.version.Version.{Version}
 use Rattle.fdr_file.specs.Places.{starts}
 use Rattle.fdr_file.specs.Prefixes.{IsHeaderFault, IsReadable, ReadsAsTrace}
-use Rattle.fdr_file.specs.Scanning.{Scanned, scan_start, scanned, scanned_ends, scanned_from, scanned_next, scanned_on, stage_ends, stage_judged, version_read, with_told}
+use Rattle.fdr_file.specs.Scanning.{header_on, scan_start, Scanned, scanned, scanned_ends, scanned_from, scanned_next, scanned_on, stage_ends, stage_judged, version_read, with_told}
 use Rattle.fdr_file.specs.Traces.{header_in, record_in, record_length, trace_of}
 use Rattle.fdr_file.specs.private.Prefixes.{ReadsTo, end_after, passed_at}
-use Rattle.fdr_file.specs.private.Reading.{header_on}
 use Rattle.fdr_file.proofs.Agreeing.{run_agrees}
 use Rattle.fdr_file.proofs.Deciding.{versioned}
 use Rattle.fdr_file.proofs.Following.{headed, header_again, step_cut, step_whole, unheaded}

@@ -12,7 +12,7 @@ use Rattle.fdr_file.specs.declared.fault.TraceFault.TheVariants as faults
 use Rattle.fdr_file.specs.declared.version.Version.{Version}
 use Rattle.fdr_file.specs.Places.{starts}
 use Rattle.fdr_file.specs.Prefixes.{IsHeaderFault}
-use Rattle.fdr_file.specs.Traces.{Standing, block_length, block_standings, block_starts, fault_at, may_be, names_cpu, needs_cpu, preamble_bytes, preamble_of, record_in, size_named, trace_of, type_in, version_in, version_of}
+use Rattle.fdr_file.specs.Traces.{Standing, block_length, block_standings, block_starts, fault_at, may_stand, names_cpu, needs_cpu, preamble_bytes, record_in, size_named, trace_of, type_in, version_in, version_of}
 use Rattle.fdr_file.specs.Scanning.{version_read}
 use Rattle.fdr_file.specs.private.Faults.{block_faults, blocks_faults, decided, extents_faults, record_faults, size_faults, standing_faults, told_by, unless}
 use Rattle.fdr_file.proofs.TraceRows.{header_first, rows_decide}
@@ -49,8 +49,8 @@ standing_is version before [] = tt
 standing_is version before ((at, Err fault) ∷ following) = (fault_is at fault, tt)
 standing_is version before ((at, Ok r) ∷ following) =
     both (record_faults version before at r) (standing_faults version (r ∷ before) following)
-    (both (unless (may_be (preamble_of version) (length before) r) (faults.Order at)) (unless (list_any names_cpu before || not (needs_cpu r)) (faults.NoBase at))
-    (unless_is (may_be (preamble_of version) (length before) r) (faults.Order at) tt)
+    (both (unless (may_stand version before r) (faults.Order at)) (unless (list_any names_cpu before || not (needs_cpu r)) (faults.NoBase at))
+    (unless_is (may_stand version before r) (faults.Order at) tt)
     (unless_is (list_any names_cpu before || not (needs_cpu r)) (faults.NoBase at) tt))
     (standing_is version (r ∷ before) following)
 

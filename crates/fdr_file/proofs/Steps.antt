@@ -1,5 +1,6 @@
 -- From one record of a file to the next.
-use Rattle.std.proofs.Common.{◌≡◌, ℕ, ◌+◌, ◌<◌, List, [], ◌∷◌, ◌++◌, length, drop, refl, ap, ◌∙◌}
+use Rattle.std.proofs.Common.{◌≡◌, ℕ, ◌+◌, ◌<◌, List, [], ◌∷◌, ◌++◌, length, drop, Option, Some, None, append-nil, refl, sym, ap, ◌∙◌}
+use Rattle.std.specs.Prelude.{option_to_list}
 use Rattle.fdr_record.specs.declared.event.Event.{Event}
 use Rattle.fdr_file.specs.declared.stage.Stage.{Stage}
 use Rattle.fdr_file.specs.declared.stage.Stage.TheVariants.{Faulty}
@@ -10,7 +11,7 @@ use Rattle.fdr_file.specs.declared.trace.Block.{Block}
 use Rattle.fdr_file.specs.declared.version.Version.{Version}
 use Rattle.fdr_file.specs.Places.{starts}
 use Rattle.fdr_file.specs.Traces.{record_in, record_length}
-use Rattle.fdr_file.specs.Scanning.{Scanned, last_longer, longer_block, scanned_next, scanned_on, scanned_over, stage_judged, with_told}
+use Rattle.fdr_file.specs.Scanning.{Scanned, last_longer, longer_block, scanned_next, scanned_on, scanned_over, stage_judged, with_event, with_told}
 use Rattle.fdr_file.proofs.Walking.{length_some, starts_first}
 
 abbrev pub at_stage : Stage → List Block → Scanned
@@ -21,6 +22,15 @@ pub longer_last : (event : Event) (front : List Block) (last : Block) → last_l
 longer_last event [] last = refl
 longer_last event (block ∷ []) last = refl
 longer_last event (block ∷ other ∷ front) last = ap (λ (bs : List Block). block ∷ bs) (longer_last event (other ∷ front) last)
+
+-- a block with these events
+abbrev pub with_events : Block → List Event → Block
+with_events block events = record block { events = events }
+
+-- the same, if there is one more event
+pub event_last : (event : Option Event) (front : List Block) (last : Block) → with_event event (front ++ last ∷ []) ≡ front ++ with_events last (last.events ++ option_to_list event) ∷ []
+event_last None front last = ap (λ (es : List Event). front ++ with_events last es ∷ []) (sym (append-nil last.events))
+event_last (Some event) front last = longer_last event front last
 
 -- nothing is read after a fault
 pub stays_faulty : (version : Version) (span : Span) (fault : TraceFault) (blocks : List Block) (places : List (ℕ × List ℕ))

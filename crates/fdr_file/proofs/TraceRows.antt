@@ -12,7 +12,7 @@ use Rattle.fdr_file.specs.declared.fault.TraceFault.TheVariants as faults
 use Rattle.fdr_file.specs.declared.trace.Block.{Block}
 use Rattle.fdr_file.specs.declared.trace.Trace.{Trace}
 use Rattle.fdr_file.specs.declared.version.Version.{Version}
-use Rattle.fdr_file.specs.Traces.{Standing, block_in, block_rows, block_standings, block_starts, extents_rows, header_in, header_rows, may_be, names_cpu, needs_cpu, preamble_bytes, preamble_of, record_in, record_rows, size_named, trace_of, type_in, version_in, version_of}
+use Rattle.fdr_file.specs.Traces.{Standing, block_in, block_rows, block_standings, block_starts, extents_rows, header_in, header_rows, may_stand, names_cpu, needs_cpu, preamble_bytes, record_in, record_rows, size_named, trace_of, type_in, version_in, version_of}
 use Rattle.fdr_file.specs.Scanning.{version_read}
 use Rattle.fdr_file.specs.private.Faults.{block_faults, blocks_faults, by_places, decided, extents_faults, size_faults, standing_faults, told_by, unless}
 
@@ -32,7 +32,7 @@ records_decide : {A : Type 0} (version : Version) (x : A) (before : List Rec) (s
 records_decide version x before [] = refl
 records_decide version x before ((at, Err fault) ∷ following) = refl
 records_decide {A} version x before ((at, Ok r) ∷ following) =
-    by_tests (records_decide version x (r ∷ before) following) (may_be (preamble_of version) (length before) r) (list_any names_cpu before) (needs_cpu r)
+    by_tests (records_decide version x (r ∷ before) following) (may_stand version before r) (list_any names_cpu before) (needs_cpu r)
   where
     by_tests : (InTurn (record_rows version) (r ∷ before) following >>= λ _. Ok x) ≡ decided (standing_faults version (r ∷ before) following) x → (may named needs : Bool)
         → (First (not may) (Err (faults.Order at)) (First (needs && not named) (Err (faults.NoBase at)) (Ok (r ∷ before)))

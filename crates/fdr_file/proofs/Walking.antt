@@ -1,8 +1,9 @@
 -- From one part to the next.
-use Rattle.std.proofs.Common.{◌≡◌, ℕ, zero, suc, ◌+◌, ◌-◌, ◌<◌, List, [], ◌∷◌, ◌++◌, length, drop, map, Option, Some, Result, Ok, Err, eqb, slice_index, ◌%◌, lit<, inl, inr, refl, sym, ap, ◌∙◌, append_assoc, arith}
+use Rattle.std.proofs.Common.{◌≡◌, ℕ, zero, suc, ◌+◌, ◌-◌, ◌<◌, ◌≤◌, List, [], ◌∷◌, ◌++◌, length, drop, map, Option, Some, Result, Ok, Err, eqb, slice_index, ◌%◌, lit<, inl, inr, refl, sym, ap, ◌∙◌, append_assoc, arith}
 use Rattle.std.specs.Prelude.{option_to_list}
-use Rattle.std.proofs.lemmas.List.{append-nil}
-use Rattle.std.proofs.lemmas.Bool.{cases_Bool}
+use Rattle.std.proofs.lemmas.List.{append-nil, length-drop}
+use Rattle.std.proofs.lemmas.Bool.{cases_Bool, eq-eqb, ne_eqb}
+use Rattle.std.proofs.lemmas.Bool.Decides.{eqb_tells}
 use Rattle.xray_io.specs.Rows.{◌>>=◌}
 use Rattle.fdr_record.specs.declared.event.Event.{Event}
 use Rattle.fdr_record.specs.declared.rec.Rec.{Rec}
@@ -11,7 +12,7 @@ use Rattle.fdr_file.specs.declared.events.Base.{Base}
 use Rattle.fdr_file.specs.declared.fault.TraceFault.{TraceFault}
 use Rattle.fdr_file.specs.Places.{starts}
 use Rattle.fdr_file.specs.Traces.{fault_at, record_in, record_length, standing_at, standings, Standing}
-use Rattle.fdr_file.specs.private.Reading.{Left, events_on, read_first, record_on, with_front}
+use Rattle.fdr_file.specs.private.Reading.{Left, events_on, is_end, read_first, record_on, with_front}
 use Rattle.fdr_file.specs.Scanning.{step_on}
 
 -- bytes of a part that was begun earlier are skipped
@@ -80,19 +81,35 @@ stands_none at bytes e some is = by_answer (record_in bytes) refl is
 
 -- ---- events after others
 
-front_again : (front : List Event) (event : Option Event) (read : Result (List Event) TraceFault)
-    → with_front front (read >>= λ events. Ok (option_to_list event ++ events)) ≡ with_front (front ++ option_to_list event) read
-front_again front event (Ok events) = ap (λ (x : List Event). Ok x) (sym (append_assoc front (option_to_list event) events))
-front_again front event (Err e) = refl
+front_again : (front more : List Event) (read : Result (List Event) TraceFault)
+    → with_front front (read >>= λ events. Ok (more ++ events)) ≡ with_front (front ++ more) read
+front_again front more (Ok events) = ap (λ (x : List Event). Ok x) (sym (append_assoc front more events))
+front_again front more (Err e) = refl
+
+pub same_test : (a b c d : ℕ) → (a ≡ b → c ≡ d) → (c ≡ d → a ≡ b) → eqb a b ≡ eqb c d
+same_test a b c d to from =
+    elim (eqb_tells a b) [ inl e ↦ e.0 ∙ sym (eq-eqb c d (to e.1)) | inr n ↦ n.0 ∙ sym (ne_eqb c d (λ e. n.1 (from e))) ]
+
+-- a place is the end of bytes if no byte is left from there on
+pub end_at : (next : ℕ) (bytes : List ℕ) → next ≤ length bytes → eqb (length (drop next bytes)) 0 ≡ eqb next (length bytes)
+end_at next bytes within =
+    same_test (length (drop next bytes)) 0 next (length bytes) (λ e. omega (arith, e, length-drop next bytes, within)) (λ e. omega (arith, e, length-drop next bytes, within))
+
+-- no record begins only where no byte is left
+pub standings_end : (at : ℕ) (bytes : List ℕ) → is_end (standings at bytes) ≡ eqb (length bytes) 0
+unfolding starts
+standings_end at [] = refl
+standings_end at (byte ∷ bytes) =
+    ap is_end (stands_first at (byte ∷ bytes) (omega arith)) ∙ sym (ne_eqb (length (byte ∷ bytes)) 0 (λ e. omega (arith, e)))
 
 -- one more record
-pub events_more : (front : List Event) (base : Option Base) (at : ℕ) (bytes : List ℕ) (r : Rec) (left : Left) (step : Base × Option Event) (total : Result (List Event) TraceFault)
-    → 0 < length bytes → record_on (at, bytes) ≡ Ok (r, left) → step_on at r base ≡ Ok step → with_front front (events_on base (standings at bytes)) ≡ total
-    → with_front (front ++ option_to_list step.1) (events_on (Some step.0) (standings left.0 left.1)) ≡ total
+pub events_more : (front : List Event) (base : Option Base) (at : ℕ) (bytes : List ℕ) (r : Rec) (left : Left) (step : Base × Option Event × Option Event) (total : Result (List Event) TraceFault)
+    → 0 < length bytes → record_on (at, bytes) ≡ Ok (r, left) → step_on (eqb (length left.1) 0) at r base ≡ Ok step → with_front front (events_on base (standings at bytes)) ≡ total
+    → with_front (front ++ (option_to_list step.1 ++ option_to_list step.2)) (events_on (Some step.0) (standings left.0 left.1)) ≡ total
 unfolding events_on
 events_more front base at bytes r left step total some taken stepped so_far =
-    sym (front_again front step.1 (events_on (Some step.0) (standings left.0 left.1)))
-    ∙ sym (rw (stands_taken at bytes r left some taken, stepped) refl)
+    sym (front_again front (option_to_list step.1 ++ option_to_list step.2) (events_on (Some step.0) (standings left.0 left.1)))
+    ∙ sym (rw (stands_taken at bytes r left some taken, standings_end left.0 left.1, stepped) refl)
     ∙ so_far
 
 -- no record
@@ -105,10 +122,10 @@ events_stop front base at bytes e total some none so_far =
 
 -- a record that isn't allowed there
 pub events_refuse : (front : List Event) (base : Option Base) (at : ℕ) (bytes : List ℕ) (r : Rec) (left : Left) (e : TraceFault) (total : Result (List Event) TraceFault)
-    → 0 < length bytes → record_on (at, bytes) ≡ Ok (r, left) → step_on at r base ≡ Err e → with_front front (events_on base (standings at bytes)) ≡ total → total ≡ Err e
+    → 0 < length bytes → record_on (at, bytes) ≡ Ok (r, left) → step_on (eqb (length left.1) 0) at r base ≡ Err e → with_front front (events_on base (standings at bytes)) ≡ total → total ≡ Err e
 unfolding events_on
 events_refuse front base at bytes r left e total some taken stepped so_far =
-    sym so_far ∙ rw (stands_taken at bytes r left some taken, stepped) refl
+    sym so_far ∙ rw (stands_taken at bytes r left some taken, standings_end left.0 left.1, stepped) refl
 
 -- no bytes
 pub events_done : (front : List Event) (base : Option Base) (at : ℕ) (total : Result (List Event) TraceFault) → with_front front (events_on base (standings at [])) ≡ total → total ≡ Ok front

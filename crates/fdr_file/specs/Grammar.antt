@@ -1,5 +1,5 @@
 -- What a trace file is: a header, and blocks, one after the other.
-use Rattle.std.specs.Prelude.{◌≡◌, ◌<◌, ◌^◌, ◌/◌, ◌%◌, ◌==◌, ◌||◌, ⊤, ℕ, List, [], ◌∷◌, ◌++◌, Some, length, map, IsTrue}
+use Rattle.std.specs.Prelude.{◌≡◌, ◌<◌, ◌^◌, ◌/◌, ◌%◌, ◌==◌, ◌||◌, ⊤, ℕ, Bool, false, not, List, [], ◌∷◌, ◌++◌, Some, length, map, IsTrue}
 use Rattle.std.specs.List.{AllByRecursion}
 use Rattle.byteorder.specs.Endian.{little_bytes}
 use Rattle.fdr_record.specs.declared.rec.Rec.{Rec}
@@ -9,7 +9,7 @@ use Rattle.fdr_file.specs.declared.header.Header.{Header}
 use Rattle.fdr_file.specs.declared.version.Version.{Version}
 use Rattle.fdr_file.specs.declared.trace.Block.{Block}
 use Rattle.fdr_file.specs.declared.trace.Trace.{Trace}
-use Rattle.fdr_file.specs.Traces.{PreambleItem, TheProcess, TheThread, TheWallTime, block_of, names_cpu, needs_cpu, preamble_of, version_of}
+use Rattle.fdr_file.specs.Traces.{PreambleItem, TheProcess, TheThread, TheWallTime, block_of, is_arg, names_cpu, needs_cpu, preamble_of, takes_arg, version_of}
 
 -- The bytes are a header with these fields, of this version and of the type of the Flight Data Recorder mode. The flags
 -- above the second, and the last 8 bytes, may have any values.
@@ -32,13 +32,19 @@ AreSpelled [] bytes = bytes ≡ []
 AreSpelled (r ∷ records) bytes =
     (front : List ℕ) × (following : List ℕ) × (bytes ≡ front ++ following) × FieldsFit r × Spells front r × AreSpelled records following
 
--- records that may follow a preamble: CPUs, counters and functions, the first of which names a CPU
+-- records that may follow a preamble: CPUs, counters, functions and arguments, the first of which names a CPU
 abbrev pub IsInner : Rec → Type 0
 IsInner r = IsTrue (names_cpu r || needs_cpu r)
 
 abbrev pub BeginWithCpu : List Rec → Type 0
 BeginWithCpu [] = ⊤
 BeginWithCpu (r ∷ records) = IsTrue (names_cpu r)
+
+-- An argument stands only directly behind an entry that logs one, or behind another argument. The record before these
+-- takes an argument or doesn't.
+abbrev pub ArgsFollow : Bool → List Rec → Type 0
+ArgsFollow takes [] = ⊤
+ArgsFollow takes (r ∷ records) = IsTrue (not (is_arg r) || takes) × ArgsFollow (takes_arg r) records
 
 -- the record that names this of a block
 abbrev pub naming : Block → PreambleItem → Rec
@@ -62,6 +68,7 @@ pub record IsBlock (version : Version) (bytes : List ℕ) (block : Block) : Type
   pub spelled : AreSpelled (block_records version block records) body
   pub inner : AllByRecursion IsInner records
   pub based : BeginWithCpu records
+  pub args : ArgsFollow false records
   pub told : block ≡ block_of (block_records version block records)
 
 -- the bytes are these blocks, one after the other

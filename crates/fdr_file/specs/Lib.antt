@@ -5,5 +5,7 @@ pub mod ThreadEvents
 pub mod Files
 pub mod Grammar
 pub mod Scanning
+pub mod Streams
+pub mod EventsLeft
 pub mod Prefixes
 pub mod private

@@ -1,11 +1,15 @@
 -- The trace of a file, read record by record: the blocks that the records say so far, and where the reading stands.
-use Rattle.std.specs.Prelude.{ℕ, ◌+◌, ◌%◌, ◌^◌, ◌==◌, List, [], ◌∷◌, ◌++◌, drop, Option, Some, None, Result, Ok, Err, nat_lt, if◌then◌else◌}
+use Rattle.std.specs.Prelude.{ℕ, ◌+◌, ◌%◌, ◌^◌, ◌==◌, ◌&&◌, Bool, not, List, [], ◌∷◌, ◌++◌, drop, Option, Some, None, Result, Ok, Err, nat_lt, if◌then◌else◌}
 use Rattle.xray_io.specs.Rows.{First, NeedsPart, ◌>>=◌}
 use Rattle.xray_io.specs.declared.wall.Wall.{Wall}
 use Rattle.fdr_record.specs.declared.event.Event.{Event}
+use Rattle.fdr_record.specs.declared.event.Kind.{Kind}
+use Rattle.fdr_record.specs.declared.event.Kind.TheVariants.{EntryArgs}
 use Rattle.fdr_record.specs.declared.rec.Rec.{Rec}
-use Rattle.fdr_record.specs.declared.rec.Rec.TheVariants.{NewBuffer, NewCpu, TscWrap, WallTime, Pid, Extents, Function}
+use Rattle.fdr_record.specs.declared.rec.Rec.TheVariants.{NewBuffer, NewCpu, TscWrap, WallTime, Pid, CallArg, Extents, Function}
 use Rattle.fdr_record.specs.declared.fault.RecFault.{RecFault}
+use Rattle.fdr_file.specs.declared.events.Argument.{Argument}
+use Rattle.fdr_file.specs.declared.events.Argument.TheVariants as arguments
 use Rattle.fdr_file.specs.declared.events.Base.{Base}
 use Rattle.fdr_file.specs.declared.fault.TraceFault.{TraceFault}
 use Rattle.fdr_file.specs.declared.fault.TraceFault.TheVariants as faults
@@ -22,7 +26,7 @@ use Rattle.fdr_file.specs.declared.trace.Trace.{Trace}
 use Rattle.fdr_file.specs.declared.version.Version.{Version}
 use Rattle.fdr_file.specs.declared.version.Version.TheVariants.{Three}
 use Rattle.fdr_file.specs.Places.{starts}
-use Rattle.fdr_file.specs.Traces.{fault_at, header_rows, pid_named, preamble_bytes, record_in, record_length, size_named, thread_named, wall_named}
+use Rattle.fdr_file.specs.Traces.{fault_at, header_in, header_rows, logs_arg, pid_named, preamble_bytes, record_in, record_length, size_named, thread_named, wall_named}
 
 -- ---- blocks that grow
 
@@ -40,11 +44,16 @@ last_longer event [] = []
 last_longer event (block ∷ []) = longer_block block event ∷ []
 last_longer event (block ∷ other ∷ blocks) = block ∷ last_longer event (other ∷ blocks)
 
+-- the same, if there is one more event
+abbrev pub with_event : Option Event → List Block → List Block
+with_event None blocks = blocks
+with_event (Some event) blocks = last_longer event blocks
+
 -- the blocks after a record
 abbrev pub with_told : Told → List Block → List Block
 with_told Nothing blocks = blocks
 with_told (Begun thread wall pid) blocks = blocks ++ empty_block thread wall pid ∷ []
-with_told (Noted event) blocks = last_longer event blocks
+with_told (Noted entry event) blocks = with_event event (with_event entry blocks)
 
 -- ---- one record
 
@@ -77,39 +86,71 @@ record_within span at len found = if nat_lt span.end (at + len) then Err (faults
 abbrev pub after_wall : Version → ℕ → Wall → Inside × Told
 after_wall Three thread wall = (insides.Wall thread wall, Nothing)
 
--- the CPU and counter after a record, and the event that it says
-abbrev pub step_on : ℕ → Rec → Option Base → Result (Base × Option Event) TraceFault
-step_on at (NewCpu cpu tsc) base = Ok (record { cpu = cpu; tsc = tsc }, None)
-step_on at (TscWrap tsc) None = Err (faults.NoBase at)
-step_on at (TscWrap tsc) (Some base) = Ok (record { cpu = base.cpu; tsc = tsc }, None)
-step_on at (Function kind func delta) None = Err (faults.NoBase at)
-step_on at (Function kind func delta) (Some base) =
-    let tsc = (base.tsc + delta) % 2 ^ 64 in
-    Ok (record { cpu = base.cpu; tsc = tsc }, Some (record { cpu = base.cpu; func = func; kind = kind; tsc = tsc }))
-step_on at (NewBuffer thread) base = Err (faults.Order at)
-step_on at (WallTime wall) base = Err (faults.Order at)
-step_on at (Pid pid) base = Err (faults.Order at)
-step_on at (Extents size) base = Err (faults.Order at)
+-- An entry that logs its argument is told one record later, since the argument may be in that record. If the entry is
+-- the last record of its block, it is told at once.
 
--- what the event of a record says, if it has one
-abbrev pub told_event : Option Event → Told
-told_event None = Nothing
-told_event (Some event) = Noted event
+-- the entry whose argument the next record may be, with this argument
+abbrev pub entry_due : Argument → Base → ℕ → Option Event
+entry_due arguments.Barred base arg = None
+entry_due (arguments.Awaited func) base arg =
+    Some (record { cpu = base.cpu; func = func; kind = EntryArgs; tsc = base.tsc; arg = arg })
+entry_due arguments.Known base arg = None
 
--- what a record within a block says, after those before it
-abbrev pub inside_next : Version → Inside → ℕ → Rec → Result (Inside × Told) TraceFault
-inside_next version insides.Opened at r =
+abbrev pub entry_with : Option Base → ℕ → Option Event
+entry_with None arg = None
+entry_with (Some base) arg = entry_due base.argument base arg
+
+-- after a record with a CPU or a counter
+abbrev pub counted_on : ℕ → ℕ → Option Base → Base × Option Event × Option Event
+counted_on cpu tsc base = (record { cpu = cpu; tsc = tsc; argument = arguments.Barred }, entry_with base 0, None)
+
+-- after a function record, which may be the last record of its block
+abbrev pub function_on : Bool → Kind → ℕ → ℕ → Base → Base × Option Event × Option Event
+function_on ends kind func tsc base =
+    if logs_arg kind && not ends
+    then (record { cpu = base.cpu; tsc = tsc; argument = arguments.Awaited func }, entry_with (Some base) 0, None)
+    else (
+      record { cpu = base.cpu; tsc = tsc; argument = arguments.Barred },
+      entry_with (Some base) 0,
+      Some (record { cpu = base.cpu; func = func; kind = kind; tsc = tsc; arg = 0 }),
+    )
+
+-- after an argument; those after the first are skipped
+abbrev pub argument_on : ℕ → ℕ → Base → Argument → Result (Base × Option Event × Option Event) TraceFault
+argument_on at value base arguments.Barred = Err (faults.Order at)
+argument_on at value base (arguments.Awaited func) =
+    Ok (record base { argument = arguments.Known }, entry_with (Some base) value, None)
+argument_on at value base arguments.Known = Ok (base, None, None)
+
+-- What is known after a record, and the events that it settles: the entry before it, and its own.
+abbrev pub step_on : Bool → ℕ → Rec → Option Base → Result (Base × Option Event × Option Event) TraceFault
+step_on ends at (NewCpu cpu tsc) base = Ok (counted_on cpu tsc base)
+step_on ends at (TscWrap tsc) None = Err (faults.NoBase at)
+step_on ends at (TscWrap tsc) (Some base) = Ok (counted_on base.cpu tsc (Some base))
+step_on ends at (Function kind func delta) None = Err (faults.NoBase at)
+step_on ends at (Function kind func delta) (Some base) = Ok (function_on ends kind func ((base.tsc + delta) % 2 ^ 64) base)
+step_on ends at (CallArg value) None = Err (faults.Order at)
+step_on ends at (CallArg value) (Some base) = argument_on at value base base.argument
+step_on ends at (NewBuffer thread) base = Err (faults.Order at)
+step_on ends at (WallTime wall) base = Err (faults.Order at)
+step_on ends at (Pid pid) base = Err (faults.Order at)
+step_on ends at (Extents size) base = Err (faults.Order at)
+
+-- what a record within a block says, after those before it; the block may end with it
+abbrev pub inside_next : Version → Inside → Bool → ℕ → Rec → Result (Inside × Told) TraceFault
+inside_next version insides.Opened ends at r =
     NeedsPart (thread_named r) (Err (faults.Order at)) λ thread. Ok (insides.Thread thread, Nothing)
-inside_next version (insides.Thread thread) at r =
+inside_next version (insides.Thread thread) ends at r =
     NeedsPart (wall_named r) (Err (faults.Order at)) λ wall. Ok (after_wall version thread wall)
-inside_next version (insides.Wall thread wall) at r =
+inside_next version (insides.Wall thread wall) ends at r =
     NeedsPart (pid_named r) (Err (faults.Order at)) λ pid. Ok (insides.Events None, Begun thread wall pid)
-inside_next version (insides.Events base) at r =
-    step_on at r base >>= λ step. Ok (insides.Events (Some step.0), told_event step.1)
+inside_next version (insides.Events base) ends at r =
+    step_on ends at r base >>= λ step. Ok (insides.Events (Some step.0), Noted step.1 step.2)
 
 -- what is at a place within a block says this
 abbrev pub inside_judged : Version → Span → Inside → ℕ → ℕ → Result Rec RecFault → Result (Inside × Told) TraceFault
-inside_judged version span inside at len found = record_within span at len found >>= λ r. inside_next version inside at r
+inside_judged version span inside at len found =
+    record_within span at len found >>= λ r. inside_next version inside (at + len == span.end) at r
 
 -- the stage after a record of a block that ends at this place
 abbrev pub stage_after : Span → ℕ → Inside → Stage
@@ -155,6 +196,10 @@ scan_start = record { stage = Due; blocks = [] }
 -- the version of a file, or the fault of its header
 abbrev pub version_read : List ℕ → Result Version TraceFault
 version_read bytes = header_rows bytes λ version. Ok version
+
+-- the version and the header of a file, or the fault of its header
+abbrev pub header_on : List ℕ → Result (Version × Header) TraceFault
+header_on bytes = header_rows bytes λ version. Ok (version, header_in bytes)
 
 -- what a file has after its header, or the fault of the header
 abbrev pub scanned_from : Result Version TraceFault → List ℕ → Scanned

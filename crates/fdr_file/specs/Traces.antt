@@ -4,8 +4,10 @@ use Rattle.std.specs.List.{filter_map, list_any}
 use Rattle.byteorder.specs.Endian.{little_number}
 use Rattle.xray_io.specs.Rows.{First, InTurn, NeedsPart, ◌>>=◌}
 use Rattle.xray_io.specs.declared.wall.Wall.{Wall}
+use Rattle.fdr_record.specs.declared.event.Kind.{Kind}
+use Rattle.fdr_record.specs.declared.event.Kind.TheVariants.{Entry, Exit, TailExit, EntryArgs}
 use Rattle.fdr_record.specs.declared.rec.Rec.{Rec}
-use Rattle.fdr_record.specs.declared.rec.Rec.TheVariants.{NewBuffer, NewCpu, TscWrap, WallTime, Pid, Extents, Function}
+use Rattle.fdr_record.specs.declared.rec.Rec.TheVariants.{NewBuffer, NewCpu, TscWrap, WallTime, Pid, CallArg, Extents, Function}
 use Rattle.fdr_record.specs.declared.fault.RecFault.{RecFault}
 use Rattle.fdr_record.specs.declared.fault.RecFault.TheVariants as decoder_faults
 use Rattle.fdr_record.specs.Records.{metadata_length}
@@ -90,6 +92,7 @@ thread_named (NewCpu cpu tsc) = None
 thread_named (TscWrap tsc) = None
 thread_named (WallTime wall) = None
 thread_named (Pid pid) = None
+thread_named (CallArg value) = None
 thread_named (Extents size) = None
 thread_named (Function kind func delta) = None
 
@@ -100,6 +103,7 @@ wall_named (NewCpu cpu tsc) = None
 wall_named (TscWrap tsc) = None
 wall_named (WallTime wall) = Some wall
 wall_named (Pid pid) = None
+wall_named (CallArg value) = None
 wall_named (Extents size) = None
 wall_named (Function kind func delta) = None
 
@@ -110,6 +114,7 @@ pid_named (NewCpu cpu tsc) = None
 pid_named (TscWrap tsc) = None
 pid_named (WallTime wall) = None
 pid_named (Pid pid) = Some pid
+pid_named (CallArg value) = None
 pid_named (Extents size) = None
 pid_named (Function kind func delta) = None
 
@@ -120,6 +125,7 @@ size_named (NewCpu cpu tsc) = None
 size_named (TscWrap tsc) = None
 size_named (WallTime wall) = None
 size_named (Pid pid) = None
+size_named (CallArg value) = None
 size_named (Extents size) = Some size
 size_named (Function kind func delta) = None
 
@@ -130,6 +136,7 @@ names_cpu (NewCpu cpu tsc) = true
 names_cpu (TscWrap tsc) = false
 names_cpu (WallTime wall) = false
 names_cpu (Pid pid) = false
+names_cpu (CallArg value) = false
 names_cpu (Extents size) = false
 names_cpu (Function kind func delta) = false
 
@@ -140,8 +147,43 @@ needs_cpu (NewCpu cpu tsc) = false
 needs_cpu (TscWrap tsc) = true
 needs_cpu (WallTime wall) = false
 needs_cpu (Pid pid) = false
+needs_cpu (CallArg value) = true
 needs_cpu (Extents size) = false
 needs_cpu (Function kind func delta) = true
+
+-- the record is an argument
+abbrev pub is_arg : Rec → Bool
+is_arg (NewBuffer thread) = false
+is_arg (NewCpu cpu tsc) = false
+is_arg (TscWrap tsc) = false
+is_arg (WallTime wall) = false
+is_arg (Pid pid) = false
+is_arg (CallArg value) = true
+is_arg (Extents size) = false
+is_arg (Function kind func delta) = false
+
+-- an event of this kind logs an argument
+abbrev pub logs_arg : Kind → Bool
+logs_arg Entry = false
+logs_arg Exit = false
+logs_arg TailExit = false
+logs_arg EntryArgs = true
+
+-- an argument may stand directly behind the record: behind an entry that logs one, or behind another argument
+abbrev pub takes_arg : Rec → Bool
+takes_arg (NewBuffer thread) = false
+takes_arg (NewCpu cpu tsc) = false
+takes_arg (TscWrap tsc) = false
+takes_arg (WallTime wall) = false
+takes_arg (Pid pid) = false
+takes_arg (CallArg value) = true
+takes_arg (Extents size) = false
+takes_arg (Function kind func delta) = logs_arg kind
+
+-- the same, of the first of some records
+abbrev pub first_takes_arg : List Rec → Bool
+first_takes_arg [] = false
+first_takes_arg (r ∷ records) = takes_arg r
 
 -- what a record of a preamble names
 pub data PreambleItem : Type 0 where
@@ -163,12 +205,16 @@ names_item TheThread r = is_some (thread_named r)
 names_item TheWallTime r = is_some (wall_named r)
 names_item TheProcess r = is_some (pid_named r)
 
--- The record may be number n of its block, counted from 0, if the first records name these items. CPUs, counters and
--- functions follow.
+-- The record may be number n of its block, counted from 0, if the first records name these items. CPUs, counters,
+-- functions and arguments follow.
 abbrev pub may_be : List PreambleItem → ℕ → Rec → Bool
 may_be [] n r = names_cpu r || needs_cpu r
 may_be (item ∷ items) zero r = names_item item r
 may_be (item ∷ items) (suc n) r = may_be items n r
+
+-- the record may stand after these, the last of which comes first
+abbrev pub may_stand : Version → List Rec → Rec → Bool
+may_stand version before r = may_be (preamble_of version) (length before) r && (not (is_arg r) || first_takes_arg before)
 
 -- why no record is at a place: the block ends too early, or its action or kind isn't one
 abbrev pub fault_at : ℕ → RecFault → TraceFault
@@ -179,7 +225,7 @@ fault_at at (decoder_faults.Kind kind) = faults.Bad at (decoder_faults.Kind kind
 -- what is at a place, after the records before it, the last of them first
 abbrev pub record_rows : Version → List Rec → Standing → Result (List Rec) TraceFault
 record_rows version before (at, Ok r) =
-    First (not (may_be (preamble_of version) (length before) r)) (Err (faults.Order at))
+    First (not (may_stand version before r)) (Err (faults.Order at))
     (First (needs_cpu r && not (list_any names_cpu before)) (Err (faults.NoBase at))
     (Ok (r ∷ before)))
 record_rows version before (at, Err fault) = Err (fault_at at fault)

@@ -1,52 +1,170 @@
 //! The events of a block.
 
-ghost use Rattle.std.specs.Prelude.{◌≡◌, ◌≤◌, length, None};
-ghost use Rattle.fdr_file.specs.private.Reading.{Gives, events_on, left_at};
-ghost use Rattle.fdr_file.specs.Scanning.{step_on};
-ghost use Rattle.fdr_file.specs.Traces.{standings};
-ghost use Rattle.std.specs.Prelude.{drop};
+ghost use Rattle.std.specs.Prelude.{◌≡◌, ◌≤◌, ◌<◌, ◌+◌, ◌==◌, ◌++◌, length, drop, None, Ok, IfSome, OnOk, option_to_list};
+ghost use Rattle.fdr_file.specs.private.Reading.{Gives, events_on};
+ghost use Rattle.fdr_file.specs.private.Scan.{event_on};
+ghost use Rattle.fdr_file.specs.Scanning.{argument_on, counted_on, entry_with, function_on, step_on};
+ghost use Rattle.fdr_file.specs.Traces.{logs_arg, record_length, standings};
 
-use crate::records::record_at;
+use crate::records::{record_at, taken_at};
 use crate::{Events, TraceFault};
-use fdr_record::{Event, Rec};
+use fdr_record::{Event, Kind, Rec};
 use std::alloc::Global;
+use xray_io::NoMemory;
 
-/// The CPU and the counter by the records so far.
+/// Whether the next record may be an argument.
+#[derive(Clone, Copy)]
+pub(crate) enum Argument {
+    /// It may not.
+    Barred,
+    /// It may. The last record is an entry of this function, which logs its argument.
+    Awaited { func: u32 },
+    /// It may, but it has no meaning, since another argument stands before it.
+    Known,
+}
+
+/// The CPU and the counter by the records so far, and whether an argument may follow them.
 #[derive(Clone, Copy)]
 pub(crate) struct Base {
     cpu: u16,
     tsc: u64,
+    argument: Argument,
 }
 
-/// The CPU and the counter after the record at this place, and the event that it says.
-pub(crate) fn step(
-    at: u64,
-    rec: Rec,
-    base: Option<Base>,
-) -> Result<(Base, Option<Event>), TraceFault>
-    ensures { result ≡ step_on at rec base }
+/// What is known after a record, and the events that it settles: the entry before it, whose argument
+/// it may have, and its own event.
+pub(crate) type Step = (Base, Option<Event>, Option<Event>);
+
+/// The entry whose argument the next record may be, with this argument.
+fn entry_with(base: Option<Base>, arg: u64) -> Option<Event>
+    ensures { result ≡ entry_with base arg }
+{
+    let Base { cpu, tsc, argument } = base?;
+    match argument {
+        Argument::Barred | Argument::Known => None,
+        Argument::Awaited { func } => Some(Event {
+            tsc,
+            arg,
+            func,
+            cpu,
+            kind: Kind::EntryArgs,
+        }),
+    }
+}
+
+/// Whether an event of this kind logs an argument.
+fn logs_arg(kind: Kind) -> bool
+    ensures { result ≡ logs_arg kind }
+{
+    match kind {
+        Kind::Entry | Kind::Exit | Kind::TailExit => false,
+        Kind::EntryArgs => true,
+    }
+}
+
+/// The step after a record with a CPU or a counter.
+fn after_counter(cpu: u16, tsc: u64, base: Option<Base>) -> Step
+    ensures { result ≡ counted_on cpu tsc base }
+{
+    let argument = Argument::Barred;
+    (Base { cpu, tsc, argument }, entry_with(base, 0), None)
+}
+
+/// The step after a function record with this counter. `ends` says whether it is the last record of
+/// its block.
+fn after_function(ends: bool, kind: Kind, func: u32, tsc: u64, base: Base) -> Step
+    ensures { result ≡ function_on ends kind func tsc base }
+{
+    let cpu = base.cpu;
+    let entry = entry_with(Some(base), 0);
+    if logs_arg(kind) && !ends {
+        let argument = Argument::Awaited { func };
+        return (Base { cpu, tsc, argument }, entry, None);
+    }
+    let event = Event {
+        tsc,
+        arg: 0,
+        func,
+        cpu,
+        kind,
+    };
+    let argument = Argument::Barred;
+    (Base { cpu, tsc, argument }, entry, Some(event))
+}
+
+/// The step after an argument.
+fn after_argument(at: u64, value: u64, base: Base) -> Result<Step, TraceFault>
+    ensures { result ≡ argument_on at value base base.argument }
+{
+    match base.argument {
+        Argument::Barred => Err(TraceFault::Order(at)),
+        Argument::Awaited { .. } => {
+            let argument = Argument::Known;
+            let entry = entry_with(Some(base), value);
+            Ok((Base { argument, ..base }, entry, None))
+        }
+        Argument::Known => Ok((base, None, None)),
+    }
+}
+
+/// What is known after the record at this place, and the events that it settles. `ends` says whether
+/// it is the last record of its block.
+pub(crate) fn step(ends: bool, at: u64, rec: Rec, base: Option<Base>) -> Result<Step, TraceFault>
+    ensures { result ≡ step_on ends at rec base }
 {
     match rec {
-        Rec::NewCpu { cpu, tsc } => Ok((Base { cpu, tsc }, None)),
+        Rec::NewCpu { cpu, tsc } => Ok(after_counter(cpu, tsc, base)),
         Rec::TscWrap { tsc } => {
-            let Base { cpu, .. } = base.ok_or(TraceFault::NoBase(at))?;
-            Ok((Base { cpu, tsc }, None))
+            let counted = base.ok_or(TraceFault::NoBase(at))?;
+            Ok(after_counter(counted.cpu, tsc, Some(counted)))
         }
         Rec::Function { kind, func, delta } => {
-            let Base { cpu, tsc } = base.ok_or(TraceFault::NoBase(at))?;
-            let tsc = tsc.wrapping_add(u64::from(delta));
-            let event = Event {
-                cpu,
-                func,
-                kind,
-                tsc,
-            };
-            Ok((Base { cpu, tsc }, Some(event)))
+            let before = base.ok_or(TraceFault::NoBase(at))?;
+            let tsc = before.tsc.wrapping_add(u64::from(delta));
+            Ok(after_function(ends, kind, func, tsc, before))
+        }
+        Rec::CallArg { value } => {
+            let counted = base.ok_or(TraceFault::Order(at))?;
+            after_argument(at, value, counted)
         }
         Rec::NewBuffer { .. } | Rec::WallTime { .. } | Rec::Pid { .. } | Rec::Extents { .. } => {
             Err(TraceFault::Order(at))
         }
     }
+}
+
+/// The record at a place of a block's bytes, after a record with a CPU and a counter: what is known
+/// after it, the events that it settles, and the place after it. `None` if it isn't whole, or may not
+/// stand there. `place` is its place in the file. The block ends at the place `end` of the bytes.
+pub(crate) fn take_step(
+    bytes: &[u8],
+    at: usize,
+    place: u64,
+    end: usize,
+    base: Base,
+) -> Option<(Step, usize)>
+    requires { at ≤ length bytes.now }
+    ensures says { IfSome result (λ x. event_on (x.1 == end) place base (drop at bytes.now) ≡ Ok x.0) }
+    ensures next { IfSome result (λ x. (x.1 ≡ at + record_length (drop at bytes.now))
+        × (at < x.1) × (x.1 ≤ length bytes.now)) }
+{
+    let Ok((rec, next)) = taken_at(bytes, at) else {
+        return None;
+    };
+    let Ok(step) = step(next == end, place, rec, Some(base)) else {
+        return None;
+    };
+    Some((step, next))
+}
+
+/// Adds an event to others, if there is one.
+fn add(events: &mut Vec<Event>, event: Option<Event>) -> Result<(), NoMemory>
+    ensures { OnOk result (events.new.items ≡ events.old.items ++ option_to_list event) }
+{
+    if let Some(event) = event {
+        events.push(event)?;
+    }
+    Ok(())
 }
 
 /// The events of the records from this place on, to the end of the block's bytes.
@@ -58,11 +176,10 @@ pub(crate) fn read_events(alloc: Global, block: &[u8], mut at: usize) -> Result<
     let mut base = None;
     'reading: while at < block.len() {
         let (rec, next) = record_at(block, at)?;
-        let (told, event) = step(at as u64, rec, base)?;
-        if let Some(event) = event {
-            events.push(event)?;
-        }
-        base = Some(told);
+        let (known, entry, event) = step(next == block.len(), at as u64, rec, base)?;
+        add(&mut events, entry)?;
+        add(&mut events, event)?;
+        base = Some(known);
         at = next;
     }
     Ok(Events::new(events))

@@ -23,8 +23,9 @@ pub enum TraceFault {
     #[error("files of the type {0} aren't read")]
     Form(u16),
     /// The record at this place isn't allowed there. A block begins with `BufferExtents`,
-    /// `NewBuffer`, `WalltimeMarker` and `Pid`, and goes on with `NewCPUId`, `TSCWrap` and function
-    /// records.
+    /// `NewBuffer`, `WalltimeMarker` and `Pid`, and goes on with `NewCPUId`, `TSCWrap`, function and
+    /// `CallArgument` records. A `CallArgument` may stand only directly behind an entry that logs its
+    /// argument, or behind another `CallArgument`.
     #[error("the record at {0} may not stand there")]
     Order(u64),
     /// The extents at this place name fewer than the 48 bytes of a preamble. Or the record at this

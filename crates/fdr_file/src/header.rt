@@ -2,7 +2,7 @@
 
 ghost use Rattle.std.specs.Prelude.{◌≡◌, ◌≤◌, ◌+◌, length, drop};
 ghost use Rattle.byteorder.specs.Endian.{little_number};
-ghost use Rattle.fdr_file.specs.private.Reading.{header_on};
+ghost use Rattle.fdr_file.specs.Scanning.{header_on};
 
 use crate::{TraceFault, Version};
 use byteorder::{ByteOrder, LittleEndian};

@@ -5,10 +5,10 @@ ghost use Rattle.fdr_file.specs.declared.{fault.TraceFault.{TraceFault}, header.
 ghost use Rattle.fdr_file.specs.Prefixes.{IsHeaderFault, IsReadable, ReadsAsTrace};
 ghost use Rattle.fdr_file.specs.Traces.{trace_of};
 ghost use Rattle.fdr_file.specs.private.Prefixes.{end_after, passed_at};
-ghost use Rattle.fdr_file.specs.private.Reading.{header_on};
+ghost use Rattle.fdr_file.specs.Scanning.{header_on};
 
 use crate::header::{HEADER_BYTES, read_header};
-use crate::scan::{record_len, record_of};
+use crate::records::{record_len, record_of};
 use crate::stage::{Stage, judge};
 use crate::{TraceFault, Version};
 

@@ -1,20 +1,20 @@
 //! Reading a trace piece by piece.
 
-ghost use Rattle.std.specs.Prelude.{◌≡◌, ◌≢◌, ◌≤◌, ◌<◌, ◌+◌, ◌^◌, ℕ, [], ◌∷◌, ◌++◌, List, Err, length, take, IfOk, OnOk, OnErr};
+ghost use Rattle.std.specs.Prelude.{◌≡◌, ◌≢◌, ◌≤◌, ◌<◌, ◌+◌, ◌^◌, ℕ, [], ◌∷◌, ◌++◌, List, Err, length, take, IfOk, OnOk, OnErr, IfSome};
 ghost use Rattle.xray_io.specs.Faults.{Rose};
-ghost use Rattle.fdr_record.specs.Refusals.{length_by};
 ghost use Rattle.fdr_file.specs.declared.trace.Block.{Block};
-ghost use Rattle.fdr_file.specs.Scanning.{blocks_given, with_blocks, with_told};
-ghost use Rattle.fdr_file.specs.Traces.{record_in, record_length, trace_of};
-ghost use Rattle.fdr_file.specs.private.Reading.{header_on};
-ghost use Rattle.fdr_file.specs.private.Scan.{Advances, CanTell, Scans, answered_by, header_longer, header_taken, last_stage, record_advanced, record_longer, record_passed, stage_answers};
+ghost use Rattle.fdr_file.specs.Scanning.{blocks_given, header_on, with_blocks, with_event, with_told};
+ghost use Rattle.fdr_file.specs.Traces.{record_length, trace_of};
+ghost use Rattle.fdr_file.specs.Streams.{HasLast, Scans};
+ghost use Rattle.fdr_file.specs.private.Scan.{Advances, CanTell, EventsNext, answered_by, header_longer, header_taken, last_stage, record_advanced, record_longer, record_passed, stage_answers};
 
+use crate::events::{Base, take_step};
 use crate::header::{HEADER_BYTES, read_header};
 use crate::prefix::Prefix;
-use crate::records::taken_at;
-use crate::stage::{Stage, Told, judge};
+use crate::records::{record_len, record_of};
+use crate::stage::{Inside, Span, Stage, Told, end_among, judge, stage_at, within_events};
 use crate::{Header, Taker, TraceFault, Version};
-use fdr_record::{FUNCTION_BYTES, METADATA_BYTES, Rec, RecFault};
+use fdr_record::Event;
 use xray_io::NoMemory;
 
 /// What is known of the header.
@@ -39,32 +39,30 @@ pub struct TraceScan {
     prefix: Prefix,
 }
 
-/// The length of a record with this first byte.
-fn length_of_first(first: u8) -> usize
-    ensures { result ≡ length_by first }
+/// How many of the bytes from a place on belong to a block, if there are so many.
+fn len_within(span: Span, at: u64, len: usize) -> usize
+    ensures within { result ≤ len }
+    ensures block { 0 < result → at + result ≤ span.end }
 {
-    if first % 2 == 0 {
-        FUNCTION_BYTES
+    let left = span.end.saturating_sub(u128::from(at));
+    if left < len as u128 {
+        left as usize
     } else {
-        METADATA_BYTES
+        len
     }
 }
 
-/// The length of the record that bytes begin with, by the first of them.
-pub(crate) fn record_len(bytes: &[u8]) -> usize
-    requires { 0 < length bytes.now }
-    ensures { result ≡ record_length bytes.now }
+/// Gives a taker an event, if there is one.
+fn note<K: Taker>(taker: &mut K, event: Option<Event>) -> Result<(), NoMemory>
+    requires { (blocks : List Block) × K.took taker.old blocks × HasLast blocks }
+    ensures took { OnOk result ((blocks : List Block) → K.took taker.old blocks
+        → HasLast blocks → K.took taker.new (with_event event blocks)) }
+    ensures refused { OnErr result (Rose (K.refusals taker.old) (K.refusals taker.new)) }
+    ensures later { K.refusals taker.old ≤ K.refusals taker.new }
 {
-    length_of_first(bytes[0])
-}
-
-/// The record that bytes begin with.
-pub(crate) fn record_of(bytes: &[u8]) -> Result<Rec, RecFault>
-    ensures { result ≡ record_in bytes.now }
-{
-    match taken_at(bytes, 0) {
-        Ok((rec, _)) => Ok(rec),
-        Err(fault) => Err(fault),
+    match event {
+        Some(event) => taker.event(&event),
+        None => Ok(()),
     }
 }
 
@@ -79,7 +77,10 @@ fn tell<K: Taker>(taker: &mut K, told: Told) -> Result<(), NoMemory>
     match told {
         Told::Nothing => Ok(()),
         Told::Begun { thread, wall, pid } => taker.block(thread, wall, pid),
-        Told::Noted { event } => taker.event(&event),
+        Told::Noted { entry, event } => {
+            note(taker, entry)?;
+            note(taker, event)
+        }
     }
 }
 
@@ -202,6 +203,89 @@ impl TraceScan {
         }
     }
 
+    /// The block's place, and the CPU and the counter, if a record of a block's events is next.
+    fn events_next(&self) -> Option<(Span, Base)>
+        ensures { IfSome result (λ x. EventsNext self.now x.0 x.1) }
+    {
+        match self.head {
+            Head::Read { .. } => {
+                if self.prefix.as_slice().is_empty() {
+                    within_events(self.stage)
+                } else {
+                    None
+                }
+            }
+            Head::Due | Head::Refused { .. } => None,
+        }
+    }
+
+    /// Goes past the whole records that these bytes begin with, as long as they may stand among the
+    /// events of a block, to which all these bytes belong. Returns how many bytes they have.
+    fn pass_events<K: Taker>(
+        &mut self,
+        span: Span,
+        start: Base,
+        bytes: &[u8],
+        taker: &mut K,
+    ) -> Result<usize, NoMemory>
+        requires next { EventsNext self.old span start }
+        requires some { 0 < length bytes.now }
+        requires block { self.old.at + length bytes.now ≤ span.end }
+        requires room { self.old.at + length bytes.now < 2 ^ 64 }
+        requires stands { (stream : List ℕ) × Scans self.old stream × K.took taker.old (blocks_given stream) }
+        ensures within { IfOk result (λ n. n ≤ length bytes.now) }
+        ensures scans { IfOk result (λ n. (stream : List ℕ) → Scans self.old stream
+            → K.took taker.old (blocks_given stream) → Scans self.new (stream ++ take n bytes.now)) }
+        ensures took { IfOk result (λ n. (stream : List ℕ) → Scans self.old stream
+            → K.took taker.old (blocks_given stream)
+            → K.took taker.new (blocks_given (stream ++ take n bytes.now))) }
+        ensures refused { OnErr result (Rose (K.refusals taker.old) (K.refusals taker.new)) }
+        ensures later { K.refusals taker.old ≤ K.refusals taker.new }
+    {
+        let mut base = start;
+        let mut from = 0;
+        let end = end_among(span, self.at, bytes);
+        'events: while let Some(((known, entry, event), next)) = take_step(
+            bytes,
+            from,
+            self.at + from as u64,
+            end,
+            base,
+        ) {
+            tell(taker, Told::Noted { entry, event })?;
+            base = known;
+            from = next;
+        }
+        self.at += from as u64;
+        let inside = Inside::Events { base: Some(base) };
+        self.stage = stage_at(span, u128::from(self.at), inside);
+        Ok(from)
+    }
+
+    /// Adds the first bytes of a piece to the stream, if they are whole records among the events of
+    /// a block. Returns how many they are.
+    fn feed_events<K: Taker>(&mut self, piece: &[u8], taker: &mut K) -> Result<usize, NoMemory>
+        requires stands { (stream : List ℕ) × Scans self.old stream
+            × K.took taker.old (blocks_given stream) × (length stream + length piece.now < 2 ^ 64) }
+        ensures within { IfOk result (λ n. n ≤ length piece.now) }
+        ensures scans { IfOk result (λ n. (stream : List ℕ) → Scans self.old stream
+            → K.took taker.old (blocks_given stream) → Scans self.new (stream ++ take n piece.now)) }
+        ensures took { IfOk result (λ n. (stream : List ℕ) → Scans self.old stream
+            → K.took taker.old (blocks_given stream)
+            → K.took taker.new (blocks_given (stream ++ take n piece.now))) }
+        ensures refused { OnErr result (Rose (K.refusals taker.old) (K.refusals taker.new)) }
+        ensures later { K.refusals taker.old ≤ K.refusals taker.new }
+    {
+        let Some((span, base)) = self.events_next() else {
+            return Ok(0);
+        };
+        let len = len_within(span, self.at, piece.len());
+        if len == 0 {
+            return Ok(0);
+        }
+        self.pass_events(span, base, &piece[..len], taker)
+    }
+
     /// Adds the first bytes of a piece to the stream. Returns how many they are.
     fn feed_some<K: Taker>(&mut self, piece: &[u8], taker: &mut K) -> Result<usize, NoMemory>
         requires some { 0 < length piece.now }
@@ -209,7 +293,7 @@ impl TraceScan {
             × K.took taker.old (blocks_given stream) × (length stream + length piece.now < 2 ^ 64) }
         ensures within { IfOk result (λ n. (0 < n) × (n ≤ length piece.now)) }
         ensures scans { IfOk result (λ n. (stream : List ℕ) → Scans self.old stream
-            → Scans self.new (stream ++ take n piece.now)) }
+            → K.took taker.old (blocks_given stream) → Scans self.new (stream ++ take n piece.now)) }
         ensures took { IfOk result (λ n. (stream : List ℕ) → Scans self.old stream
             → K.took taker.old (blocks_given stream)
             → K.took taker.new (blocks_given (stream ++ take n piece.now))) }
@@ -218,7 +302,8 @@ impl TraceScan {
     {
         let (len, told) = self.advance(piece);
         tell(taker, told)?;
-        Ok(len)
+        let more = self.feed_events(&piece[len..], taker)?;
+        Ok(len + more)
     }
 
     /// Adds a piece to the stream. All pieces have to be fed with the same taker, which was new at

@@ -1,7 +1,7 @@
 //! Reading a trace record by record: where the reading stands.
 
-ghost use Rattle.std.specs.Prelude.{◌≡◌, ◌+◌};
-ghost use Rattle.fdr_file.specs.Scanning.{after_wall, extents_next, inside_judged, inside_next, record_within, stage_after, stage_judged, stage_within, told_event};
+ghost use Rattle.std.specs.Prelude.{◌≡◌, ◌≤◌, ◌+◌, ◌==◌, ℕ, Some, IfSome, length};
+ghost use Rattle.fdr_file.specs.Scanning.{after_wall, extents_next, inside_judged, inside_next, record_within, stage_after, stage_judged, stage_within};
 
 use crate::events::{Base, step};
 use crate::{TraceFault, Version};
@@ -24,8 +24,8 @@ pub(crate) enum Inside {
     Thread { thread: u32 },
     /// The thread and the wall time. The process is next.
     Wall { thread: u32, wall: Wall },
-    /// The preamble, and a CPU and a counter if one was named. CPUs, counters and functions are
-    /// next.
+    /// The preamble, and a CPU and a counter if one was named. CPUs, counters, functions and
+    /// arguments are next.
     Events { base: Option<Base> },
 }
 
@@ -46,9 +46,44 @@ pub(crate) enum Told {
     /// Nothing yet.
     Nothing,
     /// A block begins.
-    Begun { thread: u32, wall: Wall, pid: u32 },
-    /// The last block has one more event.
-    Noted { event: Event },
+    Begun {
+        thread: u32,
+        wall: Wall,
+        pid: u32,
+    },
+    /// The last block has these events more: that of an entry before the record, and that of the
+    /// record.
+    Noted {
+        entry: Option<Event>,
+        event: Option<Event>,
+    },
+}
+
+/// The place of the block, and the CPU and the counter, if a record among the events of a block is
+/// next, and a CPU was named before.
+pub(crate) fn within_events(stage: Stage) -> Option<(Span, Base)>
+    ensures { IfSome result (λ x. stage ≡ Stage.Within x.0 (Inside.Events (Some x.1))) }
+{
+    let Stage::Within { span, inside } = stage else {
+        return None;
+    };
+    let Inside::Events { base: Some(base) } = inside else {
+        return None;
+    };
+    Some((span, base))
+}
+
+/// Where a block ends among bytes that begin at this place, counted from their start. It is a place
+/// beyond them if the block doesn't end among them.
+pub(crate) fn end_among(span: Span, at: u64, bytes: &[u8]) -> usize
+    ensures { (next : ℕ) → next ≤ length bytes.now → (next == result) ≡ (at + next == span.end) }
+{
+    let at = u128::from(at);
+    if at <= span.end && span.end <= at + bytes.len() as u128 {
+        (span.end - at) as usize
+    } else {
+        bytes.len() + 1
+    }
 }
 
 /// The stage after the record that a block begins with.
@@ -102,19 +137,15 @@ fn past_wall(version: Version, thread: u32, wall: Wall) -> (Inside, Told)
     }
 }
 
-/// What an event says of the blocks.
-fn noted(event: Option<Event>) -> Told
-    ensures { result ≡ told_event event }
-{
-    match event {
-        Some(event) => Told::Noted { event },
-        None => Told::Nothing,
-    }
-}
-
-/// What a record within a block says.
-fn go_on(version: Version, inside: Inside, at: u64, rec: Rec) -> Result<(Inside, Told), TraceFault>
-    ensures { result ≡ inside_next version inside at rec }
+/// What a record within a block says. `ends` says whether the block ends with it.
+fn go_on(
+    version: Version,
+    inside: Inside,
+    ends: bool,
+    at: u64,
+    rec: Rec,
+) -> Result<(Inside, Told), TraceFault>
+    ensures { result ≡ inside_next version inside ends at rec }
 {
     match inside {
         Inside::Opened => {
@@ -139,8 +170,9 @@ fn go_on(version: Version, inside: Inside, at: u64, rec: Rec) -> Result<(Inside,
             ))
         }
         Inside::Events { base } => {
-            let (base, event) = step(at, rec, base)?;
-            Ok((Inside::Events { base: Some(base) }, noted(event)))
+            let (known, entry, event) = step(ends, at, rec, base)?;
+            let inside = Inside::Events { base: Some(known) };
+            Ok((inside, Told::Noted { entry, event }))
         }
     }
 }
@@ -157,10 +189,22 @@ fn judge_within(
     ensures { result ≡ inside_judged version span inside at len found }
 {
     let rec = within(span, at, len, found)?;
-    go_on(version, inside, at, rec)
+    let ends = u128::from(at) + len as u128 == span.end;
+    go_on(version, inside, ends, at, rec)
 }
 
-/// The stage after a record within a block.
+/// The stage after a record of a block that ends at this place.
+pub(crate) fn stage_at(span: Span, at: u128, inside: Inside) -> Stage
+    ensures { result ≡ stage_after span at inside }
+{
+    if at == span.end {
+        Stage::Due
+    } else {
+        Stage::Within { span, inside }
+    }
+}
+
+/// The stage after a record within a block, and what it says.
 fn after(
     span: Span,
     at: u64,
@@ -171,11 +215,8 @@ fn after(
 {
     match judged {
         Ok((inside, told)) => {
-            if u128::from(at) + len as u128 == span.end {
-                (Stage::Due, told)
-            } else {
-                (Stage::Within { span, inside }, told)
-            }
+            let next = u128::from(at) + len as u128;
+            (stage_at(span, next, inside), told)
         }
         Err(fault) => (Stage::Faulty { span, fault }, Told::Nothing),
     }

@@ -7,9 +7,9 @@ use Rattle.std.proofs.lemmas.List.Elements.{All-drop, All-tail}
 use Rattle.std.proofs.Math.Seq.{take-add}
 use Rattle.byteorder.specs.Endian.{little_bytes, little_number}
 use Rattle.fdr_record.specs.declared.event.Kind.{Kind}
-use Rattle.fdr_record.specs.declared.event.Kind.TheVariants.{Entry, Exit, TailExit}
+use Rattle.fdr_record.specs.declared.event.Kind.TheVariants.{Entry, Exit, TailExit, EntryArgs}
 use Rattle.fdr_record.specs.declared.rec.Rec.{Rec}
-use Rattle.fdr_record.specs.declared.rec.Rec.TheVariants.{NewBuffer, NewCpu, TscWrap, WallTime, Pid, Extents, Function}
+use Rattle.fdr_record.specs.declared.rec.Rec.TheVariants.{NewBuffer, NewCpu, TscWrap, WallTime, Pid, CallArg, Extents, Function}
 use Rattle.fdr_record.specs.declared.fault.RecFault.{RecFault}
 use Rattle.fdr_record.specs.declared.fault.RecFault.TheVariants as faults
 use Rattle.fdr_record.specs.Records.{BeginsWith, action_of, first_of, head_of, length_of, told_by}
@@ -58,7 +58,10 @@ function_holds first rest fits even =
               | inl exit ↦ rw (long, not_entry.0, exit.0) (function_spelled Exit first rest fits even exit.1 le)
               | inr not_exit ↦ elim (eqb_tells action 2) [
                 | inl tail ↦ rw (long, not_entry.0, not_exit.0, tail.0) (function_spelled TailExit first rest fits even tail.1 le)
-                | inr not_tail ↦ rw (long, not_entry.0, not_exit.0, not_tail.0) (record { function = even; whole = le; action = refl }, omega arith)
+                | inr not_tail ↦ elim (eqb_tells action 3) [
+                  | inl args ↦ rw (long, not_entry.0, not_exit.0, not_tail.0, args.0) (function_spelled EntryArgs first rest fits even args.1 le)
+                  | inr not_args ↦ rw (long, not_entry.0, not_exit.0, not_tail.0, not_args.0) (record { function = even; whole = le; action = refl }, omega arith)
+                ]
               ]
             ]
           ]
@@ -97,18 +100,21 @@ fields_hold kind first rest fits is long =
             | inl e ↦
                 let micros = field_4 (drop 8 rest) (omega (arith, length-drop 8 rest)) (All-drop (λ b. b < 256) 8 rest fits) in
                 rw (not_0.0, not_2.0, not_3.0, e.0) ((long_word.fits, micros.fits), spelled (WallTime _) first _ rest _ _ refl refl (omega arith) long (two_fields 8 4 3 _ _ rest long_word.back micros.back))
-            | inr not_4 ↦ elim (eqb_tells kind 7) [
-              | inl e ↦ rw (not_0.0, not_2.0, not_3.0, not_4.0, e.0) (long_word.fits, spelled (Extents _) first _ rest _ _ refl refl (omega arith) long (one_field 8 7 _ rest long_word.back))
-              | inr not_7 ↦ elim (eqb_tells kind 9) [
-                | inl e ↦ rw (not_0.0, not_2.0, not_3.0, not_4.0, not_7.0, e.0) (word.fits, spelled (Pid _) first _ rest _ _ refl refl (omega arith) long (one_field 4 11 _ rest word.back))
-                | inr not_9 ↦ rw (not_0.0, not_2.0, not_3.0, not_4.0, not_7.0, not_9.0) (
-                  record {
-                    metadata = omega arith;
-                    whole = omega arith;
-                    kind = omega arith;
-                  },
-                  search rules,
-                )
+            | inr not_4 ↦ elim (eqb_tells kind 6) [
+              | inl e ↦ rw (not_0.0, not_2.0, not_3.0, not_4.0, e.0) (long_word.fits, spelled (CallArg _) first _ rest _ _ refl refl (omega arith) long (one_field 8 7 _ rest long_word.back))
+              | inr not_6 ↦ elim (eqb_tells kind 7) [
+                | inl e ↦ rw (not_0.0, not_2.0, not_3.0, not_4.0, not_6.0, e.0) (long_word.fits, spelled (Extents _) first _ rest _ _ refl refl (omega arith) long (one_field 8 7 _ rest long_word.back))
+                | inr not_7 ↦ elim (eqb_tells kind 9) [
+                  | inl e ↦ rw (not_0.0, not_2.0, not_3.0, not_4.0, not_6.0, not_7.0, e.0) (word.fits, spelled (Pid _) first _ rest _ _ refl refl (omega arith) long (one_field 4 11 _ rest word.back))
+                  | inr not_9 ↦ rw (not_0.0, not_2.0, not_3.0, not_4.0, not_6.0, not_7.0, not_9.0) (
+                    record {
+                      metadata = omega arith;
+                      whole = omega arith;
+                      kind = omega arith;
+                    },
+                    search rules,
+                  )
+                ]
               ]
             ]
           ]

@@ -1,3 +1,4 @@
 pub mod Records
+pub mod Recordable
 pub mod Refusals
 pub mod Reading

@@ -3,9 +3,9 @@
 use Rattle.std.specs.Prelude.{◌≡◌, ◌<◌, ◌^◌, ◌*◌, ◌+◌, ◌-◌, ℕ, List, ◌∷◌, ◌++◌, length, take, replicate}
 use Rattle.byteorder.specs.Endian.{little_bytes}
 use Rattle.fdr_record.specs.declared.event.Kind.{Kind}
-use Rattle.fdr_record.specs.declared.event.Kind.TheVariants.{Entry, Exit, TailExit}
+use Rattle.fdr_record.specs.declared.event.Kind.TheVariants.{Entry, Exit, TailExit, EntryArgs}
 use Rattle.fdr_record.specs.declared.rec.Rec.{Rec}
-use Rattle.fdr_record.specs.declared.rec.Rec.TheVariants.{NewBuffer, NewCpu, TscWrap, WallTime, Pid, Extents, Function}
+use Rattle.fdr_record.specs.declared.rec.Rec.TheVariants.{NewBuffer, NewCpu, TscWrap, WallTime, Pid, CallArg, Extents, Function}
 
 -- the kinds of metadata records, with the numbers of `MetadataRecord::RecordKinds`
 abbrev pub new_buffer : ℕ
@@ -20,17 +20,21 @@ tsc_wrap = 3
 abbrev pub walltime_marker : ℕ
 walltime_marker = 4
 
+abbrev pub call_argument : ℕ
+call_argument = 6
+
 abbrev pub buffer_extents : ℕ
 buffer_extents = 7
 
 abbrev pub pid : ℕ
 pid = 9
 
--- the number of the action, as `FunctionRecord::RecordKinds` gives it
+-- the number of the action, as `FunctionRecordKind` of LLVM's `xray_fdr_log_writer.h` gives it
 abbrev pub action_of : Kind → ℕ
 action_of Entry = 0
 action_of Exit = 1
 action_of TailExit = 2
+action_of EntryArgs = 3
 
 -- the first byte of a metadata record: bit 0 is 1, and the seven bits above it are the kind
 abbrev pub first_of : ℕ → ℕ
@@ -48,6 +52,7 @@ told_by (NewCpu cpu tsc) = first_of new_cpu_id ∷ little_bytes 2 cpu ++ little_
 told_by (TscWrap tsc) = first_of tsc_wrap ∷ little_bytes 8 tsc
 told_by (WallTime wall) = first_of walltime_marker ∷ little_bytes 8 wall.secs ++ little_bytes 4 wall.micros
 told_by (Pid id) = first_of pid ∷ little_bytes 4 id
+told_by (CallArg value) = first_of call_argument ∷ little_bytes 8 value
 told_by (Extents size) = first_of buffer_extents ∷ little_bytes 8 size
 told_by (Function kind func delta) = little_bytes 4 (head_of kind func) ++ little_bytes 4 delta
 
@@ -65,6 +70,7 @@ length_of (NewCpu cpu tsc) = metadata_length
 length_of (TscWrap tsc) = metadata_length
 length_of (WallTime wall) = metadata_length
 length_of (Pid id) = metadata_length
+length_of (CallArg value) = metadata_length
 length_of (Extents size) = metadata_length
 length_of (Function kind func delta) = function_length
 
@@ -90,6 +96,7 @@ IdFits (NewCpu cpu tsc) = Unit {0}
 IdFits (TscWrap tsc) = Unit {0}
 IdFits (WallTime wall) = Unit {0}
 IdFits (Pid id) = Unit {0}
+IdFits (CallArg value) = Unit {0}
 IdFits (Extents size) = Unit {0}
 IdFits (Function kind func delta) = func < 2 ^ 28
 
@@ -100,5 +107,6 @@ FieldsFit (NewCpu cpu tsc) = (cpu < 2 ^ 16) × (tsc < 2 ^ 64)
 FieldsFit (TscWrap tsc) = tsc < 2 ^ 64
 FieldsFit (WallTime wall) = (wall.secs < 2 ^ 64) × (wall.micros < 2 ^ 32)
 FieldsFit (Pid id) = id < 2 ^ 32
+FieldsFit (CallArg value) = value < 2 ^ 64
 FieldsFit (Extents size) = size < 2 ^ 64
 FieldsFit (Function kind func delta) = (func < 2 ^ 28) × (delta < 2 ^ 32)

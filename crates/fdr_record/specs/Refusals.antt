@@ -4,11 +4,11 @@ use Rattle.std.specs.List.{AllByRecursion}
 use Rattle.fdr_record.specs.declared.rec.Rec.{Rec}
 use Rattle.fdr_record.specs.declared.fault.RecFault.{RecFault}
 use Rattle.fdr_record.specs.declared.fault.RecFault.TheVariants as faults
-use Rattle.fdr_record.specs.Records.{new_buffer, new_cpu_id, tsc_wrap, walltime_marker, buffer_extents, pid, function_length, metadata_length, FieldsFit, BeginsWith}
+use Rattle.fdr_record.specs.Records.{new_buffer, new_cpu_id, tsc_wrap, walltime_marker, call_argument, buffer_extents, pid, function_length, metadata_length, FieldsFit, BeginsWith}
 
 -- the kinds of metadata records that are read
 abbrev pub kinds : List ℕ
-kinds = new_buffer ∷ new_cpu_id ∷ tsc_wrap ∷ walltime_marker ∷ buffer_extents ∷ pid ∷ []
+kinds = new_buffer ∷ new_cpu_id ∷ tsc_wrap ∷ walltime_marker ∷ call_argument ∷ buffer_extents ∷ pid ∷ []
 
 -- the length of a record, by bit 0 of its first byte
 abbrev pub length_by : ℕ → ℕ
@@ -34,7 +34,7 @@ pub record HasKind (bytes : List ℕ) (n : ℕ) : Type 0 where
 -- the fault of bytes
 abbrev pub Refuses : List ℕ → RecFault → Type 0
 Refuses bytes faults.Short = IsCut bytes
-Refuses bytes (faults.Action n) = HasAction bytes n × (3 ≤ n)
+Refuses bytes (faults.Action n) = HasAction bytes n × (4 ≤ n)
 Refuses bytes (faults.Kind n) = HasKind bytes n × AllByRecursion (λ kind. kind ≢ n) kinds
 
 -- the answers to bytes: the record that they begin with, or their fault

@@ -9,10 +9,10 @@ pub enum RecFault {
     /// length: 8 bytes if it is 0, and 16 if it is 1.
     #[error("the record is cut off")]
     Short,
-    /// A function record with an action that isn't a `Kind`: 3 to 7.
+    /// A function record with an action that isn't a `Kind`: 4 to 7.
     #[error("no function record has the action {0}")]
     Action(u8),
-    /// A metadata record of a kind that isn't a `Rec`: 1, 5, 6, 8, or 10 to 127.
+    /// A metadata record of a kind that isn't a `Rec`: 1, 5, 8, or 10 to 127.
     #[error("no metadata record of the kind {0} is read")]
     Kind(u8),
 }

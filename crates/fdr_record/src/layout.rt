@@ -35,6 +35,9 @@ pub(crate) const TSC_WRAP: u8 = 3;
 /// The kind of a record with a wall time (`WalltimeMarker`).
 pub(crate) const WALL_TIME: u8 = 4;
 
+/// The kind of a record with an argument of the function record before it (`CallArgument`).
+pub(crate) const CALL_ARGUMENT: u8 = 6;
+
 /// The kind of a record that comes before a buffer in a file. It says how many bytes of the buffer
 /// are used (`BufferExtents`).
 pub(crate) const BUFFER_EXTENTS: u8 = 7;
@@ -69,3 +72,9 @@ pub(crate) const EXIT: u8 = 1;
 
 /// The action of a tail exit (`FunctionTailExit`).
 pub(crate) const TAIL_EXIT: u8 = 2;
+
+/// The action of an entry whose argument follows in a record of its own (`EnterArg`).
+pub(crate) const ENTER_ARG: u8 = 3;
+
+/// The least number that isn't an action.
+pub(crate) const NO_ACTION: u8 = 4;

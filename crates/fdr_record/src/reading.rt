@@ -8,9 +8,9 @@ ghost use Rattle.fdr_record.specs.Refusals.{Answers, Refuses};
 ghost use Rattle.fdr_record.specs.Reading.{kind_read, function_record_at, metadata_record_at};
 
 use crate::layout::{
-    ACTION_SHIFT, ACTIONS, BUFFER_EXTENTS, CPU_BYTES, ENTER, EXIT, FIELDS, FUNCTION,
-    FUNCTION_BYTES, ID_BYTES, ID_SHIFT, KIND_SHIFT, METADATA_BYTES, NEW_BUFFER, NEW_CPU_ID, PID,
-    SECONDS_BYTES, TAIL_EXIT, TSC_WRAP, TYPES, WALL_TIME,
+    ACTION_SHIFT, ACTIONS, BUFFER_EXTENTS, CALL_ARGUMENT, CPU_BYTES, ENTER, ENTER_ARG, EXIT,
+    FIELDS, FUNCTION, FUNCTION_BYTES, ID_BYTES, ID_SHIFT, KIND_SHIFT, METADATA_BYTES, NEW_BUFFER,
+    NEW_CPU_ID, NO_ACTION, PID, SECONDS_BYTES, TAIL_EXIT, TSC_WRAP, TYPES, WALL_TIME,
 };
 use crate::rec::rec_len;
 use crate::{Kind, Rec, RecFault};
@@ -25,7 +25,8 @@ fn kind(action: u8) -> Result<Kind, RecFault>
         ENTER => Ok(Kind::Entry),
         EXIT => Ok(Kind::Exit),
         TAIL_EXIT => Ok(Kind::TailExit),
-        _ => Err(RecFault::Action(action)),
+        ENTER_ARG => Ok(Kind::EntryArgs),
+        NO_ACTION.. => Err(RecFault::Action(action)),
     }
 }
 
@@ -77,6 +78,9 @@ fn metadata(kind: u8, fields: &[u8]) -> Result<Rec, RecFault>
                 },
             })
         }
+        CALL_ARGUMENT => Ok(Rec::CallArg {
+            value: LittleEndian::read_u64(fields),
+        }),
         BUFFER_EXTENTS => Ok(Rec::Extents {
             size: LittleEndian::read_u64(fields),
         }),

@@ -39,6 +39,11 @@ pub enum Rec {
         /// The process's id.
         pid: u32,
     },
+    /// The argument of the function record before it (`CallArgument`).
+    CallArg {
+        /// The argument's value.
+        value: u64,
+    },
     /// How many bytes the next buffer in a file has (`BufferExtents`).
     Extents {
         /// How many bytes after this record belong to the buffer.
@@ -68,6 +73,7 @@ pub fn rec_len(rec: &Rec) -> usize
         | Rec::TscWrap { .. }
         | Rec::WallTime { .. }
         | Rec::Pid { .. }
+        | Rec::CallArg { .. }
         | Rec::Extents { .. } => METADATA_BYTES,
     }
 }

@@ -1,6 +1,7 @@
 //! What a traced thread gives its events to.
 ghost use Rattle.std.specs.Prelude.{◌<◌, ◌^◌, ◌-◌, [], ◌∷◌, ◌++◌, List, length};
 ghost use Rattle.fdr_record.specs.declared.event.Event.{Event};
+ghost use Rattle.fdr_record.specs.Recordable.{IsRecordable};
 
 use crate::Event;
 
@@ -15,9 +16,10 @@ pub trait Recorder {
     ghost follows: { Self → Self → Type 0 };
 
     /// Notes an event after the others. Its function's id has to be below 2^28, since a function
-    /// record has 28 bits for it. Fewer than 2^32 - 1 events may come before it.
+    /// record has 28 bits for it. Its argument has to be 0 if its kind logs none. Fewer than 2^32 - 1
+    /// events may come before it.
     fn note(&mut self, event: Event)
-        requires id { event.func < 2 ^ 28 }
+        requires recordable { IsRecordable event }
         requires room { (events : List Event) × stands self.old events × (length events < 2 ^ 32 - 1) }
         ensures noted { (events : List Event) → stands self.old events
             → stands self.new (events ++ event ∷ []) }

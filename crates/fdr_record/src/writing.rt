@@ -4,8 +4,9 @@ ghost use Rattle.std.specs.Prelude.{◌≡◌, ◌≤◌, ◌<◌, ◌+◌, ◌�
 ghost use Rattle.fdr_record.specs.Records.{action_of, first_of, length_of, metadata_length, record_bytes, IdFits, FieldsFit};
 
 use crate::layout::{
-    ACTION_SHIFT, BUFFER_EXTENTS, CPU_BYTES, ENTER, EXIT, FIELDS, ID_BYTES, ID_SHIFT, KIND_SHIFT,
-    METADATA, NEW_BUFFER, NEW_CPU_ID, PID, SECONDS_BYTES, TAIL_EXIT, TSC_WRAP, WALL_TIME,
+    ACTION_SHIFT, BUFFER_EXTENTS, CALL_ARGUMENT, CPU_BYTES, ENTER, ENTER_ARG, EXIT, FIELDS,
+    ID_BYTES, ID_SHIFT, KIND_SHIFT, METADATA, NEW_BUFFER, NEW_CPU_ID, PID, SECONDS_BYTES,
+    TAIL_EXIT, TSC_WRAP, WALL_TIME,
 };
 use crate::rec::rec_len;
 use crate::{Kind, Rec};
@@ -21,6 +22,7 @@ fn action(kind: Kind) -> u32
         Kind::Entry => ENTER,
         Kind::Exit => EXIT,
         Kind::TailExit => TAIL_EXIT,
+        Kind::EntryArgs => ENTER_ARG,
     })
 }
 
@@ -70,6 +72,10 @@ fn put_all(rec: &Rec, bytes: &mut [u8])
         Rec::Pid { pid } => {
             put_kind(bytes, PID);
             LittleEndian::write_u32(&mut bytes[FIELDS..], pid);
+        }
+        Rec::CallArg { value } => {
+            put_kind(bytes, CALL_ARGUMENT);
+            LittleEndian::write_u64(&mut bytes[FIELDS..], value);
         }
         Rec::Extents { size } => {
             put_kind(bytes, BUFFER_EXTENTS);

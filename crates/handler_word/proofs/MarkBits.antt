@@ -50,112 +50,99 @@ marks_and_one old new n bits kept last =
     let same : marks_from new 0 n ≡ marks_from old 0 n = same_marks new old 0 n (λ i below. kept i (omega arith)) in
     rw (add-one, more, none, last, same) refl
 
--- the bits of a mark fit a byte at each of its four places
-shifted_small : (bits place : ℕ) → bits < 4 → place < 4 → bits * 2 ^ (place * 2) < 256
+-- the bits of a mark fit a byte at each of its two places
+shifted_small : (bits place : ℕ) → bits < 16 → place < 2 → bits * 2 ^ (place * 4) < 256
 shifted_small bits zero small below = omega arith
 shifted_small bits (suc zero) small below = omega arith
-shifted_small bits (suc (suc zero)) small below = omega arith
-shifted_small bits (suc (suc (suc zero))) small below = omega arith
-shifted_small bits (suc (suc (suc (suc place)))) small below = absurd (omega arith)
+shifted_small bits (suc (suc place)) small below = absurd (omega arith)
 
 -- bits put at a place from which on a byte has none
-byte_put : (byte bits place : ℕ) → byte < 2 ^ (place * 2) → bits < 4 → place < 4
-    → bit_or byte (bits * 2 ^ (place * 2) % 256) ≡ bits * 2 ^ (place * 2) + byte
+byte_put : (byte bits place : ℕ) → byte < 2 ^ (place * 4) → bits < 16 → place < 2
+    → bit_or byte (bits * 2 ^ (place * 4) % 256) ≡ bits * 2 ^ (place * 4) + byte
 byte_put byte bits place free small below =
-    let whole : bits * 2 ^ (place * 2) % 256 ≡ bits * 2 ^ (place * 2) = omega (arith, shifted_small bits place small below) in
-    rw whole (or_comm byte (bits * 2 ^ (place * 2)) ∙ or_shifted bits (place * 2) byte free)
+    let whole : bits * 2 ^ (place * 4) % 256 ≡ bits * 2 ^ (place * 4) = omega (arith, shifted_small bits place small below) in
+    rw whole (or_comm byte (bits * 2 ^ (place * 4)) ∙ or_shifted bits (place * 4) byte free)
 
 -- bits put into the last byte, after those of its marks
-pub put_there : (bytes : List ℕ) (n bits byte : ℕ) → IsFilledTo bytes n → n % 4 ≢ 0 → bits < 4 → byte ≡ get_or bytes (n / 4) byte
-    → bit_or byte (bits * 2 ^ (n % 4 * 2) % 256) ≡ bits * 2 ^ (n % 4 * 2) + get_or bytes (n / 4) 0
+pub put_there : (bytes : List ℕ) (n bits byte : ℕ) → IsFilledTo bytes n → n % 2 ≢ 0 → bits < 16 → byte ≡ get_or bytes (n / 2) byte
+    → bit_or byte (bits * 2 ^ (n % 2 * 4) % 256) ≡ bits * 2 ^ (n % 2 * 4) + get_or bytes (n / 2) 0
 put_there bytes n bits byte filled begun small is =
-    let read : byte ≡ get_or bytes (n / 4) 0 = is ∙ get_or_default_zero bytes (n / 4) byte (omega (arith, filled.count)) in
-    rw read (byte_put (get_or bytes (n / 4) 0) bits (n % 4) (filled.free begun) small (omega arith))
+    let read : byte ≡ get_or bytes (n / 2) 0 = is ∙ get_or_default_zero bytes (n / 2) byte (omega (arith, filled.count)) in
+    rw read (byte_put (get_or bytes (n / 2) 0) bits (n % 2) (filled.free begun) small (omega arith))
 
 -- the bits are read from there
-bits_put : (byte bits place : ℕ) → byte < 2 ^ (place * 2) → bits < 4 → place < 4 → (bits * 2 ^ (place * 2) + byte) / 2 ^ (place * 2) % 4 ≡ bits
+bits_put : (byte bits place : ℕ) → byte < 2 ^ (place * 4) → bits < 16 → place < 2 → (bits * 2 ^ (place * 4) + byte) / 2 ^ (place * 4) % 16 ≡ bits
 bits_put byte bits zero free small below = omega arith
 bits_put byte bits (suc zero) free small below = omega arith
-bits_put byte bits (suc (suc zero)) free small below = omega arith
-bits_put byte bits (suc (suc (suc zero))) free small below = omega arith
-bits_put byte bits (suc (suc (suc (suc place)))) free small below = absurd (omega arith)
+bits_put byte bits (suc (suc place)) free small below = absurd (omega arith)
 
--- the places before them keep their bits
-bits_kept : (byte bits place other : ℕ) → other < place → place < 4 → (bits * 2 ^ (place * 2) + byte) / 2 ^ (other * 2) % 4 ≡ byte / 2 ^ (other * 2) % 4
+-- the place before them keeps its bits
+bits_kept : (byte bits place other : ℕ) → other < place → place < 2 → (bits * 2 ^ (place * 4) + byte) / 2 ^ (other * 4) % 16 ≡ byte / 2 ^ (other * 4) % 16
 bits_kept byte bits zero other before below = absurd (omega arith)
 bits_kept byte bits (suc zero) zero before below = omega arith
 bits_kept byte bits (suc zero) (suc other) before below = absurd (omega arith)
-bits_kept byte bits (suc (suc zero)) zero before below = omega arith
-bits_kept byte bits (suc (suc zero)) (suc zero) before below = omega arith
-bits_kept byte bits (suc (suc zero)) (suc (suc other)) before below = absurd (omega arith)
-bits_kept byte bits (suc (suc (suc zero))) zero before below = omega arith
-bits_kept byte bits (suc (suc (suc zero))) (suc zero) before below = omega arith
-bits_kept byte bits (suc (suc (suc zero))) (suc (suc zero)) before below = omega arith
-bits_kept byte bits (suc (suc (suc zero))) (suc (suc (suc other))) before below = absurd (omega arith)
-bits_kept byte bits (suc (suc (suc (suc place)))) other before below = absurd (omega arith)
+bits_kept byte bits (suc (suc place)) other before below = absurd (omega arith)
 
 -- and no bits come after them
-bits_below : (byte bits place : ℕ) → byte < 2 ^ (place * 2) → bits < 4 → place < 3 → bits * 2 ^ (place * 2) + byte < 2 ^ ((place + 1) * 2)
+bits_below : (byte bits place : ℕ) → byte < 2 ^ (place * 4) → bits < 16 → place < 1 → bits * 2 ^ (place * 4) + byte < 2 ^ ((place + 1) * 4)
 bits_below byte bits zero free small below = omega arith
-bits_below byte bits (suc zero) free small below = omega arith
-bits_below byte bits (suc (suc zero)) free small below = omega arith
-bits_below byte bits (suc (suc (suc place))) free small below = absurd (omega arith)
+bits_below byte bits (suc place) free small below = absurd (omega arith)
 
 -- one more byte after full ones
-pub marks_in_byte : (bytes : List ℕ) (n bits : ℕ) → IsFilledTo bytes n → n % 4 ≡ 0 → bits < 4
+pub marks_in_byte : (bytes : List ℕ) (n bits : ℕ) → IsFilledTo bytes n → n % 2 ≡ 0 → bits < 16
     → marks_from (bytes ++ bits ∷ []) 0 (n + 1) ≡ marks_from bytes 0 n ++ mark_of bits ∷ []
 marks_in_byte bytes n bits filled full small =
-    let here : n / 4 ≡ length bytes = omega (arith, filled.count) in
+    let here : n / 2 ≡ length bytes = omega (arith, filled.count) in
     let kept : (i : ℕ) → i < n → bits_of (bytes ++ bits ∷ []) i ≡ bits_of bytes i =
-    λ i before. ap (λ (byte : ℕ). byte / 2 ^ (i % 4 * 2) % 4) (get_or_append_left bytes (bits ∷ []) 0 (i / 4) (omega (arith, filled.count))) in
+    λ i before. ap (λ (byte : ℕ). byte / 2 ^ (i % 2 * 4) % 16) (get_or_append_left bytes (bits ∷ []) 0 (i / 2) (omega (arith, filled.count))) in
     let last : bits_of (bytes ++ bits ∷ []) n ≡ bits =
     rw (here, full, get_or-append_seam bytes bits [] 0) (omega arith) in
     marks_and_one bytes (bytes ++ bits ∷ []) n bits kept last
 
 -- more bits in the last byte, after those of its marks, leave the bits of each earlier mark as they are
-bits_before : (bytes : List ℕ) (n bits byte i : ℕ) → n / 4 < length bytes → byte ≡ bits * 2 ^ (n % 4 * 2) + get_or bytes (n / 4) 0 → i < n
-    → bits_of (set bytes (n / 4) byte) i ≡ bits_of bytes i
+bits_before : (bytes : List ℕ) (n bits byte i : ℕ) → n / 2 < length bytes → byte ≡ bits * 2 ^ (n % 2 * 4) + get_or bytes (n / 2) 0 → i < n
+    → bits_of (set bytes (n / 2) byte) i ≡ bits_of bytes i
 bits_before bytes n bits byte i within is before =
-    let read : get_or (set bytes (n / 4) byte) (n / 4) 0 ≡ bits * 2 ^ (n % 4 * 2) + get_or bytes (n / 4) 0 =
-    get_or-set_same bytes (n / 4) byte 0 within ∙ is in
-    elim (eqb_tells (i / 4) (n / 4)) [
-      | inl same ↦ rw (same.1, read) (bits_kept (get_or bytes (n / 4) 0) bits (n % 4) (i % 4) (omega (arith, same.1)) (omega arith))
-      | inr other ↦ ap (λ (b : ℕ). b / 2 ^ (i % 4 * 2) % 4) (get_or-set_other bytes (n / 4) (i / 4) byte 0 other.1)
+    let read : get_or (set bytes (n / 2) byte) (n / 2) 0 ≡ bits * 2 ^ (n % 2 * 4) + get_or bytes (n / 2) 0 =
+    get_or-set_same bytes (n / 2) byte 0 within ∙ is in
+    elim (eqb_tells (i / 2) (n / 2)) [
+      | inl same ↦ rw (same.1, read) (bits_kept (get_or bytes (n / 2) 0) bits (n % 2) (i % 2) (omega (arith, same.1)) (omega arith))
+      | inr other ↦ ap (λ (b : ℕ). b / 2 ^ (i % 2 * 4) % 16) (get_or-set_other bytes (n / 2) (i / 2) byte 0 other.1)
     ]
 
 -- more bits in the last byte
-pub marks_in_place : (bytes : List ℕ) (n bits byte : ℕ) → IsFilledTo bytes n → n % 4 ≢ 0 → bits < 4
-    → byte ≡ bits * 2 ^ (n % 4 * 2) + get_or bytes (n / 4) 0
-    → marks_from (set bytes (n / 4) byte) 0 (n + 1) ≡ marks_from bytes 0 n ++ mark_of bits ∷ []
+pub marks_in_place : (bytes : List ℕ) (n bits byte : ℕ) → IsFilledTo bytes n → n % 2 ≢ 0 → bits < 16
+    → byte ≡ bits * 2 ^ (n % 2 * 4) + get_or bytes (n / 2) 0
+    → marks_from (set bytes (n / 2) byte) 0 (n + 1) ≡ marks_from bytes 0 n ++ mark_of bits ∷ []
 marks_in_place bytes n bits byte filled begun small is =
-    let within : n / 4 < length bytes = omega (arith, filled.count) in
-    let read : get_or (set bytes (n / 4) byte) (n / 4) 0 ≡ bits * 2 ^ (n % 4 * 2) + get_or bytes (n / 4) 0 =
-    get_or-set_same bytes (n / 4) byte 0 within ∙ is in
-    let last : bits_of (set bytes (n / 4) byte) n ≡ bits =
-    rw read (bits_put (get_or bytes (n / 4) 0) bits (n % 4) (filled.free begun) small (omega arith)) in
-    marks_and_one bytes (set bytes (n / 4) byte) n bits (λ i before. bits_before bytes n bits byte i within is before) last
+    let within : n / 2 < length bytes = omega (arith, filled.count) in
+    let read : get_or (set bytes (n / 2) byte) (n / 2) 0 ≡ bits * 2 ^ (n % 2 * 4) + get_or bytes (n / 2) 0 =
+    get_or-set_same bytes (n / 2) byte 0 within ∙ is in
+    let last : bits_of (set bytes (n / 2) byte) n ≡ bits =
+    rw read (bits_put (get_or bytes (n / 2) 0) bits (n % 2) (filled.free begun) small (omega arith)) in
+    marks_and_one bytes (set bytes (n / 2) byte) n bits (λ i before. bits_before bytes n bits byte i within is before) last
 
 -- the bytes stay filled with one more mark
-pub filled_in_place : (bytes : List ℕ) (n bits byte : ℕ) → IsFilledTo bytes n → n % 4 ≢ 0 → bits < 4
-    → byte ≡ bits * 2 ^ (n % 4 * 2) + get_or bytes (n / 4) 0 → IsFilledTo (set bytes (n / 4) byte) (n + 1)
+pub filled_in_place : (bytes : List ℕ) (n bits byte : ℕ) → IsFilledTo bytes n → n % 2 ≢ 0 → bits < 16
+    → byte ≡ bits * 2 ^ (n % 2 * 4) + get_or bytes (n / 2) 0 → IsFilledTo (set bytes (n / 2) byte) (n + 1)
 filled_in_place bytes n bits byte filled begun small is =
-    let within : n / 4 < length bytes = omega (arith, filled.count) in
-    let read : get_or (set bytes (n / 4) byte) (n / 4) 0 ≡ bits * 2 ^ (n % 4 * 2) + get_or bytes (n / 4) 0 =
-    get_or-set_same bytes (n / 4) byte 0 within ∙ is in
+    let within : n / 2 < length bytes = omega (arith, filled.count) in
+    let read : get_or (set bytes (n / 2) byte) (n / 2) 0 ≡ bits * 2 ^ (n % 2 * 4) + get_or bytes (n / 2) 0 =
+    get_or-set_same bytes (n / 2) byte 0 within ∙ is in
     record {
-      count = length-set bytes (n / 4) byte ∙ (filled.count ∙ omega arith);
+      count = length-set bytes (n / 2) byte ∙ (filled.count ∙ omega arith);
       free = λ goes.
-          let same : (n + 1) / 4 ≡ n / 4 = omega arith in
-          let next : (n + 1) % 4 ≡ n % 4 + 1 = omega arith in
-          rw (same, next, read) (bits_below (get_or bytes (n / 4) 0) bits (n % 4) (filled.free begun) small (omega arith));
+          let same : (n + 1) / 2 ≡ n / 2 = omega arith in
+          let next : (n + 1) % 2 ≡ n % 2 + 1 = omega arith in
+          rw (same, next, read) (bits_below (get_or bytes (n / 2) 0) bits (n % 2) (filled.free begun) small (omega arith));
     }
 
 -- and so they do with one in a byte of its own
-pub filled_in_byte : (bytes : List ℕ) (n bits : ℕ) → IsFilledTo bytes n → n % 4 ≡ 0 → bits < 4 → IsFilledTo (bytes ++ bits ∷ []) (n + 1)
+pub filled_in_byte : (bytes : List ℕ) (n bits : ℕ) → IsFilledTo bytes n → n % 2 ≡ 0 → bits < 16 → IsFilledTo (bytes ++ bits ∷ []) (n + 1)
 filled_in_byte bytes n bits filled full small = record {
   count = length-append bytes (bits ∷ []) ∙ omega (arith, filled.count);
   free = λ goes.
-      let here : (n + 1) / 4 ≡ length bytes = omega (arith, filled.count) in
-      let next : (n + 1) % 4 ≡ 1 = omega arith in
+      let here : (n + 1) / 2 ≡ length bytes = omega (arith, filled.count) in
+      let next : (n + 1) % 2 ≡ 1 = omega arith in
       rw (here, next, get_or-append_seam bytes bits [] 0) small;
 }

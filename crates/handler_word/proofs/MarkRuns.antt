@@ -8,7 +8,7 @@ use Rattle.std.proofs.lemmas.Grind.{replicate_next}
 use Rattle.std.proofs.lemmas.List.{drop_all, append-nil}
 use Rattle.std.proofs.lemmas.Option.{slice_get_within, get_or_from_slice_get}
 use Rattle.handler_word.specs.declared.mark.Mark.{Mark}
-use Rattle.handler_word.specs.declared.mark.Mark.TheVariants.{Skipped, NoHandler, NotLogging, Recorded}
+use Rattle.handler_word.specs.declared.mark.Mark.TheVariants.{Skipped, NoHandler, NotLogging, Recorded, RecordedArg}
 use Rattle.handler_word.specs.Runs.{mark_byte, onto_runs, runs_of, run_text, runs_text}
 use Rattle.xray_io.specs.Calls.{Write}
 use Rattle.xray_io.specs.Text.{AddsText}
@@ -16,13 +16,15 @@ use Rattle.xray_io.specs.declared.text.Text.{Text}
 
 -- the mark of a character
 abbrev marked : ℕ → Mark
-marked byte = if byte == 46 then Skipped else if byte == 110 then NoHandler else if byte == 102 then NotLogging else Recorded
+marked byte = if byte == 46 then Skipped else if byte == 110 then NoHandler else if byte == 102 then NotLogging
+    else if byte == 43 then Recorded else RecordedArg
 
 marked_back : (mark : Mark) → marked (mark_byte mark) ≡ mark
 marked_back Skipped = refl
 marked_back NoHandler = refl
 marked_back NotLogging = refl
 marked_back Recorded = refl
+marked_back RecordedArg = refl
 
 -- marks with the same character are the same
 printed_alike : (mark other : Mark) → mark_byte mark ≡ mark_byte other → mark ≡ other

@@ -2,14 +2,15 @@
 use Rattle.std.specs.Prelude.{ℕ, ◌+◌, List, [], ◌∷◌, ◌==◌, if◌then◌else◌, codes, decimal, map}
 use Rattle.std.specs.List.{join_with_byte}
 use Rattle.handler_word.specs.declared.mark.Mark.{Mark}
-use Rattle.handler_word.specs.declared.mark.Mark.TheVariants.{Skipped, NoHandler, NotLogging, Recorded}
+use Rattle.handler_word.specs.declared.mark.Mark.TheVariants.{Skipped, NoHandler, NotLogging, Recorded, RecordedArg}
 
--- the character of a mark: . n f +
+-- the character of a mark: . n f + a
 abbrev pub mark_byte : Mark → ℕ
 mark_byte Skipped = 46
 mark_byte NoHandler = 110
 mark_byte NotLogging = 102
 mark_byte Recorded = 43
+mark_byte RecordedArg = 97
 
 -- a mark before runs joins the first of them if the two are alike
 abbrev pub onto_runs : Mark → List (Mark × ℕ) → List (Mark × ℕ)

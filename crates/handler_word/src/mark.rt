@@ -11,44 +11,45 @@ pub enum Mark {
     NoHandler,
     /// A handler was set, and the log wasn't initialized. Printed as `f`.
     NotLogging,
-    /// One event was recorded. Printed as `+`.
+    /// One event was recorded, without an argument. Printed as `+`.
     Recorded,
+    /// One event was recorded, with its argument. Printed as `a`.
+    RecordedArg,
 }
 
 impl Mark {
     ghost use Rattle.handler_word.specs.private.Bits.{mark_of};
     ghost use Rattle.handler_word.specs.MarkList.{is_recorded};
 
-    /// Whether the passing recorded an event.
+    /// Whether the passing recorded an event, with its argument or without.
     pub(crate) fn is_recorded(self) -> bool
         ensures { result ≡ is_recorded self }
     {
         match self {
             Mark::Skipped | Mark::NoHandler | Mark::NotLogging => false,
-            Mark::Recorded => true,
+            Mark::Recorded | Mark::RecordedArg => true,
         }
     }
 
-    /// The two bits that stand for the mark.
+    /// The four bits that stand for the mark.
     pub(crate) fn bits(self) -> u8
-        ensures small { result < 4 }
+        ensures small { result < 16 }
         ensures mark { mark_of result ≡ self }
     {
         self as u8
     }
 
-    /// The mark that these two bits stand for.
+    /// The mark that these four bits stand for.
     pub(crate) fn from_bits(bits: u8) -> Mark
-        requires { bits < 4 }
+        requires { bits < 16 }
         ensures { result ≡ mark_of bits }
     {
-        let high = bits / 2 == 1;
-        let low = bits % 2 == 1;
-        match (high, low) {
-            (false, false) => Mark::Skipped,
-            (false, true) => Mark::NoHandler,
-            (true, false) => Mark::NotLogging,
-            (true, true) => Mark::Recorded,
+        match bits {
+            0 => Mark::Skipped,
+            1 => Mark::NoHandler,
+            2 => Mark::NotLogging,
+            3 => Mark::Recorded,
+            4..=u8::MAX => Mark::RecordedArg,
         }
     }
 }

@@ -11,26 +11,26 @@ use std::marker::Model;
 use xray_io::NoMemory;
 
 /// How many marks fit a byte.
-pub(crate) const MARKS_IN_BYTE: u32 = 4;
+pub(crate) const MARKS_IN_BYTE: u32 = 2;
 
 /// How many bits a mark has.
-const BITS_OF_MARK: u32 = 2;
+const BITS_OF_MARK: u32 = 4;
 
 /// The bits of the first mark of a byte.
-const MARK_MASK: u8 = 0b11;
+const MARK_MASK: u8 = 0b1111;
 
-/// What the bits of a mark are multiplied by for a byte whose four marks are this one.
-const EACH_MARK: u8 = 0b0101_0101;
+/// What the bits of a mark are multiplied by for a byte whose two marks are this one.
+const EACH_MARK: u8 = 0b0001_0001;
 
 /// The marks of a thread's passings, in the order of the passings. There is room for a fixed number
 /// of them.
 #[derive(Debug, Drop)]
 pub struct Marks {
-    /// Four marks per byte. The first is in the lowest bits.
+    /// Two marks per byte. The first is in the low bits.
     bytes: Vec<u8>,
     /// How many marks there are.
     len: u32,
-    /// How many of them are `Recorded`.
+    /// How many of them are of passings that recorded an event.
     recorded: u32,
     /// The most marks that there may be.
     room: u32,
@@ -101,7 +101,7 @@ impl Marks {
     }
 
     /// How many marks from number `first` on are `mark`: at least 1, and perhaps not all of them. If
-    /// `first` begins a byte of four such marks, all marks of that byte and of the equal bytes after
+    /// `first` begins a byte of two such marks, all marks of that byte and of the equal bytes after
     /// it are counted.
     pub(crate) fn alike_from(&self, first: u32, mark: Mark) -> u32
         requires { slice_get self.now.items first ≡ Some mark }
@@ -114,7 +114,7 @@ impl Marks {
         if end == first { 1 } else { end - first }
     }
 
-    /// The number of the first mark from `first` on that isn't in a byte of four marks that are all
+    /// The number of the first mark from `first` on that isn't in a byte of two marks that are both
     /// `mark`. No byte is looked at unless `first` is the first mark of one.
     fn end_of_bytes(&self, first: u32, mark: Mark) -> u32
         requires { first ≤ length self.now.items }
@@ -132,7 +132,7 @@ impl Marks {
         end as u32 * MARKS_IN_BYTE
     }
 
-    /// How many of the marks are `Recorded`.
+    /// How many of the marks are of passings that recorded an event: `Recorded` and `RecordedArg`.
     pub fn recorded(&self) -> u32
         ensures { result ≡ recorded_count self.now.items }
     {
@@ -158,7 +158,7 @@ fn end_of_alike(bytes: &[u8], start: usize, byte: u8) -> usize
 fn put_bits(bytes: &mut Vec<u8>, marks: u32, bits: u8)
     requires filled { IsFilledTo bytes.old.items marks }
     requires room { marks / MARKS_IN_BYTE < vec_capacity bytes.old }
-    requires small { bits < 4 }
+    requires small { bits < 16 }
     ensures marks { marks_from bytes.new.items 0 (marks + 1)
         ≡ marks_from bytes.old.items 0 marks ++ mark_of bits ∷ [] }
     ensures filled { IsFilledTo bytes.new.items (marks + 1) }

@@ -8,7 +8,7 @@ ghost use Rattle.xray_io.specs.Writes.{WritesText};
 use crate::{Mark, Marks};
 use xray_io::{Piece, Printed, Sink, Text, WriteFault, write_text};
 
-/// Marks are printed as their runs, as `.3 n1 +20`. Each longest run of equal marks is its character
+/// Marks are printed as their runs, as `.3 n1 +20 a2`. Each longest run of equal marks is its character
 /// and its length, and there is a space between runs. The text is `-` if there are no marks.
 impl Printed for Marks {
     ghost text = { λ marks. runs_text marks.items };
@@ -90,5 +90,6 @@ fn mark_symbol(mark: Mark) -> &'static [u8]
         Mark::NoHandler => b"n",
         Mark::NotLogging => b"f",
         Mark::Recorded => b"+",
+        Mark::RecordedArg => b"a",
     }
 }

@@ -73,9 +73,9 @@ extract|-V => none
 extract|--version => none
 sim|i|s|c|t|a => sim [i] [s] [c] [t] [a] 1 10000000 1048576 16384 100 1 0 0 1 1048576 1 43200.5
 sim|s|s|s|t|a|--wall=0 => sim [s] [s] [s] [t] [a] 1 10000000 1048576 16384 100 1 0 0 1 1048576 1 0.0
-sim|i|s|c|t|a|--threads=2|--fuel=3|--passings=4|--buffer-size=72|--buffer-max=2|--tick=18446744073709551615\
+sim|i|s|c|t|a|--threads=2|--fuel=3|--passings=4|--buffer-size=88|--buffer-max=2|--tick=18446744073709551615\
 |--tsc=5|--frequency=6|--cpus=65535|--migrate=1|--pid=2147483647|--wall=7 \
-=> sim [i] [s] [c] [t] [a] 2 3 4 72 2 18446744073709551615 5 6 65535 1 2147483647 7.0
+=> sim [i] [s] [c] [t] [a] 2 3 4 88 2 18446744073709551615 5 6 65535 1 2147483647 7.0
 sim|i|s|c => none
 sim|i|s|c|t|t => none
 sim|i|s|c|t|s => none

@@ -40,6 +40,7 @@ pub fn trace_of(alloc: Global, events: &[Said]) -> Result<Trace, Fail>
             func,
             kind,
             tsc,
+            arg: 0,
         };
         blocks.push(Block {
             thread,

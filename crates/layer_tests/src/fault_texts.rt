@@ -107,7 +107,7 @@ const OF_REPLAYS: [(SimFault, &str); 2] = [
 
 const OF_RECORDS: [(RecFault, &str); 3] = [
     (RecFault::Short, "the record is cut off"),
-    (RecFault::Action(3), "no function record has the action 3"),
+    (RecFault::Action(4), "no function record has the action 4"),
     (
         RecFault::Kind(127),
         "no metadata record of the kind 127 is read",

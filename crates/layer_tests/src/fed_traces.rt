@@ -34,6 +34,7 @@ fn kind_bits(kind: Kind) -> u32 {
         Kind::Entry => 0,
         Kind::Exit => 2,
         Kind::TailExit => 4,
+        Kind::EntryArgs => 6,
     }
 }
 

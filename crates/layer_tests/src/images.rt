@@ -3,6 +3,7 @@
 use crate::checks::{check_same, check_same_at};
 use crate::image_files::{add_entry, add_function, header_and_code, image_file};
 use example_images::OUTPUTS_AN_A;
+use sled_words::{Part, part_value};
 use std::alloc::{AllocError, Global};
 use std::process::Abort;
 use std::test::Fail;
@@ -58,6 +59,7 @@ fn an_image_has_the_function_and_the_sleds_of_its_map(rt: HostRuntime) -> Result
     check_same(&rt, &image.trampoline(SledKind::Entry), &0x20_1000);
     check_same(&rt, &image.trampoline(SledKind::Exit), &0x20_1010);
     check_same(&rt, &image.trampoline(SledKind::Tail), &0x20_1020);
+    check_same(&rt, &image.trampoline(SledKind::Args), &0x20_1030);
     let entry = Sled {
         address: 0x1000,
         function: 0x1000,
@@ -74,6 +76,21 @@ fn an_image_has_the_function_and_the_sleds_of_its_map(rt: HostRuntime) -> Result
     assert!(rt; image.sled_count() == 2);
     check_same(&rt, &image.sled(0), &entry);
     check_same(&rt, &image.sled(1), &exit);
+    Ok(())
+}
+
+#[test]
+fn only_sleds_of_kind_3_call_the_argument_trampoline(rt: HostRuntime) -> Result<(), Fail> {
+    let far = [(57, 0), (58, 0), (60, 2)];
+    let unused = damaged(rt.alloc(), &far, WHOLE)?;
+    check_same(&rt, &fault_of(rt.alloc(), &unused), &None);
+    let bytes = damaged(rt.alloc(), &[(122, 3)], WHOLE)?;
+    let image = read_image(rt.alloc(), &bytes)?;
+    assert!(rt; image.sled_count() == 2);
+    check_same(&rt, &image.sled(0).kind, &SledKind::Args);
+    check_same(&rt, &image.sled(1).kind, &SledKind::Exit);
+    check_same(&rt, &part_value(&image, 0, Part::Offset, true), &0x20_0025);
+    check_same(&rt, &part_value(&image, 1, Part::Offset, true), &0x1F_FFF3);
     Ok(())
 }
 
@@ -98,7 +115,7 @@ fn damaged(alloc: Global, changes: &[(usize, u8)], length: usize) -> Result<Vec<
 }
 
 /// Each row of the table of refusals.
-const DAMAGES: [Damage; 24] = [
+const DAMAGES: [Damage; 26] = [
     (&[], 63, ImageFault::Short),
     (&[], 169, ImageFault::Short),
     (&[], 171, ImageFault::Trailing),
@@ -131,11 +148,18 @@ const DAMAGES: [Damage; 24] = [
     (&[(93, 0x0B)], WHOLE, ImageFault::Names(0)),
     (&[(138, 0x14)], WHOLE, ImageFault::MapOrder(1)),
     (&[(154, 0)], WHOLE, ImageFault::Odd(1)),
-    (&[(122, 3)], WHOLE, ImageFault::Odd(0)),
+    (&[(122, 4)], WHOLE, ImageFault::Odd(0)),
+    (&[(154, 3)], WHOLE, ImageFault::Odd(1)),
     (&[(124, 2)], WHOLE, ImageFault::Odd(0)),
     (&[(146, 0x0B)], WHOLE, ImageFault::Odd(1)),
     // the entry trampoline 0x2_0000_0000
     (&[(33, 0), (34, 0), (36, 2)], WHOLE, ImageFault::Far(0)),
+    // the argument trampoline 0x2_0000_0030, and a sled of kind 3
+    (
+        &[(122, 3), (57, 0), (58, 0), (60, 2)],
+        WHOLE,
+        ImageFault::Far(0),
+    ),
     // a jump to 0x1051
     (&[(75, 0xE9)], WHOLE, ImageFault::Target(11)),
 ];

@@ -13,6 +13,7 @@ fn mark_of(symbol: u8) -> Mark {
         b'.' => Mark::Skipped,
         b'n' => Mark::NoHandler,
         b'f' => Mark::NotLogging,
+        b'a' => Mark::RecordedArg,
         _ => Mark::Recorded,
     }
 }
@@ -30,7 +31,7 @@ fn marks_of(rt: &impl Abort, alloc: Global, symbols: &[u8]) -> Result<Marks, Fai
 }
 
 /// Marks as characters, how many of them are recorded, and their text.
-const RUNS: [(&[u8], u32, &[u8]); 9] = [
+const RUNS: [(&[u8], u32, &[u8]); 11] = [
     (b"", 0, b"-"),
     (b"..", 0, b".2"),
     (b"++", 2, b"+2"),
@@ -40,6 +41,8 @@ const RUNS: [(&[u8], u32, &[u8]); 9] = [
     (b".+.+", 2, b".1 +1 .1 +1"),
     (b".nf++fn.", 2, b".1 n1 f1 +2 f1 n1 .1"),
     (b"nnnnnnnnnnn+++++f", 5, b"n11 +5 f1"),
+    (b"a", 1, b"a1"),
+    (b".a+aannnaaaaaa", 10, b".1 a1 +1 a2 n3 a6"),
 ];
 
 #[test]

@@ -59,6 +59,7 @@ fn seal_one<R: Wait>(rt: &R, pool: &Pool, pass: &mut PoolPass, thread: u32, hand
         func: 1,
         cpu: 0,
         tsc: pass.sealed() as u64,
+        arg: 0,
     };
     if hand.fits(&event) {
         hand.put(&event);

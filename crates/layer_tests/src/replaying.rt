@@ -29,7 +29,7 @@ fn setup_with(rt: &impl Abort, threads: u32, size: u32, max: u32, passings: u32)
     ensures { IsSetup result }
 {
     assert!(rt; threads >= 1 && threads <= 16);
-    assert!(rt; size >= 72 && size <= 1_048_576);
+    assert!(rt; size >= 88 && size <= 1_048_576);
     assert!(rt; threads <= max && max <= 1_024);
     assert!(rt; max * (size + 16) + 32 <= ROOM);
     assert!(rt; passings <= 1_048_576);
@@ -84,8 +84,8 @@ fn reads_all_lines(alloc: Global, lines: u32) -> Result<bool, Fail> {
 fn replays_and_schedules_of_each_size_are_made(rt: HostRuntime) -> Result<(), Fail> {
     let alloc = rt.alloc();
     for (threads, size, max) in [
-        (1, 72, 1),
-        (16, 72, 16),
+        (1, 88, 1),
+        (16, 88, 16),
         (16, 65_519, 1_024),
         (1, 1_048_576, 63),
     ] {
@@ -99,7 +99,7 @@ fn replays_and_schedules_of_each_size_are_made(rt: HostRuntime) -> Result<(), Fa
     let mut seed = 1;
     for _ in 0..8 {
         let threads = draw(&mut seed, 16) + 1;
-        let size = 72 + draw(&mut seed, 65_536);
+        let size = 88 + draw(&mut seed, 65_536);
         let max = (16 + draw(&mut seed, 1_009)).min(ROOM / 4 / size);
         let passings = 2 + draw(&mut seed, 1_048_575);
         let setup = setup_with(&rt, threads, size, max, passings);

@@ -26,7 +26,8 @@ fn store(word: u32, value: u64) -> Micro {
 fn micro_steps_are_found_by_their_places(rt: HostRuntime) -> Result<(), Fail> {
     let image = read_image(rt.alloc(), &OUTPUTS_AN_A)?;
     let text =
-        b"unpatch\nhold 1 2\npatch\nset_handler\ninit\ngo\nawait 1 2\nrelease 1\nunpatch_function 1\n";
+        b"unpatch\nhold 1 2\npatch\nset_handler\nset_arg_handler\ninit\ngo\nawait 1 2\nrelease 1\n\
+        unpatch_function 1\nremove_arg_handler\n";
     let script = script_of(rt.alloc(), text, &image)?;
     let steps = [
         store(0, 0x09EB),
@@ -40,6 +41,7 @@ fn micro_steps_are_found_by_their_places(rt: HostRuntime) -> Result<(), Fail> {
         store(7, 0x1F_FFF3),
         store(4, 0xBA41),
         store(8, 1),
+        store(12, 1),
         store(9, 1),
         store(9, 2),
         Micro::Await {
@@ -49,13 +51,14 @@ fn micro_steps_are_found_by_their_places(rt: HostRuntime) -> Result<(), Fail> {
         store(10, 1),
         store(0, 0x09EB),
         store(4, 0xBAC3),
+        store(12, 0),
         Micro::End,
     ];
     for (place, expected) in steps.iter().enumerate() {
         check_same(&rt, &(script.micro(place as u64)), expected);
     }
-    check_same(&rt, &script.start(), &13);
-    check_same(&rt, &script.total(), &17);
+    check_same(&rt, &script.start(), &14);
+    check_same(&rt, &script.total(), &19);
     check_same(&rt, &script.hold_of(1), &Some(2));
     check_same(&rt, &script.hold_of(2), &None);
     check_same(&rt, &script.waits(), &Some(2));

@@ -65,6 +65,7 @@ fn event(cpu: u16, func: u32, kind: Kind, tsc: u64) -> Event {
         func,
         kind,
         tsc,
+        arg: 0,
     }
 }
 
@@ -183,6 +184,58 @@ fn deltas_add_up_from_the_last_whole_counter(rt: HostRuntime) -> Result<(), Fail
         let bytes = file(rt.alloc(), &[HEADER, &block])?;
         check_one_block(&rt, rt.alloc(), &bytes, &events.map(said))?;
     }
+    Ok(())
+}
+
+/// Extents of 144 bytes.
+const EXTENTS_144: &[u8] = b"\x0F\x90\0\0\0\0\0\0\0\0\0\0\0\0\0\0";
+
+/// An entry of function 1 that logs its argument, and the arguments 7 and 9.
+const ENTRY_WITH_ARG: &[u8] = b"\x16\0\0\0\x01\0\0\0";
+
+const ARG_7: &[u8] = b"\x0D\x07\0\0\0\0\0\0\0\0\0\0\0\0\0\0";
+
+const ARG_9: &[u8] = b"\x0D\x09\0\0\0\0\0\0\0ABCDEFG";
+
+/// A block whose entries have two arguments, none and one. The last of them ends it.
+const ARGUMENTS: [&[u8]; 11] = [
+    HEADER,
+    EXTENTS_144,
+    PREAMBLE,
+    CPU,
+    ENTRY_WITH_ARG,
+    ARG_7,
+    ARG_9,
+    ENTRY_WITH_ARG,
+    EXIT_AFTER_2,
+    ENTRY_WITH_ARG,
+    ARG_9,
+];
+
+/// An entry of function 1 at this counter, with this argument.
+fn entry_with(tsc: u64, arg: u64) -> Event {
+    Event {
+        arg,
+        ..event(0, 1, Kind::EntryArgs, tsc)
+    }
+}
+
+#[test]
+fn an_entry_has_the_first_argument_behind_it(rt: HostRuntime) -> Result<(), Fail> {
+    let bytes = file(rt.alloc(), &ARGUMENTS)?;
+    let events = [
+        entry_with(1, 7),
+        entry_with(2, 0),
+        event(0, 1, Kind::Exit, 4),
+        entry_with(5, 9),
+    ];
+    check_one_block(&rt, rt.alloc(), &bytes, &events)?;
+    read_trace(rt.alloc(), &bytes)?;
+    let mut cursor = EventCursor::new(&bytes);
+    for event in &events {
+        check_same(&rt, &cursor.next(), &Some((1, 1, *event)));
+    }
+    check_same(&rt, &cursor.next(), &None);
     Ok(())
 }
 

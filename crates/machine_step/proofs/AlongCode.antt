@@ -10,9 +10,10 @@ use Rattle.sled_words.specs.declared.part.Part.TheVariants.{Head, Id, Opcode, Of
 use Rattle.sled_words.specs.Allowed.{IsAllowed}
 use Rattle.sled_words.specs.ChangingCode.{KeepsSleds}
 use Rattle.sled_words.specs.Parts.{patched_head}
-use Rattle.sled_words.specs.Words.{word_of, handler_word, state_word, release_word}
-use Rattle.handler_word.specs.declared.mark.Mark.TheVariants.{Skipped, NoHandler}
-use Rattle.machine_step.specs.Loads.{Load, Reading, Wants, Marked, from_state, from_handler, from_offset, from_opcode, from_id, from_head, from_release, from_start, is_held_at, next_from, next_load}
+use Rattle.sled_words.specs.Words.{word_of, handler_word, state_word, release_word, arg_handler_word}
+use Rattle.handler_word.specs.declared.mark.Mark.{Mark}
+use Rattle.handler_word.specs.declared.mark.Mark.TheVariants.{Skipped, NoHandler, Recorded, RecordedArg}
+use Rattle.machine_step.specs.Loads.{Load, Reading, Wants, Marked, from_state, from_handler, from_arg_handler, from_handlers, from_offset, from_opcode, from_id, from_head, from_release, from_start, is_held_at, next_from, next_load, sled_logs_args}
 use Rattle.machine_step.specs.Follows.{Follows, none, later, loaded}
 
 -- ---- loads from the first one on
@@ -44,14 +45,14 @@ fits_more program code next low [] high word fits wanted = (high, fits, wanted, 
 fits_more program code next low (load ∷ loads) high word (place, le, first, value, rest) wanted =
     (place, le, first, value, fits_more program code (λ more. next (load ∷ more)) place loads high word rest wanted)
 
-module _ (program : Program) (code : ℕ → ℕ → ℕ) (start : ℕ) (bound : ℕ → ℕ) (thread : ℕ) (hold : Option ℕ) (sleds : List ℕ) where
-  pub follows_fits : {loads : List Load} {place : ℕ} → Follows program code start bound thread hold sleds loads place
-      → Fits program code (next_load program thread hold sleds) start loads place
+module _ (program : Program) (threads : ℕ) (code : ℕ → ℕ → ℕ) (start : ℕ) (bound : ℕ → ℕ) (thread : ℕ) (hold : Option ℕ) (sleds : List ℕ) where
+  pub follows_fits : {loads : List Load} {place : ℕ} → Follows program threads code start bound thread hold sleds loads place
+      → Fits program code (next_load program threads thread hold sleds) start loads place
   follows_fits none = omega arith
   follows_fits (later loads place next up follows) =
-      fits_later program code (next_load program thread hold sleds) start loads place next up (follows_fits follows)
+      fits_later program code (next_load program threads thread hold sleds) start loads place next up (follows_fits follows)
   follows_fits (loaded loads place word follows wanted within) =
-      fits_more program code (next_load program thread hold sleds) start loads place word (follows_fits follows) wanted
+      fits_more program code (next_load program threads thread hold sleds) start loads place word (follows_fits follows) wanted
 
 fits_same : (program : Program) (code : ℕ → ℕ → ℕ) (next other : List Load → Option ℕ) (low : ℕ) (loads : List Load) (high : ℕ)
     → ((ls : List Load) → next ls ≡ other ls) → Fits program code next low loads high → Fits program code other low loads high
@@ -68,130 +69,149 @@ fits_same program code next other low (load ∷ loads) high same (place, le, fir
 
 -- the word that is wanted after loads that bring a passing this far
 abbrev pub following : Reading → (List Load → Option ℕ) → Option ℕ
-following (Wants word) next = Some word
+following (Wants word recording) next = Some word
 following (Marked mark loads) next = next loads
 
 -- whatever loads fit, the value of the word that is wanted after them is allowed
-abbrev IsSafe : Program → ℕ → (ℕ → ℕ → ℕ) → (List Load → Option ℕ) → ℕ → Type 0
-IsSafe program thread code next low =
+abbrev IsSafe : Program → ℕ → ℕ → (ℕ → ℕ → ℕ) → (List Load → Option ℕ) → ℕ → Type 0
+IsSafe program threads thread code next low =
     (loads : List Load) (high word : ℕ) → Fits program code next low loads high → next loads ≡ Some word
-    → IsAllowed program thread word (code high word)
+    → IsAllowed program threads thread word (code high word)
 
-allowed_at : (program : Program) (thread : ℕ) (code : ℕ → ℕ → ℕ) (place w word : ℕ) → Some w ≡ Some word
-    → IsAllowed program thread w (code place w) → IsAllowed program thread word (code place word)
-allowed_at program thread code place w word same allowed =
-    subst (λ (v : ℕ). IsAllowed program thread v (code place v)) (same_Some w word same) allowed
+allowed_at : (program : Program) (threads thread : ℕ) (code : ℕ → ℕ → ℕ) (place w word : ℕ) → Some w ≡ Some word
+    → IsAllowed program threads thread w (code place w) → IsAllowed program threads thread word (code place word)
+allowed_at program threads thread code place w word same allowed =
+    subst (λ (v : ℕ). IsAllowed program threads thread v (code place v)) (same_Some w word same) allowed
 
 pub by_test : (b : Bool) (M : Bool → Type 0) → (b ≡ true → M true) → (b ≡ false → M false) → M b
 by_test true M at_true at_false = at_true refl
 by_test false M at_true at_false = at_false refl
 
-module _ (program : Program) (thread : ℕ) (code : ℕ → ℕ → ℕ) (keeps : KeepsSleds program thread code) (next : List Load → Option ℕ)
-    (safe : (low : ℕ) → IsSafe program thread code next low) where
-  safe_state : (low : ℕ) → IsSafe program thread code (λ loads. following (from_state program loads) next) low
-  safe_state low [] high word fits wanted =
-      allowed_at program thread code high (state_word program) word wanted (keeps.other high (state_word program) (omega arith))
-  safe_state low (load ∷ loads) high word (place, le, first, value, rest) wanted = safe place loads high word rest wanted
+module _ (program : Program) (threads thread : ℕ) (code : ℕ → ℕ → ℕ) (keeps : KeepsSleds program threads thread code) (next : List Load → Option ℕ)
+    (safe : (low : ℕ) → IsSafe program threads thread code next low) where
+  safe_state : (recording : Mark) (low : ℕ) → IsSafe program threads thread code (λ loads. following (from_state program recording loads) next) low
+  safe_state recording low [] high word fits wanted =
+      allowed_at program threads thread code high (state_word program) word wanted (keeps.other high (state_word program) (omega arith))
+  safe_state recording low (load ∷ loads) high word (place, le, first, value, rest) wanted = safe place loads high word rest wanted
 
-  safe_handler : (low : ℕ) → IsSafe program thread code (λ loads. following (from_handler program loads) next) low
+  safe_handler : (low : ℕ) → IsSafe program threads thread code (λ loads. following (from_handler program loads) next) low
   safe_handler low [] high word fits wanted =
-      allowed_at program thread code high (handler_word program) word wanted (keeps.other high (handler_word program) (omega arith))
+      allowed_at program threads thread code high (handler_word program) word wanted (keeps.other high (handler_word program) (omega arith))
   safe_handler low (load ∷ loads) high word (place, le, first, value, rest) wanted =
       by_test (load.value == 0)
-      (λ b. Fits program code (λ more. following (if b then Marked NoHandler more else from_state program more) next) place loads high
-      → following (if b then Marked NoHandler loads else from_state program loads) next ≡ Some word
-      → IsAllowed program thread word (code high word))
-      (λ e. safe place loads high word) (λ e. safe_state place loads high word) rest wanted
+      (λ b. Fits program code (λ more. following (if b then Marked NoHandler more else from_state program Recorded more) next) place loads high
+      → following (if b then Marked NoHandler loads else from_state program Recorded loads) next ≡ Some word
+      → IsAllowed program threads thread word (code high word))
+      (λ e. safe place loads high word) (λ e. safe_state Recorded place loads high word) rest wanted
+
+  safe_arg_handler : (low : ℕ) → IsSafe program threads thread code (λ loads. following (from_arg_handler program threads loads) next) low
+  safe_arg_handler low [] high word fits wanted =
+      allowed_at program threads thread code high (arg_handler_word program threads) word wanted
+      (keeps.other high (arg_handler_word program threads) (omega arith))
+  safe_arg_handler low (load ∷ loads) high word (place, le, first, value, rest) wanted =
+      by_test (load.value == 0)
+      (λ b. Fits program code (λ more. following (if b then from_handler program more else from_state program RecordedArg more) next) place loads high
+      → following (if b then from_handler program loads else from_state program RecordedArg loads) next ≡ Some word
+      → IsAllowed program threads thread word (code high word))
+      (λ e. safe_handler place loads high word) (λ e. safe_state RecordedArg place loads high word) rest wanted
+
+  safe_handlers : (k low : ℕ) → IsSafe program threads thread code (λ loads. following (from_handlers program threads k loads) next) low
+  safe_handlers k low loads high word fits wanted =
+      by_test (sled_logs_args program k)
+      (λ b. Fits program code (λ more. following (if b then from_arg_handler program threads more else from_handler program more) next) low loads high
+      → following (if b then from_arg_handler program threads loads else from_handler program loads) next ≡ Some word
+      → IsAllowed program threads thread word (code high word))
+      (λ e. safe_arg_handler low loads high word) (λ e. safe_handler low loads high word) fits wanted
 
   -- the rest of the passing, if its head was patched at place `p`
   module _ (p k : ℕ) (head : code p (word_of k Head) ≡ patched_head) where
-    safe_offset : (low : ℕ) → p ≤ low → IsSafe program thread code (λ loads. following (from_offset program k loads) next) low
+    safe_offset : (low : ℕ) → p ≤ low → IsSafe program threads thread code (λ loads. following (from_offset program threads k loads) next) low
     safe_offset low up [] high word fits wanted =
-        allowed_at program thread code high (word_of k Offset) word wanted (keeps.part p high k Offset (omega arith) head)
-    safe_offset low up (load ∷ loads) high word (place, le, first, value, rest) wanted = safe_handler place loads high word rest wanted
+        allowed_at program threads thread code high (word_of k Offset) word wanted (keeps.part p high k Offset (omega arith) head)
+    safe_offset low up (load ∷ loads) high word (place, le, first, value, rest) wanted = safe_handlers k place loads high word rest wanted
 
-    safe_opcode : (low : ℕ) → p ≤ low → IsSafe program thread code (λ loads. following (from_opcode program k loads) next) low
+    safe_opcode : (low : ℕ) → p ≤ low → IsSafe program threads thread code (λ loads. following (from_opcode program threads k loads) next) low
     safe_opcode low up [] high word fits wanted =
-        allowed_at program thread code high (word_of k Opcode) word wanted (keeps.part p high k Opcode (omega arith) head)
+        allowed_at program threads thread code high (word_of k Opcode) word wanted (keeps.part p high k Opcode (omega arith) head)
     safe_opcode low up (load ∷ loads) high word (place, le, first, value, rest) wanted = safe_offset place (omega arith) loads high word rest wanted
 
-    safe_id : (low : ℕ) → p ≤ low → IsSafe program thread code (λ loads. following (from_id program k loads) next) low
+    safe_id : (low : ℕ) → p ≤ low → IsSafe program threads thread code (λ loads. following (from_id program threads k loads) next) low
     safe_id low up [] high word fits wanted =
-        allowed_at program thread code high (word_of k Id) word wanted (keeps.part p high k Id (omega arith) head)
+        allowed_at program threads thread code high (word_of k Id) word wanted (keeps.part p high k Id (omega arith) head)
     safe_id low up (load ∷ loads) high word (place, le, first, value, rest) wanted = safe_opcode place (omega arith) loads high word rest wanted
 
-  safe_head : (k low : ℕ) → IsSafe program thread code (λ loads. following (from_head program k loads) next) low
+  safe_head : (k low : ℕ) → IsSafe program threads thread code (λ loads. following (from_head program threads k loads) next) low
   safe_head k low [] high word fits wanted =
-      allowed_at program thread code high (word_of k Head) word wanted (keeps.head high k)
+      allowed_at program threads thread code high (word_of k Head) word wanted (keeps.head high k)
   safe_head k low (load ∷ loads) high word (place, le, first, value, rest) wanted =
       by_test (load.value == patched_head)
-      (λ b. Fits program code (λ more. following (if b then from_id program k more else Marked Skipped more) next) place loads high
-      → following (if b then from_id program k loads else Marked Skipped loads) next ≡ Some word
-      → IsAllowed program thread word (code high word))
+      (λ b. Fits program code (λ more. following (if b then from_id program threads k more else Marked Skipped more) next) place loads high
+      → following (if b then from_id program threads k loads else Marked Skipped loads) next ≡ Some word
+      → IsAllowed program threads thread word (code high word))
       (λ e.
       let head : code place (word_of k Head) ≡ patched_head =
       ap (code place) (same_Some (word_of k Head) load.word first) ∙ sym value ∙ eqb-true load.value patched_head e in
       safe_id place k head place (omega arith) loads high word)
       (λ e. safe place loads high word) rest wanted
 
-  safe_release : (k low : ℕ) → IsSafe program thread code (λ loads. following (from_release program thread k loads) next) low
+  safe_release : (k low : ℕ) → IsSafe program threads thread code (λ loads. following (from_release program threads thread k loads) next) low
   safe_release k low [] high word fits wanted =
-      allowed_at program thread code high (release_word program thread) word wanted (keeps.other high (release_word program thread) (omega arith))
+      allowed_at program threads thread code high (release_word program thread) word wanted (keeps.other high (release_word program thread) (omega arith))
   safe_release k low (load ∷ loads) high word (place, le, first, value, rest) wanted =
       by_test (load.value == 0)
-      (λ b. Fits program code (λ more. following (if b then from_release program thread k more else from_head program k more) next) place loads high
-      → following (if b then from_release program thread k loads else from_head program k loads) next ≡ Some word
-      → IsAllowed program thread word (code high word))
+      (λ b. Fits program code (λ more. following (if b then from_release program threads thread k more else from_head program threads k more) next) place loads high
+      → following (if b then from_release program threads thread k loads else from_head program threads k loads) next ≡ Some word
+      → IsAllowed program threads thread word (code high word))
       (λ e. safe_release k place loads high word) (λ e. safe_head k place loads high word) rest wanted
 
-  safe_start : (held : Bool) (k low : ℕ) → IsSafe program thread code (λ loads. following (from_start program thread held k loads) next) low
+  safe_start : (held : Bool) (k low : ℕ) → IsSafe program threads thread code (λ loads. following (from_start program threads thread held k loads) next) low
   safe_start true k low = safe_release k low
   safe_start false k low = safe_head k low
 
 -- ---- all passings
 
-pub next_is : (program : Program) (thread : ℕ) (hold : Option ℕ) (number k : ℕ) (sleds : List ℕ) (loads : List Load) (r : Reading)
-    → from_start program thread (is_held_at hold number) k loads ≡ r
-    → next_from program thread hold number (k ∷ sleds) loads ≡ following r (next_from program thread hold (number + 1) sleds)
-next_is program thread hold number k sleds loads (Wants word) e = rw e refl
-next_is program thread hold number k sleds loads (Marked mark more) e = rw e refl
+pub next_is : (program : Program) (threads thread : ℕ) (hold : Option ℕ) (number k : ℕ) (sleds : List ℕ) (loads : List Load) (r : Reading)
+    → from_start program threads thread (is_held_at hold number) k loads ≡ r
+    → next_from program threads thread hold number (k ∷ sleds) loads ≡ following r (next_from program threads thread hold (number + 1) sleds)
+next_is program threads thread hold number k sleds loads (Wants word recording) e = rw e refl
+next_is program threads thread hold number k sleds loads (Marked mark more) e = rw e refl
 
-safe_from : (program : Program) (thread : ℕ) (code : ℕ → ℕ → ℕ) → KeepsSleds program thread code → (hold : Option ℕ) (number : ℕ) (sleds : List ℕ)
-    (low : ℕ) → IsSafe program thread code (next_from program thread hold number sleds) low
-safe_from program thread code keeps hold number [] low loads high word fits wanted = cc
-safe_from program thread code keeps hold number (k ∷ sleds) low loads high word fits wanted =
-    let rest : List Load → Option ℕ = next_from program thread hold (number + 1) sleds in
-    let same : (ls : List Load) → next_from program thread hold number (k ∷ sleds) ls
-    ≡ following (from_start program thread (is_held_at hold number) k ls) rest =
-    λ ls. next_is program thread hold number k sleds ls (from_start program thread (is_held_at hold number) k ls) refl in
-    safe_start program thread code keeps rest (safe_from program thread code keeps hold (number + 1) sleds) (is_held_at hold number) k low
+safe_from : (program : Program) (threads thread : ℕ) (code : ℕ → ℕ → ℕ) → KeepsSleds program threads thread code → (hold : Option ℕ) (number : ℕ) (sleds : List ℕ)
+    (low : ℕ) → IsSafe program threads thread code (next_from program threads thread hold number sleds) low
+safe_from program threads thread code keeps hold number [] low loads high word fits wanted = cc
+safe_from program threads thread code keeps hold number (k ∷ sleds) low loads high word fits wanted =
+    let rest : List Load → Option ℕ = next_from program threads thread hold (number + 1) sleds in
+    let same : (ls : List Load) → next_from program threads thread hold number (k ∷ sleds) ls
+    ≡ following (from_start program threads thread (is_held_at hold number) k ls) rest =
+    λ ls. next_is program threads thread hold number k sleds ls (from_start program threads thread (is_held_at hold number) k ls) refl in
+    safe_start program threads thread code keeps rest (safe_from program threads thread code keeps hold (number + 1) sleds) (is_held_at hold number) k low
     loads high word
-    (fits_same program code (next_from program thread hold number (k ∷ sleds))
-    (λ ls. following (from_start program thread (is_held_at hold number) k ls) rest) low loads high same fits)
+    (fits_same program code (next_from program threads thread hold number (k ∷ sleds))
+    (λ ls. following (from_start program threads thread (is_held_at hold number) k ls) rest) low loads high same fits)
     (sym (same loads) ∙ wanted)
 
 -- ---- the law
 
-pub next_allowed : (program : Program) (code : ℕ → ℕ → ℕ) (start : ℕ) (bound : ℕ → ℕ) (thread : ℕ) → KeepsSleds program thread code
+pub next_allowed : (program : Program) (threads : ℕ) (code : ℕ → ℕ → ℕ) (start : ℕ) (bound : ℕ → ℕ) (thread : ℕ) → KeepsSleds program threads thread code
     → (hold : Option ℕ) (sleds : List ℕ) (loads : List Load) (place word : ℕ)
-    → Follows program code start bound thread hold sleds loads place
-    → next_load program thread hold sleds loads ≡ Some word → IsAllowed program thread word (code place word)
-next_allowed program code start bound thread keeps hold sleds loads place word follows wanted =
-    safe_from program thread code keeps hold 0 sleds start loads place word
-    (follows_fits program code start bound thread hold sleds follows) wanted
+    → Follows program threads code start bound thread hold sleds loads place
+    → next_load program threads thread hold sleds loads ≡ Some word → IsAllowed program threads thread word (code place word)
+next_allowed program threads code start bound thread keeps hold sleds loads place word follows wanted =
+    safe_from program threads thread code keeps hold 0 sleds start loads place word
+    (follows_fits program threads code start bound thread hold sleds follows) wanted
 
-pub loads_allowed : (program : Program) (code : ℕ → ℕ → ℕ) (start : ℕ) (bound : ℕ → ℕ) (thread : ℕ) → KeepsSleds program thread code
+pub loads_allowed : (program : Program) (threads : ℕ) (code : ℕ → ℕ → ℕ) (start : ℕ) (bound : ℕ → ℕ) (thread : ℕ) → KeepsSleds program threads thread code
     → (hold : Option ℕ) (sleds : List ℕ) {loads : List Load} {place : ℕ}
-    → Follows program code start bound thread hold sleds loads place
-    → All (λ load. IsAllowed program thread load.word load.value) loads
-loads_allowed program code start bound thread keeps hold sleds none =
-    All-nil (λ (load : Load). IsAllowed program thread load.word load.value)
-loads_allowed program code start bound thread keeps hold sleds (later loads place next up follows) =
-    loads_allowed program code start bound thread keeps hold sleds follows
-loads_allowed program code start bound thread keeps hold sleds (loaded loads place word follows wanted within) =
-    All-push (λ (load : Load). IsAllowed program thread load.word load.value) loads (record { word = word; value = code place word })
-    (loads_allowed program code start bound thread keeps hold sleds follows)
-    (next_allowed program code start bound thread keeps hold sleds loads place word follows wanted)
+    → Follows program threads code start bound thread hold sleds loads place
+    → All (λ load. IsAllowed program threads thread load.word load.value) loads
+loads_allowed program threads code start bound thread keeps hold sleds none =
+    All-nil (λ (load : Load). IsAllowed program threads thread load.word load.value)
+loads_allowed program threads code start bound thread keeps hold sleds (later loads place next up follows) =
+    loads_allowed program threads code start bound thread keeps hold sleds follows
+loads_allowed program threads code start bound thread keeps hold sleds (loaded loads place word follows wanted within) =
+    All-push (λ (load : Load). IsAllowed program threads thread load.word load.value) loads (record { word = word; value = code place word })
+    (loads_allowed program threads code start bound thread keeps hold sleds follows)
+    (next_allowed program threads code start bound thread keeps hold sleds loads place word follows wanted)
 
 fits_in_order : (program : Program) (code : ℕ → ℕ → ℕ) (next : List Load → Option ℕ) (low : ℕ) (loads : List Load) (high : ℕ)
     → Fits program code next low loads high → (i : ℕ) (load : Load) → slice_get loads i ≡ Some load → next (take i loads) ≡ Some load.word
@@ -201,9 +221,9 @@ fits_in_order program code next low (first ∷ loads) high (place, le, wanted, v
 fits_in_order program code next low (first ∷ loads) high (place, le, wanted, value, rest) (suc i) load at =
     fits_in_order program code (λ more. next (first ∷ more)) place loads high rest i load at
 
-pub follows_in_order : (program : Program) (code : ℕ → ℕ → ℕ) (start : ℕ) (bound : ℕ → ℕ) (thread : ℕ) (hold : Option ℕ) (sleds : List ℕ)
-    (loads : List Load) (place : ℕ) → Follows program code start bound thread hold sleds loads place
-    → (i : ℕ) (load : Load) → slice_get loads i ≡ Some load → next_load program thread hold sleds (take i loads) ≡ Some load.word
-follows_in_order program code start bound thread hold sleds loads place follows =
-    fits_in_order program code (next_load program thread hold sleds) start loads place
-    (follows_fits program code start bound thread hold sleds follows)
+pub follows_in_order : (program : Program) (threads : ℕ) (code : ℕ → ℕ → ℕ) (start : ℕ) (bound : ℕ → ℕ) (thread : ℕ) (hold : Option ℕ) (sleds : List ℕ)
+    (loads : List Load) (place : ℕ) → Follows program threads code start bound thread hold sleds loads place
+    → (i : ℕ) (load : Load) → slice_get loads i ≡ Some load → next_load program threads thread hold sleds (take i loads) ≡ Some load.word
+follows_in_order program threads code start bound thread hold sleds loads place follows =
+    fits_in_order program code (next_load program threads thread hold sleds) start loads place
+    (follows_fits program threads code start bound thread hold sleds follows)

@@ -14,8 +14,8 @@ use Rattle.machine_step.specs.private.Machine.{state_at, first_machine, IsWithin
 use Rattle.machine_step.specs.private.Standing.{RunsBy}
 use Rattle.machine_step.specs.Traced.{HasLoaded, IsFresh, IsLoad, sleds_passed, wanted_after}
 use Rattle.machine_step.proofs.Accepted.{are_in_order}
-use Rattle.machine_step.proofs.Giving.{IsBetween, is_between, wants_at}
-use Rattle.machine_step.proofs.Loading.{no_marks}
+use Rattle.machine_step.proofs.Giving.{IsBetween, between_recording, is_between, wants_at}
+use Rattle.machine_step.proofs.Loading.{first_recording, no_marks}
 use Rattle.machine_step.proofs.OnCourse.{way_count, run_count}
 use Rattle.machine_step.proofs.ToSled.{at_passing}
 
@@ -63,15 +63,15 @@ sound_begun a begun =
       stands = stands.0;
     }
 
-no_load : (program : Program) (thread made : ℕ) (stand : Stand) → IsBetween stand → IsLoad (want_at program thread made stand) → ⊥
-no_load program thread made (Gate place k) between load = load
-no_load program thread made (Loading place k at) between load = between
-no_load program thread made (Ended end) between load = load
+no_load : (program : Program) (threads thread made : ℕ) (stand : Stand) → IsBetween stand → IsLoad (want_at program threads thread made stand) → ⊥
+no_load program threads thread made (Gate place k) between load = load
+no_load program threads thread made (Loading place k at) between load = between
+no_load program threads thread made (Ended end) between load = load
 
 pub fresh_begun : (a : Inside) → Begun a → IsFresh (traced a)
 fresh_begun a begun = record {
   no_marks = begun.unmarked;
-  no_load = no_load a.steps.now a.thread a.machine.passings a.stand
+  no_load = no_load a.steps.now a.threads a.thread a.machine.passings a.stand
       (is_between a.steps.now a.limits a.thread a.steps.now.entry (first_machine a.thread) a.machine [] a.stand begun.runs);
 }
 
@@ -83,15 +83,16 @@ pub loads_begun : (a : Inside) → Begun a → (all : List Passing) (end : End) 
 loads_begun a begun all end last run =
     let sound = sound_begun a begun in
     let none : length a.marks.items ≡ 0 = ap length begun.unmarked in
+    let between = is_between a.steps.now a.limits a.thread a.steps.now.entry (first_machine a.thread) a.machine [] a.stand begun.runs in
     record {
       end = end;
       last = last;
       run = run;
       wanted = λ i load found. absurd cc;
-      allowed = all_none (λ (load : Load). IsAllowed a.steps.now a.thread load.word load.value);
-      marks = begun.unmarked ∙ sym (no_marks a.steps.now a.thread a.hold 0 (sleds_passed all));
+      allowed = all_none (λ (load : Load). IsAllowed a.steps.now a.threads a.thread load.word load.value);
+      marks = begun.unmarked ∙ sym (no_marks a.steps.now a.threads a.thread a.hold 0 (sleds_passed all));
+      recording = between_recording a.stand between ∙ sym (first_recording a.steps.now a.threads a.thread a.hold 0 (sleds_passed all));
       wants = wants_at a sound [] all all end last (wanted_after (traced a) all []) run refl none
-          (ap (λ n. next_from a.steps.now a.thread a.hold n (sleds_passed all) []) (sym none))
-          a.stand sound.stands
-          (is_between a.steps.now a.limits a.thread a.steps.now.entry (first_machine a.thread) a.machine [] a.stand begun.runs);
+          (ap (λ n. next_from a.steps.now a.threads a.thread a.hold n (sleds_passed all) []) (sym none))
+          a.stand sound.stands between;
     }

@@ -30,7 +30,7 @@ ends_as_plain bytes t own passed loads end last accepted loaded done stands run 
     let from = opening t.program t.thread in
     let same = same_run t.program one t.limits t.thread ends.run.0 run.0 from ends.passed passed here.0 end there last ends.run.1 run.1 in
     let alike = same_run t.program one t.limits t.thread loaded.run.0 run.0 from own passed loaded.end end loaded.last last loaded.run.1 run.1 in
-    let whole = all_whole t.program t.thread t.hold (sleds_passed own) loads loaded.wanted loaded.allowed in
+    let whole = all_whole t.program t.threads t.thread t.hold (sleds_passed own) loads loaded.wanted loaded.allowed in
     record {
       run = run;
       done = here.1 ∙ ap Done same.ends;
@@ -40,8 +40,8 @@ ends_as_plain bytes t own passed loads end last accepted loaded done stands run 
       output = ap (λ (s : State). s.output) same.lasts;
       instructions = ap (λ (s : State). s.instructions) same.lasts;
       passings = ap (λ (s : State). s.passings) same.lasts;
-      wanted = subst (λ (ps : List Passing). AreWanted t.program t.thread t.hold (sleds_passed ps) loads) alike.passings loaded.wanted;
+      wanted = subst (λ (ps : List Passing). AreWanted t.program t.threads t.thread t.hold (sleds_passed ps) loads) alike.passings loaded.wanted;
       each = sym ends.count ∙ ap length same.passings;
-      marks = loaded.marks ∙ ap (λ (ps : List Passing). marks_of t.program t.thread t.hold (sleds_passed ps) loads) alike.passings;
-      whole = subst (λ (ps : List Passing). AreWhole t.program t.thread t.hold (sleds_passed ps) loads) alike.passings whole;
+      marks = loaded.marks ∙ ap (λ (ps : List Passing). marks_of t.program t.threads t.thread t.hold (sleds_passed ps) loads) alike.passings;
+      whole = subst (λ (ps : List Passing). AreWhole t.program t.threads t.thread t.hold (sleds_passed ps) loads) alike.passings whole;
     }

@@ -145,6 +145,7 @@ does_count s following (Out port) = by_flag (length s.output == output_limit) _ 
 after_count : (limits : Limits) (s : State) (kind : SledKind) → passings_of (after_passing limits s kind) ≡ s.passings
 after_count limits s kinds.Entry = refl
 after_count limits s kinds.Tail = refl
+after_count limits s kinds.Args = refl
 after_count limits s kinds.Exit = by_flag (s.instructions == limits.fuel) (Ends ends.Fuel s) (returns s s.stack) s.passings refl (returns_count s s.stack)
 
 sled_count : (program : Program) (limits : Limits) (thread k : ℕ) (s : State) (spent : Bool) (made : List Passing) (next : Next)

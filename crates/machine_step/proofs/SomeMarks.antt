@@ -15,7 +15,7 @@ use Rattle.machine_step.specs.declared.stage.Next.TheVariants as nexts
 use Rattle.machine_step.specs.declared.stage.Stage.TheVariants as stages
 use Rattle.machine_step.specs.declared.want.Want.TheVariants as wants
 use Rattle.machine_step.specs.Follows.{Follows, MarksFollow, none as no_loads, later as up_to, loaded as one_more}
-use Rattle.machine_step.specs.Loads.{Load, Marked, Reading, Wants, from_start, is_held_at, marks_from, marks_of, next_from, next_load}
+use Rattle.machine_step.specs.Loads.{Load, Marked, Reading, Wants, from_start, is_held_at, marks_from, marks_of, next_from, next_load, recording_of, sled_logs_args}
 use Rattle.machine_step.specs.PlainStep.{Passing, PlainRun, RunsTo, State}
 use Rattle.machine_step.specs.private.Stages.{after_load, word_at}
 use Rattle.machine_step.specs.Traced.{sleds_passed, steps_left}
@@ -23,7 +23,7 @@ use Rattle.machine_step.proofs.EachPassing.{steps_each}
 use Rattle.machine_step.proofs.LoadFacts.{next_left, some_left}
 use Rattle.machine_step.proofs.StagesLeft.{left_at, steps_left_at}
 use Rattle.machine_step.proofs.Loading.{Adds, InPassing, in_passing, marks_step, next_step, no_marks}
-use Rattle.machine_step.proofs.WordsAt.{same_stage}
+use Rattle.machine_step.proofs.WordsAt.{release_stage}
 
 -- ---- the sleds that a plain run passes
 
@@ -47,22 +47,22 @@ sled_within program (p ∷ passed) all (b ∷ before) rest sled is =
 
 -- ---- a thread that wants no word
 
-pub all_marked : (program : Program) (thread : ℕ) (hold : Option ℕ) (number : ℕ) (sleds : List ℕ) (loads : List Load)
-    → next_from program thread hold number sleds loads ≡ None → length (marks_from program thread hold number sleds loads) ≡ length sleds
-all_marked program thread hold number [] loads none = refl
-all_marked program thread hold number (k ∷ sleds) loads none =
-    by_reading (λ following. all_marked program thread hold (number + 1) sleds following)
-    (from_start program thread (is_held_at hold number) k loads) refl
+pub all_marked : (program : Program) (threads thread : ℕ) (hold : Option ℕ) (number : ℕ) (sleds : List ℕ) (loads : List Load)
+    → next_from program threads thread hold number sleds loads ≡ None → length (marks_from program threads thread hold number sleds loads) ≡ length sleds
+all_marked program threads thread hold number [] loads none = refl
+all_marked program threads thread hold number (k ∷ sleds) loads none =
+    by_reading (λ following. all_marked program threads thread hold (number + 1) sleds following)
+    (from_start program threads thread (is_held_at hold number) k loads) refl
   where
-    by_reading : ((following : List Load) → next_from program thread hold (number + 1) sleds following ≡ None
-        → length (marks_from program thread hold (number + 1) sleds following) ≡ length sleds)
-        → (reading : Reading) → from_start program thread (is_held_at hold number) k loads ≡ reading
-        → length (marks_from program thread hold number (k ∷ sleds) loads) ≡ length (k ∷ sleds)
-    by_reading later (Wants word) is =
-        let wanted = next_step program thread hold number k sleds loads (Wants word) is in absurd cc
+    by_reading : ((following : List Load) → next_from program threads thread hold (number + 1) sleds following ≡ None
+        → length (marks_from program threads thread hold (number + 1) sleds following) ≡ length sleds)
+        → (reading : Reading) → from_start program threads thread (is_held_at hold number) k loads ≡ reading
+        → length (marks_from program threads thread hold number (k ∷ sleds) loads) ≡ length (k ∷ sleds)
+    by_reading later (Wants word recording) is =
+        let wanted = next_step program threads thread hold number k sleds loads (Wants word recording) is in absurd cc
     by_reading later (Marked mark following) is =
-        ap length (marks_step program thread hold number k sleds loads (Marked mark following) is)
-        ∙ ap suc (later following (sym (next_step program thread hold number k sleds loads (Marked mark following) is) ∙ none))
+        ap length (marks_step program threads thread hold number k sleds loads (Marked mark following) is)
+        ∙ ap suc (later following (sym (next_step program threads thread hold number k sleds loads (Marked mark following) is) ∙ none))
 
 -- ---- loads as late as they may be
 
@@ -75,27 +75,27 @@ by_word : (w : Option ℕ) (M : Type 0) → (w ≡ None → M) → ((word : ℕ)
 by_word None M at_none at_some = at_none refl
 by_word (Some word) M at_none at_some = at_some word refl
 
-module _ (program : Program) (code : ℕ → ℕ → ℕ) (start total : ℕ) (bound : ℕ → ℕ) (thread : ℕ) (hold : Option ℕ) (passed : List Passing) where
+module _ (program : Program) (code : ℕ → ℕ → ℕ) (start total : ℕ) (bound : ℕ → ℕ) (threads thread : ℕ) (hold : Option ℕ) (passed : List Passing) where
   abbrev IsFree : Load → Type 0
   IsFree load = load.word ≡ release_word program thread → load.value ≢ 0
 
   -- loads that follow the code up to the bound of a passing, and mark all passings before it
   record Reached (passing : ℕ) (loads : List Load) : Type 0 where
-    marks : length (marks_of program thread hold (sleds_passed passed) loads) ≡ passing
-    follow : Follows program code start bound thread hold (sleds_passed passed) loads (bound passing)
+    marks : length (marks_of program threads thread hold (sleds_passed passed) loads) ≡ passing
+    follow : Follows program threads code start bound thread hold (sleds_passed passed) loads (bound passing)
     free : All IsFree loads
 
   abbrev Lets : Type 0
   Lets = LetsEnd program thread hold code start total bound
 
   -- a release word that is wanted holds the thread no more
-  is_free : Lets → 0 < thread → All (IsSled program) passed → (passing : ℕ) (loads : List Load) (word : ℕ)
-      → length (marks_of program thread hold (sleds_passed passed) loads) ≡ passing
-      → (here : InPassing program thread hold 0 (sleds_passed passed) loads word) → word ≡ release_word program thread → code (bound passing) word ≢ 0
-  is_free lets some sleds passing loads word count here is unset =
+  is_free : Lets → 0 < thread → thread ≤ threads → All (IsSled program) passed → (passing : ℕ) (loads : List Load) (word : ℕ)
+      → length (marks_of program threads thread hold (sleds_passed passed) loads) ≡ passing
+      → (here : InPassing program threads thread hold 0 (sleds_passed passed) loads word) → word ≡ release_word program thread → code (bound passing) word ≢ 0
+  is_free lets some known sleds passing loads word count here is unset =
       let within = sled_within program passed sleds here.before here.rest here.sled here.passed in
-      let at = same_stage program thread here.sled here.at stages.Release within some (sym here.word_is ∙ is) in
-      let there : 0 + length (marks_from program thread hold 0 (sleds_passed passed) loads) ≡ passing = omega (arith, count) in
+      let at = release_stage program threads thread here.sled here.at within some known (sym here.word_is ∙ is) in
+      let there : 0 + length (marks_from program threads thread hold 0 (sleds_passed passed) loads) ≡ passing = omega (arith, count) in
       let held = held_passing hold passing (subst (λ n. is_held_at hold n ≡ true) there (here.held at)) in
       let set = lets.releases passing held in
       let same : code (bound passing) word ≡ code (bound passing) (release_word program thread) = ap (code (bound passing)) is in
@@ -103,21 +103,21 @@ module _ (program : Program) (code : ℕ → ℕ → ℕ) (start total : ℕ) (b
 
   -- one more load of an open passing, at its bound
   record Longer (passing : ℕ) (loads : List Load) (word : ℕ) : Type 0 where
-    here : InPassing program thread hold 0 (sleds_passed passed) loads word
+    here : InPassing program threads thread hold 0 (sleds_passed passed) loads word
     within : here.sled < length program.sleds
     load : Load
     word_is : load.word ≡ word
     free : IsFree load
     all_free : All IsFree (loads ++ load ∷ [])
-    follow : Follows program code start bound thread hold (sleds_passed passed) (loads ++ load ∷ []) (bound passing)
+    follow : Follows program threads code start bound thread hold (sleds_passed passed) (loads ++ load ∷ []) (bound passing)
 
-  longer : Lets → 0 < thread → All (IsSled program) passed → (passing : ℕ) (loads : List Load) (word : ℕ)
-      → next_load program thread hold (sleds_passed passed) loads ≡ Some word → Reached passing loads → Longer passing loads word
-  longer lets some sleds passing loads word wanted reached =
-      let here = in_passing program thread hold 0 (sleds_passed passed) loads word wanted in
+  longer : Lets → 0 < thread → thread ≤ threads → All (IsSled program) passed → (passing : ℕ) (loads : List Load) (word : ℕ)
+      → next_load program threads thread hold (sleds_passed passed) loads ≡ Some word → Reached passing loads → Longer passing loads word
+  longer lets some known sleds passing loads word wanted reached =
+      let here = in_passing program threads thread hold 0 (sleds_passed passed) loads word wanted in
       let load : Load = record { word = word; value = code (bound passing) word } in
-      let free : IsFree load = is_free lets some sleds passing loads word reached.marks here in
-      let low : bound passing ≤ bound (length (marks_of program thread hold (sleds_passed passed) loads)) =
+      let free : IsFree load = is_free lets some known sleds passing loads word reached.marks here in
+      let low : bound passing ≤ bound (length (marks_of program threads thread hold (sleds_passed passed) loads)) =
       subst (λ n. bound passing ≤ bound n) (sym reached.marks) (omega arith) in
       record {
         here = here;
@@ -130,21 +130,22 @@ module _ (program : Program) (code : ℕ → ℕ → ℕ) (start total : ℕ) (b
       }
 
   -- what is left of a passing that wants a word
-  left_is : 0 < thread → (passing : ℕ) (loads : List Load) (word : ℕ) → (one : Longer passing loads word)
-      → steps_left program thread (wants.Load word) ≡ left_at one.here.at
-  left_is some passing loads word one =
-      ap (λ w. steps_left program thread (wants.Load w)) one.here.word_is ∙ steps_left_at program thread one.here.sled one.here.at one.within some
+  left_is : 0 < thread → thread ≤ threads → (passing : ℕ) (loads : List Load) (word : ℕ) → (one : Longer passing loads word)
+      → steps_left program threads thread (wants.Load word) ≡ left_at one.here.at
+  left_is some known passing loads word one =
+      ap (λ w. steps_left program threads thread (wants.Load w)) one.here.word_is ∙ steps_left_at program threads thread one.here.sled one.here.at one.within some known
 
   -- it ends the passing, or the passing goes on and is nearer its end
-  by_next : Lets → 0 < thread → (most passing : ℕ) (loads : List Load) (word : ℕ) → steps_left program thread (wants.Load word) ≤ suc most
+  by_next : Lets → 0 < thread → thread ≤ threads → (most passing : ℕ) (loads : List Load) (word : ℕ) → steps_left program threads thread (wants.Load word) ≤ suc most
       → Reached passing loads → (one : Longer passing loads word)
-      → ((more : List Load) (other : ℕ) → steps_left program thread (wants.Load other) ≤ most
-      → next_load program thread hold (sleds_passed passed) more ≡ Some other → Reached passing more → (all : List Load) × Reached (passing + 1) all)
-      → (next : Next) → after_load one.here.at one.load.value ≡ next → (all : List Load) × Reached (passing + 1) all
-  by_next lets some most passing loads word near reached one goes_on (nexts.Ends mark) following =
-      let Marks : List Load → List Mark = marks_of program thread hold (sleds_passed passed) in
+      → ((more : List Load) (other : ℕ) → steps_left program threads thread (wants.Load other) ≤ most
+      → next_load program threads thread hold (sleds_passed passed) more ≡ Some other → Reached passing more → (all : List Load) × Reached (passing + 1) all)
+      → (next : Next) → after_load (sled_logs_args program one.here.sled) one.here.at one.load.value ≡ next → (all : List Load) × Reached (passing + 1) all
+  by_next lets some known most passing loads word near reached one goes_on (nexts.Ends mark) following =
+      let Marks : List Load → List Mark = marks_of program threads thread hold (sleds_passed passed) in
       let all = loads ++ one.load ∷ [] in
-      let adds = subst (Adds program thread hold 0 one.here.sled one.here.rest (Marks loads) (Marks all) (next_load program thread hold (sleds_passed passed) all))
+      let adds = subst (Adds program threads thread hold 0 one.here.sled one.here.rest (Marks loads) (Marks all) (next_load program threads thread hold (sleds_passed passed) all)
+      (recording_of program threads thread hold (sleds_passed passed) all))
       following (one.here.adds one.load) in (
         all,
         record {
@@ -153,56 +154,57 @@ module _ (program : Program) (code : ℕ → ℕ → ℕ) (start total : ℕ) (b
           free = one.all_free;
         },
       )
-  by_next lets some most passing loads word near reached one goes_on (nexts.Loads stage) following =
-      let Marks : List Load → List Mark = marks_of program thread hold (sleds_passed passed) in
+  by_next lets some known most passing loads word near reached one goes_on (nexts.Loads stage) following =
+      let Marks : List Load → List Mark = marks_of program threads thread hold (sleds_passed passed) in
       let all = loads ++ one.load ∷ [] in
-      let adds = subst (Adds program thread hold 0 one.here.sled one.here.rest (Marks loads) (Marks all) (next_load program thread hold (sleds_passed passed) all))
+      let adds = subst (Adds program threads thread hold 0 one.here.sled one.here.rest (Marks loads) (Marks all) (next_load program threads thread hold (sleds_passed passed) all)
+      (recording_of program threads thread hold (sleds_passed passed) all))
       following (one.here.adds one.load) in
       let not_held : (one.here.at ≡ stages.Release) × (one.load.value ≡ 0) → ⊥ = λ both.
-      one.free (one.word_is ∙ (one.here.word_is ∙ ap (word_at program thread one.here.sled) both.0)) both.1 in
-      let less = next_left one.here.at stage one.load.value following not_held in
-      let old = left_is some passing loads word one in
-      let new = steps_left_at program thread one.here.sled stage one.within some in
-      goes_on all (word_at program thread one.here.sled stage) (omega (arith, less, old, new, near)) adds.1
+      one.free (one.word_is ∙ (one.here.word_is ∙ ap (word_at program threads thread one.here.sled) both.0)) both.1 in
+      let less = next_left (sled_logs_args program one.here.sled) one.here.at stage one.load.value following not_held in
+      let old = left_is some known passing loads word one in
+      let new = steps_left_at program threads thread one.here.sled stage one.within some known in
+      goes_on all (word_at program threads thread one.here.sled stage) (omega (arith, less, old, new, near)) adds.1
       (record { marks = ap length adds.0 ∙ reached.marks; follow = one.follow; free = one.all_free })
 
   -- the loads of a passing
-  passes : Lets → 0 < thread → All (IsSled program) passed → (most passing : ℕ) (loads : List Load) (word : ℕ)
-      → steps_left program thread (wants.Load word) ≤ most → next_load program thread hold (sleds_passed passed) loads ≡ Some word
+  passes : Lets → 0 < thread → thread ≤ threads → All (IsSled program) passed → (most passing : ℕ) (loads : List Load) (word : ℕ)
+      → steps_left program threads thread (wants.Load word) ≤ most → next_load program threads thread hold (sleds_passed passed) loads ≡ Some word
       → Reached passing loads → (all : List Load) × Reached (passing + 1) all
-  passes lets some sleds zero passing loads word near wanted reached =
-      let one = longer lets some sleds passing loads word wanted reached in
+  passes lets some known sleds zero passing loads word near wanted reached =
+      let one = longer lets some known sleds passing loads word wanted reached in
       let more = some_left one.here.at in
-      let is = left_is some passing loads word one in
+      let is = left_is some known passing loads word one in
       absurd (omega (arith, more, is, near))
-  passes lets some sleds (suc most) passing loads word near wanted reached =
-      let one = longer lets some sleds passing loads word wanted reached in
-      by_next lets some most passing loads word near reached one
-      (λ more other nearer wants_other so_far. passes lets some sleds most passing more other nearer wants_other so_far)
-      (after_load one.here.at one.load.value) refl
+  passes lets some known sleds (suc most) passing loads word near wanted reached =
+      let one = longer lets some known sleds passing loads word wanted reached in
+      by_next lets some known most passing loads word near reached one
+      (λ more other nearer wants_other so_far. passes lets some known sleds most passing more other nearer wants_other so_far)
+      (after_load (sled_logs_args program one.here.sled) one.here.at one.load.value) refl
 
   -- all passings that are left
-  comes_to_end : Lets → 0 < thread → All (IsSled program) passed → (left passing : ℕ) → passing + left ≡ length (sleds_passed passed)
+  comes_to_end : Lets → 0 < thread → thread ≤ threads → All (IsSled program) passed → (left passing : ℕ) → passing + left ≡ length (sleds_passed passed)
       → (loads : List Load) → Reached passing loads → (all : List Load) × Reached (length (sleds_passed passed)) all
-  comes_to_end lets some sleds zero passing count loads reached =
+  comes_to_end lets some known sleds zero passing count loads reached =
       let same : passing ≡ length (sleds_passed passed) = omega (arith, count) in (loads, subst (λ n. Reached n loads) same reached)
-  comes_to_end lets some sleds (suc left) passing count loads reached =
-      by_word (next_load program thread hold (sleds_passed passed) loads) ((all : List Load) × Reached (length (sleds_passed passed)) all)
-      (λ none. let all = all_marked program thread hold 0 (sleds_passed passed) loads none in absurd (omega (arith, all, count, reached.marks)))
+  comes_to_end lets some known sleds (suc left) passing count loads reached =
+      by_word (next_load program threads thread hold (sleds_passed passed) loads) ((all : List Load) × Reached (length (sleds_passed passed)) all)
+      (λ none. let all = all_marked program threads thread hold 0 (sleds_passed passed) loads none in absurd (omega (arith, all, count, reached.marks)))
       (λ word wanted.
-      let next = passes lets some sleds (steps_left program thread (wants.Load word)) passing loads word (omega arith) wanted reached in
-      comes_to_end lets some sleds left (passing + 1) (omega (arith, count)) next.0 next.1)
+      let next = passes lets some known sleds (steps_left program threads thread (wants.Load word)) passing loads word (omega arith) wanted reached in
+      comes_to_end lets some known sleds left (passing + 1) (omega (arith, count)) next.0 next.1)
 
-  pub some_marks_in : Lets → 0 < thread → All (IsSled program) passed
-      → (marks : List Mark) × MarksFollow program code start bound thread hold (sleds_passed passed) marks total
-  some_marks_in lets some sleds =
+  pub some_marks_in : Lets → 0 < thread → thread ≤ threads → All (IsSled program) passed
+      → (marks : List Mark) × MarksFollow program threads code start bound thread hold (sleds_passed passed) marks total
+  some_marks_in lets some known sleds =
       let first : Reached 0 [] = record {
-        marks = ap length (no_marks program thread hold 0 (sleds_passed passed));
+        marks = ap length (no_marks program threads thread hold 0 (sleds_passed passed));
         follow = up_to [] start (bound 0) lets.begins no_loads;
         free = All-nil IsFree;
       } in
-      let whole = comes_to_end lets some sleds (length (sleds_passed passed)) 0 (omega arith) [] first in (
-        marks_of program thread hold (sleds_passed passed) whole.0,
+      let whole = comes_to_end lets some known sleds (length (sleds_passed passed)) 0 (omega arith) [] first in (
+        marks_of program threads thread hold (sleds_passed passed) whole.0,
         record {
           loads = whole.0;
           follow = up_to whole.0 (bound (length (sleds_passed passed))) total (lets.ends (length (sleds_passed passed))) whole.1.follow;
@@ -212,9 +214,9 @@ module _ (program : Program) (code : ℕ → ℕ → ℕ) (start total : ℕ) (b
         },
       )
 
-pub some_marks : (program : Program) (limits : Limits) (thread : ℕ) (passed : List Passing) (end : End) (last : State) (code : ℕ → ℕ → ℕ)
-    (start total : ℕ) (bound : ℕ → ℕ) (hold : Option ℕ) → 0 < thread → PlainRun program limits thread passed end last
+pub some_marks : (program : Program) (limits : Limits) (threads thread : ℕ) (passed : List Passing) (end : End) (last : State) (code : ℕ → ℕ → ℕ)
+    (start total : ℕ) (bound : ℕ → ℕ) (hold : Option ℕ) → 0 < thread → thread ≤ threads → PlainRun program limits thread passed end last
     → LetsEnd program thread hold code start total bound
-    → (marks : List Mark) × MarksFollow program code start bound thread hold (sleds_passed passed) marks total
-some_marks program limits thread passed end last code start total bound hold some (n, run) lets =
-    some_marks_in program code start total bound thread hold passed lets some (run_sleds program limits thread n _ passed end last run)
+    → (marks : List Mark) × MarksFollow program threads code start bound thread hold (sleds_passed passed) marks total
+some_marks program limits threads thread passed end last code start total bound hold some known (n, run) lets =
+    some_marks_in program code start total bound threads thread hold passed lets some known (run_sleds program limits thread n _ passed end last run)

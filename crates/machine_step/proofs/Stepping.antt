@@ -35,6 +35,7 @@ left_of limits m = (limits.fuel - m.instructions) + (limits.passings - m.passing
 abbrev after_sled : Limits → ℕ → Machine → SledKind → Taken
 after_sled limits place m kinds.Entry = staying (place + 1) m
 after_sled limits place m kinds.Tail = staying (place + 1) m
+after_sled limits place m kinds.Args = staying (place + 1) m
 after_sled limits place m kinds.Exit = leaving limits m
 
 -- one instruction or passing fewer is left, or the place is the next one
@@ -175,6 +176,7 @@ after_leads : (units : List Unit) (limits : Limits) (place address : ℕ) (befor
     → Leads units limits place before (after_sled limits place m kind) (after_passing limits (state_at address m) kind)
 after_leads units limits place address before m kinds.Entry next within fewer = (address + 11, next, refl, inl fewer)
 after_leads units limits place address before m kinds.Tail next within fewer = (address + 11, next, refl, inl fewer)
+after_leads units limits place address before m kinds.Args next within fewer = (address + 11, next, refl, inl fewer)
 after_leads units limits place address before m kinds.Exit next within fewer =
     leads_on units limits place before m _ _ _ fewer
     (fuel_leads units limits place address m _ _ (return_leads units limits place address m m.stack within))
@@ -209,6 +211,7 @@ pub sled_at_some : (k : ℕ) (kind : SledKind) → sled_at (step_of_sled k kind)
 sled_at_some k kinds.Entry = refl
 sled_at_some k kinds.Exit = refl
 sled_at_some k kinds.Tail = refl
+sled_at_some k kinds.Args = refl
 
 made_none : (program : Program) (limits : Limits) (thread : ℕ) (s : State) (at : Option ℕ) → at ≡ None
     → MadeAt program limits thread s at []
@@ -248,6 +251,7 @@ stepping_sled : (limits : Limits) (place k : ℕ) (m : Machine) (kind : SledKind
     ≡ stepping limits place m (step_of_sled k kind)
 stepping_sled limits place k m kinds.Entry = refl
 stepping_sled limits place k m kinds.Tail = refl
+stepping_sled limits place k m kinds.Args = refl
 stepping_sled limits place k m kinds.Exit = refl
 
 -- the step of a unit at an address, and that of the machine

@@ -112,21 +112,21 @@ goes_on_by a sound place k at all end last run =
 
 -- ---- a gate is opened
 
-first_word_by : (program : Program) (thread k : ℕ) (held : Bool)
+first_word_by : (program : Program) (threads thread k : ℕ) (held : Bool)
     → (if held then Rattle.sled_words.specs.Words.release_word program thread else Rattle.sled_words.specs.Words.word_of k Rattle.sled_words.specs.declared.part.Part.TheVariants.Head)
-    ≡ word_at program thread k (stage_by held)
-first_word_by program thread k true = refl
-first_word_by program thread k false = refl
+    ≡ word_at program threads thread k (stage_by held)
+first_word_by program threads thread k true = refl
+first_word_by program threads thread k false = refl
 
-pub first_word_is : (a : Inside) → IsSound a → (k : ℕ) → first_word (traced a) k ≡ word_at a.steps.now a.thread k (first_stage a.hold a.machine.passings)
+pub first_word_is : (a : Inside) → IsSound a → (k : ℕ) → first_word (traced a) k ≡ word_at a.steps.now a.threads a.thread k (first_stage a.hold a.machine.passings)
 first_word_is a sound k =
-    first_word_by a.steps.now a.thread k (is_held_at a.hold (length a.marks.items))
-    ∙ ap (λ n. word_at a.steps.now a.thread k (first_stage a.hold n)) sound.made
+    first_word_by a.steps.now a.threads a.thread k (is_held_at a.hold (length a.marks.items))
+    ∙ ap (λ n. word_at a.steps.now a.threads a.thread k (first_stage a.hold n)) sound.made
 
 -- the first word of the passing that the thread is before
 pub begins_at : (a : Inside) → IsSound a → (place k : ℕ) → IsAtPassing a place k → (all : List Passing) (end : End) (last : State) (next : Option ℕ)
     → PlainRun a.steps.now a.limits a.thread all end last → BeginsPassing (traced a) all next
-    → next ≡ Some (word_at a.steps.now a.thread k (first_stage a.hold a.machine.passings))
+    → next ≡ Some (word_at a.steps.now a.threads a.thread k (first_stage a.hold a.machine.passings))
 begins_at a sound place k at all end last next run begins =
     let on = goes_on_by a sound place k at all end last run in
     let before = before_of a sound place k at in

@@ -13,37 +13,39 @@ use Rattle.machine_step.specs.private.Stages.{word_at}
 use Rattle.machine_step.specs.Traced.{sleds_passed}
 use Rattle.machine_step.proofs.Loading.{in_passing}
 use Rattle.machine_step.proofs.SomeMarks.{held_passing, run_sleds, sled_within}
-use Rattle.machine_step.proofs.WordsAt.{same_stage}
+use Rattle.machine_step.proofs.WordsAt.{release_stage}
 
 -- the word of a stage exists
 word_exists : (program : Program) (threads thread k : ℕ) (stage : Stage) → k < length program.sleds → thread ≤ threads
-    → word_at program thread k stage < word_count program threads
+    → word_at program threads thread k stage < word_count program threads
 word_exists program threads thread k stages.Release within known = omega (arith, within, known)
 word_exists program threads thread k stages.Head within known = omega (arith, within)
 word_exists program threads thread k stages.Id within known = omega (arith, within)
 word_exists program threads thread k stages.Opcode within known = omega (arith, within)
 word_exists program threads thread k stages.Offset within known = omega (arith, within)
+word_exists program threads thread k stages.ArgHandler within known = omega arith
 word_exists program threads thread k stages.Handler within known = omega arith
 word_exists program threads thread k stages.State within known = omega arith
+word_exists program threads thread k stages.ArgState within known = omega arith
 
 module _ (program : Program) (limits : Limits) (thread : ℕ) (hold : Option ℕ) (passed : List Passing) (loads : List Load) (end : End) (last : State)
     (run : PlainRun program limits thread passed end last) where
   -- the word that a thread loads next
-  pub wanted_within : (threads word : ℕ) → thread ≤ threads → next_load program thread hold (sleds_passed passed) loads ≡ Some word
+  pub wanted_within : (threads word : ℕ) → thread ≤ threads → next_load program threads thread hold (sleds_passed passed) loads ≡ Some word
       → word < word_count program threads
   wanted_within threads word known wanted =
-      let here = in_passing program thread hold 0 (sleds_passed passed) loads word wanted in
+      let here = in_passing program threads thread hold 0 (sleds_passed passed) loads word wanted in
       let within = sled_within program passed (run_sleds program limits thread run.0 _ passed end last run.1) here.before here.rest here.sled here.passed in
       let exists = word_exists program threads thread here.sled here.at within known in
       omega (arith, exists, here.word_is)
 
   -- the passing at which a thread wants its release word
-  pub release_wanted : 0 < thread → next_load program thread hold (sleds_passed passed) loads ≡ Some (release_word program thread)
-      → hold ≡ Some (length (marks_of program thread hold (sleds_passed passed) loads))
-  release_wanted some wanted =
-      let made : ℕ = length (marks_of program thread hold (sleds_passed passed) loads) in
-      let here = in_passing program thread hold 0 (sleds_passed passed) loads (release_word program thread) wanted in
+  pub release_wanted : (threads : ℕ) → 0 < thread → thread ≤ threads → next_load program threads thread hold (sleds_passed passed) loads ≡ Some (release_word program thread)
+      → hold ≡ Some (length (marks_of program threads thread hold (sleds_passed passed) loads))
+  release_wanted threads some known wanted =
+      let made : ℕ = length (marks_of program threads thread hold (sleds_passed passed) loads) in
+      let here = in_passing program threads thread hold 0 (sleds_passed passed) loads (release_word program thread) wanted in
       let within = sled_within program passed (run_sleds program limits thread run.0 _ passed end last run.1) here.before here.rest here.sled here.passed in
-      let at = same_stage program thread here.sled here.at stages.Release within some (sym here.word_is) in
+      let at = release_stage program threads thread here.sled here.at within some known (sym here.word_is) in
       let count : 0 + made ≡ made = omega arith in
       held_passing hold (0 + made) (here.held at) ∙ ap Some count

@@ -14,10 +14,10 @@ use Rattle.sled_words.specs.declared.part.Part.TheVariants.{Head, Id, Opcode, Of
 use Rattle.sled_words.specs.Allowed.{IsAllowed, IsAllowedPart}
 use Rattle.sled_words.specs.ChangingCode.{KeepsSleds}
 use Rattle.sled_words.specs.Parts.{patched, patched_head}
-use Rattle.sled_words.specs.Words.{handler_word, part_number, release_word, state_word, word_of}
+use Rattle.sled_words.specs.Words.{arg_handler_word, handler_word, part_number, release_word, state_word, word_of}
 use Rattle.handler_word.specs.declared.mark.Mark.{Mark}
-use Rattle.handler_word.specs.declared.mark.Mark.TheVariants.{Skipped, NoHandler}
-use Rattle.machine_step.specs.Loads.{AreWanted, Load, Reading, Wants, Marked, from_state, from_handler, from_id, from_head, from_release, from_start, is_held_at, next_from, next_load}
+use Rattle.handler_word.specs.declared.mark.Mark.TheVariants.{Skipped, NoHandler, Recorded, RecordedArg}
+use Rattle.machine_step.specs.Loads.{AreWanted, Load, Reading, Wants, Marked, from_state, from_handler, from_arg_handler, from_handlers, from_id, from_head, from_release, from_start, is_held_at, next_from, next_load, sled_logs_args}
 use Rattle.machine_step.specs.Whole.{AreWhole, HaveOneValue, HaveOneValueEach, IsWhole, Loaded, loads_by_passing}
 use Rattle.machine_step.specs.Follows.{Follows}
 use Rattle.machine_step.proofs.AlongCode.{Fits, follows_fits, following, by_test, loads_allowed, next_is}
@@ -89,17 +89,17 @@ last_load next Are load loads more m mark same fit is =
     let e : loads ≡ more = cc in
     record { own = load ∷ []; parts = ap (λ ls. load ∷ ls) e; are = is; rest = subst (Fit next) e fit }
 
-module _ (program : Program) (next : List Load → Option ℕ) where
+module _ (program : Program) (threads : ℕ) (next : List Load → Option ℕ) where
   abbrev Others : List Load → Type 0
   Others = Each (IsNoPart program)
 
   no_part : (word : ℕ) (load : Load) → 4 * length program.sleds ≤ word → Some word ≡ Some load.word → IsNoPart program load
   no_part word load after is = subst (λ (w : ℕ). 4 * length program.sleds ≤ w) (same_Some word load.word is) after
 
-  cut_state : (loads more : List Load) (mark : Mark) → from_state program loads ≡ Marked mark more
-      → Fit (λ ls. following (from_state program ls) next) loads → Cut next Others loads more
-  cut_state [] more mark same fit = cc
-  cut_state (load ∷ loads) more mark same (first, rest) =
+  cut_state : (recording : Mark) (loads more : List Load) (mark : Mark) → from_state program recording loads ≡ Marked mark more
+      → Fit (λ ls. following (from_state program recording ls) next) loads → Cut next Others loads more
+  cut_state recording [] more mark same fit = cc
+  cut_state recording (load ∷ loads) more mark same (first, rest) =
       last_load next Others load loads more _ mark same rest (no_part (state_word program) load (omega arith) first, tt)
 
   cut_handler : (loads more : List Load) (mark : Mark) → from_handler program loads ≡ Marked mark more
@@ -108,23 +108,45 @@ module _ (program : Program) (next : List Load → Option ℕ) where
   cut_handler (load ∷ loads) more mark same (first, rest) =
       let apart : IsNoPart program load = no_part (handler_word program) load (omega arith) first in
       by_test (load.value == 0)
-      (λ b. (if b then Marked NoHandler loads else from_state program loads) ≡ Marked mark more
-      → Fit (λ ls. following (if b then Marked NoHandler ls else from_state program ls) next) loads
+      (λ b. (if b then Marked NoHandler loads else from_state program Recorded loads) ≡ Marked mark more
+      → Fit (λ ls. following (if b then Marked NoHandler ls else from_state program Recorded ls) next) loads
       → Cut next Others (load ∷ loads) more)
       (λ e same fit. last_load next Others load loads more NoHandler mark same fit (apart, tt))
-      (λ e same fit. load_before next Others Others load loads more (λ own are. (apart, are)) (cut_state loads more mark same fit))
+      (λ e same fit. load_before next Others Others load loads more (λ own are. (apart, are)) (cut_state Recorded loads more mark same fit))
       same rest
+
+  cut_arg_handler : (loads more : List Load) (mark : Mark) → from_arg_handler program threads loads ≡ Marked mark more
+      → Fit (λ ls. following (from_arg_handler program threads ls) next) loads → Cut next Others loads more
+  cut_arg_handler [] more mark same fit = cc
+  cut_arg_handler (load ∷ loads) more mark same (first, rest) =
+      let apart : IsNoPart program load = no_part (arg_handler_word program threads) load (omega arith) first in
+      by_test (load.value == 0)
+      (λ b. (if b then from_handler program loads else from_state program RecordedArg loads) ≡ Marked mark more
+      → Fit (λ ls. following (if b then from_handler program ls else from_state program RecordedArg ls) next) loads
+      → Cut next Others (load ∷ loads) more)
+      (λ e same fit. load_before next Others Others load loads more (λ own are. (apart, are)) (cut_handler loads more mark same fit))
+      (λ e same fit. load_before next Others Others load loads more (λ own are. (apart, are)) (cut_state RecordedArg loads more mark same fit))
+      same rest
+
+  cut_handlers : (k : ℕ) (loads more : List Load) (mark : Mark) → from_handlers program threads k loads ≡ Marked mark more
+      → Fit (λ ls. following (from_handlers program threads k ls) next) loads → Cut next Others loads more
+  cut_handlers k loads more mark same fit =
+      by_test (sled_logs_args program k)
+      (λ b. (if b then from_arg_handler program threads loads else from_handler program loads) ≡ Marked mark more
+      → Fit (λ ls. following (if b then from_arg_handler program threads ls else from_handler program ls) next) loads
+      → Cut next Others loads more)
+      (λ e. cut_arg_handler loads more mark) (λ e. cut_handler loads more mark) same fit
 
   module _ (k : ℕ) where
     -- the loads after a patched head
     cut_id : (head : Load) → head.word ≡ word_of k Head → head.value ≡ patched_head → (loads more : List Load) (mark : Mark)
-        → from_id program k loads ≡ Marked mark more → Fit (λ ls. following (from_id program k ls) next) loads
+        → from_id program threads k loads ≡ Marked mark more → Fit (λ ls. following (from_id program threads k ls) next) loads
         → Cut next (OfPassing program k) (head ∷ loads) more
     cut_id head word is [] more mark same fit = cc
     cut_id head word is (id ∷ []) more mark same fit = cc
     cut_id head word is (id ∷ opcode ∷ []) more mark same fit = cc
     cut_id head word is (id ∷ opcode ∷ offset ∷ loads) more mark same (of_id, (of_opcode, (of_offset, rest))) =
-        let others = cut_handler loads more mark same rest in
+        let others = cut_handlers k loads more mark same rest in
         record {
           own = head ∷ id ∷ opcode ∷ offset ∷ others.own;
           parts = ap (λ ls. head ∷ id ∷ opcode ∷ offset ∷ ls) others.parts;
@@ -134,36 +156,36 @@ module _ (program : Program) (next : List Load → Option ℕ) where
           rest = others.rest;
         }
 
-    cut_head : (loads more : List Load) (mark : Mark) → from_head program k loads ≡ Marked mark more
-        → Fit (λ ls. following (from_head program k ls) next) loads → Cut next (OfPassing program k) loads more
+    cut_head : (loads more : List Load) (mark : Mark) → from_head program threads k loads ≡ Marked mark more
+        → Fit (λ ls. following (from_head program threads k ls) next) loads → Cut next (OfPassing program k) loads more
     cut_head [] more mark same fit = cc
     cut_head (load ∷ loads) more mark same (first, rest) =
         let word : load.word ≡ word_of k Head = sym (same_Some (word_of k Head) load.word first) in
         by_test (load.value == patched_head)
-        (λ b. (if b then from_id program k loads else Marked Skipped loads) ≡ Marked mark more
-        → Fit (λ ls. following (if b then from_id program k ls else Marked Skipped ls) next) loads
+        (λ b. (if b then from_id program threads k loads else Marked Skipped loads) ≡ Marked mark more
+        → Fit (λ ls. following (if b then from_id program threads k ls else Marked Skipped ls) next) loads
         → Cut next (OfPassing program k) (load ∷ loads) more)
         (λ e same fit. cut_id load word (eqb-true load.value patched_head e) loads more mark same fit)
         (λ e same fit.
         last_load next (OfPassing program k) load loads more Skipped mark same fit (skipped load word (eqb-false load.value patched_head e)))
         same rest
 
-    cut_release : (thread : ℕ) (loads more : List Load) (mark : Mark) → from_release program thread k loads ≡ Marked mark more
-        → Fit (λ ls. following (from_release program thread k ls) next) loads → Cut next (OfPassing program k) loads more
+    cut_release : (thread : ℕ) (loads more : List Load) (mark : Mark) → from_release program threads thread k loads ≡ Marked mark more
+        → Fit (λ ls. following (from_release program threads thread k ls) next) loads → Cut next (OfPassing program k) loads more
     cut_release thread [] more mark same fit = cc
     cut_release thread (load ∷ loads) more mark same (first, rest) =
         let Are : List Load → Type 0 = OfPassing program k in
         let apart : IsNoPart program load = no_part (release_word program thread) load (omega arith) first in
         by_test (load.value == 0)
-        (λ b. (if b then from_release program thread k loads else from_head program k loads) ≡ Marked mark more
-        → Fit (λ ls. following (if b then from_release program thread k ls else from_head program k ls) next) loads
+        (λ b. (if b then from_release program threads thread k loads else from_head program threads k loads) ≡ Marked mark more
+        → Fit (λ ls. following (if b then from_release program threads thread k ls else from_head program threads k ls) next) loads
         → Cut next Are (load ∷ loads) more)
         (λ e same fit. load_before next Are Are load loads more (λ own. held load own apart) (cut_release thread loads more mark same fit))
         (λ e same fit. load_before next Are Are load loads more (λ own. held load own apart) (cut_head loads more mark same fit))
         same rest
 
-    cut_start : (thread : ℕ) (held_here : Bool) (loads more : List Load) (mark : Mark) → from_start program thread held_here k loads ≡ Marked mark more
-        → Fit (λ ls. following (from_start program thread held_here k ls) next) loads → Cut next (OfPassing program k) loads more
+    cut_start : (thread : ℕ) (held_here : Bool) (loads more : List Load) (mark : Mark) → from_start program threads thread held_here k loads ≡ Marked mark more
+        → Fit (λ ls. following (from_start program threads thread held_here k ls) next) loads → Cut next (OfPassing program k) loads more
     cut_start thread true = cut_release thread
     cut_start thread false = cut_head
 
@@ -252,12 +274,12 @@ IsPartAllowed program load =
     (k : ℕ) (sled : Sled) (part : Part) → slice_get program.sleds k ≡ Some sled → load.word ≡ word_of k part
     → IsAllowedPart program.trampolines sled part load.value
 
-parts_allowed : (program : Program) (thread : ℕ) (loads : List Load) → All (λ load. IsAllowed program thread load.word load.value) loads
+parts_allowed : (program : Program) (threads thread : ℕ) (loads : List Load) → All (λ load. IsAllowed program threads thread load.word load.value) loads
     → Each (IsPartAllowed program) loads
-parts_allowed program thread [] allowed = tt
-parts_allowed program thread (load ∷ loads) allowed =
-    let P : Load → Type 0 = λ l. IsAllowed program thread l.word l.value in
-    ((All-head P load loads allowed).part, parts_allowed program thread loads (All-tail P load loads allowed))
+parts_allowed program threads thread [] allowed = tt
+parts_allowed program threads thread (load ∷ loads) allowed =
+    let P : Load → Type 0 = λ l. IsAllowed program threads thread l.word l.value in
+    ((All-head P load loads allowed).part, parts_allowed program threads thread loads (All-tail P load loads allowed))
 
 -- what is in a list is in a longer one
 one_more : (loads : List Load) (load : Load) (k : ℕ) (part : Part) (value : ℕ) → Loaded loads k part value → Loaded (load ∷ loads) k part value
@@ -305,16 +327,16 @@ module _ (program : Program) (k : ℕ) (sled : Sled) (at : slice_get program.sle
 
 -- ---- all passings
 
-none_after : (program : Program) (thread : ℕ) (hold : Option ℕ) (number k : ℕ) (sleds : List ℕ) (loads : List Load) (word : ℕ)
-    → from_start program thread (is_held_at hold number) k loads ≡ Wants word
-    → loads_by_passing program thread hold number (k ∷ sleds) loads ≡ []
-none_after program thread hold number k sleds loads word e = rw e refl
+none_after : (program : Program) (threads thread : ℕ) (hold : Option ℕ) (number k : ℕ) (sleds : List ℕ) (loads : List Load) (word : ℕ) (recording : Mark)
+    → from_start program threads thread (is_held_at hold number) k loads ≡ Wants word recording
+    → loads_by_passing program threads thread hold number (k ∷ sleds) loads ≡ []
+none_after program threads thread hold number k sleds loads word recording e = rw e refl
 
-one_after : (program : Program) (thread : ℕ) (hold : Option ℕ) (number k : ℕ) (sleds : List ℕ) (loads : List Load) (mark : Mark) (more : List Load)
-    → from_start program thread (is_held_at hold number) k loads ≡ Marked mark more
-    → loads_by_passing program thread hold number (k ∷ sleds) loads
-    ≡ take (length loads - length more) loads ∷ loads_by_passing program thread hold (number + 1) sleds more
-one_after program thread hold number k sleds loads mark more e = rw e refl
+one_after : (program : Program) (threads thread : ℕ) (hold : Option ℕ) (number k : ℕ) (sleds : List ℕ) (loads : List Load) (mark : Mark) (more : List Load)
+    → from_start program threads thread (is_held_at hold number) k loads ≡ Marked mark more
+    → loads_by_passing program threads thread hold number (k ∷ sleds) loads
+    ≡ take (length loads - length more) loads ∷ loads_by_passing program threads thread hold (number + 1) sleds more
+one_after program threads thread hold number k sleds loads mark more e = rw e refl
 
 -- the prefix of two lists, one after the other
 front_of : (loads own more : List Load) → loads ≡ own ++ more → take (length loads - length more) loads ≡ own
@@ -342,63 +364,63 @@ own_at program Is next j sleds loads more cuts cut each k own later zero at_m ow
 own_at program Is next j sleds loads more cuts cut each k own later (suc m) at_m own_m =
     later cut.rest (each_apart Is cut.own more (subst (Each Is) cut.parts each)).1 m at_m own_m
 
-own_reading : (program : Program) (Is : Load → Type 0) (thread : ℕ) (hold : Option ℕ) (number j : ℕ) (sleds : List ℕ) (loads : List Load)
-    → Fit (next_from program thread hold number (j ∷ sleds)) loads → Each Is loads → (k : ℕ) (own : List Load)
-    → ((more : List Load) → Fit (next_from program thread hold (number + 1) sleds) more → Each Is more → (m : ℕ) → slice_get sleds m ≡ Some k
-    → slice_get (loads_by_passing program thread hold (number + 1) sleds more) m ≡ Some own → IsOwn program Is k own)
-    → (r : Reading) → from_start program thread (is_held_at hold number) j loads ≡ r → (m : ℕ) → slice_get (j ∷ sleds) m ≡ Some k
-    → slice_get (loads_by_passing program thread hold number (j ∷ sleds) loads) m ≡ Some own → IsOwn program Is k own
-own_reading program Is thread hold number j sleds loads fit each k own later (Wants word) e m at_m own_m =
-    let none = sym (ap (λ cuts. slice_get cuts m) (none_after program thread hold number j sleds loads word e)) ∙ own_m in cc
-own_reading program Is thread hold number j sleds loads fit each k own later (Marked mark more) e m at_m own_m =
-    let next : List Load → Option ℕ = next_from program thread hold (number + 1) sleds in
+own_reading : (program : Program) (Is : Load → Type 0) (threads thread : ℕ) (hold : Option ℕ) (number j : ℕ) (sleds : List ℕ) (loads : List Load)
+    → Fit (next_from program threads thread hold number (j ∷ sleds)) loads → Each Is loads → (k : ℕ) (own : List Load)
+    → ((more : List Load) → Fit (next_from program threads thread hold (number + 1) sleds) more → Each Is more → (m : ℕ) → slice_get sleds m ≡ Some k
+    → slice_get (loads_by_passing program threads thread hold (number + 1) sleds more) m ≡ Some own → IsOwn program Is k own)
+    → (r : Reading) → from_start program threads thread (is_held_at hold number) j loads ≡ r → (m : ℕ) → slice_get (j ∷ sleds) m ≡ Some k
+    → slice_get (loads_by_passing program threads thread hold number (j ∷ sleds) loads) m ≡ Some own → IsOwn program Is k own
+own_reading program Is threads thread hold number j sleds loads fit each k own later (Wants word recording) e m at_m own_m =
+    let none = sym (ap (λ cuts. slice_get cuts m) (none_after program threads thread hold number j sleds loads word recording e)) ∙ own_m in cc
+own_reading program Is threads thread hold number j sleds loads fit each k own later (Marked mark more) e m at_m own_m =
+    let next : List Load → Option ℕ = next_from program threads thread hold (number + 1) sleds in
     let held_here : Bool = is_held_at hold number in
-    let same : (ls : List Load) → next_from program thread hold number (j ∷ sleds) ls ≡ following (from_start program thread held_here j ls) next =
-    λ ls. next_is program thread hold number j sleds ls (from_start program thread held_here j ls) refl in
-    let staged : Fit (λ ls. following (from_start program thread held_here j ls) next) loads =
-    fit_same (next_from program thread hold number (j ∷ sleds)) (λ ls. following (from_start program thread held_here j ls) next) loads same fit in
-    own_at program Is next j sleds loads more (loads_by_passing program thread hold (number + 1) sleds more)
-    (cut_start program next j thread held_here loads more mark e staged) each k own (later more) m at_m
-    (sym (ap (λ cuts. slice_get cuts m) (one_after program thread hold number j sleds loads mark more e)) ∙ own_m)
+    let same : (ls : List Load) → next_from program threads thread hold number (j ∷ sleds) ls ≡ following (from_start program threads thread held_here j ls) next =
+    λ ls. next_is program threads thread hold number j sleds ls (from_start program threads thread held_here j ls) refl in
+    let staged : Fit (λ ls. following (from_start program threads thread held_here j ls) next) loads =
+    fit_same (next_from program threads thread hold number (j ∷ sleds)) (λ ls. following (from_start program threads thread held_here j ls) next) loads same fit in
+    own_at program Is next j sleds loads more (loads_by_passing program threads thread hold (number + 1) sleds more)
+    (cut_start program threads next j thread held_here loads more mark e staged) each k own (later more) m at_m
+    (sym (ap (λ cuts. slice_get cuts m) (one_after program threads thread hold number j sleds loads mark more e)) ∙ own_m)
 
-own_from : (program : Program) (Is : Load → Type 0) (thread : ℕ) (hold : Option ℕ) (number : ℕ) (sleds : List ℕ) (loads : List Load)
-    → Fit (next_from program thread hold number sleds) loads → Each Is loads
+own_from : (program : Program) (Is : Load → Type 0) (threads thread : ℕ) (hold : Option ℕ) (number : ℕ) (sleds : List ℕ) (loads : List Load)
+    → Fit (next_from program threads thread hold number sleds) loads → Each Is loads
     → (n k : ℕ) (own : List Load) → slice_get sleds n ≡ Some k
-    → slice_get (loads_by_passing program thread hold number sleds loads) n ≡ Some own → IsOwn program Is k own
-own_from program Is thread hold number [] loads fit each n k own at_n cut = cc
-own_from program Is thread hold number (j ∷ sleds) loads fit each n k own at_n cut =
-    own_reading program Is thread hold number j sleds loads fit each k own
-    (λ more rest others m at_m own_m. own_from program Is thread hold (number + 1) sleds more rest others m k own at_m own_m)
-    (from_start program thread (is_held_at hold number) j loads) refl n at_n cut
+    → slice_get (loads_by_passing program threads thread hold number sleds loads) n ≡ Some own → IsOwn program Is k own
+own_from program Is threads thread hold number [] loads fit each n k own at_n cut = cc
+own_from program Is threads thread hold number (j ∷ sleds) loads fit each n k own at_n cut =
+    own_reading program Is threads thread hold number j sleds loads fit each k own
+    (λ more rest others m at_m own_m. own_from program Is threads thread hold (number + 1) sleds more rest others m k own at_m own_m)
+    (from_start program threads thread (is_held_at hold number) j loads) refl n at_n cut
 
-whole_from : (program : Program) (thread : ℕ) (hold : Option ℕ) (sleds : List ℕ) (loads : List Load)
-    → Fit (next_load program thread hold sleds) loads → All (λ load. IsAllowed program thread load.word load.value) loads
-    → AreWhole program thread hold sleds loads
-whole_from program thread hold sleds loads fit allowed n k sled own at_n at_k cut =
-    let its = own_from program (IsPartAllowed program) thread hold 0 sleds loads fit (parts_allowed program thread loads allowed) n k own at_n cut in
+whole_from : (program : Program) (threads thread : ℕ) (hold : Option ℕ) (sleds : List ℕ) (loads : List Load)
+    → Fit (next_load program threads thread hold sleds) loads → All (λ load. IsAllowed program threads thread load.word load.value) loads
+    → AreWhole program threads thread hold sleds loads
+whole_from program threads thread hold sleds loads fit allowed n k sled own at_n at_k cut =
+    let its = own_from program (IsPartAllowed program) threads thread hold 0 sleds loads fit (parts_allowed program threads thread loads allowed) n k own at_n cut in
     whole_of program k sled at_k its.0 its.1
 
-pub all_whole : (program : Program) (thread : ℕ) (hold : Option ℕ) (sleds : List ℕ) (loads : List Load) → AreWanted program thread hold sleds loads
-    → All (λ load. IsAllowed program thread load.word load.value) loads → AreWhole program thread hold sleds loads
-all_whole program thread hold sleds loads wanted allowed =
-    whole_from program thread hold sleds loads (fit_from (next_load program thread hold sleds) loads wanted) allowed
+pub all_whole : (program : Program) (threads thread : ℕ) (hold : Option ℕ) (sleds : List ℕ) (loads : List Load) → AreWanted program threads thread hold sleds loads
+    → All (λ load. IsAllowed program threads thread load.word load.value) loads → AreWhole program threads thread hold sleds loads
+all_whole program threads thread hold sleds loads wanted allowed =
+    whole_from program threads thread hold sleds loads (fit_from (next_load program threads thread hold sleds) loads wanted) allowed
 
-pub follows_whole : (program : Program) (code : ℕ → ℕ → ℕ) (start : ℕ) (bound : ℕ → ℕ) (thread : ℕ) → KeepsSleds program thread code
+pub follows_whole : (program : Program) (threads : ℕ) (code : ℕ → ℕ → ℕ) (start : ℕ) (bound : ℕ → ℕ) (thread : ℕ) → KeepsSleds program threads thread code
     → (hold : Option ℕ) (sleds : List ℕ) (loads : List Load) (place : ℕ)
-    → Follows program code start bound thread hold sleds loads place → AreWhole program thread hold sleds loads
-follows_whole program code start bound thread keeps hold sleds loads place follows =
-    whole_from program thread hold sleds loads
-    (fit_along program code (next_load program thread hold sleds) start loads place (follows_fits program code start bound thread hold sleds follows))
-    (loads_allowed program code start bound thread keeps hold sleds follows)
+    → Follows program threads code start bound thread hold sleds loads place → AreWhole program threads thread hold sleds loads
+follows_whole program threads code start bound thread keeps hold sleds loads place follows =
+    whole_from program threads thread hold sleds loads
+    (fit_along program code (next_load program threads thread hold sleds) start loads place (follows_fits program threads code start bound thread hold sleds follows))
+    (loads_allowed program threads code start bound thread keeps hold sleds follows)
 
 -- each load, of which nothing is asked
 no_facts : (loads : List Load) → Each (λ load. Unit {0}) loads
 no_facts [] = tt
 no_facts (load ∷ loads) = (tt, no_facts loads)
 
-pub one_value_each : (program : Program) (thread : ℕ) (hold : Option ℕ) (sleds : List ℕ) (loads : List Load)
-    → AreWanted program thread hold sleds loads → HaveOneValueEach program thread hold sleds loads
-one_value_each program thread hold sleds loads wanted n k own at_n within cut =
+pub one_value_each : (program : Program) (threads thread : ℕ) (hold : Option ℕ) (sleds : List ℕ) (loads : List Load)
+    → AreWanted program threads thread hold sleds loads → HaveOneValueEach program threads thread hold sleds loads
+one_value_each program threads thread hold sleds loads wanted n k own at_n within cut =
     let its =
-    own_from program (λ load. Unit {0}) thread hold 0 sleds loads (fit_from (next_load program thread hold sleds) loads wanted) (no_facts loads) n k own at_n cut in
+    own_from program (λ load. Unit {0}) threads thread hold 0 sleds loads (fit_from (next_load program threads thread hold sleds) loads wanted) (no_facts loads) n k own at_n cut in
     (from_head_on program k within its.0).one

@@ -19,7 +19,7 @@ pub record EndsAsPlain (t : Traced) (passed : List Passing) (end : End) (last : 
   pub output : t.output ≡ last.output
   pub instructions : t.instructions ≡ last.instructions
   pub passings : length t.marks ≡ last.passings
-  pub wanted : AreWanted t.program t.thread t.hold (sleds_passed passed) loads
+  pub wanted : AreWanted t.program t.threads t.thread t.hold (sleds_passed passed) loads
   pub each : length t.marks ≡ length passed
-  pub marks : t.marks ≡ marks_of t.program t.thread t.hold (sleds_passed passed) loads
-  pub whole : AreWhole t.program t.thread t.hold (sleds_passed passed) loads
+  pub marks : t.marks ≡ marks_of t.program t.threads t.thread t.hold (sleds_passed passed) loads
+  pub whole : AreWhole t.program t.threads t.thread t.hold (sleds_passed passed) loads

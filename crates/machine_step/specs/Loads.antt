@@ -1,61 +1,87 @@
 -- The words that a passing loads, and the mark that its loads end with.
 use Rattle.std.specs.Prelude.{◌≡◌, ℕ, ◌+◌, List, [], ◌∷◌, take, slice_get, Bool, true, false, ◌==◌, if◌then◌else◌, Option, Some, None}
+use Rattle.std.specs.Option.{option_map, unwrap_or}
+use Rattle.xray_image.specs.declared.sled.SledKind.{SledKind}
+use Rattle.xray_image.specs.declared.sled.SledKind.TheVariants.{Entry, Exit, Tail, Args}
 use Rattle.xray_image.specs.Program.{Program}
 use Rattle.sled_words.specs.declared.part.Part.TheVariants.{Head, Id, Opcode, Offset}
-use Rattle.sled_words.specs.Words.{word_of, handler_word, state_word, release_word}
+use Rattle.sled_words.specs.Words.{word_of, handler_word, state_word, release_word, arg_handler_word}
 use Rattle.sled_words.specs.Parts.{patched_head}
 use Rattle.handler_word.specs.declared.mark.Mark.{Mark}
-use Rattle.handler_word.specs.declared.mark.Mark.TheVariants.{Skipped, NoHandler, NotLogging, Recorded}
+use Rattle.handler_word.specs.declared.mark.Mark.TheVariants.{Skipped, NoHandler, NotLogging, Recorded, RecordedArg}
 
 -- a load: the word, and the value that it gave
 pub record Load : Type 0 where
   pub word : ℕ
   pub value : ℕ
 
--- how far loads bring a passing: to the word that it loads next, or to its mark, with the loads that come after
+-- How far loads bring a passing: to the word that it loads next, with the mark that it gets if the log records; or to
+-- its mark, with the loads that come after.
 pub data Reading : Type 0 where
-  Wants : (word : ℕ) → Reading
+  Wants : (word : ℕ) → (recording : Mark) → Reading
   Marked : (mark : Mark) → (following : List Load) → Reading
 
 -- the state word: at 2 the log records
-abbrev pub from_state : Program → List Load → Reading
-from_state program [] = Wants (state_word program)
-from_state program (load ∷ loads) = Marked (if load.value == 2 then Recorded else NotLogging) loads
+abbrev pub from_state : Program → Mark → List Load → Reading
+from_state program recording [] = Wants (state_word program) recording
+from_state program recording (load ∷ loads) = Marked (if load.value == 2 then recording else NotLogging) loads
 
 -- the handler word: 0 means that there is no handler
 abbrev pub from_handler : Program → List Load → Reading
-from_handler program [] = Wants (handler_word program)
-from_handler program (load ∷ loads) = if load.value == 0 then Marked NoHandler loads else from_state program loads
+from_handler program [] = Wants (handler_word program) Recorded
+from_handler program (load ∷ loads) = if load.value == 0 then Marked NoHandler loads else from_state program Recorded loads
+
+-- the argument handler word: if it isn't 0, an event is recorded with its argument, and the handler word isn't loaded
+abbrev pub from_arg_handler : Program → ℕ → List Load → Reading
+from_arg_handler program threads [] = Wants (arg_handler_word program threads) Recorded
+from_arg_handler program threads (load ∷ loads) =
+    if load.value == 0 then from_handler program loads else from_state program RecordedArg loads
+
+-- whether sleds of this kind log arguments
+abbrev pub logs_args : SledKind → Bool
+logs_args Entry = false
+logs_args Exit = false
+logs_args Tail = false
+logs_args Args = true
+
+-- whether the sled of this number does
+abbrev pub sled_logs_args : Program → ℕ → Bool
+sled_logs_args program sled = unwrap_or (option_map (λ s. logs_args s.kind) (slice_get program.sleds sled)) false
+
+-- the words after those of a patched sled: the argument handler word only at a sled that logs arguments
+abbrev pub from_handlers : Program → ℕ → ℕ → List Load → Reading
+from_handlers program threads sled loads =
+    if sled_logs_args program sled then from_arg_handler program threads loads else from_handler program loads
 
 -- the offset, the opcode and the id of a patched sled
-abbrev pub from_offset : Program → ℕ → List Load → Reading
-from_offset program sled [] = Wants (word_of sled Offset)
-from_offset program sled (load ∷ loads) = from_handler program loads
+abbrev pub from_offset : Program → ℕ → ℕ → List Load → Reading
+from_offset program threads sled [] = Wants (word_of sled Offset) Recorded
+from_offset program threads sled (load ∷ loads) = from_handlers program threads sled loads
 
-abbrev pub from_opcode : Program → ℕ → List Load → Reading
-from_opcode program sled [] = Wants (word_of sled Opcode)
-from_opcode program sled (load ∷ loads) = from_offset program sled loads
+abbrev pub from_opcode : Program → ℕ → ℕ → List Load → Reading
+from_opcode program threads sled [] = Wants (word_of sled Opcode) Recorded
+from_opcode program threads sled (load ∷ loads) = from_offset program threads sled loads
 
-abbrev pub from_id : Program → ℕ → List Load → Reading
-from_id program sled [] = Wants (word_of sled Id)
-from_id program sled (load ∷ loads) = from_opcode program sled loads
+abbrev pub from_id : Program → ℕ → ℕ → List Load → Reading
+from_id program threads sled [] = Wants (word_of sled Id) Recorded
+from_id program threads sled (load ∷ loads) = from_opcode program threads sled loads
 
 -- the head: if it is unpatched, the passing skips the sled
-abbrev pub from_head : Program → ℕ → List Load → Reading
-from_head program sled [] = Wants (word_of sled Head)
-from_head program sled (load ∷ loads) =
-    if load.value == patched_head then from_id program sled loads else Marked Skipped loads
+abbrev pub from_head : Program → ℕ → ℕ → List Load → Reading
+from_head program threads sled [] = Wants (word_of sled Head) Recorded
+from_head program threads sled (load ∷ loads) =
+    if load.value == patched_head then from_id program threads sled loads else Marked Skipped loads
 
 -- the release word of a thread that is held here: it is loaded again after each 0
-abbrev pub from_release : Program → ℕ → ℕ → List Load → Reading
-from_release program thread sled [] = Wants (release_word program thread)
-from_release program thread sled (load ∷ loads) =
-    if load.value == 0 then from_release program thread sled loads else from_head program sled loads
+abbrev pub from_release : Program → ℕ → ℕ → ℕ → List Load → Reading
+from_release program threads thread sled [] = Wants (release_word program thread) Recorded
+from_release program threads thread sled (load ∷ loads) =
+    if load.value == 0 then from_release program threads thread sled loads else from_head program threads sled loads
 
 -- the loads of one passing; `held` says whether the script holds the thread here
-abbrev pub from_start : Program → ℕ → Bool → ℕ → List Load → Reading
-from_start program thread true sled loads = from_release program thread sled loads
-from_start program thread false sled loads = from_head program sled loads
+abbrev pub from_start : Program → ℕ → ℕ → Bool → ℕ → List Load → Reading
+from_start program threads thread true sled loads = from_release program threads thread sled loads
+from_start program threads thread false sled loads = from_head program threads sled loads
 
 -- whether a thread with this hold is held at a passing
 abbrev pub is_held_at : Option ℕ → ℕ → Bool
@@ -64,34 +90,49 @@ is_held_at (Some held) passing = held == passing
 
 -- The marks of a thread by its loads. Its passings are at the sleds of these numbers, numbered from a number on. A
 -- passing that still wants a word has no mark.
-abbrev pub marks_from : Program → ℕ → Option ℕ → ℕ → List ℕ → List Load → List Mark
-marks_from program thread hold number [] loads = []
-marks_from program thread hold number (sled ∷ sleds) loads =
-    marked (from_start program thread (is_held_at hold number) sled loads) (marks_from program thread hold (number + 1) sleds)
+abbrev pub marks_from : Program → ℕ → ℕ → Option ℕ → ℕ → List ℕ → List Load → List Mark
+marks_from program threads thread hold number [] loads = []
+marks_from program threads thread hold number (sled ∷ sleds) loads =
+    marked (from_start program threads thread (is_held_at hold number) sled loads) (marks_from program threads thread hold (number + 1) sleds)
   where
     marked : Reading → (List Load → List Mark) → List Mark
-    marked (Wants word) later = []
+    marked (Wants word recording) later = []
     marked (Marked mark following) later = mark ∷ later following
 
 -- the word that such a thread loads next, or none if all its passings have marks
-abbrev pub next_from : Program → ℕ → Option ℕ → ℕ → List ℕ → List Load → Option ℕ
-next_from program thread hold number [] loads = None
-next_from program thread hold number (sled ∷ sleds) loads =
-    wanted (from_start program thread (is_held_at hold number) sled loads) (next_from program thread hold (number + 1) sleds)
+abbrev pub next_from : Program → ℕ → ℕ → Option ℕ → ℕ → List ℕ → List Load → Option ℕ
+next_from program threads thread hold number [] loads = None
+next_from program threads thread hold number (sled ∷ sleds) loads =
+    wanted (from_start program threads thread (is_held_at hold number) sled loads) (next_from program threads thread hold (number + 1) sleds)
   where
     wanted : Reading → (List Load → Option ℕ) → Option ℕ
-    wanted (Wants word) later = Some word
+    wanted (Wants word recording) later = Some word
     wanted (Marked mark following) later = later following
 
--- the marks, and the next load, of a thread, from its first passing on
-abbrev pub marks_of : Program → ℕ → Option ℕ → List ℕ → List Load → List Mark
-marks_of program thread hold sleds loads = marks_from program thread hold 0 sleds loads
+-- the mark that its next passing gets if the log records: only an argument handler that was loaded makes it another one
+-- than `Recorded`
+abbrev pub recording_from : Program → ℕ → ℕ → Option ℕ → ℕ → List ℕ → List Load → Mark
+recording_from program threads thread hold number [] loads = Recorded
+recording_from program threads thread hold number (sled ∷ sleds) loads =
+    recorded_as (from_start program threads thread (is_held_at hold number) sled loads) (recording_from program threads thread hold (number + 1) sleds)
+  where
+    recorded_as : Reading → (List Load → Mark) → Mark
+    recorded_as (Wants word recording) later = recording
+    recorded_as (Marked mark following) later = later following
 
-abbrev pub next_load : Program → ℕ → Option ℕ → List ℕ → List Load → Option ℕ
-next_load program thread hold sleds loads = next_from program thread hold 0 sleds loads
+-- The marks of a thread, its next load, and the mark that it gets if the log records, from its first passing on.
+-- `threads` is how many threads there are: the number of the argument handler word rests on it.
+abbrev pub marks_of : Program → ℕ → ℕ → Option ℕ → List ℕ → List Load → List Mark
+marks_of program threads thread hold sleds loads = marks_from program threads thread hold 0 sleds loads
+
+abbrev pub next_load : Program → ℕ → ℕ → Option ℕ → List ℕ → List Load → Option ℕ
+next_load program threads thread hold sleds loads = next_from program threads thread hold 0 sleds loads
+
+abbrev pub recording_of : Program → ℕ → ℕ → Option ℕ → List ℕ → List Load → Mark
+recording_of program threads thread hold sleds loads = recording_from program threads thread hold 0 sleds loads
 
 -- each load is of the word that is next after the loads before it
-abbrev pub AreWanted : Program → ℕ → Option ℕ → List ℕ → List Load → Type 0
-AreWanted program thread hold sleds loads =
+abbrev pub AreWanted : Program → ℕ → ℕ → Option ℕ → List ℕ → List Load → Type 0
+AreWanted program threads thread hold sleds loads =
     (i : ℕ) (load : Load) → slice_get loads i ≡ Some load
-    → next_load program thread hold sleds (take i loads) ≡ Some load.word
+    → next_load program threads thread hold sleds (take i loads) ≡ Some load.word

@@ -102,19 +102,21 @@ does s following (Out port) =
 abbrev pub fuelled : Limits → State → Next → Next
 fuelled limits s next = if s.instructions == limits.fuel then Ends ends.Fuel s else next
 
--- after its passing, an entry or tail sled does nothing, and an exit sled is a return
+-- after its passing, an entry sled, which may log arguments, and a tail sled do nothing, and an exit sled is a return
 abbrev pub after_passing : Limits → State → SledKind → Next
 after_passing limits s kinds.Entry = Goes (record s { address = s.address + 11 })
 after_passing limits s kinds.Tail = Goes (record s { address = s.address + 11 })
+after_passing limits s kinds.Args = Goes (record s { address = s.address + 11 })
 after_passing limits s kinds.Exit = fuelled limits s (returns s s.stack)
 
--- a passing of a sled, with the stamp of its event
+-- a passing of a sled, with the stamp of its event, and with the function's first argument if the sled is at an entry
 pub record Passing : Type 0 where
   pub sled : ℕ
   pub id : ℕ
   pub kind : SledKind
   pub cpu : ℕ
   pub counter : ℕ
+  pub argument : ℕ
 
 abbrev pub passing_at : Limits → ℕ → State → ℕ → Sled → Passing
 passing_at limits thread s k sled = record {
@@ -123,6 +125,7 @@ passing_at limits thread s k sled = record {
   kind = sled.kind;
   cpu = (thread + s.passings / limits.migrate) % limits.cpus;
   counter = (limits.tsc + limits.tick * s.instructions) % 2 ^ 64;
+  argument = register s 7;
 }
 
 -- the step of a unit, with the passing that it makes

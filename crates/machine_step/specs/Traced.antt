@@ -4,18 +4,18 @@ use Rattle.std.specs.List.{position_or_len}
 use Rattle.xray_image.specs.Program.{Program}
 use Rattle.sled_words.specs.declared.part.Part.{Part}
 use Rattle.sled_words.specs.declared.part.Part.TheVariants.{Head, Id, Opcode, Offset}
-use Rattle.sled_words.specs.Words.{IsCodeWord, part_number, word_of, handler_word, state_word, release_word}
+use Rattle.sled_words.specs.Words.{IsCodeWord, part_number, word_of, handler_word, state_word, release_word, arg_handler_word}
 use Rattle.sled_words.specs.Allowed.{IsAllowed}
 use Rattle.sled_words.specs.Parts.{patched_head}
 use Rattle.handler_word.specs.declared.mark.Mark.{Mark}
-use Rattle.handler_word.specs.declared.mark.Mark.TheVariants.{Skipped, NoHandler, NotLogging, Recorded}
+use Rattle.handler_word.specs.declared.mark.Mark.TheVariants.{Skipped, NoHandler, NotLogging}
 use Rattle.machine_step.specs.declared.limits.Limits.{Limits}
 use Rattle.machine_step.specs.declared.end.End.{End}
 use Rattle.machine_step.specs.declared.want.Want.{Want}
 use Rattle.machine_step.specs.declared.want.Want.TheVariants.{Gate, Load as Loads, Done}
 use Rattle.machine_step.specs.PlainStep.{State, Passing, PlainRun}
 use Rattle.machine_step.specs.Course.{ComesTo}
-use Rattle.machine_step.specs.Loads.{AreWanted, Load, is_held_at, marks_of, next_load}
+use Rattle.machine_step.specs.Loads.{AreWanted, Load, is_held_at, marks_of, next_load, recording_of}
 
 -- a traced thread: which one it is, what its instructions have done, the marks of its passings, and what it wants
 pub record Traced : Type 0 where
@@ -32,6 +32,8 @@ pub record Traced : Type 0 where
   pub output : List ℕ
   pub instructions : ℕ
   pub marks : List Mark
+  -- the mark of the passing that comes next, if the log records: `RecordedArg` once it has found an argument handler
+  pub recording : Mark
   pub want : Want
 
 -- the same thread of the same image
@@ -124,7 +126,7 @@ sleds_passed passed = map (λ p. p.sled) passed
 
 -- the word that a thread loads after some loads
 abbrev pub wanted_after : Traced → List Passing → List Load → Option ℕ
-wanted_after t passed loads = next_load t.program t.thread t.hold (sleds_passed passed) loads
+wanted_after t passed loads = next_load t.program t.threads t.thread t.hold (sleds_passed passed) loads
 
 -- the first word of the next passing, at this sled
 abbrev pub first_word : Traced → ℕ → ℕ
@@ -145,20 +147,22 @@ IsWant t passed next end (Loads word) = next ≡ Some word
 IsWant t passed next end (Done e) = (next ≡ None) × (e ≡ end)
 
 -- The thread, whose plain run has these passings, was given these loads. Each was of the word that it wanted after the
--- loads before it, and of a value that is allowed there. The loads determine its marks and what it wants.
+-- loads before it, and of a value that is allowed there. The loads determine its marks, the mark with which it would
+-- record, and what it wants.
 pub record HasLoaded (t : Traced) (passed : List Passing) (loads : List Load) : Type 0 where
   pub end : End
   pub last : State
   pub run : PlainRun t.program t.limits t.thread passed end last
-  pub wanted : AreWanted t.program t.thread t.hold (sleds_passed passed) loads
-  pub allowed : All (λ load. IsAllowed t.program t.thread load.word load.value) loads
-  pub marks : t.marks ≡ marks_of t.program t.thread t.hold (sleds_passed passed) loads
+  pub wanted : AreWanted t.program t.threads t.thread t.hold (sleds_passed passed) loads
+  pub allowed : All (λ load. IsAllowed t.program t.threads t.thread load.word load.value) loads
+  pub marks : t.marks ≡ marks_of t.program t.threads t.thread t.hold (sleds_passed passed) loads
+  pub recording : t.recording ≡ recording_of t.program t.threads t.thread t.hold (sleds_passed passed) loads
   pub wants : IsWant t passed (wanted_after t passed loads) end t.want
 
 -- a value may be given to a thread: it wants a word, and the value is allowed there
 abbrev pub Allows : Traced → Want → ℕ → Type 0
 Allows t (Gate passing) value = ⊥
-Allows t (Loads word) value = IsAllowed t.program t.thread word value
+Allows t (Loads word) value = IsAllowed t.program t.threads t.thread word value
 Allows t (Done end) value = ⊥
 
 -- the load of this value, of the word that is wanted
@@ -178,15 +182,15 @@ abbrev pub is_word_of_part : Program → Part → ℕ → Bool
 is_word_of_part program part word = word % 4 == part_number part && nat_lt word (handler_word program)
 
 -- The mark that the load of a value ends a passing with, if it ends it: after an unpatched head, without a handler, or by
--- the log's state. No other load ends a passing.
-abbrev pub ending_mark : Program → Want → ℕ → List Mark
-ending_mark program (Gate passing) value = []
-ending_mark program (Loads word) value =
+-- the log's state. No other load ends a passing. If the log records, it is the one that the thread records with.
+abbrev pub ending_mark : Program → Mark → Want → ℕ → List Mark
+ending_mark program recording (Gate passing) value = []
+ending_mark program recording (Loads word) value =
     if is_word_of_part program Head word then (if value == patched_head then [] else Skipped ∷ [])
     else if word == handler_word program then (if value == 0 then NoHandler ∷ [] else [])
-    else if word == state_word program then (if value == 2 then Recorded ∷ [] else NotLogging ∷ [])
+    else if word == state_word program then (if value == 2 then recording ∷ [] else NotLogging ∷ [])
     else []
-ending_mark program (Done end) value = []
+ending_mark program recording (Done end) value = []
 
 -- the value keeps the thread held: it is a release word of 0
 pub record IsKept (t : Traced) (value : ℕ) : Type 0 where
@@ -195,30 +199,32 @@ pub record IsKept (t : Traced) (value : ℕ) : Type 0 where
   pub unset : value ≡ 0
 
 -- The stages of a passing after its gate, in order. Each says which words it loads: the thread's release word, the four
--- parts of a sled, the handler's word, and the log's state.
-abbrev pub stages_of : Program → ℕ → List (ℕ → Bool)
-stages_of program thread =
+-- parts of a sled, the argument handler's word, the handler's word, and the log's state.
+abbrev pub stages_of : Program → ℕ → ℕ → List (ℕ → Bool)
+stages_of program threads thread =
     (λ word. word == release_word program thread)
     ∷ is_word_of_part program Head
     ∷ is_word_of_part program Id
     ∷ is_word_of_part program Opcode
     ∷ is_word_of_part program Offset
+    ∷ (λ word. word == arg_handler_word program threads)
     ∷ (λ word. word == handler_word program)
     ∷ (λ word. word == state_word program)
     ∷ []
 
 -- how many stages a passing has, with its gate
-abbrev pub stage_count : Program → ℕ → ℕ
-stage_count program thread = 1 + length (stages_of program thread)
+abbrev pub stage_count : Program → ℕ → ℕ → ℕ
+stage_count program threads thread = 1 + length (stages_of program threads thread)
 
 -- how many stages of a passing are left if a thread wants this: all of them, or those from the one that loads the word on
-abbrev pub steps_left : Program → ℕ → Want → ℕ
-steps_left program thread (Gate passing) = stage_count program thread
-steps_left program thread (Loads word) =
-    length (stages_of program thread) - position_or_len (λ loads. loads word) (stages_of program thread)
-steps_left program thread (Done end) = 0
+abbrev pub steps_left : Program → ℕ → ℕ → Want → ℕ
+steps_left program threads thread (Gate passing) = stage_count program threads thread
+steps_left program threads thread (Loads word) =
+    length (stages_of program threads thread) - position_or_len (λ loads. loads word) (stages_of program threads thread)
+steps_left program threads thread (Done end) = 0
 
 -- the same with all passings up to the limit: each gate, and each load that doesn't hold the thread, brings it nearer
 abbrev pub loads_left : Traced → ℕ
 loads_left t =
-    stage_count t.program t.thread * (t.limits.passings - length t.marks) + steps_left t.program t.thread t.want
+    stage_count t.program t.threads t.thread * (t.limits.passings - length t.marks)
+    + steps_left t.program t.threads t.thread t.want

@@ -31,27 +31,27 @@ IsWhole program k sled loads = FoundUnpatched k sled loads ⊎ FoundPatched prog
 
 -- The loads of each passing that has its mark. The thread has passings at the sleds of these numbers, numbered from a
 -- number on.
-abbrev pub loads_by_passing : Program → ℕ → Option ℕ → ℕ → List ℕ → List Load → List (List Load)
-loads_by_passing program thread hold number [] loads = []
-loads_by_passing program thread hold number (sled ∷ sleds) loads =
-    cut (from_start program thread (is_held_at hold number) sled loads) (loads_by_passing program thread hold (number + 1) sleds)
+abbrev pub loads_by_passing : Program → ℕ → ℕ → Option ℕ → ℕ → List ℕ → List Load → List (List Load)
+loads_by_passing program threads thread hold number [] loads = []
+loads_by_passing program threads thread hold number (sled ∷ sleds) loads =
+    cut (from_start program threads thread (is_held_at hold number) sled loads) (loads_by_passing program threads thread hold (number + 1) sleds)
   where
     cut : Reading → (List Load → List (List Load)) → List (List Load)
-    cut (Wants word) later = []
+    cut (Wants word recording) later = []
     cut (Marked mark following) later = take (length loads - length following) loads ∷ later following
 
 -- each passing with a mark decodes its sled whole
-abbrev pub AreWhole : Program → ℕ → Option ℕ → List ℕ → List Load → Type 0
-AreWhole program thread hold sleds loads =
+abbrev pub AreWhole : Program → ℕ → ℕ → Option ℕ → List ℕ → List Load → Type 0
+AreWhole program threads thread hold sleds loads =
     (n k : ℕ) (sled : Sled) (own : List Load) → slice_get sleds n ≡ Some k → slice_get program.sleds k ≡ Some sled
-    → slice_get (loads_by_passing program thread hold 0 sleds loads) n ≡ Some own → IsWhole program k sled own
+    → slice_get (loads_by_passing program threads thread hold 0 sleds loads) n ≡ Some own → IsWhole program k sled own
 
 -- each part of the sled with this number was loaded with at most one value
 abbrev pub HaveOneValue : List Load → ℕ → Type 0
 HaveOneValue loads k = (part : Part) (v w : ℕ) → Loaded loads k part v → Loaded loads k part w → v ≡ w
 
 -- in each passing with a mark, each part of its sled was loaded with at most one value, if the sled exists
-abbrev pub HaveOneValueEach : Program → ℕ → Option ℕ → List ℕ → List Load → Type 0
-HaveOneValueEach program thread hold sleds loads =
+abbrev pub HaveOneValueEach : Program → ℕ → ℕ → Option ℕ → List ℕ → List Load → Type 0
+HaveOneValueEach program threads thread hold sleds loads =
     (n k : ℕ) (own : List Load) → slice_get sleds n ≡ Some k → k < length program.sleds
-    → slice_get (loads_by_passing program thread hold 0 sleds loads) n ≡ Some own → HaveOneValue own k
+    → slice_get (loads_by_passing program threads thread hold 0 sleds loads) n ≡ Some own → HaveOneValue own k

@@ -21,8 +21,8 @@ pub(crate) fn allows(image: &Image, stage: Stage, sled: u32, value: u64) -> bool
         Stage::Id => value == part_value(image, sled, Part::Id, true),
         Stage::Opcode => value == part_value(image, sled, Part::Opcode, true),
         Stage::Offset => value == part_value(image, sled, Part::Offset, true),
-        Stage::Handler => value <= HANDLER_SET,
-        Stage::State => value <= LogState::Finalized as u64,
+        Stage::ArgHandler | Stage::Handler => value <= HANDLER_SET,
+        Stage::State | Stage::ArgState => value <= LogState::Finalized as u64,
     }
 }
 
@@ -33,7 +33,7 @@ fn is_unpatched_head(kind: SledKind, value: u64) -> bool
     ensures { IsTrue result ↔ IsUnpatchedHead kind value }
 {
     match kind {
-        SledKind::Entry | SledKind::Tail => value == JUMP_HEAD,
+        SledKind::Entry | SledKind::Tail | SledKind::Args => value == JUMP_HEAD,
         SledKind::Exit => value <= u64::from(u16::MAX) && value % 256 == u64::from(RET),
     }
 }

@@ -108,6 +108,7 @@ impl<'a> Cpu<'a> {
             Stand::Gate { .. } => Want::Gate(self.machine.passings),
             Stand::Loading { sled, stage, .. } => Want::Load(word_at(
                 self.steps.image(),
+                self.threads,
                 self.thread,
                 sled,
                 stage,
@@ -133,9 +134,9 @@ impl<'a> Cpu<'a> {
         self.stand = Stand::Loading { place, sled, stage };
     }
 
-    /// Whether the word that the thread wants may have this value. A release word and the handler's
-    /// word are 0 or 1, and the state is 0 to 4. The head of a sled is patched or unpatched, and
-    /// its other parts are what patching stores.
+    /// Whether the word that the thread wants may have this value. A release word, the handler's
+    /// word and the argument handler's word are 0 or 1, and the state is 0 to 4. The head of a sled
+    /// is patched or unpatched, and its other parts are what patching stores.
     pub fn allowed(&self, value: u64) -> bool
         requires { IsLoad self.now.want }
         ensures { IsTrue result ↔ Allows self.now self.now.want value }
@@ -148,7 +149,8 @@ impl<'a> Cpu<'a> {
 
     /// Gives the thread the value of the word that it wants. If that ends the passing, the passing
     /// gets its mark, and the thread runs on to its next sled or to its end. The answer is the
-    /// event of the passing exactly when the value is the state of a log that records.
+    /// event of the passing exactly when the value is the state of a log that records. It has the
+    /// function's argument, which is in rdi at the passing, if the passing found an argument handler.
     #[inline(always)]
     pub fn give(&mut self, value: u64) -> Option<Event>
         requires { Allows self.old self.old.want value }
@@ -157,8 +159,8 @@ impl<'a> Cpu<'a> {
             → HasLoaded self.new passed (loads ++ load_of self.old.want value) }
         ensures marks { MarksAdded self.old.marks self.new.marks self.new.want }
         // The mark is that of the loads of the passing, of which this is the last one.
-        ensures mark { self.new.marks
-            ≡ self.old.marks ++ ending_mark self.old.program self.old.want value }
+        ensures mark { self.new.marks ≡ self.old.marks
+            ++ ending_mark self.old.program self.old.recording self.old.want value }
         ensures some { IsSome result
             ↔ (self.old.want ≡ Want.Load (state_word self.old.program)) × (value ≡ 2) }
         ensures event { (passed : List Passing) (end : End) (last : State)
@@ -173,20 +175,14 @@ impl<'a> Cpu<'a> {
         let Stand::Loading { place, sled, stage } = self.stand else {
             unreachable!()
         };
-        match after_load(stage, value) {
+        let image = self.steps.image();
+        match after_load(image, sled, stage, value) {
             Next::Loads(stage) => {
                 self.stand = Stand::Loading { place, sled, stage };
                 None
             }
             Next::Ends(mark) => {
-                let event = event_at(
-                    self.steps.image(),
-                    sled,
-                    self.thread,
-                    &self.machine,
-                    self.limits,
-                    mark,
-                );
+                let event = event_at(image, sled, self.thread, &self.machine, self.limits, mark);
                 self.marks.add(mark);
                 self.stand = pass_sled(&mut self.machine, self.steps, self.limits, place);
                 event

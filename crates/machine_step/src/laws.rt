@@ -1,6 +1,6 @@
 //! Laws of the plain machine and of its loads. Each law is the contract of a function that does
 //! nothing.
-ghost use Rattle.std.specs.Prelude.{◌≡◌, ◌<◌, ℕ, List, Option, Some, All, length};
+ghost use Rattle.std.specs.Prelude.{◌≡◌, ◌<◌, ◌≤◌, ℕ, List, Option, Some, All, length};
 ghost use Rattle.xray_image.specs.Program.{Program, IsAccepted};
 ghost use Rattle.sled_words.specs.{Allowed.{IsAllowed}, ChangingCode.{KeepsSleds, LetsEnd}};
 ghost use Rattle.handler_word.specs.declared.mark.Mark.{Mark};
@@ -51,52 +51,56 @@ pub fn one_state_before_a_passing()
 /// its sled whole. This holds for the loads of a replay and for those of running threads. Nothing
 /// is asked of the thread, of the sleds that it passes, or of the bounds.
 pub fn what_follows_is_allowed()
-    ensures wanted { (program : Program) (code : ℕ → ℕ → ℕ) (start : ℕ) (bound : ℕ → ℕ) (thread : ℕ) (hold : Option ℕ)
-        (sleds : List ℕ) (loads : List Load) (place : ℕ)
-        → Follows program code start bound thread hold sleds loads place
-        → AreWanted program thread hold sleds loads }
-    ensures loaded { (program : Program) (code : ℕ → ℕ → ℕ) (start : ℕ) (bound : ℕ → ℕ) (thread : ℕ) (hold : Option ℕ)
-        (sleds : List ℕ) (loads : List Load) (place : ℕ) → KeepsSleds program thread code
-        → Follows program code start bound thread hold sleds loads place
-        → All (λ load. IsAllowed program thread load.word load.value) loads }
-    ensures next { (program : Program) (code : ℕ → ℕ → ℕ) (start : ℕ) (bound : ℕ → ℕ) (thread : ℕ) (hold : Option ℕ)
-        (sleds : List ℕ) (loads : List Load) (place word : ℕ) → KeepsSleds program thread code
-        → Follows program code start bound thread hold sleds loads place
-        → next_load program thread hold sleds loads ≡ Some word
-        → IsAllowed program thread word (code place word) }
-    ensures whole { (program : Program) (code : ℕ → ℕ → ℕ) (start : ℕ) (bound : ℕ → ℕ) (thread : ℕ) (hold : Option ℕ)
-        (sleds : List ℕ) (loads : List Load) (place : ℕ) → KeepsSleds program thread code
-        → Follows program code start bound thread hold sleds loads place
-        → AreWhole program thread hold sleds loads }
+    ensures wanted { (program : Program) (threads : ℕ) (code : ℕ → ℕ → ℕ) (start : ℕ) (bound : ℕ → ℕ)
+        (thread : ℕ) (hold : Option ℕ) (sleds : List ℕ) (loads : List Load) (place : ℕ)
+        → Follows program threads code start bound thread hold sleds loads place
+        → AreWanted program threads thread hold sleds loads }
+    ensures loaded { (program : Program) (threads : ℕ) (code : ℕ → ℕ → ℕ) (start : ℕ) (bound : ℕ → ℕ)
+        (thread : ℕ) (hold : Option ℕ) (sleds : List ℕ) (loads : List Load) (place : ℕ)
+        → KeepsSleds program threads thread code
+        → Follows program threads code start bound thread hold sleds loads place
+        → All (λ load. IsAllowed program threads thread load.word load.value) loads }
+    ensures next { (program : Program) (threads : ℕ) (code : ℕ → ℕ → ℕ) (start : ℕ) (bound : ℕ → ℕ)
+        (thread : ℕ) (hold : Option ℕ) (sleds : List ℕ) (loads : List Load) (place word : ℕ)
+        → KeepsSleds program threads thread code
+        → Follows program threads code start bound thread hold sleds loads place
+        → next_load program threads thread hold sleds loads ≡ Some word
+        → IsAllowed program threads thread word (code place word) }
+    ensures whole { (program : Program) (threads : ℕ) (code : ℕ → ℕ → ℕ) (start : ℕ) (bound : ℕ → ℕ)
+        (thread : ℕ) (hold : Option ℕ) (sleds : List ℕ) (loads : List Load) (place : ℕ)
+        → KeepsSleds program threads thread code
+        → Follows program threads code start bound thread hold sleds loads place
+        → AreWhole program threads thread hold sleds loads }
 {}
 
 /// If a thread loads the words that it wants one after the other, and each value is allowed, no
 /// sled is torn. Each passing that has its mark decodes its sled whole, wherever the values come
 /// from.
 pub fn allowed_loads_are_whole()
-    ensures { (program : Program) (thread : ℕ) (hold : Option ℕ) (sleds : List ℕ) (loads : List Load)
-        → AreWanted program thread hold sleds loads
-        → All (λ load. IsAllowed program thread load.word load.value) loads
-        → AreWhole program thread hold sleds loads }
+    ensures { (program : Program) (threads thread : ℕ) (hold : Option ℕ) (sleds : List ℕ) (loads : List Load)
+        → AreWanted program threads thread hold sleds loads
+        → All (λ load. IsAllowed program threads thread load.word load.value) loads
+        → AreWhole program threads thread hold sleds loads }
 {}
 
 /// If a thread loads the words that it wants one after the other, each of its passings that has its
 /// mark, at a sled that exists, has loaded each part of the sled with at most one value, whatever
 /// the values are.
 pub fn wanted_loads_have_one_value()
-    ensures { (program : Program) (thread : ℕ) (hold : Option ℕ) (sleds : List ℕ) (loads : List Load)
-        → AreWanted program thread hold sleds loads
-        → HaveOneValueEach program thread hold sleds loads }
+    ensures { (program : Program) (threads thread : ℕ) (hold : Option ℕ) (sleds : List ℕ) (loads : List Load)
+        → AreWanted program threads thread hold sleds loads
+        → HaveOneValueEach program threads thread hold sleds loads }
 {}
 
-/// If changing code lets a thread come to its end, some marks of all its passings follow the code.
-/// One example is the marks of a thread that makes each load as late as it may.
+/// If changing code lets one of the threads come to its end, some marks of all its passings follow
+/// the code. One example is the marks of a thread that makes each load as late as it may.
 pub fn some_marks_follow()
-    ensures { (program : Program) (limits : Limits) (thread : ℕ) (passed : List Passing) (end : End) (last : State)
-        (code : ℕ → ℕ → ℕ) (start total : ℕ) (bound : ℕ → ℕ) (hold : Option ℕ)
-        → 0 < thread → PlainRun program limits thread passed end last
+    ensures { (program : Program) (limits : Limits) (threads thread : ℕ) (passed : List Passing) (end : End)
+        (last : State) (code : ℕ → ℕ → ℕ) (start total : ℕ) (bound : ℕ → ℕ) (hold : Option ℕ)
+        → 0 < thread → thread ≤ threads → PlainRun program limits thread passed end last
         → LetsEnd program thread hold code start total bound
-        → (marks : List Mark) × MarksFollow program code start bound thread hold (sleds_passed passed) marks total }
+        → (marks : List Mark)
+        × MarksFollow program threads code start bound thread hold (sleds_passed passed) marks total }
 {}
 
 /// A traced thread ends as its plain run does, whatever allowed values its loads gave. Any plain

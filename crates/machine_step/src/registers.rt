@@ -8,7 +8,8 @@ use subset_decode::{REGISTERS, Reg};
 /// The number of rax, whose low byte is AL.
 const RAX: usize = 0;
 
-/// The number of rdi, which holds a thread's own number at its start.
+/// The number of rdi, which holds a thread's own number at its start, and the first argument of a
+/// function that is entered.
 const RDI: usize = 7;
 
 /// The values of the general registers. Those that no instruction names stay 0.
@@ -61,6 +62,14 @@ impl Registers {
         ensures { result ≡ slice_index self.now 0 % 256 }
     {
         (self.values[RAX] % 256) as u8
+    }
+
+    /// The first argument of a function that is entered, by the System V calling convention: rdi.
+    #[inline]
+    pub(crate) fn first_argument(&self) -> u64
+        ensures { result ≡ slice_index self.now 7 }
+    {
+        self.values[RDI]
     }
 
     /// All values, by the registers' numbers.

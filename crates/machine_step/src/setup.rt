@@ -9,7 +9,7 @@ use xray_io::Wall;
 pub struct Setup {
     /// How many threads run, from 1 to 16.
     pub threads: u32,
-    /// The size of a buffer of events in bytes, from 72 to 1,048,576.
+    /// The size of a buffer of events in bytes, from 88 to 1,048,576.
     pub size: u32,
     /// How many buffers there are: at least one per thread, at most 1,024, and no more than fit a
     /// trace file.

@@ -1,13 +1,14 @@
 //! One passing of a sled, load by load.
 ghost use Rattle.std.specs.Prelude.{◌≡◌, ◌≤◌, ◌<◌, ◌+◌, length};
-ghost use Rattle.machine_step.specs.private.Stages.{after_load, first_stage, word_at};
+ghost use Rattle.machine_step.specs.Loads.{sled_logs_args};
+ghost use Rattle.machine_step.specs.private.Stages.{after_load, first_stage, handlers_by, word_at};
 
 use handler_word::Mark;
 use sled_words::{
-    HELD, LogState, MAX_THREADS, NO_HANDLER, PATCHED_HEAD, Part, handler_word, release_word,
-    state_word, word_of,
+    HELD, LogState, MAX_THREADS, NO_HANDLER, PATCHED_HEAD, Part, arg_handler_word, handler_word,
+    release_word, state_word, word_of,
 };
-use xray_image::Image;
+use xray_image::{Image, SledKind};
 
 /// The state of a log that records.
 const INITIALIZED: u64 = LogState::Initialized as u64;
@@ -25,10 +26,14 @@ pub(crate) enum Stage {
     Opcode,
     /// Its offset.
     Offset,
-    /// The handler's word.
+    /// The argument handler's word, if the sled logs arguments.
+    ArgHandler,
+    /// The handler's word, if no argument handler was found.
     Handler,
     /// The log's state, if a handler is set.
     State,
+    /// The log's state, if an argument handler is set.
+    ArgState,
 }
 
 /// What a load leads to: another load of the passing, or its mark.
@@ -51,10 +56,11 @@ pub(crate) fn first_stage(hold: Option<u32>, passing: u32) -> Stage
 }
 
 /// The number of the word that is loaded at a stage of a passing of this sled.
-pub(crate) fn word_at(image: &Image, thread: u32, sled: u32, stage: Stage) -> u32
+pub(crate) fn word_at(image: &Image, threads: u32, thread: u32, sled: u32, stage: Stage) -> u32
     requires exists { sled < length image.now.sleds }
     requires thread { thread ≤ MAX_THREADS }
-    ensures { result ≡ word_at image.now thread sled stage }
+    requires threads { threads ≤ MAX_THREADS }
+    ensures { result ≡ word_at image.now threads thread sled stage }
 {
     image.sleds_stand_in_units();
     match stage {
@@ -63,15 +69,17 @@ pub(crate) fn word_at(image: &Image, thread: u32, sled: u32, stage: Stage) -> u3
         Stage::Id => word_of(sled, Part::Id),
         Stage::Opcode => word_of(sled, Part::Opcode),
         Stage::Offset => word_of(sled, Part::Offset),
+        Stage::ArgHandler => arg_handler_word(image, threads),
         Stage::Handler => handler_word(image),
-        Stage::State => state_word(image),
+        Stage::State | Stage::ArgState => state_word(image),
     }
 }
 
-/// What the load of a value leads to.
+/// What the load of a value leads to, in a passing of this sled.
 #[inline]
-pub(crate) fn after_load(stage: Stage, value: u64) -> Next
-    ensures { result ≡ after_load stage value }
+pub(crate) fn after_load(image: &Image, sled: u32, stage: Stage, value: u64) -> Next
+    requires { sled < length image.now.sleds }
+    ensures { result ≡ after_load (sled_logs_args image.now sled) stage value }
 {
     match stage {
         Stage::Release if value == HELD => Next::Loads(Stage::Release),
@@ -80,10 +88,25 @@ pub(crate) fn after_load(stage: Stage, value: u64) -> Next
         Stage::Head => Next::Ends(Mark::Skipped),
         Stage::Id => Next::Loads(Stage::Opcode),
         Stage::Opcode => Next::Loads(Stage::Offset),
-        Stage::Offset => Next::Loads(Stage::Handler),
+        Stage::Offset => Next::Loads(after_offset(image, sled)),
+        Stage::ArgHandler if value == NO_HANDLER => Next::Loads(Stage::Handler),
+        Stage::ArgHandler => Next::Loads(Stage::ArgState),
         Stage::Handler if value == NO_HANDLER => Next::Ends(Mark::NoHandler),
         Stage::Handler => Next::Loads(Stage::State),
         Stage::State if value == INITIALIZED => Next::Ends(Mark::Recorded),
-        Stage::State => Next::Ends(Mark::NotLogging),
+        Stage::ArgState if value == INITIALIZED => Next::Ends(Mark::RecordedArg),
+        Stage::State | Stage::ArgState => Next::Ends(Mark::NotLogging),
+    }
+}
+
+/// The stage after the offset of this sled: only a sled that logs arguments loads the argument
+/// handler's word.
+fn after_offset(image: &Image, sled: u32) -> Stage
+    requires { sled < length image.now.sleds }
+    ensures { result ≡ handlers_by (sled_logs_args image.now sled) }
+{
+    match image.sled(sled).kind {
+        SledKind::Args => Stage::ArgHandler,
+        SledKind::Entry | SledKind::Exit | SledKind::Tail => Stage::Handler,
     }
 }

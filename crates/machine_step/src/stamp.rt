@@ -1,8 +1,7 @@
 //! The events of passings.
-ghost use Rattle.std.specs.Prelude.{◌≡◌, ◌<◌, ◌≤◌, ◌+◌, ◌*◌, ◌/◌, ◌%◌, ◌^◌, ℕ, length, slice_get, Some, None, if◌then◌else◌};
+ghost use Rattle.std.specs.Prelude.{◌≡◌, ◌<◌, ◌≤◌, ◌+◌, ◌*◌, ◌/◌, ◌%◌, ◌^◌, ℕ, length, slice_get, Some};
 ghost use Rattle.xray_image.specs.declared.sled.Sled.{Sled};
-ghost use Rattle.handler_word.specs.MarkList.{is_recorded};
-ghost use Rattle.machine_step.specs.Events.{event_kind, event_of};
+ghost use Rattle.machine_step.specs.Events.{event_kind, event_of, stamped};
 ghost use Rattle.machine_step.specs.private.Machine.{state_at};
 ghost use Rattle.machine_step.specs.{PlainStep.{passing_at}, Setups.{AreLimits}};
 
@@ -13,7 +12,7 @@ use handler_word::Mark;
 use xray_image::{Image, SledKind};
 
 /// The event of the passing of a sled that a machine is about to make, if its mark says that it is
-/// recorded.
+/// recorded: with its argument, or without.
 #[inline]
 pub(crate) fn event_at(
     image: &Image,
@@ -26,20 +25,35 @@ pub(crate) fn event_at(
     requires limits { AreLimits limits }
     requires sled { sled < length image.now.sleds }
     ensures { (address k : ℕ) (at : Sled) → slice_get image.now.sleds sled ≡ Some at
-        → result ≡ (if is_recorded mark
-        then Some (event_of (passing_at limits thread (state_at address machine.now) k at))
-        else None) }
+        → result ≡ event_of (passing_at limits thread (state_at address machine.now) k at) mark }
 {
-    if mark != Mark::Recorded {
-        return None;
+    match mark {
+        Mark::Skipped | Mark::NoHandler | Mark::NotLogging => None,
+        Mark::Recorded => Some(plain_event(image, sled, thread, machine, limits)),
+        Mark::RecordedArg => Some(Event {
+            kind: Kind::EntryArgs,
+            arg: machine.registers.first_argument(),
+            ..plain_event(image, sled, thread, machine, limits)
+        }),
     }
+}
+
+/// The event of the passing of a sled that a machine is about to make, without an argument.
+#[inline]
+fn plain_event(image: &Image, sled: u32, thread: u32, machine: &Machine, limits: Limits) -> Event
+    requires limits { AreLimits limits }
+    requires sled { sled < length image.now.sleds }
+    ensures { (address k : ℕ) (at : Sled) → slice_get image.now.sleds sled ≡ Some at
+        → result ≡ stamped (passing_at limits thread (state_at address machine.now) k at) (event_kind at.kind) 0 }
+{
     let sled = image.sled(sled);
-    Some(Event {
-        cpu: cpu_at(thread, machine.passings, limits),
-        func: sled.id,
-        kind: event_kind(sled.kind),
+    Event {
         tsc: counter_at(machine.instructions, limits),
-    })
+        arg: 0,
+        func: sled.id,
+        cpu: cpu_at(thread, machine.passings, limits),
+        kind: event_kind(sled.kind),
+    }
 }
 
 /// The number of the CPU on which a thread is in its passing of this number. It is the thread's
@@ -81,12 +95,12 @@ fn counter_at(instructions: u64, limits: Limits) -> u64
         .wrapping_add(limits.tick.wrapping_mul(instructions))
 }
 
-/// The kind of an event at a sled of this kind.
+/// The kind of an event without an argument at a sled of this kind.
 fn event_kind(kind: SledKind) -> Kind
     ensures { result ≡ event_kind kind }
 {
     match kind {
-        SledKind::Entry => Kind::Entry,
+        SledKind::Entry | SledKind::Args => Kind::Entry,
         SledKind::Exit => Kind::Exit,
         SledKind::Tail => Kind::TailExit,
     }

@@ -146,7 +146,7 @@ fn step_of_sled(sled: u32, kind: SledKind) -> Step
     ensures { result ≡ step_of_sled sled kind }
 {
     match kind {
-        SledKind::Entry | SledKind::Tail => Step::Passing { sled },
+        SledKind::Entry | SledKind::Tail | SledKind::Args => Step::Passing { sled },
         SledKind::Exit => Step::Leaving { sled },
     }
 }

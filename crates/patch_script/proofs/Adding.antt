@@ -62,24 +62,24 @@ module _ (old : PlacedCommands) (line : ℕ) (command : Command) (range : SledRa
   sled_count : length (sleds_named old.image.value command) ≡ range.end - range.start
   sled_count = ap length has.sleds ∙ range_length old.image.value range has.ordered has.within
 
-  total_whole : total ≡ total_of old.image.value (before ++ command ∷ [])
+  total_whole : total ≡ total_of old.image.value old.threads (before ++ command ∷ [])
   total_whole =
       total_is ∙ ap (λ n. n + step_count command (range.end - range.start)) are.total
-      ∙ sym (total_more old.image.value before command ∙ ap (λ n. total_of old.image.value before + step_count command n) sled_count)
+      ∙ sym (total_more old.image.value old.threads before command ∙ ap (λ n. total_of old.image.value old.threads before + step_count command n) sled_count)
 
   count : length before ≡ length old.commands.items
   count = as_many old are
 
-  last_placed : IsPlaced old.image.value before last
+  last_placed : IsPlaced old.image.value old.threads before last
   last_placed = record { before = are.total; sleds = has; thread = few_threads command follows.thread }
 
-  each : (i : ℕ) (one : Placed) → slice_get items.items i ≡ Some one → IsPlaced old.image.value (take i (commands_of (lines_in new))) one
+  each : (i : ℕ) (one : Placed) → slice_get items.items i ≡ Some one → IsPlaced old.image.value old.threads (take i (commands_of (lines_in new))) one
   each i one at =
       let there : slice_get (old.commands.items ++ last ∷ []) i ≡ Some one = sym (ap (λ (ps : List Placed). slice_get ps i) items_are) ∙ at in
       elim (cases_lt i (length old.commands.items)) [
         | inl lt ↦
             let same : take i (commands_of (lines_in new)) ≡ take i before = ap (take i) script_more ∙ take-append-le i before (command ∷ []) (omega (arith, count)) in
-            subst (λ (front : List Command). IsPlaced old.image.value front one) (sym same)
+            subst (λ (front : List Command). IsPlaced old.image.value old.threads front one) (sym same)
             (are.each i one (sym (slice_get-append_left old.commands.items (last ∷ []) i lt) ∙ there))
         | inr le ↦
             let within = slice_get_within (old.commands.items ++ last ∷ []) i one there in
@@ -87,17 +87,17 @@ module _ (old : PlacedCommands) (line : ℕ) (command : Command) (range : SledRa
             let is : last ≡ one = same_Some last one (sym (ap (slice_get (old.commands.items ++ last ∷ [])) here ∙ slice_get-append_right old.commands.items (last ∷ []) 0) ∙ there) in
             let same : take i (commands_of (lines_in new)) ≡ before =
             ap (take i) script_more ∙ take-append-le i before (command ∷ []) (omega (arith, count, here)) ∙ take_all i before (omega (arith, count)) in
-            subst (λ (front : List Command). IsPlaced old.image.value front one) (sym same) (subst (IsPlaced old.image.value before) is last_placed)
+            subst (λ (front : List Command). IsPlaced old.image.value old.threads front one) (sym same) (subst (IsPlaced old.image.value old.threads before) is last_placed)
       ]
 
   pub placed_more : ArePlaced new
   placed_more = record {
-    image = record { few = are.image.few; in_order = are.image.in_order; sleds = are.image.sleds; handler = are.image.handler; state = are.image.state };
+    image = record { few = are.image.few; in_order = are.image.in_order; sleds = are.image.sleds; handler = are.image.handler; state = are.image.state; arg_handler = are.image.arg_handler };
     each = each;
-    total = total_whole ∙ sym (ap (total_of old.image.value) script_more);
+    total = total_whole ∙ sym (ap (total_of old.image.value old.threads) script_more);
     start = start_is ∙ ap (λ b. cond b old.start total) going_is
-        ∙ ap (λ n. cond (has_go before) n total) are.start ∙ ap (λ n. cond (has_go before) (start_of old.image.value before) n) total_whole
-        ∙ sym (ap (start_of old.image.value) script_more ∙ start_more old.image.value before command);
+        ∙ ap (λ n. cond (has_go before) n total) are.start ∙ ap (λ n. cond (has_go before) (start_of old.image.value old.threads before) n) total_whole
+        ∙ sym (ap (start_of old.image.value old.threads) script_more ∙ start_more old.image.value old.threads before command);
     waits = waits_are ∙ ap (λ w. option_or w (cond (is_waiting command) (Some line) None)) are.waits
         ∙ sym (ap waiting_line lines_more ∙ waiting_more (lines_in old) line command);
     first = subst (λ (script : List Command). AreFirst (id_count old.image.value) script first) (sym script_more)

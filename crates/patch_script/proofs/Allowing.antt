@@ -3,7 +3,7 @@ use Rattle.std.proofs.Common.{◌≡◌, ◌≢◌, ℕ, ◌≤◌, List, Some, 
 use Rattle.std.specs.Prelude.{slice_get, ◌⊎◌}
 use Rattle.xray_image.specs.declared.sled.Sled.{Sled}
 use Rattle.xray_image.specs.declared.sled.SledKind.{SledKind}
-use Rattle.xray_image.specs.declared.sled.SledKind.TheVariants.{Entry, Exit, Tail}
+use Rattle.xray_image.specs.declared.sled.SledKind.TheVariants.{Entry, Exit, Tail, Args}
 use Rattle.xray_image.specs.Program.{Program}
 use Rattle.sled_words.specs.declared.part.Part.{Part}
 use Rattle.sled_words.specs.declared.part.Part.TheVariants.{Head, Id, Opcode, Offset}
@@ -22,20 +22,22 @@ use Rattle.patch_script.proofs.WordNumbers.{same_part, same_sled}
 head_allowed : (kind : SledKind) (head : ℕ) → IsHead kind head → (head ≡ patched_head) ⊎ IsUnpatchedHead kind head
 head_allowed Entry head is = is
 head_allowed Tail head is = is
+head_allowed Args head is = is
 head_allowed Exit head (inl e) = inl e
 head_allowed Exit head (inr (inl e)) = inr (subst (IsUnpatchedHead Exit) (sym e) (omega arith, refl))
 head_allowed Exit head (inr (inr e)) = inr (subst (IsUnpatchedHead Exit) (sym e) (omega arith, refl))
 
 -- a value that a word may have is allowed; a part after a patched head has to be what patching stores
-allowed_by : (program : Program) (thread word value : ℕ) → IsCodeValue program word value
+allowed_by : (program : Program) (threads thread word value : ℕ) → IsCodeValue program threads word value
     → ((k : ℕ) (sled : Sled) (part : Part) → slice_get program.sleds k ≡ Some sled → word ≡ word_of k part → part ≢ Head
     → value ≡ patched program.trampolines sled part)
-    → IsAllowed program thread word value
-allowed_by program thread word value is after_head = record {
+    → IsAllowed program threads thread word value
+allowed_by program threads thread word value is after_head = record {
   part = by_part;
   handler = is.handler;
   state = is.state;
   release = is.release thread;
+  arg_handler = is.arg_handler;
 }
   where
     by_part : (k : ℕ) (sled : Sled) (part : Part) → slice_get program.sleds k ≡ Some sled → word ≡ word_of k part
@@ -45,37 +47,37 @@ allowed_by program thread word value is after_head = record {
     by_part k sled Opcode at same = after_head k sled Opcode at same (λ e. cc)
     by_part k sled Offset at same = after_head k sled Offset at same (λ e. cc)
 
-allowed_head : (program : Program) (script : List Command) (thread place k : ℕ)
-    → IsAllowed program thread (word_of k Head) (code_at program script place (word_of k Head))
-allowed_head program script thread place k =
-    allowed_by program thread (word_of k Head) _ (code_values program script place (word_of k Head))
+allowed_head : (program : Program) (threads : ℕ) (script : List Command) (thread place k : ℕ)
+    → IsAllowed program threads thread (word_of k Head) (code_at program threads script place (word_of k Head))
+allowed_head program threads script thread place k =
+    allowed_by program threads thread (word_of k Head) _ (code_values program threads script place (word_of k Head))
     (λ j sled part at same other. absurd (other (sym (same_part k j Head part same))))
 
-allowed_after_head : (program : Program) (script : List Command) (thread p q k : ℕ) (part : Part) → p ≤ q → HasPatchedHead program script p k
-    → part ≢ Head → IsAllowed program thread (word_of k part) (code_at program script q (word_of k part))
-allowed_after_head program script thread p q k part le head other =
-    allowed_by program thread (word_of k part) _ (code_values program script q (word_of k part))
+allowed_after_head : (program : Program) (threads : ℕ) (script : List Command) (thread p q k : ℕ) (part : Part) → p ≤ q → HasPatchedHead program threads script p k
+    → part ≢ Head → IsAllowed program threads thread (word_of k part) (code_at program threads script q (word_of k part))
+allowed_after_head program threads script thread p q k part le head other =
+    allowed_by program threads thread (word_of k part) _ (code_values program threads script q (word_of k part))
     (λ j sled a at same following.
-    let patched_j : HasPatchedHead program script p j =
-    subst (HasPatchedHead program script p) (same_sled k j part a same) head in
-    ap (code_at program script q) same ∙ part_patched program script p q j sled a at following le patched_j)
+    let patched_j : HasPatchedHead program threads script p j =
+    subst (HasPatchedHead program threads script p) (same_sled k j part a same) head in
+    ap (code_at program threads script q) same ∙ part_patched program threads script p q j sled a at following le patched_j)
 
-allowed_part : (program : Program) (script : List Command) (thread p q k : ℕ) (part : Part) → p ≤ q → HasPatchedHead program script p k
-    → IsAllowed program thread (word_of k part) (code_at program script q (word_of k part))
-allowed_part program script thread p q k Head le head = allowed_head program script thread q k
-allowed_part program script thread p q k Id le head = allowed_after_head program script thread p q k Id le head (λ e. cc)
-allowed_part program script thread p q k Opcode le head = allowed_after_head program script thread p q k Opcode le head (λ e. cc)
-allowed_part program script thread p q k Offset le head = allowed_after_head program script thread p q k Offset le head (λ e. cc)
+allowed_part : (program : Program) (threads : ℕ) (script : List Command) (thread p q k : ℕ) (part : Part) → p ≤ q → HasPatchedHead program threads script p k
+    → IsAllowed program threads thread (word_of k part) (code_at program threads script q (word_of k part))
+allowed_part program threads script thread p q k Head le head = allowed_head program threads script thread q k
+allowed_part program threads script thread p q k Id le head = allowed_after_head program threads script thread p q k Id le head (λ e. cc)
+allowed_part program threads script thread p q k Opcode le head = allowed_after_head program threads script thread p q k Opcode le head (λ e. cc)
+allowed_part program threads script thread p q k Offset le head = allowed_after_head program threads script thread p q k Offset le head (λ e. cc)
 
-allowed_others : (program : Program) (script : List Command) (thread place word : ℕ) → handler_word program ≤ word
-    → IsAllowed program thread word (code_at program script place word)
-allowed_others program script thread place word past =
-    allowed_by program thread word _ (code_values program script place word)
+allowed_others : (program : Program) (threads : ℕ) (script : List Command) (thread place word : ℕ) → handler_word program ≤ word
+    → IsAllowed program threads thread word (code_at program threads script place word)
+allowed_others program threads script thread place word past =
+    allowed_by program threads thread word _ (code_values program threads script place word)
     (λ k sled part at same other. absurd (apart program k sled part word at past same))
 
-pub keeps_sleds : (program : Program) (script : List Command) (thread : ℕ) → KeepsSleds program thread (code_at program script)
-keeps_sleds program script thread = record {
-  head = allowed_head program script thread;
-  part = allowed_part program script thread;
-  other = allowed_others program script thread;
+pub keeps_sleds : (program : Program) (threads : ℕ) (script : List Command) (thread : ℕ) → KeepsSleds program threads thread (code_at program threads script)
+keeps_sleds program threads script thread = record {
+  head = allowed_head program threads script thread;
+  part = allowed_part program threads script thread;
+  other = allowed_others program threads script thread;
 }

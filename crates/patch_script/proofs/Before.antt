@@ -56,36 +56,37 @@ store_heads : (earlier : List ℕ) (sleds : List Numbered) → list_any (λ s. i
 store_heads earlier [] = refl
 store_heads earlier (s ∷ ss) = store_heads earlier ss
 
-store_steps : (program : Program) (earlier : List ℕ) (command : Command) → awaits command ≡ false → list_any is_no_store (steps_of program earlier command) ≡ false
-store_steps program earlier commands.Patch fits = patched_none is_no_store program (all_sleds program) (store_sleds program (all_sleds program))
-store_steps program earlier commands.Unpatch fits = unpatched_none is_no_store program earlier (all_sleds program) (store_heads earlier (all_sleds program))
-store_steps program earlier (commands.PatchFunction id) fits = patched_none is_no_store program (sleds_of program id) (store_sleds program (sleds_of program id))
-store_steps program earlier (commands.UnpatchFunction id) fits = unpatched_none is_no_store program earlier (sleds_of program id) (store_heads earlier (sleds_of program id))
-store_steps program earlier (commands.Await thread count) fits = absurd cc
-store_steps program earlier command fits = refl
+store_steps : (program : Program) (threads : ℕ) (earlier : List ℕ) (command : Command) → awaits command ≡ false → list_any is_no_store (steps_of program threads earlier command) ≡ false
+store_steps program threads earlier commands.Patch fits = patched_none is_no_store program (all_sleds program) (store_sleds program (all_sleds program))
+store_steps program threads earlier commands.Unpatch fits = unpatched_none is_no_store program earlier (all_sleds program) (store_heads earlier (all_sleds program))
+store_steps program threads earlier (commands.PatchFunction id) fits = patched_none is_no_store program (sleds_of program id) (store_sleds program (sleds_of program id))
+store_steps program threads earlier (commands.UnpatchFunction id) fits = unpatched_none is_no_store program earlier (sleds_of program id) (store_heads earlier (sleds_of program id))
+store_steps program threads earlier (commands.Await thread count) fits = absurd cc
+store_steps program threads earlier command fits = refl
 
 is_store : (micro : Micro) → is_no_store micro ≡ false → IsStore micro
 is_store (Store word value) h = tt
 is_store (Await thread count) h = absurd cc
 is_store End h = absurd cc
 
-pub stores_before_go : (plan : Plan) → IsOrderly plan → (place : ℕ) → place < start_of plan.program (commands_of plan.lines)
-    → IsStore (micro_at plan.program (commands_of plan.lines) place)
+pub stores_before_go : (plan : Plan) → IsOrderly plan → (place : ℕ) → place < start_of plan.program plan.threads (commands_of plan.lines)
+    → IsStore (micro_at plan.program plan.threads (commands_of plan.lines) place)
 stores_before_go plan all place lt =
     let program = plan.program in
+    let threads = plan.threads in
     let script = commands_of plan.lines in
     let front = take_while stays script in
     let none : list_any awaits front ≡ false = no_await [] script refl (λ i c at. placed i c at) in
-    let stores : list_any is_no_store (micros program front) ≡ false = script_none is_no_store program awaits (store_steps program) [] front none in
+    let stores : list_any is_no_store (micros program threads front) ≡ false = script_none is_no_store program threads awaits (store_steps program threads) [] front none in
     let whole = whole_front script in
-    let split : micros program script ≡ micros program front ++ micros_after program (patched_by program front) whole.0 =
-    ap (micros program) whole.1 ∙ micros_after-append program [] front whole.0 in
-    let there : slice_get (micros program script) place ≡ Some (get_or (micros program front) place End) =
+    let split : micros program threads script ≡ micros program threads front ++ micros_after program threads (patched_by program front) whole.0 =
+    ap (micros program threads) whole.1 ∙ micros_after-append program threads [] front whole.0 in
+    let there : slice_get (micros program threads script) place ≡ Some (get_or (micros program threads front) place End) =
     ap (λ steps. slice_get steps place) split
-    ∙ slice_get-append_left (micros program front) (micros_after program (patched_by program front) whole.0) place lt
-    ∙ slice_get-get_or (micros program front) place End lt in
+    ∙ slice_get-append_left (micros program threads front) (micros_after program threads (patched_by program front) whole.0) place lt
+    ∙ slice_get-get_or (micros program threads front) place End lt in
     subst IsStore (sym (ap (λ o. unwrap_or o End) there))
-    (is_store (get_or (micros program front) place End) (found_none is_no_store program (micros program front) stores place lt))
+    (is_store (get_or (micros program threads front) place End) (found_none is_no_store program (micros program threads front) stores place lt))
   where
     placed : (i : ℕ) (c : Command) → slice_get (commands_of plan.lines) i ≡ Some c → is_misplaced (take i (commands_of plan.lines)) c ≡ false
     placed i c at =

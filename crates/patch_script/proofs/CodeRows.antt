@@ -1,7 +1,7 @@
 -- Worked examples of the code at a place, checked by computing.
 use Rattle.std.proofs.Common.{◌≡◌, ℕ, List, [], ◌∷◌, map, refl}
 use Rattle.sled_words.specs.declared.part.Part.TheVariants.{Head, Id, Opcode, Offset}
-use Rattle.sled_words.specs.Words.{word_of, handler_word, state_word, release_word}
+use Rattle.sled_words.specs.Words.{word_of, handler_word, state_word, release_word, arg_handler_word}
 use Rattle.patch_script.specs.declared.command.Command.{Command}
 use Rattle.patch_script.specs.declared.command.Command.TheVariants as commands
 use Rattle.patch_script.specs.CodeAt.{code_at}
@@ -9,7 +9,7 @@ use Rattle.patch_script.proofs.Rows.{one_function}
 
 -- eight stores patch the two sleds, and two unpatch them
 script : List Command
-script = commands.Patch ∷ commands.Go ∷ commands.Unpatch ∷ commands.Init ∷ commands.SetHandler ∷ []
+script = commands.Patch ∷ commands.Go ∷ commands.Unpatch ∷ commands.Init ∷ commands.SetHandler ∷ commands.SetArgHandler ∷ []
 
 -- words of the code after some of the stores: how many stores, the word, and what it holds
 rows : List (ℕ × ℕ × ℕ)
@@ -24,16 +24,18 @@ rows =
     ∷ (9, word_of 0 Opcode, 0xE8)
     -- an exit sled that was patched is a return with another byte after it
     ∷ (10, word_of 1 Head, 0xBAC3)
-    -- the log is being initialized, and then is initialized; the handler is set last
+    -- the log is being initialized, and then is initialized; then the handler is set, and then the argument handler
     ∷ (11, state_word one_function, 1)
     ∷ (12, state_word one_function, 2)
     ∷ (12, handler_word one_function, 0)
     ∷ (13, handler_word one_function, 1)
+    ∷ (13, arg_handler_word one_function 1, 0)
+    ∷ (14, arg_handler_word one_function 1, 1)
     ∷ []
 
-each_holds : map (λ row. code_at one_function script row.0 row.1) rows ≡ map (λ row. row.2) rows
+each_holds : map (λ row. code_at one_function 1 script row.0 row.1) rows ≡ map (λ row. row.2) rows
 unfolding script rows
 each_holds = refl
 
-released : code_at one_function (commands.Hold 2 0 ∷ commands.Go ∷ commands.Release 2 ∷ []) 1 (release_word one_function 2) ≡ 1
+released : code_at one_function 2 (commands.Hold 2 0 ∷ commands.Go ∷ commands.Release 2 ∷ []) 1 (release_word one_function 2) ≡ 1
 released = refl

@@ -15,7 +15,7 @@ use Rattle.sled_words.specs.declared.part.Part.{Part}
 use Rattle.sled_words.specs.declared.part.Part.TheVariants.{Head, Id, Opcode, Offset}
 use Rattle.sled_words.specs.ChangingCode.{LetsEnd}
 use Rattle.sled_words.specs.Parts.{patched}
-use Rattle.sled_words.specs.Words.{handler_word, release_word, state_word}
+use Rattle.sled_words.specs.Words.{handler_word, release_word, state_word, arg_handler_word}
 use Rattle.patch_script.specs.declared.command.Command.{Command}
 use Rattle.patch_script.specs.declared.command.Command.TheVariants as commands
 use Rattle.patch_script.specs.declared.micro.Micro.{Micro}
@@ -30,10 +30,10 @@ use Rattle.patch_script.proofs.Awaiting.{bound_awaited, bound_reached, bound_wit
 use Rattle.patch_script.proofs.Before.{awaits, no_await}
 use Rattle.patch_script.proofs.Holding.{held_found, option_or-none, option_or_assoc}
 use Rattle.patch_script.proofs.Lists.{list_any-last, slice_get-append_right, split_at}
-use Rattle.patch_script.proofs.Orderly.{orderly, said_for}
+use Rattle.patch_script.proofs.Orderly.{orderly, said_for, threads_for}
 use Rattle.patch_script.proofs.Steps.{stays, whole_front, micros_after-append}
 use Rattle.patch_script.proofs.WordValues.{following, code_at_next}
-use Rattle.patch_script.proofs.Within.{neither, or_parts, patched_none, unpatched_none, script_none, found_none, is_bad_sled, all_near, some_near}
+use Rattle.patch_script.proofs.Within.{neither, or_parts, patched_none, unpatched_none, script_none, found_none, is_bad_sled, all_near, some_near, not_beyond}
 
 and_false : (a b : Bool) → b ≡ false → (a && b) ≡ false
 and_false true b h = h
@@ -177,24 +177,24 @@ calm_heads : (thread passing : ℕ) (earlier : List ℕ) (sleds : List Numbered)
 calm_heads thread passing earlier [] = refl
 calm_heads thread passing earlier (s ∷ ss) = calm_heads thread passing earlier ss
 
-calm_steps : (program : Program) (thread passing : ℕ) (earlier : List ℕ) (command : Command) → awaits_too thread passing command ≡ false
-    → list_any (awaits_passing thread passing) (steps_of program earlier command) ≡ false
-calm_steps program thread passing earlier commands.Patch fits =
+calm_steps : (program : Program) (threads thread passing : ℕ) (earlier : List ℕ) (command : Command) → awaits_too thread passing command ≡ false
+    → list_any (awaits_passing thread passing) (steps_of program threads earlier command) ≡ false
+calm_steps program threads thread passing earlier commands.Patch fits =
     patched_none (awaits_passing thread passing) program (all_sleds program) (calm_sleds thread passing program (all_sleds program))
-calm_steps program thread passing earlier commands.Unpatch fits =
+calm_steps program threads thread passing earlier commands.Unpatch fits =
     unpatched_none (awaits_passing thread passing) program earlier (all_sleds program) (calm_heads thread passing earlier (all_sleds program))
-calm_steps program thread passing earlier (commands.PatchFunction id) fits =
+calm_steps program threads thread passing earlier (commands.PatchFunction id) fits =
     patched_none (awaits_passing thread passing) program (sleds_of program id) (calm_sleds thread passing program (sleds_of program id))
-calm_steps program thread passing earlier (commands.UnpatchFunction id) fits =
+calm_steps program threads thread passing earlier (commands.UnpatchFunction id) fits =
     unpatched_none (awaits_passing thread passing) program earlier (sleds_of program id) (calm_heads thread passing earlier (sleds_of program id))
-calm_steps program thread passing earlier (commands.Await awaited count) fits =
+calm_steps program threads thread passing earlier (commands.Await awaited count) fits =
     neither ((awaited == thread) && nat_lt passing count) false fits refl
-calm_steps program thread passing earlier command fits = refl
+calm_steps program threads thread passing earlier command fits = refl
 
-calm_micros : (program : Program) (thread passing : ℕ) (script : List Command) → list_any (awaits_too thread passing) script ≡ false
-    → list_any (awaits_passing thread passing) (micros program script) ≡ false
-calm_micros program thread passing script none =
-    script_none (awaits_passing thread passing) program (awaits_too thread passing) (calm_steps program thread passing) [] script none
+calm_micros : (program : Program) (threads thread passing : ℕ) (script : List Command) → list_any (awaits_too thread passing) script ≡ false
+    → list_any (awaits_passing thread passing) (micros program threads script) ≡ false
+calm_micros program threads thread passing script none =
+    script_none (awaits_passing thread passing) program threads (awaits_too thread passing) (calm_steps program threads thread passing) [] script none
 
 -- the first step that passes a test comes after those that don't
 first_after : (p : Micro → Bool) (xs ys : List Micro) → list_any p xs ≡ false → length xs ≤ position_or_len p (xs ++ ys)
@@ -218,25 +218,25 @@ unawaited (c ∷ cs) thread passing none =
 
 -- none is before `go`
 bound_begins : (program : Program) (threads : ℕ) (script : List Command) → AllFollow program threads script → (thread passing : ℕ)
-    → start_of program script ≤ bound_of program script thread passing
+    → start_of program threads script ≤ bound_of program threads script thread passing
 bound_begins program threads script follow thread passing =
     let front = take_while stays script in
     let none : list_any awaits front ≡ false =
     no_await [] script refl (λ i c at. (follow (take i script) c (drop (suc i) script) (split_at script i c at)).place) in
     let whole = whole_front script in
-    let split : micros program script ≡ micros program front ++ micros_after program (patched_by program front) whole.0 =
-    ap (micros program) whole.1 ∙ micros_after-append program [] front whole.0 in
-    subst (λ steps. start_of program script ≤ position_or_len (awaits_passing thread passing) steps) (sym split)
-    (first_after (awaits_passing thread passing) (micros program front) (micros_after program (patched_by program front) whole.0)
-    (calm_micros program thread passing front (unawaited front thread passing none)))
+    let split : micros program threads script ≡ micros program threads front ++ micros_after program threads (patched_by program front) whole.0 =
+    ap (micros program threads) whole.1 ∙ micros_after-append program threads [] front whole.0 in
+    subst (λ steps. start_of program threads script ≤ position_or_len (awaits_passing thread passing) steps) (sym split)
+    (first_after (awaits_passing thread passing) (micros program threads front) (micros_after program threads (patched_by program front) whole.0)
+    (calm_micros program threads thread passing front (unawaited front thread passing none)))
 
 -- they never fall
-bound_rises : (program : Program) (script : List Command) (thread passing : ℕ)
-    → bound_of program script thread passing ≤ bound_of program script thread (passing + 1)
-bound_rises program script thread passing =
-    bound_reached program script thread (passing + 1) (bound_of program script thread passing) (bound_within program script thread passing)
+bound_rises : (program : Program) (threads : ℕ) (script : List Command) (thread passing : ℕ)
+    → bound_of program threads script thread passing ≤ bound_of program threads script thread (passing + 1)
+bound_rises program threads script thread passing =
+    bound_reached program threads script thread (passing + 1) (bound_of program threads script thread passing) (bound_within program threads script thread passing)
     (λ i count below at. elim (cases_lt passing count) [
-      | inl less ↦ let past = bound_awaited program script thread passing i count at less in absurd (omega (arith, past, below))
+      | inl less ↦ let past = bound_awaited program threads script thread passing i count at less in absurd (omega (arith, past, below))
       | inr few ↦ omega (arith, few)
     ])
 
@@ -248,7 +248,7 @@ unsets word (Store w value) = (w == word) && not (value == 1)
 unsets word (Await thread count) = false
 unsets word End = false
 
-module _ (program : Program) (thread : ℕ) (some : 0 < thread) where
+module _ (program : Program) (threads thread : ℕ) (some : 0 < thread) (few : thread ≤ threads) where
   abbrev own_word : ℕ
   own_word = release_word program thread
 
@@ -286,7 +286,11 @@ module _ (program : Program) (thread : ℕ) (some : 0 < thread) where
   other_sets word value below =
       false_and (word == own_word) (not (value == 1)) (ne_eqb word own_word (λ same. omega (arith, same, below)))
 
-  steps_set : (earlier : List ℕ) (command : Command) → list_any (unsets own_word) (steps_of program earlier command) ≡ false
+  later_sets : (word value : ℕ) → own_word < word → ((word == own_word) && not (value == 1)) ≡ false
+  later_sets word value above =
+      false_and (word == own_word) (not (value == 1)) (ne_eqb word own_word (λ same. omega (arith, same, above)))
+
+  steps_set : (earlier : List ℕ) (command : Command) → list_any (unsets own_word) (steps_of program threads earlier command) ≡ false
   steps_set earlier commands.Patch =
       patched_none (unsets own_word) program (all_sleds program) (sleds_set (all_sleds program) (all_near program 0))
   steps_set earlier commands.Unpatch =
@@ -297,6 +301,8 @@ module _ (program : Program) (thread : ℕ) (some : 0 < thread) where
       unpatched_none (unsets own_word) program earlier (sleds_of program id) (heads_set earlier (sleds_of program id) (some_near program 0 id))
   steps_set earlier commands.SetHandler = neither _ _ (other_sets (handler_word program) 1 (omega (arith, some))) refl
   steps_set earlier commands.RemoveHandler = neither _ _ (other_sets (handler_word program) 0 (omega (arith, some))) refl
+  steps_set earlier commands.SetArgHandler = neither _ _ (later_sets (arg_handler_word program threads) 1 (omega (arith, some, few))) refl
+  steps_set earlier commands.RemoveArgHandler = neither _ _ (later_sets (arg_handler_word program threads) 0 (omega (arith, some, few))) refl
   steps_set earlier commands.Init =
       neither _ _ (other_sets (state_word program) 1 (omega (arith, some))) (neither _ _ (other_sets (state_word program) 2 (omega (arith, some))) refl)
   steps_set earlier commands.Finalize =
@@ -306,8 +312,8 @@ module _ (program : Program) (thread : ℕ) (some : 0 < thread) where
   steps_set earlier (commands.Release released) = neither _ _ (and_false (release_word program released == own_word) false refl) refl
   steps_set earlier (commands.Await awaited count) = refl
 
-  all_set : (script : List Command) → list_any (unsets own_word) (micros program script) ≡ false
-  all_set script = script_none (unsets own_word) program (λ _. false) (λ earlier command _. steps_set earlier command) [] script (none_false script)
+  all_set : (script : List Command) → list_any (unsets own_word) (micros program threads script) ≡ false
+  all_set script = script_none (unsets own_word) program threads (λ _. false) (λ earlier command _. steps_set earlier command) [] script (none_false script)
     where
       none_false : (cs : List Command) → list_any (λ _. false) cs ≡ false
       none_false [] = refl
@@ -328,62 +334,62 @@ module _ (program : Program) (thread : ℕ) (some : 0 < thread) where
   stays_one (Await awaited count) value set one = one
   stays_one End value set one = one
 
-  step_sets : (script : List Command) (place : ℕ) → unsets own_word (micro_at program script place) ≡ false
-  step_sets script place = elim (cases_lt place (total_of program script)) [
+  step_sets : (script : List Command) (place : ℕ) → unsets own_word (micro_at program threads script place) ≡ false
+  step_sets script place = elim (cases_lt place (total_of program threads script)) [
     | inl lt ↦
-        ap (λ o. unsets own_word (unwrap_or o End)) (slice_get-get_or (micros program script) place End lt)
-        ∙ found_none (unsets own_word) program (micros program script) (all_set script) place lt
-    | inr past ↦ ap (λ o. unsets own_word (unwrap_or o End)) (slice_get_past (micros program script) place past)
+        ap (λ o. unsets own_word (unwrap_or o End)) (slice_get-get_or (micros program threads script) place End lt)
+        ∙ found_none (unsets own_word) program (micros program threads script) (all_set script) place lt
+    | inr past ↦ ap (λ o. unsets own_word (unwrap_or o End)) (slice_get_past (micros program threads script) place past)
   ]
 
-  one_from : (script : List Command) (place more : ℕ) → code_at program script place own_word ≡ 1 → code_at program script (place + more) own_word ≡ 1
-  one_from script place zero one = ap (λ p. code_at program script p own_word) (let here : place + 0 ≡ place = omega arith in here) ∙ one
+  one_from : (script : List Command) (place more : ℕ) → code_at program threads script place own_word ≡ 1 → code_at program threads script (place + more) own_word ≡ 1
+  one_from script place zero one = ap (λ p. code_at program threads script p own_word) (let here : place + 0 ≡ place = omega arith in here) ∙ one
   one_from script place (suc more) one =
-      ap (λ p. code_at program script p own_word) (let next : place + suc more ≡ place + more + 1 = omega arith in next)
-      ∙ (code_at_next program script (place + more) own_word
-      ∙ stays_one (micro_at program script (place + more)) (code_at program script (place + more) own_word)
+      ap (λ p. code_at program threads script p own_word) (let next : place + suc more ≡ place + more + 1 = omega arith in next)
+      ∙ (code_at_next program threads script (place + more) own_word
+      ∙ stays_one (micro_at program threads script (place + more)) (code_at program threads script (place + more) own_word)
       (step_sets script (place + more)) (one_from script place more one))
 
   -- it is 1 at all places after its release
   one_after : (script before rest : List Command) → script ≡ before ++ commands.Release thread ∷ rest → (place : ℕ)
-      → total_of program before < place → code_at program script place own_word ≡ 1
+      → total_of program threads before < place → code_at program threads script place own_word ≡ 1
   one_after script before rest is place past =
-      let first = total_of program before in
-      let more = micros_after program (patched_by program before) (commands.Release thread ∷ rest) in
-      let split : micros program script ≡ micros program before ++ more =
-      ap (micros program) is ∙ micros_after-append program [] before (commands.Release thread ∷ rest) in
+      let first = total_of program threads before in
+      let more = micros_after program threads (patched_by program before) (commands.Release thread ∷ rest) in
+      let split : micros program threads script ≡ micros program threads before ++ more =
+      ap (micros program threads) is ∙ micros_after-append program threads [] before (commands.Release thread ∷ rest) in
       let same : first ≡ first + 0 = omega arith in
-      let there : micro_at program script first ≡ Store own_word 1 =
+      let there : micro_at program threads script first ≡ Store own_word 1 =
       ap (λ steps. unwrap_or (slice_get steps first) End) split
-      ∙ (ap (λ i. unwrap_or (slice_get (micros program before ++ more) i) End) same
-      ∙ ap (λ o. unwrap_or o End) (slice_get-append_right (micros program before) more 0)) in
-      let stored : code_at program script (first + 1) own_word ≡ 1 =
-      code_at_next program script first own_word
-      ∙ (ap (λ step. following own_word step (code_at program script first own_word)) there
-      ∙ ap (λ b. unwrap_or (cond b (Some 1) None) (code_at program script first own_word)) (eq-eqb own_word own_word refl)) in
+      ∙ (ap (λ i. unwrap_or (slice_get (micros program threads before ++ more) i) End) same
+      ∙ ap (λ o. unwrap_or o End) (slice_get-append_right (micros program threads before) more 0)) in
+      let stored : code_at program threads script (first + 1) own_word ≡ 1 =
+      code_at_next program threads script first own_word
+      ∙ (ap (λ step. following own_word step (code_at program threads script first own_word)) there
+      ∙ ap (λ b. unwrap_or (cond b (Some 1) None) (code_at program threads script first own_word)) (eq-eqb own_word own_word refl)) in
       let on : place ≡ first + 1 + (place - (first + 1)) = omega (arith, past) in
-      ap (λ p. code_at program script p own_word) on ∙ one_from script (first + 1) (place - (first + 1)) stored
+      ap (λ p. code_at program threads script p own_word) on ∙ one_from script (first + 1) (place - (first + 1)) stored
 
 -- ---- a held thread
 
 -- it is released before it is awaited for the passing before which it is held
 released_first : (program : Program) (threads : ℕ) (script : List Command) → AllFollow program threads script → (thread passing : ℕ)
     → hold_of thread script ≡ Some passing → (free : Releases thread script)
-    → total_of program free.before < bound_of program script thread passing
+    → total_of program threads free.before < bound_of program threads script thread passing
 released_first program threads script follow thread passing held free =
     let p = awaits_passing thread passing in
-    let before = micros program free.before in
+    let before = micros program threads free.before in
     let release : Micro = Store (release_word program thread) 1 in
-    let more = micros_after program (patched_by program free.before ++ []) free.following in
-    let split : micros program script ≡ before ++ release ∷ more =
-    ap (micros program) free.is ∙ micros_after-append program [] free.before (commands.Release thread ∷ free.following) in
+    let more = micros_after program threads (patched_by program free.before ++ []) free.following in
+    let split : micros program threads script ≡ before ++ release ∷ more =
+    ap (micros program threads) free.is ∙ micros_after-append program threads [] free.before (commands.Release thread ∷ free.following) in
     let none : list_any p before ≡ false =
-    calm_micros program thread passing free.before
+    calm_micros program threads thread passing free.before
     (early program threads script follow thread passing held [] free.before (commands.Release thread ∷ free.following) free.is free.first) in
     let longer : list_any p (before ++ release ∷ []) ≡ false = list_any-last p before release ∙ neither (list_any p before) false none refl in
     let first = first_after p (before ++ release ∷ []) more longer in
-    let whole : micros program script ≡ (before ++ release ∷ []) ++ more = split ∙ sym (append_assoc before (release ∷ []) more) in
-    let bound : bound_of program script thread passing ≡ position_or_len p ((before ++ release ∷ []) ++ more) = ap (position_or_len p) whole in
+    let whole : micros program threads script ≡ (before ++ release ∷ []) ++ more = split ∙ sym (append_assoc before (release ∷ []) more) in
+    let bound : bound_of program threads script thread passing ≡ position_or_len p ((before ++ release ∷ []) ++ more) = ap (position_or_len p) whole in
     omega (arith, first, bound, length-append before (release ∷ []))
 
 -- each held thread is released
@@ -397,19 +403,20 @@ is_let_go script thread passing none held = elim (cases_Bool (is_released thread
 -- ---- the whole
 
 lets_end_in : (plan : Plan) → IsOrderly plan → (thread : ℕ) → 0 < thread
-    → LetsEnd plan.program thread (hold_of thread (commands_of plan.lines)) (code_at plan.program (commands_of plan.lines))
-    (start_of plan.program (commands_of plan.lines)) (total_of plan.program (commands_of plan.lines))
-    (bound_of plan.program (commands_of plan.lines) thread)
+    → LetsEnd plan.program thread (hold_of thread (commands_of plan.lines)) (code_at plan.program plan.threads (commands_of plan.lines))
+    (start_of plan.program plan.threads (commands_of plan.lines)) (total_of plan.program plan.threads (commands_of plan.lines))
+    (bound_of plan.program plan.threads (commands_of plan.lines) thread)
 lets_end_in plan all thread some =
     let program = plan.program in
     let script = commands_of plan.lines in
     record {
       begins = bound_begins program plan.threads script follow thread 0;
-      rises = bound_rises program script thread;
-      ends = bound_within program script thread;
+      rises = bound_rises program plan.threads script thread;
+      ends = bound_within program plan.threads script thread;
       releases = λ passing held.
           let free = first_release thread script (is_let_go script thread passing all.released held) in
-          one_after program thread some script free.before free.following free.is (bound_of program script thread passing)
+          let few = (not_beyond program plan.threads thread (follow free.before (commands.Release thread) free.following free.is).thread).1 in
+          one_after program plan.threads thread some few script free.before free.following free.is (bound_of program plan.threads script thread passing)
           (released_first program plan.threads script follow thread passing held free);
     }
   where
@@ -426,9 +433,12 @@ lets_end_in plan all thread some =
         (subst (λ cs. IsAdmitted plan.program plan.threads cs line.0.1) front (all.admitted (length before) line.0 line.1))
 
 pub lets_end : (program : Program) (threads : ℕ) (text : List ℕ) (plan : Plan) (thread : ℕ) → 0 < thread → plan_of program threads text ≡ Ok plan
-    → LetsEnd program thread (hold_of thread (commands_of plan.lines)) (code_at program (commands_of plan.lines))
-    (start_of program (commands_of plan.lines)) (total_of program (commands_of plan.lines)) (bound_of program (commands_of plan.lines) thread)
+    → LetsEnd program thread (hold_of thread (commands_of plan.lines)) (code_at program threads (commands_of plan.lines))
+    (start_of program threads (commands_of plan.lines)) (total_of program threads (commands_of plan.lines)) (bound_of program threads (commands_of plan.lines) thread)
 lets_end program threads text plan thread some read =
-    subst (λ p. LetsEnd p thread (hold_of thread (commands_of plan.lines)) (code_at p (commands_of plan.lines))
-    (start_of p (commands_of plan.lines)) (total_of p (commands_of plan.lines)) (bound_of p (commands_of plan.lines) thread))
-    (said_for program threads text plan read) (lets_end_in plan (orderly program threads text plan read) thread some)
+    let whole = lets_end_in plan (orderly program threads text plan read) thread some in
+    let script = commands_of plan.lines in
+    subst (λ n. LetsEnd program thread (hold_of thread script) (code_at program n script) (start_of program n script) (total_of program n script)
+    (bound_of program n script thread)) (threads_for program threads text plan read)
+    (subst (λ p. LetsEnd p thread (hold_of thread script) (code_at p plan.threads script) (start_of p plan.threads script) (total_of p plan.threads script)
+    (bound_of p plan.threads script thread)) (said_for program threads text plan read) whole)

@@ -28,35 +28,35 @@ module _ where
   no_unpatch_end earlier [] = refl
   no_unpatch_end earlier (s ∷ ss) = no_unpatch_end earlier ss
 
-  no_step_end : (program : Program) (earlier : List ℕ) (command : Command) → list_any is_end (steps_of program earlier command) ≡ false
+  no_step_end : (program : Program) (threads : ℕ) (earlier : List ℕ) (command : Command) → list_any is_end (steps_of program threads earlier command) ≡ false
   unfolding is_end
-  no_step_end program earlier commands.Patch = no_patch_end program (all_sleds program)
-  no_step_end program earlier commands.Unpatch = no_unpatch_end earlier (all_sleds program)
-  no_step_end program earlier (commands.PatchFunction id) = no_patch_end program (sleds_of program id)
-  no_step_end program earlier (commands.UnpatchFunction id) = no_unpatch_end earlier (sleds_of program id)
-  no_step_end program earlier command = refl
+  no_step_end program threads earlier commands.Patch = no_patch_end program (all_sleds program)
+  no_step_end program threads earlier commands.Unpatch = no_unpatch_end earlier (all_sleds program)
+  no_step_end program threads earlier (commands.PatchFunction id) = no_patch_end program (sleds_of program id)
+  no_step_end program threads earlier (commands.UnpatchFunction id) = no_unpatch_end earlier (sleds_of program id)
+  no_step_end program threads earlier command = refl
 
-  no_end : (program : Program) (earlier : List ℕ) (script : List Command) → list_any is_end (micros_after program earlier script) ≡ false
-  no_end program earlier [] = refl
-  no_end program earlier (c ∷ cs) =
-      list_any-append is_end (steps_of program earlier c) (micros_after program (earlier ++ numbers (patches program c)) cs)
-      ∙ ap (λ b. b || list_any is_end (micros_after program (earlier ++ numbers (patches program c)) cs)) (no_step_end program earlier c)
-      ∙ no_end program (earlier ++ numbers (patches program c)) cs
+  no_end : (program : Program) (threads : ℕ) (earlier : List ℕ) (script : List Command) → list_any is_end (micros_after program threads earlier script) ≡ false
+  no_end program threads earlier [] = refl
+  no_end program threads earlier (c ∷ cs) =
+      list_any-append is_end (steps_of program threads earlier c) (micros_after program threads (earlier ++ numbers (patches program c)) cs)
+      ∙ ap (λ b. b || list_any is_end (micros_after program threads (earlier ++ numbers (patches program c)) cs)) (no_step_end program threads earlier c)
+      ∙ no_end program threads (earlier ++ numbers (patches program c)) cs
 
-  some_step : (program : Program) (script : List Command) (place : ℕ) → place < total_of program script → micro_at program script place ≡ End → ⊥
+  some_step : (program : Program) (threads : ℕ) (script : List Command) (place : ℕ) → place < total_of program threads script → micro_at program threads script place ≡ End → ⊥
   unfolding is_end
-  some_step program script place lt is =
-      let steps = micros program script in
-      let at : micro_at program script place ≡ get_or steps place End = ap (λ o. unwrap_or o End) (slice_get-get_or steps place End lt) in
+  some_step program threads script place lt is =
+      let steps = micros program threads script in
+      let at : micro_at program threads script place ≡ get_or steps place End = ap (λ o. unwrap_or o End) (slice_get-get_or steps place End lt) in
       let found : list_any is_end steps ≡ true = list_any_at is_end steps place End lt (ap is_end (sym at ∙ is)) in
-      let not_found : list_any is_end steps ≡ false = no_end program [] script in
+      let not_found : list_any is_end steps ≡ false = no_end program threads [] script in
       cc
 
-pub end_only_past : (program : Program) (script : List Command) (place : ℕ) (micro : Micro) → micro ≡ micro_at program script place → (micro ≡ End) ↔ (total_of program script ≤ place)
-end_only_past program script place micro is = (
-  λ end. elim (cases_lt place (total_of program script)) [
-    | inl lt ↦ absurd (some_step program script place lt (sym is ∙ end))
+pub end_only_past : (program : Program) (threads : ℕ) (script : List Command) (place : ℕ) (micro : Micro) → micro ≡ micro_at program threads script place → (micro ≡ End) ↔ (total_of program threads script ≤ place)
+end_only_past program threads script place micro is = (
+  λ end. elim (cases_lt place (total_of program threads script)) [
+    | inl lt ↦ absurd (some_step program threads script place lt (sym is ∙ end))
     | inr le ↦ le
   ],
-  λ past. is ∙ ap (λ o. unwrap_or o End) (slice_get_past (micros program script) place past),
+  λ past. is ∙ ap (λ o. unwrap_or o End) (slice_get_past (micros program threads script) place past),
 )

@@ -134,10 +134,18 @@ orderly program threads text plan e =
     let made : Plan = record { program = program; threads = threads; lines = whole.0 } in
     subst IsOrderly (same_Ok made plan whole.2) (subst (λ (ls : Lines). IsOrderly (record { program = program; threads = threads; lines = ls })) end.2 of_lines)
 
--- it is a script for this program
-pub said_for : (program : Program) (threads : ℕ) (text : List ℕ) (plan : Plan) → plan_of program threads text ≡ Ok plan → plan.program ≡ program
-said_for program threads text plan e =
+-- it is the plan that is made of these lines
+made_of : (program : Program) (threads : ℕ) (text : List ℕ) (plan : Plan) → plan_of program threads text ≡ Ok plan
+    → (all : Lines) × (plan ≡ record { program = program; threads = threads; lines = all })
+made_of program threads text plan e =
     let number = length (lines text) + 1 in
     let whole = bind_ok (read_lines program threads [] (numbered_lines text) >>= (λ said. ended number said)) (λ said. Ok (record { program = program; threads = threads; lines = said })) plan e in
     let made : Plan = record { program = program; threads = threads; lines = whole.0 } in
-    ap (λ (p : Plan). p.program) (sym (same_Ok made plan whole.2))
+    (whole.0, sym (same_Ok made plan whole.2))
+
+-- it is a script for this program and this many threads
+pub said_for : (program : Program) (threads : ℕ) (text : List ℕ) (plan : Plan) → plan_of program threads text ≡ Ok plan → plan.program ≡ program
+said_for program threads text plan e = ap (λ (p : Plan). p.program) (made_of program threads text plan e).1
+
+pub threads_for : (program : Program) (threads : ℕ) (text : List ℕ) (plan : Plan) → plan_of program threads text ≡ Ok plan → plan.threads ≡ threads
+threads_for program threads text plan e = ap (λ (p : Plan). p.threads) (made_of program threads text plan e).1

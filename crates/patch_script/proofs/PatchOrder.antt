@@ -6,7 +6,7 @@ use Rattle.std.proofs.lemmas.List.Elements.{All-nil, All-cons, All-head, All-tai
 use Rattle.xray_image.specs.declared.sled.Sled.{Sled}
 use Rattle.xray_image.specs.Program.{Program}
 use Rattle.sled_words.specs.declared.part.Part.TheVariants.{Head}
-use Rattle.sled_words.specs.Words.{word_of, handler_word, state_word, release_word}
+use Rattle.sled_words.specs.Words.{word_of, handler_word, state_word, release_word, arg_handler_word}
 use Rattle.patch_script.specs.declared.command.Command.{Command}
 use Rattle.patch_script.specs.declared.command.Command.TheVariants as commands
 use Rattle.patch_script.specs.declared.micro.Micro.{Micro}
@@ -22,6 +22,7 @@ pub data IsLone (program : Program) : Micro → Type 0 where
   unpatching : (k : ℕ) (sled : Sled) (was_patched : Bool) → slice_get program.sleds k ≡ Some sled
       → IsLone program (Store (word_of k Head) (head_left sled.kind was_patched))
   handling : (value : ℕ) → value ≤ 1 → IsLone program (Store (handler_word program) value)
+  arg_handling : (threads value : ℕ) → value ≤ 1 → IsLone program (Store (arg_handler_word program threads) value)
   logging : (value : ℕ) → value ≤ 4 → IsLone program (Store (state_word program) value)
   releasing : (thread : ℕ) → IsLone program (Store (release_word program thread) 1)
   awaiting : (thread count : ℕ) → IsLone program (Await thread count)
@@ -75,31 +76,33 @@ one_before : (program : Program) (step : Micro) (rest : List Micro) → IsLone p
     → ArePatches program (step ∷ rest)
 one_before program step rest is later = lone step rest is later
 
-command_before : (program : Program) (earlier : List ℕ) (command : Command) (rest : List Micro) → ArePatches program rest
-    → ArePatches program (steps_of program earlier command ++ rest)
-command_before program earlier commands.Patch rest later = patched_before program (all_sleds program) rest (all_listed program) later
-command_before program earlier commands.Unpatch rest later = unpatched_before program earlier (all_sleds program) rest (all_listed program) later
-command_before program earlier (commands.PatchFunction id) rest later = patched_before program (sleds_of program id) rest (of_function_listed program id) later
-command_before program earlier (commands.UnpatchFunction id) rest later = unpatched_before program earlier (sleds_of program id) rest (of_function_listed program id) later
-command_before program earlier commands.SetHandler rest later = lone (Store (handler_word program) 1) rest (handling 1 (omega arith)) later
-command_before program earlier commands.RemoveHandler rest later = lone (Store (handler_word program) 0) rest (handling 0 (omega arith)) later
-command_before program earlier commands.Init rest later =
+command_before : (program : Program) (threads : ℕ) (earlier : List ℕ) (command : Command) (rest : List Micro) → ArePatches program rest
+    → ArePatches program (steps_of program threads earlier command ++ rest)
+command_before program threads earlier commands.Patch rest later = patched_before program (all_sleds program) rest (all_listed program) later
+command_before program threads earlier commands.Unpatch rest later = unpatched_before program earlier (all_sleds program) rest (all_listed program) later
+command_before program threads earlier (commands.PatchFunction id) rest later = patched_before program (sleds_of program id) rest (of_function_listed program id) later
+command_before program threads earlier (commands.UnpatchFunction id) rest later = unpatched_before program earlier (sleds_of program id) rest (of_function_listed program id) later
+command_before program threads earlier commands.SetHandler rest later = lone (Store (handler_word program) 1) rest (handling 1 (omega arith)) later
+command_before program threads earlier commands.RemoveHandler rest later = lone (Store (handler_word program) 0) rest (handling 0 (omega arith)) later
+command_before program threads earlier commands.SetArgHandler rest later = lone (Store (arg_handler_word program threads) 1) rest (arg_handling threads 1 (omega arith)) later
+command_before program threads earlier commands.RemoveArgHandler rest later = lone (Store (arg_handler_word program threads) 0) rest (arg_handling threads 0 (omega arith)) later
+command_before program threads earlier commands.Init rest later =
     lone (Store (state_word program) 1) (Store (state_word program) 2 ∷ rest) (logging 1 (omega arith))
     (lone (Store (state_word program) 2) rest (logging 2 (omega arith)) later)
-command_before program earlier commands.Finalize rest later =
+command_before program threads earlier commands.Finalize rest later =
     lone (Store (state_word program) 3) (Store (state_word program) 4 ∷ rest) (logging 3 (omega arith))
     (lone (Store (state_word program) 4) rest (logging 4 (omega arith)) later)
-command_before program earlier (commands.Hold thread passing) rest later = later
-command_before program earlier commands.Go rest later = later
-command_before program earlier (commands.Release thread) rest later = lone (Store (release_word program thread) 1) rest (releasing thread) later
-command_before program earlier (commands.Await thread count) rest later = lone (Await thread count) rest (awaiting thread count) later
+command_before program threads earlier (commands.Hold thread passing) rest later = later
+command_before program threads earlier commands.Go rest later = later
+command_before program threads earlier (commands.Release thread) rest later = lone (Store (release_word program thread) 1) rest (releasing thread) later
+command_before program threads earlier (commands.Await thread count) rest later = lone (Await thread count) rest (awaiting thread count) later
 
-patches_after : (program : Program) (earlier : List ℕ) (script : List Command) → ArePatches program (micros_after program earlier script)
-patches_after program earlier [] = ended
-patches_after program earlier (command ∷ rest) =
+patches_after : (program : Program) (threads : ℕ) (earlier : List ℕ) (script : List Command) → ArePatches program (micros_after program threads earlier script)
+patches_after program threads earlier [] = ended
+patches_after program threads earlier (command ∷ rest) =
     let earlier' : List ℕ = earlier ++ numbers (patches program command) in
-    command_before program earlier command (micros_after program earlier' rest) (patches_after program earlier' rest)
+    command_before program threads earlier command (micros_after program threads earlier' rest) (patches_after program threads earlier' rest)
 
 -- the micro steps of a script
-pub script_patches : (program : Program) (script : List Command) → ArePatches program (micros program script)
-script_patches program script = patches_after program [] script
+pub script_patches : (program : Program) (threads : ℕ) (script : List Command) → ArePatches program (micros program threads script)
+script_patches program threads script = patches_after program threads [] script

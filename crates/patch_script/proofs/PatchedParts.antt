@@ -7,11 +7,11 @@ use Rattle.std.proofs.lemmas.Option.{same_Some, IfSome_then}
 use Rattle.std.proofs.lemmas.List.Elements.{All-nil, All-cons, All-take, All-drop, All-weaker}
 use Rattle.xray_image.specs.declared.sled.Sled.{Sled}
 use Rattle.xray_image.specs.declared.sled.SledKind.{SledKind}
-use Rattle.xray_image.specs.declared.sled.SledKind.TheVariants.{Entry, Exit, Tail}
+use Rattle.xray_image.specs.declared.sled.SledKind.TheVariants.{Entry, Exit, Tail, Args}
 use Rattle.xray_image.specs.Program.{Program, Trampolines}
 use Rattle.sled_words.specs.declared.part.Part.{Part}
 use Rattle.sled_words.specs.declared.part.Part.TheVariants.{Head, Id, Opcode, Offset}
-use Rattle.sled_words.specs.Words.{word_of, handler_word, state_word, release_word}
+use Rattle.sled_words.specs.Words.{word_of, handler_word, state_word, release_word, arg_handler_word}
 use Rattle.sled_words.specs.Parts.{unpatched_head, patched_head, patched, unpatched}
 use Rattle.patch_script.specs.declared.command.Command.{Command}
 use Rattle.patch_script.specs.declared.micro.Micro.{Micro}
@@ -22,7 +22,7 @@ use Rattle.patch_script.specs.Values.{IsHead, IsPartValue, IsCodeValue}
 use Rattle.patch_script.specs.Patched.{HasPatchedHead, HasPatchedParts}
 use Rattle.patch_script.proofs.WordValues.{following, after_has, held, code_at_held, held_later, held_has}
 use Rattle.patch_script.proofs.WordNumbers.{same_sled, same_part, below_others, part_at_first, zero_at_first, by_word}
-use Rattle.patch_script.proofs.PatchOrder.{IsLone, unpatching, handling, logging, releasing, awaiting, ArePatches, ended, lone, patch, script_patches}
+use Rattle.patch_script.proofs.PatchOrder.{IsLone, unpatching, handling, arg_handling, logging, releasing, awaiting, ArePatches, ended, lone, patch, script_patches}
 
 -- ---- what a step stores
 
@@ -57,10 +57,12 @@ patched_is_head : (kind : SledKind) → IsHead kind patched_head
 patched_is_head Entry = inl refl
 patched_is_head Exit = inl refl
 patched_is_head Tail = inl refl
+patched_is_head Args = inl refl
 
 left_is_head : (kind : SledKind) (was_patched : Bool) → IsHead kind (head_left kind was_patched)
 left_is_head Entry was_patched = inr refl
 left_is_head Tail was_patched = inr refl
+left_is_head Args was_patched = inr refl
 left_is_head Exit true = inr (inr refl)
 left_is_head Exit false = inr (inl refl)
 
@@ -87,6 +89,9 @@ stored_in_part program k sled part at _ (alone _ (unpatching j s was_patched at_
 stored_in_part program k sled part at _ (alone _ (handling value le)) =
     by_word (IsStored program.trampolines sled part) (handler_word program) (word_of k part) value
     (λ same. absurd (apart program k sled part (handler_word program) at (omega arith) same))
+stored_in_part program k sled part at _ (alone _ (arg_handling threads value le)) =
+    by_word (IsStored program.trampolines sled part) (arg_handler_word program threads) (word_of k part) value
+    (λ same. absurd (apart program k sled part (arg_handler_word program threads) at (omega arith) same))
 stored_in_part program k sled part at _ (alone _ (logging value le)) =
     by_word (IsStored program.trampolines sled part) (state_word program) (word_of k part) value
     (λ same. absurd (apart program k sled part (state_word program) at (omega arith) same))
@@ -115,6 +120,7 @@ stored_after_head program k sled Offset at other step is = stored_in_part progra
 left_is_unpatched : (kind : SledKind) (was_patched : Bool) → head_left kind was_patched ≢ patched_head
 left_is_unpatched Entry was_patched = omega arith
 left_is_unpatched Tail was_patched = omega arith
+left_is_unpatched Args was_patched = omega arith
 left_is_unpatched Exit true = omega arith
 left_is_unpatched Exit false = omega arith
 
@@ -125,6 +131,8 @@ lone_head program k sled at _ (unpatching j s was_patched at_j) =
     by_word (λ v. v ≢ patched_head) (word_of j Head) (word_of k Head) (head_left s.kind was_patched) (λ same. left_is_unpatched s.kind was_patched)
 lone_head program k sled at _ (handling value le) =
     by_word (λ v. v ≢ patched_head) (handler_word program) (word_of k Head) value (λ same. omega arith)
+lone_head program k sled at _ (arg_handling threads value le) =
+    by_word (λ v. v ≢ patched_head) (arg_handler_word program threads) (word_of k Head) value (λ same. omega arith)
 lone_head program k sled at _ (logging value le) =
     by_word (λ v. v ≢ patched_head) (state_word program) (word_of k Head) value (λ same. omega arith)
 lone_head program k sled at _ (releasing thread) =
@@ -252,22 +260,23 @@ first_head : (kind : SledKind) → unpatched_head kind ≢ patched_head
 first_head Entry = omega arith
 first_head Exit = omega arith
 first_head Tail = omega arith
+first_head Args = omega arith
 
 -- once the head is patched at a place, each other part is patched there and at all later places
-pub part_patched : (program : Program) (script : List Command) (p q k : ℕ) (sled : Sled) (part : Part) → slice_get program.sleds k ≡ Some sled
-    → part ≢ Head → p ≤ q → HasPatchedHead program script p k
-    → code_at program script q (word_of k part) ≡ patched program.trampolines sled part
-part_patched program script p q k sled part at other le head =
-    let steps : List Micro = micros program script in
+pub part_patched : (program : Program) (threads : ℕ) (script : List Command) (p q k : ℕ) (sled : Sled) (part : Part) → slice_get program.sleds k ≡ Some sled
+    → part ≢ Head → p ≤ q → HasPatchedHead program threads script p k
+    → code_at program threads script q (word_of k part) ≡ patched program.trampolines sled part
+part_patched program threads script p q k sled part at other le head =
+    let steps : List Micro = micros program threads script in
     let goal : ℕ = patched program.trampolines sled part in
     let word : ℕ = word_of k part in
     let first : ℕ → ℕ = initial_value program in
-    let patches = script_patches program script in
+    let patches = script_patches program threads script in
     let unpatched_first : first (word_of k Head) ≢ patched_head =
     λ e. first_head sled.kind (sym (part_at_first program.sleds k sled Head at) ∙ e) in
     let at_p : held word (take p steps) (first word) ≡ goal =
     patched_together program k sled part at other patches p (first (word_of k Head)) (first word) (λ e. absurd (unpatched_first e))
-    (sym (code_at_held program script p (word_of k Head)) ∙ head) in
+    (sym (code_at_held program threads script p (word_of k Head)) ∙ head) in
     let each : All (λ step. IfSome (stored_in word step) (λ v. v ≡ goal)) steps =
     All-weaker (IsStep program) (λ step. IfSome (stored_in word step) (λ v. v ≡ goal))
     (stored_after_head program k sled part at other) steps (each_step program patches) in
@@ -275,14 +284,14 @@ part_patched program script p q k sled part at other le head =
     held_has (λ v. v ≡ goal) word (drop p (take q steps)) (held word (take p steps) (first word))
     (All-drop (λ step. IfSome (stored_in word step) (λ v. v ≡ goal)) p (take q steps)
     (All-take (λ step. IfSome (stored_in word step) (λ v. v ≡ goal)) q steps each)) at_p in
-    code_at_held program script q word ∙ held_later word steps p q (first word) le ∙ stays
+    code_at_held program threads script q word ∙ held_later word steps p q (first word) le ∙ stays
 
-pub parts_patched : (program : Program) (script : List Command) (p q k : ℕ) (sled : Sled) → slice_get program.sleds k ≡ Some sled
-    → p ≤ q → HasPatchedHead program script p k → HasPatchedParts program script q k sled
-parts_patched program script p q k sled at le head = record {
-  id = part_patched program script p q k sled Id at id_after le head;
-  opcode = part_patched program script p q k sled Opcode at opcode_after le head;
-  offset = part_patched program script p q k sled Offset at offset_after le head;
+pub parts_patched : (program : Program) (threads : ℕ) (script : List Command) (p q k : ℕ) (sled : Sled) → slice_get program.sleds k ≡ Some sled
+    → p ≤ q → HasPatchedHead program threads script p k → HasPatchedParts program threads script q k sled
+parts_patched program threads script p q k sled at le head = record {
+  id = part_patched program threads script p q k sled Id at id_after le head;
+  opcode = part_patched program threads script p q k sled Opcode at opcode_after le head;
+  offset = part_patched program threads script p q k sled Offset at offset_after le head;
 }
 
 -- ---- the values of words
@@ -297,6 +306,7 @@ stored_value trampolines sled Offset value stored = inr stored
 file_is_head : (kind : SledKind) → IsHead kind (unpatched_head kind)
 file_is_head Entry = inr refl
 file_is_head Tail = inr refl
+file_is_head Args = inr refl
 file_is_head Exit = inr (inl refl)
 
 file_value : (trampolines : Trampolines) (sled : Sled) (part : Part) → IsPartValue trampolines sled part (unpatched sled part)
@@ -306,21 +316,21 @@ file_value trampolines sled Opcode = inl refl
 file_value trampolines sled Offset = inl refl
 
 -- a fact of a word that holds at first, and that each step keeps, holds at each place
-at_each_place : (program : Program) (script : List Command) (place word : ℕ) (P : ℕ → Type 0)
+at_each_place : (program : Program) (threads : ℕ) (script : List Command) (place word : ℕ) (P : ℕ → Type 0)
     → ((step : Micro) → IsStep program step → IfSome (stored_in word step) P) → P (initial_value program word)
-    → P (code_at program script place word)
-at_each_place program script place word P keeps first =
-    let steps : List Micro = micros program script in
+    → P (code_at program threads script place word)
+at_each_place program threads script place word P keeps first =
+    let steps : List Micro = micros program threads script in
     let Q : Micro → Type 0 = λ step. IfSome (stored_in word step) P in
-    let each : All Q steps = All-weaker (IsStep program) Q keeps steps (each_step program (script_patches program script)) in
-    subst P (sym (code_at_held program script place word))
+    let each : All Q steps = All-weaker (IsStep program) Q keeps steps (each_step program (script_patches program threads script)) in
+    subst P (sym (code_at_held program threads script place word))
     (held_has P word (take place steps) (initial_value program word) (All-take Q place steps each) first)
 
-part_has_value : (program : Program) (script : List Command) (place k : ℕ) (sled : Sled) (part : Part) → slice_get program.sleds k ≡ Some sled
-    → IsPartValue program.trampolines sled part (code_at program script place (word_of k part))
-part_has_value program script place k sled part at =
+part_has_value : (program : Program) (threads : ℕ) (script : List Command) (place k : ℕ) (sled : Sled) (part : Part) → slice_get program.sleds k ≡ Some sled
+    → IsPartValue program.trampolines sled part (code_at program threads script place (word_of k part))
+part_has_value program threads script place k sled part at =
     let P : ℕ → Type 0 = IsPartValue program.trampolines sled part in
-    at_each_place program script place (word_of k part) P
+    at_each_place program threads script place (word_of k part) P
     (λ step is. IfSome_then (stored_in (word_of k part) step) (stored_in_part program k sled part at step is) (stored_value program.trampolines sled part))
     (subst P (sym (part_at_first program.sleds k sled part at)) (file_value program.trampolines sled part))
 
@@ -329,38 +339,44 @@ part_has_value program script place k sled part at =
 -- what is stored in a word after those of the sleds, by the steps that store there
 stored_after_sleds : (program : Program) (word : ℕ) (P : ℕ → Type 0) → handler_word program ≤ word
     → ((value : ℕ) → value ≤ 1 → handler_word program ≡ word → P value)
+    → ((threads value : ℕ) → value ≤ 1 → arg_handler_word program threads ≡ word → P value)
     → ((value : ℕ) → value ≤ 4 → state_word program ≡ word → P value)
     → ((thread : ℕ) → release_word program thread ≡ word → P 1)
     → (step : Micro) → IsStep program step → IfSome (stored_in word step) P
-stored_after_sleds program word P past handler state release _ (alone _ (unpatching j s was_patched at)) =
+stored_after_sleds program word P past handler arg_handler state release _ (alone _ (unpatching j s was_patched at)) =
     by_word P (word_of j Head) word (head_left s.kind was_patched) (λ same. absurd (apart program j s Head word at past (sym same)))
-stored_after_sleds program word P past handler state release _ (alone _ (handling value le)) = by_word P (handler_word program) word value (handler value le)
-stored_after_sleds program word P past handler state release _ (alone _ (logging value le)) = by_word P (state_word program) word value (state value le)
-stored_after_sleds program word P past handler state release _ (alone _ (releasing thread)) = by_word P (release_word program thread) word 1 (release thread)
-stored_after_sleds program word P past handler state release _ (alone _ (awaiting thread count)) = tt
-stored_after_sleds program word P past handler state release _ (patching j s part at) =
+stored_after_sleds program word P past handler arg_handler state release _ (alone _ (handling value le)) = by_word P (handler_word program) word value (handler value le)
+stored_after_sleds program word P past handler arg_handler state release _ (alone _ (arg_handling threads value le)) =
+    by_word P (arg_handler_word program threads) word value (arg_handler threads value le)
+stored_after_sleds program word P past handler arg_handler state release _ (alone _ (logging value le)) = by_word P (state_word program) word value (state value le)
+stored_after_sleds program word P past handler arg_handler state release _ (alone _ (releasing thread)) = by_word P (release_word program thread) word 1 (release thread)
+stored_after_sleds program word P past handler arg_handler state release _ (alone _ (awaiting thread count)) = tt
+stored_after_sleds program word P past handler arg_handler state release _ (patching j s part at) =
     by_word P (word_of j part) word (patched program.trampolines s part) (λ same. absurd (apart program j s part word at past (sym same)))
 
 -- such a word is at most this much, if no step stores more in it
-at_most : (program : Program) (script : List Command) (place word limit : ℕ) → handler_word program ≤ word
+at_most : (program : Program) (threads : ℕ) (script : List Command) (place word limit : ℕ) → handler_word program ≤ word
     → ((value : ℕ) → value ≤ 1 → handler_word program ≡ word → value ≤ limit)
+    → ((threads value : ℕ) → value ≤ 1 → arg_handler_word program threads ≡ word → value ≤ limit)
     → ((value : ℕ) → value ≤ 4 → state_word program ≡ word → value ≤ limit)
     → ((thread : ℕ) → release_word program thread ≡ word → 1 ≤ limit)
-    → code_at program script place word ≤ limit
-at_most program script place word limit past handler state release =
+    → code_at program threads script place word ≤ limit
+at_most program threads script place word limit past handler arg_handler state release =
     let first = zero_at_first program word (omega arith) in
-    at_each_place program script place word (λ v. v ≤ limit)
-    (stored_after_sleds program word (λ v. v ≤ limit) past handler state release) (omega arith)
+    at_each_place program threads script place word (λ v. v ≤ limit)
+    (stored_after_sleds program word (λ v. v ≤ limit) past handler arg_handler state release) (omega arith)
 
-pub code_values : (program : Program) (script : List Command) (place word : ℕ) → IsCodeValue program word (code_at program script place word)
-code_values program script place word = record {
+pub code_values : (program : Program) (threads : ℕ) (script : List Command) (place word : ℕ) → IsCodeValue program threads word (code_at program threads script place word)
+code_values program threads script place word = record {
   part = λ k sled part at same.
-      subst (λ (w : ℕ). IsPartValue program.trampolines sled part (code_at program script place w)) (sym same)
-      (part_has_value program script place k sled part at);
+      subst (λ (w : ℕ). IsPartValue program.trampolines sled part (code_at program threads script place w)) (sym same)
+      (part_has_value program threads script place k sled part at);
   handler = λ same.
-      at_most program script place word 1 (omega arith) (λ value le here. le) (λ value le here. omega arith) (λ thread here. omega arith);
+      at_most program threads script place word 1 (omega arith) (λ value le here. le) (λ n value le here. le) (λ value le here. omega arith) (λ thread here. omega arith);
   state = λ same.
-      at_most program script place word 4 (omega arith) (λ value le here. omega arith) (λ value le here. le) (λ thread here. omega arith);
+      at_most program threads script place word 4 (omega arith) (λ value le here. omega arith) (λ n value le here. omega arith) (λ value le here. le) (λ thread here. omega arith);
   release = λ thread some same.
-      at_most program script place word 1 (omega arith) (λ value le here. omega arith) (λ value le here. omega arith) (λ t here. omega arith);
+      at_most program threads script place word 1 (omega arith) (λ value le here. omega arith) (λ n value le here. le) (λ value le here. omega arith) (λ t here. omega arith);
+  arg_handler = λ same.
+      at_most program threads script place word 1 (omega arith) (λ value le here. le) (λ n value le here. le) (λ value le here. omega arith) (λ thread here. omega arith);
 }

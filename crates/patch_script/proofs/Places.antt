@@ -69,20 +69,20 @@ module _ (placed : PlacedCommands) (are : ArePlaced placed) where
         arith,
         (are.each i (get_or placed.commands.items i d) (slice_get-get_or placed.commands.items i d (omega arith))).before,
         (are.each j (get_or placed.commands.items j d) (slice_get-get_or placed.commands.items j d lt)).before,
-        total_in_order placed.image.value (commands_of (lines_in placed)) i j le,
+        total_in_order placed.image.value placed.threads (commands_of (lines_in placed)) i j le,
       )
 
   -- where the next command begins
   next_begins : (i : ℕ) (one : Placed) → slice_get placed.commands.items i ≡ Some one
-      → total_of placed.image.value (take (suc i) (commands_of (lines_in placed))) ≡ one.before + step_count one.command (one.sleds.end - one.sleds.start)
+      → total_of placed.image.value placed.threads (take (suc i) (commands_of (lines_in placed))) ≡ one.before + step_count one.command (one.sleds.end - one.sleds.start)
   next_begins i one at =
       let all = commands_of (lines_in placed) in
       let is = are.each i one at in
       let count : length (sleds_named placed.image.value one.command) ≡ one.sleds.end - one.sleds.start =
       ap length is.sleds.sleds ∙ range_length placed.image.value one.sleds is.sleds.ordered is.sleds.within in
-      ap (total_of placed.image.value) (take_one_more all i one.command (command_at i one at))
-      ∙ total_more placed.image.value (take i all) one.command
-      ∙ ap (λ n. total_of placed.image.value (take i all) + step_count one.command n) count
+      ap (total_of placed.image.value placed.threads) (take_one_more all i one.command (command_at i one at))
+      ∙ total_more placed.image.value placed.threads (take i all) one.command
+      ∙ ap (λ n. total_of placed.image.value placed.threads (take i all) + step_count one.command n) count
       ∙ ap (λ n. n + step_count one.command (one.sleds.end - one.sleds.start)) (sym is.before)
 
   module _ (place : ℕ) (within : place < placed.total) (point : ℕ) (bound : point ≤ length placed.commands.items)
@@ -93,7 +93,7 @@ module _ (placed : PlacedCommands) (are : ArePlaced placed) where
       | inr none ↦ absurd (first none placed.commands.items refl)
     ]
       where
-        nothing : (script : List Command) → length script ≡ 0 → total_of placed.image.value script ≡ 0
+        nothing : (script : List Command) → length script ≡ 0 → total_of placed.image.value placed.threads script ≡ 0
         nothing [] e = refl
         nothing (x ∷ xs) e = absurd (omega arith)
 
@@ -125,15 +125,15 @@ module _ (placed : PlacedCommands) (are : ArePlaced placed) where
             | inl lt ↦ omega (
               arith,
               following,
-              ap (λ n. total_of placed.image.value (take n all)) suc_number,
+              ap (λ n. total_of placed.image.value placed.threads (take n all)) suc_number,
               (are.each point (get_or items point d) (slice_get-get_or items point d lt)).before,
               leb-false _ place (parts.1 point d (omega arith) lt),
             )
             | inr le ↦ omega (
               arith,
               following,
-              ap (λ n. total_of placed.image.value (take n all)) suc_number,
-              ap (total_of placed.image.value) (take_all point all (omega (arith, as_many))),
+              ap (λ n. total_of placed.image.value placed.threads (take n all)) suc_number,
+              ap (total_of placed.image.value placed.threads) (take_all point all (omega (arith, as_many))),
               are.total,
             )
           ];
@@ -142,17 +142,17 @@ module _ (placed : PlacedCommands) (are : ArePlaced placed) where
   -- ---- the micro steps of a command
 
   pub found_step : (place number : ℕ) (one : Placed) (micro : Micro) → slice_get placed.commands.items number ≡ Some one → one.before ≤ place
-      → slice_get (steps_of placed.image.value (patched_before placed number) one.command) (place - one.before) ≡ Some micro
-      → micro ≡ micro_at placed.image.value (commands_of (lines_in placed)) place
+      → slice_get (steps_of placed.image.value placed.threads (patched_before placed number) one.command) (place - one.before) ≡ Some micro
+      → micro ≡ micro_at placed.image.value placed.threads (commands_of (lines_in placed)) place
   found_step place number one micro at begun step =
       let all = commands_of (lines_in placed) in
       let begin = (are.each number one at).before in
-      let here : total_of placed.image.value (take number all) + (place - one.before) ≡ place = omega (arith, begin) in
-      sym (ap (λ o. unwrap_or o End) (ap (slice_get (micros placed.image.value all)) (sym here) ∙ step_at placed.image.value all number one.command (place - one.before) micro (command_at number one at) step))
+      let here : total_of placed.image.value placed.threads (take number all) + (place - one.before) ≡ place = omega (arith, begin) in
+      sym (ap (λ o. unwrap_or o End) (ap (slice_get (micros placed.image.value placed.threads all)) (sym here) ∙ step_at placed.image.value placed.threads all number one.command (place - one.before) micro (command_at number one at) step))
 
-  pub past_end : (place : ℕ) → placed.total ≤ place → End ≡ micro_at placed.image.value (commands_of (lines_in placed)) place
+  pub past_end : (place : ℕ) → placed.total ≤ place → End ≡ micro_at placed.image.value placed.threads (commands_of (lines_in placed)) place
   past_end place past =
-      sym (ap (λ o. unwrap_or o End) (slice_get_past (micros placed.image.value (commands_of (lines_in placed))) place (omega (arith, are.total))))
+      sym (ap (λ o. unwrap_or o End) (slice_get_past (micros placed.image.value placed.threads (commands_of (lines_in placed))) place (omega (arith, are.total))))
 
   -- ---- sleds
 
@@ -183,13 +183,13 @@ unpatching_count : (command : Command) (n : ℕ) → IsUnpatching command → st
 unpatching_count command n (inl is) = ap (λ c. step_count c n) is
 unpatching_count command n (inr is) = ap (λ c. step_count c n) is.1
 
-patching_steps : (program : Program) (earlier : List ℕ) (command : Command) → IsPatching command → steps_of program earlier command ≡ flat_map (patch_sled program) (sleds_named program command)
-patching_steps program earlier command (inl is) = ap (steps_of program earlier) is ∙ sym (ap (λ c. flat_map (patch_sled program) (sleds_named program c)) is)
-patching_steps program earlier command (inr is) = ap (steps_of program earlier) is.1 ∙ sym (ap (λ c. flat_map (patch_sled program) (sleds_named program c)) is.1)
+patching_steps : (program : Program) (threads : ℕ) (earlier : List ℕ) (command : Command) → IsPatching command → steps_of program threads earlier command ≡ flat_map (patch_sled program) (sleds_named program command)
+patching_steps program threads earlier command (inl is) = ap (steps_of program threads earlier) is ∙ sym (ap (λ c. flat_map (patch_sled program) (sleds_named program c)) is)
+patching_steps program threads earlier command (inr is) = ap (steps_of program threads earlier) is.1 ∙ sym (ap (λ c. flat_map (patch_sled program) (sleds_named program c)) is.1)
 
-unpatching_steps : (program : Program) (earlier : List ℕ) (command : Command) → IsUnpatching command → steps_of program earlier command ≡ map (unpatch_sled earlier) (sleds_named program command)
-unpatching_steps program earlier command (inl is) = ap (steps_of program earlier) is ∙ sym (ap (λ c. map (unpatch_sled earlier) (sleds_named program c)) is)
-unpatching_steps program earlier command (inr is) = ap (steps_of program earlier) is.1 ∙ sym (ap (λ c. map (unpatch_sled earlier) (sleds_named program c)) is.1)
+unpatching_steps : (program : Program) (threads : ℕ) (earlier : List ℕ) (command : Command) → IsUnpatching command → steps_of program threads earlier command ≡ map (unpatch_sled earlier) (sleds_named program command)
+unpatching_steps program threads earlier command (inl is) = ap (steps_of program threads earlier) is ∙ sym (ap (λ c. map (unpatch_sled earlier) (sleds_named program c)) is)
+unpatching_steps program threads earlier command (inr is) = ap (steps_of program threads earlier) is.1 ∙ sym (ap (λ c. map (unpatch_sled earlier) (sleds_named program c)) is.1)
 
 -- the item at a place within a list
 pub item_at : {X : Type 0} (xs : List X) (k : ℕ) → k < length xs → (x : X) × (slice_get xs k ≡ Some x)
@@ -204,21 +204,21 @@ module _ (program : Program) (command : Command) (range : SledRange) (has : HasS
   pub unpatched_within : IsUnpatching command → range.start + step < length program.sleds
   unpatched_within is = omega (arith, unpatching_count command (range.end - range.start) is, has.ordered, has.within, within)
 
-  pub patched_step : (earlier : List ℕ) (micro : Micro) → IsPatching command
+  pub patched_step : (threads : ℕ) (earlier : List ℕ) (micro : Micro) → IsPatching command
       → ((sled : Sled) → slice_get program.sleds (range.start + step / 4) ≡ Some sled → slice_get (patch_sled program (range.start + step / 4, sled)) (step % 4) ≡ Some micro)
-      → slice_get (steps_of program earlier command) step ≡ Some micro
-  patched_step earlier micro is store =
+      → slice_get (steps_of program threads earlier command) step ≡ Some micro
+  patched_step threads earlier micro is store =
       let sled = item_at program.sleds (range.start + step / 4) (patched_within is) in
-      ap (λ steps. slice_get steps step) (patching_steps program earlier command is)
+      ap (λ steps. slice_get steps step) (patching_steps program threads earlier command is)
       ∙ patching_at program range (sleds_named program command) step (range.start + step / 4) sled.0 micro has.sleds
       (omega (arith, patching_count command (range.end - range.start) is, within)) refl sled.1 (store sled.0 sled.1)
 
-  pub unpatched_step : (earlier : List ℕ) (micro : Micro) → IsUnpatching command
+  pub unpatched_step : (threads : ℕ) (earlier : List ℕ) (micro : Micro) → IsUnpatching command
       → ((sled : Sled) → slice_get program.sleds (range.start + step) ≡ Some sled → micro ≡ unpatch_sled earlier (range.start + step, sled))
-      → slice_get (steps_of program earlier command) step ≡ Some micro
-  unpatched_step earlier micro is store =
+      → slice_get (steps_of program threads earlier command) step ≡ Some micro
+  unpatched_step threads earlier micro is store =
       let sled = item_at program.sleds (range.start + step) (unpatched_within is) in
-      ap (λ steps. slice_get steps step) (unpatching_steps program earlier command is)
+      ap (λ steps. slice_get steps step) (unpatching_steps program threads earlier command is)
       ∙ unpatching_at program earlier range (sleds_named program command) step (range.start + step) sled.0 micro has.sleds
       (omega (arith, unpatching_count command (range.end - range.start) is, within)) refl sled.1 (store sled.0 sled.1)
 

@@ -3,7 +3,7 @@ use Rattle.std.proofs.Common.{◌≡◌, ℕ, true, List, [], ◌∷◌, ◌++�
 use Rattle.std.specs.Prelude.{codes, map, replicate, Result, Ok, Err}
 use Rattle.xray_image.specs.declared.sled.Sled.{Sled}
 use Rattle.xray_image.specs.declared.sled.SledKind.{SledKind}
-use Rattle.xray_image.specs.declared.sled.SledKind.TheVariants.{Entry, Exit}
+use Rattle.xray_image.specs.declared.sled.SledKind.TheVariants.{Entry, Exit, Args}
 use Rattle.xray_image.specs.Program.{Program}
 use Rattle.patch_script.specs.declared.command.Command.{Command}
 use Rattle.patch_script.specs.declared.command.Command.TheVariants as commands
@@ -27,8 +27,12 @@ one_function = record {
   functions = [];
   units = [];
   sleds = sled 0x1000 Entry ∷ sled 0x1012 Exit ∷ [];
-  trampolines = record { entry = 0x201000; exit = 0x201010; tail = 0x201020 };
+  trampolines = record { entry = 0x201000; exit = 0x201010; tail = 0x201020; args = 0x201030 };
 }
+
+-- the same with argument logging at its entry, and the exit sled of a shorter function
+abbrev with_argument : Program
+with_argument = record one_function { sleds = sled 0x1000 Args ∷ sled 0x100E Exit ∷ [] }
 
 -- lines of ASCII text
 abbrev text : List (List ℕ) → List ℕ
@@ -98,28 +102,41 @@ with_comments = refl
 abbrev traced : List Command
 traced = commands.Patch ∷ commands.SetHandler ∷ commands.Init ∷ commands.Go ∷ []
 
-traced_steps : micros one_function traced
+traced_steps : micros one_function 1 traced
     ≡ Store 1 1 ∷ Store 2 0xE8 ∷ Store 3 0x1FFFF5 ∷ Store 0 0xBA41 ∷ Store 5 1 ∷ Store 6 0xE9 ∷ Store 7 0x1FFFF3 ∷ Store 4 0xBA41
     ∷ Store 8 1 ∷ Store 9 1 ∷ Store 9 2 ∷ []
 traced_steps = refl
 
-starts_at_11 : start_of one_function (traced ++ commands.Unpatch ∷ []) ≡ 11
+starts_at_11 : start_of one_function 1 (traced ++ commands.Unpatch ∷ []) ≡ 11
 starts_at_11 = refl
 
-ends_at_13 : total_of one_function (traced ++ commands.Unpatch ∷ []) ≡ 13
+ends_at_13 : total_of one_function 1 (traced ++ commands.Unpatch ∷ []) ≡ 13
 ends_at_13 = refl
 
-nothing_after : micro_at one_function traced 11 ≡ End
+nothing_after : micro_at one_function 1 traced 11 ≡ End
 nothing_after = refl
 
 -- an exit sled that was never patched keeps its head
-never_patched : micros one_function (commands.Go ∷ commands.Unpatch ∷ []) ≡ Store 0 0x09EB ∷ Store 4 0x2EC3 ∷ []
+never_patched : micros one_function 1 (commands.Go ∷ commands.Unpatch ∷ []) ≡ Store 0 0x09EB ∷ Store 4 0x2EC3 ∷ []
 never_patched = refl
 
 -- one that was patched keeps the high byte of the patched head
-patched_before : micros one_function (commands.Patch ∷ commands.Unpatch ∷ commands.Go ∷ [])
-    ≡ micros one_function (commands.Patch ∷ []) ++ Store 0 0x09EB ∷ Store 4 0xBAC3 ∷ []
+patched_before : micros one_function 1 (commands.Patch ∷ commands.Unpatch ∷ commands.Go ∷ [])
+    ≡ micros one_function 1 (commands.Patch ∷ []) ++ Store 0 0x09EB ∷ Store 4 0xBAC3 ∷ []
 patched_before = refl
 
-waits_and_releases : micros one_function (commands_of held_at_3) ≡ Await 1 3 ∷ Store 10 1 ∷ []
+-- an entry sled with argument logging calls the argument trampoline, and is unpatched as any entry sled
+argument_steps : micros with_argument 1 (commands.PatchFunction 1 ∷ commands.Unpatch ∷ [])
+    ≡ Store 1 1 ∷ Store 2 0xE8 ∷ Store 3 0x200025 ∷ Store 0 0xBA41 ∷ Store 5 1 ∷ Store 6 0xE9 ∷ Store 7 0x1FFFF7 ∷ Store 4 0xBA41
+    ∷ Store 0 0x09EB ∷ Store 4 0xBAC3 ∷ []
+argument_steps = refl
+
+-- the argument handler's word comes after the words of all threads
+argument_handler : micros with_argument 1 (commands.SetArgHandler ∷ commands.Go ∷ commands.RemoveArgHandler ∷ []) ≡ Store 12 1 ∷ Store 12 0 ∷ []
+argument_handler = refl
+
+argument_handler_of_three : micros with_argument 3 (commands.SetArgHandler ∷ []) ≡ Store 16 1 ∷ []
+argument_handler_of_three = refl
+
+waits_and_releases : micros one_function 1 (commands_of held_at_3) ≡ Await 1 3 ∷ Store 10 1 ∷ []
 waits_and_releases = refl

@@ -17,39 +17,39 @@ use Rattle.patch_script.specs.Refusals.{Lines, has_go}
 use Rattle.patch_script.specs.private.Sleds.{sleds_named}
 use Rattle.patch_script.proofs.Lists.{four_each, split_at, slice_get-append_left, slice_get-append_right}
 
-pub micros_after-append : (program : Program) (earlier : List ℕ) (xs ys : List Command)
-    → micros_after program earlier (xs ++ ys) ≡ micros_after program earlier xs ++ micros_after program (earlier ++ patched_by program xs) ys
-micros_after-append program earlier [] ys = ap (λ e. micros_after program e ys) (sym (append-nil earlier))
-micros_after-append program earlier (x ∷ xs) ys =
-    let here = steps_of program earlier x in
+pub micros_after-append : (program : Program) (threads : ℕ) (earlier : List ℕ) (xs ys : List Command)
+    → micros_after program threads earlier (xs ++ ys) ≡ micros_after program threads earlier xs ++ micros_after program threads (earlier ++ patched_by program xs) ys
+micros_after-append program threads earlier [] ys = ap (λ e. micros_after program threads e ys) (sym (append-nil earlier))
+micros_after-append program threads earlier (x ∷ xs) ys =
+    let here = steps_of program threads earlier x in
     let more = earlier ++ numbers (patches program x) in
-    ap (λ steps. here ++ steps) (micros_after-append program more xs ys)
-    ∙ sym (append_assoc here (micros_after program more xs) (micros_after program (more ++ patched_by program xs) ys))
-    ∙ ap (λ e. (here ++ micros_after program more xs) ++ micros_after program e ys) (append_assoc earlier (numbers (patches program x)) (patched_by program xs))
+    ap (λ steps. here ++ steps) (micros_after-append program threads more xs ys)
+    ∙ sym (append_assoc here (micros_after program threads more xs) (micros_after program threads (more ++ patched_by program xs) ys))
+    ∙ ap (λ e. (here ++ micros_after program threads more xs) ++ micros_after program threads e ys) (append_assoc earlier (numbers (patches program x)) (patched_by program xs))
 
 fours : (program : Program) (s : Numbered) → length (patch_sled program s) ≡ 4
 fours program s = refl
 
 -- ---- how many
 
-pub length-steps : (program : Program) (earlier : List ℕ) (command : Command) → length (steps_of program earlier command) ≡ step_count command (length (sleds_named program command))
-length-steps program earlier commands.Patch = four_each (patch_sled program) (all_sleds program) (fours program)
-length-steps program earlier commands.Unpatch = length-map (all_sleds program) (unpatch_sled earlier)
-length-steps program earlier (commands.PatchFunction id) = four_each (patch_sled program) (sleds_of program id) (fours program)
-length-steps program earlier (commands.UnpatchFunction id) = length-map (sleds_of program id) (unpatch_sled earlier)
-length-steps program earlier command = refl
+pub length-steps : (program : Program) (threads : ℕ) (earlier : List ℕ) (command : Command) → length (steps_of program threads earlier command) ≡ step_count command (length (sleds_named program command))
+length-steps program threads earlier commands.Patch = four_each (patch_sled program) (all_sleds program) (fours program)
+length-steps program threads earlier commands.Unpatch = length-map (all_sleds program) (unpatch_sled earlier)
+length-steps program threads earlier (commands.PatchFunction id) = four_each (patch_sled program) (sleds_of program id) (fours program)
+length-steps program threads earlier (commands.UnpatchFunction id) = length-map (sleds_of program id) (unpatch_sled earlier)
+length-steps program threads earlier command = refl
 
-pub total_more : (program : Program) (script : List Command) (command : Command)
-    → total_of program (script ++ command ∷ []) ≡ total_of program script + step_count command (length (sleds_named program command))
-total_more program script command =
-    ap length (micros_after-append program [] script (command ∷ []))
-    ∙ length-append (micros program script) (steps_of program (patched_by program script) command ++ [])
-    ∙ ap (λ steps. total_of program script + length steps) (append-nil (steps_of program (patched_by program script) command))
-    ∙ ap (λ n. total_of program script + n) (length-steps program (patched_by program script) command)
+pub total_more : (program : Program) (threads : ℕ) (script : List Command) (command : Command)
+    → total_of program threads (script ++ command ∷ []) ≡ total_of program threads script + step_count command (length (sleds_named program command))
+total_more program threads script command =
+    ap length (micros_after-append program threads [] script (command ∷ []))
+    ∙ length-append (micros program threads script) (steps_of program threads (patched_by program script) command ++ [])
+    ∙ ap (λ steps. total_of program threads script + length steps) (append-nil (steps_of program threads (patched_by program script) command))
+    ∙ ap (λ n. total_of program threads script + n) (length-steps program threads (patched_by program script) command)
 
-pub total_grows : (program : Program) (xs ys : List Command) → total_of program xs ≤ total_of program (xs ++ ys)
-total_grows program xs ys =
-    omega (arith, ap length (micros_after-append program [] xs ys), length-append (micros program xs) (micros_after program (patched_by program xs) ys))
+pub total_grows : (program : Program) (threads : ℕ) (xs ys : List Command) → total_of program threads xs ≤ total_of program threads (xs ++ ys)
+total_grows program threads xs ys =
+    omega (arith, ap length (micros_after-append program threads [] xs ys), length-append (micros program threads xs) (micros_after program threads (patched_by program xs) ys))
 
 take_front : (xs : List Command) (i j : ℕ) → i ≤ j → (m : List Command) × (take j xs ≡ take i xs ++ m)
 take_front xs zero j le = (take j xs, refl)
@@ -57,26 +57,26 @@ take_front xs (suc i) zero le = absurd (omega arith)
 take_front [] (suc i) (suc j) le = ([], refl)
 take_front (x ∷ xs) (suc i) (suc j) le = let rest = take_front xs i j (omega arith) in (rest.0, ap (λ t. x ∷ t) rest.1)
 
-pub total_in_order : (program : Program) (script : List Command) (i j : ℕ) → i ≤ j → total_of program (take i script) ≤ total_of program (take j script)
-total_in_order program script i j le =
+pub total_in_order : (program : Program) (threads : ℕ) (script : List Command) (i j : ℕ) → i ≤ j → total_of program threads (take i script) ≤ total_of program threads (take j script)
+total_in_order program threads script i j le =
     let more = take_front script i j le in
-    omega (arith, ap (total_of program) more.1, total_grows program (take i script) more.0)
+    omega (arith, ap (total_of program threads) more.1, total_grows program threads (take i script) more.0)
 
-pub total_part : (program : Program) (script : List Command) (i : ℕ) → total_of program (take i script) ≤ total_of program script
-total_part program script i = omega (arith, ap (total_of program) (take-append-drop i script), total_grows program (take i script) (drop i script))
+pub total_part : (program : Program) (threads : ℕ) (script : List Command) (i : ℕ) → total_of program threads (take i script) ≤ total_of program threads script
+total_part program threads script i = omega (arith, ap (total_of program threads) (take-append-drop i script), total_grows program threads (take i script) (drop i script))
 
 -- ---- a step of a command
 
-pub step_at : (program : Program) (script : List Command) (i : ℕ) (command : Command) (n : ℕ) (micro : Micro) → slice_get script i ≡ Some command
-    → slice_get (steps_of program (patched_by program (take i script)) command) n ≡ Some micro → slice_get (micros program script) (total_of program (take i script) + n) ≡ Some micro
-step_at program script i command n micro at step =
+pub step_at : (program : Program) (threads : ℕ) (script : List Command) (i : ℕ) (command : Command) (n : ℕ) (micro : Micro) → slice_get script i ≡ Some command
+    → slice_get (steps_of program threads (patched_by program (take i script)) command) n ≡ Some micro → slice_get (micros program threads script) (total_of program threads (take i script) + n) ≡ Some micro
+step_at program threads script i command n micro at step =
     let front = take i script in
-    let here = steps_of program (patched_by program front) command in
-    let following = micros_after program (patched_by program front ++ numbers (patches program command)) (drop (suc i) script) in
-    let whole : micros program script ≡ micros program front ++ (here ++ following) =
-    ap (micros program) (split_at script i command at) ∙ micros_after-append program [] front (command ∷ drop (suc i) script) in
-    ap (λ steps. slice_get steps (total_of program front + n)) whole
-    ∙ slice_get-append_right (micros program front) (here ++ following) n
+    let here = steps_of program threads (patched_by program front) command in
+    let following = micros_after program threads (patched_by program front ++ numbers (patches program command)) (drop (suc i) script) in
+    let whole : micros program threads script ≡ micros program threads front ++ (here ++ following) =
+    ap (micros program threads) (split_at script i command at) ∙ micros_after-append program threads [] front (command ∷ drop (suc i) script) in
+    ap (λ steps. slice_get steps (total_of program threads front + n)) whole
+    ∙ slice_get-append_right (micros program threads front) (here ++ following) n
     ∙ slice_get-append_left here following n (slice_get_within here n micro step)
     ∙ step
 
@@ -110,20 +110,20 @@ not_started (x ∷ xs) ys none =
     front-cons x (xs ++ ys)
     ∙ ap (λ b. cond (not b) (x ∷ take_while stays (xs ++ ys)) []) parts.0 ∙ ap (λ t. x ∷ t) (not_started xs ys parts.1)
 
-alone : (program : Program) (script : List Command) (command : Command)
-    → total_of program (script ++ cond (not (is_go command)) (command ∷ []) []) ≡ total_of program (script ++ command ∷ [])
-alone program script commands.Go = ap (total_of program) (append-nil script) ∙ sym (total_more program script commands.Go ∙ omega arith)
-alone program script command = refl
+alone : (program : Program) (threads : ℕ) (script : List Command) (command : Command)
+    → total_of program threads (script ++ cond (not (is_go command)) (command ∷ []) []) ≡ total_of program threads (script ++ command ∷ [])
+alone program threads script commands.Go = ap (total_of program threads) (append-nil script) ∙ sym (total_more program threads script commands.Go ∙ omega arith)
+alone program threads script command = refl
 
-pub start_more : (program : Program) (script : List Command) (command : Command)
-    → start_of program (script ++ command ∷ []) ≡ cond (has_go script) (start_of program script) (total_of program (script ++ command ∷ []))
-start_more program script command = elim (cases_Bool (has_go script)) [
+pub start_more : (program : Program) (threads : ℕ) (script : List Command) (command : Command)
+    → start_of program threads (script ++ command ∷ []) ≡ cond (has_go script) (start_of program threads script) (total_of program threads (script ++ command ∷ []))
+start_more program threads script command = elim (cases_Bool (has_go script)) [
   | inl so ↦
-      ap (total_of program) (started script (command ∷ []) so)
-      ∙ sym (ap (λ b. cond b (start_of program script) (total_of program (script ++ command ∷ []))) so)
+      ap (total_of program threads) (started script (command ∷ []) so)
+      ∙ sym (ap (λ b. cond b (start_of program threads script) (total_of program threads (script ++ command ∷ []))) so)
   | inr isnt ↦
-      ap (total_of program) (not_started script (command ∷ []) isnt ∙ ap (λ t. script ++ t) (front-cons command [])) ∙ alone program script command
-      ∙ sym (ap (λ b. cond b (start_of program script) (total_of program (script ++ command ∷ []))) isnt)
+      ap (total_of program threads) (not_started script (command ∷ []) isnt ∙ ap (λ t. script ++ t) (front-cons command [])) ∙ alone program threads script command
+      ∙ sym (ap (λ b. cond b (start_of program threads script) (total_of program threads (script ++ command ∷ []))) isnt)
 ]
 
 pub whole_front : (xs : List Command) → (m : List Command) × (xs ≡ take_while stays xs ++ m)
@@ -136,10 +136,10 @@ whole_front (x ∷ xs) =
       | false ↦ (rest.0, ap (λ t. x ∷ t) rest.1)
     ])
 
-pub start_within : (program : Program) (script : List Command) → start_of program script ≤ total_of program script
-start_within program script =
+pub start_within : (program : Program) (threads : ℕ) (script : List Command) → start_of program threads script ≤ total_of program threads script
+start_within program threads script =
     let more = whole_front script in
-    omega (arith, ap (total_of program) more.1, total_grows program (take_while stays script) more.0)
+    omega (arith, ap (total_of program threads) more.1, total_grows program threads (take_while stays script) more.0)
 
 -- ---- the first line at which a thread or the patcher may wait
 

@@ -1,14 +1,14 @@
 -- What micro steps name.
-use Rattle.std.proofs.Common.{◌≡◌, ℕ, ◌+◌, ◌*◌, ◌<◌, ◌≤◌, List, [], ◌∷◌, ◌++◌, ◌||◌, Bool, true, false, cond, length, get_or, map, refl, sym, ap, subst, ◌∙◌, inl, inr, arith, ◌==◌}
+use Rattle.std.proofs.Common.{◌≡◌, ℕ, ◌+◌, ◌*◌, ◌<◌, ◌≤◌, List, [], ◌∷◌, ◌++◌, ◌||◌, ◌&&◌, Bool, true, false, cond, not, length, get_or, map, refl, sym, ap, subst, ◌∙◌, inl, inr, arith, ◌==◌}
 use Rattle.std.specs.Prelude.{filter, nat_le, nat_lt, unwrap_or}
 use Rattle.std.specs.List.{list_any, flat_map, enumerate_from}
-use Rattle.std.proofs.lemmas.Bool.{cases_Bool, cases_lt, leb-false, lt-leb, ltb-false, eqb-false}
+use Rattle.std.proofs.lemmas.Bool.{cases_Bool, cases_lt, eq-eqb, eqb-false, eqb-true, le-leb, leb-false, lt-leb, ltb-false}
 use Rattle.std.proofs.lemmas.List.{length-map, get_or-map}
 use Rattle.std.proofs.lemmas.List.Folds.{list_any-append, list_any_at, list_any_none}
 use Rattle.std.proofs.lemmas.Option.{slice_get-get_or, slice_get_past}
 use Rattle.xray_image.specs.declared.sled.Sled.{Sled}
 use Rattle.xray_image.specs.Program.{Program}
-use Rattle.sled_words.specs.Words.{IsCodeWord, progress_word}
+use Rattle.sled_words.specs.Words.{IsCodeWord, arg_handler_word, progress_word}
 use Rattle.patch_script.specs.declared.command.Command.{Command}
 use Rattle.patch_script.specs.declared.command.Command.TheVariants as commands
 use Rattle.patch_script.specs.declared.micro.Micro.{Micro}
@@ -23,6 +23,19 @@ or_parts false b h = (refl, h)
 
 pub neither : (a b : Bool) → a ≡ false → b ≡ false → (a || b) ≡ false
 neither a b p q = ap (λ t. t || b) p ∙ q
+
+and_none : (a b : Bool) → b ≡ true → (a && not b) ≡ false
+and_none a true is = and_false a
+  where
+    and_false : (a : Bool) → (a && false) ≡ false
+    and_false true = refl
+    and_false false = refl
+and_none a false is = absurd cc
+
+all_of : (a b : Bool) → a ≡ true → (a && not b) ≡ false → b ≡ true
+all_of true true is none = refl
+all_of true false is none = absurd cc
+all_of false b is none = absurd cc
 
 filter_none : {X : Type 0} (p q : X → Bool) (xs : List X) → list_any p xs ≡ false → list_any p (filter q xs) ≡ false
 filter_none p q [] none = refl
@@ -54,14 +67,14 @@ module _ (bad : Micro → Bool) (program : Program) where
       neither (bad (unpatch_sled earlier s)) (list_any bad (map (unpatch_sled earlier) ss)) parts.0 (unpatched_none earlier ss parts.1)
 
   -- if no step of a command is bad, no step of the script is
-  pub script_none : (fault : Command → Bool) → ((earlier : List ℕ) (command : Command) → fault command ≡ false → list_any bad (steps_of program earlier command) ≡ false)
-      → (earlier : List ℕ) (script : List Command) → list_any fault script ≡ false → list_any bad (micros_after program earlier script) ≡ false
-  script_none fault each earlier [] none = refl
-  script_none fault each earlier (c ∷ cs) none =
+  pub script_none : (threads : ℕ) (fault : Command → Bool) → ((earlier : List ℕ) (command : Command) → fault command ≡ false → list_any bad (steps_of program threads earlier command) ≡ false)
+      → (earlier : List ℕ) (script : List Command) → list_any fault script ≡ false → list_any bad (micros_after program threads earlier script) ≡ false
+  script_none threads fault each earlier [] none = refl
+  script_none threads fault each earlier (c ∷ cs) none =
       let parts = or_parts (fault c) (list_any fault cs) none in
       let more = earlier ++ numbers (patches program c) in
-      list_any-append bad (steps_of program earlier c) (micros_after program more cs)
-      ∙ neither (list_any bad (steps_of program earlier c)) (list_any bad (micros_after program more cs)) (each earlier c parts.0) (script_none fault each more cs parts.1)
+      list_any-append bad (steps_of program threads earlier c) (micros_after program threads more cs)
+      ∙ neither (list_any bad (steps_of program threads earlier c)) (list_any bad (micros_after program threads more cs)) (each earlier c parts.0) (script_none threads fault each more cs parts.1)
 
   -- and so neither is one that is found by its place
   pub found_none : (steps : List Micro) → list_any bad steps ≡ false → (place : ℕ) → place < length steps → bad (get_or steps place End) ≡ false
@@ -75,15 +88,19 @@ module _ (bad : Micro → Bool) (program : Program) where
 module _ (program : Program) (threads : ℕ) where
   -- a word isn't a code word
   is_outside : ℕ → Bool
-  is_outside word = nat_le (progress_word program threads 1) word
+  is_outside word = nat_le (progress_word program threads 1) word && not (word == arg_handler_word program threads)
 
   inside : (word : ℕ) → IsCodeWord program threads word → is_outside word ≡ false
   unfolding is_outside
-  inside word is = lt-leb (progress_word program threads 1) word is
+  inside word (inl low) = ap (λ b. b && not (word == arg_handler_word program threads)) (lt-leb (progress_word program threads 1) word low)
+  inside word (inr is) = and_none (nat_le (progress_word program threads 1) word) (word == arg_handler_word program threads) (eq-eqb word (arg_handler_word program threads) is)
 
   code_word : (word : ℕ) → is_outside word ≡ false → IsCodeWord program threads word
   unfolding is_outside
-  code_word word isnt = leb-false (progress_word program threads 1) word isnt
+  code_word word isnt = elim (cases_lt word (progress_word program threads 1)) [
+    | inl low ↦ inl low
+    | inr high ↦ inr (eqb-true word (arg_handler_word program threads) (all_of (nat_le (progress_word program threads 1) word) (word == arg_handler_word program threads) (le-leb (progress_word program threads 1) word high) isnt))
+  ]
 
   abbrev is_astray : Micro → Bool
   is_astray (Store word value) = is_outside word
@@ -96,7 +113,7 @@ module _ (program : Program) (threads : ℕ) where
       neither (nat_le (length program.sleds) n) (list_any (λ s. nat_le (length program.sleds) s.0) (enumerate_from (n + 1) ss)) (lt-leb (length program.sleds) n (omega arith)) (numbered_near (n + 1) ss (omega arith))
 
   near : (k j : ℕ) → nat_le (length program.sleds) k ≡ false → j < 4 → is_outside (4 * k + j) ≡ false
-  near k j far lt = let less = leb-false (length program.sleds) k far in inside (4 * k + j) (omega arith)
+  near k j far lt = let less = leb-false (length program.sleds) k far in inside (4 * k + j) (inl (omega arith))
 
   stores_near : (sleds : List Numbered) → list_any (λ s. nat_le (length program.sleds) s.0) sleds ≡ false → list_any (is_bad_sled is_astray program) sleds ≡ false
   stores_near [] none = refl
@@ -121,38 +138,40 @@ module _ (program : Program) (threads : ℕ) where
   after_sleds : (word : ℕ) → IsCodeWord program threads word → (is_outside word || false) ≡ false
   after_sleds word is = neither (is_outside word) false (inside word is) refl
 
-  not_beyond : (thread : ℕ) → is_beyond threads thread ≡ false → (0 < thread) × (thread ≤ threads)
+  pub not_beyond : (thread : ℕ) → is_beyond threads thread ≡ false → (0 < thread) × (thread ≤ threads)
   not_beyond thread h =
       let parts = or_parts (thread == 0) (nat_lt threads thread) h in
       let some = eqb-false thread 0 parts.0 in
       let few = ltb-false threads thread parts.1 in
       (omega (arith, some), omega arith)
 
-  steps_near : (earlier : List ℕ) (command : Command) → names_no_thread threads command ≡ false → list_any is_astray (steps_of program earlier command) ≡ false
+  steps_near : (earlier : List ℕ) (command : Command) → names_no_thread threads command ≡ false → list_any is_astray (steps_of program threads earlier command) ≡ false
   steps_near earlier commands.Patch fits = patched_none is_astray program (all_sleds program) (stores_near (all_sleds program) all_near)
   steps_near earlier commands.Unpatch fits = unpatched_none is_astray program earlier (all_sleds program) (heads_near earlier (all_sleds program) all_near)
   steps_near earlier (commands.PatchFunction id) fits = patched_none is_astray program (sleds_of program id) (stores_near (sleds_of program id) (some_near id))
   steps_near earlier (commands.UnpatchFunction id) fits = unpatched_none is_astray program earlier (sleds_of program id) (heads_near earlier (sleds_of program id) (some_near id))
-  steps_near earlier commands.SetHandler fits = after_sleds (4 * length program.sleds) (omega arith)
-  steps_near earlier commands.RemoveHandler fits = after_sleds (4 * length program.sleds) (omega arith)
-  steps_near earlier commands.Init fits = neither _ _ (inside (4 * length program.sleds + 1) (omega arith)) (after_sleds (4 * length program.sleds + 1) (omega arith))
-  steps_near earlier commands.Finalize fits = neither _ _ (inside (4 * length program.sleds + 1) (omega arith)) (after_sleds (4 * length program.sleds + 1) (omega arith))
+  steps_near earlier commands.SetHandler fits = after_sleds (4 * length program.sleds) (inl (omega arith))
+  steps_near earlier commands.RemoveHandler fits = after_sleds (4 * length program.sleds) (inl (omega arith))
+  steps_near earlier commands.SetArgHandler fits = after_sleds (arg_handler_word program threads) (inr refl)
+  steps_near earlier commands.RemoveArgHandler fits = after_sleds (arg_handler_word program threads) (inr refl)
+  steps_near earlier commands.Init fits = neither _ _ (inside (4 * length program.sleds + 1) (inl (omega arith))) (after_sleds (4 * length program.sleds + 1) (inl (omega arith)))
+  steps_near earlier commands.Finalize fits = neither _ _ (inside (4 * length program.sleds + 1) (inl (omega arith))) (after_sleds (4 * length program.sleds + 1) (inl (omega arith)))
   steps_near earlier (commands.Hold thread passing) fits = refl
   steps_near earlier commands.Go fits = refl
   steps_near earlier (commands.Release thread) fits =
-      let bounds = not_beyond thread fits in after_sleds (4 * length program.sleds + 1 + thread) (omega (arith, bounds.0, bounds.1))
+      let bounds = not_beyond thread fits in after_sleds (4 * length program.sleds + 1 + thread) (inl (omega (arith, bounds.0, bounds.1)))
   steps_near earlier (commands.Await thread count) fits = neither (is_beyond threads thread) false fits refl
 
 -- what a script's micro steps name exists
-pub micro_within : (plan : Plan) → IsOrderly plan → (place : ℕ) (micro : Micro) → micro ≡ micro_at plan.program (commands_of plan.lines) place → IsWithin plan micro
-micro_within plan all place micro is = elim (cases_lt place (total_of plan.program (commands_of plan.lines))) [
+pub micro_within : (plan : Plan) → IsOrderly plan → (place : ℕ) (micro : Micro) → micro ≡ micro_at plan.program plan.threads (commands_of plan.lines) place → IsWithin plan micro
+micro_within plan all place micro is = elim (cases_lt place (total_of plan.program plan.threads (commands_of plan.lines))) [
   | inl lt ↦
-      let at : micro ≡ get_or (micros plan.program (commands_of plan.lines)) place End = is ∙ ap (λ o. unwrap_or o End) (slice_get-get_or (micros plan.program (commands_of plan.lines)) place End lt) in
-      let none : list_any (is_astray plan.program plan.threads) (micros plan.program (commands_of plan.lines)) ≡ false =
-      script_none (is_astray plan.program plan.threads) plan.program (names_no_thread plan.threads) (steps_near plan.program plan.threads) [] (commands_of plan.lines)
+      let at : micro ≡ get_or (micros plan.program plan.threads (commands_of plan.lines)) place End = is ∙ ap (λ o. unwrap_or o End) (slice_get-get_or (micros plan.program plan.threads (commands_of plan.lines)) place End lt) in
+      let none : list_any (is_astray plan.program plan.threads) (micros plan.program plan.threads (commands_of plan.lines)) ≡ false =
+      script_none (is_astray plan.program plan.threads) plan.program plan.threads (names_no_thread plan.threads) (steps_near plan.program plan.threads) [] (commands_of plan.lines)
       (list_any_none (names_no_thread plan.threads) (commands_of plan.lines) (λ k d lt'. named k d lt')) in
-      read micro (ap (is_astray plan.program plan.threads) at ∙ found_none (is_astray plan.program plan.threads) plan.program (micros plan.program (commands_of plan.lines)) none place lt)
-  | inr le ↦ subst (IsWithin plan) (sym (is ∙ ap (λ o. unwrap_or o End) (slice_get_past (micros plan.program (commands_of plan.lines)) place le))) tt
+      read micro (ap (is_astray plan.program plan.threads) at ∙ found_none (is_astray plan.program plan.threads) plan.program (micros plan.program plan.threads (commands_of plan.lines)) none place lt)
+  | inr le ↦ subst (IsWithin plan) (sym (is ∙ ap (λ o. unwrap_or o End) (slice_get_past (micros plan.program plan.threads (commands_of plan.lines)) place le))) tt
 ]
   where
     named : (k : ℕ) (d : Command) → k < length (commands_of plan.lines) → names_no_thread plan.threads (get_or (commands_of plan.lines) k d) ≡ false

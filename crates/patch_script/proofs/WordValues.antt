@@ -42,9 +42,9 @@ held_last word [] value = refl
 held_last word (step ∷ steps) value =
     last_cons (stored_in word step) (filter_map (stored_in word) steps) value ∙ held_last word steps (following word step value)
 
-pub code_at_held : (program : Program) (script : List Command) (place word : ℕ)
-    → code_at program script place word ≡ held word (take place (micros program script)) (initial_value program word)
-code_at_held program script place word = held_last word (take place (micros program script)) (initial_value program word)
+pub code_at_held : (program : Program) (threads : ℕ) (script : List Command) (place word : ℕ)
+    → code_at program threads script place word ≡ held word (take place (micros program threads script)) (initial_value program word)
+code_at_held program threads script place word = held_last word (take place (micros program threads script)) (initial_value program word)
 
 held-append : (word : ℕ) (xs ys : List Micro) (value : ℕ) → held word (xs ++ ys) value ≡ held word ys (held word xs value)
 held-append word [] ys value = refl
@@ -79,14 +79,14 @@ held_next word [] (suc place) value = refl
 held_next word (step ∷ steps) zero value = refl
 held_next word (step ∷ steps) (suc place) value = held_next word steps place (following word step value)
 
-pub code_at_next : (program : Program) (script : List Command) (place word : ℕ)
-    → code_at program script (place + 1) word
-    ≡ following word (micro_at program script place) (code_at program script place word)
-code_at_next program script place word =
-    let steps : List Micro = micros program script in
+pub code_at_next : (program : Program) (threads : ℕ) (script : List Command) (place word : ℕ)
+    → code_at program threads script (place + 1) word
+    ≡ following word (micro_at program threads script place) (code_at program threads script place word)
+code_at_next program threads script place word =
+    let steps : List Micro = micros program threads script in
     let first : ℕ = initial_value program word in
-    code_at_held program script (place + 1) word ∙ ap (λ n. held word (take n steps) first) (add-one place)
-    ∙ held_next word steps place first ∙ ap (following word (micro_at program script place)) (sym (code_at_held program script place word))
+    code_at_held program threads script (place + 1) word ∙ ap (λ n. held word (take n steps) first) (add-one place)
+    ∙ held_next word steps place first ∙ ap (following word (micro_at program threads script place)) (sym (code_at_held program threads script place word))
 
 -- zeros after a list change no number that is read with 0 for none
 zeros : (n i : ℕ) → ◌≡◌ {A = ℕ} (get_or (replicate n 0) i 0) 0
@@ -99,8 +99,8 @@ get_or-zeros [] n i = zeros n i
 get_or-zeros (x ∷ xs) n zero = refl
 get_or-zeros (x ∷ xs) n (suc i) = get_or-zeros xs n i
 
-pub code_at_first : (program : Program) (script : List Command) (threads : ℕ) → AreCodeAt program script 0 (initial_words program threads)
-code_at_first program script threads word within = get_or-zeros (all_sled_words program) (2 + 2 * threads) word
+pub code_at_first : (program : Program) (threads : ℕ) (script : List Command) → AreCodeAt program threads script 0 (initial_words program threads)
+code_at_first program threads script word within = get_or-zeros (all_sled_words program) (3 + 2 * threads) word
 
 -- a step changes each word to its value after the step
 stored_after : (words : List ℕ) (step : Micro) (word : ℕ) → word < length (stored words step)
@@ -122,9 +122,9 @@ stored_within words (Await thread count) word within = within
 stored_within words End word within = within
 stored_within words (Store w value) word within = subst (λ (n : ℕ). word < n) (length-set words w value) within
 
-pub code_stored : (program : Program) (script : List Command) (place : ℕ) (words : List ℕ) → AreCodeAt program script place words
-    → AreCodeAt program script (place + 1) (stored words (micro_at program script place))
-code_stored program script place words are word within =
-    let step : Micro = micro_at program script place in
+pub code_stored : (program : Program) (threads : ℕ) (script : List Command) (place : ℕ) (words : List ℕ) → AreCodeAt program threads script place words
+    → AreCodeAt program threads script (place + 1) (stored words (micro_at program threads script place))
+code_stored program threads script place words are word within =
+    let step : Micro = micro_at program threads script place in
     stored_after words step word within ∙ ap (following word step) (are word (stored_within words step word within))
-    ∙ sym (code_at_next program script place word)
+    ∙ sym (code_at_next program threads script place word)

@@ -67,6 +67,8 @@ module _ (numbers : WrittenNumbersRead) where
   command_written (commands.UnpatchFunction id) h = one_number id h
   command_written commands.SetHandler h = refl
   command_written commands.RemoveHandler h = refl
+  command_written commands.SetArgHandler h = refl
+  command_written commands.RemoveArgHandler h = refl
   command_written commands.Init h = refl
   command_written commands.Finalize h = refl
   command_written (commands.Hold thread passing) h = two_numbers thread passing h
@@ -100,6 +102,8 @@ module _ (program : Program) (threads : ℕ) where
     command_said (commands.UnpatchFunction id) h = ap (option_map commands.UnpatchFunction) (numbers.short id h)
     command_said commands.SetHandler h = refl
     command_said commands.RemoveHandler h = refl
+    command_said commands.SetArgHandler h = refl
+    command_said commands.RemoveArgHandler h = refl
     command_said commands.Init h = refl
     command_said commands.Finalize h = refl
     command_said (commands.Hold thread passing) h = two_said commands.Hold thread passing h
@@ -114,6 +118,8 @@ module _ (program : Program) (threads : ℕ) where
     has_words (commands.UnpatchFunction id) = refl
     has_words commands.SetHandler = refl
     has_words commands.RemoveHandler = refl
+    has_words commands.SetArgHandler = refl
+    has_words commands.RemoveArgHandler = refl
     has_words commands.Init = refl
     has_words commands.Finalize = refl
     has_words (commands.Hold thread passing) = refl

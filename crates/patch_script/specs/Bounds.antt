@@ -15,5 +15,5 @@ awaits_passing thread passing End = false
 
 -- the bound of a thread's passing: the number of the first micro step that awaits it, or of all micro steps if none
 -- does
-abbrev pub bound_of : Program → List Command → ℕ → ℕ → ℕ
-bound_of program script thread passing = position_or_len (awaits_passing thread passing) (micros program script)
+abbrev pub bound_of : Program → ℕ → List Command → ℕ → ℕ → ℕ
+bound_of program threads script thread passing = position_or_len (awaits_passing thread passing) (micros program threads script)

@@ -20,6 +20,6 @@ initial_value program word = slice_index (all_sled_words program) word
 
 -- the value of a word after the first `place` micro steps: that of the last store to it, or its first value if there is
 -- none
-abbrev pub code_at : Program → List Command → ℕ → ℕ → ℕ
-code_at program script place word =
-    unwrap_or (last_or None (filter_map (stored_in word) (take place (micros program script)))) (initial_value program word)
+abbrev pub code_at : Program → ℕ → List Command → ℕ → ℕ → ℕ
+code_at program threads script place word =
+    unwrap_or (last_or None (filter_map (stored_in word) (take place (micros program threads script)))) (initial_value program word)

@@ -13,6 +13,7 @@ keywords =
     (codes "patch", words.Patch) ∷ (codes "unpatch", words.Unpatch)
     ∷ (codes "patch_function", words.PatchFunction) ∷ (codes "unpatch_function", words.UnpatchFunction)
     ∷ (codes "set_handler", words.SetHandler) ∷ (codes "remove_handler", words.RemoveHandler)
+    ∷ (codes "set_arg_handler", words.SetArgHandler) ∷ (codes "remove_arg_handler", words.RemoveArgHandler)
     ∷ (codes "init", words.Init) ∷ (codes "finalize", words.Finalize)
     ∷ (codes "hold", words.Hold) ∷ (codes "go", words.Go)
     ∷ (codes "release", words.Release) ∷ (codes "await", words.Await) ∷ []
@@ -36,6 +37,8 @@ says words.PatchFunction (id ∷ []) = on_one commands.PatchFunction id
 says words.UnpatchFunction (id ∷ []) = on_one commands.UnpatchFunction id
 says words.SetHandler [] = Some commands.SetHandler
 says words.RemoveHandler [] = Some commands.RemoveHandler
+says words.SetArgHandler [] = Some commands.SetArgHandler
+says words.RemoveArgHandler [] = Some commands.RemoveArgHandler
 says words.Init [] = Some commands.Init
 says words.Finalize [] = Some commands.Finalize
 says words.Hold (thread ∷ passing ∷ []) = on_two commands.Hold thread passing

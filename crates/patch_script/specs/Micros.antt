@@ -4,10 +4,10 @@ use Rattle.std.specs.Option.{option_or}
 use Rattle.std.specs.List.{flat_map, list_any, enumerate_from}
 use Rattle.xray_image.specs.declared.sled.Sled.{Sled}
 use Rattle.xray_image.specs.declared.sled.SledKind.{SledKind}
-use Rattle.xray_image.specs.declared.sled.SledKind.TheVariants.{Entry, Exit, Tail}
+use Rattle.xray_image.specs.declared.sled.SledKind.TheVariants.{Entry, Exit, Tail, Args}
 use Rattle.xray_image.specs.Program.{Program}
 use Rattle.sled_words.specs.declared.part.Part.TheVariants.{Head, Id, Opcode, Offset}
-use Rattle.sled_words.specs.Words.{word_of, handler_word, state_word, release_word}
+use Rattle.sled_words.specs.Words.{word_of, handler_word, state_word, release_word, arg_handler_word}
 use Rattle.sled_words.specs.Parts.{jump_head, patched, return_head}
 use Rattle.patch_script.specs.declared.command.Command.{Command}
 use Rattle.patch_script.specs.declared.command.Command.TheVariants as commands
@@ -34,6 +34,8 @@ patches program commands.Unpatch = []
 patches program (commands.UnpatchFunction id) = []
 patches program commands.SetHandler = []
 patches program commands.RemoveHandler = []
+patches program commands.SetArgHandler = []
+patches program commands.RemoveArgHandler = []
 patches program commands.Init = []
 patches program commands.Finalize = []
 patches program (commands.Hold thread passing) = []
@@ -58,6 +60,7 @@ return_over_patch = 0xBAC3
 abbrev pub head_left : SledKind → Bool → ℕ
 head_left Entry was_patched = jump_head
 head_left Tail was_patched = jump_head
+head_left Args was_patched = jump_head
 head_left Exit true = return_over_patch
 head_left Exit false = return_head
 
@@ -65,49 +68,51 @@ head_left Exit false = return_head
 abbrev pub unpatch_sled : List ℕ → Numbered → Micro
 unpatch_sled earlier (k, sled) = Store (word_of k Head) (head_left sled.kind (list_any (λ j. j == k) earlier))
 
--- the micro steps of a command, if earlier commands patched the sleds of these numbers
-abbrev pub steps_of : Program → List ℕ → Command → List Micro
-steps_of program earlier commands.Patch = flat_map (patch_sled program) (all_sleds program)
-steps_of program earlier commands.Unpatch = map (unpatch_sled earlier) (all_sleds program)
-steps_of program earlier (commands.PatchFunction id) = flat_map (patch_sled program) (sleds_of program id)
-steps_of program earlier (commands.UnpatchFunction id) = map (unpatch_sled earlier) (sleds_of program id)
-steps_of program earlier commands.SetHandler = Store (handler_word program) 1 ∷ []
-steps_of program earlier commands.RemoveHandler = Store (handler_word program) 0 ∷ []
-steps_of program earlier commands.Init = Store (state_word program) 1 ∷ Store (state_word program) 2 ∷ []
-steps_of program earlier commands.Finalize = Store (state_word program) 3 ∷ Store (state_word program) 4 ∷ []
-steps_of program earlier (commands.Hold thread passing) = []
-steps_of program earlier commands.Go = []
-steps_of program earlier (commands.Release thread) = Store (release_word program thread) 1 ∷ []
-steps_of program earlier (commands.Await thread count) = Await thread count ∷ []
+-- the micro steps of a command for this many threads, if earlier commands patched the sleds of these numbers
+abbrev pub steps_of : Program → ℕ → List ℕ → Command → List Micro
+steps_of program threads earlier commands.Patch = flat_map (patch_sled program) (all_sleds program)
+steps_of program threads earlier commands.Unpatch = map (unpatch_sled earlier) (all_sleds program)
+steps_of program threads earlier (commands.PatchFunction id) = flat_map (patch_sled program) (sleds_of program id)
+steps_of program threads earlier (commands.UnpatchFunction id) = map (unpatch_sled earlier) (sleds_of program id)
+steps_of program threads earlier commands.SetHandler = Store (handler_word program) 1 ∷ []
+steps_of program threads earlier commands.RemoveHandler = Store (handler_word program) 0 ∷ []
+steps_of program threads earlier commands.SetArgHandler = Store (arg_handler_word program threads) 1 ∷ []
+steps_of program threads earlier commands.RemoveArgHandler = Store (arg_handler_word program threads) 0 ∷ []
+steps_of program threads earlier commands.Init = Store (state_word program) 1 ∷ Store (state_word program) 2 ∷ []
+steps_of program threads earlier commands.Finalize = Store (state_word program) 3 ∷ Store (state_word program) 4 ∷ []
+steps_of program threads earlier (commands.Hold thread passing) = []
+steps_of program threads earlier commands.Go = []
+steps_of program threads earlier (commands.Release thread) = Store (release_word program thread) 1 ∷ []
+steps_of program threads earlier (commands.Await thread count) = Await thread count ∷ []
 
 -- the numbers of the sleds that a command patches
 abbrev pub numbers : List Numbered → List ℕ
 numbers sleds = map (λ s. s.0) sleds
 
 -- the micro steps of commands, command after command
-abbrev pub micros_after : Program → List ℕ → List Command → List Micro
-micros_after program earlier [] = []
-micros_after program earlier (command ∷ rest) =
-    steps_of program earlier command ++ micros_after program (earlier ++ numbers (patches program command)) rest
+abbrev pub micros_after : Program → ℕ → List ℕ → List Command → List Micro
+micros_after program threads earlier [] = []
+micros_after program threads earlier (command ∷ rest) =
+    steps_of program threads earlier command ++ micros_after program threads (earlier ++ numbers (patches program command)) rest
 
--- the micro steps of a script
-abbrev pub micros : Program → List Command → List Micro
-micros program script = micros_after program [] script
+-- the micro steps of a script for this many threads
+abbrev pub micros : Program → ℕ → List Command → List Micro
+micros program threads script = micros_after program threads [] script
 
 abbrev pub is_go : Command → Bool
 is_go commands.Go = true
 is_go _ = false
 
 -- how many micro steps come before `go`, and how many there are
-abbrev pub start_of : Program → List Command → ℕ
-start_of program script = length (micros program (take_while (λ c. not (is_go c)) script))
+abbrev pub start_of : Program → ℕ → List Command → ℕ
+start_of program threads script = length (micros program threads (take_while (λ c. not (is_go c)) script))
 
-abbrev pub total_of : Program → List Command → ℕ
-total_of program script = length (micros program script)
+abbrev pub total_of : Program → ℕ → List Command → ℕ
+total_of program threads script = length (micros program threads script)
 
 -- the micro step at a place, or the end after all of them
-abbrev pub micro_at : Program → List Command → ℕ → Micro
-micro_at program script place = unwrap_or (slice_get (micros program script) place) End
+abbrev pub micro_at : Program → ℕ → List Command → ℕ → Micro
+micro_at program threads script place = unwrap_or (slice_get (micros program threads script) place) End
 
 -- the passing that a script holds a thread before
 abbrev pub hold_by : ℕ → Command → Option ℕ

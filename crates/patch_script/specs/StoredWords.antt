@@ -13,6 +13,6 @@ stored words (Await thread count) = words
 stored words End = words
 
 -- the words are the code at a place
-abbrev pub AreCodeAt : Program → List Command → ℕ → List ℕ → Type 0
-AreCodeAt program script place words =
-    (word : ℕ) → word < length words → slice_index words word ≡ code_at program script place word
+abbrev pub AreCodeAt : Program → ℕ → List Command → ℕ → List ℕ → Type 0
+AreCodeAt program threads script place words =
+    (word : ℕ) → word < length words → slice_index words word ≡ code_at program threads script place word

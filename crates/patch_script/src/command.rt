@@ -22,6 +22,11 @@ pub enum Command {
     SetHandler,
     /// `remove_handler`: removes the handler.
     RemoveHandler,
+    /// `set_arg_handler`: installs the argument handler, which entry sleds with argument logging call
+    /// in place of the handler.
+    SetArgHandler,
+    /// `remove_arg_handler`: removes the argument handler.
+    RemoveArgHandler,
     /// `init`: initializes the log.
     Init,
     /// `finalize`: finalizes the log.

@@ -50,6 +50,8 @@ impl FirstPatches {
             | Command::UnpatchFunction { .. }
             | Command::SetHandler
             | Command::RemoveHandler
+            | Command::SetArgHandler
+            | Command::RemoveArgHandler
             | Command::Init
             | Command::Finalize
             | Command::Hold { .. }

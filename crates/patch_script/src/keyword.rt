@@ -14,6 +14,8 @@ pub(crate) enum Keyword {
     UnpatchFunction,
     SetHandler,
     RemoveHandler,
+    SetArgHandler,
+    RemoveArgHandler,
     Init,
     Finalize,
     Hold,
@@ -23,13 +25,15 @@ pub(crate) enum Keyword {
 }
 
 /// The keywords, as scripts have them.
-const KEYWORDS: [(&[u8], Keyword); 12] = [
+const KEYWORDS: [(&[u8], Keyword); 14] = [
     (b"patch", Keyword::Patch),
     (b"unpatch", Keyword::Unpatch),
     (b"patch_function", Keyword::PatchFunction),
     (b"unpatch_function", Keyword::UnpatchFunction),
     (b"set_handler", Keyword::SetHandler),
     (b"remove_handler", Keyword::RemoveHandler),
+    (b"set_arg_handler", Keyword::SetArgHandler),
+    (b"remove_arg_handler", Keyword::RemoveArgHandler),
     (b"init", Keyword::Init),
     (b"finalize", Keyword::Finalize),
     (b"hold", Keyword::Hold),

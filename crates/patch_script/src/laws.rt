@@ -17,36 +17,36 @@ use crate::micro::Micro;
 /// stores, however many stores come between the loads. No script stores anything else in an id, an
 /// opcode or an offset, and it stores these three before the head.
 pub fn a_patched_head_has_patched_parts()
-    ensures { (program : Program) (script : List Command) (p q k : ℕ) (sled : Sled)
+    ensures { (program : Program) (threads : ℕ) (script : List Command) (p q k : ℕ) (sled : Sled)
         → slice_get program.sleds k ≡ Some sled → p ≤ q
-        → HasPatchedHead program script p k → HasPatchedParts program script q k sled }
+        → HasPatchedHead program threads script p k → HasPatchedParts program threads script q k sled }
 {}
 
 /// At each place, each word has one of a few values.
 pub fn each_word_has_a_code_value()
-    ensures { (program : Program) (script : List Command) (place word : ℕ)
-        → IsCodeValue program word (code_at program script place word) }
+    ensures { (program : Program) (threads : ℕ) (script : List Command) (place word : ℕ)
+        → IsCodeValue program threads word (code_at program threads script place word) }
 {}
 
 /// The stores of any script keep each sled whole for a thread that passes it. What the thread loads
 /// is allowed, wherever its loads fall between the stores.
 pub fn each_script_keeps_sleds()
-    ensures { (program : Program) (script : List Command) (thread : ℕ)
-        → KeepsSleds program thread (code_at program script) }
+    ensures { (program : Program) (threads : ℕ) (script : List Command) (thread : ℕ)
+        → KeepsSleds program threads thread (code_at program threads script) }
 {}
 
 /// Stores made one by one give the code at each place. At first the words are those before the
 /// script. Each micro step brings the words to their values at the next place.
 #[inline(always)]
 pub fn stores_give_the_code()
-    ensures first { (program : Program) (script : List Command) (threads : ℕ)
-        → AreCodeAt program script 0 (initial_words program threads) }
-    ensures next { (program : Program) (script : List Command) (place : ℕ) (words : List ℕ)
-        → AreCodeAt program script place words
-        → AreCodeAt program script (place + 1) (stored words (micro_at program script place)) }
-    ensures word { (program : Program) (script : List Command) (place word : ℕ)
-        → code_at program script (place + 1) word
-        ≡ unwrap_or (stored_in word (micro_at program script place)) (code_at program script place word) }
+    ensures first { (program : Program) (threads : ℕ) (script : List Command)
+        → AreCodeAt program threads script 0 (initial_words program threads) }
+    ensures next { (program : Program) (threads : ℕ) (script : List Command) (place : ℕ) (words : List ℕ)
+        → AreCodeAt program threads script place words
+        → AreCodeAt program threads script (place + 1) (stored words (micro_at program threads script place)) }
+    ensures word { (program : Program) (threads : ℕ) (script : List Command) (place word : ℕ)
+        → code_at program threads script (place + 1) word
+        ≡ unwrap_or (stored_in word (micro_at program threads script place)) (code_at program threads script place word) }
 {}
 
 /// How far the patcher may have come while a thread makes a passing: up to the first micro step
@@ -54,15 +54,15 @@ pub fn stores_give_the_code()
 /// the passings that the thread had made before this one.
 #[inline(always)]
 pub fn awaits_bound_passings()
-    ensures within { (program : Program) (script : List Command) (thread passing : ℕ)
-        → bound_of program script thread passing ≤ total_of program script }
-    ensures awaited { (program : Program) (script : List Command) (thread passing place count : ℕ)
-        → micro_at program script place ≡ Micro.Await thread count → passing < count
-        → bound_of program script thread passing ≤ place }
-    ensures reached { (program : Program) (script : List Command) (thread passing place : ℕ)
-        → place ≤ total_of program script
-        → ((i count : ℕ) → i < place → micro_at program script i ≡ Micro.Await thread count → count ≤ passing)
-        → place ≤ bound_of program script thread passing }
+    ensures within { (program : Program) (threads : ℕ) (script : List Command) (thread passing : ℕ)
+        → bound_of program threads script thread passing ≤ total_of program threads script }
+    ensures awaited { (program : Program) (threads : ℕ) (script : List Command) (thread passing place count : ℕ)
+        → micro_at program threads script place ≡ Micro.Await thread count → passing < count
+        → bound_of program threads script thread passing ≤ place }
+    ensures reached { (program : Program) (threads : ℕ) (script : List Command) (thread passing place : ℕ)
+        → place ≤ total_of program threads script
+        → ((i count : ℕ) → i < place → micro_at program threads script i ≡ Micro.Await thread count → count ≤ passing)
+        → place ≤ bound_of program threads script thread passing }
 {}
 
 /// Each script that is read lets each of its threads come to its end. It awaits passings only after
@@ -71,6 +71,6 @@ pub fn each_script_lets_threads_end()
     ensures { (program : Program) (threads : ℕ) (text : List ℕ) (plan : Plan) (thread : ℕ)
         → 0 < thread → plan_of program threads text ≡ Ok plan
         → LetsEnd program thread (hold_of thread (commands_of plan.lines))
-        (code_at program (commands_of plan.lines)) (start_of program (commands_of plan.lines))
-        (total_of program (commands_of plan.lines)) (bound_of program (commands_of plan.lines) thread) }
+        (code_at program threads (commands_of plan.lines)) (start_of program threads (commands_of plan.lines))
+        (total_of program threads (commands_of plan.lines)) (bound_of program threads (commands_of plan.lines) thread) }
 {}

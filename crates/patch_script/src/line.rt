@@ -17,6 +17,8 @@ fn says_alone(keyword: Keyword) -> Option<Command>
         Keyword::Unpatch => Some(Command::Unpatch),
         Keyword::SetHandler => Some(Command::SetHandler),
         Keyword::RemoveHandler => Some(Command::RemoveHandler),
+        Keyword::SetArgHandler => Some(Command::SetArgHandler),
+        Keyword::RemoveArgHandler => Some(Command::RemoveArgHandler),
         Keyword::Init => Some(Command::Init),
         Keyword::Finalize => Some(Command::Finalize),
         Keyword::Go => Some(Command::Go),

@@ -11,7 +11,8 @@ use crate::first_patches::FirstPatches;
 use crate::micro::Micro;
 use crate::sleds::{SledRange, SledValues, sled_values};
 use sled_words::{
-    HANDLER_SET, LogState, NO_HANDLER, PARTS, Part, RELEASED, handler_word, state_word, word_of,
+    HANDLER_SET, LogState, MAX_THREADS, NO_HANDLER, PARTS, Part, RELEASED, arg_handler_word,
+    handler_word, state_word, word_of,
 };
 use std::alloc::{AllocError, Global};
 use std::snapshot::Snapshot;
@@ -47,6 +48,8 @@ pub(crate) struct Placed {
 pub(crate) struct PlacedCommands {
     /// The image, for contracts only.
     pub(crate) image: Snapshot<Image>,
+    /// How many threads there are.
+    pub(crate) threads: u32,
     pub(crate) commands: Vec<Placed>,
     /// How many micro steps there are.
     pub(crate) total: u64,
@@ -60,6 +63,8 @@ pub(crate) struct PlacedCommands {
     handler_word: u32,
     /// The number of the state's word. The release words of the threads come after it.
     state_word: u32,
+    /// The number of the argument handler's word, which is the last.
+    arg_handler_word: u32,
 }
 
 impl Command {
@@ -73,7 +78,10 @@ impl Command {
         match self {
             Command::Patch | Command::PatchFunction { .. } => PATCH_STORES * u64::from(sleds),
             Command::Unpatch | Command::UnpatchFunction { .. } => u64::from(sleds),
-            Command::SetHandler | Command::RemoveHandler => 1,
+            Command::SetHandler
+            | Command::RemoveHandler
+            | Command::SetArgHandler
+            | Command::RemoveArgHandler => 1,
             Command::Init | Command::Finalize => 2,
             Command::Hold { .. } | Command::Go => 0,
             Command::Release { .. } | Command::Await { .. } => 1,
@@ -92,6 +100,8 @@ impl Command {
             | Command::UnpatchFunction { .. }
             | Command::SetHandler
             | Command::RemoveHandler
+            | Command::SetArgHandler
+            | Command::RemoveArgHandler
             | Command::Init
             | Command::Finalize
             | Command::Go => None,
@@ -102,16 +112,23 @@ impl Command {
 impl PlacedCommands {
     ghost use Rattle.patch_script.specs.private.Placing.{ArePlaced, MayBePlaced, lines_in, IsAt, step_count, patched_before};
 
-    /// No commands.
-    pub(crate) fn new(alloc: Global, image: &Image) -> Result<PlacedCommands, AllocError>
+    /// No commands, for an image and a number of threads.
+    pub(crate) fn new(
+        alloc: Global,
+        image: &Image,
+        threads: u32,
+    ) -> Result<PlacedCommands, AllocError>
+        requires { threads ≤ MAX_THREADS }
         ensures sound { IfOk result ArePlaced }
         ensures image { IfOk result (λ placed. placed.image.value ≡ image.now) }
+        ensures threads { IfOk result (λ placed. placed.threads ≡ threads) }
         ensures lines { IfOk result (λ placed. lines_in placed ≡ []) }
     {
         let sleds = sled_values(alloc, image)?;
         let first_patches = FirstPatches::new(alloc, image.id_count())?;
         Ok(PlacedCommands {
             image: Snapshot::of(image),
+            threads,
             commands: Vec::new(alloc),
             total: 0,
             start: 0,
@@ -120,6 +137,7 @@ impl PlacedCommands {
             sleds,
             handler_word: handler_word(image),
             state_word: state_word(image),
+            arg_handler_word: arg_handler_word(image, threads),
         })
     }
 
@@ -137,6 +155,8 @@ impl PlacedCommands {
                 SledRange::of_function(&self.sleds, id),
             Command::SetHandler
             | Command::RemoveHandler
+            | Command::SetArgHandler
+            | Command::RemoveArgHandler
             | Command::Init
             | Command::Finalize
             | Command::Hold { .. }
@@ -158,6 +178,7 @@ impl PlacedCommands {
         requires going { going ≡ has_go (commands_of (lines_in self.old)) }
         ensures sound { OnOk result (ArePlaced self.new) }
         ensures image { OnOk result (self.new.image.value ≡ self.old.image.value) }
+        ensures threads { OnOk result (self.new.threads ≡ self.old.threads) }
         ensures lines { OnOk result (lines_in self.new ≡ lines_in self.old ++ (line, command) ∷ []) }
     {
         let sleds = self.sleds_of(command);
@@ -187,7 +208,7 @@ impl PlacedCommands {
     /// number there. Any number gives the same answer.
     pub(crate) fn micro_near(&self, place: u64, near: &mut u32) -> Micro
         requires { ArePlaced self.now }
-        ensures { result ≡ micro_at self.now.image.value (commands_of (lines_in self.now)) place }
+        ensures { result ≡ micro_at self.now.image.value self.now.threads (commands_of (lines_in self.now)) place }
     {
         if place >= self.total {
             return Micro::End;
@@ -242,7 +263,7 @@ impl PlacedCommands {
     fn micro_of(&self, number: usize, place: u64) -> Micro
         requires sound { ArePlaced self.now }
         requires at { IsAt self.now place number }
-        ensures { result ≡ micro_at self.now.image.value (commands_of (lines_in self.now)) place }
+        ensures { result ≡ micro_at self.now.image.value self.now.threads (commands_of (lines_in self.now)) place }
     {
         let placed = self.commands[number];
         self.step(number as u32, placed, place - placed.before)
@@ -254,7 +275,7 @@ impl PlacedCommands {
         requires placed { slice_get self.now.commands.items number ≡ Some placed }
         requires within { step < step_count placed.command (placed.sleds.end - placed.sleds.start) }
         ensures { slice_get
-            (steps_of self.now.image.value (patched_before self.now number) placed.command) step
+            (steps_of self.now.image.value self.now.threads (patched_before self.now number) placed.command) step
             ≡ Some result }
     {
         match placed.command {
@@ -272,6 +293,14 @@ impl PlacedCommands {
             },
             Command::RemoveHandler => Micro::Store {
                 word: self.handler_word,
+                value: NO_HANDLER,
+            },
+            Command::SetArgHandler => Micro::Store {
+                word: self.arg_handler_word,
+                value: HANDLER_SET,
+            },
+            Command::RemoveArgHandler => Micro::Store {
+                word: self.arg_handler_word,
                 value: NO_HANDLER,
             },
             Command::Init => Micro::Store {

@@ -26,8 +26,6 @@ const COMMAND_LIMIT: usize = 1024;
 /// The commands that were read so far.
 #[derive(Drop)]
 pub(crate) struct Draft {
-    /// How many threads there are.
-    pub(crate) threads: u32,
     /// How many function ids the image has.
     ids: u32,
     pub(crate) placed: PlacedCommands,
@@ -48,9 +46,8 @@ impl Draft {
         ensures { Reads image.now threads result (Ok []) }
     {
         Ok(Draft {
-            threads,
             ids: image.id_count(),
-            placed: PlacedCommands::new(alloc, image)?,
+            placed: PlacedCommands::new(alloc, image, threads)?,
             standing: Standing::new(),
         })
     }
@@ -68,6 +65,8 @@ impl Draft {
             | Command::Unpatch
             | Command::SetHandler
             | Command::RemoveHandler
+            | Command::SetArgHandler
+            | Command::RemoveArgHandler
             | Command::Init
             | Command::Finalize
             | Command::Hold { .. }
@@ -79,18 +78,20 @@ impl Draft {
 
     /// Whether a command names a thread that doesn't exist.
     fn names_no_thread(&self, command: Command) -> bool
-        ensures { result ≡ names_no_thread self.now.threads command }
+        ensures { result ≡ names_no_thread self.now.placed.threads command }
     {
         match command {
             Command::Hold { thread, .. }
             | Command::Release { thread }
-            | Command::Await { thread, .. } => is_beyond(self.threads, thread),
+            | Command::Await { thread, .. } => is_beyond(self.placed.threads, thread),
             Command::Patch
             | Command::Unpatch
             | Command::PatchFunction { .. }
             | Command::UnpatchFunction { .. }
             | Command::SetHandler
             | Command::RemoveHandler
+            | Command::SetArgHandler
+            | Command::RemoveArgHandler
             | Command::Init
             | Command::Finalize
             | Command::Go => false,
@@ -139,7 +140,7 @@ impl Draft {
     fn take_line(&mut self, line: &Line) -> Result<(), ScriptFault>
         requires { IsDraft self.old }
         ensures { Takes result self.old
-            (with_line (program_of self.old) self.old.threads (lines_of self.old)
+            (with_line (program_of self.old) self.old.placed.threads (lines_of self.old)
             (line.now.number, line.now.bytes.now)) self.new }
     {
         if is_blank(line) {

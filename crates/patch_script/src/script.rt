@@ -19,7 +19,6 @@ use std::marker::Model;
 /// 0, in the order in which the patcher makes them.
 #[derive(Drop)]
 pub struct Script {
-    threads: u32,
     placed: PlacedCommands,
     holds: Holds,
 }
@@ -45,7 +44,6 @@ impl Script {
         ensures { result ≡ plan_of_draft draft }
     {
         Script {
-            threads: draft.threads,
             placed: draft.placed,
             holds: draft.standing.holds,
         }
@@ -53,11 +51,11 @@ impl Script {
 
     /// How many micro steps come before `go`, where the threads start.
     pub fn start(&self) -> u64
-        ensures start { result ≡ start_of self.now.program (commands_of self.now.lines) }
-        ensures within { result ≤ total_of self.now.program (commands_of self.now.lines) }
+        ensures start { result ≡ start_of self.now.program self.now.threads (commands_of self.now.lines) }
+        ensures within { result ≤ total_of self.now.program self.now.threads (commands_of self.now.lines) }
         // Before the threads start there are only stores.
         ensures stores { (place : ℕ) → place < result
-            → IsStore (micro_at self.now.program (commands_of self.now.lines) place) }
+            → IsStore (micro_at self.now.program self.now.threads (commands_of self.now.lines) place) }
         // A script is what some text says, and each of its commands may follow those before it.
         ensures read { IsRead self.now }
         ensures orderly { IsOrderly self.now }
@@ -67,7 +65,7 @@ impl Script {
 
     /// How many micro steps there are, at most 16,777,216.
     pub fn total(&self) -> u64
-        ensures total { result ≡ total_of self.now.program (commands_of self.now.lines) }
+        ensures total { result ≡ total_of self.now.program self.now.threads (commands_of self.now.lines) }
         ensures few { result ≤ most_micros }
     {
         self.placed.total
@@ -76,7 +74,7 @@ impl Script {
     /// A law: a script has at most 16,777,216 micro steps. The call does nothing.
     #[inline(always)]
     pub fn micro_steps_are_few(&self)
-        ensures { total_of self.now.program (commands_of self.now.lines) ≤ most_micros }
+        ensures { total_of self.now.program self.now.threads (commands_of self.now.lines) ≤ most_micros }
     {
         // Reading a field brings in what holds of each script.
         let _total = self.placed.total;
@@ -85,9 +83,9 @@ impl Script {
     /// The micro step of this number, counted from 0. The answer is `End` exactly when there are no
     /// more micro steps than that.
     pub fn micro(&self, p: u64) -> Micro
-        ensures micro { result ≡ micro_at self.now.program (commands_of self.now.lines) p }
+        ensures micro { result ≡ micro_at self.now.program self.now.threads (commands_of self.now.lines) p }
         ensures within { IsWithin self.now result }
-        ensures end { (result ≡ Micro.End) ↔ (total_of self.now.program (commands_of self.now.lines) ≤ p) }
+        ensures end { (result ≡ Micro.End) ↔ (total_of self.now.program self.now.threads (commands_of self.now.lines) ≤ p) }
     {
         self.micro_near(p, &mut 0)
     }
@@ -99,9 +97,9 @@ impl Script {
     ///
     /// A caller that goes through the micro steps in order keeps `near` between its calls.
     pub fn micro_near(&self, p: u64, near: &mut u32) -> Micro
-        ensures micro { result ≡ micro_at self.now.program (commands_of self.now.lines) p }
+        ensures micro { result ≡ micro_at self.now.program self.now.threads (commands_of self.now.lines) p }
         ensures within { IsWithin self.now result }
-        ensures end { (result ≡ Micro.End) ↔ (total_of self.now.program (commands_of self.now.lines) ≤ p) }
+        ensures end { (result ≡ Micro.End) ↔ (total_of self.now.program self.now.threads (commands_of self.now.lines) ≤ p) }
     {
         self.placed.micro_near(p, near)
     }

@@ -61,7 +61,7 @@ impl SledValues {
         ensures { result ≡ head_left self.kind was_patched }
     {
         match self.kind {
-            SledKind::Entry | SledKind::Tail => JUMP_HEAD,
+            SledKind::Entry | SledKind::Tail | SledKind::Args => JUMP_HEAD,
             SledKind::Exit => if was_patched {
                 RETURN_OVER_PATCH
             } else {

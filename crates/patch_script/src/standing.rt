@@ -137,6 +137,8 @@ impl Standing {
             | Command::UnpatchFunction { .. }
             | Command::SetHandler
             | Command::RemoveHandler
+            | Command::SetArgHandler
+            | Command::RemoveArgHandler
             | Command::Init
             | Command::Finalize => false,
         }
@@ -157,6 +159,8 @@ impl Standing {
             | Command::UnpatchFunction { .. }
             | Command::SetHandler
             | Command::RemoveHandler
+            | Command::SetArgHandler
+            | Command::RemoveArgHandler
             | Command::Init
             | Command::Finalize
             | Command::Go
@@ -178,6 +182,8 @@ impl Standing {
             | Command::UnpatchFunction { .. }
             | Command::SetHandler
             | Command::RemoveHandler
+            | Command::SetArgHandler
+            | Command::RemoveArgHandler
             | Command::Hold { .. }
             | Command::Go
             | Command::Release { .. }
@@ -201,6 +207,8 @@ impl Standing {
             | Command::UnpatchFunction { .. }
             | Command::SetHandler
             | Command::RemoveHandler
+            | Command::SetArgHandler
+            | Command::RemoveArgHandler
             | Command::Init
             | Command::Finalize
             | Command::Hold { .. }
@@ -226,6 +234,8 @@ impl Standing {
             | Command::UnpatchFunction { .. }
             | Command::SetHandler
             | Command::RemoveHandler
+            | Command::SetArgHandler
+            | Command::RemoveArgHandler
             | Command::Await { .. } => {}
         }
     }

@@ -13,11 +13,11 @@ some_store (Await thread count) is = absurd is
 some_store End is = absurd is
 
 pub store_before : (plan : Plan) (start : ℕ)
-    → ((place : ℕ) → place < start → IsStore (micro_at plan.program (commands_of plan.lines) place))
+    → ((place : ℕ) → place < start → IsStore (micro_at plan.program plan.threads (commands_of plan.lines) place))
     → (place : ℕ) → place < start → IsStoreAt plan place
 unfolding micro_in
-store_before plan start stores place before = some_store (micro_at plan.program (commands_of plan.lines) place) (stores place before)
+store_before plan start stores place before = some_store (micro_at plan.program plan.threads (commands_of plan.lines) place) (stores place before)
 
-pub start_is : (plan : Plan) (start : ℕ) → start ≡ start_of plan.program (commands_of plan.lines) → start ≡ start_in plan
+pub start_is : (plan : Plan) (start : ℕ) → start ≡ start_of plan.program plan.threads (commands_of plan.lines) → start ≡ start_in plan
 unfolding start_in
 start_is plan start is = is

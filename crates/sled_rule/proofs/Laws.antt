@@ -19,41 +19,41 @@ use Rattle.sled_rule.specs.Plans.{code_in, bound_in, start_in, total_in, micro_i
 abbrev pub CodeNext : Plan → Type 0
 CodeNext plan = (place word : ℕ) → code_in plan (place + 1) word ≡ unwrap_or (stored_in word (micro_in plan place)) (code_in plan place word)
 
-pub code_next : ((program : Program) (script : List Command) (place word : ℕ)
-    → code_at program script (place + 1) word ≡ unwrap_or (stored_in word (micro_at program script place)) (code_at program script place word))
+pub code_next : ((program : Program) (threads : ℕ) (script : List Command) (place word : ℕ)
+    → code_at program threads script (place + 1) word ≡ unwrap_or (stored_in word (micro_at program threads script place)) (code_at program threads script place word))
     → (plan : Plan) → CodeNext plan
 unfolding code_in micro_in
-code_next said plan place word = said plan.program (commands_of plan.lines) place word
+code_next said plan place word = said plan.program plan.threads (commands_of plan.lines) place word
 
 -- the code before any micro step
-pub code_first : ((program : Program) (script : List Command) (threads : ℕ) → AreCodeAt program script 0 (initial_words program threads))
+pub code_first : ((program : Program) (threads : ℕ) (script : List Command) → AreCodeAt program threads script 0 (initial_words program threads))
     → (plan : Plan) (word : ℕ) → word < length (initial_words plan.program plan.threads)
     → slice_index (initial_words plan.program plan.threads) word ≡ code_in plan 0 word
 unfolding code_in
-code_first said plan word within = said plan.program (commands_of plan.lines) plan.threads word within
+code_first said plan word within = said plan.program plan.threads (commands_of plan.lines) word within
 
 -- a place that comes after no await for more passings than a thread has made is within the bound of its passing
 abbrev pub BoundReached : Plan → Type 0
 BoundReached plan = (thread passing place : ℕ) → place ≤ total_in plan
     → ((i count : ℕ) → i < place → micro_in plan i ≡ Await thread count → count ≤ passing) → place ≤ bound_in plan thread passing
 
-pub bound_reached : ((program : Program) (script : List Command) (thread passing place : ℕ) → place ≤ total_of program script
-    → ((i count : ℕ) → i < place → micro_at program script i ≡ Await thread count → count ≤ passing) → place ≤ bound_of program script thread passing)
+pub bound_reached : ((program : Program) (threads : ℕ) (script : List Command) (thread passing place : ℕ) → place ≤ total_of program threads script
+    → ((i count : ℕ) → i < place → micro_at program threads script i ≡ Await thread count → count ≤ passing) → place ≤ bound_of program threads script thread passing)
     → (plan : Plan) → BoundReached plan
 unfolding bound_in total_in micro_in
-bound_reached said plan thread passing place within few = said plan.program (commands_of plan.lines) thread passing place within few
+bound_reached said plan thread passing place within few = said plan.program plan.threads (commands_of plan.lines) thread passing place within few
 
 -- ---- what the methods of scripts answer
 
-pub micro_is : (plan : Plan) (place : ℕ) (micro : Micro) → micro ≡ micro_at plan.program (commands_of plan.lines) place → micro_in plan place ≡ micro
+pub micro_is : (plan : Plan) (place : ℕ) (micro : Micro) → micro ≡ micro_at plan.program plan.threads (commands_of plan.lines) place → micro_in plan place ≡ micro
 unfolding micro_in
 micro_is plan place micro is = sym is
 
-pub start_is : (plan : Plan) (start : ℕ) → start ≡ start_of plan.program (commands_of plan.lines) → start_in plan ≡ start
+pub start_is : (plan : Plan) (start : ℕ) → start ≡ start_of plan.program plan.threads (commands_of plan.lines) → start_in plan ≡ start
 unfolding start_in
 start_is plan start is = sym is
 
-pub few_in : (plan : Plan) → total_of plan.program (commands_of plan.lines) ≤ most_micros → total_in plan ≤ most_micros
+pub few_in : (plan : Plan) → total_of plan.program plan.threads (commands_of plan.lines) ≤ most_micros → total_in plan ≤ most_micros
 unfolding total_in
 few_in plan few = few
 
@@ -71,11 +71,11 @@ await_before_end (step ∷ steps) (suc place) thread count is = let rest = await
 
 pub store_within : (plan : Plan) (place word value : ℕ) → micro_in plan place ≡ Store word value → place < total_in plan
 unfolding micro_in total_in
-store_within plan place word value is = store_before_end (micros plan.program (commands_of plan.lines)) place word value is
+store_within plan place word value is = store_before_end (micros plan.program plan.threads (commands_of plan.lines)) place word value is
 
 pub await_within : (plan : Plan) (place thread count : ℕ) → micro_in plan place ≡ Await thread count → place < total_in plan
 unfolding micro_in total_in
-await_within plan place thread count is = await_before_end (micros plan.program (commands_of plan.lines)) place thread count is
+await_within plan place thread count is = await_before_end (micros plan.program plan.threads (commands_of plan.lines)) place thread count is
 
 -- ---- the code after a store, and after an await
 
@@ -91,10 +91,10 @@ code_awaited plan next place thread count w is =
 
 -- the end is at the last place
 pub end_is : (plan script : Plan) (place at : ℕ) (IsEnd : Type 0) → script ≡ plan → place ≡ at → at ≤ total_in script
-    → IsEnd ↔ (total_of plan.program (commands_of plan.lines) ≤ place) → IsEnd ↔ (at ≡ total_in plan)
+    → IsEnd ↔ (total_of plan.program plan.threads (commands_of plan.lines) ≤ place) → IsEnd ↔ (at ≡ total_in plan)
 unfolding total_in
 end_is plan script place at IsEnd same here within said =
-    let bound : at ≤ total_of plan.program (commands_of plan.lines) = subst (λ (z : Plan). at ≤ total_of z.program (commands_of z.lines)) same within in (
+    let bound : at ≤ total_of plan.program plan.threads (commands_of plan.lines) = subst (λ (z : Plan). at ≤ total_of z.program z.threads (commands_of z.lines)) same within in (
       λ is. let past = said.0 is in omega arith,
       λ is. said.1 (omega arith),
     )

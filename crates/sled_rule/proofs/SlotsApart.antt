@@ -1,12 +1,13 @@
 -- Slots of words are apart.
-use Rattle.std.proofs.Common.{◌≡◌, ℕ, ◌<◌, arith}
+use Rattle.std.proofs.Common.{◌≡◌, ℕ, ◌<◌, inl, inr, arith}
 use Rattle.patch_script.specs.Plans.{Plan}
-use Rattle.sled_rule.specs.Plans.{IsCodeIn, code_words}
+use Rattle.sled_rule.specs.Plans.{IsCodeIn, words_in}
 use Rattle.sled_rule.specs.Slots.{code_slot, progress_slot}
 
-pub slot_within : (plan : Plan) (word : ℕ) → IsCodeIn plan word → code_slot plan word < code_words plan
-unfolding code_slot code_words
-slot_within plan word is = omega arith
+pub slot_within : (plan : Plan) (word : ℕ) → IsCodeIn plan word → code_slot plan word < words_in plan
+unfolding code_slot words_in
+slot_within plan word (inl low) = omega arith
+slot_within plan word (inr last) = omega arith
 
 pub one_slot : (plan : Plan) (word other : ℕ) → IsCodeIn plan word → IsCodeIn plan other → code_slot plan word ≡ code_slot plan other → word ≡ other
 unfolding code_slot

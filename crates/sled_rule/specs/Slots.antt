@@ -1,17 +1,17 @@
 -- Where a table keeps its words: the slot of a word is apart from its number.
 use Rattle.std.specs.Prelude.{ℕ, ◌+◌, ◌*◌}
 use Rattle.patch_script.specs.Plans.{Plan}
-use Rattle.sled_rule.specs.Plans.{code_words}
+use Rattle.sled_rule.specs.Plans.{words_in}
 
--- the slot of a code word: these have the first slots
+-- the slot of a code word is its number; the slots with the numbers of progress words stay unused
 unfoldable pub code_slot : Plan → ℕ → ℕ
 code_slot plan word = word
 
--- the slot of a thread's progress word: these come after the code words, each in a cache line of its own, which is eight
--- slots
+-- the slot of a thread's progress word: these come after the numbers of all words, each in a cache line of its own, which
+-- is eight slots
 abbrev pub progress_slot : Plan → ℕ → ℕ
-progress_slot plan thread = code_words plan + 8 * thread
+progress_slot plan thread = words_in plan + 8 * thread
 
 -- how many slots the table has, with these lines
 abbrev pub slot_count : Plan → ℕ
-slot_count plan = code_words plan + 8 * (plan.threads + 1)
+slot_count plan = words_in plan + 8 * (plan.threads + 1)

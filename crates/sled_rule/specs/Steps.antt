@@ -14,7 +14,7 @@ use Rattle.sled_rule.specs.Views.{first_patch, loading}
 
 abbrev no_plan : Plan
 no_plan = record {
-  program = record { base = 0; entry = 0; code = []; functions = []; units = []; sleds = []; trampolines = record { entry = 0; exit = 0; tail = 0 } };
+  program = record { base = 0; entry = 0; code = []; functions = []; units = []; sleds = []; trampolines = record { entry = 0; exit = 0; tail = 0; args = 0 } };
   threads = 0;
   lines = [];
 }

@@ -7,7 +7,7 @@ ghost use lib.ListN.{get_elem?};
 ghost use Rattle.sled_words.specs.Words.{progress_word, word_count};
 ghost use Rattle.sled_words.specs.declared.words.TheConstants.{MAX_THREADS};
 ghost use Rattle.patch_script.specs.Plans.{Plan};
-ghost use Rattle.sled_rule.specs.Plans.{IsCodeIn, code_in, code_words, most_code_words};
+ghost use Rattle.sled_rule.specs.Plans.{IsCodeIn, code_in, most_words, words_in};
 ghost use Rattle.sled_rule.specs.Slots.{code_slot, progress_slot, slot_count};
 ghost use Rattle.sled_rule.specs.Seats.{patch_view, script_of, AllMet, IsPatcherOf};
 ghost use Rattle.sled_rule.specs.Views.{ended_count};
@@ -23,7 +23,7 @@ impl CodeTable {
     pub fn word_count(&self) -> u32
         ensures { result ≡ word_count (script_of self.now).program (script_of self.now).threads }
     {
-        self.code_len as u32 + self.threads
+        self.word_len as u32
     }
 
     /// Ends the table, and writes its last words into a slice, each at its number: those of the
@@ -43,8 +43,8 @@ impl CodeTable {
     {
         let CodeTable {
             script: _,
-            threads: _,
-            code_len,
+            threads,
+            word_len,
             table,
         } = self;
         let PatchSeat {
@@ -54,28 +54,31 @@ impl CodeTable {
             seat: last,
         } = seat;
         let closed = table.close_with(last);
-        copy_words(&closed, code_len, into);
+        copy_words(&closed, word_len, threads, into);
         closed.free();
     }
 }
 
-/// Copies the words from their slots to their numbers. There are `code_len` code words.
-fn copy_words(closed: &Closed<(), Global>, code_len: usize, into: &mut [u64])
+/// Copies the words from their slots to their numbers. There are `word_len` words for this many
+/// threads.
+fn copy_words(closed: &Closed<(), Global>, word_len: usize, threads: u32, into: &mut [u64])
     requires full { IsFull closed.now.words }
-    requires few { code_len ≤ most_code_words }
-    requires room { (plan : Plan) × (code_len ≡ code_words plan) × (plan.threads ≤ MAX_THREADS)
-        × (length into.old ≡ word_count plan.program plan.threads)
+    requires few { word_len ≤ most_words }
+    requires few_threads { threads ≤ MAX_THREADS }
+    requires room { (plan : Plan) × (word_len ≡ words_in plan) × (threads ≡ plan.threads)
+        × (length into.old ≡ word_len)
         × (slots_len closed.now.words ≡ slot_count plan) }
-    ensures code { (plan : Plan) (word : ℕ) → code_len ≡ code_words plan → IsCodeIn plan word
-        → word < length into.old
+    ensures code { (plan : Plan) (word : ℕ) → word_len ≡ words_in plan → threads ≡ plan.threads
+        → IsCodeIn plan word → word < length into.old
         → get_elem? (slots_items closed.now.words) (code_slot plan word)
         ≡ some (slice_index into.new word) }
-    ensures progress { (plan : Plan) (thread : ℕ) → code_len ≡ code_words plan → 0 < thread
+    ensures progress { (plan : Plan) (thread : ℕ) → word_len ≡ words_in plan → threads ≡ plan.threads
+        → 0 < thread → thread ≤ threads
         → progress_word plan.program plan.threads thread < length into.old
         → get_elem? (slots_items closed.now.words) (progress_slot plan thread)
         ≡ some (slice_index into.new (progress_word plan.program plan.threads thread)) }
 {
     for word in 0..into.len() {
-        into[word] = closed.word(slot_of(code_len, word as u32));
+        into[word] = closed.word(slot_of(word_len, threads, word as u32));
     }
 }

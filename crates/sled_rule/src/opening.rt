@@ -1,7 +1,7 @@
 //! How a table begins.
 
 ghost use Rattle.std.specs.Prelude.{◌≡◌, ◌≤◌, ◌+◌, ◌*◌, ◌++◌, replicate, IfOk};
-ghost use Rattle.sled_words.specs.{Parts.{initial_words as words_before}, Words.{code_word_count}};
+ghost use Rattle.sled_words.specs.{Parts.{initial_words as words_before}, Words.{word_count}};
 ghost use Rattle.sled_rule.specs.{Seats.{patch_view, script_of, IsPatcherOf}, Views.{first_patch}};
 
 use crate::seats::PatchSeat;
@@ -9,7 +9,7 @@ use crate::slots::slot_count;
 use crate::table::CodeTable;
 use atomic_table::Table;
 use patch_script::{Script, stores_give_the_code};
-use sled_words::{MAX_THREADS, code_word_count, initial_words};
+use sled_words::{MAX_THREADS, initial_words, word_count};
 use std::alloc::Global;
 use xray_image::Image;
 use xray_io::NoMemory;
@@ -34,13 +34,13 @@ impl CodeTable {
     {
         stores_give_the_code();
         script.micro_steps_are_few();
-        let code_len = code_word_count(image, threads);
-        let words = opening_words(alloc, image, threads, code_len)?;
+        let word_len = word_count(image, threads);
+        let words = opening_words(alloc, image, threads, word_len)?;
         let (table, seat) = Table::of_words(alloc, &words, &script)?;
         let table = CodeTable {
             script,
             threads,
-            code_len,
+            word_len,
             table,
         };
         let seat = PatchSeat {
@@ -60,21 +60,20 @@ impl CodeTable {
     }
 }
 
-/// The words before the script, each in its slot. The first slots are those of code words. All words
-/// after those of the sleds are 0.
+/// The words before the script, each in its slot. All words after those of the sleds are 0.
 fn opening_words(
     alloc: Global,
     image: &Image,
     threads: u32,
-    code_len: usize,
+    word_len: usize,
 ) -> Result<Vec<u64>, NoMemory>
     requires few { threads ≤ MAX_THREADS }
-    requires words { code_len ≡ code_word_count image.now threads }
+    requires words { word_len ≡ word_count image.now threads }
     ensures { IfOk result (λ words. words.items
-        ≡ words_before image.now threads ++ replicate (8 + 7 * threads) 0) }
+        ≡ words_before image.now threads ++ replicate (8 * (threads + 1)) 0) }
 {
     image.sleds_stand_in_units();
     let mut words = initial_words(alloc, image, threads)?;
-    words.resize(slot_count(code_len, threads), 0)?;
+    words.resize(slot_count(word_len, threads), 0)?;
     Ok(words)
 }

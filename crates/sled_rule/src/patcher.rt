@@ -121,7 +121,7 @@ impl CodeTable {
         ensures bare { seat.new.me.1 ≡ [] }
     {
         stores_give_the_code();
-        let slot = progress_slot(self.code_len, thread);
+        let slot = progress_slot(self.word_len, thread);
         self.table.shared.load::<Look>(seat, slot)
     }
 

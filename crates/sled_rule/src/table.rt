@@ -2,7 +2,7 @@
 
 ghost use Rattle.std.specs.Prelude.{◌≡◌, ◌+◌, ◌*◌, ◌<◌, ◌≤◌};
 ghost use Rattle.patch_script.specs.Limits.{most_micros};
-ghost use Rattle.sled_rule.specs.Plans.{code_words, most_code_words, total_in};
+ghost use Rattle.sled_rule.specs.Plans.{most_words, total_in, words_in};
 ghost use Rattle.sled_words.specs.declared.words.TheConstants.{MAX_THREADS};
 ghost use Rattle.sled_rule.specs.Slots.{slot_count};
 
@@ -21,14 +21,14 @@ use std::alloc::Global;
 pub struct CodeTable {
     pub(crate) script: Script,
     pub(crate) threads: u32,
-    /// How many code words there are.
-    pub(crate) code_len: usize,
+    /// How many words there are by number.
+    pub(crate) word_len: usize,
     pub(crate) table: Table<(), View, Script, CodeRule, Global>,
     ghost key: { table.shared.key ≡ script },
     ghost all_threads: { threads ≡ script.threads },
     ghost few_threads: { threads ≤ MAX_THREADS },
-    ghost counted: { code_len ≡ code_words script },
-    ghost few_words: { code_len ≤ most_code_words },
+    ghost counted: { word_len ≡ words_in script },
+    ghost few_words: { word_len ≤ most_words },
     ghost few_steps: { total_in script ≤ most_micros },
     ghost no_slots: { table.shared.table_id.slots ≡ 0 },
     ghost sized: { table.shared.table_id.words ≡ slot_count script },

@@ -18,7 +18,7 @@ impl CodeTable {
     pub fn code_word_count(&self) -> u32
         ensures { result ≡ code_word_count (script_of self.now).program (script_of self.now).threads }
     {
-        self.code_len as u32
+        self.word_len as u32 - self.threads
     }
 
     /// Whether the word of this number is a code word, which may be fetched.
@@ -26,7 +26,7 @@ impl CodeTable {
     pub fn is_code_word(&self, word: u32) -> bool
         ensures { IsTrue result ↔ IsCodeIn (script_of self.now) word }
     {
-        is_code_word(self.code_len, word)
+        is_code_word(self.word_len, self.threads, word)
     }
 
     /// Loads a code word. Its value is that at a place of the script which
@@ -74,7 +74,7 @@ impl CodeTable {
         ensures own { IsWorkerOf self.now seat.new }
         ensures view { work_view seat.new ≡ counting (work_view seat.old) count }
     {
-        let slot = progress_slot(self.code_len, seat.thread);
+        let slot = progress_slot(self.word_len, seat.thread);
         self.table
             .shared
             .store::<Count>(&mut seat.seat, slot, count);

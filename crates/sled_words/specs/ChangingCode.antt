@@ -10,11 +10,11 @@ use Rattle.sled_words.specs.Words.{handler_word, release_word, word_of}
 -- The changes keep each sled whole for a thread that loads its head first, and then its other parts. The head is
 -- allowed at each place. So are the words after those of the sleds. Once the head is patched at a place, each other
 -- part is allowed there and at all later places.
-pub record KeepsSleds (program : Program) (thread : ℕ) (code : ℕ → ℕ → ℕ) : Type 0 where
-  pub head : (place k : ℕ) → IsAllowed program thread (word_of k Head) (code place (word_of k Head))
+pub record KeepsSleds (program : Program) (threads thread : ℕ) (code : ℕ → ℕ → ℕ) : Type 0 where
+  pub head : (place k : ℕ) → IsAllowed program threads thread (word_of k Head) (code place (word_of k Head))
   pub part : (p q k : ℕ) (part : Part) → p ≤ q → code p (word_of k Head) ≡ patched_head
-      → IsAllowed program thread (word_of k part) (code q (word_of k part))
-  pub other : (place word : ℕ) → handler_word program ≤ word → IsAllowed program thread word (code place word)
+      → IsAllowed program threads thread (word_of k part) (code q (word_of k part))
+  pub other : (place word : ℕ) → handler_word program ≤ word → IsAllowed program threads thread word (code place word)
 
 -- The changes let a thread come to its end. Its loads are made from the place `start` on. `bound` gives the last place for
 -- the loads of a passing, counted from 0. The bounds never fall, none is before `start`, and none is after `total`. The

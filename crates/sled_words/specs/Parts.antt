@@ -4,7 +4,7 @@ use Rattle.std.specs.Int.{int_rem_euclid}
 use Rattle.std.specs.List.{flat_map}
 use Rattle.xray_image.specs.declared.sled.Sled.{Sled}
 use Rattle.xray_image.specs.declared.sled.SledKind.{SledKind}
-use Rattle.xray_image.specs.declared.sled.SledKind.TheVariants.{Entry, Exit, Tail}
+use Rattle.xray_image.specs.declared.sled.SledKind.TheVariants.{Entry, Exit, Tail, Args}
 use Rattle.xray_image.specs.Program.{Program, Trampolines, trampoline_of}
 use Rattle.sled_words.specs.declared.part.Part.{Part}
 use Rattle.sled_words.specs.declared.part.Part.TheVariants.{Head, Id, Opcode, Offset}
@@ -22,6 +22,7 @@ abbrev pub unpatched_head : SledKind → ℕ
 unpatched_head Entry = jump_head
 unpatched_head Exit = return_head
 unpatched_head Tail = jump_head
+unpatched_head Args = jump_head
 
 -- the head of a patched sled: the first two bytes of mov r10d, id
 abbrev pub patched_head : ℕ
@@ -32,6 +33,7 @@ abbrev pub patched_opcode : SledKind → ℕ
 patched_opcode Entry = 0xE8
 patched_opcode Exit = 0xE9
 patched_opcode Tail = 0xE8
+patched_opcode Args = 0xE8
 
 -- the displacement of a call or a jump: the distance of its target from the address after it, as 32 bits in two's
 -- complement
@@ -70,4 +72,4 @@ all_sled_words program = flat_map sled_words program.sleds
 
 -- all words before the script: those of the sleds are unpatched, and all others are 0
 abbrev pub initial_words : Program → ℕ → List ℕ
-initial_words program threads = all_sled_words program ++ replicate (2 + 2 * threads) 0
+initial_words program threads = all_sled_words program ++ replicate (3 + 2 * threads) 0

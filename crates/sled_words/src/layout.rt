@@ -1,7 +1,7 @@
 //! The numbers of the words.
 
 ghost use Rattle.std.specs.Prelude.{◌≡◌, ◌<◌, ◌≤◌, ◌^◌, length};
-ghost use Rattle.sled_words.specs.Words.{code_word_count, handler_word, release_word, state_word, word_of};
+ghost use Rattle.sled_words.specs.Words.{arg_handler_word, handler_word, release_word, state_word, word_count, word_of};
 
 use crate::{MAX_THREADS, Part};
 use xray_image::Image;
@@ -42,11 +42,20 @@ pub fn release_word(image: &Image, thread: u32) -> u32
     PARTS * image.sled_count() + 1 + thread
 }
 
-/// How many code words there are: those of the sleds, of the handler and of the state, and the
-/// release words of this many threads. Scripts store in code words, and passings load them. All
-/// other words are progress words.
-pub fn code_word_count(image: &Image, threads: u32) -> usize
-    ensures { result ≡ code_word_count image.now threads }
+/// The number of the word that says whether an argument handler is set, 1 or 0. It comes after all
+/// other words of this many threads.
+pub fn arg_handler_word(image: &Image, threads: u32) -> u32
+    requires { threads ≤ MAX_THREADS }
+    ensures { result ≡ arg_handler_word image.now threads }
 {
-    (PARTS * image.sled_count() + 2) as usize + threads as usize
+    PARTS * image.sled_count() + 2 + 2 * threads
+}
+
+/// How many words there are for this many threads: those of the sleds, of the two handlers and of
+/// the state, and two for each thread.
+pub fn word_count(image: &Image, threads: u32) -> usize
+    requires { threads ≤ MAX_THREADS }
+    ensures { result ≡ word_count image.now threads }
+{
+    arg_handler_word(image, threads) as usize + 1
 }

@@ -14,7 +14,9 @@ mod value;
 mod words;
 
 pub use bytes::code_bytes;
-pub use layout::{PARTS, code_word_count, handler_word, release_word, state_word, word_of};
+pub use layout::{
+    PARTS, arg_handler_word, handler_word, release_word, state_word, word_count, word_of,
+};
 pub use part::Part;
 pub use state::{HANDLER_SET, HELD, LogState, NO_HANDLER, RELEASED};
 pub use value::{JUMP_HEAD, PATCHED_HEAD, RETURN_HEAD, part_value};

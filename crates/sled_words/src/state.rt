@@ -15,10 +15,10 @@ pub enum LogState {
     Finalized,
 }
 
-/// The handler's word if no handler is set.
+/// The word of a handler, or of an argument handler, that isn't set.
 pub const NO_HANDLER: u64 = 0;
 
-/// The handler's word if a handler is set.
+/// The word of a handler, or of an argument handler, that is set.
 pub const HANDLER_SET: u64 = 1;
 
 /// A release word that holds its thread.

@@ -56,7 +56,7 @@ pub(crate) fn unpatched_value(sled: Sled, part: Part) -> u64
 {
     match part {
         Part::Head => match sled.kind {
-            SledKind::Entry | SledKind::Tail => JUMP_HEAD,
+            SledKind::Entry | SledKind::Tail | SledKind::Args => JUMP_HEAD,
             SledKind::Exit => RETURN_HEAD,
         },
         Part::Id => NOP,
@@ -74,7 +74,7 @@ fn patched_value(image: &Image, sled: Sled, part: Part) -> u64
         Part::Id => u64::from(sled.id),
         // `CallOpCode` and `JmpOpCode` of `xray_x86_64.cpp`.
         Part::Opcode => match sled.kind {
-            SledKind::Entry | SledKind::Tail => u64::from(CALL),
+            SledKind::Entry | SledKind::Tail | SledKind::Args => u64::from(CALL),
             SledKind::Exit => u64::from(JMP),
         },
         Part::Offset => distance(sled.address, image.trampoline(sled.kind)),

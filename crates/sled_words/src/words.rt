@@ -13,8 +13,8 @@ use xray_io::NoMemory;
 pub const MAX_THREADS: u32 = 16;
 
 /// All words for `threads` threads, before a script's first store. Each sled has its unpatched
-/// head, id, opcode and offset. Then there are zeros for the handler's word, the state's, and two
-/// words per thread.
+/// head, id, opcode and offset. Then there are zeros for the handler's word, the state's, two words
+/// per thread, and the argument handler's word.
 ///
 /// `NoMemory` means that an allocation was refused.
 pub fn initial_words(alloc: Global, image: &Image, threads: u32) -> Result<Vec<u64>, NoMemory>
@@ -22,7 +22,7 @@ pub fn initial_words(alloc: Global, image: &Image, threads: u32) -> Result<Vec<u
     ensures { IfOk result (λ words. words.items ≡ initial_words image.now threads) }
 {
     let sleds = image.sled_count();
-    let others = 2 + 2 * threads as usize;
+    let others = 3 + 2 * threads as usize;
     let mut words = Vec::with_capacity(alloc, (PARTS * sleds) as usize + others)?;
     for k in 0..sleds {
         words.extend_from_slice(&unpatched_words(image.sled(k)))?;

@@ -11,7 +11,7 @@ use Rattle.std.proofs.lemmas.List.Folds.{list_any-append, list_any_none}
 use Rattle.std.proofs.lemmas.List.Quantifiers.{all_pairs_push}
 use Rattle.fdr_record.specs.declared.event.Event.{Event}
 use Rattle.fdr_record.specs.declared.event.Kind.{Kind}
-use Rattle.fdr_record.specs.declared.event.Kind.TheVariants.{Entry, Exit, TailExit}
+use Rattle.fdr_record.specs.declared.event.Kind.TheVariants.{Entry, Exit, TailExit, EntryArgs}
 use Rattle.stack_rebuild.specs.declared.call.Call.{Call}
 use Rattle.stack_rebuild.specs.declared.call.Pair.{Pair}
 use Rattle.stack_rebuild.specs.Calls.{from_innermost, leaves, left_open, open_after_kind, open_calls, pair_at, pair_of_call, pairs_in}
@@ -40,6 +40,7 @@ found_open func (call ∷ outer) e at = by_func (nat_eq call.func func) (found_o
 made_open : (k : Kind) (e : Event) (at : ℕ) (calls : List Call) → IsTrue (leaves k)
     → has_exit (option_to_list (pair_of_call e at (ended_by k e.func calls))) at ≡ has_open e.func calls
 made_open Entry e at calls so = let never : false ≡ true = so in absurd (let n : ⊥ = cc in n)
+made_open EntryArgs e at calls so = let never : false ≡ true = so in absurd (let n : ⊥ = cc in n)
 made_open Exit e at calls so = found_open e.func calls e at
 made_open TailExit e at calls so = found_open e.func calls e at
 
@@ -131,6 +132,7 @@ outside_left pair calls (ended ∷ outer) all own = own.1
 
 outside_after : (k : Kind) (e : Event) (at : ℕ) (calls : List Call) (pair : Pair) → pair.exit < at → Outside pair calls → Outside pair (open_after_kind k e at calls)
 outside_after Entry e at calls pair low all = (inr low, all)
+outside_after EntryArgs e at calls pair low all = (inr low, all)
 outside_after Exit e at calls pair low all = outside_left pair calls (from_innermost e.func calls) all (outside_from pair e.func calls all)
 outside_after TailExit e at calls pair low all = outside_left pair calls (from_innermost e.func calls) all (outside_from pair e.func calls all)
 
@@ -142,12 +144,14 @@ outside_before pair (call ∷ outer) all = (inl all.0, outside_before pair outer
 left_by : (k : Kind) (e : Event) (at : ℕ) (calls : List Call) (ended : Call) (outer : List Call) → ended_by k e.func calls ≡ ended ∷ outer
     → open_after_kind k e at calls ≡ outer
 left_by Entry e at calls ended outer is = absurd (omega (arith, ap {B = ℕ} length is))
+left_by EntryArgs e at calls ended outer is = absurd (omega (arith, ap {B = ℕ} length is))
 left_by Exit e at calls ended outer is = ap (left_open calls) is
 left_by TailExit e at calls ended outer is = ap (left_open calls) is
 
 found_by : (k : Kind) (func : ℕ) (calls : List Call) (ended : Call) (outer : List Call) → ended_by k func calls ≡ ended ∷ outer
     → from_innermost func calls ≡ ended ∷ outer
 found_by Entry func calls ended outer is = absurd (omega (arith, ap {B = ℕ} length is))
+found_by EntryArgs func calls ended outer is = absurd (omega (arith, ap {B = ℕ} length is))
 found_by Exit func calls ended outer is = is
 found_by TailExit func calls ended outer is = is
 

@@ -10,12 +10,12 @@ use Rattle.std.proofs.lemmas.List.Elements.{All-cons, All-head, All-tail, All-ta
 use Rattle.std.proofs.lemmas.List.Sorted.{All-permutation, IsPermutation-reverse}
 use Rattle.fdr_record.specs.declared.event.Event.{Event}
 use Rattle.fdr_record.specs.declared.event.Kind.{Kind}
-use Rattle.fdr_record.specs.declared.event.Kind.TheVariants.{Entry, Exit, TailExit}
+use Rattle.fdr_record.specs.declared.event.Kind.TheVariants.{Entry, Exit, TailExit, EntryArgs}
 use Rattle.stack_rebuild.specs.declared.call.Call.{Call}
 use Rattle.stack_rebuild.specs.declared.call.Pair.{Pair}
 use Rattle.stack_rebuild.specs.declared.tally.Tally.{Tally}
 use Rattle.stack_rebuild.specs.declared.thread_stack.Frame.{Frame}
-use Rattle.stack_rebuild.specs.Calls.{Standing, cycles_between, from_innermost, left_open, next_standing, open_after_kind, open_calls, pair_at, pair_of_call, standing_after}
+use Rattle.stack_rebuild.specs.Calls.{Standing, cycles_between, from_innermost, leaves, left_open, next_standing, open_after_kind, open_calls, pair_at, pair_of_call, standing_after}
 use Rattle.stack_rebuild.specs.Stacks.{Timed, path_of, spent_in}
 use Rattle.stack_rebuild.specs.private.PathNumbers.{path_at}
 use Rattle.stack_rebuild.specs.private.Scanning.{AreFrames, AreSums, Follows, IsFrame, Keeps, Opens, spending, timed_now, top_of, with_spent}
@@ -221,14 +221,21 @@ path_top paths events [] (call ∷ outer) root all = absurd all
 path_top paths events (f ∷ fs) [] root all = absurd all
 path_top paths events (f ∷ fs) (call ∷ outer) root all = all.0.path
 
+-- what an entry ends, and what it leaves open
+entry_opens : (k : Kind) (e : Event) (at : ℕ) (calls : List Call) → (k ≡ Entry) ⊎ (k ≡ EntryArgs)
+    → (ended_by k e.func calls ≡ []) × (open_after_kind k e at calls ≡ record { entry = at; func = e.func; tsc = e.tsc } ∷ calls)
+entry_opens k e at calls (inl is) = (ap (λ (k : Kind). ended_by k e.func calls) is, ap (λ (k : Kind). open_after_kind k e at calls) is)
+entry_opens k e at calls (inr is) = (ap (λ (k : Kind). ended_by k e.func calls) is, ap (λ (k : Kind). open_after_kind k e at calls) is)
+
 -- an entry
 pub follows_entry : (e : Event) (history : List Event) (calls calls' : Standing) (fs fs' : List Frame) (paths paths' : List (List ℕ)) (ts ts' : List Tally) (pairs : List Timed)
-    → e.kind ≡ Entry → calls' ≡ next_standing e calls → Opens e.func fs fs' paths paths' → ((ps : List Timed) → AreSums paths ts ps → AreSums paths' ts' ps)
+    → (e.kind ≡ Entry) ⊎ (e.kind ≡ EntryArgs) → calls' ≡ next_standing e calls → Opens e.func fs fs' paths paths' → ((ps : List Timed) → AreSums paths ts ps → AreSums paths' ts' ps)
     → Follows calls fs paths ts pairs history → Follows calls' fs' paths' ts' (pairs ++ timed_now e history) (e ∷ history)
 follows_entry e history calls calls' fs fs' paths paths' ts ts' pairs entry stands opens sums known =
-    let none : ended_by e.kind e.func (open_calls history) ≡ [] = ap (λ (k : Kind). ended_by k e.func (open_calls history)) entry in
+    let both = entry_opens e.kind e (length history) (open_calls history) entry in
+    let none : ended_by e.kind e.func (open_calls history) ≡ [] = both.0 in
     let opened : Call = record { entry = length history; func = e.func; tsc = e.tsc } in
-    let now : open_calls (e ∷ history) ≡ opened ∷ open_calls history = ap (λ (k : Kind). open_after_kind k e (length history) (open_calls history)) entry in
+    let now : open_calls (e ∷ history) ≡ opened ∷ open_calls history = both.1 in
     let frame = opens.frame in record {
       stands = stands ∙ ap (next_standing e) known.stands;
       framed = subst (AreFrames paths' (reverse (e ∷ history)) (reverse fs')) (sym now)
@@ -270,18 +277,14 @@ follows_none e history calls calls' fs paths ts pairs left made_none stands know
       summed = subst (AreSums paths ts) (nothing_made e history pairs none) known.summed;
     }
 
+leaves_exit : (k : Kind) → (k ≡ Exit) ⊎ (k ≡ TailExit) → leaves k ≡ true
+leaves_exit k (inl is) = ap leaves is
+leaves_exit k (inr is) = ap leaves is
+
 left_kind : (k : Kind) (e : Event) (history : List Event) → e.kind ≡ k → (k ≡ Exit) ⊎ (k ≡ TailExit)
     → open_calls (e ∷ history) ≡ left_open (open_calls history) (ended_by e.kind e.func (open_calls history))
-left_kind Entry e history is exit = absurd (by_name exit)
-  where
-    number : Kind → ℕ
-    number Entry = 0
-    number Exit = 1
-    number TailExit = 1
-
-    by_name : (Entry ≡ Exit) ⊎ (Entry ≡ TailExit) → ⊥
-    by_name (inl same) = let e : 0 ≡ 1 = ap number same in omega (arith, e)
-    by_name (inr same) = let e : 0 ≡ 1 = ap number same in omega (arith, e)
+left_kind Entry e history is exit = let no : false ≡ true = leaves_exit Entry exit in cc
+left_kind EntryArgs e history is exit = let no : false ≡ true = leaves_exit EntryArgs exit in cc
 left_kind Exit e history is exit =
     ap (λ (k : Kind). open_after_kind k e (length history) (open_calls history)) is
     ∙ ap (λ (k : Kind). left_open (open_calls history) (ended_by k e.func (open_calls history))) (sym is)
@@ -297,12 +300,14 @@ follows_exit e history calls calls' fs paths ts pairs is = follows_none e histor
 left_by : (k : Kind) (e : Event) (at : ℕ) (calls : List Call) (ended : Call) (outer : List Call) → ended_by k e.func calls ≡ ended ∷ outer
     → open_after_kind k e at calls ≡ outer
 left_by Entry e at calls ended outer is = absurd (omega (arith, ap {B = ℕ} length is))
+left_by EntryArgs e at calls ended outer is = absurd (omega (arith, ap {B = ℕ} length is))
 left_by Exit e at calls ended outer is = ap (left_open calls) is
 left_by TailExit e at calls ended outer is = ap (left_open calls) is
 
 from_by : (k : Kind) (func : ℕ) (calls : List Call) (ended : Call) (outer : List Call) → ended_by k func calls ≡ ended ∷ outer
     → from_innermost func calls ≡ ended ∷ outer
 from_by Entry func calls ended outer is = absurd (omega (arith, ap {B = ℕ} length is))
+from_by EntryArgs func calls ended outer is = absurd (omega (arith, ap {B = ℕ} length is))
 from_by Exit func calls ended outer is = is
 from_by TailExit func calls ended outer is = is
 

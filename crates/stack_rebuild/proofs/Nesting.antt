@@ -7,7 +7,7 @@ use Rattle.std.proofs.lemmas.Bool.Decides.{nat_tests}
 use Rattle.std.proofs.lemmas.List.{append-nil, length-reverse, reverse-append, reverse-reverse, take-append-le}
 use Rattle.fdr_record.specs.declared.event.Event.{Event}
 use Rattle.fdr_record.specs.declared.event.Kind.{Kind}
-use Rattle.fdr_record.specs.declared.event.Kind.TheVariants.{Entry, Exit, TailExit}
+use Rattle.fdr_record.specs.declared.event.Kind.TheVariants.{Entry, Exit, TailExit, EntryArgs}
 use Rattle.stack_rebuild.specs.declared.call.Call.{Call}
 use Rattle.stack_rebuild.specs.declared.call.Pair.{Pair}
 use Rattle.stack_rebuild.specs.Calls.{cycles_between, from_innermost, left_open, open_after, open_after_kind, open_calls, pair_at, pair_at_kind, pair_of_call, pairs_in}
@@ -18,11 +18,13 @@ use Rattle.stack_rebuild.specs.Stacks.{open_before}
 -- the call that an event ends and those outside it, or none if it ends none
 abbrev pub ended_by : Kind → ℕ → List Call → List Call
 ended_by Entry func calls = []
+ended_by EntryArgs func calls = []
 ended_by Exit func calls = from_innermost func calls
 ended_by TailExit func calls = from_innermost func calls
 
 pub pair_by : (k : Kind) (e : Event) (at : ℕ) (calls : List Call) → pair_at_kind k e at calls ≡ pair_of_call e at (ended_by k e.func calls)
 pair_by Entry e at calls = refl
+pair_by EntryArgs e at calls = refl
 pair_by Exit e at calls = refl
 pair_by TailExit e at calls = refl
 
@@ -120,16 +122,19 @@ its_func func (call ∷ calls) ended outer is = by_func (nat_eq call.func func) 
 -- the calls that an event ends are nested, and those that were open
 pub nested_ended : (events : List Event) (k : Kind) (func : ℕ) (calls : List Call) → Nested events calls → Nested events (ended_by k func calls)
 nested_ended events Entry func calls nested = tt
+nested_ended events EntryArgs func calls nested = tt
 nested_ended events Exit func calls nested = nested_from events func calls nested
 nested_ended events TailExit func calls nested = nested_from events func calls nested
 
 pub none_ended : (at : ℕ) (k : Kind) (func : ℕ) (calls : List Call) → NoneAt at calls → NoneAt at (ended_by k func calls)
 none_ended at Entry func calls none = tt
+none_ended at EntryArgs func calls none = tt
 none_ended at Exit func calls none = none_from at func calls none
 none_ended at TailExit func calls none = none_from at func calls none
 
 pub func_ended : (k : Kind) (func : ℕ) (calls : List Call) (ended : Call) (outer : List Call) → ended_by k func calls ≡ ended ∷ outer → ended.func ≡ func
 func_ended Entry func calls ended outer is = absurd (omega (arith, ap {B = ℕ} length is))
+func_ended EntryArgs func calls ended outer is = absurd (omega (arith, ap {B = ℕ} length is))
 func_ended Exit func calls ended outer is = its_func func calls ended outer is
 func_ended TailExit func calls ended outer is = its_func func calls ended outer is
 
@@ -216,16 +221,24 @@ nested_history (e ∷ history) = by_kind e.kind refl (nested_history history)
         (λ at none. none_from at e.func (open_calls history) none) in
         ends (left_open (open_calls history) found) (pairs_in history ++ option_to_list (pair_of_call e (length history) found)) left made both.0 both.1
 
-    by_kind : (k : Kind) → e.kind ≡ k → IsNested history → IsNested (e ∷ history)
-    by_kind Entry is known =
-        ends (opened ∷ open_calls history) (pairs_in history) (ap (λ (k : Kind). open_after_kind k e (length history) (open_calls history)) is)
-        (ap (λ (k : Kind). pairs_in history ++ option_to_list (pair_at_kind k e (length history) (open_calls history))) is ∙ append-nil (pairs_in history)) (
+    by_entry : IsNested history → open_after e (length history) (open_calls history) ≡ opened ∷ open_calls history
+        → pairs_in history ++ option_to_list (pair_at e (length history) (open_calls history)) ≡ pairs_in history ++ [] → IsNested (e ∷ history)
+    by_entry known left made =
+        ends (opened ∷ open_calls history) (pairs_in history) left (made ∙ append-nil (pairs_in history)) (
           omega (arith, length-append (reverse history) (e ∷ []), length-reverse history),
           subst (λ (n : ℕ). AllBefore n (open_calls history)) (length-reverse history) (nested_before (reverse history) (open_calls history) known.nested),
           sym (open_then history e),
           nested_more (reverse history) e (open_calls history) known.nested,
         )
         (ended_open (length history) (open_calls history) opened (pairs_in history) refl known.ended)
+
+    by_kind : (k : Kind) → e.kind ≡ k → IsNested history → IsNested (e ∷ history)
+    by_kind Entry is known =
+        by_entry known (ap (λ (k : Kind). open_after_kind k e (length history) (open_calls history)) is)
+        (ap (λ (k : Kind). pairs_in history ++ option_to_list (pair_at_kind k e (length history) (open_calls history))) is)
+    by_kind EntryArgs is known =
+        by_entry known (ap (λ (k : Kind). open_after_kind k e (length history) (open_calls history)) is)
+        (ap (λ (k : Kind). pairs_in history ++ option_to_list (pair_at_kind k e (length history) (open_calls history))) is)
     by_kind Exit is known =
         by_exit known (ap (λ (k : Kind). open_after_kind k e (length history) (open_calls history)) is)
         (ap (λ (k : Kind). pairs_in history ++ option_to_list (pair_at_kind k e (length history) (open_calls history))) is)

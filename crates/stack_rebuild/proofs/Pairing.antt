@@ -10,7 +10,7 @@ use Rattle.std.proofs.lemmas.List.Elements.{All-cons, All-nil, All-push, All-wea
 use Rattle.std.proofs.lemmas.List.Quantifiers.{all_pairs_push}
 use Rattle.fdr_record.specs.declared.event.Event.{Event}
 use Rattle.fdr_record.specs.declared.event.Kind.{Kind}
-use Rattle.fdr_record.specs.declared.event.Kind.TheVariants.{Entry, Exit, TailExit}
+use Rattle.fdr_record.specs.declared.event.Kind.TheVariants.{Entry, Exit, TailExit, EntryArgs}
 use Rattle.stack_rebuild.specs.declared.call.Call.{Call}
 use Rattle.stack_rebuild.specs.declared.call.Pair.{Pair}
 use Rattle.stack_rebuild.specs.Calls.{cycles_between, enters, from_innermost, leaves, left_open, open_after_kind, open_calls, pair_of_call, pairs_in, pairs_of}
@@ -80,7 +80,7 @@ entries_apart (e ∷ history) =
 -- an open call is that of an entry
 record IsEntered (events : List Event) (call : Call) : Type 0 where
   pub low : call.entry < length events
-  pub enters : (event_at events call.entry).kind ≡ Entry
+  pub begins : enters (event_at events call.entry).kind ≡ true
   pub func : (event_at events call.entry).func ≡ call.func
   pub tsc : (event_at events call.entry).tsc ≡ call.tsc
 
@@ -102,7 +102,7 @@ entered_more events e (call ∷ outer) all =
     let kept = event_kept events e call.entry all.0.low in (
       record {
         low = omega (arith, all.0.low, length-append events (e ∷ []));
-        enters = ap (λ (x : Event). x.kind) kept ∙ all.0.enters;
+        begins = ap (λ (x : Event). enters x.kind) kept ∙ all.0.begins;
         func = ap (λ (x : Event). x.func) kept ∙ all.0.func;
         tsc = ap (λ (x : Event). x.tsc) kept ∙ all.0.tsc;
       },
@@ -129,16 +129,20 @@ entered_after e history before = by_kind e.kind refl
     kept : AllEntered events calls
     kept = entered_more (reverse history) e calls before
 
-    by_kind : (k : Kind) → e.kind ≡ k → AllEntered events (open_after_kind k e (length history) calls)
-    by_kind Entry is = (
+    by_entry : enters e.kind ≡ true → AllEntered events (record { entry = length history; func = e.func; tsc = e.tsc } ∷ calls)
+    by_entry is = (
       record {
         low = omega (arith, length-append (reverse history) (e ∷ []), length-reverse history);
-        enters = ap (λ (x : Event). x.kind) (event_last history e) ∙ is;
+        begins = ap (λ (x : Event). enters x.kind) (event_last history e) ∙ is;
         func = ap (λ (x : Event). x.func) (event_last history e);
         tsc = ap (λ (x : Event). x.tsc) (event_last history e);
       },
       kept,
     )
+
+    by_kind : (k : Kind) → e.kind ≡ k → AllEntered events (open_after_kind k e (length history) calls)
+    by_kind Entry is = by_entry (ap enters is)
+    by_kind EntryArgs is = by_entry (ap enters is)
     by_kind Exit is = entered_left events calls (from_innermost e.func calls) kept (entered_from events e.func calls kept)
     by_kind TailExit is = entered_left events calls (from_innermost e.func calls) kept (entered_from events e.func calls kept)
 
@@ -150,12 +154,14 @@ all_entered (e ∷ history) =
 -- an event that ends a call is an exit, and the call is the innermost one of its function
 leaves_by : (k : Kind) (func : ℕ) (calls : List Call) (ended : Call) (outer : List Call) → ended_by k func calls ≡ ended ∷ outer → leaves k ≡ true
 leaves_by Entry func calls ended outer is = absurd (omega (arith, ap {B = ℕ} length is))
+leaves_by EntryArgs func calls ended outer is = absurd (omega (arith, ap {B = ℕ} length is))
 leaves_by Exit func calls ended outer is = refl
 leaves_by TailExit func calls ended outer is = refl
 
 found_by : (k : Kind) (func : ℕ) (calls : List Call) (ended : Call) (outer : List Call) → ended_by k func calls ≡ ended ∷ outer
     → from_innermost func calls ≡ ended ∷ outer
 found_by Entry func calls ended outer is = absurd (omega (arith, ap {B = ℕ} length is))
+found_by EntryArgs func calls ended outer is = absurd (omega (arith, ap {B = ℕ} length is))
 found_by Exit func calls ended outer is = is
 found_by TailExit func calls ended outer is = is
 
@@ -184,7 +190,7 @@ whole_made : (e : Event) (history : List Event) (ended : Call) (outer : List Cal
 whole_made e history ended outer is = record {
   rises = omega (arith, own.low, length-reverse history);
   within = omega (arith, length-append (reverse history) (e ∷ []), length-reverse history);
-  begins = ap (λ (x : Event). enters x.kind) entry ∙ ap enters own.enters;
+  begins = ap (λ (x : Event). enters x.kind) entry ∙ own.begins;
   entered = ap (λ (x : Event). x.func) entry ∙ (own.func ∙ func_ended e.kind e.func (open_calls history) ended outer is);
   closes = ap (λ (x : Event). leaves x.kind) exit ∙ leaves_by e.kind e.func (open_calls history) ended outer is;
   left = ap (λ (x : Event). x.func) exit;

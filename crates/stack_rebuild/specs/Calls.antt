@@ -4,20 +4,22 @@ use Rattle.std.specs.Prelude.{◌+◌, ◌-◌, ◌%◌, ◌^◌, ◌==◌, Bool
 use Rattle.std.specs.Option.{option_to_list}
 use Rattle.fdr_record.specs.declared.event.Event.{Event}
 use Rattle.fdr_record.specs.declared.event.Kind.{Kind}
-use Rattle.fdr_record.specs.declared.event.Kind.TheVariants.{Entry, Exit, TailExit}
+use Rattle.fdr_record.specs.declared.event.Kind.TheVariants.{Entry, Exit, TailExit, EntryArgs}
 use Rattle.stack_rebuild.specs.declared.call.Call.{Call}
 use Rattle.stack_rebuild.specs.declared.call.Pair.{Pair}
 
--- whether a kind of events is that of entries, or that of exits and tail exits
+-- whether a kind of events is that of entries, which may log an argument, or that of exits and tail exits
 abbrev pub enters : Kind → Bool
 enters Entry = true
 enters Exit = false
 enters TailExit = false
+enters EntryArgs = true
 
 abbrev pub leaves : Kind → Bool
 leaves Entry = false
 leaves Exit = true
 leaves TailExit = true
+leaves EntryArgs = false
 
 -- how far a counter advances from one value to another, in 64 bits
 abbrev pub cycles_between : ℕ → ℕ → ℕ
@@ -38,6 +40,7 @@ left_open calls (ended ∷ outer) = outer
 -- the calls that are open after an event at a position, by those before it
 abbrev pub open_after_kind : Kind → Event → ℕ → List Call → List Call
 open_after_kind Entry e at calls = record { entry = at; func = e.func; tsc = e.tsc } ∷ calls
+open_after_kind EntryArgs e at calls = record { entry = at; func = e.func; tsc = e.tsc } ∷ calls
 open_after_kind Exit e at calls = left_open calls (from_innermost e.func calls)
 open_after_kind TailExit e at calls = left_open calls (from_innermost e.func calls)
 
@@ -57,6 +60,7 @@ pair_of_call e at (ended ∷ outer) = Some (record { func = e.func; entry = ende
 -- the pair that an event at a position makes, by the calls that are open before it
 abbrev pub pair_at_kind : Kind → Event → ℕ → List Call → Option Pair
 pair_at_kind Entry e at calls = None
+pair_at_kind EntryArgs e at calls = None
 pair_at_kind Exit e at calls = pair_of_call e at (from_innermost e.func calls)
 pair_at_kind TailExit e at calls = pair_of_call e at (from_innermost e.func calls)
 

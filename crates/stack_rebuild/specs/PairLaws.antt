@@ -10,7 +10,7 @@ use Rattle.stack_rebuild.specs.Stacks.{open_before}
 
 -- what stands for an event that isn't there
 abbrev pub no_event : Event
-no_event = record { cpu = 0; func = 0; kind = Entry; tsc = 0 }
+no_event = record { cpu = 0; func = 0; kind = Entry; tsc = 0; arg = 0 }
 
 -- the event at a position
 abbrev pub event_at : List Event → ℕ → Event

@@ -62,7 +62,7 @@ impl ThreadCalls {
         let at = self.events;
         self.events = at.checked_add(1).ok_or(NoMemory)?;
         match event.kind {
-            Kind::Entry => {
+            Kind::Entry | Kind::EntryArgs => {
                 let call = Call {
                     entry: at,
                     func: event.func,

@@ -137,7 +137,7 @@ impl StackFold {
         }
         self.stack.take(&mut self.sums, event)?;
         match event.kind {
-            Kind::Entry => {
+            Kind::Entry | Kind::EntryArgs => {
                 if self.stack.calls.depth() > MOST_OPEN {
                     self.deep = Some(self.thread);
                 }

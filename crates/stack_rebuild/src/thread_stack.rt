@@ -70,7 +70,7 @@ impl ThreadStack {
         match pair {
             Some(pair) => end_frame(&mut self.frames, sums, depth, pair.duration),
             None => match event.kind {
-                Kind::Entry => open_frame(&mut self.frames, sums, event.func),
+                Kind::Entry | Kind::EntryArgs => { open_frame(&mut self.frames, sums, event.func) }
                 Kind::Exit | Kind::TailExit => Ok(()),
             },
         }

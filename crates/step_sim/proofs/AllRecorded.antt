@@ -12,7 +12,7 @@ use Rattle.step_sim.specs.declared.pool.Pool.{Pool}
 use Rattle.step_sim.specs.declared.turns.Turns.{Turns}
 use Rattle.step_sim.specs.declared.turns.Turns.TheVariants as turns_of
 use Rattle.step_sim.specs.Plays.{turns}
-use Rattle.step_sim.specs.Replay.{Cast, Moment, of_thread, thread_turn}
+use Rattle.step_sim.specs.Replay.{Cast, Moment, of_thread, thread_count, thread_turn}
 use Rattle.step_sim.specs.private.Turns.{line_turns, AllPooledRunOut, PooledRunsOut}
 use Rattle.step_sim.specs.Pool.{Pooled, Stock, pooled_rules, pooled_step}
 use Rattle.step_sim.specs.private.Standing.{AllPlay, AllStandAt, StandAt}
@@ -82,7 +82,7 @@ steps_loads cast (suc n) pooled = steps_loads cast n (pooled_step cast pooled)
 histories_alike : (r : Recording) (m m' : Moment) (k : ℕ) → m'.loads ≡ m.loads → histories r m' k ≡ histories r m k
 histories_alike r m m' k e =
     ap (λ (loads : List (List Load)). if k == 0 then [] else recorded (of_thread r.passed k)
-    (marks_of r.cast.program k (hold_of k r.cast.script) (of_thread r.cast.passings k) (of_thread loads k))) e
+    (marks_of r.cast.program (thread_count r.cast) k (hold_of k r.cast.script) (of_thread r.cast.passings k) (of_thread loads k))) e
 
 -- the turns of a line of the patcher
 pub patcher_recorded : (r : Recording) (pooled : Pooled) (old new : Patcher) (ts : List Traced) (pool : Pool) (line : Turns) (count : ℕ)

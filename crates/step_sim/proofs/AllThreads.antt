@@ -15,7 +15,7 @@ use Rattle.step_sim.specs.declared.turns.Turns.{Turns}
 use Rattle.step_sim.specs.declared.turns.Turns.TheVariants as turns_of
 use Rattle.step_sim.specs.Along.{IsAlong}
 use Rattle.step_sim.specs.Plays.{turns}
-use Rattle.step_sim.specs.Replay.{Cast, Moment, moment_rules, of_thread, patcher_turn, thread_turn}
+use Rattle.step_sim.specs.Replay.{Cast, Moment, moment_rules, of_thread, patcher_turn, thread_turn, thread_count}
 use Rattle.step_sim.specs.private.Turns.{AllRunOut, RunsOut, line_turns}
 use Rattle.step_sim.specs.private.Standing.{AllPlay, AllStandAt, IsPatcherAt, IsThreadAt, Rests, StandAt}
 use Rattle.step_sim.proofs.Plays.{one_more_out}
@@ -119,10 +119,10 @@ thread_line cast threads limits m p ts line number count i old new is place at f
 -- the turns of a line of the patcher
 pub patcher_line : (cast : Cast) (threads : ℕ) (limits : Limits) (m : Moment) (old new : Patcher) (ts : List Traced) (line : Turns) (count : ℕ)
     → line ≡ turns_of.Patcher count → AllStandAt cast threads limits m old ts
-    → IsPatcherAt cast.program cast.script (min (m.place + count) (total_of cast.program cast.script)) new → vec_len new.words ≡ vec_len old.words
+    → IsPatcherAt cast.program (thread_count cast) cast.script (min (m.place + count) (total_of cast.program (thread_count cast) cast.script)) new → vec_len new.words ≡ vec_len old.words
     → AllStandAt cast threads limits (line_turns cast m line) new ts
 patcher_line cast threads limits m old new ts line count is at patcher words =
-    let there : Moment = record m { place = min (m.place + count) (total_of cast.program cast.script) } in
+    let there : Moment = record m { place = min (m.place + count) (total_of cast.program (thread_count cast) cast.script) } in
     let e : turns count (patcher_turn cast) m ≡ there = patcher_turns cast count m at.patcher.within in
     let moved : AllStandAt cast threads limits there new ts = record {
       count = at.count;

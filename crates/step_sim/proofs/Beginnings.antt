@@ -23,15 +23,15 @@ use Rattle.step_sim.proofs.Recordings.{Begun, Ended, SmallIds, begins_recording,
 abbrev pub start_of_all : Program → List Command → Setup → Start
 start_of_all program script setup = record { program = program; script = script; setup = setup }
 
-pub start_is : (program : Program) (script : List Command) (place : ℕ) (s : Inside) → IsPatcherAt program script place s.patcher
+pub start_is : (program : Program) (threads : ℕ) (script : List Command) (place : ℕ) (s : Inside) → IsPatcherAt program threads script place s.patcher
     → start_in s ≡ start_of_all program script s.setup
-start_is program script place s at =
+start_is program threads script place s at =
     ap (λ (x : Program). start_of_all x (commands_of s.patcher.script.now.lines) s.setup) at.program_is
     ∙ ap (λ (x : List Command). start_of_all program x s.setup) at.script_is
 
 pub at_start : (program : Program) (script : List Command) (s : Inside) → HoldsStart (start_of_all program script s.setup) s → IsAtStart s
 at_start program script s holds =
-    subst (λ (x : Start). HoldsStart x s) (sym (start_is program script (start_of program script) s holds.patcher)) holds
+    subst (λ (x : Start). HoldsStart x s) (sym (start_is program s.setup.threads script (start_of program s.setup.threads script) s holds.patcher)) holds
 
 -- ---- what `play` asks for
 

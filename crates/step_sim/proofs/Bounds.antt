@@ -39,6 +39,8 @@ no_holds ((n, commands.PatchFunction id) ∷ rest) e number = no_holds rest e nu
 no_holds ((n, commands.UnpatchFunction id) ∷ rest) e number = no_holds rest e number
 no_holds ((n, commands.SetHandler) ∷ rest) e number = no_holds rest e number
 no_holds ((n, commands.RemoveHandler) ∷ rest) e number = no_holds rest e number
+no_holds ((n, commands.SetArgHandler) ∷ rest) e number = no_holds rest e number
+no_holds ((n, commands.RemoveArgHandler) ∷ rest) e number = no_holds rest e number
 no_holds ((n, commands.Init) ∷ rest) e number = no_holds rest e number
 no_holds ((n, commands.Finalize) ∷ rest) e number = no_holds rest e number
 no_holds ((n, commands.Go) ∷ rest) e number = no_holds rest e number
@@ -93,7 +95,7 @@ item_of lists i number e =
 -- all threads and the patcher are at the first moment
 pub begins : (program : Program) (script : List Command) (threads : ℕ) (limits : Limits) (p : Patcher) (ts : List Traced)
     → length ts ≡ threads → AllHaveBegun program script threads limits ts → ((number : ℕ) → hold_of number script ≡ None)
-    → IsPatcherAt program script (start_of program script) p → vec_len p.words ≡ word_count program threads → (its : Gathered ts)
+    → IsPatcherAt program threads script (start_of program threads script) p → vec_len p.words ≡ word_count program threads → (its : Gathered ts)
     → AllStandAt (cast_of program script (map sleds_passed its.all)) threads limits (first_moment (cast_of program script (map sleds_passed its.all))) p ts
 begins program script threads limits p ts count begun free patcher words its =
     let passings : List (List ℕ) = map sleds_passed its.all in
@@ -106,7 +108,7 @@ begins program script threads limits p ts count begun free patcher words its =
       passings = listed;
       loads = room;
       along = first_along cast;
-      patcher = patcher;
+      patcher = subst (λ (n : ℕ). IsPatcherAt program n script (start_of program n script) p) (sym listed) patcher;
       words = omega (arith, words);
       thread = λ i t found. thread_of i t (begun i t found);
       no_hold = free;
@@ -114,6 +116,7 @@ begins program script threads limits p ts count begun free patcher words its =
           let is = (begun i t found).thread_is in
           record {
             program_is = is.program_is;
+            threads_are = is.threads_are ∙ sym listed;
             first = omega (arith, is.thread_is);
             last = omega (arith, is.thread_is, is.threads_are, slice_get_within ts i t found, count);
             room = omega (arith, is.thread_is, slice_get_within ts i t found, count, room);
@@ -146,15 +149,16 @@ run_alike program program' limits limits' thread thread' passed end last a b c r
     (subst (λ (x : Limits). PlainRun program' x thread passed end last) b
     (subst (λ (x : Program). PlainRun x limits thread passed end last) a run))
 
-pub marks_alike : (program program' : Program) (thread thread' : ℕ) (hold hold' : Option ℕ) (sleds sleds' : List ℕ) (loads loads' : List Load)
-    → program ≡ program' → thread ≡ thread' → hold ≡ hold' → sleds ≡ sleds' → loads ≡ loads'
-    → marks_of program thread hold sleds loads ≡ marks_of program' thread' hold' sleds' loads'
-marks_alike program program' thread thread' hold hold' sleds sleds' loads loads' a b c d e =
-    ap (λ (x : Program). marks_of x thread hold sleds loads) a
-    ∙ ap (λ (x : ℕ). marks_of program' x hold sleds loads) b
-    ∙ ap (λ (x : Option ℕ). marks_of program' thread' x sleds loads) c
-    ∙ ap (λ (x : List ℕ). marks_of program' thread' hold' x loads) d
-    ∙ ap (λ (x : List Load). marks_of program' thread' hold' sleds' x) e
+pub marks_alike : (program program' : Program) (threads threads' thread thread' : ℕ) (hold hold' : Option ℕ) (sleds sleds' : List ℕ) (loads loads' : List Load)
+    → program ≡ program' → threads ≡ threads' → thread ≡ thread' → hold ≡ hold' → sleds ≡ sleds' → loads ≡ loads'
+    → marks_of program threads thread hold sleds loads ≡ marks_of program' threads' thread' hold' sleds' loads'
+marks_alike program program' threads threads' thread thread' hold hold' sleds sleds' loads loads' a n b c d e =
+    ap (λ (x : Program). marks_of x threads thread hold sleds loads) a
+    ∙ ap (λ (x : ℕ). marks_of program' x thread hold sleds loads) n
+    ∙ ap (λ (x : ℕ). marks_of program' threads' x hold sleds loads) b
+    ∙ ap (λ (x : Option ℕ). marks_of program' threads' thread' x sleds loads) c
+    ∙ ap (λ (x : List ℕ). marks_of program' threads' thread' hold' x loads) d
+    ∙ ap (λ (x : List Load). marks_of program' threads' thread' hold' sleds' x) e
 
 -- ---- threads that begin, one after the other
 
@@ -194,7 +198,7 @@ length-sleds (sled ∷ sleds) = omega (arith, length-append (sled_words sled) (f
 pub length-initial_words : (program : Program) (threads : ℕ) → length (initial_words program threads) ≡ word_count program threads
 length-initial_words program threads =
     let unset : ℕ = 0 in
-    omega (arith, length-append (all_sled_words program) (replicate (2 + 2 * threads) unset), length-sleds program.sleds, length-replicate (2 + 2 * threads) unset)
+    omega (arith, length-append (all_sled_words program) (replicate (3 + 2 * threads) unset), length-sleds program.sleds, length-replicate (3 + 2 * threads) unset)
 
 -- ---- one thread that begins
 

@@ -18,7 +18,7 @@ use Rattle.step_sim.specs.declared.pool.Pool.{Pool}
 use Rattle.step_sim.specs.Pool.{Pooled, segments_among}
 use Rattle.step_sim.specs.Recorded.{numbers_from}
 use Rattle.step_sim.specs.private.Recording.{AllRecordAt, Recording}
-use Rattle.step_sim.specs.Replay.{of_thread}
+use Rattle.step_sim.specs.Replay.{of_thread, thread_count}
 use Rattle.step_sim.specs.private.Standing.{Rests}
 use Rattle.step_sim.proofs.Bounds.{marks_alike, run_alike}
 
@@ -33,7 +33,7 @@ EndsSo = (bytes : List ℕ) (t : Traced) (own passed : List Passing) (loads : Li
 -- the marks of a thread where a replay is
 abbrev pub marks_in : Recording → Pooled → ℕ → List Mark
 marks_in r last thread =
-    marks_of r.cast.program thread (hold_of thread r.cast.script) (of_thread r.cast.passings thread) (of_thread last.moment.loads thread)
+    marks_of r.cast.program (thread_count r.cast) thread (hold_of thread r.cast.script) (of_thread r.cast.passings thread) (of_thread last.moment.loads thread)
 
 -- the run of a thread, with what it has marked and lost
 pub record IsRunOf (r : Recording) (last : Pooled) (ts : List Traced) (thread : ℕ) (run : ThreadRun) : Type 0 where
@@ -77,9 +77,9 @@ run_of r last p ts pool i t so (bytes, accepted) at within found rests =
       record {
         passed = refl;
         marks = ends.marks
-            ∙ marks_alike t.program r.cast.program t.thread number t.hold (hold_of number r.cast.script) (sleds_passed passed)
+            ∙ marks_alike t.program r.cast.program t.threads (thread_count r.cast) t.thread number t.hold (hold_of number r.cast.script) (sleds_passed passed)
             (of_thread r.cast.passings number) loads (of_thread last.moment.loads number)
-            is.program_is is.thread_is (its.free ∙ sym (at.stands.no_hold number)) (sym (at.traced.sleds number some among))
+            is.program_is its.threads_are is.thread_is (its.free ∙ sym (at.stands.no_hold number)) (sym (at.traced.sleds number some among))
             (ap (of_thread last.moment.loads) is.thread_is);
         lost = refl;
         plain = plain.2;

@@ -26,7 +26,7 @@ use Rattle.step_sim.specs.Pool.{Fresh, Pooled, Pooling, Segment, Stock, first_po
 use Rattle.step_sim.specs.private.Turns.{AllPooledRunOut, pooled_line, pooled_lines}
 use Rattle.step_sim.specs.Recorded.{numbers_from, pooling_of, segments_at}
 use Rattle.step_sim.specs.Plays.{turns}
-use Rattle.step_sim.specs.Replay.{Cast, Moment, of_thread, thread_turn}
+use Rattle.step_sim.specs.Replay.{Cast, Moment, of_thread, thread_count, thread_turn}
 use Rattle.step_sim.specs.Replayed.{IsReplayOf, LoseOldest, cast_with, passed_of, pooling_with}
 use Rattle.machine_step.specs.Buffers.{spare_of}
 use Rattle.step_sim.specs.Schedules.{AreTurnsOf}
@@ -50,8 +50,8 @@ none_yet : (cast : Cast) (passed : List (List Passing)) (size t : ℕ) → lengt
 none_yet cast passed size t =
     let loads : of_thread (first_pooled cast (pooling_of cast passed size 0)).moment.loads t ≡ [] =
     of_thread_is _ t ∙ no_loads cast.passings (t - 1) in
-    ap (λ (ls : List Load). length (segments size (recorded (of_thread passed t) (marks_of cast.program t (hold_of t cast.script) (of_thread cast.passings t) ls)))) loads
-    ∙ ap (λ (ms : List Mark). length (segments size (recorded (of_thread passed t) ms))) (no_marks cast.program t (hold_of t cast.script) 0 (of_thread cast.passings t))
+    ap (λ (ls : List Load). length (segments size (recorded (of_thread passed t) (marks_of cast.program (thread_count cast) t (hold_of t cast.script) (of_thread cast.passings t) ls)))) loads
+    ∙ ap (λ (ms : List Mark). length (segments size (recorded (of_thread passed t) ms))) (no_marks cast.program (thread_count cast) t (hold_of t cast.script) 0 (of_thread cast.passings t))
     ∙ none_recorded (of_thread passed t)
   where
     none_recorded : (ps : List Passing) → length (segments size (recorded ps [])) ≡ 0
@@ -122,7 +122,7 @@ turn_ordered cast passed size spare thread x some is t some_t = elim (cases_eq t
   | inr apart ↦
       other_serials t thread (segs thread x.moment) (segs thread after) x.stock apart ∙ is t some_t
       ∙ ap (λ (ls : List Load). below (length (segments size (recorded (of_thread passed t)
-      (marks_of cast.program t (hold_of t cast.script) (of_thread cast.passings t) ls))) - 1)) (sym (turn_other cast thread t x.moment some some_t apart))
+      (marks_of cast.program (thread_count cast) t (hold_of t cast.script) (of_thread cast.passings t) ls))) - 1)) (sym (turn_other cast thread t x.moment some some_t apart))
 ]
   where
     segs : ℕ → Moment → ℕ
@@ -191,7 +191,7 @@ passed_at (r ∷ runs) (suc j) run found = passed_at runs j run found
 -- the marks of each run are those of the loads at the last moment
 pub marks_of_run : (program : Program) (script : List Command) (schedule : List Turns) (setup : Setup) (runs : List ThreadRun)
     (is : IsReplayOf program script schedule setup runs) (j : ℕ) (run : ThreadRun) → slice_get runs j ≡ Some run
-    → run.marks ≡ marks_of program (1 + j) (hold_of (1 + j) script) (of_thread (cast_with program script runs).passings (1 + j))
+    → run.marks ≡ marks_of program (thread_count (cast_with program script runs)) (1 + j) (hold_of (1 + j) script) (of_thread (cast_with program script runs).passings (1 + j))
     (of_thread is.last.moment.loads (1 + j))
 marks_of_run program script schedule setup runs is j run found = run_at (λ r. r.marks) marks_in runs 1 setup.threads marks_told j run found
   where
@@ -199,7 +199,7 @@ marks_of_run program script schedule setup runs is j run found = run_at (λ r. r
     cast = cast_with program script runs
 
     marks_in : ℕ → List Mark
-    marks_in t = marks_of program t (hold_of t script) (of_thread cast.passings t) (of_thread is.last.moment.loads t)
+    marks_in t = marks_of program (thread_count cast) t (hold_of t script) (of_thread cast.passings t) (of_thread is.last.moment.loads t)
 
     long : length cast.passings ≡ setup.threads
     long = length-map (passed_of runs) sleds_passed ∙ length-map runs (λ (run : ThreadRun). run.passed) ∙ is.run.count
@@ -207,7 +207,7 @@ marks_of_run program script schedule setup runs is j run found = run_at (λ r. r
     marks_told : map (λ (run : ThreadRun). run.marks) runs ≡ map marks_in (numbers_from 1 setup.threads)
     marks_told =
         is.marks ∙ enumerated_map _ marks_in cast.passings 1 setup.threads long
-        (λ j sleds found. ap (λ (xs : List ℕ). marks_of program (1 + j) (hold_of (1 + j) script) xs (of_thread is.last.moment.loads (1 + j)))
+        (λ j sleds found. ap (λ (xs : List ℕ). marks_of program (thread_count cast) (1 + j) (hold_of (1 + j) script) xs (of_thread is.last.moment.loads (1 + j)))
         (sym (of_thread_at cast.passings j sleds found)))
 
 -- what a replay keeps of each run

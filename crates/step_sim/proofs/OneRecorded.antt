@@ -4,6 +4,7 @@ use Rattle.std.specs.Prelude.{All, IfSome, slice_get}
 use Rattle.std.proofs.lemmas.Bool.{cases_eq}
 use Rattle.std.proofs.lemmas.List.{append-nil}
 use Rattle.fdr_record.specs.declared.event.Event.{Event}
+use Rattle.fdr_record.specs.Recordable.{IsRecordable}
 use Rattle.fdr_buffer.specs.Segments.{segments}
 use Rattle.machine_step.specs.Events.{events_in, recorded}
 use Rattle.patch_script.specs.Micros.{hold_of}
@@ -11,11 +12,11 @@ use Rattle.machine_step.specs.declared.end.End.{End}
 use Rattle.machine_step.specs.Loads.{Load, marks_of}
 use Rattle.machine_step.specs.PlainStep.{Passing, PlainRun, State}
 use Rattle.machine_step.specs.Traced.{HasLoaded, IsKept, IsSameThread, Traced, sleds_passed}
-use Rattle.traced_run.proofs.RecordedEvents.{event_small, recorded_short}
+use Rattle.traced_run.proofs.RecordedEvents.{event_recordable, recorded_short}
 use Rattle.step_sim.specs.declared.patcher.Patcher.{Patcher}
 use Rattle.step_sim.specs.declared.pool.Pool.{Pool}
 use Rattle.step_sim.specs.Plays.{turns}
-use Rattle.step_sim.specs.Replay.{Cast, Moment, of_thread, thread_turn, wanted_by}
+use Rattle.step_sim.specs.Replay.{Cast, Moment, of_thread, thread_count, thread_turn, wanted_by}
 use Rattle.step_sim.specs.private.Standing.{IsThreadAt, Play, Rests, StandAt}
 use Rattle.step_sim.proofs.Bounds.{marks_alike, run_alike}
 use Rattle.step_sim.proofs.OneThread.{KeepsLoads, ended_turn, none_wanted, rest_wants_none, same_again, same_then}
@@ -91,18 +92,18 @@ histories_other r m thread (suc n) some apart =
     let there : 0 < suc n = omega arith in
     history_is r (thread_turn r.cast thread m) (suc n) there
     ∙ ap (λ (ls : List Load). recorded (of_thread r.passed (suc n))
-    (marks_of r.cast.program (suc n) (hold_of (suc n) r.cast.script) (of_thread r.cast.passings (suc n)) ls))
+    (marks_of r.cast.program (thread_count r.cast) (suc n) (hold_of (suc n) r.cast.script) (of_thread r.cast.passings (suc n)) ls))
     (turn_other r.cast thread (suc n) m some there apart)
     ∙ sym (history_is r m (suc n) there)
 
 -- the marks of a thread that has loaded what it has at a moment
 marks_at_moment : (cast : Cast) (m : Moment) (old t : Traced) (at : IsThreadAt cast m old) → IsSameThread old t
     → HasLoaded t at.passed (of_thread m.loads old.thread)
-    → t.marks ≡ marks_of cast.program old.thread (hold_of old.thread cast.script) (of_thread cast.passings old.thread) (of_thread m.loads old.thread)
+    → t.marks ≡ marks_of cast.program (thread_count cast) old.thread (hold_of old.thread cast.script) (of_thread cast.passings old.thread) (of_thread m.loads old.thread)
 marks_at_moment cast m old t at same loaded =
-    loaded.marks ∙ marks_alike t.program cast.program t.thread old.thread t.hold (hold_of old.thread cast.script) (sleds_passed at.passed)
+    loaded.marks ∙ marks_alike t.program cast.program t.threads (thread_count cast) t.thread old.thread t.hold (hold_of old.thread cast.script) (sleds_passed at.passed)
     (of_thread cast.passings old.thread) (of_thread m.loads old.thread) (of_thread m.loads old.thread)
-    (same.program ∙ at.program_is) same.thread (same.hold ∙ at.free ∙ sym at.no_hold) (sym at.sleds) refl
+    (same.program ∙ at.program_is) (same.threads ∙ at.threads_are) same.thread (same.hold ∙ at.free ∙ sym at.no_hold) (sym at.sleds) refl
 
 -- its events are those that its marks record
 pub events_of_marks : (r : Recording) (m : Moment) (p : Patcher) (old mid : Traced) → StandAt r.cast m p old → IsSameThread old mid
@@ -138,7 +139,7 @@ GivesEvent mid new event =
 -- the pool can note the event
 pub can_note : (p : Patcher) (old mid new : Traced) (pool : Pool) (event : Option Event) (thread : ℕ) → Records p old pool
     → IsSameThread old mid → KeepsLoads old mid → GivesEvent mid new event → thread ≡ mid.thread → length mid.marks < 2 ^ 32
-    → IfSome event (λ e. CanNote pool thread × (e.func < 2 ^ 28))
+    → IfSome event (λ e. CanNote pool thread × IsRecordable e)
 can_note p old mid new pool None thread records same keeps gives number few = tt
 can_note p old mid new pool (Some event) thread (r, pooled, at) same keeps gives number few =
     let run = its_run r pooled p old mid pool at same in
@@ -158,7 +159,7 @@ can_note p old mid new pool (Some event) thread (r, pooled, at) same keeps gives
         omega (arith, here, at.stands.thread.last, at.threads_are),
         count,
       ),
-      event_small passed mid.marks new.marks event (its_small r pooled p old pool at) (gives passed run.0 run.1 run.2),
+      event_recordable passed mid.marks new.marks event (its_small r pooled p old pool at) (gives passed run.0 run.1 run.2),
     )
 
 -- the same thread, with the pool after its load

@@ -14,7 +14,7 @@ use Rattle.machine_step.proofs.WantedWords.{wanted_within}
 use Rattle.step_sim.specs.declared.patcher.Patcher.{Patcher}
 use Rattle.step_sim.specs.Along.{IsAlong}
 use Rattle.step_sim.specs.Plays.{turns}
-use Rattle.step_sim.specs.Replay.{Cast, Moment, of_thread, thread_turn, wanted_by}
+use Rattle.step_sim.specs.Replay.{Cast, Moment, of_thread, thread_turn, wanted_by, thread_count}
 use Rattle.step_sim.specs.private.Turns.{RunsOut}
 use Rattle.step_sim.specs.private.Standing.{IsPatcherAt, IsThreadAt, Play, Rests, StandAt}
 use Rattle.step_sim.proofs.ReplayAlong.{thread_keeps, thread_stays, turn_without}
@@ -41,6 +41,7 @@ pub thread_moved : (cast : Cast) (m m' : Moment) (old new : Traced) (at : IsThre
     → length m'.loads ≡ length m.loads → HasLoaded new at.passed (of_thread m'.loads old.thread) → IsThreadAt cast m' new
 thread_moved cast m m' old new at same room loaded = record {
   program_is = same.program ∙ at.program_is;
+  threads_are = same.threads ∙ at.threads_are;
   first = omega (arith, at.first, same.thread);
   last = omega (arith, at.last, same.thread, same.threads);
   room = omega (arith, at.room, same.thread, room);
@@ -52,9 +53,9 @@ thread_moved cast m m' old new at same room loaded = record {
 }
 
 -- a patcher is at each moment of its place
-pub patcher_stays : (cast : Cast) (m m' : Moment) (p : Patcher) → m'.place ≡ m.place → IsPatcherAt cast.program cast.script m.place p
-    → IsPatcherAt cast.program cast.script m'.place p
-patcher_stays cast m m' p e at = subst (λ (q : ℕ). IsPatcherAt cast.program cast.script q p) (sym e) at
+pub patcher_stays : (cast : Cast) (m m' : Moment) (p : Patcher) → m'.place ≡ m.place → IsPatcherAt cast.program (thread_count cast) cast.script m.place p
+    → IsPatcherAt cast.program (thread_count cast) cast.script m'.place p
+patcher_stays cast m m' p e at = subst (λ (q : ℕ). IsPatcherAt cast.program (thread_count cast) cast.script q p) (sym e) at
 
 stand_moved : (cast : Cast) (m m' : Moment) (p : Patcher) (old new : Traced) → StandAt cast m p old → IsSameThread old new
     → m'.place ≡ m.place → IsAlong cast m' → IsThreadAt cast m' new → StandAt cast m' p new
@@ -67,22 +68,23 @@ stand_moved cast m m' p old new at same e along there = record {
 
 -- ---- what it wants
 
-pub next_alike : (program program' : Program) (thread thread' : ℕ) (hold hold' : Option ℕ) (sleds sleds' : List ℕ) (loads : List Load)
-    → program ≡ program' → thread ≡ thread' → hold ≡ hold' → sleds ≡ sleds'
-    → next_load program thread hold sleds loads ≡ next_load program' thread' hold' sleds' loads
-next_alike program program' thread thread' hold hold' sleds sleds' loads a b c d =
-    ap (λ (x : Program). next_load x thread hold sleds loads) a
-    ∙ ap (λ (x : ℕ). next_load program' x hold sleds loads) b
-    ∙ ap (λ (x : Option ℕ). next_load program' thread' x sleds loads) c
-    ∙ ap (λ (x : List ℕ). next_load program' thread' hold' x loads) d
+pub next_alike : (program program' : Program) (threads threads' thread thread' : ℕ) (hold hold' : Option ℕ) (sleds sleds' : List ℕ) (loads : List Load)
+    → program ≡ program' → threads ≡ threads' → thread ≡ thread' → hold ≡ hold' → sleds ≡ sleds'
+    → next_load program threads thread hold sleds loads ≡ next_load program' threads' thread' hold' sleds' loads
+next_alike program program' threads threads' thread thread' hold hold' sleds sleds' loads a n b c d =
+    ap (λ (x : Program). next_load x threads thread hold sleds loads) a
+    ∙ ap (λ (x : ℕ). next_load program' x thread hold sleds loads) n
+    ∙ ap (λ (x : ℕ). next_load program' threads' x hold sleds loads) b
+    ∙ ap (λ (x : Option ℕ). next_load program' threads' thread' x sleds loads) c
+    ∙ ap (λ (x : List ℕ). next_load program' threads' thread' hold' x loads) d
 
 -- what it wants in the replay is what it wants after its loads
 wanted_is : (cast : Cast) (m : Moment) (old mid : Traced) (at : IsThreadAt cast m old) → IsSameThread old mid
     → wanted_by cast old.thread m ≡ wanted_after mid at.passed (of_thread m.loads old.thread)
 wanted_is cast m old mid at same =
-    next_alike cast.program mid.program old.thread mid.thread (hold_of old.thread cast.script) mid.hold
+    next_alike cast.program mid.program (thread_count cast) mid.threads old.thread mid.thread (hold_of old.thread cast.script) mid.hold
     (of_thread cast.passings old.thread) (sleds_passed at.passed) (of_thread m.loads old.thread)
-    (sym (same.program ∙ at.program_is)) (sym same.thread) (at.no_hold ∙ sym (same.hold ∙ at.free)) at.sleds
+    (sym (same.program ∙ at.program_is)) (sym (same.threads ∙ at.threads_are)) (sym same.thread) (at.no_hold ∙ sym (same.hold ∙ at.free)) at.sleds
 
 -- what a thread says about its loads, after the gate of its passing
 abbrev pub KeepsLoads : Traced → Traced → Type 0
@@ -125,29 +127,31 @@ word_there p old mid word (cast, m, at) same keeps wants =
 pub value_allowed : (p : Patcher) (old mid : Traced) (word value : ℕ) → Play p old → IsSameThread old mid → KeepsLoads old mid
     → mid.want ≡ Loads word
     → ((cast : Cast) (m : Moment) (thread w : ℕ) → 0 < thread → IsAlong cast m → wanted_by cast thread m ≡ Some w
-    → IsAllowed cast.program thread w (code_at cast.program cast.script m.place w))
-    → ((cast : Cast) (m : Moment) → StandAt cast m p old → value ≡ code_at cast.program cast.script m.place word)
-    → IsAllowed mid.program mid.thread word value
+    → IsAllowed cast.program (thread_count cast) thread w (code_at cast.program (thread_count cast) cast.script m.place w))
+    → ((cast : Cast) (m : Moment) → StandAt cast m p old → value ≡ code_at cast.program (thread_count cast) cast.script m.place word)
+    → IsAllowed mid.program mid.threads mid.thread word value
 value_allowed p old mid word value (cast, m, at) same keeps wants allowed is =
     let here = allowed cast m old.thread word at.thread.first at.along (word_wanted cast m p old mid word at same keeps wants) in
-    subst (λ (v : ℕ). IsAllowed mid.program mid.thread word v) (sym (is cast m at))
-    (subst (λ (q : Program). IsAllowed q mid.thread word (code_at cast.program cast.script m.place word)) (sym (same.program ∙ at.thread.program_is))
-    (subst (λ (t : ℕ). IsAllowed cast.program t word (code_at cast.program cast.script m.place word)) (sym same.thread) here))
+    let value_there : ℕ = code_at cast.program (thread_count cast) cast.script m.place word in
+    subst (λ (v : ℕ). IsAllowed mid.program mid.threads mid.thread word v) (sym (is cast m at))
+    (subst (λ (q : Program). IsAllowed q mid.threads mid.thread word value_there) (sym (same.program ∙ at.thread.program_is))
+    (subst (λ (n : ℕ). IsAllowed cast.program n mid.thread word value_there) (sym (same.threads ∙ at.thread.threads_are))
+    (subst (λ (t : ℕ). IsAllowed cast.program (thread_count cast) t word value_there) (sym same.thread) here)))
 
 -- ---- a turn
 
 -- a turn with a load
 pub load_made : (cast : Cast) (m : Moment) (p : Patcher) (old mid new : Traced) (word value : ℕ) → StandAt cast m p old
-    → IsSameThread old mid → KeepsLoads old mid → mid.want ≡ Loads word → value ≡ code_at cast.program cast.script m.place word
+    → IsSameThread old mid → KeepsLoads old mid → mid.want ≡ Loads word → value ≡ code_at cast.program (thread_count cast) cast.script m.place word
     → IsSameThread mid new
     → ((passed : List Passing) (loads : List Load) → HasLoaded mid passed loads → HasLoaded new passed (loads ++ load_of mid.want value))
     → StandAt cast (thread_turn cast old.thread m) p new
 load_made cast m p old mid new word value at same keeps wants is same' gives =
     let turned : Moment = thread_turn cast old.thread m in
     let wanted = word_wanted cast m p old mid word at same keeps wants in
-    let made : List Load = of_thread m.loads old.thread ++ record { word = word; value = code_at cast.program cast.script m.place word } ∷ [] in
+    let made : List Load = of_thread m.loads old.thread ++ record { word = word; value = code_at cast.program (thread_count cast) cast.script m.place word } ∷ [] in
     let own : of_thread turned.loads old.thread ≡ made = turn_own cast old.thread m word (omega (arith, at.thread.first, at.thread.room)) wanted in
-    let given : load_of mid.want value ≡ record { word = word; value = code_at cast.program cast.script m.place word } ∷ [] =
+    let given : load_of mid.want value ≡ record { word = word; value = code_at cast.program (thread_count cast) cast.script m.place word } ∷ [] =
     ap (λ (w : Want). load_of w value) wants ∙ ap (λ (v : ℕ). load_of (Loads word) v) is in
     let loaded = gives at.thread.passed _ (keeps at.thread.passed _ at.thread.loaded) in
     let there : HasLoaded new at.thread.passed (of_thread turned.loads old.thread) =

@@ -19,7 +19,7 @@ use Rattle.step_sim.specs.declared.pool.Pool.{Pool}
 use Rattle.step_sim.specs.declared.turns.Turns.{Turns}
 use Rattle.step_sim.specs.declared.turns.Turns.TheVariants.{Thread, Patcher as PatcherTurns}
 use Rattle.step_sim.specs.Plays.{turns}
-use Rattle.step_sim.specs.Replay.{Cast, first_moment, of_thread, thread_turn}
+use Rattle.step_sim.specs.Replay.{Cast, first_moment, of_thread, thread_count, thread_turn}
 use Rattle.step_sim.specs.Replayed.{cast_of}
 use Rattle.step_sim.specs.Pool.{Fresh, Item, Pooled, Pooling, Segment, Stock, first_pooled, first_stock, pooled_step, pooled_turn, queued, stock_after}
 use Rattle.step_sim.specs.private.Turns.{AllPooledRunOut, pooled_line}
@@ -73,11 +73,11 @@ run_keeps cast pooling (suc n) thread before after (mid, (count, made, ends), re
 
 -- ---- the beginning
 
-marks_none : (program : Program) (thread number : ℕ) (hold : Option ℕ) (sleds : List ℕ) → marks_from program thread hold number sleds [] ≡ []
-marks_none program thread number hold [] = refl
-marks_none program thread number hold (sled ∷ sleds) = by_held (is_held_at hold number) refl
+marks_none : (program : Program) (threads thread number : ℕ) (hold : Option ℕ) (sleds : List ℕ) → marks_from program threads thread hold number sleds [] ≡ []
+marks_none program threads thread number hold [] = refl
+marks_none program threads thread number hold (sled ∷ sleds) = by_held (is_held_at hold number) refl
   where
-    by_held : (held : Bool) → is_held_at hold number ≡ held → marks_from program thread hold number (sled ∷ sleds) [] ≡ []
+    by_held : (held : Bool) → is_held_at hold number ≡ held → marks_from program threads thread hold number (sled ∷ sleds) [] ≡ []
     by_held true e = rw e refl
     by_held false e = rw e refl
 
@@ -93,9 +93,9 @@ no_events r (suc n) =
     of_thread_is (first_moment r.cast).loads (suc n) ∙ no_loads r.cast.passings (suc n - 1) in
     history_is r (first_moment r.cast) (suc n) (omega arith)
     ∙ ap (λ (ls : List Load). recorded (of_thread r.passed (suc n))
-    (marks_of r.cast.program (suc n) (hold_of (suc n) r.cast.script) (of_thread r.cast.passings (suc n)) ls)) none
+    (marks_of r.cast.program (thread_count r.cast) (suc n) (hold_of (suc n) r.cast.script) (of_thread r.cast.passings (suc n)) ls)) none
     ∙ ap (recorded (of_thread r.passed (suc n)))
-    (marks_none r.cast.program (suc n) 0 (hold_of (suc n) r.cast.script) (of_thread r.cast.passings (suc n)))
+    (marks_none r.cast.program (thread_count r.cast) (suc n) 0 (hold_of (suc n) r.cast.script) (of_thread r.cast.passings (suc n)))
     ∙ recorded_none (of_thread r.passed (suc n))
 
 -- what a setup's replay is played with
@@ -125,7 +125,7 @@ pub record Begun (program : Program) (script : List Command) (setup : Setup) (p 
 
 pub begins_recording : (program : Program) (script : List Command) (setup : Setup) (p : Patcher) (ts : List Traced) (pool : Pool)
     → length ts ≡ setup.threads → AllHaveBegun program script setup.threads setup.limits ts → ((number : ℕ) → hold_of number script ≡ None)
-    → IsPatcherAt program script (start_of program script) p → vec_len p.words ≡ word_count program setup.threads
+    → IsPatcherAt program setup.threads script (start_of program setup.threads script) p → vec_len p.words ≡ word_count program setup.threads
     → (bytes : List ℕ) × IsAccepted bytes program → SmallIds
     → PoolHolds (stamp_of setup) setup.threads (λ _. []) (first_stock (setup.max - setup.threads)) pool
     → Begun program script setup p ts pool

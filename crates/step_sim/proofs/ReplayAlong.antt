@@ -16,7 +16,7 @@ use Rattle.machine_step.specs.Follows.{Follows, none, later, loaded}
 use Rattle.step_sim.specs.declared.turns.Turns.{Turns}
 use Rattle.step_sim.specs.declared.turns.Turns.TheVariants.{Thread, Patcher}
 use Rattle.step_sim.specs.Plays.{turns}
-use Rattle.step_sim.specs.Replay.{Cast, Moment, first_moment, of_thread, patcher_turn, thread_turn, wanted_by}
+use Rattle.step_sim.specs.Replay.{Cast, Moment, first_moment, of_thread, patcher_turn, thread_turn, wanted_by, thread_count}
 use Rattle.step_sim.specs.private.Turns.{AllRunOut, line_turns, scheduled}
 use Rattle.step_sim.specs.Along.{AllFollow, IsAlong, NamesThread}
 
@@ -41,7 +41,7 @@ set_other lists thread other item some some_other apart =
 pub turn_with : (cast : Cast) (thread : ℕ) (m : Moment) (word : ℕ) → wanted_by cast thread m ≡ Some word
     → thread_turn cast thread m ≡ record m {
       loads = slice_set m.loads (thread - 1)
-          (of_thread m.loads thread ++ record { word = word; value = code_at cast.program cast.script m.place word } ∷ []);
+          (of_thread m.loads thread ++ record { word = word; value = code_at cast.program (thread_count cast) cast.script m.place word } ∷ []);
     }
 turn_with cast thread m word e = rw e refl
 
@@ -49,17 +49,17 @@ pub turn_without : (cast : Cast) (thread : ℕ) (m : Moment) → wanted_by cast 
 turn_without cast thread m e = rw e refl
 
 -- a thread that loads follows the script
-loads_along : (cast : Cast) (thread : ℕ) (m : Moment) (word : ℕ) → 0 < thread → m.place ≤ total_of cast.program cast.script
+loads_along : (cast : Cast) (thread : ℕ) (m : Moment) (word : ℕ) → 0 < thread → m.place ≤ total_of cast.program (thread_count cast) cast.script
     → wanted_by cast thread m ≡ Some word → AllFollow cast m
     → AllFollow cast (record m {
       loads = slice_set m.loads (thread - 1)
-          (of_thread m.loads thread ++ record { word = word; value = code_at cast.program cast.script m.place word } ∷ []);
+          (of_thread m.loads thread ++ record { word = word; value = code_at cast.program (thread_count cast) cast.script m.place word } ∷ []);
     })
 loads_along cast thread m word some within wanted along other some_other =
-    let load : Load = record { word = word; value = code_at cast.program cast.script m.place word } in
+    let load : Load = record { word = word; value = code_at cast.program (thread_count cast) cast.script m.place word } in
     let item : List Load = of_thread m.loads thread ++ load ∷ [] in
     let Reads : ℕ → List Load → Type 0 = λ t loads.
-    Follows cast.program (code_at cast.program cast.script) (start_of cast.program cast.script) (λ _. total_of cast.program cast.script)
+    Follows cast.program (thread_count cast) (code_at cast.program (thread_count cast) cast.script) (start_of cast.program (thread_count cast) cast.script) (λ _. total_of cast.program (thread_count cast) cast.script)
     t (hold_of t cast.script) (of_thread cast.passings t) loads m.place in
     elim (cases_eq other thread) [
       | inl same ↦ elim (cases_lt (thread - 1) (length m.loads)) [
@@ -73,7 +73,7 @@ loads_along cast thread m word some within wanted along other some_other =
       | inr apart ↦ subst (Reads other) (sym (set_other m.loads thread other item some some_other apart)) (along other some_other)
     ]
 
-pub thread_along : (cast : Cast) (thread : ℕ) (m : Moment) → 0 < thread → m.place ≤ total_of cast.program cast.script → AllFollow cast m
+pub thread_along : (cast : Cast) (thread : ℕ) (m : Moment) → 0 < thread → m.place ≤ total_of cast.program (thread_count cast) cast.script → AllFollow cast m
     → AllFollow cast (thread_turn cast thread m)
 thread_along cast thread m some within along =
     by_wanted (wanted_by cast thread m) refl
@@ -83,23 +83,23 @@ thread_along cast thread m some within along =
     by_wanted (Some word) e = subst (AllFollow cast) (sym (turn_with cast thread m word e)) (loads_along cast thread m word some within e along)
 
 -- the patcher goes on
-pub patcher_along : (cast : Cast) (m : Moment) → m.place ≤ total_of cast.program cast.script → AllFollow cast m
+pub patcher_along : (cast : Cast) (m : Moment) → m.place ≤ total_of cast.program (thread_count cast) cast.script → AllFollow cast m
     → AllFollow cast (patcher_turn cast m)
 patcher_along cast m within along thread some =
-    later (of_thread m.loads thread) m.place (min (m.place + 1) (total_of cast.program cast.script)) (omega arith) (along thread some)
+    later (of_thread m.loads thread) m.place (min (m.place + 1) (total_of cast.program (thread_count cast) cast.script)) (omega arith) (along thread some)
 
 -- ---- moments
 
 -- the first commands have at most as many micro steps as all commands
-pub front_steps : (program : Program) (earlier : List ℕ) (n : ℕ) (script : List Command)
-    → length (micros_after program earlier (take n script)) ≤ length (micros_after program earlier script)
-front_steps program earlier zero script = omega arith
-front_steps program earlier (suc n) [] = omega arith
-front_steps program earlier (suc n) (command ∷ rest) =
+pub front_steps : (program : Program) (threads : ℕ) (earlier : List ℕ) (n : ℕ) (script : List Command)
+    → length (micros_after program threads earlier (take n script)) ≤ length (micros_after program threads earlier script)
+front_steps program threads earlier zero script = omega arith
+front_steps program threads earlier (suc n) [] = omega arith
+front_steps program threads earlier (suc n) (command ∷ rest) =
     let following : List ℕ = earlier ++ numbers (patches program command) in
-    let steps : List Micro = steps_of program earlier command in
-    let front = front_steps program following n rest in
-    omega (arith, length-append steps (micros_after program following (take n rest)), length-append steps (micros_after program following rest))
+    let steps : List Micro = steps_of program threads earlier command in
+    let front = front_steps program threads following n rest in
+    omega (arith, length-append steps (micros_after program threads following (take n rest)), length-append steps (micros_after program threads following rest))
 
 pub no_loads : (lists : List (List ℕ)) (i : ℕ) → ◌≡◌ {A = List Load} (get_or (map (λ _. []) lists) i []) []
 no_loads [] i = refl
@@ -109,12 +109,12 @@ no_loads (x ∷ lists) (suc i) = no_loads lists i
 pub first_along : (cast : Cast) → IsAlong cast (first_moment cast)
 first_along cast = record {
   along = λ thread some.
-      let start : ℕ = start_of cast.program cast.script in
-      subst (λ (loads : List Load). Follows cast.program (code_at cast.program cast.script) start (λ _. total_of cast.program cast.script)
+      let start : ℕ = start_of cast.program (thread_count cast) cast.script in
+      subst (λ (loads : List Load). Follows cast.program (thread_count cast) (code_at cast.program (thread_count cast) cast.script) start (λ _. total_of cast.program (thread_count cast) cast.script)
       thread (hold_of thread cast.script) (of_thread cast.passings thread) loads start)
       (sym (of_thread_is (first_moment cast).loads thread ∙ no_loads cast.passings (thread - 1)))
       none;
-  within = front_steps cast.program [] _ cast.script;
+  within = front_steps cast.program (thread_count cast) [] _ cast.script;
 }
 
 pub thread_stays : (cast : Cast) (thread : ℕ) (m : Moment) → (thread_turn cast thread m).place ≡ m.place
@@ -127,7 +127,7 @@ thread_stays cast thread m = by_wanted (wanted_by cast thread m) refl
 pub thread_keeps : (cast : Cast) (thread : ℕ) (m : Moment) → 0 < thread → IsAlong cast m → IsAlong cast (thread_turn cast thread m)
 thread_keeps cast thread m some is = record {
   along = thread_along cast thread m some is.within is.along;
-  within = subst (λ (n : ℕ). n ≤ total_of cast.program cast.script) (sym (thread_stays cast thread m)) is.within;
+  within = subst (λ (n : ℕ). n ≤ total_of cast.program (thread_count cast) cast.script) (sym (thread_stays cast thread m)) is.within;
 }
 
 pub patcher_keeps : (cast : Cast) (m : Moment) → IsAlong cast m → IsAlong cast (patcher_turn cast m)

@@ -27,25 +27,25 @@ example = record {
       ∷ record { address = 4112; what = Plain (Out 1) } ∷ record { address = 4114; what = Sled 1 } ∷ [];
   sleds = record { address = 4096; function = 4096; id = 1; kind = Entry; always = true; shift = 512 }
       ∷ record { address = 4114; function = 4096; id = 1; kind = Exit; always = true; shift = 512 } ∷ [];
-  trampolines = record { entry = 0x201000; exit = 0x201010; tail = 0x201020 };
+  trampolines = record { entry = 0x201000; exit = 0x201010; tail = 0x201020; args = 0x201030 };
 }
 
 script : List Command
 script = commands.Patch ∷ commands.Go ∷ commands.Unpatch ∷ []
 
 -- the id, opcode and offset of each sled are stored before its head; unpatching stores only heads
-stores : micros example script ≡
+stores : micros example 1 script ≡
     Store 1 1 ∷ Store 2 0xE8 ∷ Store 3 0x1FFFF5 ∷ Store 0 0xBA41
     ∷ Store 5 1 ∷ Store 6 0xE9 ∷ Store 7 0x1FFFF3 ∷ Store 4 0xBA41
     ∷ Store 0 0x09EB ∷ Store 4 0xBAC3 ∷ []
 unfolding example script
 stores = refl
 
-never_patched : micros example (commands.Go ∷ commands.Unpatch ∷ []) ≡ Store 0 0x09EB ∷ Store 4 0x2EC3 ∷ []
+never_patched : micros example 1 (commands.Go ∷ commands.Unpatch ∷ []) ≡ Store 0 0x09EB ∷ Store 4 0x2EC3 ∷ []
 unfolding example
 never_patched = refl
 
-starts : start_of example script ≡ 8
+starts : start_of example 1 script ≡ 8
 unfolding example script
 starts = refl
 

@@ -21,7 +21,7 @@ use Rattle.traced_run.proofs.RecordedEvents.{recorded_short}
 use Rattle.step_sim.specs.declared.patcher.Patcher.{Patcher}
 use Rattle.step_sim.specs.declared.pool.Pool.{Pool}
 use Rattle.step_sim.specs.declared.turns.Turns.{Turns}
-use Rattle.step_sim.specs.Replay.{marks_at, of_thread}
+use Rattle.step_sim.specs.Replay.{marks_at, of_thread, thread_count}
 use Rattle.step_sim.specs.Replayed.{IsReplayOf, IsSimulated, cast_of, cast_with, passed_of}
 use Rattle.machine_step.specs.Buffers.{spare_of}
 use Rattle.step_sim.specs.Pool.{Pooled, PooledReplay, segments_among}
@@ -165,7 +165,7 @@ is_simulated program script schedule lines setup passed count p ts pool sealed s
     marks_are =
         runs_map (λ run. run.marks) (marks_in r last) runs 1 setup.threads all.count (λ j run found. (all.each j run found).marks)
         ∙ sym (enumerated_map _ (marks_in r last) r.cast.passings 1 setup.threads (length-map passed sleds_passed ∙ passed_count)
-        (λ j sleds found. ap (λ (xs : List ℕ). marks_of program (1 + j) (hold_of (1 + j) script) xs (of_thread last.moment.loads (1 + j)))
+        (λ j sleds found. ap (λ (xs : List ℕ). marks_of program (thread_count r.cast) (1 + j) (hold_of (1 + j) script) xs (of_thread last.moment.loads (1 + j)))
         (sym (of_thread_at r.cast.passings j sleds found))))
         ∙ ap (λ (ps : List (List Passing)). marks_at (cast_of program script (map sleds_passed ps)) last.moment) (sym passed_is)
 

@@ -4,7 +4,7 @@ use Rattle.std.proofs.lemmas.List.{length-set}
 use Rattle.patch_script.specs.CodeAt.{code_at}
 use Rattle.patch_script.specs.Micros.{total_of}
 use Rattle.step_sim.specs.Plays.{turns}
-use Rattle.step_sim.specs.Replay.{Cast, Moment, of_thread, patcher_turn, thread_turn, wanted_by}
+use Rattle.step_sim.specs.Replay.{Cast, Moment, of_thread, patcher_turn, thread_turn, wanted_by, thread_count}
 use Rattle.step_sim.proofs.Plays.{turns_add, turns_still}
 use Rattle.step_sim.proofs.ReplayAlong.{set_other, set_same, thread_stays, turn_with, turn_without}
 
@@ -36,15 +36,15 @@ turn_other cast thread other m some some_other apart = by_wanted (wanted_by cast
     by_wanted None e = ap (λ (n : Moment). of_thread n.loads other) (turn_without cast thread m e)
     by_wanted (Some word) e =
         ap (λ (n : Moment). of_thread n.loads other) (turn_with cast thread m word e)
-        ∙ set_other m.loads thread other (of_thread m.loads thread ++ record { word = word; value = code_at cast.program cast.script m.place word } ∷ [])
+        ∙ set_other m.loads thread other (of_thread m.loads thread ++ record { word = word; value = code_at cast.program (thread_count cast) cast.script m.place word } ∷ [])
         some some_other apart
 
 pub turn_own : (cast : Cast) (thread : ℕ) (m : Moment) (word : ℕ) → thread - 1 < length m.loads → wanted_by cast thread m ≡ Some word
     → of_thread (thread_turn cast thread m).loads thread
-    ≡ of_thread m.loads thread ++ record { word = word; value = code_at cast.program cast.script m.place word } ∷ []
+    ≡ of_thread m.loads thread ++ record { word = word; value = code_at cast.program (thread_count cast) cast.script m.place word } ∷ []
 turn_own cast thread m word within e =
     ap (λ (n : Moment). of_thread n.loads thread) (turn_with cast thread m word e)
-    ∙ set_same m.loads thread (of_thread m.loads thread ++ record { word = word; value = code_at cast.program cast.script m.place word } ∷ []) within
+    ∙ set_same m.loads thread (of_thread m.loads thread ++ record { word = word; value = code_at cast.program (thread_count cast) cast.script m.place word } ∷ []) within
 
 pub turn_length : (cast : Cast) (thread : ℕ) (m : Moment) → length (thread_turn cast thread m).loads ≡ length m.loads
 turn_length cast thread m = by_wanted (wanted_by cast thread m) refl
@@ -53,7 +53,7 @@ turn_length cast thread m = by_wanted (wanted_by cast thread m) refl
     by_wanted None e = ap (λ (n : Moment). length n.loads) (turn_without cast thread m e)
     by_wanted (Some word) e =
         ap (λ (n : Moment). length n.loads) (turn_with cast thread m word e)
-        ∙ length-set m.loads (thread - 1) (of_thread m.loads thread ++ record { word = word; value = code_at cast.program cast.script m.place word } ∷ [])
+        ∙ length-set m.loads (thread - 1) (of_thread m.loads thread ++ record { word = word; value = code_at cast.program (thread_count cast) cast.script m.place word } ∷ [])
 
 pub turns_place : (cast : Cast) (thread n : ℕ) (m : Moment) → (turns n (thread_turn cast thread) m).place ≡ m.place
 turns_place cast thread n m =
@@ -71,13 +71,13 @@ turns_other cast thread other n m some some_other apart =
 
 -- ---- the patcher's turns
 
-pub patcher_turns : (cast : Cast) (n : ℕ) (m : Moment) → m.place ≤ total_of cast.program cast.script
-    → turns n (patcher_turn cast) m ≡ record m { place = min (m.place + n) (total_of cast.program cast.script) }
+pub patcher_turns : (cast : Cast) (n : ℕ) (m : Moment) → m.place ≤ total_of cast.program (thread_count cast) cast.script
+    → turns n (patcher_turn cast) m ≡ record m { place = min (m.place + n) (total_of cast.program (thread_count cast) cast.script) }
 patcher_turns cast zero m within =
-    let e : m.place ≡ min (m.place + zero) (total_of cast.program cast.script) = omega arith in
+    let e : m.place ≡ min (m.place + zero) (total_of cast.program (thread_count cast) cast.script) = omega arith in
     ap (λ (q : ℕ). let x : Moment = record { place = q; loads = m.loads } in x) e
 patcher_turns cast (suc n) m within =
     let next : Moment = patcher_turn cast m in
-    let total : ℕ = total_of cast.program cast.script in
+    let total : ℕ = total_of cast.program (thread_count cast) cast.script in
     let e : min (min (m.place + 1) total + n) total ≡ min (m.place + suc n) total = omega arith in
     patcher_turns cast n next (omega arith) ∙ ap (λ (q : ℕ). let x : Moment = record { place = q; loads = m.loads } in x) e

@@ -19,7 +19,7 @@ use Rattle.traced_run.specs.Runs.{ThreadRun}
 use Rattle.step_sim.specs.declared.turns.Turns.{Turns}
 use Rattle.step_sim.specs.Along.{IsAlong, LoadsAreWanted, NamesThread, TearsNoSled}
 use Rattle.step_sim.specs.Plays.{Plays}
-use Rattle.step_sim.specs.Replay.{Cast, Moment, first_moment, moment_rules, of_thread, wanted_by}
+use Rattle.step_sim.specs.Replay.{Cast, Moment, first_moment, moment_rules, of_thread, thread_count, wanted_by}
 use Rattle.step_sim.specs.private.Turns.{AllRunOut, scheduled}
 use Rattle.step_sim.specs.Replayed.{IsReplayOf, cast_with, passed_of, pooling_with}
 use Rattle.step_sim.proofs.EndedRuns.{no_run, of_thread_at, some_run}
@@ -30,37 +30,37 @@ use Rattle.step_sim.proofs.TurnLemmas.{turns_other}
 
 -- ---- a thread that wants no word
 
-next_wants : (program : Program) (thread : ℕ) (hold : Option ℕ) (number sled : ℕ) (sleds : List ℕ) (loads : List Load) (word : ℕ)
-    → from_start program thread (is_held_at hold number) sled loads ≡ Wants word → next_from program thread hold number (sled ∷ sleds) loads ≡ Some word
-next_wants program thread hold number sled sleds loads word e = rw e refl
+next_wants : (program : Program) (threads thread : ℕ) (hold : Option ℕ) (number sled : ℕ) (sleds : List ℕ) (loads : List Load) (word : ℕ) (recording : Mark)
+    → from_start program threads thread (is_held_at hold number) sled loads ≡ Wants word recording → next_from program threads thread hold number (sled ∷ sleds) loads ≡ Some word
+next_wants program threads thread hold number sled sleds loads word recording e = rw e refl
 
-next_marked : (program : Program) (thread : ℕ) (hold : Option ℕ) (number sled : ℕ) (sleds : List ℕ) (loads following : List Load) (mark : Mark)
-    → from_start program thread (is_held_at hold number) sled loads ≡ Marked mark following
-    → next_from program thread hold number (sled ∷ sleds) loads ≡ next_from program thread hold (number + 1) sleds following
-next_marked program thread hold number sled sleds loads following mark e = rw e refl
+next_marked : (program : Program) (threads thread : ℕ) (hold : Option ℕ) (number sled : ℕ) (sleds : List ℕ) (loads following : List Load) (mark : Mark)
+    → from_start program threads thread (is_held_at hold number) sled loads ≡ Marked mark following
+    → next_from program threads thread hold number (sled ∷ sleds) loads ≡ next_from program threads thread hold (number + 1) sleds following
+next_marked program threads thread hold number sled sleds loads following mark e = rw e refl
 
-marks_marked : (program : Program) (thread : ℕ) (hold : Option ℕ) (number sled : ℕ) (sleds : List ℕ) (loads following : List Load) (mark : Mark)
-    → from_start program thread (is_held_at hold number) sled loads ≡ Marked mark following
-    → marks_from program thread hold number (sled ∷ sleds) loads ≡ mark ∷ marks_from program thread hold (number + 1) sleds following
-marks_marked program thread hold number sled sleds loads following mark e = rw e refl
+marks_marked : (program : Program) (threads thread : ℕ) (hold : Option ℕ) (number sled : ℕ) (sleds : List ℕ) (loads following : List Load) (mark : Mark)
+    → from_start program threads thread (is_held_at hold number) sled loads ≡ Marked mark following
+    → marks_from program threads thread hold number (sled ∷ sleds) loads ≡ mark ∷ marks_from program threads thread hold (number + 1) sleds following
+marks_marked program threads thread hold number sled sleds loads following mark e = rw e refl
 
 -- each of its passings has a mark
-each_marked : (program : Program) (thread : ℕ) (hold : Option ℕ) (number : ℕ) (sleds : List ℕ) (loads : List Load)
-    → next_from program thread hold number sleds loads ≡ None → length (marks_from program thread hold number sleds loads) ≡ length sleds
-each_marked program thread hold number [] loads none = refl
-each_marked program thread hold number (sled ∷ sleds) loads none =
-    by_reading (each_marked program thread hold (number + 1) sleds) (from_start program thread (is_held_at hold number) sled loads) refl
+each_marked : (program : Program) (threads thread : ℕ) (hold : Option ℕ) (number : ℕ) (sleds : List ℕ) (loads : List Load)
+    → next_from program threads thread hold number sleds loads ≡ None → length (marks_from program threads thread hold number sleds loads) ≡ length sleds
+each_marked program threads thread hold number [] loads none = refl
+each_marked program threads thread hold number (sled ∷ sleds) loads none =
+    by_reading (each_marked program threads thread hold (number + 1) sleds) (from_start program threads thread (is_held_at hold number) sled loads) refl
   where
-    by_reading : ((following : List Load) → next_from program thread hold (number + 1) sleds following ≡ None
-        → length (marks_from program thread hold (number + 1) sleds following) ≡ length sleds)
-        → (r : Reading) → from_start program thread (is_held_at hold number) sled loads ≡ r
-        → length (marks_from program thread hold number (sled ∷ sleds) loads) ≡ suc (length sleds)
-    by_reading others (Wants word) e =
-        let one : ◌≡◌ {A = Option ℕ} (Some word) None = sym (next_wants program thread hold number sled sleds loads word e) ∙ none in absurd cc
+    by_reading : ((following : List Load) → next_from program threads thread hold (number + 1) sleds following ≡ None
+        → length (marks_from program threads thread hold (number + 1) sleds following) ≡ length sleds)
+        → (r : Reading) → from_start program threads thread (is_held_at hold number) sled loads ≡ r
+        → length (marks_from program threads thread hold number (sled ∷ sleds) loads) ≡ suc (length sleds)
+    by_reading others (Wants word recording) e =
+        let one : ◌≡◌ {A = Option ℕ} (Some word) None = sym (next_wants program threads thread hold number sled sleds loads word recording e) ∙ none in absurd cc
     by_reading others (Marked mark following) e =
-        ap length (marks_marked program thread hold number sled sleds loads following mark e)
+        ap length (marks_marked program threads thread hold number sled sleds loads following mark e)
         ∙ ap suc (others following
-        (sym (next_marked program thread hold number sled sleds loads following mark e) ∙ none))
+        (sym (next_marked program threads thread hold number sled sleds loads following mark e) ∙ none))
 
 -- ---- all threads at the end
 
@@ -80,7 +80,7 @@ all_ended cast (suc n) thread before after first (mid, (count, made, ends), rest
     ended_then j own within = elim (cases_eq j thread) [
       | inl same ↦ subst (λ (t : ℕ). wanted_by cast t mid ≡ None) (sym same) ends
       | inr apart ↦
-          ap (λ (ls : List Load). next_load cast.program j (hold_of j cast.script) (of_thread cast.passings j) ls) (stays j own apart)
+          ap (λ (ls : List Load). next_load cast.program (thread_count cast) j (hold_of j cast.script) (of_thread cast.passings j) ls) (stays j own apart)
           ∙ ended j own (omega (arith, within, apart))
     ]
 
@@ -103,22 +103,26 @@ NoneTorn = (cast : Cast) (moment : Moment) → IsAlong cast moment → TearsNoSl
 
 pub decodes_whole : NoneUnwanted → NoneTorn → (program : Program) (script : List Command) (schedule : List Turns) (setup : Setup) (runs : List ThreadRun)
     → All NamesThread schedule → (is : IsReplayOf program script schedule setup runs) → (j : ℕ) (run : ThreadRun) → slice_get runs j ≡ Some run
-    → DecodesWhole program (j + 1) (hold_of (j + 1) script) run (of_thread is.last.moment.loads (j + 1))
+    → DecodesWhole program setup.threads (j + 1) (hold_of (j + 1) script) run (of_thread is.last.moment.loads (j + 1))
 decodes_whole wanted none program script schedule setup runs names is j run found =
-    subst (λ (t : ℕ). DecodesWhole program t (hold_of t script) run (of_thread is.last.moment.loads t)) number
+    subst (λ (n : ℕ). DecodesWhole program n (j + 1) (hold_of (j + 1) script) run (of_thread is.last.moment.loads (j + 1))) long
+    (subst (λ (t : ℕ). DecodesWhole program (thread_count cast) t (hold_of t script) run (of_thread is.last.moment.loads t)) number
     (record {
-      wanted = subst (λ (xs : List ℕ). AreWanted program (1 + j) (hold_of (1 + j) script) xs (of_thread is.last.moment.loads (1 + j))) sleds
+      wanted = subst (λ (xs : List ℕ). AreWanted program (thread_count cast) (1 + j) (hold_of (1 + j) script) xs (of_thread is.last.moment.loads (1 + j))) sleds
           (wanted cast is.last.moment along (1 + j) (omega arith));
       each = ap length marks
-          ∙ each_marked program (1 + j) (hold_of (1 + j) script) 0 (sleds_passed run.passed) (of_thread is.last.moment.loads (1 + j)) ended
+          ∙ each_marked program (thread_count cast) (1 + j) (hold_of (1 + j) script) 0 (sleds_passed run.passed) (of_thread is.last.moment.loads (1 + j)) ended
           ∙ length-map run.passed (λ (p : Passing). p.sled);
       marks = marks;
-      whole = subst (λ (xs : List ℕ). AreWhole program (1 + j) (hold_of (1 + j) script) xs (of_thread is.last.moment.loads (1 + j))) sleds
+      whole = subst (λ (xs : List ℕ). AreWhole program (thread_count cast) (1 + j) (hold_of (1 + j) script) xs (of_thread is.last.moment.loads (1 + j))) sleds
           (none cast is.last.moment along (1 + j) (omega arith));
-    })
+    }))
   where
     cast : Cast
     cast = cast_with program script runs
+
+    long : thread_count cast ≡ setup.threads
+    long = length-map (passed_of runs) sleds_passed ∙ length-map runs (λ (r : ThreadRun). r.passed) ∙ is.run.count
 
     number : 1 + j ≡ j + 1
     number = omega arith
@@ -132,18 +136,18 @@ decodes_whole wanted none program script schedule setup runs names is j run foun
     along : IsAlong cast is.last.moment
     along = replay_along cast schedule is.last.moment names played
 
-    marks : run.marks ≡ marks_of program (1 + j) (hold_of (1 + j) script) (sleds_passed run.passed) (of_thread is.last.moment.loads (1 + j))
+    marks : run.marks ≡ marks_of program (thread_count cast) (1 + j) (hold_of (1 + j) script) (sleds_passed run.passed) (of_thread is.last.moment.loads (1 + j))
     marks =
         marks_of_run program script schedule setup runs is j run found
-        ∙ ap (λ (xs : List ℕ). marks_of program (1 + j) (hold_of (1 + j) script) xs (of_thread is.last.moment.loads (1 + j))) sleds
+        ∙ ap (λ (xs : List ℕ). marks_of program (thread_count cast) (1 + j) (hold_of (1 + j) script) xs (of_thread is.last.moment.loads (1 + j))) sleds
 
     within : 1 + j < 1 + length cast.passings
     within =
         let few : j < length (map sleds_passed (passed_of runs)) = slice_get_within (map sleds_passed (passed_of runs)) j (sleds_passed run.passed) (sleds_at runs j run found) in
         omega (arith, few)
 
-    ended : next_load program (1 + j) (hold_of (1 + j) script) (sleds_passed run.passed) (of_thread is.last.moment.loads (1 + j)) ≡ None
+    ended : next_load program (thread_count cast) (1 + j) (hold_of (1 + j) script) (sleds_passed run.passed) (of_thread is.last.moment.loads (1 + j)) ≡ None
     ended =
-        ap (λ (xs : List ℕ). next_load program (1 + j) (hold_of (1 + j) script) xs (of_thread is.last.moment.loads (1 + j))) (sym sleds)
+        ap (λ (xs : List ℕ). next_load program (thread_count cast) (1 + j) (hold_of (1 + j) script) xs (of_thread is.last.moment.loads (1 + j))) (sym sleds)
         ∙ all_ended cast (length cast.passings) 1 (scheduled cast schedule) is.last.moment (omega arith) played
         (λ k some few. absurd (omega (arith, some, few))) (1 + j) (omega arith) within

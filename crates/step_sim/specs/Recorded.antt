@@ -6,14 +6,14 @@ use Rattle.fdr_buffer.specs.Segments.{segments}
 use Rattle.machine_step.specs.Events.{recorded}
 use Rattle.machine_step.specs.Loads.{marks_of}
 use Rattle.machine_step.specs.PlainStep.{Passing}
-use Rattle.step_sim.specs.Replay.{Cast, Moment, of_thread}
+use Rattle.step_sim.specs.Replay.{Cast, Moment, of_thread, thread_count}
 use Rattle.step_sim.specs.Pool.{Pooling}
 
 -- the events that a thread has recorded at a moment, by the passings of each thread
 abbrev pub events_at : Cast → List (List Passing) → ℕ → Moment → List Event
 events_at cast passed thread moment =
     recorded (of_thread passed thread)
-    (marks_of cast.program thread (hold_of thread cast.script) (of_thread cast.passings thread) (of_thread moment.loads thread))
+    (marks_of cast.program (thread_count cast) thread (hold_of thread cast.script) (of_thread cast.passings thread) (of_thread moment.loads thread))
 
 -- its segments in buffers of this size
 abbrev pub segments_at : Cast → List (List Passing) → ℕ → ℕ → Moment → List (List Event)

@@ -16,6 +16,10 @@ pub record Cast : Type 0 where
   pub script : List Command
   pub passings : List (List ℕ)
 
+-- how many threads there are
+abbrev pub thread_count : Cast → ℕ
+thread_count cast = length cast.passings
+
 -- where a replay is: how many micro steps were made, and the loads of each thread
 pub record Moment : Type 0 where
   pub place : ℕ
@@ -24,7 +28,7 @@ pub record Moment : Type 0 where
 -- at first: the micro steps before `go`, and no loads
 abbrev pub first_moment : Cast → Moment
 first_moment cast = record {
-  place = start_of cast.program cast.script;
+  place = start_of cast.program (thread_count cast) cast.script;
   loads = map (λ _. []) cast.passings;
 }
 
@@ -35,7 +39,7 @@ of_thread lists thread = unwrap_or (slice_get lists (thread - 1)) []
 -- the word that a thread loads next, or none if it has ended
 abbrev pub wanted_by : Cast → ℕ → Moment → Option ℕ
 wanted_by cast thread moment =
-    next_load cast.program thread (hold_of thread cast.script) (of_thread cast.passings thread) (of_thread moment.loads thread)
+    next_load cast.program (thread_count cast) thread (hold_of thread cast.script) (of_thread cast.passings thread) (of_thread moment.loads thread)
 
 -- A thread's turn is its next load, with the word's value at the place. The turn of a thread that has ended does
 -- nothing.
@@ -47,12 +51,15 @@ thread_turn cast thread moment = loaded (wanted_by cast thread moment)
     loaded (Some word) = record moment {
       loads = slice_set moment.loads (thread - 1)
           (of_thread moment.loads thread
-          ++ record { word = word; value = code_at cast.program cast.script moment.place word } ∷ []);
+          ++ record {
+            word = word;
+            value = code_at cast.program (thread_count cast) cast.script moment.place word;
+          } ∷ []);
     }
 
 -- The patcher's turn is a micro step. At the script's end it does nothing.
 abbrev pub patcher_turn : Cast → Moment → Moment
-patcher_turn cast moment = record moment { place = min (moment.place + 1) (total_of cast.program cast.script) }
+patcher_turn cast moment = record moment { place = min (moment.place + 1) (total_of cast.program (thread_count cast) cast.script) }
 
 -- what a replay plays with its moments
 abbrev pub moment_rules : Cast → Rules Moment
@@ -64,7 +71,7 @@ marks_at cast moment = map marks_of_thread (enumerate_from 1 cast.passings)
   where
     marks_of_thread : ℕ × List ℕ → List Mark
     marks_of_thread (thread, sleds) =
-        marks_of cast.program thread (hold_of thread cast.script) sleds (of_thread moment.loads thread)
+        marks_of cast.program (thread_count cast) thread (hold_of thread cast.script) sleds (of_thread moment.loads thread)
 
 -- The marks of the threads that a schedule leaves. The micro steps that are left change no mark.
 abbrev pub Replay : Cast → List Turns → List (List Mark) → Type 0

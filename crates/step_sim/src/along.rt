@@ -10,7 +10,7 @@ ghost use Rattle.traced_run.specs.{Decoded.{DecodesWhole}, Runs.{EachThread, Thr
 ghost use Rattle.step_sim.specs.declared.turns.Turns.{Turns as Line};
 ghost use Rattle.step_sim.specs.Along.{IsAlong, LoadsAreWanted, NamesThread, TearsNoSled};
 ghost use Rattle.step_sim.specs.{Schedules.{schedule_of}, Plays.{Plays}};
-ghost use Rattle.step_sim.specs.Replay.{Cast, Moment, first_moment, moment_rules, of_thread, patcher_turn, thread_turn, wanted_by};
+ghost use Rattle.step_sim.specs.Replay.{Cast, Moment, first_moment, moment_rules, of_thread, patcher_turn, thread_count, thread_turn, wanted_by};
 ghost use Rattle.step_sim.specs.Replayed.{IsReplayOf};
 
 use machine_step::what_follows_is_allowed;
@@ -27,7 +27,8 @@ pub fn a_replay_reads_along()
         → IsAlong cast moment → IsAlong cast (patcher_turn cast moment) }
     ensures allowed { (cast : Cast) (moment : Moment) (thread word : ℕ) → 0 < thread
         → IsAlong cast moment → wanted_by cast thread moment ≡ Some word
-        → IsAllowed cast.program thread word (code_at cast.program cast.script moment.place word) }
+        → IsAllowed cast.program (thread_count cast) thread word
+        (code_at cast.program (thread_count cast) cast.script moment.place word) }
     ensures wanted { (cast : Cast) (moment : Moment) → IsAlong cast moment → LoadsAreWanted cast moment }
     ensures whole { (cast : Cast) (moment : Moment) → IsAlong cast moment → TearsNoSled cast moment }
 {
@@ -47,7 +48,7 @@ pub fn no_replay_tears_a_sled()
     ensures runs { (program : Program) (script : List Command) (text : List ℕ) (schedule : List Line)
         (setup : Setup) (runs : List ThreadRun) → schedule_of setup.threads text ≡ Ok schedule
         → (replay : IsReplayOf program script schedule setup runs) → EachThread runs (λ number run.
-        DecodesWhole program number (hold_of number script) run (of_thread replay.last.moment.loads number)) }
+        DecodesWhole program setup.threads number (hold_of number script) run (of_thread replay.last.moment.loads number)) }
 {
     a_replay_reads_along();
 }

@@ -39,8 +39,9 @@ impl<'a> Patcher<'a> {
     ) -> Result<Patcher<'a>, NoMemory>
         requires threads { threads ≤ MAX_THREADS }
         requires program { script.now.program ≡ image.now }
+        requires same_threads { script.now.threads ≡ threads }
         ensures at { let commands = commands_of script.now.lines in
-            IfOk result (IsPatcherAt image.now commands (start_of image.now commands)) }
+            IfOk result (IsPatcherAt image.now threads commands (start_of image.now threads commands)) }
         ensures words { IfOk result (λ p. vec_len p.words ≡ word_count image.now threads) }
     {
         stores_give_the_code();
@@ -58,18 +59,18 @@ impl<'a> Patcher<'a> {
     /// The value of a word.
     pub(crate) fn load(&self, word: u32) -> u64
         requires { word < vec_len self.now.words }
-        ensures { (program : Program) (script : List Command) (place : ℕ)
-            → IsPatcherAt program script place self.now
-            → result ≡ code_at program script place word }
+        ensures { (program : Program) (threads : ℕ) (script : List Command) (place : ℕ)
+            → IsPatcherAt program threads script place self.now
+            → result ≡ code_at program threads script place word }
     {
         self.words[word as usize]
     }
 
     /// Makes this many micro steps, or all that are left if there are fewer.
     pub(crate) fn make_steps(&mut self, count: u64)
-        ensures at { (program : Program) (script : List Command) (place : ℕ)
-            → IsPatcherAt program script place self.old
-            → IsPatcherAt program script (min (place + count) (total_of program script)) self.new }
+        ensures at { (program : Program) (threads : ℕ) (script : List Command) (place : ℕ)
+            → IsPatcherAt program threads script place self.old
+            → IsPatcherAt program threads script (min (place + count) (total_of program threads script)) self.new }
         ensures words { vec_len self.new.words ≡ vec_len self.old.words }
     {
         for _step in 0..count {
@@ -81,12 +82,12 @@ impl<'a> Patcher<'a> {
 
     /// Makes the next micro step. Answers whether there was one.
     fn make_step(&mut self) -> bool
-        ensures at { (program : Program) (script : List Command) (place : ℕ)
-            → IsPatcherAt program script place self.old
-            → IsPatcherAt program script (min (place + 1) (total_of program script)) self.new }
+        ensures at { (program : Program) (threads : ℕ) (script : List Command) (place : ℕ)
+            → IsPatcherAt program threads script place self.old
+            → IsPatcherAt program threads script (min (place + 1) (total_of program threads script)) self.new }
         ensures words { vec_len self.new.words ≡ vec_len self.old.words }
-        ensures left { OnFalse result ((program : Program) (script : List Command) (place : ℕ)
-            → IsPatcherAt program script place self.old → place ≡ total_of program script) }
+        ensures left { OnFalse result ((program : Program) (threads : ℕ) (script : List Command) (place : ℕ)
+            → IsPatcherAt program threads script place self.old → place ≡ total_of program threads script) }
     {
         stores_give_the_code();
         if self.place >= self.script.total() {

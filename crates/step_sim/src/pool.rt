@@ -3,6 +3,7 @@
 ghost use Rattle.std.specs.Prelude.{◌≡◌, ◌≢◌, ◌<◌, ◌≤◌, ◌+◌, ◌-◌, ◌^◌, ◌++◌, ◌∷◌, [], ℕ, List, All, IfOk, IfSome, Some, length, replicate, slice_get, slice_index, true, filter, vec_len, vec_capacity};
 ghost use Rattle.std.specs.List.{flat_map};
 ghost use Rattle.fdr_buffer.specs.Filled.{Filled, empty_buffer};
+ghost use Rattle.fdr_record.specs.Recordable.{IsRecordable};
 ghost use Rattle.machine_step.specs.Setups.{IsSetup};
 ghost use Rattle.step_sim.specs.Recorded.{numbers_from};
 ghost use Rattle.step_sim.specs.private.Counts.{CanLose, is_of, lost_after, segments_held};
@@ -71,7 +72,7 @@ impl Pool {
 
     /// Notes the event of a load of a thread, if there is one.
     pub(crate) fn note_any(&mut self, thread: u32, event: Option<Event>)
-        requires { IfSome event (λ event. CanNote self.old thread × (event.func < 2 ^ 28)) }
+        requires { IfSome event (λ event. CanNote self.old thread × IsRecordable event) }
         ensures { NotesAny self.old self.new thread event }
     {
         match event {
@@ -83,7 +84,7 @@ impl Pool {
     /// Notes an event of a thread: in its hand if there is room, and otherwise in the next buffer.
     fn note(&mut self, thread: u32, event: &Event)
         requires can { CanNote self.old thread }
-        requires id { event.now.func < 2 ^ 28 }
+        requires recordable { IsRecordable event.now }
         ensures { NotesEvent self.old self.new thread event.now }
     {
         a_segment_grows();
@@ -144,7 +145,7 @@ impl Pool {
     fn turn(&mut self, thread: u32, event: &Event)
         requires can { CanNote self.old thread }
         requires full { IsFull self.old thread event.now }
-        requires id { event.now.func < 2 ^ 28 }
+        requires recordable { IsRecordable event.now }
         ensures { NotesEvent self.old self.new thread event.now }
     {
         a_segment_grows();

@@ -2,13 +2,14 @@
 use Rattle.std.proofs.Common.{◌≡◌, ◌-◌, ◌<◌, ◌≤◌, ◌^◌, ℕ, List, [], ◌∷◌, ◌++◌, ap, subst, sym, ◌∙◌, arith, length, length-append}
 use Rattle.std.specs.Prelude.{All, IfSome, IsSome, Option, Some, None}
 use Rattle.fdr_record.specs.declared.event.Event.{Event}
+use Rattle.fdr_record.specs.Recordable.{IsRecordable}
 use Rattle.handler_word.specs.declared.mark.Mark.{Mark}
 use Rattle.machine_step.specs.declared.want.Want.{Want}
 use Rattle.machine_step.specs.declared.want.Want.TheVariants.{Load as Loads}
 use Rattle.machine_step.specs.Events.{events_in, recorded}
 use Rattle.machine_step.specs.PlainStep.{Passing}
 use Rattle.machine_step.specs.Traced.{MarksAdded}
-use Rattle.traced_run.proofs.RecordedEvents.{event_small, recorded_short}
+use Rattle.traced_run.proofs.RecordedEvents.{event_recordable, recorded_short}
 
 -- there is room for the event that was added
 few_before : (passed : List Passing) (old new : List Mark) (event : Event) → length new < 2 ^ 32
@@ -18,10 +19,10 @@ few_before passed old new event fits e =
     omega (arith, all, length-append (recorded passed old) (event ∷ []), fits)
 
 -- the event of a load, if there is one
-pub any_small : (passed : List Passing) (old new : List Mark) (event : Option Event) → All (λ p. p.id < 2 ^ 28) passed
-    → recorded passed new ≡ recorded passed old ++ events_in event → IfSome event (λ e. e.func < 2 ^ 28)
-any_small passed old new None small is = tt
-any_small passed old new (Some event) small is = event_small passed old new event small is
+pub any_recordable : (passed : List Passing) (old new : List Mark) (event : Option Event) → All (λ p. p.id < 2 ^ 28) passed
+    → recorded passed new ≡ recorded passed old ++ events_in event → IfSome event IsRecordable
+any_recordable passed old new None small is = tt
+any_recordable passed old new (Some event) small is = event_recordable passed old new event small is
 
 pub any_room : {R : Type 0} (stands : R → List Event → Type 0) (recorder : R) (passed : List Passing) (old new : List Mark) (event : Option Event)
     → stands recorder (recorded passed old) → length new < 2 ^ 32

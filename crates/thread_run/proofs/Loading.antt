@@ -44,11 +44,11 @@ use Rattle.thread_run.specs.declared.worker.Worker.{Worker}
 
 -- ---- a script's plan
 
-code_is : (plan : Plan) (place word : ℕ) → code_in plan place word ≡ code_at plan.program (commands_of plan.lines) place word
+code_is : (plan : Plan) (place word : ℕ) → code_in plan place word ≡ code_at plan.program plan.threads (commands_of plan.lines) place word
 unfolding code_in
 code_is plan place word = refl
 
-bound_is : (plan : Plan) (thread passing : ℕ) → bound_in plan thread passing ≡ bound_of plan.program (commands_of plan.lines) thread passing
+bound_is : (plan : Plan) (thread passing : ℕ) → bound_in plan thread passing ≡ bound_of plan.program plan.threads (commands_of plan.lines) thread passing
 unfolding bound_in
 bound_is plan thread passing = refl
 
@@ -62,8 +62,8 @@ word_there plan t word is low =
 -- what a seat found, for a thread whose passings it counts
 pub record IsFound (plan : Plan) (t : Traced) (seen word value place : ℕ) : Type 0 where
   pub from : seen ≤ place
-  pub bound : place ≤ bound_of plan.program (commands_of plan.lines) t.thread (length t.marks)
-  pub here : code_at plan.program (commands_of plan.lines) place word ≡ value
+  pub bound : place ≤ bound_of plan.program plan.threads (commands_of plan.lines) t.thread (length t.marks)
+  pub here : code_at plan.program plan.threads (commands_of plan.lines) place word ≡ value
 
 pub is_found : (plan : Plan) (t : Traced) (v new : WorkView) (word value : ℕ) → v.script ≡ plan → v.thread ≡ t.thread → v.count ≡ length t.marks
     → (fetched : IsFetched v word value new) → IsFound plan t v.seen word value fetched.place
@@ -79,24 +79,30 @@ is_found plan t v new word value script thread count fetched = record {
 
 -- no place that is found is after the script's end
 pub found_within : (plan : Plan) (t : Traced) (seen word value place : ℕ) → IsFound plan t seen word value place
-    → place ≤ total_of plan.program (commands_of plan.lines)
+    → place ≤ total_of plan.program plan.threads (commands_of plan.lines)
 found_within plan t seen word value place found =
-    omega (arith, found.bound, bound_within plan.program (commands_of plan.lines) t.thread (length t.marks))
+    omega (arith, found.bound, bound_within plan.program plan.threads (commands_of plan.lines) t.thread (length t.marks))
 
 -- ---- loads
 
-next_alike : (program program' : Program) (thread : ℕ) (hold hold' : Option ℕ) (sleds : List ℕ) (loads : List Load) → program ≡ program' → hold ≡ hold'
-    → next_load program thread hold sleds loads ≡ next_load program' thread hold' sleds loads
-next_alike program program' thread hold hold' sleds loads a b =
-    ap (λ (x : Program). next_load x thread hold sleds loads) a ∙ ap (λ (x : Option ℕ). next_load program' thread x sleds loads) b
+next_alike : (program program' : Program) (threads threads' thread : ℕ) (hold hold' : Option ℕ) (sleds : List ℕ) (loads : List Load)
+    → program ≡ program' → threads ≡ threads' → hold ≡ hold'
+    → next_load program threads thread hold sleds loads ≡ next_load program' threads' thread hold' sleds loads
+next_alike program program' threads threads' thread hold hold' sleds loads a n b =
+    ap (λ (x : Program). next_load x threads thread hold sleds loads) a
+    ∙ ap (λ (x : ℕ). next_load program' x thread hold sleds loads) n
+    ∙ ap (λ (x : Option ℕ). next_load program' threads' thread x sleds loads) b
 
-marks_alike : (program program' : Program) (thread : ℕ) (hold hold' : Option ℕ) (sleds : List ℕ) (loads : List Load) → program ≡ program' → hold ≡ hold'
-    → length (marks_of program thread hold sleds loads) ≡ length (marks_of program' thread hold' sleds loads)
-marks_alike program program' thread hold hold' sleds loads a b =
-    ap (λ (x : Program). length (marks_of x thread hold sleds loads)) a ∙ ap (λ (x : Option ℕ). length (marks_of program' thread x sleds loads)) b
+same_marks : (program program' : Program) (threads threads' thread : ℕ) (hold hold' : Option ℕ) (sleds : List ℕ) (loads : List Load)
+    → program ≡ program' → threads ≡ threads' → hold ≡ hold'
+    → marks_of program threads thread hold sleds loads ≡ marks_of program' threads' thread hold' sleds loads
+same_marks program program' threads threads' thread hold hold' sleds loads a n b =
+    ap (λ (x : Program). marks_of x threads thread hold sleds loads) a
+    ∙ ap (λ (x : ℕ). marks_of program' x thread hold sleds loads) n
+    ∙ ap (λ (x : Option ℕ). marks_of program' threads' thread x sleds loads) b
 
 pub next_is : (t : Traced) (passed : List Passing) (loads : List Load) (word : ℕ) → HasLoaded t passed loads → t.want ≡ Loads word
-    → next_load t.program t.thread t.hold (sleds_passed passed) loads ≡ Some word
+    → next_load t.program t.threads t.thread t.hold (sleds_passed passed) loads ≡ Some word
 next_is t passed loads word has wants =
     subst (IsWant t passed (wanted_after t passed loads) has.end) wants has.wants
 
@@ -105,29 +111,30 @@ module _ (plan : Plan) where
   Script = commands_of plan.lines
 
   abbrev Along : Traced → List Passing → ℕ → List Load → Type 0
-  Along t passed seen loads = HasFollowed plan.program Script t passed seen loads
+  Along t passed seen loads = HasFollowed plan.program plan.threads Script t passed seen loads
 
   next_in : (t : Traced) (passed : List Passing) (loads : List Load) (word : ℕ) → IsThreadIn plan t → HasLoaded t passed loads → t.want ≡ Loads word
-      → next_load plan.program t.thread (hold_of t.thread Script) (sleds_passed passed) loads ≡ Some word
+      → next_load plan.program plan.threads t.thread (hold_of t.thread Script) (sleds_passed passed) loads ≡ Some word
   next_in t passed loads word is has wants =
-      sym (next_alike t.program plan.program t.thread t.hold (hold_of t.thread Script) (sleds_passed passed) loads is.program is.hold)
+      sym (next_alike t.program plan.program t.threads plan.threads t.thread t.hold (hold_of t.thread Script) (sleds_passed passed) loads is.program is.threads is.hold)
       ∙ next_is t passed loads word has wants
 
   -- the script has gone on
   up_to : (t : Traced) (passed : List Passing) (seen place : ℕ) (loads : List Load) → seen ≤ place → Along t passed seen loads
-      → LoadsFollow plan.program Script t.thread (sleds_passed passed) loads place
+      → LoadsFollow plan.program plan.threads Script t.thread (sleds_passed passed) loads place
   up_to t passed seen place loads le along = later loads seen place le along.follow
 
   -- the value may be given to the thread
   pub value_allowed : (t : Traced) (passed : List Passing) (seen place : ℕ) (loads : List Load) (word value : ℕ) → IsThreadIn plan t
-      → Along t passed seen loads → t.want ≡ Loads word → IsFound plan t seen word value place → IsAllowed t.program t.thread word value
+      → Along t passed seen loads → t.want ≡ Loads word → IsFound plan t seen word value place → IsAllowed t.program t.threads t.thread word value
   value_allowed t passed seen place loads word value is along wants found =
-      let here : IsAllowed plan.program t.thread word (code_at plan.program Script place word) =
-      next_allowed plan.program (code_at plan.program Script) (start_of plan.program Script) (bound_of plan.program Script t.thread) t.thread
-      (keeps_sleds plan.program Script t.thread) (hold_of t.thread Script) (sleds_passed passed) loads place word
+      let here : IsAllowed plan.program plan.threads t.thread word (code_at plan.program plan.threads Script place word) =
+      next_allowed plan.program plan.threads (code_at plan.program plan.threads Script) (start_of plan.program plan.threads Script)
+      (bound_of plan.program plan.threads Script t.thread) t.thread (keeps_sleds plan.program plan.threads Script t.thread) (hold_of t.thread Script) (sleds_passed passed) loads place word
       (up_to t passed seen place loads found.from along) (next_in t passed loads word is along.loaded wants) in
-      subst (λ (q : Program). IsAllowed q t.thread word value) (sym is.program)
-      (subst (λ (v : ℕ). IsAllowed plan.program t.thread word v) found.here here)
+      subst (λ (q : Program). IsAllowed q t.threads t.thread word value) (sym is.program)
+      (subst (λ (n : ℕ). IsAllowed plan.program n t.thread word value) (sym is.threads)
+      (subst (λ (v : ℕ). IsAllowed plan.program plan.threads t.thread word v) found.here here))
 
   -- the loads, with the one that was made
   more : (t t' : Traced) (passed : List Passing) (seen place : ℕ) (loads : List Load) (word value : ℕ) → IsThreadIn plan t
@@ -135,12 +142,13 @@ module _ (plan : Plan) where
       → HasLoaded t' passed (loads ++ record { word = word; value = value } ∷ [])
       → Along t' passed place (loads ++ record { word = word; value = value } ∷ [])
   more t t' passed seen place loads word value is along wants found same has =
-      let Follow : ℕ → ℕ → Type 0 = λ thread v. LoadsFollow plan.program Script thread (sleds_passed passed) (loads ++ record { word = word; value = v } ∷ []) place in
-      let count : length t.marks ≡ length (marks_of plan.program t.thread (hold_of t.thread Script) (sleds_passed passed) loads) =
-      ap length along.loaded.marks ∙ marks_alike t.program plan.program t.thread t.hold (hold_of t.thread Script) (sleds_passed passed) loads is.program is.hold in
-      let within : place ≤ bound_of plan.program Script t.thread (length (marks_of plan.program t.thread (hold_of t.thread Script) (sleds_passed passed) loads)) =
-      subst (λ (n : ℕ). place ≤ bound_of plan.program Script t.thread n) count found.bound in
-      let one : Follow t.thread (code_at plan.program Script place word) =
+      let Follow : ℕ → ℕ → Type 0 = λ thread v. LoadsFollow plan.program plan.threads Script thread (sleds_passed passed) (loads ++ record { word = word; value = v } ∷ []) place in
+      let count : length t.marks ≡ length (marks_of plan.program plan.threads t.thread (hold_of t.thread Script) (sleds_passed passed) loads) =
+      ap length along.loaded.marks
+      ∙ ap length (same_marks t.program plan.program t.threads plan.threads t.thread t.hold (hold_of t.thread Script) (sleds_passed passed) loads is.program is.threads is.hold) in
+      let within : place ≤ bound_of plan.program plan.threads Script t.thread (length (marks_of plan.program plan.threads t.thread (hold_of t.thread Script) (sleds_passed passed) loads)) =
+      subst (λ (n : ℕ). place ≤ bound_of plan.program plan.threads Script t.thread n) count found.bound in
+      let one : Follow t.thread (code_at plan.program plan.threads Script place word) =
       loaded loads place word (up_to t passed seen place loads found.from along) (next_in t passed loads word is along.loaded wants) within in
       record { loaded = has; follow = subst (λ (n : ℕ). Follow n value) (sym same) (subst (Follow t.thread) found.here one) }
 
@@ -149,7 +157,7 @@ module _ (plan : Plan) where
       → t'.thread ≡ t.thread → HasLoaded t' passed loads → Along t' passed place loads
   still t t' passed seen place loads along le same has = record {
     loaded = has;
-    follow = subst (λ (n : ℕ). LoadsFollow plan.program Script n (sleds_passed passed) loads place) (sym same) (up_to t passed seen place loads le along);
+    follow = subst (λ (n : ℕ). LoadsFollow plan.program plan.threads Script n (sleds_passed passed) loads place) (sym same) (up_to t passed seen place loads le along);
   }
 
 -- ---- a load that holds the thread
@@ -181,11 +189,11 @@ pub is_kept : (plan : Plan) (t : Traced) (passed : List Passing) (loads : List L
     → t.want ≡ Loads load.word → is_held_by t.program t.thread (load ∷ []) ≡ true → IsKept t load.value
 is_kept plan t passed loads load is has wants held =
     let one = holds t.program t.thread load held in
-    let next : next_load t.program t.thread t.hold (sleds_passed passed) loads ≡ Some (release_word t.program t.thread) =
+    let next : next_load t.program t.threads t.thread t.hold (sleds_passed passed) loads ≡ Some (release_word t.program t.thread) =
     next_is t passed loads load.word has wants ∙ ap Some one.0 in
     record {
       held =
-          release_wanted t.program t.limits t.thread t.hold passed loads has.end has.last has.run is.first next
+          release_wanted t.program t.limits t.thread t.hold passed loads has.end has.last has.run t.threads is.first is.last next
           ∙ ap (λ marks. Some (length marks)) (sym has.marks);
       word = wants ∙ ap Loads one.0;
       unset = one.1;
@@ -224,9 +232,9 @@ along_loading plan t t' v passed word value place is along wants found same give
     load : SeatLoad
     load = the_load v word value place
 
-    every : HasFollowed plan.program (commands_of plan.lines) t' passed place (given (v.loads ++ load ∷ []))
+    every : HasFollowed plan.program plan.threads (commands_of plan.lines) t' passed place (given (v.loads ++ load ∷ []))
     every =
-        subst (HasFollowed plan.program (commands_of plan.lines) t' passed place) (sym (given_more v.loads load))
+        subst (HasFollowed plan.program plan.threads (commands_of plan.lines) t' passed place) (sym (given_more v.loads load))
         (more plan t t' passed v.seen place (given v.loads) word value is along.all wants found same
         (gives_one t t' passed (given v.loads) word value wants gives along.all.loaded))
 
@@ -274,6 +282,7 @@ same_in plan t t' is same = record {
   threads = same.threads ∙ is.threads;
   hold = same.hold ∙ is.hold ∙ ap (λ (n : ℕ). hold_of n (commands_of plan.lines)) (sym same.thread);
   first = subst (λ (n : ℕ). 0 < n) (sym same.thread) is.first;
+  last = omega (arith, same.thread, same.threads, is.last);
   accepted = is.accepted;
 }
 
@@ -300,7 +309,7 @@ at_work_counted stands worker seat count at own view = let plan = script_of (tab
   own = own;
   thread = at.thread;
   seat = ap (λ (x : WorkView). x.thread) view ∙ at.seat;
-  within = subst (λ (x : WorkView). x.seen ≤ total_of plan.program (commands_of plan.lines)) (sym view) at.within;
+  within = subst (λ (x : WorkView). x.seen ≤ total_of plan.program plan.threads (commands_of plan.lines)) (sym view) at.within;
   passed = at.passed;
   along = along_counting plan (cpu_of worker) (work_view (seat_of worker)) _ at.passed count view at.along;
   recorded_are = at.recorded_are;
@@ -308,21 +317,17 @@ at_work_counted stands worker seat count at own view = let plan = script_of (tab
 
 -- ---- the marks of a thread follow its script
 
-same_marks : (program program' : Program) (thread : ℕ) (hold hold' : Option ℕ) (sleds : List ℕ) (loads : List Load) → program ≡ program' → hold ≡ hold'
-    → marks_of program thread hold sleds loads ≡ marks_of program' thread hold' sleds loads
-same_marks program program' thread hold hold' sleds loads a b =
-    ap (λ (x : Program). marks_of x thread hold sleds loads) a ∙ ap (λ (x : Option ℕ). marks_of program' thread x sleds loads) b
-
 -- those of a thread that has ended as its plain run does
 pub marks_follow : (plan : Plan) (t : Traced) (v : WorkView) (passed : List Passing) (end : End) (last : State) (loads : List Load) → IsThreadIn plan t
-    → IsAlong plan t v passed → v.seen ≤ total_of plan.program (commands_of plan.lines) → EndsAsPlain t passed end last loads
-    → MarksFollowScript plan.program (commands_of plan.lines) t.thread (sleds_passed passed) t.marks
+    → IsAlong plan t v passed → v.seen ≤ total_of plan.program plan.threads (commands_of plan.lines) → EndsAsPlain t passed end last loads
+    → MarksFollowScript plan.program plan.threads (commands_of plan.lines) t.thread (sleds_passed passed) t.marks
 marks_follow plan t v passed end last loads is along within ends = record {
   loads = along.made;
-  follow = later along.made v.seen (total_of plan.program (commands_of plan.lines)) within along.free.follow;
+  follow = later along.made v.seen (total_of plan.program plan.threads (commands_of plan.lines)) within along.free.follow;
   leave =
       along.free.loaded.marks
-      ∙ same_marks t.program plan.program t.thread t.hold (hold_of t.thread (commands_of plan.lines)) (sleds_passed passed) along.made is.program is.hold;
+      ∙ same_marks t.program plan.program t.threads plan.threads t.thread t.hold (hold_of t.thread (commands_of plan.lines)) (sleds_passed passed) along.made
+      is.program is.threads is.hold;
   released = along.released;
   each = ends.each ∙ sym (length-map passed (λ (p : Passing). p.sled));
 }
@@ -332,8 +337,8 @@ marks_follow plan t v passed end last loads is along within ends = record {
 pub fresh_along : (plan : Plan) (t : Traced) (v : WorkView) (is : IsFreshIn plan t v) → IsAlong plan t v is.fresh.passed
 fresh_along plan t v is =
     let Script : List Command = commands_of plan.lines in
-    let Has : ℕ → List Load → Type 0 = λ seen loads. HasFollowed plan.program Script t is.fresh.passed seen loads in
-    let first : Has (start_of plan.program Script) [] = record { loaded = is.fresh.loaded; follow = none } in
+    let Has : ℕ → List Load → Type 0 = λ seen loads. HasFollowed plan.program plan.threads Script t is.fresh.passed seen loads in
+    let first : Has (start_of plan.program plan.threads Script) [] = record { loaded = is.fresh.loaded; follow = none } in
     let here : Has v.seen [] = subst (λ (n : ℕ). Has n []) (sym is.seen) first in
     record {
       all = subst (λ (ls : List SeatLoad). Has v.seen (given ls)) (sym is.loads) here;
@@ -342,7 +347,7 @@ fresh_along plan t v is =
       released = All-nil _;
     }
 
-start_is : (plan : Plan) → start_in plan ≡ start_of plan.program (commands_of plan.lines)
+start_is : (plan : Plan) → start_in plan ≡ start_of plan.program plan.threads (commands_of plan.lines)
 unfolding start_in
 start_is plan = refl
 
@@ -360,19 +365,20 @@ fresh_in plan t p v script fresh next view = record {
 -- a new thread has no load yet
 pub new_thread : (plan : Plan) (program : Program) (threads : ℕ) (hold : Option ℕ) (limits : Limits) (number : ℕ) (made : Result Traced NoMemory)
     → plan.program ≡ program → plan.threads ≡ threads → hold ≡ hold_of number (commands_of plan.lines)
-    → (bytes : List ℕ) × IsAccepted bytes program → 0 < number
+    → (bytes : List ℕ) × IsAccepted bytes program → 0 < number → number ≤ threads
     → IfOk made (IsThreadOf program number threads hold limits)
     → IfOk made IsFresh
     → IfOk made (λ cpu. (passed : List Passing) (end : End) (last : State) → PlainRun program limits number passed end last → HasLoaded cpu passed [])
     → (passed : List Passing) × (end : End) × (last : State) × PlainRun program limits number passed end last
     → IfOk made (IsFreshThread plan)
-new_thread plan program threads hold limits number (Err e) image count holds accepted some thread fresh loads run = tt
-new_thread plan program threads hold limits number (Ok t) image count holds accepted some thread fresh loads (passed, end, last, run) = record {
+new_thread plan program threads hold limits number (Err e) image count holds accepted some known thread fresh loads run = tt
+new_thread plan program threads hold limits number (Ok t) image count holds accepted some known thread fresh loads (passed, end, last, run) = record {
   thread = record {
     program = thread.program_is ∙ sym image;
     threads = thread.threads_are ∙ sym count;
     hold = thread.hold_is ∙ holds ∙ ap (λ (n : ℕ). hold_of n (commands_of plan.lines)) (sym thread.thread_is);
     first = subst (λ (n : ℕ). 0 < n) (sym thread.thread_is) some;
+    last = omega (arith, thread.thread_is, thread.threads_are, known);
     accepted = (accepted.0, subst (IsAccepted accepted.0) (sym image) accepted.1);
   };
   no_marks = fresh.no_marks;

@@ -47,9 +47,9 @@ use Rattle.thread_run.proofs.Pooled.{AreHands, HandIs, KeepsLast, hand_is, hands
 -- a worker with its run. `used` is what the pool has of all sealed buffers, and `buffers` are those and the hands.
 pub record IsRunOfWorker (plan : Plan) (setup : Setup) (used buffers : List Filled) (number : ℕ) (worker : Worker Recording) (run : ThreadRun) : Type 0 where
   pub plain : PlainRun plan.program setup.limits number run.passed run.end run.last
-  pub follow : MarksFollowScript plan.program (commands_of plan.lines) number (sleds_passed run.passed) run.marks
+  pub follow : MarksFollowScript plan.program plan.threads (commands_of plan.lines) number (sleds_passed run.passed) run.marks
   pub thread : IsThreadOf plan.program number plan.threads (hold_of number (commands_of plan.lines)) setup.limits (cpu_of worker)
-  pub along : HasRunAlong plan.program (commands_of plan.lines) number run (cpu_of worker) (work_view (seat_of worker))
+  pub along : HasRunAlong plan.program plan.threads (commands_of plan.lines) number run (cpu_of worker) (work_view (seat_of worker))
   pub has : HasRun number run (cpu_of worker)
   pub segments : segments_begun (recorder_of worker) ≡ segment_count setup.size run
   pub lost_is : segments_begun (recorder_of worker) - count_by (λ (b : Filled). b.thread == number) buffers ≡ run.lost
@@ -97,8 +97,8 @@ run_of_worker plan pool used buffers number worker is ended pooled =
             (subst (λ (l : Limits). PlainRun t.program l number at.passed ended.end ended.last) is.limits
             (subst (λ (k : ℕ). PlainRun t.program t.limits k at.passed ended.end ended.last) is.thread ends.run));
         follow =
-            subst (λ (k : ℕ). MarksFollowScript plan.program (commands_of plan.lines) k (sleds_passed at.passed) t.marks) is.thread
-            (subst (λ (p : Plan). MarksFollowScript p.program (commands_of p.lines) t.thread (sleds_passed at.passed) t.marks) is.table ended.marks);
+            subst (λ (k : ℕ). MarksFollowScript plan.program plan.threads (commands_of plan.lines) k (sleds_passed at.passed) t.marks) is.thread
+            (subst (λ (p : Plan). MarksFollowScript p.program p.threads (commands_of p.lines) t.thread (sleds_passed at.passed) t.marks) is.table ended.marks);
         thread = record {
           program_is = at.thread.program ∙ ap (λ (p : Plan). p.program) is.table;
           thread_is = is.thread;
@@ -112,8 +112,8 @@ run_of_worker plan pool used buffers number worker is ended pooled =
           owner = at.seat ∙ is.thread;
           ended = ended.count;
           follow =
-              subst (λ (k : ℕ). LoadsFollow plan.program (commands_of plan.lines) k (sleds_passed at.passed) (given (loads_of worker)) (total_of plan.program (commands_of plan.lines))) is.thread
-              (subst (λ (p : Plan). LoadsFollow p.program (commands_of p.lines) t.thread (sleds_passed at.passed) (given (loads_of worker)) (total_of p.program (commands_of p.lines))) is.table
+              subst (λ (k : ℕ). LoadsFollow plan.program plan.threads (commands_of plan.lines) k (sleds_passed at.passed) (given (loads_of worker)) (total_of plan.program plan.threads (commands_of plan.lines))) is.thread
+              (subst (λ (p : Plan). LoadsFollow p.program p.threads (commands_of p.lines) t.thread (sleds_passed at.passed) (given (loads_of worker)) (total_of p.program p.threads (commands_of p.lines))) is.table
               (later (given (loads_of worker)) _ _ at.within at.along.all.follow));
           ends = ends;
         };
@@ -378,7 +378,8 @@ left_so hold plan pool workers left threads are count is =
       };
       follow = λ i run found.
           let next : 1 + i ≡ i + 1 = omega arith in
-          subst (λ (k : ℕ). MarksFollowScript plan.program (commands_of plan.lines) k (sleds_passed run.passed) run.marks) next (at i run found).is.follow;
+          subst (λ (n : ℕ). MarksFollowScript plan.program n (commands_of plan.lines) (i + 1) (sleds_passed run.passed) run.marks) threads
+          (subst (λ (k : ℕ). MarksFollowScript plan.program plan.threads (commands_of plan.lines) k (sleds_passed run.passed) run.marks) next (at i run found).is.follow);
       losses = losses_are plan setup is.used buffers workers runs all.1 is.absent;
       threads = λ i t there.
           let within : i < length runs = omega (arith, slice_get_within (map (λ w. cpu_of w) workers) i t there, length-map workers (λ w. cpu_of w), runs_count) in
@@ -397,10 +398,11 @@ left_so hold plan pool workers left threads are count is =
           same_seat (work_view (seat_of (at i run found).worker)) seat
           (sym (slice_get-map (λ s. work_view s) (map (λ w. seat_of w) workers) i
           ∙ ap (option_map (λ s. work_view s)) (slice_get-map (λ w. seat_of w) workers i ∙ ap (option_map (λ w. seat_of w)) (at i run found).found)) ∙ here) in
-          subst (HasRunAlong plan.program (commands_of plan.lines) (i + 1) run t) seat_is
-          (subst (λ (u : Traced). HasRunAlong plan.program (commands_of plan.lines) (i + 1) run u (work_view (seat_of (at i run found).worker))) (thread_is i run t found there)
-          (subst (λ (k : ℕ). HasRunAlong plan.program (commands_of plan.lines) k run (cpu_of (at i run found).worker) (work_view (seat_of (at i run found).worker))) next
-          (at i run found).is.along));
+          subst (λ (n : ℕ). HasRunAlong plan.program n (commands_of plan.lines) (i + 1) run t seat) threads
+          (subst (HasRunAlong plan.program plan.threads (commands_of plan.lines) (i + 1) run t) seat_is
+          (subst (λ (u : Traced). HasRunAlong plan.program plan.threads (commands_of plan.lines) (i + 1) run u (work_view (seat_of (at i run found).worker))) (thread_is i run t found there)
+          (subst (λ (k : ℕ). HasRunAlong plan.program plan.threads (commands_of plan.lines) k run (cpu_of (at i run found).worker) (work_view (seat_of (at i run found).worker))) next
+          (at i run found).is.along)));
       leaves = record {
         leaves = record {
           count = length-map workers (λ w. cpu_of w) ∙ sym runs_count;

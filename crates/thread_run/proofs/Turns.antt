@@ -1,5 +1,5 @@
 -- Loads, one after the other.
-use Rattle.std.proofs.Common.{◌≡◌, ℕ, ◌+◌, ◌<◌, List, [], ◌∷◌, ◌++◌, Bool, true, false, refl, sym, subst, ap, ◌∙◌, arith, length, append_assoc, append-nil, length-append, inl, inr}
+use Rattle.std.proofs.Common.{◌≡◌, ℕ, ◌+◌, ◌-◌, ◌*◌, ◌<◌, List, [], ◌∷◌, ◌++◌, Bool, true, false, refl, sym, subst, ap, ◌∙◌, arith, length, append_assoc, append-nil, length-append, inl, inr}
 use Rattle.std.specs.Prelude.{◌||◌, ◌⊎◌}
 use Rattle.std.specs.List.{list_any}
 use Rattle.xray_image.specs.Program.{Program}
@@ -7,11 +7,12 @@ use Rattle.sled_words.specs.Words.{release_word}
 use Rattle.fdr_record.specs.declared.event.Event.{Event}
 use Rattle.handler_word.specs.declared.mark.Mark.{Mark}
 use Rattle.machine_step.specs.declared.end.End.{End}
+use Rattle.machine_step.specs.declared.limits.Limits.{Limits}
 use Rattle.machine_step.specs.declared.want.Want.{Want}
 use Rattle.machine_step.specs.declared.want.Want.TheVariants.{Gate, Load as Loads, Done}
 use Rattle.machine_step.specs.Events.{recorded}
 use Rattle.machine_step.specs.PlainStep.{Passing}
-use Rattle.machine_step.specs.Traced.{IsLoadable, IsSameThread, MarksAdded, Traced, loads_left}
+use Rattle.machine_step.specs.Traced.{IsLoadable, IsSameThread, MarksAdded, Traced, loads_left, stage_count, steps_left}
 use Rattle.sled_rule.specs.declared.seats.WorkSeat.{WorkSeat}
 use Rattle.sled_rule.specs.declared.views.Load.{Load as SeatLoad}
 use Rattle.sled_rule.specs.Seats.{work_view}
@@ -138,12 +139,23 @@ goes_on stands follows along first mid new old_want want kept same made going wa
 
 -- ---- where a thread is
 
+-- how many loads are left, by the parts of a thread
+abbrev left_by : Program → ℕ → ℕ → Limits → List Mark → Want → ℕ
+left_by program threads thread limits marks want =
+    stage_count program threads thread * (limits.passings - length marks) + steps_left program threads thread want
+
 -- a thread that wants the same word, and has no more marks, is no nearer to its end
 pub no_nearer : (old new : Traced) (word : ℕ) → IsSameThread old new → old.want ≡ Loads word → new.want ≡ Loads word
     → MarksAdded old.marks new.marks new.want → loads_left new < loads_left old → ⊥
 no_nearer old new word same was is added less =
     let marks : new.marks ≡ old.marks = subst (MarksAdded old.marks new.marks) is added in
-    let left : loads_left new ≡ loads_left old = rw marks (rw same.program (rw same.thread (rw same.limits (rw is (rw was refl))))) in
+    let left : loads_left new ≡ loads_left old =
+    ap (λ (x : Program). left_by x new.threads new.thread new.limits new.marks new.want) same.program
+    ∙ ap (λ (x : ℕ). left_by old.program x new.thread new.limits new.marks new.want) same.threads
+    ∙ ap (λ (x : ℕ). left_by old.program old.threads x new.limits new.marks new.want) same.thread
+    ∙ ap (λ (x : Limits). left_by old.program old.threads old.thread x new.marks new.want) same.limits
+    ∙ ap (λ (x : List Mark). left_by old.program old.threads old.thread old.limits x new.want) marks
+    ∙ ap (λ (x : Want). left_by old.program old.threads old.thread old.limits old.marks x) (is ∙ sym was) in
     omega (arith, less, left)
 
 -- the count of a seat after a load, before the passing that it ended is counted

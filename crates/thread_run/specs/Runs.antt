@@ -25,12 +25,14 @@ pub record HasPatched (plan : Plan) (p : PatchView) : Type 0 where
   pub given : p.given ≡ plan.threads
   pub none_met : p.met ≡ []
 
--- A thread has run beside a script, with this seat. The seat says that the thread has ended. Its loads follow the whole
--- script. By exactly these loads the thread has ended as its plain run does, and has decoded no torn sled.
-pub record HasRunAlong (program : Program) (script : List Command) (number : ℕ) (run : ThreadRun) (t : Traced) (seat : WorkView) : Type 0 where
+-- A thread, of this many, has run beside a script, with this seat. The seat says that the thread has ended. Its loads
+-- follow the whole script. By exactly these loads the thread has ended as its plain run does, and has decoded no torn
+-- sled.
+pub record HasRunAlong (program : Program) (threads : ℕ) (script : List Command) (number : ℕ) (run : ThreadRun) (t : Traced) (seat : WorkView)
+    : Type 0 where
   pub owner : seat.thread ≡ number
   pub ended : seat.count ≡ ended_count
-  pub follow : LoadsFollow program script number (sleds_passed run.passed) (given seat.loads) (total_of program script)
+  pub follow : LoadsFollow program threads script number (sleds_passed run.passed) (given seat.loads) (total_of program threads script)
   pub ends : EndsAsPlain t run.passed run.end run.last (given seat.loads)
 
 -- The threads of a setup have run beside a script, and these are what their runs leave: the threads, and the seat of
@@ -41,10 +43,10 @@ pub record HaveRunBeside (program : Program) (script : List Command) (setup : Se
     (segments first : List ℕ) (buffers : List Filled) : Type 0 where
   pub runs : List ThreadRun
   pub run : IsRun program setup runs
-  pub follow : AllMarksFollow program script runs
+  pub follow : AllMarksFollow program setup.threads script runs
   pub losses : AreLost setup.size (spare_of setup) runs
   pub threads : AreThreadsOf program script setup cpus
   pub each : length seats ≡ length cpus
   pub along : (i : ℕ) (run : ThreadRun) (t : Traced) (seat : WorkView) → slice_get runs i ≡ Some run → slice_get cpus i ≡ Some t
-      → slice_get seats i ≡ Some seat → HasRunAlong program script (i + 1) run t seat
+      → slice_get seats i ≡ Some seat → HasRunAlong program setup.threads script (i + 1) run t seat
   pub leaves : LeavesInAnyOrder setup runs cpus segments first buffers

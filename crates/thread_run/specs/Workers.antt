@@ -40,12 +40,14 @@ recorder_of worker = worker.recorder
 abbrev pub loads_of : {R : Type 0} → Worker R → List SeatLoad
 loads_of worker = (work_view (seat_of worker)).loads
 
--- the thread runs the script's program as one of its threads, and the script holds it where its commands say
+-- the thread runs the script's program as one of its threads, which are numbered from 1 on, and the script holds it
+-- where its commands say
 pub record IsThreadIn (plan : Plan) (t : Traced) : Type 0 where
   pub program : t.program ≡ plan.program
   pub threads : t.threads ≡ plan.threads
   pub hold : t.hold ≡ hold_of t.thread (commands_of plan.lines)
   pub first : 0 < t.thread
+  pub last : t.thread ≤ t.threads
   pub accepted : (bytes : List ℕ) × IsAccepted bytes plan.program
 
 -- a thread before its first load
@@ -59,16 +61,16 @@ pub record IsFreshThread (plan : Plan) (t : Traced) : Type 0 where
 pub record IsFreshIn (plan : Plan) (t : Traced) (v : WorkView) : Type 0 where
   pub fresh : IsFreshThread plan t
   pub own : v.thread ≡ t.thread
-  pub seen : v.seen ≡ start_of plan.program (commands_of plan.lines)
+  pub seen : v.seen ≡ start_of plan.program plan.threads (commands_of plan.lines)
   pub count : v.count ≡ 0
   pub loads : v.loads ≡ []
 
 -- The loads of the seat are those that the thread was given. They follow the script up to what the seat has seen, and
 -- determine the thread's marks. There are also loads that do both and never found the thread held.
 pub record IsAlong (plan : Plan) (t : Traced) (v : WorkView) (passed : List Passing) : Type 0 where
-  pub all : HasFollowed plan.program (commands_of plan.lines) t passed v.seen (given v.loads)
+  pub all : HasFollowed plan.program plan.threads (commands_of plan.lines) t passed v.seen (given v.loads)
   pub made : List Load
-  pub free : HasFollowed plan.program (commands_of plan.lines) t passed v.seen made
+  pub free : HasFollowed plan.program plan.threads (commands_of plan.lines) t passed v.seen made
   pub released : All (λ load. load.word ≡ release_word plan.program t.thread → load.value ≢ 0) made
 
 -- A worker between two loads. Its thread was given exactly the loads of its seat, which follow the table's script. Its
@@ -77,7 +79,8 @@ pub record IsAtWork {R : Type 0} (stands : R → List Event → Type 0) (worker 
   pub own : IsWorkerOf (table_of worker) (seat_of worker)
   pub thread : IsThreadIn (script_of (table_of worker)) (cpu_of worker)
   pub seat : (work_view (seat_of worker)).thread ≡ (cpu_of worker).thread
-  pub within : (work_view (seat_of worker)).seen ≤ total_of (script_of (table_of worker)).program (commands_of (script_of (table_of worker)).lines)
+  pub within : (work_view (seat_of worker)).seen
+      ≤ total_of (script_of (table_of worker)).program (script_of (table_of worker)).threads (commands_of (script_of (table_of worker)).lines)
   pub passed : List Passing
   pub along : IsAlong (script_of (table_of worker)) (cpu_of worker) (work_view (seat_of worker)) passed
   pub recorded_are : stands (recorder_of worker) (recorded passed (cpu_of worker).marks)
@@ -95,7 +98,8 @@ pub record HasEnded {R : Type 0} (stands : R → List Event → Type 0) (worker 
   pub end : End
   pub last : State
   pub plain : EndsAsPlain (cpu_of worker) at.passed end last (given (loads_of worker))
-  pub marks : MarksFollowScript (script_of (table_of worker)).program (commands_of (script_of (table_of worker)).lines)
+  pub marks : MarksFollowScript (script_of (table_of worker)).program (script_of (table_of worker)).threads
+      (commands_of (script_of (table_of worker)).lines)
       (cpu_of worker).thread (sleds_passed at.passed) (cpu_of worker).marks
 
 -- the same thread of the same table, with the same recorder

@@ -1,6 +1,7 @@
 //! How a thread begins its next segment.
 
 ghost use Rattle.std.specs.Prelude.{◌≡◌, ◌≢◌, ◌<◌, ◌-◌, ◌^◌, [], ◌∷◌, length, true};
+ghost use Rattle.fdr_record.specs.Recordable.{IsRecordable};
 ghost use Rattle.buffer_queue.specs.Passes.{IsOf};
 ghost use Rattle.traced_run.specs.Kept.{buffer_of, stamp_of};
 ghost use Rattle.thread_run.specs.private.Segments.{sealed_with, IsPreambleOf, IsNextOf};
@@ -51,7 +52,7 @@ pub(crate) fn next_segment<T: Wait>(
     requires preamble { IsPreambleOf pass.old preamble.now }
     requires size { hand.size ≡ pool.now.setup.size }
     requires next { hand.begun ≡ true → IsNextOf pass.old hand }
-    requires id { event.now.func < 2 ^ 28 }
+    requires recordable { IsRecordable event.now }
     ensures pass { pass.new ≡ sealed_with pass.old hand }
     ensures next { result
         ≡ buffer_of (stamp_of pass.old.setup) pass.old.thread (length pass.new.sealed, event.now ∷ []) }

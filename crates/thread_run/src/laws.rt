@@ -9,8 +9,8 @@ use patch_script::Script;
 
 /// Threads start within the script.
 pub(crate) fn threads_start_within(script: &Script)
-    ensures { start_of script.now.program (commands_of script.now.lines)
-        ≤ total_of script.now.program (commands_of script.now.lines) }
+    ensures { start_of script.now.program script.now.threads (commands_of script.now.lines)
+        ≤ total_of script.now.program script.now.threads (commands_of script.now.lines) }
 {
     script.start();
 }

@@ -2,6 +2,7 @@
 
 ghost use Rattle.std.specs.Prelude.{◌≡◌, ◌≤◌, ◌<◌, ◌-◌, ◌^◌, [], ◌∷◌, ◌++◌, List, IsTrue, length, true, false};
 ghost use Rattle.fdr_record.specs.declared.event.Event.{Event};
+ghost use Rattle.fdr_record.specs.Recordable.{IsRecordable};
 ghost use Rattle.fdr_buffer.specs.Segments.{has_room};
 ghost use Rattle.buffer_queue.specs.Passes.{new_hand, IsOf};
 
@@ -105,7 +106,7 @@ impl<'p, T> FdrRecorder<'p, T> {
     fn put(&mut self, event: &Event)
         requires begun { IsTrue self.old.hand.begun }
         requires room { IsTrue (has_room self.old.hand.size (self.old.hand.events ++ event.now ∷ [])) }
-        requires id { event.now.func < 2 ^ 28 }
+        requires recordable { IsRecordable event.now }
         ensures { self.new
             ≡ record self.old { hand = record self.old.hand { events = self.old.hand.events ++ event.now ∷ [] } } }
     {
@@ -140,7 +141,7 @@ impl<'p, T: Wait> FdrRecorder<'p, T> {
 
     /// Begins a segment with an event. The hand has no room for the event, or there is no segment yet.
     fn turn(&mut self, event: &Event)
-        requires id { event.now.func < 2 ^ 28 }
+        requires recordable { IsRecordable event.now }
         requires room { (events : List Event) × StandsFor self.old events × (length events < 2 ^ 32 - 1) }
         requires anew { (events : List Event) → StandsFor self.old events → CutsAnew self.old events event.now }
         ensures { StandsForMore self.old self.new event.now }

@@ -2,6 +2,7 @@
 
 ghost use Rattle.std.specs.Prelude.{◌≡◌, ◌<◌, ◌↔◌, ◌+◌, ◌-◌, ◌^◌, ℕ, [], List, Some, length, true, false, IfSome, IsSome, IsTrue};
 ghost use Rattle.fdr_record.specs.declared.event.Event.{Event};
+ghost use Rattle.fdr_record.specs.Recordable.{IsRecordable};
 ghost use Rattle.sled_rule.specs.Seats.{patch_view, work_view, script_of, IsPatcherOf, IsWorkerOf};
 ghost use Rattle.sled_rule.specs.{Plans.{start_in}, Views.{giving}};
 ghost use Rattle.machine_step.specs.declared.want.Want.{Want};
@@ -136,7 +137,7 @@ impl<'s, 't, R: Recorder> Worker<'s, 't, R> {
         ensures same { IsSameWorker R.follows self.old self.new }
         ensures taken { HasTaken word self.old self.new }
         ensures lacks { Lacks R.stands result self.new }
-        ensures id { IfSome result (λ event. event.func < 2 ^ 28) }
+        ensures recordable { IfSome result (λ event. IsRecordable event) }
         ensures room { IfSome result (λ event. (events : List Event)
             × R.stands (recorder_of self.new) events × (length events < 2 ^ 32 - 1)) }
         ensures ends { IsSome result → (next : ℕ) → (cpu_of self.new).want ≡ Want.Load next → ⊥ }
@@ -151,7 +152,7 @@ impl<'s, 't, R: Recorder> Worker<'s, 't, R> {
     fn note(&mut self, event: Event) -> Want
         requires lacks { Lacks R.stands (Some event) self.old }
         requires following { CountIsBehind self.old }
-        requires id { event.func < 2 ^ 28 }
+        requires recordable { IsRecordable event }
         requires room { (events : List Event)
             × R.stands (recorder_of self.old) events × (length events < 2 ^ 32 - 1) }
         ensures same { IsSameWorker R.follows self.old self.new }

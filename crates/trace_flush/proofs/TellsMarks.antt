@@ -5,13 +5,13 @@ use Rattle.std.specs.List.{join_with_byte}
 use Rattle.std.proofs.lemmas.Bool.{eqb-true}
 use Rattle.std.proofs.lemmas.Fmt.{decimal_injective}
 use Rattle.handler_word.specs.declared.mark.Mark.{Mark}
-use Rattle.handler_word.specs.declared.mark.Mark.TheVariants.{Skipped, NoHandler, NotLogging, Recorded}
+use Rattle.handler_word.specs.declared.mark.Mark.TheVariants.{Skipped, NoHandler, NotLogging, Recorded, RecordedArg}
 use Rattle.handler_word.specs.Runs.{mark_byte, onto_runs, runs_of, run_text, runs_text}
 use Rattle.trace_flush.proofs.Digits.{number_split}
 
 -- the mark of a character
 mark_named : ℕ → Mark
-mark_named byte = cond (byte == 46) Skipped (cond (byte == 110) NoHandler (cond (byte == 102) NotLogging Recorded))
+mark_named byte = cond (byte == 46) Skipped (cond (byte == 110) NoHandler (cond (byte == 102) NotLogging (cond (byte == 43) Recorded RecordedArg)))
 
 mark_named-mark_byte : (mark : Mark) → mark_named (mark_byte mark) ≡ mark
 unfolding mark_named
@@ -19,6 +19,7 @@ mark_named-mark_byte Skipped = refl
 mark_named-mark_byte NoHandler = refl
 mark_named-mark_byte NotLogging = refl
 mark_named-mark_byte Recorded = refl
+mark_named-mark_byte RecordedArg = refl
 
 printed_alike : (mark other : Mark) → mark_byte mark ≡ mark_byte other → mark ≡ other
 printed_alike mark other alike = sym (mark_named-mark_byte mark) ∙ (ap mark_named alike ∙ mark_named-mark_byte other)
@@ -29,6 +30,7 @@ mark_is_no_dash Skipped same = omega arith
 mark_is_no_dash NoHandler same = omega arith
 mark_is_no_dash NotLogging same = omega arith
 mark_is_no_dash Recorded same = omega arith
+mark_is_no_dash RecordedArg same = omega arith
 
 -- and none is printed as the end of a line
 mark_is_no_end : (mark : Mark) → mark_byte mark ≡ 10 → ⊥
@@ -36,6 +38,7 @@ mark_is_no_end Skipped same = omega arith
 mark_is_no_end NoHandler same = omega arith
 mark_is_no_end NotLogging same = omega arith
 mark_is_no_end Recorded same = omega arith
+mark_is_no_end RecordedArg same = omega arith
 
 -- ---- the runs determine the marks
 

@@ -17,7 +17,7 @@ use Rattle.xray_image.specs.Units.{Align, Instruction, IsPiece, JumpSled, Piece,
 use Rattle.xray_image.proofs.Acceptance.{sleds_are, sleds_stand}
 
 -- an item of a list has a place
-at_place : {X : Type 0} (xs : List X) (x : X) → Contains xs x → (i : ℕ) × (slice_get xs i ≡ Some x)
+pub at_place : {X : Type 0} (xs : List X) (x : X) → Contains xs x → (i : ℕ) × (slice_get xs i ≡ Some x)
 at_place [] x (i, below, is) = absurd (omega arith)
 at_place (first ∷ xs) x (zero, below, is) = (zero, ap Some is)
 at_place (first ∷ xs) x (suc i, below, is) = let later = at_place xs x (i, omega arith, is) in (suc later.0, later.1)

@@ -11,7 +11,7 @@ abbrev sled : Sled
 sled = record { address = 0x1000; function = 0x1000; id = 1; kind = Entry; always = true; shift = 0x200 }
 
 abbrev trampolines : Trampolines
-trampolines = record { entry = 0x201000; exit = 0x201010; tail = 0x201020 }
+trampolines = record { entry = 0x201000; exit = 0x201010; tail = 0x201020; args = 0x201030 }
 
 -- jmp +9, over the rest of the sled
 unpatched : (limits : Limits) (s : State) → SledStep trampolines limits sled s (0xEB ∷ 0x09 ∷ []) (Goes (past 11 s))

@@ -9,7 +9,7 @@ use Rattle.subset_decode.specs.declared.instr.Instr.TheVariants.{Mov, Call, Jmp}
 use Rattle.subset_decode.specs.Encoding.{IsEncodable, spelling}
 use Rattle.xray_image.specs.declared.sled.Sled.{Sled}
 use Rattle.xray_image.specs.declared.sled.SledKind.{SledKind}
-use Rattle.xray_image.specs.declared.sled.SledKind.TheVariants.{Entry, Exit, Tail}
+use Rattle.xray_image.specs.declared.sled.SledKind.TheVariants.{Entry, Exit, Tail, Args}
 use Rattle.xray_image.specs.declared.unit.Unit.{Unit}
 use Rattle.xray_image.specs.declared.unit.What.{What}
 use Rattle.xray_image.specs.declared.unit.What.TheVariants as whats
@@ -62,6 +62,12 @@ module _ (bytes : List ℕ) (program : Program) (a : IsAccepted bytes program) (
     step = jumps (ap (loaded_bytes Head) is ∙ jump_bytes);
   }
   unpatched_passes Tail r s head loaded is = record {
+    r10 = r;
+    bytes = loaded_bytes Head head;
+    fetched = head_alone head loaded;
+    step = jumps (ap (loaded_bytes Head) is ∙ jump_bytes);
+  }
+  unpatched_passes Args r s head loaded is = record {
     r10 = r;
     bytes = loaded_bytes Head head;
     fetched = head_alone head loaded;
@@ -121,6 +127,12 @@ module _ (bytes : List ℕ) (program : Program) (a : IsAccepted bytes program) (
       step = called (ap patched_opcode is);
     }
     patched_passes Tail is found = record {
+      r10 = sled.id;
+      bytes = patched_bytes (patched_opcode sled.kind);
+      fetched = all_fetched found;
+      step = called (ap patched_opcode is);
+    }
+    patched_passes Args is found = record {
       r10 = sled.id;
       bytes = patched_bytes (patched_opcode sled.kind);
       fetched = all_fetched found;
@@ -295,47 +307,47 @@ module _ (bytes : List ℕ) (program : Program) (a : IsAccepted bytes program) (
 -- ---- a whole run
 
 -- each passing that has its mark has loads of its own
-none_cut : (program : Program) (thread : ℕ) (hold : Option ℕ) (number k : ℕ) (sleds : List ℕ) (loads : List Load) (word : ℕ)
-    → from_start program thread (is_held_at hold number) k loads ≡ Wants word
-    → length (loads_by_passing program thread hold number (k ∷ sleds) loads) ≡ length (marks_from program thread hold number (k ∷ sleds) loads)
-none_cut program thread hold number k sleds loads word e = rw e refl
+none_cut : (program : Program) (threads thread : ℕ) (hold : Option ℕ) (number k : ℕ) (sleds : List ℕ) (loads : List Load) (word : ℕ) (recording : Mark)
+    → from_start program threads thread (is_held_at hold number) k loads ≡ Wants word recording
+    → length (loads_by_passing program threads thread hold number (k ∷ sleds) loads) ≡ length (marks_from program threads thread hold number (k ∷ sleds) loads)
+none_cut program threads thread hold number k sleds loads word recording e = rw e refl
 
-one_cut : (program : Program) (thread : ℕ) (hold : Option ℕ) (number k : ℕ) (sleds : List ℕ) (loads : List Load) (mark : Mark) (more : List Load)
-    → from_start program thread (is_held_at hold number) k loads ≡ Marked mark more
-    → length (loads_by_passing program thread hold (number + 1) sleds more) ≡ length (marks_from program thread hold (number + 1) sleds more)
-    → length (loads_by_passing program thread hold number (k ∷ sleds) loads) ≡ length (marks_from program thread hold number (k ∷ sleds) loads)
-one_cut program thread hold number k sleds loads mark more e later = rw e (ap suc later)
+one_cut : (program : Program) (threads thread : ℕ) (hold : Option ℕ) (number k : ℕ) (sleds : List ℕ) (loads : List Load) (mark : Mark) (more : List Load)
+    → from_start program threads thread (is_held_at hold number) k loads ≡ Marked mark more
+    → length (loads_by_passing program threads thread hold (number + 1) sleds more) ≡ length (marks_from program threads thread hold (number + 1) sleds more)
+    → length (loads_by_passing program threads thread hold number (k ∷ sleds) loads) ≡ length (marks_from program threads thread hold number (k ∷ sleds) loads)
+one_cut program threads thread hold number k sleds loads mark more e later = rw e (ap suc later)
 
-as_many : (program : Program) (thread : ℕ) (hold : Option ℕ) (number : ℕ) (sleds : List ℕ) (loads : List Load)
-    → length (loads_by_passing program thread hold number sleds loads) ≡ length (marks_from program thread hold number sleds loads)
-as_many program thread hold number [] loads = refl
-as_many program thread hold number (k ∷ sleds) loads =
-    by_reading (λ more. as_many program thread hold (number + 1) sleds more) (from_start program thread (is_held_at hold number) k loads) refl
+as_many : (program : Program) (threads thread : ℕ) (hold : Option ℕ) (number : ℕ) (sleds : List ℕ) (loads : List Load)
+    → length (loads_by_passing program threads thread hold number sleds loads) ≡ length (marks_from program threads thread hold number sleds loads)
+as_many program threads thread hold number [] loads = refl
+as_many program threads thread hold number (k ∷ sleds) loads =
+    by_reading (λ more. as_many program threads thread hold (number + 1) sleds more) (from_start program threads thread (is_held_at hold number) k loads) refl
   where
-    by_reading : ((more : List Load) → length (loads_by_passing program thread hold (number + 1) sleds more) ≡ length (marks_from program thread hold (number + 1) sleds more))
-        → (r : Reading) → from_start program thread (is_held_at hold number) k loads ≡ r
-        → length (loads_by_passing program thread hold number (k ∷ sleds) loads) ≡ length (marks_from program thread hold number (k ∷ sleds) loads)
-    by_reading later (Wants word) e = none_cut program thread hold number k sleds loads word e
-    by_reading later (Marked mark more) e = one_cut program thread hold number k sleds loads mark more e (later more)
+    by_reading : ((more : List Load) → length (loads_by_passing program threads thread hold (number + 1) sleds more) ≡ length (marks_from program threads thread hold (number + 1) sleds more))
+        → (r : Reading) → from_start program threads thread (is_held_at hold number) k loads ≡ r
+        → length (loads_by_passing program threads thread hold number (k ∷ sleds) loads) ≡ length (marks_from program threads thread hold number (k ∷ sleds) loads)
+    by_reading later (Wants word recording) e = none_cut program threads thread hold number k sleds loads word recording e
+    by_reading later (Marked mark more) e = one_cut program threads thread hold number k sleds loads mark more e (later more)
 
 -- wanted loads have one value for each part in each passing
 abbrev pub WantedHaveOne : Type 0
-WantedHaveOne = (program : Program) (thread : ℕ) (hold : Option ℕ) (sleds : List ℕ) (loads : List Load)
-    → AreWanted program thread hold sleds loads → HaveOneValueEach program thread hold sleds loads
+WantedHaveOne = (program : Program) (threads thread : ℕ) (hold : Option ℕ) (sleds : List ℕ) (loads : List Load)
+    → AreWanted program threads thread hold sleds loads → HaveOneValueEach program threads thread hold sleds loads
 
-pub whole_executes : WantedHaveOne → (bytes : List ℕ) (program : Program) (limits : Limits) (number : ℕ) (hold : Option ℕ) (run : ThreadRun) (loads : List Load)
-    → IsAccepted bytes program → PlainRun program limits number run.passed run.end run.last → DecodesWhole program number hold run loads
-    → Executes program limits number hold run loads
-whole_executes ones bytes program limits number hold run loads a (n, plain) decodes =
-    let cuts = loads_by_passing program number hold 0 (sleds_passed run.passed) loads in
+pub whole_executes : WantedHaveOne → (bytes : List ℕ) (program : Program) (limits : Limits) (threads number : ℕ) (hold : Option ℕ) (run : ThreadRun) (loads : List Load)
+    → IsAccepted bytes program → PlainRun program limits number run.passed run.end run.last → DecodesWhole program threads number hold run loads
+    → Executes program limits threads number hold run loads
+whole_executes ones bytes program limits threads number hold run loads a (n, plain) decodes =
+    let cuts = loads_by_passing program threads number hold 0 (sleds_passed run.passed) loads in
     let long : length cuts ≡ length run.passed =
-    as_many program number hold 0 (sleds_passed run.passed) loads ∙ (sym (ap length decodes.marks) ∙ decodes.each) in
+    as_many program threads number hold 0 (sleds_passed run.passed) loads ∙ (sym (ap length decodes.marks) ∙ decodes.each) in
     let owns : HasOwn program cuts 0 run.passed = λ m p at.
     let within = slice_get_within run.passed m p at in
     let own : slice_get cuts m ≡ Some (get_or cuts m []) = slice_get-get_or cuts m [] (omega (arith, long, within)) in
     let sled_at : slice_get (sleds_passed run.passed) m ≡ Some p.sled =
     slice_get-map (λ (p : Passing). p.sled) run.passed m ∙ ap (option_map (λ (p : Passing). p.sled)) at in
-    let one = ones program number hold (sleds_passed run.passed) loads decodes.wanted m p.sled (get_or cuts m []) sled_at in (
+    let one = ones program threads number hold (sleds_passed run.passed) loads decodes.wanted m p.sled (get_or cuts m []) sled_at in (
       get_or cuts m [],
       ap (slice_get cuts) (zero-add m) ∙ own,
       λ sled found. (

@@ -1,18 +1,20 @@
 -- What a run leaves in its buffers fits them.
 use Rattle.std.proofs.Common.{◌≡◌, ℕ, zero, suc, ◌+◌, ◌<◌, ◌≤◌, ◌^◌, List, [], ◌∷◌, ◌++◌, Some, refl, sym, subst, arith, length, drop}
-use Rattle.std.specs.Prelude.{All, IsTrue, slice_get}
+use Rattle.std.specs.Prelude.{All, IfSome, IsTrue, slice_get}
 use Rattle.std.specs.List.{AllByRecursion, enumerate_from, flat_map}
 use Rattle.std.proofs.lemmas.List.Concat.{flat_map-cons}
 use Rattle.std.proofs.lemmas.List.Elements.{All-append, All-drop, All-from_recursion, All-map, All-nil, recursion_from_All}
+use Rattle.std.proofs.lemmas.Option.{slice_get_within}
 use Rattle.xray_io.specs.declared.wall.Wall.{Wall}
 use Rattle.xray_image.specs.Program.{IsAccepted, Program}
 use Rattle.handler_word.specs.declared.mark.Mark.{Mark}
+use Rattle.handler_word.specs.declared.mark.Mark.TheVariants as marks
 use Rattle.fdr_record.specs.declared.event.Event.{Event}
 use Rattle.fdr_buffer.specs.declared.buffer.TheConstants.{LEAST_SIZE}
 use Rattle.fdr_buffer.specs.Fits.{BufferFits}
 use Rattle.fdr_buffer.specs.Segments.{EventFits, body, has_room, segments}
 use Rattle.machine_step.specs.declared.setup.Setup.{Setup}
-use Rattle.machine_step.specs.Events.{recorded}
+use Rattle.machine_step.specs.Events.{event_of, recorded}
 use Rattle.machine_step.specs.PlainStep.{Passing}
 use Rattle.machine_step.specs.Setups.{IsSetup}
 use Rattle.traced_run.specs.Fits.{PassingFits}
@@ -20,12 +22,20 @@ use Rattle.traced_run.specs.Kept.{buffer_of, kept_buffers, segments_of, stamp_of
 use Rattle.traced_run.specs.Runs.{IsRun, ThreadRun, events_of}
 use Rattle.traced_run.proofs.FitPassings.{run_fits}
 use Rattle.traced_run.proofs.Oldest.{HoldAll}
-use Rattle.traced_run.proofs.RecordedEvents.{recorded_each}
+use Rattle.traced_run.proofs.RecordedEvents.{no_argument, recorded_each}
 
 -- ---- events
 
+event_fits : (p : Passing) (mark : Mark) → PassingFits p → IfSome (event_of p mark) EventFits
+event_fits p marks.Skipped fits = tt
+event_fits p marks.NoHandler fits = tt
+event_fits p marks.NotLogging fits = tt
+event_fits p marks.Recorded fits =
+    record { cpu = fits.cpu; func = fits.id; tsc = fits.counter; arg = omega arith; logged = no_argument p.kind }
+event_fits p marks.RecordedArg fits = record { cpu = fits.cpu; func = fits.id; tsc = fits.counter; arg = fits.argument; logged = tt }
+
 events_fit : (passed : List Passing) (marks : List Mark) → All PassingFits passed → All EventFits (recorded passed marks)
-events_fit = recorded_each PassingFits EventFits (λ p fits. record { cpu = fits.cpu; func = fits.id; tsc = fits.counter })
+events_fit = recorded_each PassingFits EventFits event_fits
 
 -- ---- segments
 
@@ -103,4 +113,7 @@ pub run_buffers_fit : HoldAll → HaveRoom → BodiesHaveRoom → (bytes : List 
     → IsAccepted bytes program → IsSetup setup → IsRun program setup runs → All BufferFits (kept_buffers setup runs)
 run_buffers_fit hold room bodies bytes program setup runs accepted fits is =
     all_fit hold room bodies setup 1 runs fits (omega (arith, is.count, fits.few_threads))
-    (λ i run found. run_fits bytes program setup.limits (i + 1) run.passed run.end run.last accepted fits.limits_are (is.plain i run found))
+    (λ i run found.
+    let within = slice_get_within runs i run found in
+    run_fits bytes program setup.limits (i + 1) run.passed run.end run.last accepted fits.limits_are
+    (omega (arith, within, is.count, fits.few_threads)) (is.plain i run found))

@@ -9,6 +9,7 @@ use Rattle.machine_step.specs.PlainStep.{Passing, PlainRun, State}
 use Rattle.machine_step.specs.Setups.{AreLimits}
 use Rattle.machine_step.proofs.EachPassing.{OfEach, steps_each}
 use Rattle.traced_run.specs.Fits.{PassingFits}
+use Rattle.traced_run.proofs.SmallArguments.{run_arguments}
 use Rattle.traced_run.proofs.SmallIds.{small_id}
 
 -- ---- ids and stamps
@@ -18,12 +19,22 @@ pub run_ids : (bytes : List ℕ) (program : Program) (limits : Limits) (thread :
 run_ids bytes program limits thread passed end last accepted (n, run) =
     steps_each (λ p. p.id < 2 ^ 28) program limits thread n _ passed end last (λ s k sled found. small_id bytes program k sled accepted found) run
 
+-- all of a passing that any state before it lets fit
+record StampFits (p : Passing) : Type 0 where
+  cpu : p.cpu < 2 ^ 16
+  id : p.id < 2 ^ 28
+  counter : p.counter < 2 ^ 64
+
 pub run_fits : (bytes : List ℕ) (program : Program) (limits : Limits) (thread : ℕ) (passed : List Passing) (end : End) (last : State)
-    → IsAccepted bytes program → AreLimits limits → PlainRun program limits thread passed end last → All PassingFits passed
-run_fits bytes program limits thread passed end last accepted its (n, run) =
-    steps_each PassingFits program limits thread n _ passed end last each run
+    → IsAccepted bytes program → AreLimits limits → thread < 2 ^ 64 → PlainRun program limits thread passed end last → All PassingFits passed
+run_fits bytes program limits thread passed end last accepted its few (n, run) =
+    let stamps = steps_each StampFits program limits thread n _ passed end last each run in
+    let arguments = run_arguments bytes program accepted limits thread passed end last few (n, run) in
+    λ k d below.
+    let stamp = stamps k d below in
+    record { cpu = stamp.cpu; id = stamp.id; counter = stamp.counter; argument = arguments k d below }
   where
-    each : OfEach PassingFits program limits thread
+    each : OfEach StampFits program limits thread
     each s k sled found = record {
       cpu =
           let below = mod_below (thread + s.passings / limits.migrate) limits.cpus its.some_cpu in

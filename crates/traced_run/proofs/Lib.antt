@@ -1,6 +1,7 @@
 pub mod Oldest
 pub mod KeptEvents
 pub mod SmallIds
+pub mod SmallArguments
 pub mod FitPassings
 pub mod RecordedEvents
 pub mod FitBuffers

@@ -108,8 +108,8 @@ pub record EndsIn (program : Program) (limits : Limits) (loads : List (List Load
 -- With these loads the thread executes the code from the entry function on, and comes to the end of the run, whatever its
 -- steps are. Its last state is that of the run but for r10: the other registers, the zero flag, the stack, the output and
 -- the counts.
-pub record Executes (program : Program) (limits : Limits) (number : ℕ) (hold : Option ℕ) (run : ThreadRun) (loads : List Load) : Type 0 where
+pub record Executes (program : Program) (limits : Limits) (threads number : ℕ) (hold : Option ℕ) (run : ThreadRun) (loads : List Load) : Type 0 where
   pub steps : ℕ
   pub r10 : ℕ
-  pub ends : EndsIn program limits (loads_by_passing program number hold 0 (sleds_passed run.passed) loads) steps
+  pub ends : EndsIn program limits (loads_by_passing program threads number hold 0 (sleds_passed run.passed) loads) steps
       (opening program number) run.end (with_r10 r10 run.last)

@@ -12,26 +12,27 @@ use Rattle.machine_step.specs.PlainStep.{Passing}
 use Rattle.machine_step.specs.Traced.{HasLoaded, Traced, sleds_passed}
 use Rattle.traced_run.specs.Runs.{EachThread, ThreadRun}
 
--- The loads that a thread which passes these sleds can have made when a script is at a place. Each is of a word that it
--- wanted, with the word's value at a place. That place isn't before those of its earlier loads, and isn't after the
--- first await of its passing.
-abbrev pub LoadsFollow : Program → List Command → ℕ → List ℕ → List Load → ℕ → Type 0
-LoadsFollow program script thread sleds loads place =
-    Follows program (code_at program script) (start_of program script) (bound_of program script thread) thread (hold_of thread script)
-    sleds loads place
+-- The loads that a thread, of this many, which passes these sleds can have made when a script is at a place. Each is of
+-- a word that it wanted, with the word's value at a place. That place isn't before those of its earlier loads, and isn't
+-- after the first await of its passing.
+abbrev pub LoadsFollow : Program → ℕ → List Command → ℕ → List ℕ → List Load → ℕ → Type 0
+LoadsFollow program threads script thread sleds loads place =
+    Follows program threads (code_at program threads script) (start_of program threads script) (bound_of program threads script thread)
+    thread (hold_of thread script) sleds loads place
 
 -- the marks of such a thread follow the whole script
-abbrev pub MarksFollowScript : Program → List Command → ℕ → List ℕ → List Mark → Type 0
-MarksFollowScript program script thread sleds marks =
-    MarksFollow program (code_at program script) (start_of program script) (bound_of program script thread) thread (hold_of thread script)
-    sleds marks (total_of program script)
+abbrev pub MarksFollowScript : Program → ℕ → List Command → ℕ → List ℕ → List Mark → Type 0
+MarksFollowScript program threads script thread sleds marks =
+    MarksFollow program threads (code_at program threads script) (start_of program threads script) (bound_of program threads script thread)
+    thread (hold_of thread script) sleds marks (total_of program threads script)
 
 -- the marks of each thread of a run follow the whole script
-abbrev pub AllMarksFollow : Program → List Command → List ThreadRun → Type 0
-AllMarksFollow program script runs =
-    EachThread runs (λ number run. MarksFollowScript program script number (sleds_passed run.passed) run.marks)
+abbrev pub AllMarksFollow : Program → ℕ → List Command → List ThreadRun → Type 0
+AllMarksFollow program threads script runs =
+    EachThread runs (λ number run. MarksFollowScript program threads script number (sleds_passed run.passed) run.marks)
 
 -- a thread was given these loads, and they follow the script up to a place
-pub record HasFollowed (program : Program) (script : List Command) (t : Traced) (passed : List Passing) (place : ℕ) (loads : List Load) : Type 0 where
+pub record HasFollowed (program : Program) (threads : ℕ) (script : List Command) (t : Traced) (passed : List Passing) (place : ℕ) (loads : List Load)
+    : Type 0 where
   pub loaded : HasLoaded t passed loads
-  pub follow : LoadsFollow program script t.thread (sleds_passed passed) loads place
+  pub follow : LoadsFollow program threads script t.thread (sleds_passed passed) loads place

@@ -75,15 +75,15 @@ pub fn passings_are_few(cpu: &Cpu)
     cpu.passings();
 }
 
-/// The ids of a plain run's passings fit the records of events. So do their stamps, if threads may
-/// have its limits.
+/// The ids of a plain run's passings fit the records of events. So do their stamps and their
+/// arguments, if threads may have its limits and its number has 64 bits.
 pub fn passings_fit()
     ensures ids { (bytes : List ℕ) (program : Program) (limits : Limits) (thread : ℕ)
         (passed : List Passing) (end : End) (last : State) → IsAccepted bytes program
         → PlainRun program limits thread passed end last → All (λ p. p.id < 2 ^ 28) passed }
     ensures all { (bytes : List ℕ) (program : Program) (limits : Limits) (thread : ℕ)
         (passed : List Passing) (end : End) (last : State) → IsAccepted bytes program → AreLimits limits
-        → PlainRun program limits thread passed end last → All PassingFits passed }
+        → thread < 2 ^ 64 → PlainRun program limits thread passed end last → All PassingFits passed }
 {}
 
 /// All that a run leaves in its buffers fits them, and fits the records that it is read from later.
@@ -115,10 +115,10 @@ pub fn some_losses_are_of_a_queue()
 /// A thread that executes the code with the bytes of its sleds as it loaded them always comes to the
 /// end of its plain run, if it decodes no torn sled. Only r10 may differ.
 pub fn a_whole_run_executes_to_its_end()
-    ensures { (bytes : List ℕ) (program : Program) (limits : Limits) (number : ℕ) (hold : Option ℕ)
+    ensures { (bytes : List ℕ) (program : Program) (limits : Limits) (threads number : ℕ) (hold : Option ℕ)
         (run : ThreadRun) (loads : List Load) → IsAccepted bytes program
         → PlainRun program limits number run.passed run.end run.last
-        → DecodesWhole program number hold run loads → Executes program limits number hold run loads }
+        → DecodesWhole program threads number hold run loads → Executes program limits threads number hold run loads }
 {
     wanted_loads_have_one_value();
 }

@@ -158,10 +158,10 @@ const REFUSALS: [Refusal; 18] = [
         "xray: t: trace Extents 32\n",
     ),
     (
-        &[HEADER, b"\x06\0\0\0\0\0\0\0", EXIT],
+        &[HEADER, b"\x08\0\0\0\0\0\0\0", EXIT],
         "account t i",
         2,
-        "xray: t: trace Bad 32 Action 3\n",
+        "xray: t: trace Bad 32 Action 4\n",
     ),
     (
         &[HEADER, EXTENTS_72, PREAMBLE, b"\x11\0\0\0\0\0\0\0", CPU],

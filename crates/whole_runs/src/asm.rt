@@ -18,6 +18,9 @@ pub const STRAIGHT_LINE: &str = "base 0x1000\nfn main always\nmov eax, 65\nout 1
 /// An exit sled that needs its alignment byte.
 pub const ODD_EXIT: &str = "base 0x1000\nfn main always\nout 0\nret\n";
 
+/// The same text, with a function that logs its first argument.
+pub const ARGUMENT: &str = "base 0x1000\nfn main args\nout 0\nret\n";
+
 /// A call over an alignment byte.
 pub const CALL: &str = "base 0x1000\nfn main always\ncall f\nret\nfn f always\nret\n";
 
@@ -79,7 +82,7 @@ const FIBONACCI_CODE: &[u8] = &[
 const STRAIGHT_LINE_END: End = ("returned", 3, 2, MOVED, "41");
 
 /// How it ends in the image with an exit sled at an odd place.
-const ODD_EXIT_END: End = ("returned", 2, 2, STARTED, "00");
+pub const ODD_EXIT_END: End = ("returned", 2, 2, STARTED, "00");
 
 /// How it ends in the image of a call.
 pub const CALL_END: End = ("returned", 3, 4, STARTED, "-");
@@ -106,6 +109,11 @@ const STRAIGHT_LINE_MAP: &[Mapped] = &[
 
 const ODD_EXIT_MAP: &[Mapped] = &[
     (1, 0x1000, 0x1000, "function-enter", "main"),
+    (1, 0x100E, 0x1000, "function-exit", "main"),
+];
+
+const ARGUMENT_MAP: &[Mapped] = &[
+    (1, 0x1000, 0x1000, "function-enter-arg", "main"),
     (1, 0x100E, 0x1000, "function-exit", "main"),
 ];
 
@@ -170,7 +178,7 @@ fn assert_done<R: Abort + Threads + Wait + Sync + AllocGlobal>(
 /// A text, and the length, the code, the end and the sled map of its image.
 type Made = (&'static str, usize, &'static [u8], End, &'static [Mapped]);
 
-const MADE: [Made; 5] = [
+const MADE: [Made; 6] = [
     (
         STRAIGHT_LINE,
         170,
@@ -179,13 +187,14 @@ const MADE: [Made; 5] = [
         STRAIGHT_LINE_MAP,
     ),
     (ODD_EXIT, 166, ODD_EXIT_CODE, ODD_EXIT_END, ODD_EXIT_MAP),
+    (ARGUMENT, 166, ODD_EXIT_CODE, ODD_EXIT_END, ARGUMENT_MAP),
     (CALL, 266, CALL_CODE, CALL_END, CALL_MAP),
     (TAIL_JUMP, 263, TAIL_JUMP_CODE, TAIL_JUMP_END, TAIL_JUMP_MAP),
     (FIBONACCI, 326, FIBONACCI_CODE, FIBONACCI_END, FIBONACCI_MAP),
 ];
 
 #[test]
-fn five_texts_become_images_that_run_and_have_their_sleds(rt: HostRuntime) -> Result<(), Fail> {
+fn six_texts_become_images_that_run_and_have_their_sleds(rt: HostRuntime) -> Result<(), Fail> {
     for (text, length, code, end, map) in &MADE {
         let mut desk = text_desk(rt.alloc(), &[], text.as_bytes())?;
         assert_done(&rt, "asm t i", &mut desk, "")?;
@@ -233,7 +242,7 @@ fn assert_refused<R: Abort + Threads + Wait + Sync + AllocGlobal>(
 }
 
 /// Texts, and the lines on err.
-const REFUSALS: [(&str, &str); 29] = [
+const REFUSALS: [(&str, &str); 30] = [
     ("", "xray: t: text Syntax 1\n"),
     ("mov eax, 1", "xray: t: text Syntax 1\n"),
     ("fn a", "xray: t: text Syntax 2\n"),
@@ -243,6 +252,7 @@ const REFUSALS: [(&str, &str); 29] = [
     ("base 16\nbase 16\nfn a\nret", "xray: t: text Syntax 2\n"),
     ("entry a\nentry a\nfn a\nret", "xray: t: text Syntax 2\n"),
     ("x:\nfn a\nret", "xray: t: text Syntax 1\n"),
+    ("fn a arg\nret", "xray: t: text Syntax 1\n"),
     ("fn a\nmov eax,1\nret", "xray: t: text Syntax 2\n"),
     ("fn a\nout 0X1\nret", "xray: t: text Syntax 2\n"),
     ("fn a\nout 18446744073709551616", "xray: t: text Syntax 2\n"),

@@ -29,7 +29,7 @@ fn the_first_input_that_cannot_be_read_is_named(rt: HostRuntime) -> Result<(), F
 
 #[test]
 fn a_failure_of_err_changes_nothing_else(rt: HostRuntime) -> Result<(), Fail> {
-    let mut desk = desk_of(rt.alloc(), &[], &IMAGE, "patch", SCHEDULE)?;
+    let mut desk = desk_of(rt.alloc(), &[], &IMAGE[..63], SCRIPT, SCHEDULE)?;
     let run = run_failing(&rt, SIM, &mut desk, &[], &[0])?;
     assert_stopped(&rt, &run, 2, "");
     Ok(())

@@ -5,17 +5,25 @@
 #[cfg(test)]
 mod account;
 #[cfg(test)]
+mod args;
+#[cfg(test)]
 mod asm;
 #[cfg(test)]
 mod bad_lines;
 #[cfg(test)]
 mod checks;
 #[cfg(test)]
+mod damaged;
+#[cfg(test)]
 mod faults;
+#[cfg(test)]
+mod faults_in_turn;
 #[cfg(test)]
 mod gate_calls;
 #[cfg(test)]
 mod gates;
+#[cfg(test)]
+mod pieces;
 #[cfg(test)]
 mod plain;
 #[cfg(test)]

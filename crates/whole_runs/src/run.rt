@@ -62,31 +62,31 @@ const LEFT: [Left; 6] = [
         "recycled 24",
         FOURTH,
     ),
-    // Each thread has four segments, in blocks of 88 bytes. There is one spare buffer, or none.
+    // Each thread has four segments of one event, in blocks of 88 bytes. There is one spare buffer, or none.
     (
         CALL,
-        "--threads 2 --buffer-size 72 --buffer-max 3",
+        "--threads 2 --buffer-size 88 --cpus 2 --migrate 1 --buffer-max 3",
         296,
         "recycled 5",
         "thread 2 returned instructions 3 passings 4",
     ),
     (
         CALL,
-        "--threads 1 --buffer-size 72 --buffer-max 2",
+        "--threads 1 --buffer-size 88 --cpus 2 --migrate 1 --buffer-max 2",
         208,
         "recycled 2",
         "thread 1 returned instructions 3 passings 4",
     ),
     (
         CALL,
-        "--threads 2 --buffer-size 72 --buffer-max 2",
+        "--threads 2 --buffer-size 88 --cpus 2 --migrate 1 --buffer-max 2",
         208,
         "recycled 6",
         "thread 2 returned instructions 3 passings 4",
     ),
     (
         CALL,
-        "--threads 16 --buffer-size 72 --buffer-max 17",
+        "--threads 16 --buffer-size 88 --cpus 2 --migrate 1 --buffer-max 17",
         1528,
         "recycled 47",
         "thread 16 returned instructions 3 passings 4",

@@ -6,7 +6,7 @@ use std::process::Abort;
 use std::sync::Wait;
 use std::test::Fail;
 use std::thread::Threads;
-use xray_io::{Desk, Gate, MemDesk, MemSink, OpenGate, Wall};
+use xray_io::{Desk, Gate, MemDesk, MemSink, OpenGate, Sink, Wall};
 use xray_program::{may_wait, xray, xray_still};
 
 /// The file of an image of 170 bytes. Its only function, at 0x1000, is an entry sled, `mov eax,
@@ -107,23 +107,37 @@ pub fn run_at<R: Threads + Wait + Sync + AllocGlobal, D: Desk, G: Gate + Sync>(
     gate: &G,
 ) -> Result<Run, Fail> {
     let alloc = rt.alloc();
-    let mut said = Vec::new(alloc);
-    for word in line.split_whitespace() {
-        said.push(String::from_str(alloc, word)?)?;
-    }
-    let wall = Wall { secs: 7, micros: 8 };
     let mut out = MemSink::new(alloc, Vec::from_slice(alloc, out_failing)?);
     let mut err = MemSink::new(alloc, Vec::from_slice(alloc, err_failing)?);
-    let status = if may_wait(&said) {
-        xray(rt, alloc, &said, wall, desk, &mut out, &mut err, gate)
-    } else {
-        xray_still(alloc, &said, wall, desk, &mut out, &mut err)
-    };
+    let status = status_of(rt, line, desk, &mut out, &mut err, gate)?;
     Ok(Run {
         status,
         out: text_of(alloc, &out)?,
         err: text_of(alloc, &err)?,
     })
+}
+
+/// Runs the top call with a gate, over a desk and sinks, and returns its status.
+pub fn status_of<R: Threads + Wait + Sync + AllocGlobal, D: Desk, O: Sink, E: Sink, G: Gate + Sync>(
+    rt: &R,
+    line: &str,
+    desk: &mut D,
+    out: &mut O,
+    err: &mut E,
+    gate: &G,
+) -> Result<u8, Fail> {
+    let alloc = rt.alloc();
+    let mut said = Vec::new(alloc);
+    for word in line.split_whitespace() {
+        said.push(String::from_str(alloc, word)?)?;
+    }
+    let wall = Wall { secs: 7, micros: 8 };
+    let status = if may_wait(&said) {
+        xray(rt, alloc, &said, wall, desk, out, err, gate)
+    } else {
+        xray_still(alloc, &said, wall, desk, out, err)
+    };
+    Ok(status)
 }
 
 /// Checks the status of a run, and what it wrote on out and on err.

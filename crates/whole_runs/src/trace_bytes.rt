@@ -10,14 +10,14 @@ use xray_io::MemDesk;
 /// The first half of a header: version 3, type 1, a constant and nonstop counter, and a frequency of 0.
 pub const FORMAT: &[u8] = b"\x03\0\x01\0\x03\0\0\0\0\0\0\0\0\0\0\0";
 
-/// The second half of a header, with buffers of 72 bytes.
-pub const BUFFERS_OF_72: &[u8] = b"\x48\0\0\0\0\0\0\0\0\0\0\0\0\0\0\0";
+/// The second half of a header, with buffers of 88 bytes.
+pub const BUFFERS_OF_88: &[u8] = b"\x58\0\0\0\0\0\0\0\0\0\0\0\0\0\0\0";
 
-/// The same with buffers of 79 bytes.
-pub const BUFFERS_OF_79: &[u8] = b"\x4F\0\0\0\0\0\0\0\0\0\0\0\0\0\0\0";
+/// The same with buffers of 95 bytes.
+pub const BUFFERS_OF_95: &[u8] = b"\x5F\0\0\0\0\0\0\0\0\0\0\0\0\0\0\0";
 
-/// The same with buffers of 80 bytes.
-pub const BUFFERS_OF_80: &[u8] = b"\x50\0\0\0\0\0\0\0\0\0\0\0\0\0\0\0";
+/// The same with buffers of 96 bytes.
+pub const BUFFERS_OF_96: &[u8] = b"\x60\0\0\0\0\0\0\0\0\0\0\0\0\0\0\0";
 
 /// The same with buffers of 16,384 bytes.
 pub const BUFFERS_OF_16384: &[u8] = b"\0\x40\0\0\0\0\0\0\0\0\0\0\0\0\0\0";
@@ -31,6 +31,9 @@ pub const EXTENTS_72: &[u8] = b"\x0F\x48\0\0\0\0\0\0\0\0\0\0\0\0\0\0";
 
 /// Extents of 80 bytes.
 pub const EXTENTS_80: &[u8] = b"\x0F\x50\0\0\0\0\0\0\0\0\0\0\0\0\0\0";
+
+/// Extents of 88 bytes.
+pub const EXTENTS_88: &[u8] = b"\x0F\x58\0\0\0\0\0\0\0\0\0\0\0\0\0\0";
 
 /// Extents of 96 bytes.
 pub const EXTENTS_96: &[u8] = b"\x0F\x60\0\0\0\0\0\0\0\0\0\0\0\0\0\0";
@@ -66,14 +69,23 @@ pub const CPU_AT_1: &[u8] = b"\x05\0\0\x01\0\0\0\0\0\0\0\0\0\0\0\0";
 /// CPU 0 at counter 2.
 pub const CPU_AT_2: &[u8] = b"\x05\0\0\x02\0\0\0\0\0\0\0\0\0\0\0\0";
 
+/// CPU 1 at counter 2.
+pub const CPU_1_AT_2: &[u8] = b"\x05\x01\0\x02\0\0\0\0\0\0\0\0\0\0\0\0";
+
 /// An entry of function 1.
 pub const ENTRY: &[u8] = b"\x10\0\0\0\0\0\0\0";
 
 /// An exit of function 1, 0 cycles on.
 pub const EXIT: &[u8] = b"\x12\0\0\0\0\0\0\0";
 
+/// An entry of function 2, 1 cycle on.
+pub const ENTRY_OF_2_AFTER_1: &[u8] = b"\x20\0\0\0\x01\0\0\0";
+
 /// An exit of function 2, 0 cycles on.
 pub const EXIT_OF_2: &[u8] = b"\x22\0\0\0\0\0\0\0";
+
+/// An exit of function 1, 1 cycle on.
+pub const EXIT_AFTER_1: &[u8] = b"\x12\0\0\0\x01\0\0\0";
 
 /// An exit of function 1, 2 cycles on.
 pub const EXIT_AFTER_2: &[u8] = b"\x12\0\0\0\x02\0\0\0";

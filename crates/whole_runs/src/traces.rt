@@ -7,9 +7,10 @@ use crate::runs::{
 };
 use crate::sim::{LIVE, SIM, TRACED};
 use crate::trace_bytes::{
-    BUFFERS_OF_72, BUFFERS_OF_79, BUFFERS_OF_80, BUFFERS_OF_16384, CPU, CPU_AT_1, CPU_AT_2, ENTRY,
-    EXIT, EXIT_AFTER_2, EXIT_OF_2, EXTENTS_72, EXTENTS_80, EXTENTS_96, FORMAT, HEADER, ONE_CALL,
-    PREAMBLE, PREAMBLE_OF_2, PROCESS_1, THREAD_1, file,
+    BUFFERS_OF_88, BUFFERS_OF_95, BUFFERS_OF_96, BUFFERS_OF_16384, CPU, CPU_1_AT_2, CPU_AT_1,
+    CPU_AT_2, ENTRY, ENTRY_OF_2_AFTER_1, EXIT, EXIT_AFTER_1, EXIT_AFTER_2, EXIT_OF_2, EXTENTS_72,
+    EXTENTS_80, EXTENTS_88, EXTENTS_96, FORMAT, HEADER, ONE_CALL, PREAMBLE, PREAMBLE_OF_2,
+    PROCESS_1, THREAD_1, file,
 };
 use std::alloc::Global;
 use std::process::Abort;
@@ -59,13 +60,24 @@ const USUAL: [(&str, &str); 12] = [
 /// A block with the entry of function 1 at counter 0.
 const ENTERED: &[&[u8]] = &[EXTENTS_72, PREAMBLE, CPU, ENTRY];
 
-/// One with its exit at counter 2, and the same of thread 2.
-const LEFT: &[&[u8]] = &[EXTENTS_72, PREAMBLE, CPU_AT_2, EXIT];
+/// One with its exit at counter 2.
+pub const LEFT: &[&[u8]] = &[EXTENTS_72, PREAMBLE, CPU_AT_2, EXIT];
 
-const LEFT_BY_2: &[&[u8]] = &[EXTENTS_72, PREAMBLE_OF_2, CPU_AT_2, EXIT];
+/// The same of thread 2, on CPU 1.
+pub const LEFT_BY_2: &[&[u8]] = &[EXTENTS_72, PREAMBLE_OF_2, CPU_1_AT_2, EXIT];
+
+/// One with the entry of function 1, and the entry and the exit of function 2.
+const ALL_BUT_LAST: &[&[u8]] = &[
+    EXTENTS_88,
+    PREAMBLE,
+    CPU,
+    ENTRY,
+    ENTRY_OF_2_AFTER_1,
+    EXIT_OF_2,
+];
 
 /// One with thread 2's exit of function 2 at counter 1.
-const LEFT_F_BY_2: &[&[u8]] = &[EXTENTS_72, PREAMBLE_OF_2, CPU_AT_1, EXIT_OF_2];
+pub const LEFT_F_BY_2: &[&[u8]] = &[EXTENTS_72, PREAMBLE_OF_2, CPU_AT_1, EXIT_OF_2];
 
 /// The row of a call that is recorded, with a wall time of 0. The other rows say how they differ.
 const CALLED: Row = Row {
@@ -90,25 +102,33 @@ const UNRECORDED: Row = Row {
     ..CALLED
 };
 
-/// The row of a call whose entry and exit are in two segments, with the smallest buffers.
+/// The row of two calls whose events are in two segments, with the smallest buffers.
 const SPLIT: Row = Row {
-    options: "--wall 0 --buffer-size 72",
-    header: &[FORMAT, BUFFERS_OF_72],
-    blocks: &[ENTERED, LEFT],
-    settings: &[("buffer-size", "72")],
-    threads: "thread 1 returned passings 2 recorded 2 segments 2 first 0\n\
-        marks +2\n\
+    text: CALL,
+    options: "--wall 0 --buffer-size 88",
+    header: &[FORMAT, BUFFERS_OF_88],
+    blocks: &[ALL_BUT_LAST, LEFT],
+    settings: &[("buffer-size", "88")],
+    threads: "thread 1 returned passings 4 recorded 4 segments 2 first 0\n\
+        marks +4\n\
         recycled 0\n",
     ..CALLED
 };
 
-/// The row of two threads that call a function, and lose the oldest segments of each other.
+/// The row of two threads that call a function, and lose the oldest segments of each other. A
+/// segment has one event, since each passing is on another CPU than the one before.
 const LOSING: Row = Row {
     text: CALL,
-    options: "--wall 0 --threads 2 --buffer-size 72 --buffer-max 3",
-    header: &[FORMAT, BUFFERS_OF_72],
+    options: "--wall 0 --threads 2 --buffer-size 88 --cpus 2 --migrate 1 --buffer-max 3",
+    header: &[FORMAT, BUFFERS_OF_88],
     blocks: &[LEFT, LEFT_F_BY_2, LEFT_BY_2],
-    settings: &[("threads", "2"), ("buffer-size", "72"), ("buffer-max", "3")],
+    settings: &[
+        ("threads", "2"),
+        ("buffer-size", "88"),
+        ("buffer-max", "3"),
+        ("cpus", "2"),
+        ("migrate", "1"),
+    ],
     threads: "thread 1 returned passings 4 recorded 4 segments 4 first 3\n\
         marks +4\n\
         thread 2 returned passings 4 recorded 4 segments 4 first 2\n\
@@ -211,29 +231,47 @@ const ROWS: [Row; 19] = [
         settings: &[("tsc", "18446744073709551615")],
         ..CALLED
     },
-    // A buffer of 72 bytes has room for one event.
+    // A buffer of 88 bytes has room for three events on one CPU.
     SPLIT,
-    // So has one of 79 bytes.
+    // So has one of 95 bytes.
     Row {
-        options: "--wall 0 --buffer-size=79",
-        header: &[FORMAT, BUFFERS_OF_79],
-        settings: &[("buffer-size", "79")],
+        options: "--wall 0 --buffer-size=95",
+        header: &[FORMAT, BUFFERS_OF_95],
+        settings: &[("buffer-size", "95")],
         ..SPLIT
     },
-    // One of 80 bytes has room for two.
+    // One of 96 bytes has room for four.
     Row {
-        options: "--wall 0 --buffer-size 80",
-        header: &[FORMAT, BUFFERS_OF_80],
-        settings: &[("buffer-size", "80")],
-        ..CALLED
+        options: "--wall 0 --buffer-size 96",
+        header: &[FORMAT, BUFFERS_OF_96],
+        blocks: &[&[
+            EXTENTS_96,
+            PREAMBLE,
+            CPU,
+            ENTRY,
+            ENTRY_OF_2_AFTER_1,
+            EXIT_OF_2,
+            EXIT_AFTER_1,
+        ]],
+        settings: &[("buffer-size", "96")],
+        threads: "thread 1 returned passings 4 recorded 4 segments 1 first 0\n\
+            marks +4\n\
+            recycled 0\n",
+        ..SPLIT
     },
     // Threads take each other's oldest segments.
     LOSING,
     // If no buffer is queued, each thread gets its own back.
     Row {
-        options: "--wall 0 --threads 2 --buffer-size 72 --buffer-max 2",
+        options: "--wall 0 --threads 2 --buffer-size 88 --cpus 2 --migrate 1 --buffer-max 2",
         blocks: &[LEFT, LEFT_BY_2],
-        settings: &[("threads", "2"), ("buffer-size", "72"), ("buffer-max", "2")],
+        settings: &[
+            ("threads", "2"),
+            ("buffer-size", "88"),
+            ("buffer-max", "2"),
+            ("cpus", "2"),
+            ("migrate", "1"),
+        ],
         threads: "thread 1 returned passings 4 recorded 4 segments 4 first 3\n\
             marks +4\n\
             thread 2 returned passings 4 recorded 4 segments 4 first 3\n\
@@ -367,12 +405,12 @@ fn a_replay_leaves_its_trace_and_its_audit(rt: HostRuntime) -> Result<(), Fail> 
 /// Options of buffers, and the status. They are the ends of the ranges, and of a trace of at most
 /// 67,108,864 bytes.
 const RANGES: [(&str, u8); 11] = [
-    ("--buffer-size 71 --buffer-max 1", 1),
-    ("--buffer-size 72 --buffer-max 1", 0),
+    ("--buffer-size 87 --buffer-max 1", 1),
+    ("--buffer-size 88 --buffer-max 1", 0),
     ("--buffer-size 1048576 --buffer-max 1", 0),
     ("--buffer-size 1048577 --buffer-max 1", 1),
-    ("--buffer-size 72 --buffer-max 1024", 0),
-    ("--buffer-size 72 --buffer-max 1025", 1),
+    ("--buffer-size 88 --buffer-max 1024", 0),
+    ("--buffer-size 88 --buffer-max 1025", 1),
     ("--buffer-max 0 --threads 1", 1),
     ("--buffer-max 3 --threads 4", 1),
     ("--buffer-max 4 --threads 4", 0),

@@ -26,7 +26,7 @@ from trace_model import EXIT, Block, Event, Header, Trace, file_bytes  # noqa: E
 COMMANDS = [["account", "trace"], ["convert", "trace"]]
 TRACE = file_bytes(
     Trace(
-        Header(frequency=0, size=72),
+        Header(frequency=0, size=88),
         [
             Block(1, (0, 0), 1, [Event(0, 1, EXIT, 2)]),
             Block(2, (0, 0), 1, [Event(0, 2, EXIT, 1)]),

@@ -57,7 +57,7 @@ DAMAGED_OF_A_SET = 5
 THREADS = 2
 # Without fuel the model would take long for a damaged image that is accepted.
 RUN = ["--fuel=1000", f"--threads={THREADS}"]
-TRACED = [*RUN, "--wall=0", "--buffer-size=72", "--buffer-max=5"]
+TRACED = [*RUN, "--wall=0", "--buffer-size=88", "--buffer-max=5"]
 # The commands. A word that is a kind stands for the file of that kind.
 COMMANDS = [
     ["asm", "text", "made"],

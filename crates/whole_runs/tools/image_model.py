@@ -16,6 +16,9 @@ HEADER_LENGTH = 64
 ENTRY_LENGTH = 32
 SLED_LENGTH = 11
 
+# The kinds of sleds in the map. A sled of the last kind is an entry that logs arguments.
+ENTRY, EXIT, TAIL, ENTRY_ARGS = range(4)
+
 RSP, R10 = 4, 10
 RESERVED = (RSP, R10)
 
@@ -201,7 +204,7 @@ def image_of(file):
     """The image in a file's bytes."""
     if len(file) < HEADER_LENGTH:
         raise Refused("Short")
-    magic, version, base, length, functions, sleds, entry, *trampolines, _ = struct.unpack_from("<4sIQIIII4Q", file)
+    magic, version, base, length, functions, sleds, entry, *trampolines = struct.unpack_from("<4sIQIIII4Q", file)
     if magic != b"XRIM":
         raise Refused("Magic")
     if version != 1:
@@ -268,7 +271,7 @@ def check_map(image):
     starts = [start for start, _ in image.functions]
     for number, (entry, sled) in enumerate(zip(image.entries, image.sleds)):
         function = starts[bisect.bisect_right(starts, entry.address) - 1]
-        kinds = (0, 2) if sled.name == "entry" else (1,)
+        kinds = (ENTRY, TAIL, ENTRY_ARGS) if sled.name == "entry" else (EXIT,)
         if entry.function != function or entry.kind not in kinds or entry.version >= 2:
             raise Refused("Odd", number)
     for number, entry in enumerate(image.entries):
@@ -285,7 +288,7 @@ def check_targets(image):
 
 # ---- The sled map's text
 
-KINDS = ["function-enter", "function-exit", "tail-exit"]
+KINDS = ["function-enter", "function-exit", "tail-exit", "function-enter-arg"]
 
 
 def sled_map_text(image):

@@ -142,7 +142,7 @@ TRACED = b"patch\nset_handler\ninit\ngo\n"
 
 
 def least_buffer_size(past):
-    return traced("--buffer-size", 72 - past, script=TRACED)
+    return traced("--buffer-size", 88 - past, script=TRACED)
 
 
 def largest_buffer_size(past):
@@ -155,7 +155,7 @@ def largest_trace(past):
 
 
 def a_buffer_each(past):
-    return traced("--buffer-max", 16 - past, "--threads=16", "--buffer-size=72", script=TRACED)
+    return traced("--buffer-max", 16 - past, "--threads=16", "--buffer-size=88", script=TRACED)
 
 
 def full_buffer_list(past):
@@ -181,14 +181,14 @@ def last_pid(past):
 
 def full_trace_file(past):
     """A trace that is too long isn't read."""
-    header = trace_model.header_bytes(trace_model.Header(0, 72))
+    header = trace_model.header_bytes(trace_model.Header(0, 88))
     return Case([b"account", b"t"], {b"t": header.ljust(model.TRACE_LIMIT + past, b"\1")})
 
 
 def open_calls(count):
     event = trace_model.Event(0, 1, trace_model.ENTRY, 5)
     blocks = [trace_model.Block(thread, (0, 0), 1, [event] * (count - thread)) for thread in (1, 0)]
-    return trace_model.file_bytes(trace_model.Trace(trace_model.Header(0, 72), blocks))
+    return trace_model.file_bytes(trace_model.Trace(trace_model.Header(0, 88), blocks))
 
 
 def deepest_calls(past):

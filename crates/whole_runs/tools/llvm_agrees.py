@@ -137,7 +137,7 @@ def exits_among(events):
     """The exits that don't end the innermost call, each with the functions that are open."""
     is_open = []
     for event in events:
-        if event.action == traces.ENTRY:
+        if event.action in traces.ENTRIES:
             is_open.append(event.function)
         elif is_open and is_open[-1] == event.function:
             is_open.pop()
@@ -150,6 +150,11 @@ def goes_back(events):
 
 
 # ---- LLVM's answers
+
+
+def first_of(arguments):
+    """The first of some arguments, or 0 if there is none. LLVM prints all that stand behind an entry."""
+    return int(arguments.split(",")[0]) if arguments else 0
 
 
 class Llvm:
@@ -167,8 +172,8 @@ class Llvm:
         """The header's lines, and each event with its process and thread. LLVM doesn't print these two if they are 0."""
         text = self.text("convert", "-output-format=yaml", "-sort=0")
         item = re.compile(
-            r"  - \{ type: 0, func-id: (\d+), function: '(\d+)', cpu: (\d+), (?:thread: (\d+), )?(?:process: (\d+), )?"
-            r"kind: (function-[a-z-]+), tsc: (\d+), data: '' \}"
+            r"  - \{ type: 0, func-id: (\d+), function: '(\d+)', (?:args: \[ ([\d, ]+) \], )?cpu: (\d+), "
+            r"(?:thread: (\d+), )?(?:process: (\d+), )?kind: (function-[a-z-]+), tsc: (\d+), data: '' \}"
         )
         head = re.findall(r"^  ([a-z-]+): +(\S+)$", text, re.M)
         found = [match.groups() for match in map(item.fullmatch, text.splitlines()) if match]
@@ -176,8 +181,11 @@ class Llvm:
             raise ValueError(text)
         kinds = {kind: action for action, kind in enumerate(reports.KINDS)}
         return dict(head), [
-            ((int(process or 0), int(thread or 0)), traces.Event(int(cpu), int(function), kinds[kind], int(tsc)))
-            for function, _, cpu, thread, process, kind, tsc in found
+            (
+                (int(process or 0), int(thread or 0)),
+                traces.Event(int(cpu), int(function), kinds[kind], int(tsc), first_of(args)),
+            )
+            for function, _, args, cpu, thread, process, kind, tsc in found
         ]
 
     def account(self):
@@ -299,8 +307,9 @@ def stack_differences(example, llvm):
 DUMPED = {
     traces.NEW_BUFFER: "<Thread ID: {}>", traces.NEW_CPU: "<CPU: id = {}, tsc = {}>", traces.TSC_WRAP: "<TSC Wrap: base = {}>",
     traces.WALL_TIME: "<Wall Time: seconds = {}.{:06}>", traces.EXTENTS: "<Buffer: size = {} bytes>", traces.PID: "<PID: {}>",
+    traces.CALL_ARGUMENT: "<Call Argument: data = {0} (hex = 0x{0:x})>",
 }  # fmt: skip
-ACTIONS = ["Enter", "Exit", "Tail Exit"]
+ACTIONS = ["Enter", "Exit", "Tail Exit", "Enter With Arg"]
 
 
 def dump_differences(example, llvm):
@@ -332,7 +341,7 @@ def replay_words(draw, threads):
     """The options of a replay. With a first counter above 0, LLVM's account takes all events of several threads."""
     options = [["--threads", str(threads)], ["--fuel", "3000"], ["--wall", str(draw.choice([0, 1, 1_700_000_000]))]]
     options.append(["--tsc", str(draw.choice([1, 1, 1000, 1000, 0, (1 << 32) - 3, (1 << 64) - 50]))])
-    options.append(["--buffer-size", str(draw.choice([72, 80, 120, 200, 400, 1000, 16_384]))])
+    options.append(["--buffer-size", str(draw.choice([88, 96, 120, 200, 400, 1000, 16_384]))])
     options.append(["--buffer-max", str(draw.choice([threads, threads + 1, threads + 3, 100, 100]))])
     for name in ("tick", "frequency", "cpus", "migrate", "pid"):
         if draw.random() < 0.25:

@@ -97,6 +97,11 @@ class Thread:
         self.registers[target] = value % WORD_64
         self.zero_flag = int(self.registers[target] == 0)
 
+    @property
+    def argument(self):
+        """The first argument of a function that the thread enters."""
+        return self.registers[RDI]
+
     def push(self, value):
         if len(self.stack) == STACK_LIMIT:
             raise Ended("stack-full")

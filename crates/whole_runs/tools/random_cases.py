@@ -46,11 +46,11 @@ TRACE_VALUES = {
     "wall": (0.9, [0, 1, 1_700_000_000, LARGEST_64]),
 }
 WRONG_TRACE_WORDS = [
-    "--buffer-size=71", "--buffer-size=1048577", "--buffer-max=0", "--buffer-max=1025", "--cpus=0", "--cpus=65536",
+    "--buffer-size=87", "--buffer-size=1048577", "--buffer-max=0", "--buffer-max=1025", "--cpus=0", "--cpus=65536",
     "--migrate=0", "--migrate=1048577", "--pid=2147483648", "--wall=18446744073709551616", "--tick=18446744073709551616",
-    "--tsc=-1", "--buffer-size=1048576", "--size=72",
+    "--tsc=-1", "--buffer-size=1048576", "--size=88",
 ]  # fmt: skip
-SIZES = [72, 72, 73, 79, 80, 88, 95, 96, 97, 104, 120, 200, 200, 1000, 16_384]
+SIZES = [88, 88, 89, 95, 96, 97, 104, 111, 112, 120, 200, 200, 1000, 16_384]
 REPORT_VALUES = {
     "sort": ["funcid", "count", "min", "med", "90p", "99p", "max", "sum"],
     "sortorder": ["asc", "desc"],

@@ -144,7 +144,7 @@ class Units:
     def add_sled(self):
         if len(self.code) % 2 == 1:
             self.add(b"\x90")
-        kind = self.draw.choice([0, 0, 1, 1, 2])
+        kind = self.draw.choice([0, 0, 1, 1, 2, 3])
         displacement = self.draw.choice([bytes.fromhex("00020000"), self.draw.randbytes(4)])
         self.add((EXIT_SLED if kind == 1 else ENTRY_SLED) + displacement)
         self.sleds.append((self.places[-1], kind))
@@ -178,7 +178,7 @@ def units_draft(draw):
         version, always = draw.choice([0, 1]), draw.choice([0, 1, 1, 2, 255])
         padding = draw.choice([bytes(13), draw.randbytes(13)])
         entries.append([base + place, base + function, kind, always, version, padding])
-    trampolines = [base + 0x200000 + 16 * kind for kind in range(3)] + [draw.randrange(1 << 64)]
+    trampolines = [base + 0x200000 + 16 * kind for kind in range(4)]
     return Draft(base, units.code, functions, entries, draw.randrange(len(functions)), trampolines)
 
 
@@ -191,7 +191,7 @@ def calling_draft(draw):
     lines = [f"base {16 * texts.up_to(draw, model.BASE_LIMIT // 16)}"]
     for at, name in enumerate(names):
         later = names[at + 1 :]
-        lines.append(f"fn {name} {'never' if draw.random() < 0.12 else 'always'}")
+        lines.append(f"fn {name} {draw.choice(['always', 'always', 'always', 'args', 'args', 'never'])}")
         for _ in range(draw.randint(0, 3)):
             # A call back is a recursion, which the fuel or the stack ends.
             callees = later if later and draw.random() < 0.95 else names
@@ -307,7 +307,7 @@ def other_entry(draw, draft):
         case 1:
             entry[1] = draw.choice([near(draw, entry[1]), *[start for start, _ in draft.functions]])
         case 2:
-            entry[2] = draw.choice([0, 1, 2, 3, 4, 255])
+            entry[2] = draw.choice([0, 1, 2, 3, 3, 4, 255])
         case 3:
             entry[4] = draw.choice([0, 1, 2, 3, 255])
         case 4:

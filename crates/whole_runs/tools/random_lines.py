@@ -27,7 +27,7 @@ OTHER_NAMES = [b"i", b"t", b"new", b"./new", b"-", b"a=b", b"a b", b"", b"--", b
 WRONG = [b"", b"+", b"-1", b"++1", b"+-1", b" 1", b"1 ", b"0x1", b"1e3", b"1.0", b"1=1", b"=", b"-", b"--", b"one", b"1_000",
          str(1 << 64).encode(), str(10**40).encode(), "\u0661".encode(), b"human ", b"Text"]  # fmt: skip
 EXTRA = [b"--", b"-", b"", b"-f", b"-fuel=3", b"---fuel=3", b"--=", b"--=3", b"--fuel", b"--threads=", b"--help", b"-h", b"--version",
-         b"-V", b"help", b"--thread=2", b"--buffer=72", b"--no-fuel", b"--fuel-", b"--Fuel=3", b"--fuel\xcc\x81=3", b"\xff"]  # fmt: skip
+         b"-V", b"help", b"--thread=2", b"--buffer=88", b"--no-fuel", b"--fuel-", b"--Fuel=3", b"--fuel\xcc\x81=3", b"\xff"]  # fmt: skip
 OTHER_COMMANDS = [b"", b"help", b"Plain", b"plain ", b"--", b"-", b"--fuel=3", b"pla", b"version"]
 
 

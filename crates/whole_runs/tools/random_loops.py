@@ -40,7 +40,7 @@ def loop_case(draw):
         "threads": threads,
         "fuel": 1_000_000,
         "passings": draw.choice([5_000, 10_000, 20_000]),
-        "buffer-size": draw.choice([72, 200, 1000, 4096, 16_384]),
+        "buffer-size": draw.choice([88, 200, 1000, 4096, 16_384]),
         "buffer-max": draw.choice([threads, threads + 1, threads + 2, 2 * threads, 5 * threads, 100]),
         "cpus": draw.choice([1, 1, 4]),
         "migrate": draw.choice([7, 1000, 1_048_576]),

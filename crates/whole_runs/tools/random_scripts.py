@@ -13,6 +13,7 @@ def command(draw, ids, log):
     if log and draw.random() < (0.3 if log[0] == "init" else 0.08):
         return [log.pop(0)]
     words = ["patch", "patch", "unpatch", "set_handler", "remove_handler"]
+    words += draw.choice([[], ["set_arg_handler", "remove_arg_handler"]])
     if ids > 0:
         names = ["patch_function", "patch_function", "patch_function", "unpatch_function", "unpatch_function"]
         words += [f"{name} {spelled(draw, draw.randint(1, ids))}" for name in names]
@@ -71,7 +72,7 @@ def live_script(draw, ids, threads):
 WRONG_COMMANDS = [
     "patch 1", "Patch", "patch,", "patch_function", "patch_function 0", "patch_function 99", "patch_function x",
     "patch_function -1", "patch_function +1", "patch_function 0x1", "patch_function 4294967296", "unpatch_function 0",
-    "unpatch_function 1 1", "unpatch_function 1025", "set_handler 1", "handler", "remove_handler 0", "init", "init 1", "finalize",
+    "unpatch_function 1 1", "unpatch_function 1025", "set_handler 1", "handler", "remove_handler 0", "set_arg_handler 1", "arg_handler", "init", "init 1", "finalize",
     "finalize now", "go", "go", "go 1", "start", "hold 1 0", "hold 0 0", "hold 1", "hold 17 0", "hold 1 x", "hold 17 x",
     "release 1", "release", "release 0", "release 1 1", "await 1 0", "await 1 4294967295", "await 0 1", "await 1",
     "await 1 4294967296", "await 17 1", "hold 1 0 0", "patch go", "__xray_patch", "run",

@@ -5,8 +5,8 @@ import dataclasses
 import struct
 
 from trace_model import (
-    ENTRY, EXIT, EXTENTS, FIELDS, FUNCTION, NEW_BUFFER, NEW_CPU, PID, TAIL_EXIT, TSC_WRAP, VERSION, WALL_TIME, WORD_32, WORD_64,
-    FLIGHT_DATA_RECORDER, HEADER_LENGTH, METADATA_LENGTH,
+    CALL_ARGUMENT, ENTRY, ENTRY_ARGS, EXIT, EXTENTS, FIELDS, FUNCTION, NEW_BUFFER, NEW_CPU, PID, TAIL_EXIT, TSC_WRAP, VERSION,
+    WALL_TIME, WORD_32, WORD_64, FLIGHT_DATA_RECORDER, HEADER_LENGTH, METADATA_LENGTH,
 )  # fmt: skip
 
 
@@ -70,7 +70,7 @@ class Calls:
             if draw.random() < 0.06:
                 return function, draw.choice([EXIT, TAIL_EXIT])
             self.is_open.append(function)
-            return function, ENTRY
+            return function, draw.choice([ENTRY, ENTRY, ENTRY, ENTRY_ARGS])
         at = len(self.is_open) - 1 if draw.random() < 0.9 else draw.randrange(len(self.is_open))
         function = self.is_open[at]
         del self.is_open[at:]
@@ -97,7 +97,13 @@ class Threads:
             function, action = calls.event()
             delta = draw.choice([0, 1, 2, 10, draw.randrange(100), draw.randrange(100), draw.randrange(WORD_32), WORD_32 - 1])
             records.append(Record(FUNCTION, (function, action, delta)))
+            records += self.arguments(action)
         return [records + ([self.base()] if len(records) > 3 and draw.random() < 0.1 else []), 0]
+
+    def arguments(self, action):
+        """The arguments behind a function record: mostly one behind an entry that logs it."""
+        number = self.draw.choice([1, 1, 1, 0, 2, 3]) if action == ENTRY_ARGS else 0
+        return [Record(CALL_ARGUMENT, (counter(self.draw),), rest(self.draw)) for _ in range(number)]
 
     def base(self):
         draw = self.draw
@@ -114,7 +120,7 @@ class Threads:
 def random_draft(draw):
     threads = Threads(draw)
     flags = draw.choice([3, 3, 0, 1, 2, 0xFFFFFFFC, draw.randrange(WORD_32)])
-    header = [VERSION, FLIGHT_DATA_RECORDER, flags, draw.choice([0, 0, draw.randrange(WORD_64)]), draw.choice([72, 16_384]), 0]
+    header = [VERSION, FLIGHT_DATA_RECORDER, flags, draw.choice([0, 0, draw.randrange(WORD_64)]), draw.choice([88, 16_384]), 0]
     header[5] = draw.choice([0, 0, draw.randrange(WORD_64)])
     return Draft(header, [threads.block() for _ in range(draw.choice([0, 1, 1, 2, 3, 6, 12]))])
 
@@ -138,9 +144,9 @@ def odd_record(draw):
     """A record at a place where it rarely or never is."""
     match draw.randrange(4):
         case 0:
-            return Record(draw.choice([1, 5, 6, 8, 10, 127]), (draw.randrange(WORD_64),))
+            return Record(draw.choice([1, 5, CALL_ARGUMENT, CALL_ARGUMENT, 8, 10, 127]), (draw.randrange(WORD_64),))
         case 1:
-            return Record(FUNCTION, (draw.randrange(1 << 28), draw.choice([3, 4, 5, 6, 7]), draw.randrange(WORD_32)))
+            return Record(FUNCTION, (draw.randrange(1 << 28), draw.choice([ENTRY_ARGS, 4, 5, 6, 7]), draw.randrange(WORD_32)))
         case 2:
             kind = draw.choice([NEW_BUFFER, WALL_TIME, EXTENTS, PID])
             return Record(kind, (0, 0) if kind == WALL_TIME else (draw.randrange(100),))

@@ -8,7 +8,9 @@ import itertools
 import math
 import re
 
-from image_model import Refused
+import image_model
+import trace_model
+from image_model import ENTRY_ARGS, Refused
 from machine_model import WORD_64, Ended, Thread
 from trace_model import Buffers, Event
 
@@ -37,6 +39,7 @@ def number_of(word):
 # The commands, with what they take.
 COMMANDS = {
     "patch": "", "unpatch": "", "patch_function": "I", "unpatch_function": "I", "set_handler": "", "remove_handler": "",
+    "set_arg_handler": "", "remove_arg_handler": "",
     "init": "", "finalize": "", "go": "", "hold": "TN", "release": "T", "await": "TN",
 }  # fmt: skip
 WAITING = ("hold", "release", "await")
@@ -147,11 +150,24 @@ EXIT_HEAD = 0x2EC3
 RETURN_HEAD = 0xBAC3
 INITIALIZED = 2
 
+# The marks of passings that record an event: with its argument, or without.
+RECORDED = "a+"
+# The actions of events without an argument, by the kinds of their sleds.
+PLAIN_ACTIONS = {
+    image_model.ENTRY: trace_model.ENTRY,
+    image_model.EXIT: trace_model.EXIT,
+    image_model.TAIL: trace_model.TAIL_EXIT,
+    image_model.ENTRY_ARGS: trace_model.ENTRY,
+}
+
 
 class Words:
-    """The words of an image's sleds, the handler's and the log's, and how a script changes them."""
+    """The words of an image and of this many threads, and how a script changes them.
 
-    def __init__(self, image):
+    The words of the sleds come first, then the handler's and the log's, two of each thread, and the argument handler's.
+    """
+
+    def __init__(self, image, threads):
         self.sleds = image.sleds
         self.ids = image.ids
         self.patched = [
@@ -160,10 +176,11 @@ class Words:
         ]
         self.handler = 4 * len(self.sleds)
         self.state = self.handler + 1
+        self.arg_handler = self.state + 1 + 2 * threads
         self.values = []
         for sled in self.sleds:
             self.values += [ENTRY_HEAD if sled.name == "entry" else EXIT_HEAD, 0x841F0F66, 0, sled.operands[0]]
-        self.values += [0, 0]
+        self.values += [0] * (self.arg_handler + 1 - self.handler)
 
     @staticmethod
     def opcode(sled):
@@ -193,6 +210,10 @@ class Words:
                 yield self.handler, 1
             case "remove_handler", _:
                 yield self.handler, 0
+            case "set_arg_handler", _:
+                yield self.arg_handler, 1
+            case "remove_arg_handler", _:
+                yield self.arg_handler, 0
             case "init", _:
                 yield self.state, 1
                 yield self.state, 2
@@ -243,8 +264,8 @@ class TracedThread(Thread):
                 sled = self.sled_numbers.get(self.place)
                 if sled is not None and self.passings < self.passing_limit:
                     self.marks.append((yield from self.passing(sled)))
-                    if self.marks[-1] == "+":
-                        self.record(self.number, self.event(sled))
+                    if self.marks[-1] in RECORDED:
+                        self.record(self.number, self.event(sled, self.marks[-1]))
                 self.step()
         except Ended as ended:
             self.end = str(ended)
@@ -262,17 +283,24 @@ class TracedThread(Thread):
             yield
             if values[4 * sled + part] != self.words.patched[sled][part]:
                 raise Torn
+        recorded = "+"
+        if self.image.entries[sled].kind == ENTRY_ARGS:
+            yield
+            recorded = "a" if values[self.words.arg_handler] == 1 else "+"
+        if recorded == "+":
+            yield
+            if values[self.words.handler] == 0:
+                return "n"
         yield
-        if values[self.words.handler] == 0:
-            return "n"
-        yield
-        return "+" if values[self.words.state] == INITIALIZED else "f"
+        return recorded if values[self.words.state] == INITIALIZED else "f"
 
-    def event(self, sled):
-        """What a passing of a sled records, before it is counted."""
+    def event(self, sled, mark):
+        """What a passing of a sled records with a mark, before it is counted."""
         cpu = (self.number + self.passings // self.options["migrate"]) % self.options["cpus"]
         tsc = (self.options["tsc"] + self.options["tick"] * self.instructions) % WORD_64
-        return Event(cpu, self.words.ids[sled], self.image.entries[sled].kind, tsc)
+        if mark == "a":
+            return Event(cpu, self.words.ids[sled], trace_model.ENTRY_ARGS, tsc, self.argument)
+        return Event(cpu, self.words.ids[sled], PLAIN_ACTIONS[self.image.entries[sled].kind], tsc)
 
 
 # ---- Schedules and their replay
@@ -301,7 +329,7 @@ def turns_of(text, threads):
 
 def replayed(image, commands, turns, options):
     """The threads after a replay, all of them at their ends, and the buffers of what they recorded."""
-    words = Words(image)
+    words = Words(image, options["threads"])
     start = next(number for number, command in enumerate(commands) if command.name == "go")
     collections.deque(words.stores(commands[:start]), maxlen=0)
     # What unpatching leaves in a head depends on what was stored before, so the rest uses the same words.

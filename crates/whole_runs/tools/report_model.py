@@ -6,7 +6,7 @@ import collections
 import dataclasses
 
 from image_model import Refused
-from trace_model import CONSTANT, ENTRY, NONSTOP, WORD_64
+from trace_model import CONSTANT, ENTRIES, ENTRY_ARGS, NONSTOP, WORD_64
 
 DEPTH_LIMIT = 4096
 COLUMN = 10
@@ -53,7 +53,7 @@ def matched(events):
     is_open, pairs, depth = [], [], 0
     entries, exits = collections.Counter(), collections.Counter()
     for at, event in enumerate(events):
-        if event.action == ENTRY:
+        if event.action in ENTRIES:
             is_open.append(at)
             entries[event.function] += 1
             depth = max(depth, len(is_open))
@@ -187,7 +187,11 @@ def stack_text(trace, image, options):
 
 # ---- The YAML
 
-KINDS = ["function-enter", "function-exit", "function-tail-exit"]
+KINDS = ["function-enter", "function-exit", "function-tail-exit", "function-enter-arg"]
+
+
+def arguments(event):
+    return f", args: [ {event.arg} ]" if event.action == ENTRY_ARGS else ""
 
 
 def said(flag):
@@ -199,7 +203,7 @@ def yaml_text(trace, image, options):
     name_of = namer(image)
     items = [
         f"  - {{ type: 0, func-id: {event.function}, function: '{name_of(event.function)}', cpu: {event.cpu}, "
-        f"thread: {block.thread}, process: {block.pid}, kind: {KINDS[event.action]}, tsc: {event.tsc} }}"
+        f"thread: {block.thread}, process: {block.pid}, kind: {KINDS[event.action]}{arguments(event)}, tsc: {event.tsc} }}"
         for block in trace.blocks
         for event in block.events
     ]

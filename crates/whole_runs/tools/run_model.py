@@ -9,7 +9,8 @@ import collections
 import dataclasses
 import re
 
-from replay_model import ENTRY_HEAD, HEAD, ID, INITIALIZED, OFFSET, OPCODE, PATCHED_HEAD, TracedThread, Words
+from image_model import ENTRY_ARGS
+from replay_model import ENTRY_HEAD, HEAD, ID, INITIALIZED, OFFSET, OPCODE, TracedThread, Words
 from trace_model import Buffers
 
 
@@ -43,7 +44,7 @@ def shown_by(audit):
 
 def marks_of(runs):
     """The marks of a text of runs."""
-    return "".join(run[0] * int(run[1:]) for run in runs.split() if re.fullmatch(r"[.nf+][0-9]+", run))
+    return "".join(run[0] * int(run[1:]) for run in runs.split() if re.fullmatch(r"[.nf+a][0-9]+", run))
 
 
 # ---- Places of a script, and the loads that a thread may make there
@@ -61,13 +62,14 @@ class Course:
     """The micro steps of a script, and which value each word has after some of them."""
 
     def __init__(self, image, commands, threads):
-        words = Words(image)
+        words = Words(image, threads)
         self.words = words
+        self.kinds = [entry.kind for entry in image.entries]
         self.release = {thread: words.state + thread for thread in range(1, threads + 1)}
         self.holds = {command.thread: command.numbers[1] for command in commands if command.name == "hold"}
         # For each word, the places at which its value changes, and the values from there on.
-        self.places = [[0] for _ in range(words.state + 1 + threads)]
-        self.values = [[value] for value in words.values] + [[0] for _ in range(threads)]
+        self.places = [[0] for _ in words.values]
+        self.values = [[value] for value in words.values]
         self.awaits = collections.defaultdict(list)
         self.start = self.total = 0
         for command in commands:
@@ -110,20 +112,35 @@ class Course:
             at += 1
         return max(place, places[at]) if at < len(values) else None
 
-    def loads(self, thread, passing, sled, mark):
-        """The words that a passing with a mark loads, each with a test of its value."""
-        if self.holds.get(thread) == passing:
-            yield self.release[thread], (1).__eq__
+    def ways(self, thread, passing, sled, mark):
+        """The ways to a mark: the words that a passing loads, each with a test of its value."""
+        held = [(self.release[thread], (1).__eq__)] if self.holds.get(thread) == passing else []
         head = 4 * sled + HEAD
         if mark == ".":
-            yield head, self.is_unpatched(sled)
-            return
-        yield head, PATCHED_HEAD.__eq__
-        for part in (ID, OPCODE, OFFSET):
-            yield 4 * sled + part, self.words.patched[sled][part].__eq__
-        yield self.words.handler, (0 if mark == "n" else 1).__eq__
-        if mark != "n":
-            yield self.words.state, INITIALIZED.__eq__ if mark == "+" else INITIALIZED.__ne__
+            return [[*held, (head, self.is_unpatched(sled))]]
+        patched = [(4 * sled + part, self.words.patched[sled][part].__eq__) for part in (HEAD, ID, OPCODE, OFFSET)]
+        return [[*held, *patched, *way] for way in self.handler_ways(sled, mark)]
+
+    def handler_ways(self, sled, mark):
+        """The loads after the parts of a patched sled. Only a sled that logs arguments loads the argument handler's word.
+
+        If that is set, the handler's word isn't loaded.
+        """
+        logs = self.kinds[sled] == ENTRY_ARGS
+        state = self.words.state, INITIALIZED.__ne__ if mark == "f" else INITIALIZED.__eq__
+        handler = self.words.handler, (0 if mark == "n" else 1).__eq__
+        without = [(self.words.arg_handler, (0).__eq__)] if logs else []
+        with_argument = [[(self.words.arg_handler, (1).__eq__), state]] if logs else []
+        match mark:
+            case "n":
+                return [[*without, handler]]
+            case "+":
+                return [[*without, handler, state]]
+            case "a":
+                return with_argument
+            case "f":
+                return [[*without, handler, state], *with_argument]
+        return []
 
     def is_unpatched(self, sled):
         if self.words.sleds[sled].name == "entry":
@@ -133,17 +150,26 @@ class Course:
     def check(self, thread, sleds, marks):
         """Checks that a thread which passes these sleds may have these marks.
 
-        Each load is made as early as it may be. If there are places for the marks at all, these are.
+        Each load is made as early as it may be, and of several ways to a mark that one is taken which ends first. If there
+        are places for the marks at all, these are.
         """
         place = self.start
         for passing, (sled, mark) in enumerate(zip(sleds, marks)):
-            for word, accepts in self.loads(thread, passing, sled, mark):
-                after = self.place_of(word, accepts, place)
-                if after is None:
-                    raise Unlawful(f"thread {thread}: passing {passing} can't load word {word} for {mark} from {place}")
-                place = after
+            ends = [self.end_of(way, place) for way in self.ways(thread, passing, sled, mark)]
+            ends = [end for end in ends if end is not None]
+            if not ends:
+                raise Unlawful(f"thread {thread}: passing {passing} can't come to {mark} from {place}")
+            place = min(ends)
             if place > self.bound(thread, passing):
                 raise Unlawful(f"thread {thread}: passing {passing} comes to {place} for {mark}, past an await")
+
+    def end_of(self, way, place):
+        """The place of the last of these loads, if each is made as early as it may be, or None if one can't be made."""
+        for word, accepts in way:
+            place = self.place_of(word, accepts, place)
+            if place is None:
+                return None
+        return place
 
 
 # ---- Losses

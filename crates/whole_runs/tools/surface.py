@@ -48,9 +48,9 @@ fn Text::done(self) -> Result<(), WriteFault>
 
 crate fdr_record
 trait Recorder
-enum Kind { Entry, Exit, TailExit }
-struct Event { cpu: u16, func: u32, kind: Kind, tsc: u64 }
-enum Rec { NewBuffer { thread: u32 }, NewCpu { cpu: u16, tsc: u64 }, TscWrap { tsc: u64 }, WallTime { wall: Wall }, Pid { pid: u32 }, Extents { size: u64 }, Function { kind: Kind, func: u32, delta: u32 } }
+enum Kind { Entry, Exit, TailExit, EntryArgs }
+struct Event { cpu: u16, func: u32, kind: Kind, tsc: u64, arg: u64 }
+enum Rec { NewBuffer { thread: u32 }, NewCpu { cpu: u16, tsc: u64 }, TscWrap { tsc: u64 }, WallTime { wall: Wall }, Pid { pid: u32 }, CallArg { value: u64 }, Extents { size: u64 }, Function { kind: Kind, func: u32, delta: u32 } }
 enum RecFault { Short, Action(u8), Kind(u8) }
 fn rec_len(rec: &Rec) -> usize
 fn put_rec(rec: &Rec, buf: &mut [u8], at: usize) -> usize
@@ -68,7 +68,7 @@ fn decode(bytes: &[u8], at: usize) -> Result<(Instr, usize), DecodeFault>
 
 crate xray_image
 struct Image
-enum SledKind { Entry, Exit, Tail }
+enum SledKind { Entry, Exit, Tail, Args }
 struct Sled { address: u64, function: u64, id: u32, kind: SledKind, always: bool, shift: u32 }
 enum What { Plain(Instr), Sled(u32), Pad }
 struct Unit { address: u64, what: What }
@@ -100,7 +100,7 @@ fn Script::waits(&self) -> Option<u32>
 
 crate handler_word
 struct Marks
-enum Mark { Skipped, NoHandler, NotLogging, Recorded }
+enum Mark { Skipped, NoHandler, NotLogging, Recorded, RecordedArg }
 fn Marks::new(room: u32) -> Result<Marks, NoMemory>; add(&mut self, mark: Mark); len(&self) -> u32; get(&self, n: u32) -> Mark; recorded(&self) -> u32
 fn write_runs(marks: &Marks, sink: &mut S) -> Result<(), WriteFault>
 

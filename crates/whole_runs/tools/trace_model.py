@@ -18,23 +18,28 @@ VERSION = 3
 FLIGHT_DATA_RECORDER = 1
 CONSTANT, NONSTOP = 1, 2
 
-# The actions of function records.
-ENTRY, EXIT, TAIL_EXIT = range(3)
+# The actions of function records. An entry may log its first argument.
+ENTRY, EXIT, TAIL_EXIT, ENTRY_ARGS = range(4)
+ENTRIES = (ENTRY, ENTRY_ARGS)
 # The kinds of metadata records.
-NEW_BUFFER, NEW_CPU, TSC_WRAP, WALL_TIME, EXTENTS, PID = 0, 2, 3, 4, 7, 9
+NEW_BUFFER, NEW_CPU, TSC_WRAP, WALL_TIME, CALL_ARGUMENT, EXTENTS, PID = 0, 2, 3, 4, 6, 7, 9
 FUNCTION = "function"
 # The fields of each kind, from the record's second byte on.
-FIELDS = {NEW_BUFFER: "<I", NEW_CPU: "<HQ", TSC_WRAP: "<Q", WALL_TIME: "<QI", EXTENTS: "<Q", PID: "<I"}
+FIELDS = {
+    NEW_BUFFER: "<I", NEW_CPU: "<HQ", TSC_WRAP: "<Q", WALL_TIME: "<QI", CALL_ARGUMENT: "<Q", EXTENTS: "<Q", PID: "<I",
+}  # fmt: skip
 
 
 @dataclasses.dataclass(frozen=True)
 class Event:
-    """What a passing records: the CPU, the function's id, the action, and the cycle counter."""
+    """What a passing records: the CPU, the function's id, the action, the cycle counter, and the argument of an entry that
+    logs one."""
 
     cpu: int
     function: int
     action: int
     tsc: int
+    arg: int = 0
 
 
 @dataclasses.dataclass(frozen=True)
@@ -76,17 +81,19 @@ def metadata(kind, *fields):
     return (bytes([2 * kind + 1]) + struct.pack(FIELDS[kind], *fields)).ljust(METADATA_LENGTH, b"\0")
 
 
-def function_record(event, delta):
-    return struct.pack("<II", event.function << 4 | event.action << 1, delta)
+def function_records(event, delta):
+    """The function record of an event, and its argument if it logs one."""
+    record = struct.pack("<II", event.function << 4 | event.action << 1, delta)
+    return record + (metadata(CALL_ARGUMENT, event.arg) if event.action == ENTRY_ARGS else b"")
 
 
 def event_bytes(event, before):
     """The records of an event. `before` is the event before it in its buffer, or None."""
     if before is None or event.cpu != before.cpu:
-        return metadata(NEW_CPU, event.cpu, event.tsc) + function_record(event, 0)
+        return metadata(NEW_CPU, event.cpu, event.tsc) + function_records(event, 0)
     if not 0 <= event.tsc - before.tsc < WORD_32:
-        return metadata(TSC_WRAP, event.tsc) + function_record(event, 0)
-    return function_record(event, event.tsc - before.tsc)
+        return metadata(TSC_WRAP, event.tsc) + function_records(event, 0)
+    return function_records(event, event.tsc - before.tsc)
 
 
 def events_bytes(events):
@@ -197,7 +204,7 @@ class Reader:
         if first % 2 == 0:
             word, delta = struct.unpack_from("<II", self.content, self.at)
             action = word >> 1 & 7
-            if action > TAIL_EXIT:
+            if action > ENTRY_ARGS:
                 raise Refused("Bad", self.at, "Action", action)
             return FUNCTION, (word >> 4, action, delta)
         kind = first >> 1
@@ -256,6 +263,8 @@ def records_to(reader, end):
         kind, fields = reader.record()
         number = len(records)
         due = [(NEW_BUFFER,), (WALL_TIME,), (PID,)][number] if number < 3 else (NEW_CPU, TSC_WRAP, FUNCTION)
+        if number > 3 and takes_argument(*records[-1]):
+            due = (*due, CALL_ARGUMENT)
         if kind not in due:
             raise Refused("Order", reader.at)
         if kind in (TSC_WRAP, FUNCTION) and not has_base:
@@ -266,18 +275,25 @@ def records_to(reader, end):
     return records
 
 
+def takes_argument(kind, fields):
+    """Whether an argument may stand directly behind a record: an entry that logs one, or another argument."""
+    return kind == CALL_ARGUMENT or (kind == FUNCTION and fields[1] == ENTRY_ARGS)
+
+
 def events_in(records):
-    """The events of a block: each counter is the last whole one plus all deltas after it, in 64 bits."""
+    """The events of a block: each counter is the last whole one plus all deltas after it, in 64 bits. The argument of an
+    entry is the record directly behind it, if that is one. Further arguments have no meaning."""
     events = []
-    for kind, fields in records:
+    for at, (kind, fields) in enumerate(records):
         if kind == NEW_CPU:
             cpu, tsc = fields
         elif kind == TSC_WRAP:
             (tsc,) = fields
-        else:
+        elif kind == FUNCTION:
             function, action, delta = fields
             tsc = (tsc + delta) % WORD_64
-            events.append(Event(cpu, function, action, tsc))
+            (behind, argument), *_ = [*records[at + 1 : at + 2], (None, None)]
+            events.append(Event(cpu, function, action, tsc, *(argument if behind == CALL_ARGUMENT else ())))
     return events
 
 

@@ -199,8 +199,8 @@ def store_differences():
     for script, start, expected in STORES:
         commands = replay_model.commands_of(lines(script), straight, 1)
         go = next(number for number, command in enumerate(commands) if command.name == "go")
-        before = list(replay_model.Words(straight).stores(commands[:go]))
-        stores = list(replay_model.Words(straight).stores(commands))
+        before = list(replay_model.Words(straight, 1).stores(commands[:go]))
+        stores = list(replay_model.Words(straight, 1).stores(commands))
         if len(before) != start or expected not in (stores[: len(expected)], stores[-len(expected) :]):
             yield f"model: script {script!r}: {len(before)} micro steps before go, stores {stores}"
 

@@ -166,10 +166,11 @@ def recursion(options, recycled, size, *reports):
 
 
 def wrapped(options, recycled, kept):
-    """Threads that each fill four buffers of one event. This many are lost, and this many are left."""
+    """Threads that each fill four buffers of one event, since each passing is on another CPU than the one before. This many
+    are lost, and this many are left."""
     size = len(header()) + kept * (16 + 72)
     has = (f"recycled {recycled}",)
-    return beside("buffers are used again", options=f"--buffer-size 72 {options}", has=has, sizes={"t": size})
+    return beside("buffers are used again", options=f"--buffer-size 88 --cpus 2 --migrate 1 {options}", has=has, sizes={"t": size})
 
 
 UNORDERED = [
@@ -197,7 +198,7 @@ def refused(words, line, status):
 BAD_LINES = [
     "run i s", "run i s t", "run i s t a b", "run i s t t", "run i s i a", "run i s t s", "run i i t i",
     "run i s t a --threads 4 --buffer-max 3", "run i s t a --threads 17", "run i s t a --threads 0",
-    "run i s t a --threads 1 --threads 1", "run i s t a --thread 1", "run i s t a --buffer-size 71",
+    "run i s t a --threads 1 --threads 1", "run i s t a --thread 1", "run i s t a --buffer-size 87",
     "run i s t a --buffer-max 1024 --buffer-size 65520", "run i s t a --format csv", "run i s t a --threads",
 ]  # fmt: skip
 REFUSED = [

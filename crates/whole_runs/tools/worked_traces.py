@@ -214,37 +214,45 @@ REPLAYS = [
     ),
     *(
         replayed(
-            f"a buffer of {size} bytes has room for one event",
+            f"a buffer of {size} bytes has room for three events on one CPU",
+            file=CALL,
             options=f"--buffer-size {size}",
             leaves={
                 "t": header(f"{size:02X} 00 00 00")
-                + block("05", "10 00 00 00 00 00 00 00") + block("05 00 00 02", "12 00 00 00 00 00 00 00"),
+                + block("05", "10 00 00 00 00 00 00 00", "20 00 00 00 01 00 00 00", "22 00 00 00 00 00 00 00")
+                + block("05 00 00 02", "12 00 00 00 00 00 00 00"),
             },
-            has=("thread 1 returned passings 2 recorded 2 segments 2 first 0",),
-            sizes={"t": 208},
+            has=("thread 1 returned passings 4 recorded 4 segments 2 first 0",),
+            sizes={"t": 224},
         )
-        for size in (72, 79)
+        for size in (88, 95)
     ),
     replayed(
-        "a buffer of 80 bytes has room for two",
-        options="--buffer-size 80",
-        leaves={"t": header("50 00 00 00") + STRAIGHT_TRACE[32:]},
-        sizes={"t": 128},
+        "a buffer of 96 bytes has room for four",
+        file=CALL,
+        options="--buffer-size 96",
+        leaves={
+            "t": header("60 00 00 00")
+            + block(
+                "05", "10 00 00 00 00 00 00 00", "20 00 00 00 01 00 00 00", "22 00 00 00 00 00 00 00", "12 00 00 00 01 00 00 00",
+            ),
+        },  # fmt: skip
+        sizes={"t": 144},
     ),
     replayed(
         "threads take each other's oldest segments",
         file=CALL,
-        options="--threads 2 --buffer-size 72 --buffer-max 3",
+        options="--threads 2 --buffer-size 88 --cpus 2 --migrate 1 --buffer-max 3",
         has=(
             "thread 1 returned passings 4 recorded 4 segments 4 first 3",
             "thread 2 returned passings 4 recorded 4 segments 4 first 2",
             "recycled 5",
         ),
         leaves={
-            "t": header("48 00 00 00")
+            "t": header("58 00 00 00")
             + block("05 00 00 02", "12 00 00 00 00 00 00 00")
             + block("05 00 00 01", "22 00 00 00 00 00 00 00", thread="02")
-            + block("05 00 00 02", "12 00 00 00 00 00 00 00", thread="02"),
+            + block("05 01 00 02", "12 00 00 00 00 00 00 00", thread="02"),
         },
         sizes={"t": 296},
     ),
@@ -383,6 +391,24 @@ REPORTS = [
         refused("account t --sortorder=dsc", "bad command line", 1),
         file=image(f"fn {LONG_NAME} always / ret"),
     ),
+    reported(
+        "an entry has the first argument that stands behind it, and 0 without one",
+        header() + block(
+            "05", "16 00 00 00 01 00 00 00", "0D 07", "0D 09", "16 00 00 00 02 00 00 00", "12 00 00 00 03 00 00 00",
+            "26 00 00 00 04 00 00 00", "0D FF FF FF FF FF FF FF FF",
+        ),
+        Run("convert t i", " / ".join([
+            YAML_HEAD, "records:",
+            *(f"  - {{ type: 0, func-id: {number}, function: '{name}', cpu: 0, thread: 1, process: 1, kind: {kind}, tsc: {tsc} }}"
+              for number, name, kind, tsc in [
+                (1, "main", "function-enter-arg, args: [ 7 ]", 1), (1, "main", "function-enter-arg, args: [ 0 ]", 3),
+                (1, "main", "function-exit", 6), (2, "#2", f"function-enter-arg, args: [ {2**64 - 1} ]", 10),
+              ]),
+            "...",
+        ])),
+        Run("account t --format csv", f"{CSV_HEAD} / 1,1,3,3,3,3,3,3,1,0,#1 / 2,0,-,-,-,-,-,-,1,0,#2"),
+        Run("stack t --format flame", "#1;#1 3"),
+    ),
     reported("4,096 open calls", header() + block("05", *4096 * ONES), Run("stack t --format flame", "")),
     reported("4,097 open calls", header() + block("05", *4097 * ONES), refused("stack t", "t: trace Deep 1")),
     reported(
@@ -407,18 +433,21 @@ def filled(*records):
 
 
 CALLED = bytes.fromhex("10 00 00 00 00 00 00 00")
+LOGGED = bytes.fromhex("16 00 00 00 00 00 00 00")
 REFUSALS = [
     ("Version 2", bytes.fromhex("02 00") + header()[2:]),
     ("Version 65535", bytes.fromhex("FF FF 00") + header()[3:]),
     ("Form 0", bytes.fromhex("03 00 00 00") + header()[4:]),
     ("Short 32", header() + bytes(15)),
     ("Bad 32 Kind 1", header() + padded("03")),
-    ("Bad 32 Kind 6", header() + padded("0D")),
+    ("Bad 32 Kind 5", header() + padded("0B")),
     ("Bad 32 Kind 127", header() + padded("FF")),
-    ("Bad 32 Action 3", header() + padded("16")),
+    ("Bad 32 Action 4", header() + padded("18")),
     ("Bad 32 Action 7", header() + padded("1E")),
     ("Order 32", header() + padded("01 01")),
     ("Order 32", header() + padded("10")),
+    ("Order 32", header() + padded("0D")),
+    ("Order 32", header() + padded("16")),
     ("Extents 32", header() + extents(47) + bytes(47)),
     ("Short 32", header() + extents(49) + bytes(48)),
     ("Short 32", header() + extents(2**64 - 1) + bytes(48)),
@@ -432,7 +461,14 @@ REFUSALS = [
     ("Extents 96", header() + filled(*PREAMBLE, padded("05")[:15])),
     ("Extents 112", header() + filled(*PREAMBLE, padded("05"), CALLED[:7])),
     ("Extents 112", header() + filled(*PREAMBLE, padded("05"), padded("FF")[:8])),
-    ("Bad 112 Action 3", header() + filled(*PREAMBLE, padded("05"), bytes.fromhex("16 00 00 00 00 00 00 00"))),
+    ("Bad 112 Action 4", header() + filled(*PREAMBLE, padded("05"), bytes.fromhex("18 00 00 00 00 00 00 00"))),
+    ("Order 80", header() + filled(*PREAMBLE[:2], padded("0D"))),
+    ("Order 96", header() + filled(*PREAMBLE, padded("0D"))),
+    ("Order 112", header() + filled(*PREAMBLE, padded("05"), padded("0D"))),
+    ("Order 120", header() + filled(*PREAMBLE, padded("05"), CALLED, padded("0D"))),
+    ("Order 136", header() + filled(*PREAMBLE, padded("05"), LOGGED, padded("07"), padded("0D"))),
+    ("NoBase 96", header() + filled(*PREAMBLE, LOGGED, padded("0D"))),
+    ("Extents 120", header() + filled(*PREAMBLE, padded("05"), LOGGED, padded("0D")[:15])),
     ("Bad 112 Kind 8", header() + filled(*PREAMBLE, padded("05"), padded("11"))),
     ("Bad 112 Kind 5", header() + filled(*PREAMBLE, padded("05"), padded("0B"))),
     ("Short 128", STRAIGHT_TRACE + bytes(1)),
@@ -513,7 +549,7 @@ def row_differences(name, world, row, commands):
 def unpatched_exit_differences():
     """The bytes of an exit sled that was patched and unpatched: a return, and the rest of the patched sled."""
     straight = image_model.image_of(STRAIGHT_LINE)
-    words = replay_model.Words(straight)
+    words = replay_model.Words(straight, 1)
     list(words.stores(replay_model.commands_of(lines("patch / unpatch / go"), straight, 1)))
     head, number, opcode, distance = words.values[4:8]
     left = head.to_bytes(2, "little") + number.to_bytes(4, "little") + bytes([opcode]) + distance.to_bytes(4, "little")
@@ -525,7 +561,7 @@ def segment_differences():
     """Segments that grow event by event are those of all events at once."""
     draw = random.Random(1)
     for _ in range(200):
-        size, tsc, events = draw.choice([72, 73, 80, 88, 96, 97, 200, 400]), 0, []
+        size, tsc, events = draw.choice([88, 89, 96, 97, 104, 120, 200, 400]), 0, []
         grown = trace_model.Recorded(size)
         for _ in range(draw.randrange(40)):
             tsc = draw.choice([tsc, tsc + 1, tsc + draw.randrange(1 << 33), draw.randrange(1 << 64)]) % (1 << 64)

@@ -15,7 +15,7 @@ import run_model
 import soak_model
 from image_model import Refused, image_of, sled_map_text
 from machine_model import WORD_64, Thread, plain_text
-from replay_model import NUMBER_LIMIT, WAITING, commands_of, replayed, runs_text, turns_of
+from replay_model import NUMBER_LIMIT, RECORDED, WAITING, commands_of, replayed, runs_text, turns_of
 from report_model import account_text, stack_text, yaml_text
 from trace_model import AuditLine, Header, audit_text, file_bytes, trace_of
 
@@ -81,7 +81,7 @@ RUN_OPTIONS = {
 # Without `--wall` the wall time is that of the run.
 TRACE_OPTIONS = {
     **RUN_OPTIONS,
-    "buffer-size": Numbers(72, 1_048_576, 16_384),
+    "buffer-size": Numbers(88, 1_048_576, 16_384),
     "buffer-max": Numbers(1, 1024, 100),
     "tick": Numbers(0, LARGEST_64, 1),
     "tsc": Numbers(0, LARGEST_64, 0),
@@ -276,7 +276,7 @@ def traced(world, options, ended, buffers):
 
 def audit_line(thread, recorded):
     marks = runs_text(thread.marks)
-    count = thread.marks.count("+")
+    count = sum(mark in RECORDED for mark in thread.marks)
     return AuditLine(thread.end, thread.passings, count, len(recorded.segments), recorded.lost, marks)
 
 

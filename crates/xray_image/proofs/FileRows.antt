@@ -51,8 +51,8 @@ told base index p units places t = record {
   trampolines = t;
 }
 
-abbrev three : ℕ → ℕ → ℕ → Trampolines
-three entry exit tail = record { entry = entry; exit = exit; tail = tail }
+abbrev four : ℕ → ℕ → ℕ → ℕ → Trampolines
+four entry exit tail args = record { entry = entry; exit = exit; tail = tail; args = args }
 
 module _ (bytes : List ℕ) (h : Header) (head : HasHeader bytes) (is : IsHeaderOf bytes h) (p : FileParts) (there : parts_of bytes ≡ Some (parts_of_view p)) where
   pub code_few : length p.code.now < 2 ^ 32
@@ -115,11 +115,12 @@ module _ (bytes : List ℕ) (h : Header) (head : HasHeader bytes) (is : IsHeader
         ∙ ap (λ (ps : List SledPlace). told (base_address bytes) (entry_index bytes) p (units_from (base_address bytes) 0 units.pieces) ps (trampolines_of h.trampolines)) places_same
         ∙ ap (told (base_address bytes) (entry_index bytes) p (units_from (base_address bytes) 0 units.pieces) (places_from (base_address bytes) units.pieces)) trampolines_same
       where
-        trampolines_same : trampolines_of h.trampolines ≡ record { entry = number8_at bytes 32; exit = number8_at bytes 40; tail = number8_at bytes 48 }
+        trampolines_same : trampolines_of h.trampolines ≡ record { entry = number8_at bytes 32; exit = number8_at bytes 40; tail = number8_at bytes 48; args = number8_at bytes 56 }
         trampolines_same =
-            ap (λ (a : ℕ). three a h.trampolines.exit h.trampolines.tail) is.entry
-            ∙ ap (λ (a : ℕ). three (number8_at bytes 32) a h.trampolines.tail) is.exit
-            ∙ ap (three (number8_at bytes 32) (number8_at bytes 40)) is.tail
+            ap (λ (a : ℕ). four a h.trampolines.exit h.trampolines.tail h.trampolines.args) is.entry
+            ∙ ap (λ (a : ℕ). four (number8_at bytes 32) a h.trampolines.tail h.trampolines.args) is.exit
+            ∙ ap (λ (a : ℕ). four (number8_at bytes 32) (number8_at bytes 40) a h.trampolines.args) is.tail
+            ∙ ap (four (number8_at bytes 32) (number8_at bytes 40) (number8_at bytes 48)) is.args
 
     -- what the program reads as, the file reads as
     program_row : (v : Verdict) → ReadsProgram (map entry_of p.entries.items) (places_in u) (program_read h p u) v → ReadsAs bytes v

@@ -20,6 +20,14 @@ pub past_header : (bytes : List ℕ) (v : Verdict) → HasHeader bytes → Reads
 past_header bytes v h parts =
     inr (h.has_header, inr (h.magic_bytes, inr (h.first_version, inr (h.code_limit, inr ((h.some_function, h.functions_limit), inr (h.sleds_limit, inr (h.entry_exists, inr ((h.base_aligned, h.base_limit), parts))))))))
 
+pub version_other : (bytes : List ℕ) (h : Header) → IsHeaderOf bytes h → 64 ≤ length bytes → magic bytes ≡ codes "XRIM" → (h.version ≡ 1 → ⊥) → ReadsAs bytes (Err faults.Version)
+version_other bytes h is long begins other = inr (long, inr (begins, inl (λ first. other (is.version ∙ first), refl)))
+
+pub code_beyond : (bytes : List ℕ) (h : Header) → IsHeaderOf bytes h → 64 ≤ length bytes → magic bytes ≡ codes "XRIM" → h.version ≡ 1 → 1048576 < h.code_length
+    → ReadsAs bytes (Err (faults.Limit limits.Code))
+code_beyond bytes h is long begins first beyond =
+    inr (long, inr (begins, inr (sym is.version ∙ first, inl (λ within. let within' : h.code_length ≤ 1048576 = subst (λ (n : ℕ). n ≤ 1048576) (sym is.code_length) within in omega arith, refl))))
+
 module _ (bytes : List ℕ) (h : Header) (is : IsHeaderOf bytes h) (long : 64 ≤ length bytes) (begins : magic bytes ≡ codes "XRIM") (first : h.version ≡ 1) (code : h.code_length ≤ 1048576) where
   first_version : version bytes ≡ 1
   first_version = sym is.version ∙ first

@@ -81,9 +81,9 @@ module _ (h : Header) (p : FileParts) (u : CodeUnits) where
     pub few_entries : Order → length lines ≤ length spots
     few_entries all = omega (arith, as_many u.sleds.items p.entries.items all, ap length same_spots, ap length same_lines)
 
-    pub kinds_all : Order → Entries → All (λ e. e.kind < 3) lines
+    pub kinds_all : Order → Entries → All (λ e. e.kind < 4) lines
     kinds_all order entries =
-        subst (λ (ls : List RawMapEntry). All (λ e. e.kind < 3) ls) (sym same_lines)
+        subst (λ (ls : List RawMapEntry). All (λ e. e.kind < 4) ls) (sym same_lines)
         (kinds_known p.functions.items (places_in u) p.entries.items (in_order u.sleds.items p.entries.items order) entries)
 
     pub order_row : Functions → (fault : ImageFault) → IsFirstFault (HasOneAddress (map place_of spots) (map entry_of lines)) (λ i. faults.MapOrder i) fault → Told fault

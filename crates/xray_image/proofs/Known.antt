@@ -134,12 +134,13 @@ known_function base units before f =
 -- a kind fits what the code has, or not
 known_kind : (returns : Bool) (kind : ℕ) → Known (KindFits returns kind)
 known_kind true kind = cases_eq kind 1
-known_kind false kind = either (cases_eq kind 0) (cases_eq kind 2)
+known_kind false kind = any (cases_eq kind 0) (cases_eq kind 2) (cases_eq kind 3)
   where
-    either : Known (kind ≡ 0) → Known (kind ≡ 2) → Known (KindFits false kind)
-    either (inl a) b = inl (inl a)
-    either (inr no_entry) (inl b) = inl (inr b)
-    either (inr no_entry) (inr no_tail) = inr (λ k. elim k [ inl a ↦ no_entry a | inr b ↦ no_tail b ])
+    any : Known (kind ≡ 0) → Known (kind ≡ 2) → Known (kind ≡ 3) → Known (KindFits false kind)
+    any (inl a) b c = inl (inl a)
+    any (inr no_entry) (inl b) c = inl (inr (inl b))
+    any (inr no_entry) (inr no_tail) (inl c) = inl (inr (inr c))
+    any (inr no_entry) (inr no_tail) (inr no_args) = inr (λ k. elim k [ inl a ↦ no_entry a | inr (inl b) ↦ no_tail b | inr (inr c) ↦ no_args c ])
 
 -- an entry agrees with the code, or not
 pub known_entry : (functions : List Function) (place : SledPlace) (entry : MapEntry) → Known (IsEntryOf functions place entry)

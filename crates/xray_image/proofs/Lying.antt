@@ -102,10 +102,11 @@ places_ascend a (Align ∷ ps) = places_ascend (a + 1) ps
 
 -- ---- the map's entries
 
-kind_below : (returns : Bool) (kind : ℕ) → KindFits returns kind → kind < 3
+kind_below : (returns : Bool) (kind : ℕ) → KindFits returns kind → kind < 4
 kind_below true kind fits = omega (arith, fits)
 kind_below false kind (inl fits) = omega (arith, fits)
-kind_below false kind (inr fits) = omega (arith, fits)
+kind_below false kind (inr (inl fits)) = omega (arith, fits)
+kind_below false kind (inr (inr fits)) = omega (arith, fits)
 
 module _ (functions : List FunctionEntry) (places : List SledPlace) (lines : List RawMapEntry)
     (order : map (λ e. e.sled) (map entry_of lines) ≡ map (λ p. p.address) places)
@@ -121,8 +122,8 @@ module _ (functions : List FunctionEntry) (places : List SledPlace) (lines : Lis
       (each k (get_or places k p) (get_or (map entry_of lines) k (entry_of d)) (slice_get-get_or places k p (omega (arith, count)))
       (slice_get-get_or (map entry_of lines) k (entry_of d) (omega (arith, length-map lines entry_of)))).in_function
 
-  -- each line's kind is one of the three
-  pub kinds_known : All (λ e. e.kind < 3) lines
+  -- each line's kind is one of the four
+  pub kinds_known : All (λ e. e.kind < 4) lines
   kinds_known k d lt =
       let place : SledPlace = record { address = 0; shift = 0; returns = false } in
       let line : get_or (map entry_of lines) k (entry_of d) ≡ entry_of (get_or lines k d) = get_or-map entry_of lines k d (entry_of d) lt in

@@ -5,7 +5,7 @@ use Rattle.std.specs.Option.{unwrap_or}
 use Rattle.xray_io.specs.Piece.{hexadecimal}
 use Rattle.xray_image.specs.declared.sled.Sled.{Sled}
 use Rattle.xray_image.specs.declared.sled.SledKind.{SledKind}
-use Rattle.xray_image.specs.declared.sled.SledKind.TheVariants.{Entry, Exit, Tail}
+use Rattle.xray_image.specs.declared.sled.SledKind.TheVariants.{Entry, Exit, Tail, Args}
 use Rattle.xray_image.specs.Program.{Program}
 use Rattle.xray_image.specs.Ids.{name_of}
 
@@ -14,6 +14,7 @@ abbrev pub kind_text : SledKind → List ℕ
 kind_text Entry = codes "function-enter"
 kind_text Exit = codes "function-exit"
 kind_text Tail = codes "tail-exit"
+kind_text Args = codes "function-enter-arg"
 
 abbrev pub truth_text : Bool → List ℕ
 truth_text true = codes "true"

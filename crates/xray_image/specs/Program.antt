@@ -8,7 +8,7 @@ use Rattle.subset_decode.specs.declared.instr.Instr.TheVariants.{Mov, Add, Sub, 
 use Rattle.subset_decode.specs.Encoding.{spelling}
 use Rattle.xray_image.specs.declared.sled.Sled.{Sled}
 use Rattle.xray_image.specs.declared.sled.SledKind.{SledKind}
-use Rattle.xray_image.specs.declared.sled.SledKind.TheVariants.{Entry, Exit, Tail}
+use Rattle.xray_image.specs.declared.sled.SledKind.TheVariants.{Entry, Exit, Tail, Args}
 use Rattle.xray_image.specs.declared.unit.Unit.{Unit}
 use Rattle.xray_image.specs.declared.unit.What.TheVariants.{Plain}
 use Rattle.xray_image.specs.Units.{Piece, IsUnits, units_from, SledPlace, places_from}
@@ -20,11 +20,13 @@ pub record Trampolines : Type 0 where
   pub entry : ℕ
   pub exit : ℕ
   pub tail : ℕ
+  pub args : ℕ
 
 abbrev pub trampoline_of : Trampolines → SledKind → ℕ
 trampoline_of t Entry = t.entry
 trampoline_of t Exit = t.exit
 trampoline_of t Tail = t.tail
+trampoline_of t Args = t.args
 
 -- a program as its image file says: what contracts see of an `Image`
 pub record Program : Type 0 where
@@ -74,21 +76,23 @@ LiesIn functions address start =
 
 -- ---- the sled map
 
--- the kind of the map with this number: 0 entry, 1 exit, 2 tail; no other number is a kind
+-- the kind of the map with this number: 0 entry, 1 exit, 2 tail, 3 entry with argument logging; no other number is a
+-- kind
 abbrev pub numbered_kind : ℕ → Option SledKind
 numbered_kind zero = Some Entry
 numbered_kind (suc zero) = Some Exit
 numbered_kind (suc (suc zero)) = Some Tail
-numbered_kind (suc (suc (suc n))) = None
+numbered_kind (suc (suc (suc zero))) = Some Args
+numbered_kind (suc (suc (suc (suc n)))) = None
 
 -- the kind of a number that is one; accepted maps have no others (`KindFits`)
 abbrev pub kind_of : ℕ → SledKind
 kind_of number = unwrap_or (numbered_kind number) Entry
 
--- exit sleds begin with a return, and entry and tail sleds with a jump
+-- exit sleds begin with a return; entry sleds, with or without argument logging, and tail sleds begin with a jump
 abbrev pub KindFits : Bool → ℕ → Type 0
 KindFits true kind = kind ≡ 1
-KindFits false kind = (kind ≡ 0) ⊎ (kind ≡ 2)
+KindFits false kind = (kind ≡ 0) ⊎ (kind ≡ 2) ⊎ (kind ≡ 3)
 
 -- an entry agrees with the code about the sled at its place
 pub record IsEntryOf (functions : List Function) (place : SledPlace) (entry : MapEntry) : Type 0 where
@@ -164,7 +168,7 @@ program_of bytes parts pieces = record {
   functions = parts.functions;
   units = units_from (base_address bytes) 0 pieces;
   sleds = map (sled_of parts.entries) (zip (places_from (base_address bytes) pieces) parts.entries);
-  trampolines = record { entry = number8_at bytes 32; exit = number8_at bytes 40; tail = number8_at bytes 48 };
+  trampolines = record { entry = number8_at bytes 32; exit = number8_at bytes 40; tail = number8_at bytes 48; args = number8_at bytes 56 };
 }
 
 -- The bytes are an accepted image file, and the program is what it holds.

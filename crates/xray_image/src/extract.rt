@@ -92,6 +92,7 @@ fn kind_bytes(kind: SledKind) -> &'static [u8]
         SledKind::Entry => b"function-enter",
         SledKind::Exit => b"function-exit",
         SledKind::Tail => b"tail-exit",
+        SledKind::Args => b"function-enter-arg",
     }
 }
 

@@ -13,8 +13,7 @@ pub const MAGIC: [u8; 4] = [0x58, 0x52, 0x49, 0x4D];
 /// The version of the container.
 pub const VERSION: u32 = 1;
 
-/// The length of the header in bytes. The code follows it. The last eight bytes are the address of
-/// the trampoline of entry sleds that log arguments, which readers ignore.
+/// The length of the header in bytes. The code follows it.
 pub const HEADER_LENGTH: usize = 64;
 
 /// The place of the version in the header.
@@ -43,6 +42,9 @@ pub const EXIT_TRAMPOLINE_AT: usize = 40;
 
 /// The place in the header of the address of the tail sleds' trampoline.
 pub const TAIL_TRAMPOLINE_AT: usize = 48;
+
+/// The place in the header of the address of the trampoline of entry sleds with argument logging.
+pub const ARGS_TRAMPOLINE_AT: usize = 56;
 
 /// The longest code in bytes.
 pub const CODE_LIMIT: u32 = 1_048_576;

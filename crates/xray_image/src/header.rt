@@ -5,9 +5,9 @@ ghost use Rattle.std.specs.Prelude.{◌≡◌, ◌≤◌, length, OnOk, IfOk, If
 use crate::fault::{ImageFault, Which};
 use crate::fields::{u32_at, u64_at};
 use crate::format::{
-    BASE_ALIGNMENT, BASE_AT, BASE_LIMIT, CODE_LENGTH_AT, CODE_LIMIT, ENTRY_COUNT_AT,
-    ENTRY_INDEX_AT, ENTRY_TRAMPOLINE_AT, EXIT_TRAMPOLINE_AT, FUNCTION_COUNT_AT, FUNCTION_LIMIT,
-    HEADER_LENGTH, MAGIC, SLED_LIMIT, TAIL_TRAMPOLINE_AT, VERSION, VERSION_AT,
+    ARGS_TRAMPOLINE_AT, BASE_ALIGNMENT, BASE_AT, BASE_LIMIT, CODE_LENGTH_AT, CODE_LIMIT,
+    ENTRY_COUNT_AT, ENTRY_INDEX_AT, ENTRY_TRAMPOLINE_AT, EXIT_TRAMPOLINE_AT, FUNCTION_COUNT_AT,
+    FUNCTION_LIMIT, HEADER_LENGTH, MAGIC, SLED_LIMIT, TAIL_TRAMPOLINE_AT, VERSION, VERSION_AT,
 };
 use crate::sled::SledKind;
 
@@ -17,6 +17,7 @@ pub(crate) struct Trampolines {
     pub(crate) entry: u64,
     pub(crate) exit: u64,
     pub(crate) tail: u64,
+    pub(crate) args: u64,
 }
 
 impl Trampolines {
@@ -31,6 +32,7 @@ impl Trampolines {
             SledKind::Entry => self.entry,
             SledKind::Exit => self.exit,
             SledKind::Tail => self.tail,
+            SledKind::Args => self.args,
         }
     }
 }
@@ -101,6 +103,7 @@ impl Header {
                 entry: u64_at(bytes, ENTRY_TRAMPOLINE_AT),
                 exit: u64_at(bytes, EXIT_TRAMPOLINE_AT),
                 tail: u64_at(bytes, TAIL_TRAMPOLINE_AT),
+                args: u64_at(bytes, ARGS_TRAMPOLINE_AT),
             },
         }
     }

@@ -11,6 +11,8 @@ pub enum SledKind {
     Exit,
     /// Before a tail jump. Map kind 2.
     Tail,
+    /// At the entry of a function whose first argument may be logged. Map kind 3.
+    Args,
 }
 
 impl SledKind {
@@ -24,19 +26,21 @@ impl SledKind {
             SledKind::Entry => 0,
             SledKind::Exit => 1,
             SledKind::Tail => 2,
+            SledKind::Args => 3,
         }
     }
 
-    /// The kind of this number. The answer is `None` exactly for numbers above 2.
+    /// The kind of this number. The answer is `None` exactly for numbers above 3.
     pub fn from_number(number: u8) -> Option<SledKind>
-        ensures { MatchOption result (3 ≤ number)
+        ensures { MatchOption result (4 ≤ number)
             (λ kind. (number ≡ kind_number kind) × (kind ≡ kind_of number)) }
     {
         match number {
             0 => Some(SledKind::Entry),
             1 => Some(SledKind::Exit),
             2 => Some(SledKind::Tail),
-            _ => None,
+            3 => Some(SledKind::Args),
+            4..=u8::MAX => None,
         }
     }
 }
@@ -50,7 +54,7 @@ pub struct Sled {
     pub function: u64,
     /// That function's id, from 1.
     pub id: u32,
-    /// Entry, exit or tail.
+    /// At an entry, with or without argument logging, at an exit, or before a tail jump.
     pub kind: SledKind,
     /// Whether the function is always instrumented.
     pub always: bool,

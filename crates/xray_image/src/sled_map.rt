@@ -61,7 +61,7 @@ fn may_have_kind(returns: bool, kind: u8) -> bool
 {
     match SledKind::from_number(kind) {
         Some(SledKind::Exit) => returns,
-        Some(SledKind::Entry | SledKind::Tail) => !returns,
+        Some(SledKind::Entry | SledKind::Tail | SledKind::Args) => !returns,
         None => false,
     }
 }
@@ -102,7 +102,7 @@ pub(crate) fn check_entries(
 
 /// The kind of a sled by its number in the map, which was checked.
 fn kind_of(number: u8) -> SledKind
-    requires { number < 3 }
+    requires { number < 4 }
     ensures { result ≡ kind_of number }
 {
     match SledKind::from_number(number) {
@@ -129,7 +129,7 @@ pub(crate) fn check_distances(
 ) -> Result<(), ImageFault>
     requires few { length entries.now < 2 ^ 32 }
     requires spots { length entries.now ≤ length spots.now }
-    requires kinds { All (λ e. e.kind < 3) entries.now }
+    requires kinds { All (λ e. e.kind < 4) entries.now }
     ensures near { OnOk result ((i : ℕ) → FitsAt (map place_of spots.now) (map entry_of entries.now)
         (Reaches (trampolines_of trampolines.now)) i) }
     ensures refused { IfErr result (IsFirstFault (FitsAt (map place_of spots.now)
@@ -152,7 +152,7 @@ pub(crate) fn read_sleds(
     ids: &[u32],
 ) -> Result<Vec<Sled>, AllocError>
     requires spots { length entries.now ≤ length spots.now }
-    requires kinds { All (λ e. e.kind < 3) entries.now }
+    requires kinds { All (λ e. e.kind < 4) entries.now }
     requires ids { ids.now ≡ map (λ e. id_of (map entry_of entries.now) (function_address (entry_of e))) entries.now }
     ensures { IfOk result (λ sleds. sleds.items
         ≡ map (sled_of (map entry_of entries.now)) (zip (map place_of spots.now) (map entry_of entries.now))) }

@@ -1,7 +1,6 @@
 -- Reads and writes, one after the other.
-use Rattle.std.proofs.Common.{◌≡◌, ℕ, ◌+◌, ◌-◌, ◌<◌, ◌≤◌, List, [], ◌∷◌, ◌++◌, Vec, Result, Ok, Err, Option, length, take, drop, refl, sym, ap, subst, arith, length-take}
+use Rattle.std.proofs.Common.{◌≡◌, ℕ, ◌+◌, ◌-◌, ◌<◌, ◌≤◌, List, [], ◌∷◌, ◌++◌, Result, Ok, Err, Option, length, take, drop, refl, sym, ap, subst, arith, length-take}
 use Rattle.std.specs.Result.{IsErrAnd}
-use Rattle.std.specs.declared.alloc.Global.{Global}
 use Rattle.std.proofs.lemmas.List.{drop-drop, take-append-drop, take_rest}
 use Rattle.xray_io.specs.declared.faults.Failed.{Failed}
 use Rattle.xray_io.specs.declared.faults.ReadError.{ReadError}
@@ -24,18 +23,18 @@ reads_on name bound from at to (Read n start room (Ok got) ∷ calls) later p q 
     (p.0, p.1, p.2, p.3, reads_on name bound (start + got) at to calls later p.4 q)
 reads_on name bound from at to (call ∷ calls) later p q = absurd p
 
-one_read : (name : List ℕ) (bound from room got to : ℕ) (later : List Call) → from + room ≤ bound → 0 < got → to ≡ from + got → IsPiece name from room (Ok got) later → Reads name bound from to later
+one_read : (name : List ℕ) (bound from room got to : ℕ) (later : List Call) → from + room ≤ bound → 0 < got → to ≡ from + got → later ≡ Read name from room (Ok got) ∷ [] → Reads name bound from to later
 one_read name bound from room got to later fits some sum are =
     let P : List Call → Type 0 = Reads name bound from to in
     subst P (sym are) (refl, refl, fits, some, sym sum)
 
 -- reads up to a byte, and a piece more
-pub reads_more : {S : Type 0} {along : S → S → List Call → Type 0} → Composes along → (first second third : S) (name : List ℕ) (bound from room got to : ℕ)
-    → from + room ≤ bound → 0 < got → to ≡ from + got
-    → Went (along first second) (Reads name bound 0 from) → Went (along second third) (IsPiece name from room (Ok got)) → Went (along first third) (Reads name bound 0 to)
-reads_more {along = along} both first second third name bound from room got to fits some sum went then =
-    went_on along both first second third _ _ (Reads name bound 0 to) went then
-    (λ calls later p q. reads_on name bound 0 from to calls later p (one_read name bound from room got to later fits some sum q))
+pub reads_more : {S : Type 0} {along : S → S → List Call → Type 0} → Composes along → (first second third : S) (name : List ℕ) (limit from room got to : ℕ)
+    → from + room ≤ limit + 1 → 0 < got → to ≡ from + got
+    → Went (along first second) (Reads name (limit + 1) 0 from) → Went (along second third) (IsPiece name limit from room (Ok got)) → Went (along first third) (Reads name (limit + 1) 0 to)
+reads_more {along = along} both first second third name limit from room got to fits some sum went then =
+    went_on along both first second third _ _ (Reads name (limit + 1) 0 to) went then
+    (λ calls later p q. reads_on name (limit + 1) 0 from to calls later p (one_read name (limit + 1) from room got to later fits some sum q))
 
 up_to : (name : List ℕ) (bound from room : ℕ) (answer : _) (calls later : List Call) → 0 < room → from + room ≤ bound → Reads name bound 0 from calls → later ≡ Read name from room answer ∷ [] → ReadsUpTo name bound from answer (calls ++ later)
 up_to name bound from room answer calls later some fits p is = record {
@@ -48,35 +47,35 @@ up_to name bound from room answer calls later some fits p is = record {
 }
 
 -- reads up to a byte, and then one that gave nothing
-pub reads_end : {S : Type 0} {along : S → S → List Call → Type 0} → Composes along → (first second third : S) (name : List ℕ) (bound from room to : ℕ)
-    → 0 < room → from + room ≤ bound → to ≡ from
-    → Went (along first second) (Reads name bound 0 from) → Went (along second third) (IsPiece name from room (Ok 0)) → Went (along first third) (ReadsUpTo name bound to (Ok 0))
-reads_end {along = along} both first second third name bound from room to some fits same went then =
-    let P : ℕ → Type 0 = λ n. Went (along first third) (ReadsUpTo name bound n (Ok 0)) in
-    subst P (sym same) (went_on along both first second third _ _ (ReadsUpTo name bound from (Ok 0)) went then
-    (λ calls later p q. up_to name bound from room (Ok 0) calls later some fits p q))
+pub reads_end : {S : Type 0} {along : S → S → List Call → Type 0} → Composes along → (first second third : S) (name : List ℕ) (limit from room got : ℕ)
+    → 0 < room → from + room ≤ limit + 1 → got ≡ 0
+    → Went (along first second) (Reads name (limit + 1) 0 from) → Went (along second third) (IsPiece name limit from room (Ok got))
+    → Went (along first third) (ReadsUpTo name (limit + 1) from (Ok 0))
+reads_end {along = along} both first second third name limit from room got some fits none went then =
+    let P : ℕ → Type 0 = λ n. Went (along second third) (IsPiece name limit from room (Ok n)) in
+    went_on along both first second third _ _ (ReadsUpTo name (limit + 1) from (Ok 0)) went (subst P none then)
+    (λ calls later p q. up_to name (limit + 1) from room (Ok 0) calls later some fits p q)
 
-stops : (name : List ℕ) (limit from room : ℕ) (error : ReadError) (calls later : List Call) → 0 < room → from + room ≤ limit + 1 → Reads name (limit + 1) 0 from calls → IsPiece name from room (Err error) later → (answer : Result (Vec ℕ Global) ReadError) → answer ≡ Err error → IsReading name limit answer (calls ++ later)
-stops name limit from room errors.ReadFault calls later some fits p q answer is =
-    let P : Result (Vec ℕ Global) ReadError → Type 0 = λ a. IsReading name limit a (calls ++ later) in
-    subst P (sym is) (from, q.0, up_to name (limit + 1) from room (Err q.0) calls later some fits p q.1)
-stops name limit from room errors.TooLong calls later some fits p q answer is = absurd q
-stops name limit from room errors.NoMemory calls later some fits p q answer is =
-    let P : Result (Vec ℕ Global) ReadError → Type 0 = λ a. IsReading name limit a (calls ++ later) in
-    subst P (sym is) (from + q.0, reads_on name (limit + 1) 0 from (from + q.0) calls later p (one_read name (limit + 1) from room q.0 (from + q.0) later fits q.1 refl q.2))
+stops : (name : List ℕ) (limit from room : ℕ) (error : ReadError) (calls later : List Call) → 0 < room → from ≤ limit → from + room ≤ limit + 1 → Reads name (limit + 1) 0 from calls → IsPiece name limit from room (Err error) later → IsReading name limit (Err error) (calls ++ later)
+stops name limit from room errors.ReadFault calls later some below fits p q = (from, q.0, up_to name (limit + 1) from room (Err q.0) calls later some fits p q.1)
+stops name limit from room errors.TooLong calls later some below fits p (got, up, is) =
+    reads_on name (limit + 1) 0 from (limit + 1) calls later p (one_read name (limit + 1) from room got (limit + 1) later fits (omega arith) (sym up) is)
+stops name limit from room errors.NoMemory calls later some below fits p (got, more, is) =
+    (from + got, reads_on name (limit + 1) 0 from (from + got) calls later p (one_read name (limit + 1) from room got (from + got) later fits more refl is))
 
 err_is : {X E : Type 0} (answer : Result X E) (error : E) → IsErrAnd answer (λ e. e ≡ error) → answer ≡ Err error
 err_is (Ok value) error is = absurd is
 err_is (Err given) error is = ap Err is
 
--- reads up to a byte, and then one that failed
+-- reads up to a byte, and then one that failed, or gave too much, or gave more than there is memory for
 pub reads_stop : {S : Type 0} {along : S → S → List Call → Type 0} → Composes along → (first second third : S) (name : List ℕ) (limit from room : ℕ) (error : ReadError)
-    → 0 < room → from + room ≤ limit + 1
-    → Went (along first second) (Reads name (limit + 1) 0 from) → Went (along second third) (IsPiece name from room (Err error))
-    → (answer : Result (Vec ℕ Global) ReadError) → IsErrAnd answer (λ e. e ≡ error) → Went (along first third) (IsReading name limit answer)
-reads_stop {along = along} both first second third name limit from room error some fits went then answer is =
-    went_on along both first second third _ _ (IsReading name limit answer) went then
-    (λ calls later p q. stops name limit from room error calls later some fits p q answer (err_is answer error is))
+    → 0 < room → from ≤ limit → from + room ≤ limit + 1
+    → Went (along first second) (Reads name (limit + 1) 0 from) → Went (along second third) (IsPiece name limit from room (Err error))
+    → (answer : Result ℕ ReadError) → IsErrAnd answer (λ e. e ≡ error) → Went (along first third) (IsReading name limit answer)
+reads_stop {along = along} both first second third name limit from room error some below fits went then answer is =
+    let P : Result ℕ ReadError → Type 0 = λ a. Went (along first third) (IsReading name limit a) in
+    subst P (sym (err_is answer error is)) (went_on along both first second third _ _ (IsReading name limit (Err error)) went then
+    (λ calls later p q. stops name limit from room error calls later some below fits p q))
 
 -- ---- writes
 

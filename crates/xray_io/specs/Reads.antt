@@ -2,6 +2,7 @@
 use Rattle.std.specs.Prelude.{◌≡◌, ℕ, ◌+◌, ◌<◌, ◌≤◌, List, [], ◌∷◌, ◌++◌, length, Result, Ok, Err, Vec}
 use Rattle.std.specs.declared.alloc.Global.{Global}
 use Rattle.xray_io.specs.Calls.{Call, Read}
+use Rattle.xray_io.specs.Desk.{Entry, Holds}
 use Rattle.xray_io.specs.declared.faults.ReadError.{ReadError}
 use Rattle.xray_io.specs.declared.faults.ReadError.TheVariants as errors
 use Rattle.xray_io.specs.declared.faults.ReadFail.{ReadFail}
@@ -31,10 +32,23 @@ ReadsUpToFault name bound calls = (to : ℕ) × (fail : ReadFail) × ReadsUpTo n
 abbrev pub ReadsSome : List ℕ → (bound : ℕ) → List Call → Type 0
 ReadsSome name bound calls = (to : ℕ) × Reads name bound 0 to calls
 
--- The reads that answer a request for the whole of a name. They end with one that gives nothing, with one that fails,
--- or with the first byte that is too many. If an allocation is refused, they may end after any byte.
-abbrev pub IsReading : List ℕ → (limit : ℕ) → Result (Vec ℕ Global) ReadError → List Call → Type 0
-IsReading name limit (Ok content) calls = ReadsUpTo name (limit + 1) (length content.items) (Ok 0) calls
+-- The reads that answer a request for the whole of a name, by how many bytes that was. They end with one that gives
+-- nothing, with one that fails, or with the first byte that is too many. If an allocation is refused, they may end after
+-- any byte.
+abbrev pub IsReading : List ℕ → (limit : ℕ) → Result ℕ ReadError → List Call → Type 0
+IsReading name limit (Ok count) calls = ReadsUpTo name (limit + 1) count (Ok 0) calls
 IsReading name limit (Err errors.ReadFault) calls = ReadsUpToFault name (limit + 1) calls
 IsReading name limit (Err errors.TooLong) calls = Reads name (limit + 1) 0 (limit + 1) calls
 IsReading name limit (Err errors.NoMemory) calls = ReadsSome name (limit + 1) calls
+
+-- how many bytes were read, if they were kept
+abbrev pub count_read : Result (Vec ℕ Global) ReadError → Result ℕ ReadError
+count_read (Ok content) = Ok (length content.items)
+count_read (Err error) = Err error
+
+-- It was fed all bytes that a name holds, so many.
+pub record IsFedWhole {F : Type 0} (Fed : F → List ℕ → Type 0) (feed : F) (entry : Entry) (count : ℕ) : Type 0 where
+  pub bytes : List ℕ
+  pub has : Fed feed bytes
+  pub counted : length bytes ≡ count
+  pub whole : (content : List ℕ) → entry ≡ Holds content → bytes ≡ content

@@ -85,7 +85,7 @@ is_traced : CallLaws → (Lawful : Program → Plan → List ThreadRun → (ℕ 
     → IsAccepted image program → plan_of program setup.threads script ≡ Ok plan → (traces : Traces Were program setup t a outputs text)
     → OutputsAreWhole outputs before.desk.held after.desk.held → Adds before.out.written after.out.written text
     → (loads : ℕ → List Load) → Lawful program plan traces.runs loads
-    → EachThread traces.runs (λ number run. DecodesWhole program number (hold_of number (commands_of plan.lines)) run (loads number))
+    → EachThread traces.runs (λ number run. DecodesWhole program setup.threads number (hold_of number (commands_of plan.lines)) run (loads number))
     → AreLost setup.size (spare_of setup) traces.runs → IsTraced Lawful image script t a setup before after
 is_traced laws Lawful Were before after t a image script setup is outputs text program plan accepted reads traces whole adds loads lawful decoded losses =
     let hold = files_hold t a setup traces.runs outputs before.desk.held after.desk.held traces.outputs_are whole in
@@ -102,7 +102,7 @@ is_traced laws Lawful Were before after t a image script setup is outputs text p
         loads = loads;
         lawful = lawful;
         whole = decoded;
-        executes = λ i run found. laws.executes image program setup.limits (i + 1) (hold_of (i + 1) (commands_of plan.lines)) run (loads (i + 1))
+        executes = λ i run found. laws.executes image program setup.limits setup.threads (i + 1) (hold_of (i + 1) (commands_of plan.lines)) run (loads (i + 1))
             accepted (traces.run.plain i run found) (decoded i run found);
       };
       losses = losses;
@@ -154,7 +154,7 @@ beside_by : CallLaws → (before after : World) (i s t a image script : List ℕ
     → (outputs : List (List ℕ × List ℕ)) (text : List ℕ) → before.desk.held i ≡ Holds image → before.desk.held s ≡ Holds script
     → RunComes Sound before.desk.held i s t a setup (Done outputs text)
     → OutputsAreWhole outputs before.desk.held after.desk.held → Adds before.out.written after.out.written text
-    → IsTraced LoadsFollowPlan image script t a setup before after
+    → IsTraced (LoadsFollowPlan setup) image script t a setup before after
 beside_by laws before after i s t a image script setup is outputs text image_held script_held comes whole adds =
     let held = before.desk.held in
     let first = read_on image_form held i
@@ -164,18 +164,18 @@ beside_by laws before after i s t a image script setup is outputs text image_hel
     (λ plan. RunsBeside t a setup first.value plan) outputs text script script_held first.next in
     let traces = left_alike (Traces (FollowsPlan setup first.value second.value) first.value setup t a) outputs text second.next in
     let commands = commands_of second.value.lines in
-    let made = leave_all first.value commands traces.runs traces.lawful.follow in
-    is_traced laws LoadsFollowPlan (FollowsPlan setup first.value second.value) before after t a image script setup is
+    let made = leave_all first.value setup.threads commands traces.runs traces.lawful.follow in
+    is_traced laws (LoadsFollowPlan setup) (FollowsPlan setup first.value second.value) before after t a image script setup is
     outputs text first.value second.value first.reads second.reads traces whole adds made.loads
     (record {
       follow = λ i run found. (made.are i run found).follow;
       released = λ i run found. (made.are i run found).released;
     })
     (λ i run found. record {
-      wanted = laws.wanted first.value _ _ _ (i + 1) _ _ _ _ (made.are i run found).follow;
+      wanted = laws.wanted first.value setup.threads _ _ _ (i + 1) _ _ _ _ (made.are i run found).follow;
       each = (made.are i run found).each ∙ length-map run.passed (λ (p : Passing). p.sled);
       marks = (made.are i run found).leave;
-      whole = laws.follows first.value _ _ _ (i + 1) _ _ _ _ (laws.keeps first.value commands (i + 1)) (made.are i run found).follow;
+      whole = laws.follows first.value setup.threads _ _ _ (i + 1) _ _ _ _ (laws.keeps first.value setup.threads commands (i + 1)) (made.are i run found).follow;
     })
     traces.lawful.losses
 

@@ -16,7 +16,7 @@ use Rattle.xray_program.specs.Accepted.{AcceptsImage, AcceptsReport}
 use Rattle.xray_program.specs.Order.{ReadsAll}
 use Rattle.xray_program.specs.Outcomes.{Outcome}
 use Rattle.xray_program.specs.Reports.{TakeReport, report_inputs}
-use Rattle.xray_program.specs.private.ReportTakes.{IsReportTaken}
+use Rattle.xray_program.specs.private.ReportTakes.{ComesOfMeant, IsReportTaken}
 use Rattle.xray_program.specs.private.Takes.{AreTaken, AreTakings, IsMaybeTaken, IsMaybeTaking, IsTaken}
 use Rattle.xray_program.specs.Taking.{Form, IsAcceptedAs, Sound, TakeMaybe}
 use Rattle.xray_program.specs.declared.report_inputs.ReportInputs.{ReportInputs}
@@ -36,31 +36,33 @@ to_image form held log image next t given =
     (λ reads t. TakeMaybe image_form reads held image (λ program. next t program)) t (leads (λ reads. TakeReport form reads held log image next)) given
 
 -- whatever follows the inputs comes of them
-pub report_taken : {X : Type 0} (form : Form X) (log : List ℕ) (image : Option (List ℕ)) (next : X → Option Program → Outcome → Type 0) (before after : DeskView)
-    (result : Result (ReportInputs X) Stop) → IsReportTaken form log image before after result
-    → AreTaken (λ reads. TakeReport form reads before.held log image next) (λ inputs. next inputs.log inputs.image) before after result
-report_taken form log image next before after (Ok inputs) (given, turn) = λ reads outcome is.
-    maybe_leads_on image_form (λ reads. TakeReport form reads before.held log image next) before turn.mid after image (λ reads program. next inputs.log program)
-    inputs.image (to_image form before.held log image next inputs.log given) turn.same turn.taken reads outcome is
-report_taken form log image next before after (Err stop) (inl taken) =
+pub report_taken : {V X : Type 0} (form : Form X) (means : V → X → Type 0) (log : List ℕ) (image : Option (List ℕ)) (next : X → Option Program → Outcome → Type 0)
+    (before after : DeskView) (result : Result (ReportInputs V) Stop) → IsReportTaken form means log image before after result
+    → AreTaken (λ reads. TakeReport form reads before.held log image next) (ComesOfMeant means next) before after result
+report_taken form means log image next before after (Ok inputs) (meant, says, given, turn) = λ reads outcome is.
+    maybe_leads_on image_form (λ reads. TakeReport form reads before.held log image next) before turn.mid after image (λ reads program. next meant program)
+    inputs.image (to_image form before.held log image next meant given) turn.same turn.taken reads outcome (is meant says)
+report_taken form means log image next before after (Err stop) (inl taken) =
     stops_at form (λ reads. TakeReport form reads before.held log image next) before before after log
     (λ reads t. TakeMaybe image_form reads before.held image (λ program. next t program)) stop
     (leads (λ reads. TakeReport form reads before.held log image next)) refl (le_refl _) taken
-report_taken form log image next before after (Err stop) (inr (t, given, turn)) =
+report_taken form means log image next before after (Err stop) (inr (t, given, turn)) =
     maybe_stops_at image_form (λ reads. TakeReport form reads before.held log image next) before turn.mid after image (λ reads program. next t program) stop
     (to_image form before.held log image next t given) turn.same turn.later turn.taken
 
 -- the stop that a `?` passes on
-pub stop_of_log : {X : Type 0} (form : Form X) (log : List ℕ) (image : Option (List ℕ)) (before after : DeskView) (result : Result (ReportInputs X) Stop) (stop : Stop)
-    → IsErrAnd result (λ s. s ≡ stop) → IsTaken form log before after (Err stop) → IsReportTaken form log image before after result
-stop_of_log form log image before after (Ok inputs) stop is taken = absurd is
-stop_of_log form log image before after (Err s) stop is taken = inl (rw is taken)
+pub stop_of_log : {V X : Type 0} (form : Form X) (means : V → X → Type 0) (log : List ℕ) (image : Option (List ℕ)) (before after : DeskView)
+    (result : Result (ReportInputs V) Stop) (stop : Stop) → IsErrAnd result (λ s. s ≡ stop)
+    → IsTaken form log before after (Err stop) → IsReportTaken form means log image before after result
+stop_of_log form means log image before after (Ok inputs) stop is taken = absurd is
+stop_of_log form means log image before after (Err s) stop is taken = inl (rw is taken)
 
-pub stop_of_image : {X : Type 0} (form : Form X) (log : List ℕ) (image : Option (List ℕ)) (before mid after : DeskView) (t : X) (result : Result (ReportInputs X) Stop) (stop : Stop)
-    → IsErrAnd result (λ s. s ≡ stop) → mid.held ≡ before.held → before.read_faults ≤ mid.read_faults → IsAcceptedAs form (before.held log) t
-    → IsMaybeTaken image_form image mid after (Err stop) → IsReportTaken form log image before after result
-stop_of_image form log image before mid after t (Ok inputs) stop is same later given taken = absurd is
-stop_of_image form log image before mid after t (Err s) stop is same later given taken =
+pub stop_of_image : {V X : Type 0} (form : Form X) (means : V → X → Type 0) (log : List ℕ) (image : Option (List ℕ)) (before mid after : DeskView) (t : X)
+    (result : Result (ReportInputs V) Stop) (stop : Stop) → IsErrAnd result (λ s. s ≡ stop)
+    → mid.held ≡ before.held → before.read_faults ≤ mid.read_faults → IsAcceptedAs form (before.held log) t
+    → IsMaybeTaken image_form image mid after (Err stop) → IsReportTaken form means log image before after result
+stop_of_image form means log image before mid after t (Ok inputs) stop is same later given taken = absurd is
+stop_of_image form means log image before mid after t (Err s) stop is same later given taken =
     inr (t, given, record { mid = mid; same = same; later = later; taken = rw is taken })
 
 -- ---- the calls

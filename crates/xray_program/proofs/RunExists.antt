@@ -1,5 +1,5 @@
 -- There are lawful runs beside each script that is read.
-use Rattle.std.proofs.Common.{◌≡◌, ℕ, zero, suc, ◌+◌, ◌<◌, List, [], ◌∷◌, length, Option, Some, None, Ok, refl, sym, ap, subst, ◌∙◌, arith}
+use Rattle.std.proofs.Common.{◌≡◌, ℕ, zero, suc, ◌+◌, ◌<◌, ◌≤◌, List, [], ◌∷◌, length, Option, Some, None, Ok, refl, sym, ap, subst, ◌∙◌, arith}
 use Rattle.std.specs.Prelude.{option_map, slice_get}
 use Rattle.std.proofs.lemmas.List.{length-map}
 use Rattle.std.proofs.lemmas.Option.{slice_get-map}
@@ -30,15 +30,15 @@ use Rattle.xray_program.proofs.PlainLaws.{SomeEnd}
 -- each script that is read lets its threads come to their ends
 abbrev pub ScriptLetsEnd : Type 0
 ScriptLetsEnd = (program : Program) (threads : ℕ) (text : List ℕ) (plan : Plan) (thread : ℕ) → 0 < thread → plan_of program threads text ≡ Ok plan
-    → LetsEnd program thread (hold_of thread (commands_of plan.lines)) (code_at program (commands_of plan.lines))
-    (start_of program (commands_of plan.lines)) (total_of program (commands_of plan.lines)) (bound_of program (commands_of plan.lines) thread)
+    → LetsEnd program thread (hold_of thread (commands_of plan.lines)) (code_at program threads (commands_of plan.lines))
+    (start_of program threads (commands_of plan.lines)) (total_of program threads (commands_of plan.lines)) (bound_of program threads (commands_of plan.lines) thread)
 
 -- a thread that comes to its end has marks
 abbrev pub SomeMarks : Type 0
-SomeMarks = (program : Program) (limits : Limits) (thread : ℕ) (passed : List Passing) (end : End) (last : State) (code : ℕ → ℕ → ℕ)
-    (start total : ℕ) (bound : ℕ → ℕ) (hold : Option ℕ) → 0 < thread → PlainRun program limits thread passed end last
+SomeMarks = (program : Program) (limits : Limits) (threads thread : ℕ) (passed : List Passing) (end : End) (last : State) (code : ℕ → ℕ → ℕ)
+    (start total : ℕ) (bound : ℕ → ℕ) (hold : Option ℕ) → 0 < thread → thread ≤ threads → PlainRun program limits thread passed end last
     → LetsEnd program thread hold code start total bound
-    → (marks : List Mark) × MarksFollow program code start bound thread hold (sleds_passed passed) marks total
+    → (marks : List Mark) × MarksFollow program threads code start bound thread hold (sleds_passed passed) marks total
 
 -- some losses of runs are those of one queue
 abbrev pub SomeLosses : Type 0
@@ -54,16 +54,16 @@ SomeRuns = (bytes text : List ℕ) (program : Program) (plan : Plan) (setup : Se
 
 record IsBeside (program : Program) (script : List Command) (setup : Setup) (thread : ℕ) (run : ThreadRun) : Type 0 where
   plain : PlainRun program setup.limits thread run.passed run.end run.last
-  follow : MarksFollowScript program script thread (sleds_passed run.passed) run.marks
+  follow : MarksFollowScript program setup.threads script thread (sleds_passed run.passed) run.marks
 
 one_beside : SomeEnd → ScriptLetsEnd → SomeMarks → (bytes text : List ℕ) (program : Program) (plan : Plan) (setup : Setup) (thread : ℕ)
-    → IsAccepted bytes program → plan_of program setup.threads text ≡ Ok plan → 0 < thread
+    → IsAccepted bytes program → plan_of program setup.threads text ≡ Ok plan → 0 < thread → thread ≤ setup.threads
     → (run : ThreadRun) × IsBeside program (commands_of plan.lines) setup thread run
-one_beside ends lets marks bytes text program plan setup thread accepted reads some =
+one_beside ends lets marks bytes text program plan setup thread accepted reads some known =
     let plain = ends bytes program setup.limits thread accepted in
     let script = commands_of plan.lines in
-    let marked = marks program setup.limits thread plain.0 plain.1 plain.2 (code_at program script) (start_of program script)
-    (total_of program script) (bound_of program script thread) (hold_of thread script) some plain.3
+    let marked = marks program setup.limits setup.threads thread plain.0 plain.1 plain.2 (code_at program setup.threads script) (start_of program setup.threads script)
+    (total_of program setup.threads script) (bound_of program setup.threads script thread) (hold_of thread script) some known plain.3
     (lets program setup.threads text plan thread some reads) in (
       record { passed = plain.0; end = plain.1; last = plain.2; marks = marked.0; lost = 0 },
       record { plain = plain.3; follow = marked.1 },
@@ -93,13 +93,13 @@ one_before program script setup number first runs is are (suc i) run found =
     let there : number + 1 + i ≡ number + suc i = omega arith in
     subst (λ (t : ℕ). IsBeside program script setup t run) there (are i run found)
 
-all_beside : (program : Program) (script : List Command) (setup : Setup) (number n : ℕ) → 0 < number
-    → ((thread : ℕ) → 0 < thread → (run : ThreadRun) × IsBeside program script setup thread run)
+all_beside : (program : Program) (script : List Command) (setup : Setup) (number n : ℕ) → 0 < number → number + n ≤ setup.threads + 1
+    → ((thread : ℕ) → 0 < thread → thread ≤ setup.threads → (run : ThreadRun) × IsBeside program script setup thread run)
     → (runs : List ThreadRun) × (length runs ≡ n) × AreBeside program script setup number runs
-all_beside program script setup number zero some one = ([], refl, λ i run found. absurd (no_run i run found))
-all_beside program script setup number (suc n) some one =
-    let first = one number some in
-    let rest = all_beside program script setup (number + 1) n (omega arith) one in
+all_beside program script setup number zero some known one = ([], refl, λ i run found. absurd (no_run i run found))
+all_beside program script setup number (suc n) some known one =
+    let first = one number some (omega (arith, known)) in
+    let rest = all_beside program script setup (number + 1) n (omega arith) (omega (arith, known)) one in
     (first.0 ∷ rest.0, ap suc rest.1, one_before program script setup number first.0 rest.0 first.1 rest.2)
 
 -- ---- losses
@@ -129,8 +129,8 @@ same_count runs others same = sym (length-map others without_loss) ∙ (ap lengt
 pub some_runs : SomeEnd → ScriptLetsEnd → SomeMarks → SomeLosses → SomeRuns
 some_runs ends lets marks losses bytes text program plan setup accepted reads =
     let script = commands_of plan.lines in
-    let made = all_beside program script setup 1 setup.threads (omega arith)
-    (λ thread some. one_beside ends lets marks bytes text program plan setup thread accepted reads some) in
+    let made = all_beside program script setup 1 setup.threads (omega arith) (omega arith)
+    (λ thread some known. one_beside ends lets marks bytes text program plan setup thread accepted reads some known) in
     let lost = losses setup.size (spare_of setup) made.0 in
     let are = but_for_losses program script setup made.0 lost.0 lost.1 made.2 in (
       lost.0,

@@ -47,31 +47,31 @@ chosen P (first ∷ runs) each =
 
 -- the loads of the thread of a run follow a script to its end, leave a mark for each of its passings, and no release word
 -- among them held it
-pub record LeavesMarks (program : Program) (script : List Command) (i : ℕ) (run : ThreadRun) (loads : List Load) : Type 0 where
-  pub follow : LoadsFollow program script (i + 1) (sleds_passed run.passed) loads (total_of program script)
+pub record LeavesMarks (program : Program) (threads : ℕ) (script : List Command) (i : ℕ) (run : ThreadRun) (loads : List Load) : Type 0 where
+  pub follow : LoadsFollow program threads script (i + 1) (sleds_passed run.passed) loads (total_of program threads script)
   pub each : length run.marks ≡ length (sleds_passed run.passed)
-  pub leave : run.marks ≡ marks_of program (i + 1) (hold_of (i + 1) script) (sleds_passed run.passed) loads
+  pub leave : run.marks ≡ marks_of program threads (i + 1) (hold_of (i + 1) script) (sleds_passed run.passed) loads
   pub released : All (λ load. load.word ≡ release_word program (i + 1) → load.value ≢ 0) loads
 
 -- the loads of all threads, by their numbers
-pub record LeaveAll (program : Program) (script : List Command) (runs : List ThreadRun) : Type 0 where
+pub record LeaveAll (program : Program) (threads : ℕ) (script : List Command) (runs : List ThreadRun) : Type 0 where
   pub loads : ℕ → List Load
-  pub are : (i : ℕ) (run : ThreadRun) → slice_get runs i ≡ Some run → LeavesMarks program script i run (loads (i + 1))
+  pub are : (i : ℕ) (run : ThreadRun) → slice_get runs i ≡ Some run → LeavesMarks program threads script i run (loads (i + 1))
 
-pub leave_all : (program : Program) (script : List Command) (runs : List ThreadRun)
-    → ((i : ℕ) (run : ThreadRun) → slice_get runs i ≡ Some run → MarksFollowScript program script (i + 1) (sleds_passed run.passed) run.marks)
-    → LeaveAll program script runs
-leave_all program script runs follow = record {
+pub leave_all : (program : Program) (threads : ℕ) (script : List Command) (runs : List ThreadRun)
+    → ((i : ℕ) (run : ThreadRun) → slice_get runs i ≡ Some run → MarksFollowScript program threads script (i + 1) (sleds_passed run.passed) run.marks)
+    → LeaveAll program threads script runs
+leave_all program threads script runs follow = record {
   loads = λ number. all.loads (number - 1);
   are = λ i run found.
       let place : i ≡ i + 1 - 1 = omega arith in
-      subst (λ (k : ℕ). LeavesMarks program script i run (all.loads k)) place (all.are i run found);
+      subst (λ (k : ℕ). LeavesMarks program threads script i run (all.loads k)) place (all.are i run found);
 }
   where
-    one : (i : ℕ) (run : ThreadRun) → slice_get runs i ≡ Some run → (loads : List Load) × LeavesMarks program script i run loads
+    one : (i : ℕ) (run : ThreadRun) → slice_get runs i ≡ Some run → (loads : List Load) × LeavesMarks program threads script i run loads
     one i run found =
         let made = follow i run found in
         (made.loads, record { follow = made.follow; each = made.each; leave = made.leave; released = made.released })
 
-    all : Chosen (LeavesMarks program script) runs
-    all = chosen (LeavesMarks program script) runs one
+    all : Chosen (LeavesMarks program threads script) runs
+    all = chosen (LeavesMarks program threads script) runs one

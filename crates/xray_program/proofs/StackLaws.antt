@@ -1,10 +1,15 @@
 -- `stack`: one thing comes of it, and something in any case.
-use Rattle.std.proofs.Common.{◌≡◌, ◌∙◌, ℕ, List, [], Option, None, option_map, refl, sym, codes}
+use Rattle.std.proofs.Common.{◌≡◌, ◌∙◌, ℕ, List, [], map, Option, None, option_map, Result, Ok, Err, Vec, refl, sym, subst, codes}
+use Rattle.std.specs.Prelude.{IfErr, IfOk, OnOk}
+use Rattle.std.specs.declared.alloc.Global.{Global}
 use Rattle.command_words.specs.declared.report_options.StackFormat.{StackFormat}
+use Rattle.fdr_file.specs.declared.trace.Block.{Block}
 use Rattle.fdr_file.specs.declared.trace.Trace.{Trace}
 use Rattle.stack_rebuild.specs.FaultWords.{deep_words}
-use Rattle.stack_rebuild.specs.Stacks.{deep_in, most_open, stack_of}
+use Rattle.stack_rebuild.specs.Stacks.{IsDeepFault, deep_in, most_open, stack_of, told}
 use Rattle.stack_rebuild.specs.StackText.{stack_text}
+use Rattle.stack_rebuild.specs.declared.stack_row.StackFault.{StackFault}
+use Rattle.stack_rebuild.specs.declared.stack_row.StackRow.{StackRow}
 use Rattle.xray_image.specs.Program.{Program}
 use Rattle.xray_io.specs.Desk.{Entry}
 use Rattle.xray_program.specs.Commands.{TellsAll}
@@ -12,6 +17,7 @@ use Rattle.xray_program.specs.Inputs.{image_form}
 use Rattle.xray_program.specs.Outcomes.{Outcome, Done}
 use Rattle.xray_program.specs.Stack.{StackComes, StacksCome, form_of}
 use Rattle.xray_program.specs.Taking.{Sound}
+use Rattle.xray_program.specs.private.Meant.{StacksMean}
 use Rattle.xray_program.proofs.Meanings.{AnyOutcome, HoldsBytes, IsAlone, IsDecided, IsJudged, SomeOutcome, refuse_alone, some_refuse}
 use Rattle.xray_program.proofs.Reports.{report_alone, report_some}
 
@@ -37,3 +43,17 @@ stack_some is held trace image format told holds =
 pub stack_prints : (trace : List ℕ) (format : StackFormat) (t : Trace) (program : Option Program) (outcome : Outcome)
     → deep_in most_open t.blocks ≡ None → printed format t program outcome → StacksCome trace format t program outcome
 stack_prints trace format t program outcome shallow is = rw shallow is
+
+-- what a fold of the blocks of a trace gives is kept of the trace
+pub stacks_kept : (Took : List Block → Type 0) (kept : Result (Vec StackRow Global) StackFault) (t : Trace)
+    → IfOk kept (λ rows. (blocks : List Block) → Took blocks → map told rows.items ≡ stack_of blocks)
+    → OnOk kept ((blocks : List Block) → Took blocks → deep_in most_open blocks ≡ None)
+    → IfErr kept (λ fault. (blocks : List Block) → Took blocks → IsDeepFault fault (deep_in most_open blocks))
+    → Took t.blocks → StacksMean kept t
+stacks_kept Took (Ok rows) t are shallow deep took = (are t.blocks took, shallow t.blocks took)
+stacks_kept Took (Err fault) t are shallow deep took = deep t.blocks took
+
+-- what rows say of a trace, if they are what was kept of it
+pub stacks_told : (kept : Result (Vec StackRow Global) StackFault) (rows : Vec StackRow Global) (t : Trace) → kept ≡ Ok rows → StacksMean kept t
+    → (map told rows.items ≡ stack_of t.blocks) × (deep_in most_open t.blocks ≡ None)
+stacks_told kept rows t is means = subst (λ k. StacksMean k t) is means

@@ -85,7 +85,7 @@ abbrev pub RunIsTraced : Option Command → (before after : World) → Type 0
 RunIsTraced said before after =
     (i s t a image script : List ℕ) (options : RunOptions) → said ≡ Some (Run i s t a options)
     → before.desk.held i ≡ Holds image → before.desk.held s ≡ Holds script
-    → IsTraced LoadsFollowPlan image script t a (setup_of options) before after
+    → IsTraced (LoadsFollowPlan (setup_of options)) image script t a (setup_of options) before after
 
 -- The whole contract of a call. Its status and its line on err are those of one ending.
 pub record Answered (said : Option Command) (before after : World) (Way : List Call → Type 0) (answer : ℕ) : Type 0 where

@@ -21,7 +21,7 @@ use Rattle.xray_program.specs.Traced.{Traces}
 -- The law of `run`. The marks of each thread follow the script, and as many segments are lost as the threads' pool had no
 -- spare buffers for. Whose they are isn't fixed, but each thread keeps its last one.
 pub record FollowsPlan (setup : Setup) (program : Program) (plan : Plan) (runs : List ThreadRun) : Type 0 where
-  pub follow : AllMarksFollow program (commands_of plan.lines) runs
+  pub follow : AllMarksFollow program setup.threads (commands_of plan.lines) runs
   pub losses : AreLost setup.size (spare_of setup) runs
 
 -- what comes of the judged inputs: the trace and the audit of some lawful runs are written
@@ -37,7 +37,8 @@ RunComes reads held image script trace audit setup =
 
 -- The headline's law for `run`. The loads of each thread follow the script to its end, and none of them is of a release
 -- word that still held the thread.
-pub record LoadsFollowPlan (program : Program) (plan : Plan) (runs : List ThreadRun) (loads : ℕ → List Load) : Type 0 where
-  pub follow : EachThread runs (λ number run. LoadsFollow program (commands_of plan.lines) number (sleds_passed run.passed) (loads number)
-      (total_of program (commands_of plan.lines)))
+pub record LoadsFollowPlan (setup : Setup) (program : Program) (plan : Plan) (runs : List ThreadRun) (loads : ℕ → List Load) : Type 0 where
+  pub follow : EachThread runs (λ number run.
+      LoadsFollow program setup.threads (commands_of plan.lines) number (sleds_passed run.passed) (loads number)
+      (total_of program setup.threads (commands_of plan.lines)))
   pub released : EachThread runs (λ number run. All (λ load. load.word ≡ release_word program number → load.value ≢ 0) (loads number))

@@ -58,9 +58,9 @@ pub record RanLawfully (Lawful : Program → Plan → List ThreadRun → (ℕ �
   pub run : IsRun program setup runs
   pub loads : ℕ → List Load
   pub lawful : Lawful program plan runs loads
-  pub whole : EachThread runs (λ number run. DecodesWhole program number (hold_of number (commands_of plan.lines)) run (loads number))
+  pub whole : EachThread runs (λ number run. DecodesWhole program setup.threads number (hold_of number (commands_of plan.lines)) run (loads number))
   pub executes : EachThread runs
-      (λ number run. Executes program setup.limits number (hold_of number (commands_of plan.lines)) run (loads number))
+      (λ number run. Executes program setup.limits setup.threads number (hold_of number (commands_of plan.lines)) run (loads number))
 
 -- The files of runs are written, and their state texts. The trace holds exactly the bytes of the trace of these runs. The
 -- audit holds how they ended: each thread's end, segments, lost segments and marks. The state texts were given to out,

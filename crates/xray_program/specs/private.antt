@@ -3,9 +3,11 @@ pub mod CallLaws
 pub mod Drawn
 pub mod Ends
 pub mod Further
+pub mod Meant
 pub mod ReportTakes
 pub mod RunInputs
 pub mod SimInputs
 pub mod Stops
 pub mod Takes
+pub mod TraceFeeds
 pub mod Works

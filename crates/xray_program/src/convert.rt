@@ -1,15 +1,72 @@
 //! `convert`: a trace as YAML.
-ghost use Rattle.std.specs.Prelude.{◌≡◌, option_map};
+ghost use Rattle.std.specs.Prelude.{◌≡◌, ℕ, List, Ok, Err, IfErr, OnOk, option_map, ◌⊎◌};
+ghost use Rattle.fdr_file.specs.declared.trace.Trace.{Trace};
+ghost use Rattle.fdr_file.specs.Traces.{trace_of};
+ghost use Rattle.xray_program.specs.private.Meant.{BytesMean};
 
 use crate::delivery::{NoOutputs, deliver};
-use crate::inputs::TraceKind;
+use crate::inputs::TRACE;
 use crate::report_inputs::{ReportInputs, take_report};
 use crate::stop::Stop;
+use crate::stream::StreamKind;
+use crate::trace_feed::TraceFeed;
 use crate::work::Work;
-use fdr_file::Trace;
+use command_words::TRACE_LIMIT;
+use fdr_file::{KeepNothing, Trace, TraceFault};
 use std::alloc::Global;
-use xray_io::{Desk, Sink};
-use yaml_convert::YamlText;
+use trace_words::TraceRefusal;
+use xray_io::{Desk, Feed, Sink};
+use yaml_convert::YamlBytes;
+
+/// A trace whose bytes are kept.
+#[derive(Drop)]
+struct ConvertKind;
+
+impl StreamKind for ConvertKind {
+    ghost use Rattle.xray_program.specs.Inputs.{trace_form};
+
+    type Meaning = Trace;
+
+    type Pieces = Vec<u8>;
+
+    type Value = Vec<u8>;
+
+    type Refusal = TraceRefusal;
+
+    ghost form = { λ _. trace_form };
+
+    ghost means = { λ _. BytesMean };
+
+    fn word(&self) -> &'static str {
+        TRACE
+    }
+
+    fn limit(&self) -> u64 {
+        TRACE_LIMIT
+    }
+
+    fn begin(&self, alloc: Global) -> Vec<u8> {
+        Vec::new(alloc)
+    }
+
+    fn judge(&self, _alloc: Global, bytes: Vec<u8>) -> Result<Vec<u8>, TraceRefusal> {
+        match judge_bytes(&bytes) {
+            Ok(()) => Ok(bytes),
+            Err(fault) => Err(TraceRefusal { fault }),
+        }
+    }
+}
+
+/// Whether bytes are a trace. The answer is an error if they aren't. No list of events is made.
+fn judge_bytes(bytes: &[u8]) -> Result<(), TraceFault>
+    ensures reads { OnOk result ((trace : Trace) × (trace_of bytes.now ≡ Ok trace)) }
+    ensures faults { IfErr result (λ fault. (trace_of bytes.now ≡ Err fault) ⊎ (fault ≡ TraceFault.NoMemory)) }
+{
+    let mut feed = TraceFeed::new(KeepNothing);
+    feed.feed(bytes)?;
+    feed.finish()?;
+    Ok(())
+}
 
 /// `convert TRACE [IMAGE]`.
 #[derive(Drop)]
@@ -21,32 +78,38 @@ pub(crate) struct Convert<'a> {
 }
 
 impl<'a> Work<'a> for Convert<'a> {
-    ghost use Rattle.std.specs.Prelude.{[], ⊤};
+    ghost use Rattle.std.specs.Prelude.{[]};
     ghost use Rattle.command_words.specs.Words as words;
     ghost use Rattle.xray_program.specs.Outcomes.{Done};
+    ghost use Rattle.xray_program.specs.private.ReportTakes.{ComesOfMeant};
     ghost use Rattle.yaml_convert.specs.Yaml.{yaml_text};
 
-    type Inputs = ReportInputs<Trace>;
+    type Inputs = ReportInputs<Vec<u8>>;
 
     ghost says = { λ c. words.Convert c.trace.now (option_map (λ n. n.now) c.image) };
 
-    ghost yields = { λ _ inputs outcome. outcome ≡ Done [] (yaml_text inputs.image inputs.log) };
+    ghost yields = { λ _. ComesOfMeant BytesMean
+        (λ trace program outcome. outcome ≡ Done [] (yaml_text program trace)) };
 
-    ghost fits = { λ _ _. ⊤ };
+    ghost fits = { λ _ inputs. (trace : Trace) × BytesMean inputs.log trace };
 
-    fn take<D: Desk>(&self, alloc: Global, desk: &mut D) -> Result<ReportInputs<Trace>, Stop<'a>> {
-        take_report(alloc, desk, self.trace, &TraceKind, self.image)
+    fn take<D: Desk>(
+        &self,
+        alloc: Global,
+        desk: &mut D,
+    ) -> Result<ReportInputs<Vec<u8>>, Stop<'a>> {
+        take_report(alloc, desk, self.trace, &ConvertKind, self.image)
     }
 
     fn finish<D: Desk, O: Sink>(
         &self,
         _alloc: Global,
-        inputs: &ReportInputs<Trace>,
+        inputs: &ReportInputs<Vec<u8>>,
         desk: &mut D,
         out: &mut O,
     ) -> Result<(), Stop<'a>> {
-        let text = YamlText {
-            trace: &inputs.log,
+        let text = YamlBytes {
+            bytes: &inputs.log,
             image: inputs.image.as_ref(),
         };
         deliver(desk, out, &NoOutputs, &text, None)

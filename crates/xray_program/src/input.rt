@@ -1,7 +1,9 @@
 //! An input in its turn: it is read, measured and judged before the next one is opened.
+//! Here it is kept whole for that; `stream` has inputs that are taken piece by piece.
 ghost use Rattle.std.specs.Prelude.{◌≡◌, ◌≤◌, ℕ, List, Some, length, option_map, IfOk, IfErr, OnOk};
 ghost use Rattle.xray_io.specs.{Calls.{Went}, World.{desk_view}};
-ghost use Rattle.xray_program.specs.private.Takes.{IsFaultStop, IsMaybeTaken, IsMaybeTaking, IsReadStop, IsTaken, IsTaking};
+ghost use Rattle.xray_program.specs.private.Takes.{IsFaultStop, IsReadStop};
+ghost use Rattle.xray_program.specs.private.Takes.{IsMaybeTaken, IsMaybeTaking, IsTaken, IsTaking};
 ghost use Rattle.xray_program.specs.Taking.{Form};
 
 use crate::stop::Stop;
@@ -99,7 +101,7 @@ pub(crate) fn fault_stop<'a, F: Fault>(name: &'a str, kind: &'a str, fault: &F) 
 }
 
 /// The stop for an error of reading.
-fn read_stop(name: &str, error: ReadError) -> Stop<'_>
+pub(crate) fn read_stop(name: &str, error: ReadError) -> Stop<'_>
     ensures { IsReadStop name.now error result }
 {
     match error {

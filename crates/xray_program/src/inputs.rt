@@ -4,12 +4,9 @@ ghost use Rattle.command_words.specs.Ranges.{IsThreadCount};
 use crate::image_file::ImageFile;
 use crate::input::Kind;
 use asm_text::{AsmFault, assemble};
-use command_words::TRACE_LIMIT;
-use fdr_file::{Trace, read_trace};
 use patch_script::{Script, ScriptFault, read_script};
 use std::alloc::Global;
 use step_sim::{Schedule, ScheduleFault, read_schedule};
-use trace_words::TraceRefusal;
 use xray_image::{Image, ImageFault, read_image};
 
 /// The most bytes of an image file.
@@ -160,37 +157,5 @@ impl Kind for ScheduleKind {
 
     fn judge(&self, alloc: Global, bytes: &[u8]) -> Result<Schedule, ScheduleFault> {
         read_schedule(alloc, bytes, self.threads)
-    }
-}
-
-/// A trace.
-#[derive(Drop)]
-pub(crate) struct TraceKind;
-
-impl Kind for TraceKind {
-    ghost use Rattle.std.specs.Prelude.{⊤};
-    ghost use Rattle.xray_program.specs.Inputs.{trace_form};
-
-    type Value = Trace;
-
-    type Refusal = TraceRefusal;
-
-    ghost form = { λ _. trace_form };
-
-    ghost fits = { λ _ _. ⊤ };
-
-    fn word(&self) -> &'static str {
-        TRACE
-    }
-
-    fn limit(&self) -> u64 {
-        TRACE_LIMIT
-    }
-
-    fn judge(&self, alloc: Global, bytes: &[u8]) -> Result<Trace, TraceRefusal> {
-        match read_trace(alloc, bytes) {
-            Ok(trace) => Ok(trace),
-            Err(fault) => Err(TraceRefusal { fault }),
-        }
     }
 }

@@ -36,7 +36,9 @@ mod sim_inputs;
 mod soak;
 mod stack;
 mod stop;
+mod stream;
 mod summary;
+mod trace_feed;
 mod traced;
 mod work;
 

@@ -5,9 +5,10 @@ ghost use Rattle.xray_program.specs.{Accepted.{AcceptsReport}, Reports.{report_i
 ghost use Rattle.xray_program.specs.private.ReportTakes.{IsReportTaken};
 ghost use Rattle.xray_program.specs.private.Takes.{AreTakings};
 
-use crate::input::{Kind, take, take_maybe};
+use crate::input::take_maybe;
 use crate::inputs::ImageKind;
 use crate::stop::Stop;
+use crate::stream::{StreamKind, take_stream};
 use std::alloc::Global;
 use xray_image::Image;
 use xray_io::Desk;
@@ -15,14 +16,14 @@ use xray_io::Desk;
 /// The inputs of a report on a log.
 #[derive(Drop)]
 pub(crate) struct ReportInputs<L> {
-    /// The log: a trace.
+    /// What is known of the log, which is a trace.
     pub(crate) log: L,
     /// The image that names the functions of the log, if the words name one.
     pub(crate) image: Option<Image>,
 }
 
-/// Takes the log, as an input of this kind, and then the image, if there is one.
-pub(crate) fn take_report<'a, K: Kind, D: Desk>(
+/// Takes the log piece by piece, as an input of this kind, and then the image, if there is one.
+pub(crate) fn take_report<'a, K: StreamKind, D: Desk>(
     alloc: Global,
     desk: &mut D,
     log: &'a str,
@@ -30,7 +31,8 @@ pub(crate) fn take_report<'a, K: Kind, D: Desk>(
     image: Option<&'a str>,
 ) -> Result<ReportInputs<K::Value>, Stop<'a>>
     ensures taken { let seen = desk_view D.held D.read_faults D.write_faults in
-        IsReportTaken (K.form kind.now) log.now (option_map (λ n. n.now) image.entry) (seen desk.old) (seen desk.new) result }
+        IsReportTaken (K.form kind.now) (K.means kind.now) log.now (option_map (λ n. n.now) image.entry)
+        (seen desk.old) (seen desk.new) result }
     ensures held { D.held desk.new ≡ D.held desk.old }
     ensures later { D.read_faults desk.old ≤ D.read_faults desk.new }
     ensures writes { D.write_faults desk.new ≡ D.write_faults desk.old }
@@ -39,7 +41,7 @@ pub(crate) fn take_report<'a, K: Kind, D: Desk>(
         (AreTakings (AcceptsReport (K.form kind.now) (D.held desk.old) log.now image)
         (report_inputs log.now (K.form kind.now).limit image) result) }
 {
-    let log = take(alloc, desk, log, kind)?;
+    let log = take_stream(alloc, desk, log, kind)?;
     let image = take_maybe(alloc, desk, image, &ImageKind)?;
     Ok(ReportInputs { log, image })
 }

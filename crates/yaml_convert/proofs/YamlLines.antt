@@ -1,5 +1,5 @@
 -- The lines of a YAML document, as they are put together.
-use Rattle.std.proofs.Common.{◌≡◌, ◌++◌, ◌∙◌, ◌||◌, ◌<◌, arith, ℕ, Bool, true, cond, Option, List, [], ◌∷◌, length, map, nat_lt, refl, sym, ap, append_assoc}
+use Rattle.std.proofs.Common.{◌≡◌, ◌⊎◌, inl, inr, ◌++◌, ◌∙◌, ◌||◌, ◌<◌, arith, ℕ, Bool, true, cond, Option, List, [], ◌∷◌, length, map, nat_lt, refl, sym, ap, append_assoc}
 use Rattle.std.specs.Prelude.{codes, decimal, Ok}
 use Rattle.std.specs.List.{flat_map, list_any}
 use Rattle.std.proofs.lemmas.Bool.Decides.{nat_tests}
@@ -7,13 +7,15 @@ use Rattle.std.proofs.lemmas.List.{append-nil}
 use Rattle.std.proofs.lemmas.List.Concat.{flat_map-append}
 use Rattle.std.proofs.lemmas.List.Folds.{flat_map-map}
 use Rattle.fdr_record.specs.declared.event.Event.{Event}
+use Rattle.fdr_record.specs.declared.event.Kind.{Kind}
+use Rattle.fdr_record.specs.declared.event.Kind.TheVariants.{Entry, Exit, TailExit, EntryArgs}
 use Rattle.fdr_file.specs.declared.header.Header.{Header}
 use Rattle.fdr_file.specs.declared.trace.Block.{Block}
 use Rattle.fdr_file.specs.declared.trace.Trace.{Trace}
 use Rattle.fdr_file.specs.ThreadEvents.{ThreadEvent, block_events, thread_events}
 use Rattle.fdr_file.specs.Traces.{trace_of}
 use Rattle.xray_image.specs.Program.{Program}
-use Rattle.yaml_convert.specs.Yaml.{event_end, event_line, event_start, header_text, kind_text, records_start, records_text, truth_text, yaml_of_bytes, yaml_read, yaml_text}
+use Rattle.yaml_convert.specs.Yaml.{arg_text, event_counter, event_line, event_stamp, event_start, header_text, kind_text, records_start, records_text, truth_text, yaml_of_bytes, yaml_read, yaml_text}
 
 -- ---- pieces
 
@@ -29,13 +31,23 @@ pub start_pieces : (event : Event) (func : ℕ) → func ≡ event.func
     → codes "  - { type: 0, func-id: " ++ (decimal func ++ (codes ", function: '" ++ [])) ≡ event_start event
 start_pieces event func same = rw same (simp append_assoc)
 
-pub end_pieces : (e : ThreadEvent) (cpu thread pid tsc : ℕ) (kind : List ℕ) → cpu ≡ e.event.cpu → thread ≡ e.thread → pid ≡ e.pid
-    → kind ≡ kind_text e.event.kind → tsc ≡ e.event.tsc
-    → codes "', cpu: " ++ (decimal cpu ++ (codes ", thread: " ++ (decimal thread ++ (codes ", process: " ++ (decimal pid ++ (codes ", kind: " ++ (kind
-    ++ (codes ", tsc: " ++ (decimal tsc ++ (codes " }\n" ++ []))))))))))
-    ≡ event_end e
-end_pieces e cpu thread pid tsc kind same_cpu same_thread same_pid same_kind same_tsc =
-    rw (same_cpu, same_thread, same_pid, same_kind, same_tsc) (simp append_assoc)
+pub stamp_pieces : (e : ThreadEvent) (cpu thread pid : ℕ) (kind : List ℕ) → cpu ≡ e.event.cpu → thread ≡ e.thread → pid ≡ e.pid → kind ≡ kind_text e.event.kind
+    → codes "', cpu: " ++ (decimal cpu ++ (codes ", thread: " ++ (decimal thread ++ (codes ", process: " ++ (decimal pid ++ (codes ", kind: " ++ (kind ++ [])))))))
+    ≡ event_stamp e
+stamp_pieces e cpu thread pid kind same_cpu same_thread same_pid same_kind =
+    rw (same_cpu, same_thread, same_pid, same_kind, append-nil (kind_text e.event.kind)) (simp append_assoc)
+
+pub counter_pieces : (event : Event) (tsc : ℕ) → tsc ≡ event.tsc → codes ", tsc: " ++ (decimal tsc ++ (codes " }\n" ++ [])) ≡ event_counter event
+counter_pieces event tsc same = rw same (simp append_assoc)
+
+pub arg_pieces : (kind : Kind) (arg n : ℕ) → n ≡ arg → kind ≡ EntryArgs → codes ", args: [ " ++ (decimal n ++ (codes " ]" ++ [])) ≡ arg_text kind arg
+arg_pieces kind arg n same is = rw (same, is) (simp append_assoc)
+
+-- an event that logs no argument has none in its line
+pub no_arg : (kind : Kind) (arg : ℕ) → (kind ≡ Entry) ⊎ (kind ≡ Exit) ⊎ (kind ≡ TailExit) → arg_text kind arg ≡ []
+no_arg kind arg (inl is) = ap (λ (k : Kind). arg_text k arg) is
+no_arg kind arg (inr (inl is)) = ap (λ (k : Kind). arg_text k arg) is
+no_arg kind arg (inr (inr is)) = ap (λ (k : Kind). arg_text k arg) is
 
 -- ---- whether there is an event
 

@@ -3,7 +3,7 @@ use Rattle.std.specs.Prelude.{◌++◌, Bool, true, false, ℕ, List, [], ◌∷
 use Rattle.std.specs.List.{flat_map}
 use Rattle.fdr_record.specs.declared.event.Event.{Event}
 use Rattle.fdr_record.specs.declared.event.Kind.{Kind}
-use Rattle.fdr_record.specs.declared.event.Kind.TheVariants.{Entry, Exit, TailExit}
+use Rattle.fdr_record.specs.declared.event.Kind.TheVariants.{Entry, Exit, TailExit, EntryArgs}
 use Rattle.fdr_file.specs.declared.fault.TraceFault.{TraceFault}
 use Rattle.fdr_file.specs.declared.header.Header.{Header}
 use Rattle.fdr_file.specs.declared.trace.Trace.{Trace}
@@ -27,15 +27,29 @@ abbrev pub kind_text : Kind → List ℕ
 kind_text Entry = codes "function-enter"
 kind_text Exit = codes "function-exit"
 kind_text TailExit = codes "function-tail-exit"
+kind_text EntryArgs = codes "function-enter-arg"
+
+-- the argument of an event of this kind, if it logs one
+abbrev pub arg_text : Kind → ℕ → List ℕ
+arg_text Entry arg = []
+arg_text Exit arg = []
+arg_text TailExit arg = []
+arg_text EntryArgs arg = codes ", args: [ " ++ decimal arg ++ codes " ]"
 
 -- the line of an event, before the name of its function and after it
 abbrev pub event_start : Event → List ℕ
 event_start event = codes "  - { type: 0, func-id: " ++ decimal event.func ++ codes ", function: '"
 
-abbrev pub event_end : ThreadEvent → List ℕ
-event_end e =
+abbrev pub event_stamp : ThreadEvent → List ℕ
+event_stamp e =
     codes "', cpu: " ++ decimal e.event.cpu ++ codes ", thread: " ++ decimal e.thread ++ codes ", process: " ++ decimal e.pid
-    ++ codes ", kind: " ++ kind_text e.event.kind ++ codes ", tsc: " ++ decimal e.event.tsc ++ codes " }\n"
+    ++ codes ", kind: " ++ kind_text e.event.kind
+
+abbrev pub event_counter : Event → List ℕ
+event_counter event = codes ", tsc: " ++ decimal event.tsc ++ codes " }\n"
+
+abbrev pub event_end : ThreadEvent → List ℕ
+event_end e = event_stamp e ++ arg_text e.event.kind e.event.arg ++ event_counter e.event
 
 abbrev pub event_line : Option Program → ThreadEvent → List ℕ
 event_line program e = event_start e.event ++ name_text program e.event.func ++ event_end e

@@ -3,7 +3,7 @@
 ghost use Rattle.std.specs.{Prelude.{◌≡◌, ⊤, length, nat_lt}, List.{flat_map, list_any}, Option.{option_map}};
 ghost use Rattle.fdr_file.specs.ThreadEvents.{block_events, thread_events};
 ghost use Rattle.xray_io.specs.{Piece.{piece_text}, Text.{AddsText}, Writes.{WritesText}};
-ghost use Rattle.yaml_convert.specs.Yaml.{event_end, event_line, header_text, kind_text, records_start, records_text, truth_text, yaml_text};
+ghost use Rattle.yaml_convert.specs.Yaml.{arg_text, event_counter, event_end, event_line, header_text, kind_text, records_start, records_text, truth_text, yaml_text};
 
 use fdr_file::{Block, Header, Trace};
 use fdr_record::{Event, Kind};
@@ -16,7 +16,8 @@ use xray_io::{Piece, Printed, Sink, Text, WriteFault, write_text};
 /// have no `data`.
 ///
 /// The type of the header is always 1, that of the Flight Data Recorder mode. The type of a record is
-/// always 0. `process` is the process of the event's block, and `tsc` its counter in cycles.
+/// always 0. `process` is the process of the event's block, and `tsc` its counter in cycles. An entry
+/// that logs its argument has it in `args`.
 #[derive(Clone, Copy, Debug)]
 pub struct YamlText<'a> {
     /// The trace.
@@ -199,6 +200,32 @@ fn add_end<S: Sink>(
         Piece::Number(u128::from(pid)),
         Piece::Bytes(b", kind: "),
         kind_word(event.kind),
+    ])?;
+    add_arg(text, event)?;
+    add_counter(text, event)
+}
+
+/// Adds the argument of an event, if it logs one.
+fn add_arg<S: Sink>(text: &mut Text<S>, event: &Event) -> Result<(), WriteFault>
+    ensures { AddsText S.written S.faults S.along text.old text.new
+        (arg_text event.now.kind event.now.arg) result }
+{
+    match event.kind {
+        Kind::Entry | Kind::Exit | Kind::TailExit => Ok(()),
+        Kind::EntryArgs => text.pieces(&[
+            Piece::Bytes(b", args: [ "),
+            Piece::Number(u128::from(event.arg)),
+            Piece::Bytes(b" ]"),
+        ]),
+    }
+}
+
+/// Adds the counter of an event, which ends its line.
+fn add_counter<S: Sink>(text: &mut Text<S>, event: &Event) -> Result<(), WriteFault>
+    ensures { AddsText S.written S.faults S.along text.old text.new
+        (event_counter event.now) result }
+{
+    text.pieces(&[
         Piece::Bytes(b", tsc: "),
         Piece::Number(u128::from(event.tsc)),
         Piece::Bytes(b" }\n"),
@@ -213,6 +240,7 @@ fn kind_word(kind: Kind) -> Piece<'static>
         Kind::Entry => Piece::Bytes(b"function-enter"),
         Kind::Exit => Piece::Bytes(b"function-exit"),
         Kind::TailExit => Piece::Bytes(b"function-tail-exit"),
+        Kind::EntryArgs => Piece::Bytes(b"function-enter-arg"),
     }
 }
 

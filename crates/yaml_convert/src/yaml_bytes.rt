@@ -3,7 +3,7 @@
 ghost use Rattle.std.specs.{Prelude.{◌≡◌, List, Ok}, List.{flat_map}, Option.{option_map}};
 ghost use Rattle.fdr_file.specs.declared.trace.Trace.{Trace};
 ghost use Rattle.fdr_file.specs.Traces.{trace_of};
-ghost use Rattle.fdr_file.specs.private.Cursor.{events_left};
+ghost use Rattle.fdr_file.specs.EventsLeft.{events_left};
 ghost use Rattle.xray_io.specs.{Text.{AddsText}, Writes.{WritesText}};
 ghost use Rattle.yaml_convert.specs.Yaml.{event_line, records_text, yaml_of_bytes, yaml_text};
 

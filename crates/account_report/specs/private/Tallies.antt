@@ -6,7 +6,7 @@ use Rattle.std.specs.HashMap.{get, HashMap}
 use Rattle.std.specs.declared.hash.FoldHasher.{FoldHasher}
 use Rattle.std.specs.declared.hash.BuildHasherDefault.{BuildHasherDefault}
 use Rattle.fdr_record.specs.declared.event.Kind.{Kind}
-use Rattle.fdr_record.specs.declared.event.Kind.TheVariants.{Entry, Exit, TailExit}
+use Rattle.fdr_record.specs.declared.event.Kind.TheVariants.{Entry, Exit, TailExit, EntryArgs}
 use Rattle.fdr_file.specs.ThreadEvents.{ThreadEvent}
 use Rattle.stack_rebuild.specs.declared.call.Pair.{Pair}
 use Rattle.stack_rebuild.specs.Calls.{Standing, standing_after}
@@ -33,6 +33,7 @@ tally_of history func = record {
 -- an event of the function, and the pair that it makes
 abbrev pub with_event : Kind → List ℕ → Tallied → Tallied
 with_event Entry durations tally = record tally { durations = tally.durations ++ durations; entries = tally.entries + 1 }
+with_event EntryArgs durations tally = record tally { durations = tally.durations ++ durations; entries = tally.entries + 1 }
 with_event Exit durations tally = record tally { durations = tally.durations ++ durations; exits = tally.exits + 1 }
 with_event TailExit durations tally = record tally { durations = tally.durations ++ durations; exits = tally.exits + 1 }
 

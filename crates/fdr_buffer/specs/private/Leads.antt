@@ -5,10 +5,10 @@ use Rattle.fdr_record.specs.declared.rec.Rec.{Rec}
 use Rattle.fdr_record.specs.declared.rec.Rec.TheVariants.{NewCpu, TscWrap}
 use Rattle.fdr_buffer.specs.declared.lead.Lead.{Lead}
 use Rattle.fdr_buffer.specs.declared.lead.Lead.TheVariants.{Cpu, Wrap, Delta}
-use Rattle.fdr_buffer.specs.Segments.{function_record}
+use Rattle.fdr_buffer.specs.Segments.{function_records}
 
 -- the records of an event with this lead
 abbrev pub lead_records : Lead → Event → List Rec
-lead_records Cpu event = NewCpu event.cpu event.tsc ∷ function_record event 0 ∷ []
-lead_records Wrap event = TscWrap event.tsc ∷ function_record event 0 ∷ []
-lead_records (Delta delta) event = function_record event delta ∷ []
+lead_records Cpu event = NewCpu event.cpu event.tsc ∷ function_records event 0
+lead_records Wrap event = TscWrap event.tsc ∷ function_records event 0
+lead_records (Delta delta) event = function_records event delta

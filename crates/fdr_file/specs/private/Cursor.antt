@@ -1,50 +1,25 @@
--- A cursor: the events that it has still to give.
-use Rattle.std.specs.Prelude.{ℕ, ◌+◌, List, [], ◌∷◌, drop, Option, Some, None}
+-- A cursor, from one record to the next.
+use Rattle.std.specs.Prelude.{ℕ, ◌+◌, List, Option, Some, None}
 use Rattle.fdr_record.specs.declared.event.Event.{Event}
 use Rattle.fdr_file.specs.declared.cursor.EventCursor.{EventCursor}
-use Rattle.fdr_file.specs.declared.header.Header.{Header}
-use Rattle.fdr_file.specs.declared.stage.Stage.{Stage}
 use Rattle.fdr_file.specs.declared.stage.Told.{Told}
 use Rattle.fdr_file.specs.declared.stage.Told.TheVariants.{Nothing, Begun, Noted}
-use Rattle.fdr_file.specs.declared.version.Version.{Version}
-use Rattle.fdr_file.specs.Places.{starts}
 use Rattle.fdr_file.specs.Scanning.{stage_judged}
-use Rattle.fdr_file.specs.ThreadEvents.{ThreadEvent}
 use Rattle.fdr_file.specs.Traces.{record_in, record_length}
 
--- what the records at these places say
-abbrev pub told_over : Version → Stage → List (ℕ × List ℕ) → List Told
-told_over version stage [] = []
-told_over version stage ((at, bytes) ∷ later) =
-    let said = stage_judged version stage at (record_length bytes) (record_in bytes) in said.1 ∷ told_over version said.0 later
-
--- the events among this, after a block of this thread and process
-abbrev pub events_among : ℕ → ℕ → List Told → List ThreadEvent
-events_among thread pid [] = []
-events_among thread pid (Nothing ∷ told) = events_among thread pid told
-events_among thread pid (Begun other wall process ∷ told) = events_among other process told
-events_among thread pid (Noted event ∷ told) = record { thread = thread; pid = pid; event = event } ∷ events_among thread pid told
-
--- The events that are still to come.
-abbrev pub events_left : EventCursor → List ThreadEvent
-events_left cursor =
-    events_among cursor.thread cursor.pid (told_over cursor.version cursor.stage (starts record_length 0 cursor.at (drop cursor.at cursor.bytes.now)))
-
--- the header of the trace
-abbrev pub cursor_header : EventCursor → Header
-cursor_header cursor = cursor.header
-
--- the event that is said
+-- the first event that is said
 abbrev pub event_said : Told → Option Event
 event_said Nothing = None
 event_said (Begun thread wall pid) = None
-event_said (Noted event) = Some event
+event_said (Noted None event) = event
+event_said (Noted (Some entry) event) = Some entry
 
--- the thread and process after this
+-- the thread and process after this, and the event that comes after the first
 abbrev pub cursor_told : EventCursor → Told → EventCursor
 cursor_told cursor Nothing = cursor
 cursor_told cursor (Begun thread wall pid) = record cursor { thread = thread; pid = pid }
-cursor_told cursor (Noted event) = cursor
+cursor_told cursor (Noted None event) = cursor
+cursor_told cursor (Noted (Some entry) event) = record cursor { pending = event }
 
 -- after the record that bytes begin with, and what it says
 abbrev pub cursor_passed : EventCursor → List ℕ → EventCursor × Told

@@ -7,7 +7,7 @@ use Rattle.fdr_file.specs.declared.fault.TraceFault.{TraceFault}
 use Rattle.fdr_file.specs.declared.fault.TraceFault.TheVariants as faults
 use Rattle.fdr_file.specs.declared.trace.Trace.{Trace}
 use Rattle.fdr_file.specs.declared.version.Version.{Version}
-use Rattle.fdr_file.specs.Traces.{Standing, block_in, block_standings, block_starts, fault_at, header_in, header_rows, may_be, names_cpu, needs_cpu, preamble_bytes, preamble_of, record_in, size_named}
+use Rattle.fdr_file.specs.Traces.{Standing, block_in, block_standings, block_starts, fault_at, header_in, header_rows, may_stand, names_cpu, needs_cpu, preamble_bytes, record_in, size_named}
 
 -- this fault, unless the test passes
 abbrev pub unless : Bool → TraceFault → List TraceFault
@@ -21,7 +21,7 @@ decided (fault ∷ later) value = Err fault
 -- what is wrong with a record at a place, after those before it
 abbrev pub record_faults : Version → List Rec → ℕ → Rec → List TraceFault
 record_faults version before at r =
-    unless (may_be (preamble_of version) (length before) r) (faults.Order at) ++ unless (list_any names_cpu before || not (needs_cpu r)) (faults.NoBase at)
+    unless (may_stand version before r) (faults.Order at) ++ unless (list_any names_cpu before || not (needs_cpu r)) (faults.NoBase at)
 
 -- what is wrong at the places after some records
 abbrev pub standing_faults : Version → List Rec → List Standing → List TraceFault

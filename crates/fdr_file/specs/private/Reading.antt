@@ -1,5 +1,5 @@
 -- Reading a trace from its first byte to its last, for the contracts of the reader's private functions.
-use Rattle.std.specs.Prelude.{◌≡◌, ◌⊎◌, ◌≤◌, ◌<◌, ℕ, ◌+◌, List, [], ◌∷◌, ◌++◌, length, drop, map, Option, Some, None, Result, Ok, Err, option_to_list, nat_lt, if◌then◌else◌}
+use Rattle.std.specs.Prelude.{◌≡◌, ◌⊎◌, ◌≤◌, ◌<◌, ℕ, ◌+◌, List, [], ◌∷◌, ◌++◌, length, drop, map, Option, Some, None, Result, Ok, Err, option_to_list, Bool, true, false, nat_lt, if◌then◌else◌}
 use Rattle.std.specs.List.{flat_map}
 use Rattle.xray_io.specs.Rows.{◌>>=◌}
 use Rattle.xray_io.specs.declared.wall.Wall.{Wall}
@@ -16,7 +16,7 @@ use Rattle.fdr_file.specs.declared.trace.Trace.{Trace}
 use Rattle.fdr_file.specs.declared.version.Version.{Version}
 use Rattle.fdr_file.specs.declared.version.Version.TheVariants.{Three}
 use Rattle.fdr_file.specs.Scanning.{step_on}
-use Rattle.fdr_file.specs.Traces.{Standing, block_in, fault_at, header_in, header_rows, preamble_bytes, record_in, record_length, pid_named, size_named, standings, thread_named, wall_named}
+use Rattle.fdr_file.specs.Traces.{Standing, block_in, fault_at, preamble_bytes, record_in, record_length, pid_named, size_named, standings, thread_named, wall_named}
 use Rattle.fdr_file.specs.private.Faults.{block_faults, decided}
 
 -- what a function answered, as a view of it, is what reading gives
@@ -77,13 +77,18 @@ preamble_on version left = do
 
 -- ---- events
 
+-- no record is left
+abbrev pub is_end : List Standing → Bool
+is_end [] = true
+is_end (first ∷ following) = false
+
 -- the events of what comes after a CPU and counter
 unfoldable pub events_on : Option Base → List Standing → Result (List Event) TraceFault
 events_on base [] = Ok []
 events_on base ((at, Ok r) ∷ following) = do
-  step ← step_on at r base
+  step ← step_on (is_end following) at r base
   events ← events_on (Some step.0) following
-  Ok (option_to_list step.1 ++ events)
+  Ok ((option_to_list step.1 ++ option_to_list step.2) ++ events)
 events_on base ((at, Err fault) ∷ following) = Err (fault_at at fault)
 
 -- these events, and those that are read after them
@@ -116,10 +121,6 @@ body_on version left = do
   Ok (record { thread = preamble.0; wall = preamble.1; pid = preamble.2; events = events })
 
 -- ---- a file
-
--- the version and the header of a file
-abbrev pub header_on : List ℕ → Result (Version × Header) TraceFault
-header_on bytes = header_rows bytes λ version. Ok (version, header_in bytes)
 
 -- the trace of these blocks, and of those that begin at places after them
 abbrev pub blocks_read : Version → Header → List Block → List Left → Result Trace TraceFault

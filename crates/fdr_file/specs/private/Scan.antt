@@ -1,13 +1,16 @@
--- A scan: what its fields say of the bytes that it was fed.
-use Rattle.std.specs.Prelude.{◌≡◌, ◌<◌, ⊤, ℕ, ◌+◌, ◌==◌, ◌&&◌, List, [], ◌∷◌, ◌++◌, length, slice_index, Result, Ok, Err, nat_lt, nat_le, if◌then◌else◌}
+-- A scan, from one call to the next: what each function does to its fields.
+use Rattle.std.specs.Prelude.{◌≡◌, ⊤, ℕ, ◌+◌, ◌==◌, ◌&&◌, Bool, List, [], ◌∷◌, ◌++◌, length, slice_index, Option, Some, Result, Ok, Err, nat_lt, nat_le, if◌then◌else◌}
+use Rattle.xray_io.specs.Rows.{◌>>=◌}
+use Rattle.fdr_record.specs.declared.event.Event.{Event}
+use Rattle.fdr_file.specs.declared.events.Base.{Base}
 use Rattle.fdr_file.specs.declared.fault.TraceFault.{TraceFault}
 use Rattle.fdr_file.specs.declared.fault.TraceFault.TheVariants as faults
 use Rattle.fdr_file.specs.declared.header.Header.{Header}
 use Rattle.fdr_file.specs.declared.scan.Head.{Head}
 use Rattle.fdr_file.specs.declared.scan.Head.TheVariants as heads
 use Rattle.fdr_file.specs.declared.scan.TraceScan.{TraceScan}
-use Rattle.fdr_file.specs.declared.stage.Inside.{Inside}
 use Rattle.fdr_file.specs.declared.stage.Inside.TheVariants as insides
+use Rattle.fdr_file.specs.declared.stage.Span.{Span}
 use Rattle.fdr_file.specs.declared.stage.Stage.{Stage}
 use Rattle.fdr_file.specs.declared.stage.Stage.TheVariants.{Due, Within, Faulty}
 use Rattle.fdr_file.specs.declared.stage.Told.{Told}
@@ -15,65 +18,14 @@ use Rattle.fdr_file.specs.declared.stage.Told.TheVariants.{Nothing, Begun, Noted
 use Rattle.fdr_file.specs.declared.trace.Block.{Block}
 use Rattle.fdr_file.specs.declared.version.Version.{Version}
 use Rattle.fdr_file.specs.Traces.{record_in, record_length}
-use Rattle.fdr_file.specs.private.Reading.{header_on}
-use Rattle.fdr_file.specs.Scanning.{blocks_given, scanned, scanned_on, stage_judged, with_told}
-
--- ---- what is told
-
--- a last block
-pub record HasLast (blocks : List Block) : Type 0 where
-  pub front : List Block
-  pub last : Block
-  pub is : blocks ≡ front ++ last ∷ []
+use Rattle.fdr_file.specs.Scanning.{blocks_given, header_on, record_or, stage_after, stage_judged, step_on, with_told}
+use Rattle.fdr_file.specs.Streams.{HasLast, Scans}
 
 -- an event is told only after a block
 abbrev pub CanTell : Told → List Block → Type 0
 CanTell Nothing blocks = ⊤
 CanTell (Begun thread wall pid) blocks = ⊤
-CanTell (Noted event) blocks = HasLast blocks
-
--- after a preamble there is a block
-abbrev pub IsBegun : Inside → List Block → Type 0
-IsBegun insides.Opened blocks = ⊤
-IsBegun (insides.Thread thread) blocks = ⊤
-IsBegun (insides.Wall thread wall) blocks = ⊤
-IsBegun (insides.Events base) blocks = HasLast blocks
-
-abbrev pub IsOpen : Stage → List Block → Type 0
-IsOpen Due blocks = ⊤
-IsOpen (Within span inside) blocks = IsBegun inside blocks
-IsOpen (Faulty span fault) blocks = ⊤
-
--- ---- what a scan stands for
-
--- The header was read. Whatever comes next, the bytes read on from where the scan stands.
-pub record ReadsOn (version : Version) (header : Header) (scan : TraceScan) (stream : List ℕ) (blocks : List Block) : Type 0 where
-  pub place : length stream ≡ scan.at + length scan.prefix
-  pub cut : 0 < length scan.prefix → length scan.prefix < record_length scan.prefix
-  pub opened : (rest : List ℕ) → header_on (stream ++ rest) ≡ Ok (version, header)
-  pub on : (rest : List ℕ) → scanned (stream ++ rest) ≡ scanned_on version (record { stage = scan.stage; blocks = blocks }) scan.at (scan.prefix ++ rest)
-  pub begun : IsOpen scan.stage blocks
-
--- nothing but a part of the header has come
-pub record ReadsHeader (scan : TraceScan) (stream : List ℕ) : Type 0 where
-  pub stage : scan.stage ≡ Due
-  pub part : scan.prefix ≡ stream
-  pub few : length stream < 32
-
--- the header has this fault, whatever comes next
-pub record ReadsNothing (fault : TraceFault) (stream : List ℕ) : Type 0 where
-  pub refused : (rest : List ℕ) → header_on (stream ++ rest) ≡ Err fault
-
-abbrev pub ScansBy : Head → TraceScan → List ℕ → Type 0
-ScansBy heads.Due scan stream = ReadsHeader scan stream
-ScansBy (heads.Read version header) scan stream = ReadsOn version header scan stream (blocks_given stream)
-ScansBy (heads.Refused fault) scan stream = ReadsNothing fault stream
-
--- The scan was fed these bytes.
-abbrev pub Scans : TraceScan → List ℕ → Type 0
-Scans scan stream = ScansBy scan.head scan stream
-
--- ---- what the calls do
+CanTell (Noted entry event) blocks = HasLast blocks
 
 -- after the header
 abbrev pub header_taken : TraceScan → Result (Version × Header) TraceFault → TraceScan
@@ -111,6 +63,24 @@ pub record Advances (new : TraceScan) (stream more : List ℕ) (told : Told) : T
   pub scans : Scans new (stream ++ more)
   pub grows : blocks_given (stream ++ more) ≡ with_told told (blocks_given stream)
   pub can : CanTell told (blocks_given stream)
+
+-- ---- the events of a block
+
+-- the events of a block go on, after a record with this CPU and counter
+pub record EventsNext (scan : TraceScan) (span : Span) (base : Base) : Type 0 where
+  pub version : Version
+  pub header : Header
+  pub head : scan.head ≡ heads.Read version header
+  pub stage : scan.stage ≡ Within span (insides.Events (Some base))
+  pub none : scan.prefix ≡ []
+
+-- what is known after the record that bytes begin with, and the events that it settles; it may end its block
+abbrev pub event_on : Bool → ℕ → Base → List ℕ → Result (Base × Option Event × Option Event) TraceFault
+event_on ends at base bytes = record_or at (record_in bytes) >>= λ r. step_on ends at r (Some base)
+
+-- after a record of a block's events that ends at this place, with this CPU and counter
+abbrev pub among_events : TraceScan → Span → ℕ → Base → TraceScan
+among_events scan span at base = record scan { stage = stage_after span at (insides.Events (Some base)); at = at }
 
 -- ---- the end
 

@@ -12,5 +12,5 @@ marks_in a = record { items = marks_from a.bytes.items 0 a.len; room = a.room }
 pub record IsPacked (a : Inside) : Type 0 where
   pub within : a.len ≤ a.room
   pub filled : IsFilledTo a.bytes.items a.len
-  pub room : (a.room + 3) / 4 ≤ vec_capacity a.bytes
+  pub room : (a.room + 1) / 2 ≤ vec_capacity a.bytes
   pub recorded : a.recorded ≡ recorded_count (marks_from a.bytes.items 0 a.len)

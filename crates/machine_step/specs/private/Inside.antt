@@ -1,6 +1,8 @@
 -- What the fields of `Steps` and of a `Cpu` say, and what is true of them.
 use Rattle.std.specs.Prelude.{◌≡◌, ◌<◌, ◌≤◌, ℕ, List, length, Option, Some}
 use Rattle.xray_image.specs.Program.{Program, IsAccepted}
+use Rattle.handler_word.specs.declared.mark.Mark.{Mark}
+use Rattle.handler_word.specs.declared.mark.Mark.TheVariants as marks
 use Rattle.machine_step.specs.declared.cpu.Cpu.TheInside.{Inside}
 use Rattle.machine_step.specs.declared.end.End.{End}
 use Rattle.machine_step.specs.declared.limits.Limits.{Limits}
@@ -15,7 +17,7 @@ use Rattle.machine_step.specs.PlainStep.{Passing, PlainRun}
 use Rattle.machine_step.specs.Course.{ComesTo}
 use Rattle.machine_step.specs.Setups.{AreLimits}
 use Rattle.machine_step.specs.private.Machine.{state_at, IsWithin}
-use Rattle.machine_step.specs.private.Stages.{word_at}
+use Rattle.machine_step.specs.private.Stages.{recording_at, word_at}
 use Rattle.machine_step.specs.private.Standing.{IsAtSled}
 use Rattle.machine_step.specs.private.Steps.{AreStepsOf}
 use Rattle.machine_step.specs.Traced.{Traced}
@@ -30,10 +32,16 @@ pub record IsTable (s : table.Inside) : Type 0 where
   pub steps : AreStepsOf s.image.now s.all.items
 
 -- what a thread wants that is here and has made this many passings
-abbrev pub want_at : Program → ℕ → ℕ → Stand → Want
-want_at program thread made (Gate place sled) = wants.Gate made
-want_at program thread made (Loading place sled stage) = wants.Load (word_at program thread sled stage)
-want_at program thread made (Ended end) = wants.Done end
+abbrev pub want_at : Program → ℕ → ℕ → ℕ → Stand → Want
+want_at program threads thread made (Gate place sled) = wants.Gate made
+want_at program threads thread made (Loading place sled stage) = wants.Load (word_at program threads thread sled stage)
+want_at program threads thread made (Ended end) = wants.Done end
+
+-- the mark that its next passing gets if the log records
+abbrev pub recording_in : Stand → Mark
+recording_in (Gate place sled) = marks.Recorded
+recording_in (Loading place sled stage) = recording_at stage
+recording_in (Ended end) = marks.Recorded
 
 -- the traced thread that the fields say
 abbrev pub traced : Inside → Traced
@@ -49,7 +57,8 @@ traced a = record {
   output = a.machine.output;
   instructions = a.machine.instructions;
   marks = a.marks.items;
-  want = want_at a.steps.now a.thread a.machine.passings a.stand;
+  recording = recording_in a.stand;
+  want = want_at a.steps.now a.threads a.thread a.machine.passings a.stand;
 }
 
 -- the machine is where the plain run comes to a passing of this sled

@@ -41,6 +41,7 @@ abbrev pub step_of_sled : ℕ → SledKind → Step
 step_of_sled k kinds.Entry = steps.Passing k
 step_of_sled k kinds.Exit = steps.Leaving k
 step_of_sled k kinds.Tail = steps.Passing k
+step_of_sled k kinds.Args = steps.Passing k
 
 -- the step of what stands at an address
 abbrev pub IsStepOf : Program → ℕ → What → Step → Type 0

@@ -19,24 +19,24 @@ lines_of draft = lines_in draft.placed
 
 -- the commands are in their places, and the standing is what they have done
 pub record IsDraft (draft : Draft) : Type 0 where
-  pub few_threads : draft.threads ≤ 16
+  pub few_threads : draft.placed.threads ≤ 16
   pub ids : draft.ids ≡ id_count (program_of draft)
   pub placed : ArePlaced draft.placed
   pub standing : IsStanding (commands_of (lines_of draft)) draft.standing
 
 -- no row refuses the command
 abbrev pub MayFollow : Draft → Command → Type 0
-MayFollow draft command = IsAdmitted (program_of draft) draft.threads (commands_of (lines_of draft)) command
+MayFollow draft command = IsAdmitted (program_of draft) draft.placed.threads (commands_of (lines_of draft)) command
 
 -- the command is admitted, or this is its first refusal
 abbrev pub Judges : {X : Type 0} → Draft → ℕ → Command → Result X ScriptFault → Type 0
 Judges draft number command (Ok x) = MayFollow draft command
-Judges draft number command (Err fault) = judged (program_of draft) draft.threads (lines_of draft) number command ≡ Err fault
+Judges draft number command (Err fault) = judged (program_of draft) draft.placed.threads (lines_of draft) number command ≡ Err fault
 
 -- the new draft has these lines, for the same image and the same threads
 pub record HasLines (old : Draft) (all : Lines) (new : Draft) : Type 0 where
   pub program : program_of new ≡ program_of old
-  pub threads : new.threads ≡ old.threads
+  pub threads : new.placed.threads ≡ old.placed.threads
   pub lines : lines_of new ≡ all
   pub sound : IsDraft new
 
@@ -48,12 +48,12 @@ Takes (Err fault) old verdict new = (fault ≡ faults.NoMemory) ⊎ (verdict ≡
 -- the same for a draft that is the answer, for an image and a number of threads
 abbrev pub Reads : Program → ℕ → Result Draft ScriptFault → Result Lines ScriptFault → Type 0
 Reads program threads (Ok draft) verdict =
-    (verdict ≡ Ok (lines_of draft)) × (program_of draft ≡ program) × (draft.threads ≡ threads) × IsDraft draft
+    (verdict ≡ Ok (lines_of draft)) × (program_of draft ≡ program) × (draft.placed.threads ≡ threads) × IsDraft draft
 Reads program threads (Err fault) verdict = (fault ≡ faults.NoMemory) ⊎ (verdict ≡ Err fault)
 
 -- the script of the draft
 abbrev pub plan_of_draft : Draft → Plan
-plan_of_draft draft = record { program = program_of draft; threads = draft.threads; lines = lines_of draft }
+plan_of_draft draft = record { program = program_of draft; threads = draft.placed.threads; lines = lines_of draft }
 
 -- the draft has all commands of a text that isn't refused
 pub record IsWhole (draft : Draft) : Type 0 where

@@ -5,7 +5,7 @@ use Rattle.std.specs.List.Sorted.{IsNonDecreasingBy}
 use Rattle.xray_image.specs.Program.{Program}
 use Rattle.xray_image.specs.Limits.{most_sleds}
 use Rattle.xray_image.specs.Ids.{id_count}
-use Rattle.sled_words.specs.Words.{handler_word, state_word}
+use Rattle.sled_words.specs.Words.{handler_word, state_word, arg_handler_word}
 use Rattle.patch_script.specs.declared.command.Command.{Command}
 use Rattle.patch_script.specs.declared.command.Command.TheVariants as commands
 use Rattle.patch_script.specs.declared.placed.Placed.{Placed}
@@ -25,6 +25,8 @@ step_count (commands.PatchFunction id) sleds = 4 * sleds
 step_count (commands.UnpatchFunction id) sleds = sleds
 step_count commands.SetHandler sleds = 1
 step_count commands.RemoveHandler sleds = 1
+step_count commands.SetArgHandler sleds = 1
+step_count commands.RemoveArgHandler sleds = 1
 step_count commands.Init sleds = 2
 step_count commands.Finalize sleds = 2
 step_count (commands.Hold thread passing) sleds = 0
@@ -47,6 +49,8 @@ NamesFewThreads (commands.PatchFunction id) = Unit {0}
 NamesFewThreads (commands.UnpatchFunction id) = Unit {0}
 NamesFewThreads commands.SetHandler = Unit {0}
 NamesFewThreads commands.RemoveHandler = Unit {0}
+NamesFewThreads commands.SetArgHandler = Unit {0}
+NamesFewThreads commands.RemoveArgHandler = Unit {0}
 NamesFewThreads commands.Init = Unit {0}
 NamesFewThreads commands.Finalize = Unit {0}
 NamesFewThreads (commands.Hold thread passing) = Unit {0}
@@ -54,8 +58,8 @@ NamesFewThreads commands.Go = Unit {0}
 NamesFewThreads (commands.Await thread count) = Unit {0}
 
 -- a command is in its place
-pub record IsPlaced (program : Program) (earlier : List Command) (placed : Placed) : Type 0 where
-  pub before : placed.before ≡ total_of program earlier
+pub record IsPlaced (program : Program) (threads : ℕ) (earlier : List Command) (placed : Placed) : Type 0 where
+  pub before : placed.before ≡ total_of program threads earlier
   pub sleds : HasSleds program placed.command placed.sleds
   pub thread : NamesFewThreads placed.command
 
@@ -73,14 +77,15 @@ pub record IsOfImage (program : Program) (placed : PlacedCommands) : Type 0 wher
   pub sleds : placed.sleds.items ≡ map (values_of program.trampolines) program.sleds
   pub handler : placed.handler_word ≡ handler_word program
   pub state : placed.state_word ≡ state_word program
+  pub arg_handler : placed.arg_handler_word ≡ arg_handler_word program placed.threads
 
 -- the commands are in their places
 pub record ArePlaced (placed : PlacedCommands) : Type 0 where
   pub image : IsOfImage placed.image.value placed
   pub each : (i : ℕ) (one : Placed) → slice_get placed.commands.items i ≡ Some one
-      → IsPlaced placed.image.value (take i (commands_of (lines_in placed))) one
-  pub total : placed.total ≡ total_of placed.image.value (commands_of (lines_in placed))
-  pub start : placed.start ≡ start_of placed.image.value (commands_of (lines_in placed))
+      → IsPlaced placed.image.value placed.threads (take i (commands_of (lines_in placed))) one
+  pub total : placed.total ≡ total_of placed.image.value placed.threads (commands_of (lines_in placed))
+  pub start : placed.start ≡ start_of placed.image.value placed.threads (commands_of (lines_in placed))
   pub waits : placed.waits ≡ waiting_line (lines_in placed)
   pub first : AreFirst (id_count placed.image.value) (commands_of (lines_in placed)) placed.first_patches
   pub few : placed.total ≤ 16384 * length (lines_in placed)

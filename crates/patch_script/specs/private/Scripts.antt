@@ -7,7 +7,7 @@ use Rattle.patch_script.specs.private.Standing.{AreHolds}
 
 -- the script that the fields say
 abbrev pub plan_in : Inside → Plan
-plan_in a = record { program = a.placed.image.value; threads = a.threads; lines = lines_in a.placed }
+plan_in a = record { program = a.placed.image.value; threads = a.placed.threads; lines = lines_in a.placed }
 
 -- some text says the script, its commands are in their places, and the holds are theirs
 pub record IsSound (a : Inside) : Type 0 where

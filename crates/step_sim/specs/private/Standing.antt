@@ -13,21 +13,23 @@ use Rattle.machine_step.specs.PlainStep.{Passing}
 use Rattle.machine_step.specs.Traced.{HasLoaded, IsThreadOf, StandsAs, Traced, sleds_passed}
 use Rattle.step_sim.specs.declared.patcher.Patcher.{Patcher}
 use Rattle.step_sim.specs.Along.{IsAlong}
-use Rattle.step_sim.specs.Replay.{Cast, Moment, of_thread}
+use Rattle.step_sim.specs.Replay.{Cast, Moment, of_thread, thread_count}
 
 -- ---- one patcher, one thread
 
--- the patcher has made the first micro steps of a script, up to a place, and no others
-pub record IsPatcherAt (program : Program) (script : List Command) (place : ℕ) (p : Patcher) : Type 0 where
+-- the patcher has made the first micro steps of a script for this many threads, up to a place, and no others
+pub record IsPatcherAt (program : Program) (threads : ℕ) (script : List Command) (place : ℕ) (p : Patcher) : Type 0 where
   pub program_is : p.script.now.program ≡ program
+  pub threads_are : p.script.now.threads ≡ threads
   pub script_is : commands_of p.script.now.lines ≡ script
   pub place_is : p.place ≡ place
-  pub within : place ≤ total_of program script
-  pub words : AreCodeAt program script place p.words.items
+  pub within : place ≤ total_of program threads script
+  pub words : AreCodeAt program threads script place p.words.items
 
 -- a thread that no hold stops was given the loads that it has at a moment
 pub record IsThreadAt (cast : Cast) (moment : Moment) (t : Traced) : Type 0 where
   pub program_is : t.program ≡ cast.program
+  pub threads_are : t.threads ≡ thread_count cast
   pub first : 0 < t.thread
   pub last : t.thread ≤ t.threads
   pub room : t.thread ≤ length moment.loads
@@ -40,7 +42,7 @@ pub record IsThreadAt (cast : Cast) (moment : Moment) (t : Traced) : Type 0 wher
 -- the patcher and the thread are at a moment, and the thread's words exist
 pub record StandAt (cast : Cast) (moment : Moment) (p : Patcher) (t : Traced) : Type 0 where
   pub along : IsAlong cast moment
-  pub patcher : IsPatcherAt cast.program cast.script moment.place p
+  pub patcher : IsPatcherAt cast.program (thread_count cast) cast.script moment.place p
   pub words : word_count cast.program t.threads ≤ vec_len p.words
   pub thread : IsThreadAt cast moment t
 
@@ -63,7 +65,7 @@ pub record AllStandAt (cast : Cast) (threads : ℕ) (limits : Limits) (moment : 
   pub passings : length cast.passings ≡ threads
   pub loads : length moment.loads ≡ threads
   pub along : IsAlong cast moment
-  pub patcher : IsPatcherAt cast.program cast.script moment.place p
+  pub patcher : IsPatcherAt cast.program (thread_count cast) cast.script moment.place p
   pub words : word_count cast.program threads ≤ vec_len p.words
   pub thread : (i : ℕ) (t : Traced) → slice_get ts i ≡ Some t → IsThreadOf cast.program (i + 1) threads None limits t
   pub no_hold : (number : ℕ) → hold_of number cast.script ≡ None

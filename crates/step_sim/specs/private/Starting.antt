@@ -21,7 +21,7 @@ start_in s = record { program = s.patcher.script.now.program; script = commands_
 pub record HoldsStart (start : Start) (s : Inside) : Type 0 where
   pub accepted : (bytes : List ℕ) × IsAccepted bytes start.program
   pub free : (number : ℕ) → hold_of number start.script ≡ None
-  pub patcher : IsPatcherAt start.program start.script (start_of start.program start.script) s.patcher
+  pub patcher : IsPatcherAt start.program start.setup.threads start.script (start_of start.program start.setup.threads start.script) s.patcher
   pub words : vec_len s.patcher.words ≡ word_count start.program start.setup.threads
   pub count : length s.cpus.items ≡ start.setup.threads
   pub begun : AllHaveBegun start.program start.script start.setup.threads start.setup.limits s.cpus.items

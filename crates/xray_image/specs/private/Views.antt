@@ -23,7 +23,7 @@ use Rattle.xray_image.specs.private.UnitTable.{units_in, IsSoundTable}
 use Rattle.xray_image.specs.Container.{Function, MapEntry, Parts, version, base_address, code_length, function_count, entry_count, entry_index, number8_at}
 
 abbrev pub trampolines_of : Addresses → Trampolines
-trampolines_of t = record { entry = t.entry; exit = t.exit; tail = t.tail }
+trampolines_of t = record { entry = t.entry; exit = t.exit; tail = t.tail; args = t.args }
 
 -- the header holds the fields of the bytes
 pub record IsHeaderOf (bytes : List ℕ) (h : Header) : Type 0 where
@@ -36,6 +36,7 @@ pub record IsHeaderOf (bytes : List ℕ) (h : Header) : Type 0 where
   pub entry : h.trampolines.entry ≡ number8_at bytes 32
   pub exit : h.trampolines.exit ≡ number8_at bytes 40
   pub tail : h.trampolines.tail ≡ number8_at bytes 48
+  pub args : h.trampolines.args ≡ number8_at bytes 56
 
 abbrev pub function_of : FunctionEntry → Function
 function_of f = record { start = f.start; name = f.name.now }

@@ -25,7 +25,7 @@ use Rattle.step_sim.specs.declared.turns.Turns.{Turns}
 abbrev pub TearsNone : Type 0
 TearsNone = (program : Program) (script : List PatchCommand) (text : List ℕ) (schedule : List Turns) (setup : Setup) (runs : List ThreadRun)
     → schedule_of setup.threads text ≡ Ok schedule → (replay : IsReplayOf program script schedule setup runs)
-    → EachThread runs (λ number run. DecodesWhole program number (hold_of number script) run (of_thread replay.last.moment.loads number))
+    → EachThread runs (λ number run. DecodesWhole program setup.threads number (hold_of number script) run (of_thread replay.last.moment.loads number))
 
 -- the segments that a replay loses are each thread's oldest
 abbrev pub LosesOldest : Type 0
@@ -35,25 +35,26 @@ LosesOldest = (program : Program) (script : List PatchCommand) (text : List ℕ)
 
 -- the stores of any script keep sleds whole
 abbrev pub ScriptsKeep : Type 0
-ScriptsKeep = (program : Program) (script : List PatchCommand) (thread : ℕ) → KeepsSleds program thread (code_at program script)
+ScriptsKeep = (program : Program) (threads : ℕ) (script : List PatchCommand) (thread : ℕ)
+    → KeepsSleds program threads thread (code_at program threads script)
 
 -- loads that follow changing code are of the words that are wanted
 abbrev pub FollowsWanted : Type 0
-FollowsWanted = (program : Program) (code : ℕ → ℕ → ℕ) (start : ℕ) (bound : ℕ → ℕ) (thread : ℕ) (hold : Option ℕ) (sleds : List ℕ)
-    (loads : List Load) (place : ℕ) → Follows program code start bound thread hold sleds loads place → AreWanted program thread hold sleds loads
+FollowsWanted = (program : Program) (threads : ℕ) (code : ℕ → ℕ → ℕ) (start : ℕ) (bound : ℕ → ℕ) (thread : ℕ) (hold : Option ℕ) (sleds : List ℕ)
+    (loads : List Load) (place : ℕ) → Follows program threads code start bound thread hold sleds loads place → AreWanted program threads thread hold sleds loads
 
 -- loads that follow code which keeps sleds whole tear none
 abbrev pub FollowsWhole : Type 0
-FollowsWhole = (program : Program) (code : ℕ → ℕ → ℕ) (start : ℕ) (bound : ℕ → ℕ) (thread : ℕ) (hold : Option ℕ) (sleds : List ℕ)
-    (loads : List Load) (place : ℕ) → KeepsSleds program thread code → Follows program code start bound thread hold sleds loads place
-    → PassingsAreWhole program thread hold sleds loads
+FollowsWhole = (program : Program) (threads : ℕ) (code : ℕ → ℕ → ℕ) (start : ℕ) (bound : ℕ → ℕ) (thread : ℕ) (hold : Option ℕ) (sleds : List ℕ)
+    (loads : List Load) (place : ℕ) → KeepsSleds program threads thread code → Follows program threads code start bound thread hold sleds loads place
+    → PassingsAreWhole program threads thread hold sleds loads
 
 -- a thread that executes the code with the bytes that it loaded always comes to the end of its plain run, if it tears no
 -- sled
 abbrev pub ExecutesRuns : Type 0
-ExecutesRuns = (bytes : List ℕ) (program : Program) (limits : Limits) (number : ℕ) (hold : Option ℕ) (run : ThreadRun) (loads : List Load)
-    → IsAccepted bytes program → PlainRun program limits number run.passed run.end run.last → DecodesWhole program number hold run loads
-    → Executes program limits number hold run loads
+ExecutesRuns = (bytes : List ℕ) (program : Program) (limits : Limits) (threads number : ℕ) (hold : Option ℕ) (run : ThreadRun) (loads : List Load)
+    → IsAccepted bytes program → PlainRun program limits number run.passed run.end run.last → DecodesWhole program threads number hold run loads
+    → Executes program limits threads number hold run loads
 
 -- as many segments are lost as the queue has no buffers for
 abbrev pub LosesAsQueued : Type 0

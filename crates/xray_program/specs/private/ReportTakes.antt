@@ -3,6 +3,7 @@ use Rattle.std.specs.Prelude.{◌≡◌, ◌⊎◌, ◌≤◌, ℕ, List, Option
 use Rattle.xray_image.specs.Program.{Program}
 use Rattle.xray_io.specs.World.{DeskView}
 use Rattle.xray_program.specs.Inputs.{image_form}
+use Rattle.xray_program.specs.Outcomes.{Outcome}
 use Rattle.xray_program.specs.private.Takes.{IsMaybeTaken, IsTaken}
 use Rattle.xray_program.specs.Taking.{Form, IsAcceptedAs}
 use Rattle.xray_program.specs.declared.report_inputs.ReportInputs.{ReportInputs}
@@ -15,11 +16,15 @@ pub record ImageTurn (image : Option (List ℕ)) (before after : DeskView) (resu
   pub later : before.read_faults ≤ mid.read_faults
   pub taken : IsMaybeTaken image_form image mid after result
 
--- both turns gave values; or one of them was a stop
-abbrev pub IsReportTaken : {X : Type 0} → Form X → (log : List ℕ) → (image : Option (List ℕ)) → (before after : DeskView)
-    → Result (ReportInputs X) Stop → Type 0
-IsReportTaken form log image before after (Ok inputs) =
-    IsAcceptedAs form (before.held log) inputs.log × ImageTurn image before after (Ok inputs.image)
-IsReportTaken {X} form log image before after (Err stop) =
+-- both turns gave values, and that of the log says what it says of what the log reads as; or one of them was a stop
+abbrev pub IsReportTaken : {V X : Type 0} → Form X → (means : V → X → Type 0) → (log : List ℕ) → (image : Option (List ℕ)) → (before after : DeskView)
+    → Result (ReportInputs V) Stop → Type 0
+IsReportTaken {V} {X} form means log image before after (Ok inputs) =
+    (meant : X) × means inputs.log meant × IsAcceptedAs form (before.held log) meant × ImageTurn image before after (Ok inputs.image)
+IsReportTaken {V} {X} form means log image before after (Err stop) =
     IsTaken form log before after (Err stop)
-    ⊎ ((value : X) × IsAcceptedAs form (before.held log) value × ImageTurn image before after (Err stop))
+    ⊎ ((meant : X) × IsAcceptedAs form (before.held log) meant × ImageTurn image before after (Err stop))
+
+-- an outcome comes of the inputs: it follows from each reading of the log of which its value says what is known
+abbrev pub ComesOfMeant : {V X : Type 0} → (means : V → X → Type 0) → (next : X → Option Program → Outcome → Type 0) → ReportInputs V → Outcome → Type 0
+ComesOfMeant {V} {X} means next inputs outcome = (meant : X) → means inputs.log meant → next meant inputs.image outcome

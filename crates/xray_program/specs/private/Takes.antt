@@ -41,6 +41,11 @@ IsTaken form name before after (Err (stops.Refused n kind words)) =
 IsTaken form name before after (Err stops.NoMemory) = ⊤
 IsTaken form name before after (Err stop) = ⊥
 
+-- the turn of an input, if its value only says something of what it reads as
+abbrev pub IsTakenAs : {V X : Type 0} → Form X → (means : V → X → Type 0) → List ℕ → (before after : DeskView) → Result V Stop → Type 0
+IsTakenAs {V} {X} form means name before after (Ok value) = (meant : X) × means value meant × IsAcceptedAs form (before.held name) meant
+IsTakenAs form means name before after (Err stop) = IsTaken form name before after (Err stop)
+
 -- the turn of an input that the words may leave out
 abbrev pub IsMaybeTaken : {X : Type 0} → Form X → Option (List ℕ) → (before after : DeskView) → Result (Option X) Stop → Type 0
 IsMaybeTaken form None before after result = result ≡ Ok None

@@ -1,16 +1,20 @@
-use Rattle.std.proofs.Common.{List, subst, sym, ap, ◌∙◌}
+use Rattle.std.proofs.Common.{List}
 use Rattle.std.proofs.lemmas.Result.{on_ok_weaker}
 use Rattle.fdr_file.specs.declared.trace.Block.{Block}
-use Rattle.fdr_file.specs.Scanning.{last_longer}
-use Rattle.fdr_file.specs.private.Scan.{HasLast}
-use Rattle.fdr_file.proofs.Steps.{longer_last}
+use Rattle.fdr_file.specs.Scanning.{with_event}
+use Rattle.fdr_file.specs.Streams.{HasLast}
+use Rattle.fdr_file.proofs.Following.{one_has}
 use Rattle.fdr_file.proofs.scan.tell.Goals as goal
 
-pub returns-in-Noted-clause-took : goal.returns-in-Noted-clause-took
-returns-in-Noted-clause-took g c =
-    on_ok_weaker c.event.result (λ told blocks had can.
+pub note-requires-in-Noted : goal.note-requires-in-Noted
+note-requires-in-Noted g c =
+    let blocks = c.requires.0 in
+    let has : HasLast blocks = rw c.in-Noted.is at c.requires.2 in
+    (with_event c.in-Noted.entry blocks, c.in_ok-note-in-Noted.ensures.took blocks c.requires.1 has, one_has c.in-Noted.entry blocks has)
+
+pub returns-in_ok-note-in-Noted-clause-took : goal.returns-in_ok-note-in-Noted-clause-took
+returns-in_ok-note-in-Noted-clause-took g c =
+    on_ok_weaker c.note-in-Noted.result (λ told blocks had can.
     let has : HasLast blocks = rw c.in-Noted.is at can in
-    let is = ap (last_longer c.in-Noted.event) has.is ∙ longer_last c.in-Noted.event has.front has.last in
-    let before = subst (λ (x : List Block). g.K.Taker.took c.args.taker.now x) has.is had in
-    rw c.in-Noted.is (subst (λ (x : List Block). g.K.Taker.took c.event.new.self x) (sym is) (told has.front has.last before)))
-    c.event.ensures.took
+    rw c.in-Noted.is (told (with_event c.in-Noted.entry blocks) (c.in_ok-note-in-Noted.ensures.took blocks had has) (one_has c.in-Noted.entry blocks has)))
+    c.note-in-Noted.ensures.took

@@ -1,5 +1,5 @@
 use Rattle.std.proofs.Common.{◌-◌, ◌≤◌, length, take}
-use Rattle.fdr_file.specs.private.Scan.{Scans}
+use Rattle.fdr_file.specs.Streams.{Scans}
 use Rattle.layer_tests.proofs.damaged_traces.read_in_pieces.Given as goal
 
 -- the scan was fed the bytes so far

@@ -1,7 +1,7 @@
 use Rattle.std.proofs.Common.{◌≡◌, ◌+◌, ◌-◌, ◌++◌, ◌∙◌, ℕ, List, drop, take, ap, arith, subst, sym}
 use Rattle.std.proofs.Math.Seq.{take-add}
 use Rattle.fdr_file.specs.Scanning.{blocks_given}
-use Rattle.fdr_file.specs.private.Scan.{Scans}
+use Rattle.fdr_file.specs.Streams.{Scans}
 use Rattle.layer_tests.proofs.fed_traces.feed_pieces.Goals as goal
 
 -- the bytes so far, and the next piece of them

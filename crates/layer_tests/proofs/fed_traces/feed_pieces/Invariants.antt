@@ -1,7 +1,7 @@
 -- the bytes so far were fed
 use Rattle.std.proofs.Common.{◌-◌, ◌≤◌, length, take}
 use Rattle.fdr_file.specs.Scanning.{blocks_given}
-use Rattle.fdr_file.specs.private.Scan.{Scans}
+use Rattle.fdr_file.specs.Streams.{Scans}
 use Rattle.layer_tests.proofs.fed_traces.feed_pieces.Given as goal
 
 abbrev pub invariant-feeding : goal.invariant-feeding

@@ -5,10 +5,10 @@ use Rattle.machine_step.proofs.laws.what_follows_is_allowed.Goals as goal
 pub returns : goal.returns
 returns c = record {
   wanted = follows_in_order;
-  loaded = λ program code start bound thread hold sleds loads place keeps follows.
-      loads_allowed program code start bound thread keeps hold sleds follows;
-  next = λ program code start bound thread hold sleds loads place word keeps.
-      next_allowed program code start bound thread keeps hold sleds loads place word;
-  whole = λ program code start bound thread hold sleds loads place keeps.
-      follows_whole program code start bound thread keeps hold sleds loads place;
+  loaded = λ program threads code start bound thread hold sleds loads place keeps follows.
+      loads_allowed program threads code start bound thread keeps hold sleds follows;
+  next = λ program threads code start bound thread hold sleds loads place word keeps.
+      next_allowed program threads code start bound thread keeps hold sleds loads place word;
+  whole = λ program threads code start bound thread hold sleds loads place keeps.
+      follows_whole program threads code start bound thread keeps hold sleds loads place;
 }

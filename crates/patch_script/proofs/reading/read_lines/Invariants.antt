@@ -9,6 +9,6 @@ abbrev pub invariant-loop-line : goal.invariant-loop-line
 invariant-loop-line l = record {
   left : read_lines l.image l.threads [] (numbered_lines l.text) ≡ read_lines l.image l.threads (lines_of l.draft) l.line-iterator;
   program : program_of l.draft ≡ l.image;
-  threads : l.draft.threads ≡ l.threads;
+  threads : l.draft.placed.threads ≡ l.threads;
   sound : IsDraft l.draft;
 }

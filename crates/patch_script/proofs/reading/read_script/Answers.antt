@@ -16,10 +16,10 @@ of_draft-requires c =
     let go : has_go (commands_of (lines_of draft)) ≡ true = sym got.3.standing.going ∙ c.if-not-draft.false in
     let free : list_any (holds_for_good (commands_of (lines_of draft))) (commands_of (lines_of draft)) ≡ false =
     sym (c.holds_for_good.ensures (commands_of (lines_of draft)) got.3.standing) ∙ c.if-holds_for_good.false in
-    let read : read_lines (program_of draft) draft.threads [] (numbered_lines text) ≡ Ok (lines_of draft) =
-    ap (λ (p : Program). read_lines p draft.threads [] (numbered_lines text)) got.1
+    let read : read_lines (program_of draft) draft.placed.threads [] (numbered_lines text) ≡ Ok (lines_of draft) =
+    ap (λ (p : Program). read_lines p draft.placed.threads [] (numbered_lines text)) got.1
     ∙ ap (λ (t : ℕ). read_lines c.args.image.now t [] (numbered_lines text)) got.2 ∙ got.0 in
     record {
       sound = got.3;
-      read = (text, whole (program_of draft) draft.threads text (lines_of draft) read go free);
+      read = (text, whole (program_of draft) draft.placed.threads text (lines_of draft) read go free);
     }

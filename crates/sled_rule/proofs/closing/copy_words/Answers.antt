@@ -4,7 +4,7 @@ use mathlib.Core.Option.{some}
 use native.Mathlib.Decide.{ℕ_discrete}
 use lib.ListN.{get_elem?}
 use Rattle.sled_words.specs.Words.{progress_word}
-use Rattle.sled_rule.specs.Plans.{IsCodeIn, code_words}
+use Rattle.sled_rule.specs.Plans.{IsCodeIn}
 use Rattle.sled_rule.specs.Slots.{code_slot, progress_slot}
 use Rattle.sled_rule.proofs.closing.copy_words.Goals as goal
 
@@ -18,24 +18,18 @@ copied items into at value slot number own inside read below so_far slot_is = di
     (λ other. so_far (omega arith) ∙ ap some (sym (get_or-set_other into at number value 0 other)))
 
 pub overflow_cast-word : goal.overflow_cast-word
-unfolding code_words
 overflow_cast-word c =
-    let counted = c.requires.room.1 in let few = c.requires.room.2 in let numbers = c.requires.room.3 in omega arith
-
-pub slot_of-requires-clause-few_threads : goal.slot_of-requires-clause-few_threads
-unfolding code_words
-slot_of-requires-clause-few_threads c =
-    let counted = c.requires.room.1 in let few = c.requires.room.2 in let numbers = c.requires.room.3 in omega arith
+    let few = c.requires.few in let numbers = c.requires.room.3 in omega arith
 
 pub loop-word-preserved : goal.loop-word-preserved
 loop-word-preserved c =
     let at = c.loop-word.word in
     let inside : at < length c.loop-word.into = omega arith in record {
-      code = λ plan word counted is below. copied _ c.loop-word.into at c.word.result c.slot_of.result word (code_slot plan word) inside c.word.ensures below
-          (λ lt. c.loop-word.invariant.code plan word counted is lt)
-          (λ here. c.slot_of.ensures.code plan counted (subst (IsCodeIn plan) here is) ∙ ap (code_slot plan) (sym here));
-      progress = λ plan thread counted first below. copied _ c.loop-word.into at c.word.result c.slot_of.result (progress_word plan.program plan.threads thread)
+      code = λ plan word counted all is below. copied _ c.loop-word.into at c.word.result c.slot_of.result word (code_slot plan word) inside c.word.ensures below
+          (λ lt. c.loop-word.invariant.code plan word counted all is lt)
+          (λ here. c.slot_of.ensures.code plan counted all (subst (IsCodeIn plan) here is) ∙ ap (code_slot plan) (sym here));
+      progress = λ plan thread counted all first last below. copied _ c.loop-word.into at c.word.result c.slot_of.result (progress_word plan.program plan.threads thread)
           (progress_slot plan thread) inside c.word.ensures below
-          (λ lt. c.loop-word.invariant.progress plan thread counted first lt)
-          (λ here. c.slot_of.ensures.progress plan thread counted first (sym here));
+          (λ lt. c.loop-word.invariant.progress plan thread counted all first last lt)
+          (λ here. c.slot_of.ensures.progress plan thread counted all first last (sym here));
     }

@@ -4,5 +4,5 @@ use Rattle.sled_rule.proofs.slots.slot_of.Goals as goal
 
 pub returns-then-is_code_word-clause-within : goal.returns-then-is_code_word-clause-within
 unfolding code_slot
-returns-then-is_code_word-clause-within c plan counted within =
-    let slot = c.code_slot.ensures plan in let low = c.is_code_word.ensures.low.0 c.if-is_code_word.true in omega arith
+returns-then-is_code_word-clause-within c plan counted all =
+    let slot = c.code_slot.ensures plan in let within = c.requires.within in omega arith

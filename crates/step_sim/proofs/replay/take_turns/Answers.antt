@@ -1,6 +1,7 @@
 use Rattle.std.proofs.Common.{◌≤◌, ◌+◌, ◌-◌, ℕ, arith, length, min, subst}
 use Rattle.patch_script.specs.Micros.{total_of}
 use Rattle.step_sim.specs.private.Standing.{IsPatcherAt}
+use Rattle.step_sim.specs.Replay.{thread_count}
 use Rattle.step_sim.specs.Schedules.{AreTurnsOf}
 use Rattle.step_sim.proofs.AllThreads.{found_at, patcher_line, stand_of, thread_line}
 use Rattle.step_sim.proofs.AllRecorded.{patcher_recorded, record_of, records_of, thread_recorded}
@@ -39,15 +40,15 @@ returns-in-Patcher c = record {
   at = λ cast threads limits moment at.
       patcher_line cast threads limits moment c.args.patcher.now c.make_steps.new.self c.args.cpus.now.items c.args.turns c.in-Patcher.count
       c.in-Patcher.is at
-      (subst (λ (n : ℕ). IsPatcherAt cast.program cast.script (min (moment.place + n) (total_of cast.program cast.script)) c.make_steps.new.self)
-      c.from.ensures (c.make_steps.ensures.at cast.program cast.script moment.place at.patcher))
+      (subst (λ (n : ℕ). IsPatcherAt cast.program (thread_count cast) cast.script (min (moment.place + n) (total_of cast.program (thread_count cast) cast.script)) c.make_steps.new.self)
+      c.from.ensures (c.make_steps.ensures.at cast.program (thread_count cast) cast.script moment.place at.patcher))
       c.make_steps.ensures.words;
   records = λ r pooled at.
       patcher_recorded r pooled c.args.patcher.now c.make_steps.new.self c.args.cpus.now.items c.args.pool.now c.args.turns c.in-Patcher.count
       c.in-Patcher.is at
       (patcher_line r.cast r.threads r.limits pooled.moment c.args.patcher.now c.make_steps.new.self c.args.cpus.now.items c.args.turns c.in-Patcher.count
       c.in-Patcher.is at.stands
-      (subst (λ (n : ℕ). IsPatcherAt r.cast.program r.cast.script (min (pooled.moment.place + n) (total_of r.cast.program r.cast.script)) c.make_steps.new.self)
-      c.from.ensures (c.make_steps.ensures.at r.cast.program r.cast.script pooled.moment.place at.stands.patcher))
+      (subst (λ (n : ℕ). IsPatcherAt r.cast.program (thread_count r.cast) r.cast.script (min (pooled.moment.place + n) (total_of r.cast.program (thread_count r.cast) r.cast.script)) c.make_steps.new.self)
+      c.from.ensures (c.make_steps.ensures.at r.cast.program (thread_count r.cast) r.cast.script pooled.moment.place at.stands.patcher))
       c.make_steps.ensures.words);
 }

@@ -1,4 +1,5 @@
 use Rattle.std.proofs.Common.{arith}
+use Rattle.step_sim.specs.Replay.{thread_count}
 use Rattle.step_sim.proofs.OneRecorded.{can_note, ended_recorded, load_recorded, not_kept, plays}
 use Rattle.step_sim.proofs.OneThread.{ended_turn, load_made, value_allowed, word_there}
 use Rattle.step_sim.proofs.thread.make_load.Goals as goal
@@ -15,14 +16,14 @@ give-event-requires c =
     let mid = c.next_word.new.cpu in
     let allowed = value_allowed c.args.patcher.now old mid c.in-Some.word c.load.result (plays _ _ _ c.requires.records) said.thread said.loads said.word
     c.a_replay_reads_along.ensures.allowed
-    (λ cast moment at. c.load.ensures cast.program cast.script moment.place at.patcher) in
+    (λ cast moment at. c.load.ensures cast.program (thread_count cast) cast.script moment.place at.patcher) in
     rw said.word allowed
 
 pub returns-in-Some-clause-at : goal.returns-in-Some-clause-at
 returns-in-Some-clause-at c = λ cast moment at.
     let said = c.in-Some.ensures in
     load_made cast moment c.args.patcher.now c.args.cpu.now c.next_word.new.cpu _ c.in-Some.word c.load.result at
-    said.thread said.loads said.word (c.load.ensures cast.program cast.script moment.place at.patcher)
+    said.thread said.loads said.word (c.load.ensures cast.program (thread_count cast) cast.script moment.place at.patcher)
     c.give-event.ensures.thread c.give-event.ensures.loads
 
 pub returns-in-None-clause-at : goal.returns-in-None-clause-at
@@ -40,7 +41,7 @@ pub returns-in-Some-clause-records : goal.returns-in-Some-clause-records
 returns-in-Some-clause-records c = λ r pooled at.
     let said = c.in-Some.ensures in
     let stands = load_made r.cast pooled.moment c.args.patcher.now c.args.cpu.now c.next_word.new.cpu _ c.in-Some.word c.load.result at.stands
-    said.thread said.loads said.word (c.load.ensures r.cast.program r.cast.script pooled.moment.place at.stands.patcher)
+    said.thread said.loads said.word (c.load.ensures r.cast.program (thread_count r.cast) r.cast.script pooled.moment.place at.stands.patcher)
     c.give-event.ensures.thread c.give-event.ensures.loads in
     load_recorded r pooled c.args.patcher.now c.args.cpu.now c.next_word.new.cpu c.give-event.new.self c.args.pool.now c.note_any.new.self
     c.give-event.result c.thread-thread.result at said.thread said.loads c.give-event.ensures.thread c.give-event.ensures.event

@@ -3,7 +3,7 @@ use Rattle.std.specs.List.{flat_map}
 use Rattle.std.specs.Option.{option_map}
 use Rattle.xray_io.specs.Text.{AddsText, adds_failed, adds_more, adds_stop, adds_within}
 use Rattle.fdr_file.specs.ThreadEvents.{ThreadEvent}
-use Rattle.fdr_file.specs.private.Cursor.{events_left}
+use Rattle.fdr_file.specs.EventsLeft.{events_left}
 use Rattle.yaml_convert.specs.Yaml.{event_line, records_text}
 use Rattle.yaml_convert.proofs.YamlLines.{first_line}
 use Rattle.yaml_convert.proofs.yaml_bytes.add_given.Goals as goal

@@ -3,7 +3,7 @@ use Rattle.std.specs.List.{flat_map}
 use Rattle.std.specs.Option.{option_map}
 use Rattle.xray_io.specs.Text.{AddsText}
 use Rattle.fdr_file.specs.ThreadEvents.{ThreadEvent}
-use Rattle.fdr_file.specs.private.Cursor.{events_left}
+use Rattle.fdr_file.specs.EventsLeft.{events_left}
 use Rattle.yaml_convert.specs.Yaml.{event_line}
 use Rattle.yaml_convert.proofs.yaml_bytes.add_lines.Given as goal
 

@@ -24,15 +24,15 @@ overflow_add-self c =
 pub invariant_of-self : goal.invariant_of-self
 invariant_of-self c =
     let put = c.put_event-self-inside in
-    (put_leaves c.self.inside c.args.self.now c.args.event.now c.of-lead.result put.new.bytes put.result c.self.view_is c.self.invariant c.requires.begun c.requires.room c.requires.id
-    (record { records = c.of-lead.ensures.records; cpu = c.of-lead.ensures.cpu; tsc = c.of-lead.ensures.tsc })
+    (put_leaves c.self.inside c.args.self.now c.args.event.now c.of-lead.result put.new.bytes put.result c.self.view_is c.self.invariant c.requires.begun c.requires.room c.requires.recordable.id
+    (record { records = c.of-lead.ensures.records; cpu = c.of-lead.ensures.cpu; tsc = c.of-lead.ensures.tsc; arg = c.of-lead.ensures.arg; logged = c.requires.recordable.arg })
     (omega (arith, put.auto.bytes, ap length c.deref_mut.ensures.value))
     (put.ensures.bytes ∙ rw c.deref_mut.ensures.value refl) put.ensures.next).0
 
 pub returns : goal.returns
 returns c =
     let put = c.put_event-self-inside in
-    (put_leaves c.self.inside c.args.self.now c.args.event.now c.of-lead.result put.new.bytes put.result c.self.view_is c.self.invariant c.requires.begun c.requires.room c.requires.id
-    (record { records = c.of-lead.ensures.records; cpu = c.of-lead.ensures.cpu; tsc = c.of-lead.ensures.tsc })
+    (put_leaves c.self.inside c.args.self.now c.args.event.now c.of-lead.result put.new.bytes put.result c.self.view_is c.self.invariant c.requires.begun c.requires.room c.requires.recordable.id
+    (record { records = c.of-lead.ensures.records; cpu = c.of-lead.ensures.cpu; tsc = c.of-lead.ensures.tsc; arg = c.of-lead.ensures.arg; logged = c.requires.recordable.arg })
     (omega (arith, put.auto.bytes, ap length c.deref_mut.ensures.value))
     (put.ensures.bytes ∙ rw c.deref_mut.ensures.value refl) put.ensures.next).1

@@ -2,7 +2,7 @@ use Rattle.std.proofs.Common.{◌≡◌, ℕ, ◌+◌, ◌-◌, List, ◌++◌, 
 use Rattle.std.proofs.lemmas.List.{length-drop, length-take, take_all, take_rest}
 use Rattle.std.proofs.Math.Seq.{take-add}
 use Rattle.fdr_file.specs.Scanning.{blocks_given}
-use Rattle.fdr_file.specs.private.Scan.{Scans}
+use Rattle.fdr_file.specs.Streams.{Scans}
 use Rattle.fdr_file.proofs.scan.TraceScan.feed.Goals as goal
 
 -- the stream with more bytes of the piece
@@ -22,7 +22,7 @@ feeding-preserved g c =
       stands = λ stream scans took.
           let now = c.feeding.invariant.stands stream scans took in
           let is = longer stream piece from n in (
-            subst (λ (x : List ℕ). Scans c.feed_some.new.self x) is (c.in_ok-from.ensures.scans (stream ++ take from piece) now.0),
+            subst (λ (x : List ℕ). Scans c.feed_some.new.self x) is (c.in_ok-from.ensures.scans (stream ++ take from piece) now.0 now.1),
             subst (λ (x : List ℕ). g.K.Taker.took c.feed_some.new.taker (blocks_given x)) is (c.in_ok-from.ensures.took (stream ++ take from piece) now.0 now.1),
           );
       later = omega (arith, c.feeding.invariant.later, c.feed_some.ensures.later);

@@ -2,7 +2,7 @@ use Rattle.std.proofs.Common.{◌≡◌, ◌+◌, [], ◌∷◌, ◌++◌, cond,
 use mir.Val.{bool_byte}
 use Rattle.std.proofs.lemmas.List.Sums.{sum_by-append}
 use Rattle.handler_word.specs.declared.mark.Mark.{Mark}
-use Rattle.handler_word.specs.declared.mark.Mark.TheVariants.{Skipped, NoHandler, NotLogging, Recorded}
+use Rattle.handler_word.specs.declared.mark.Mark.TheVariants.{Skipped, NoHandler, NotLogging, Recorded, RecordedArg}
 use Rattle.handler_word.specs.private.Bits.{marks_from}
 use Rattle.handler_word.specs.MarkList.{is_recorded, recorded_count}
 use Rattle.handler_word.proofs.MarkBits.{seen_counts}
@@ -14,6 +14,7 @@ counted_once Skipped = refl
 counted_once NoHandler = refl
 counted_once NotLogging = refl
 counted_once Recorded = refl
+counted_once RecordedArg = refl
 
 pub put_bits-requires-clause-room : goal.put_bits-requires-clause-room
 put_bits-requires-clause-room c =

@@ -11,14 +11,14 @@ pub end_of_alike-end-requires : goal.end_of_alike-end-requires
 end_of_alike-end-requires c =
     let a = c.self.inside in
     let seen = seen_counts a.bytes.items a.len a.room c.args.self.now c.self.view_is in
-    let full = length-take-le (a.len / 4) c.deref.result.now (omega (arith, c.self.invariant.filled.count, ap length c.deref.ensures.value)) in
+    let full = length-take-le (a.len / 2) c.deref.result.now (omega (arith, c.self.invariant.filled.count, ap length c.deref.ensures.value)) in
     omega (arith, full, seen.0)
 
 pub returns-clause-within : goal.returns-clause-within
 returns-clause-within c =
     let a = c.self.inside in
     let seen = seen_counts a.bytes.items a.len a.room c.args.self.now c.self.view_is in
-    let full = length-take-le (a.len / 4) c.deref.result.now (omega (arith, c.self.invariant.filled.count, ap length c.deref.ensures.value)) in
+    let full = length-take-le (a.len / 2) c.deref.result.now (omega (arith, c.self.invariant.filled.count, ap length c.deref.ensures.value)) in
     omega (arith, full, seen.0, c.end_of_alike-end.ensures.within)
 
 pub returns-clause-same : goal.returns-clause-same
@@ -27,13 +27,13 @@ returns-clause-same c =
     let n = c.args.first in
     let end = c.end_of_alike-end.result in
     let seen = seen_counts a.bytes.items a.len a.room c.args.self.now c.self.view_is in
-    let full = length-take-le (a.len / 4) c.deref.result.now (omega (arith, c.self.invariant.filled.count, ap length c.deref.ensures.value)) in
-    let from : n / 4 ≤ end = c.end_of_alike-end.ensures.from in
-    let to : end ≤ a.len / 4 = omega (arith, full, c.end_of_alike-end.ensures.within) in
-    let last : n + (end - n / 4) * 4 ≡ end * 4 = omega (arith, from, c.if-first-ne0.false) in
-    let more : (end - n / 4) * 4 ≡ end * 4 - n = omega (arith, from, c.if-first-ne0.false) in
-    let there = bytes_there c.deref.result.now a.len n c.bits-alike.result (end - n / 4) c.if-first-ne0.false (omega (arith, to, from)) c.bits-alike.ensures.small
-    (λ i begun below. sym (get_or-take (a.len / 4) c.deref.result.now i 0 (omega (arith, to, from))) ∙ c.end_of_alike-end.ensures.alike i begun (omega (arith, from))) in
-    subst (λ (m : MarkList). drop n m.items ≡ replicate (end * 4 - n) c.args.mark ++ drop (end * 4) m.items) c.self.view_is
-    (subst (λ (mark : Mark). drop n (marks_from a.bytes.items 0 a.len) ≡ replicate (end * 4 - n) mark ++ drop (end * 4) (marks_from a.bytes.items 0 a.len))
+    let full = length-take-le (a.len / 2) c.deref.result.now (omega (arith, c.self.invariant.filled.count, ap length c.deref.ensures.value)) in
+    let from : n / 2 ≤ end = c.end_of_alike-end.ensures.from in
+    let to : end ≤ a.len / 2 = omega (arith, full, c.end_of_alike-end.ensures.within) in
+    let last : n + (end - n / 2) * 2 ≡ end * 2 = omega (arith, from, c.if-first-ne0.false) in
+    let more : (end - n / 2) * 2 ≡ end * 2 - n = omega (arith, from, c.if-first-ne0.false) in
+    let there = bytes_there c.deref.result.now a.len n c.bits-alike.result (end - n / 2) c.if-first-ne0.false (omega (arith, to, from)) c.bits-alike.ensures.small
+    (λ i begun below. sym (get_or-take (a.len / 2) c.deref.result.now i 0 (omega (arith, to, from))) ∙ c.end_of_alike-end.ensures.alike i begun (omega (arith, from))) in
+    subst (λ (m : MarkList). drop n m.items ≡ replicate (end * 2 - n) c.args.mark ++ drop (end * 2) m.items) c.self.view_is
+    (subst (λ (mark : Mark). drop n (marks_from a.bytes.items 0 a.len) ≡ replicate (end * 2 - n) mark ++ drop (end * 2) (marks_from a.bytes.items 0 a.len))
     c.bits-alike.ensures.mark (rw (last, more, c.deref.ensures.value) at there))

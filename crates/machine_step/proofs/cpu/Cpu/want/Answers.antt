@@ -21,8 +21,8 @@ pub returns-in-Loading-clause-want : goal.returns-in-Loading-clause-want
 returns-in-Loading-clause-want c =
     let a = c.self.inside in
     subst (λ (t : Traced). Load c.word_at.result ≡ t.want) c.self.view_is
-    (subst (λ (s : Stand). Load c.word_at.result ≡ want_at a.steps.now a.thread a.machine.passings s) (sym c.in-Loading.is)
-    (ap Load (c.word_at.ensures ∙ ap (λ (program : Program). word_at program a.thread c.in-Loading.sled c.in-Loading.stage) c.image.ensures.program)))
+    (subst (λ (s : Stand). Load c.word_at.result ≡ want_at a.steps.now a.threads a.thread a.machine.passings s) (sym c.in-Loading.is)
+    (ap Load (c.word_at.ensures ∙ ap (λ (program : Program). word_at program a.threads a.thread c.in-Loading.sled c.in-Loading.stage) c.image.ensures.program)))
 
 pub returns-in-Loading-clause-stands : goal.returns-in-Loading-clause-stands
 returns-in-Loading-clause-stands c = stands_seen c.self.inside _ c.self.view_is c.self.invariant

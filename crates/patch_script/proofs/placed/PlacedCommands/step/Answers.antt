@@ -21,11 +21,11 @@ overflow_add-result c =
 pub returns-in-Patch : goal.returns-in-Patch
 returns-in-Patch c =
     let one = c.args.placed in
-    patched_step c.args.self.now.image.value one.command one.sleds (c.requires.sound.each c.args.number one c.requires.placed).sleds c.args.step c.requires.within
+    patched_step c.args.self.now.image.value one.command one.sleds (c.requires.sound.each c.args.number one c.requires.placed).sleds c.args.step c.requires.within c.args.self.now.threads
     (patched_before c.args.self.now c.args.number) c.patch_step.result c.in-Patch.is c.patch_step.ensures
 
 pub returns-in-Unpatch : goal.returns-in-Unpatch
 returns-in-Unpatch c =
     let one = c.args.placed in
-    unpatched_step c.args.self.now.image.value one.command one.sleds (c.requires.sound.each c.args.number one c.requires.placed).sleds c.args.step c.requires.within
+    unpatched_step c.args.self.now.image.value one.command one.sleds (c.requires.sound.each c.args.number one c.requires.placed).sleds c.args.step c.requires.within c.args.self.now.threads
     (patched_before c.args.self.now c.args.number) c.unpatch_step.result c.in-Unpatch.is c.unpatch_step.ensures

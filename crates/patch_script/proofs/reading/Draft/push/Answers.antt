@@ -1,4 +1,4 @@
-use Rattle.std.proofs.Common.{◌≡◌, ℕ, List, [], ◌∷◌, ◌++◌, refl, sym, ap, subst, ◌∙◌}
+use Rattle.std.proofs.Common.{◌≡◌, ◌≤◌, ℕ, List, [], ◌∷◌, ◌++◌, refl, sym, ap, subst, ◌∙◌}
 use Rattle.std.proofs.lemmas.List.{map-append}
 use Rattle.xray_image.specs.Ids.{id_count}
 use Rattle.patch_script.specs.declared.command.Command.{Command}
@@ -16,10 +16,10 @@ returns c =
     ap commands_of c.in_ok-push.ensures.lines ∙ map-append (λ (line : ℕ × Command). line.1) (lines_of old) ((c.args.line, c.args.command) ∷ []) in
     record {
       program = c.in_ok-push.ensures.image;
-      threads = refl;
+      threads = c.in_ok-push.ensures.threads;
       lines = c.in_ok-push.ensures.lines;
       sound = record {
-        few_threads = c.requires.sound.few_threads;
+        few_threads = subst (λ (n : ℕ). n ≤ 16) (sym c.in_ok-push.ensures.threads) c.requires.sound.few_threads;
         ids = c.requires.sound.ids ∙ ap id_count (sym c.in_ok-push.ensures.image);
         placed = c.in_ok-push.ensures.sound;
         standing = subst (λ (commands : List Command). IsStanding commands c.take.new.self) (sym script)

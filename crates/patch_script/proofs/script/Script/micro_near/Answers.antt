@@ -14,8 +14,8 @@ use Rattle.patch_script.proofs.script.Script.micro_near.Goals as goal
 pub returns-clause-end : goal.returns-clause-end
 returns-clause-end c =
     let placed = c.self.inside.placed in
-    subst (λ (p : Plan). (c.micro_near.result ≡ End) ↔ (total_of p.program (commands_of p.lines) ≤ c.args.p)) c.self.view_is
-    (end_only_past placed.image.value (commands_of (lines_in placed)) c.args.p c.micro_near.result c.micro_near.ensures)
+    subst (λ (p : Plan). (c.micro_near.result ≡ End) ↔ (total_of p.program p.threads (commands_of p.lines) ≤ c.args.p)) c.self.view_is
+    (end_only_past placed.image.value placed.threads (commands_of (lines_in placed)) c.args.p c.micro_near.result c.micro_near.ensures)
 
 pub returns-clause-within : goal.returns-clause-within
 returns-clause-within c =

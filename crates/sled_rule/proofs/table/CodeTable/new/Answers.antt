@@ -12,7 +12,7 @@ of_words-requires c =
 
 pub invariant_of-table-clause-counted : goal.invariant_of-table-clause-counted
 invariant_of-table-clause-counted c =
-    count_is c.args.script c.args.image.now c.args.threads c.code_word_count-code_len.result c.requires.image c.requires.threads c.code_word_count-code_len.ensures
+    count_is c.args.script c.args.image.now c.args.threads c.word_count-word_len.result c.requires.image c.requires.threads c.word_count-word_len.ensures
 
 pub invariant_of-table-clause-few_steps : goal.invariant_of-table-clause-few_steps
 invariant_of-table-clause-few_steps c =

@@ -8,5 +8,5 @@ use Rattle.step_sim.proofs.patcher.Patcher.make_steps.Given as goal
 abbrev pub invariant-loop-step : goal.invariant-loop-step
 invariant-loop-step l =
     (vec_len l.self.words ≡ vec_len l.initial.self.words)
-    × ((program : Program) (script : List Command) (place : ℕ) → IsPatcherAt program script place l.initial.self
-    → IsPatcherAt program script (min (place + l._step) (total_of program script)) l.self)
+    × ((program : Program) (threads : ℕ) (script : List Command) (place : ℕ) → IsPatcherAt program threads script place l.initial.self
+    → IsPatcherAt program threads script (min (place + l._step) (total_of program threads script)) l.self)

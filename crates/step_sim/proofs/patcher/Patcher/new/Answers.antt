@@ -11,19 +11,23 @@ pub returns-clause-at : goal.returns-clause-at
 returns-clause-at c =
     let program = c.args.image.now in
     let script = commands_of c.args.script.now.lines in
-    let start : c.start.result ≡ start_of program script =
-    subst (λ (p : Program). c.start.result ≡ start_of p script) c.requires.program c.start.ensures.start in
-    let within : c.start.result ≤ total_of program script =
-    subst (λ (p : Program). c.start.result ≤ total_of p script) c.requires.program c.start.ensures.within in
-    let begun = c.make_steps.ensures.at program script 0 (record {
+    let threads = c.args.threads in
+    let start : c.start.result ≡ start_of program threads script =
+    subst (λ (p : Program). c.start.result ≡ start_of p threads script) c.requires.program
+    (subst (λ (n : ℕ). c.start.result ≡ start_of c.args.script.now.program n script) c.requires.same_threads c.start.ensures.start) in
+    let within : c.start.result ≤ total_of program threads script =
+    subst (λ (p : Program). c.start.result ≤ total_of p threads script) c.requires.program
+    (subst (λ (n : ℕ). c.start.result ≤ total_of c.args.script.now.program n script) c.requires.same_threads c.start.ensures.within) in
+    let begun = c.make_steps.ensures.at program threads script 0 (record {
       program_is = c.requires.program;
+      threads_are = c.requires.same_threads;
       script_is = refl;
       place_is = refl;
       within = omega arith;
-      words = subst (AreCodeAt program script 0) (sym c.in_ok-words.ensures) (c.stores_give_the_code.ensures.first program script c.args.threads);
+      words = subst (AreCodeAt program threads script 0) (sym c.in_ok-words.ensures) (c.stores_give_the_code.ensures.first program threads script);
     }) in
-    let there : min (0 + c.start.result) (total_of program script) ≡ start_of program script = omega (arith, start, within) in
-    subst (λ (n : ℕ). IsPatcherAt program script n c.make_steps.new.self) there begun
+    let there : min (0 + c.start.result) (total_of program threads script) ≡ start_of program threads script = omega (arith, start, within) in
+    subst (λ (n : ℕ). IsPatcherAt program threads script n c.make_steps.new.self) there begun
 
 pub returns-clause-words : goal.returns-clause-words
 returns-clause-words c =

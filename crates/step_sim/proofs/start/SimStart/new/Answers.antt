@@ -15,7 +15,8 @@ invariant_of-result c =
     at_start c.args.steps.now script _ (record {
       accepted = c.image-image.ensures.accepted;
       free = no_holds c.args.script.now.lines (sym c.waits.ensures ∙ c.in_default.is);
-      patcher = subst (λ (program : Program). IsPatcherAt program script (start_of program script) c.in_ok-patcher.patcher) same c.in_ok-patcher.ensures.at;
+      patcher = subst (λ (program : Program). IsPatcherAt program c.args.setup.now.threads script (start_of program c.args.setup.now.threads script) c.in_ok-patcher.patcher)
+          same c.in_ok-patcher.ensures.at;
       words = c.in_ok-patcher.ensures.words ∙ ap (λ (program : Program). word_count program c.args.setup.now.threads) same;
       count = c.in_ok-cpus.ensures.count;
       begun = c.in_ok-cpus.ensures.begun;

@@ -13,7 +13,7 @@ returns-clause-going g c =
     let v = work_view c.args.seat in
     let is = c.requires.fresh in
     let fresh = is.fresh in
-    let within = subst (λ (p : Plan). start_of p.program (commands_of p.lines) ≤ total_of p.program (commands_of p.lines)) c.script.ensures
+    let within = subst (λ (p : Plan). start_of p.program p.threads (commands_of p.lines) ≤ total_of p.program p.threads (commands_of p.lines)) c.script.ensures
     c.threads_start_within.ensures in
     record {
       at = record {

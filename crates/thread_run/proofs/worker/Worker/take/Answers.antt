@@ -9,7 +9,7 @@ use Rattle.machine_step.specs.declared.want.Want.{Want}
 use Rattle.sled_rule.specs.Seats.{work_view, script_of}
 use Rattle.traced_run.proofs.FitPassings.{run_ids}
 use Rattle.thread_run.specs.Following.{given}
-use Rattle.thread_run.proofs.Events.{any_room, any_small, some_ends}
+use Rattle.thread_run.proofs.Events.{any_room, any_recordable, some_ends}
 use Rattle.thread_run.proofs.Loading.{along_more, found_within, is_found, is_kept, not_kept, same_in, the_load, value_allowed, word_there}
 use Rattle.thread_run.proofs.worker.Worker.take.Goals as goal
 
@@ -31,14 +31,14 @@ give-event-requires g c =
     subst (λ (w : Want). Allows worker.cpu w value) (sym c.requires.wants)
     (value_allowed plan worker.cpu at.passed v.seen fetched.place (given v.loads) c.args.word value at.thread at.along.all c.requires.wants found)
 
-pub returns-clause-id : goal.returns-clause-id
-returns-clause-id g c =
+pub returns-clause-recordable : goal.returns-clause-recordable
+returns-clause-recordable g c =
     let worker = c.args.self.now in
     let at = c.requires.going.at in
     let has = at.along.all.loaded in
     let program = worker.cpu.program in
     let bytes = at.thread.accepted.0 in
-    any_small at.passed worker.cpu.marks c.give-event.new.self.marks c.give-event.result
+    any_recordable at.passed worker.cpu.marks c.give-event.new.self.marks c.give-event.result
     (run_ids bytes program worker.cpu.limits worker.cpu.thread at.passed has.end has.last
     (subst (λ (q : Program). IsAccepted bytes q) (sym at.thread.program) at.thread.accepted.1) has.run)
     (c.give-event.ensures.event at.passed has.end has.last has.run)
@@ -80,7 +80,7 @@ returns-clause-lacks g c =
         own = c.fetch-value.ensures.own;
         thread = same_in plan t c.give-event.new.self at.thread gave.thread;
         seat = ap (λ (x : WorkView). x.thread) fetched.view ∙ at.seat ∙ sym gave.thread.thread;
-        within = subst (λ (x : WorkView). x.seen ≤ total_of plan.program (commands_of plan.lines)) (sym fetched.view)
+        within = subst (λ (x : WorkView). x.seen ≤ total_of plan.program plan.threads (commands_of plan.lines)) (sym fetched.view)
             (found_within plan t v.seen c.args.word value fetched.place found);
         passed = at.passed;
         along = along_more plan t c.give-event.new.self v _ at.passed c.args.word value fetched.place at.thread at.along c.requires.wants found

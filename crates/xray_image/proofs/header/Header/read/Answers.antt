@@ -1,9 +1,19 @@
 use Rattle.std.proofs.Common.{◌≡◌, ◌<◌, inl, inr, arith}
 use Rattle.std.specs.Prelude.{codes}
 use Rattle.xray_image.specs.Container.{magic}
-use Rattle.xray_image.proofs.HeaderRows.{magic_is, functions_beyond, sleds_beyond, entry_beyond, base_beyond}
+use Rattle.xray_image.proofs.HeaderRows.{magic_is, version_other, code_beyond, functions_beyond, sleds_beyond, entry_beyond, base_beyond}
 use Rattle.xray_image.proofs.header.Header.read.Goals as goal
 use Rattle.xray_image.proofs.header.Header.read.Goals.{then-header-ne0-via-then-header-ne0, then-header-ne0-via-else-header-ne0+then-header-gt-BASE_LIMIT}
+
+pub returns-then-header-ne-VERSION-clause-refused : goal.returns-then-header-ne-VERSION-clause-refused
+returns-then-header-ne-VERSION-clause-refused c =
+    version_other c.args.bytes.now c.fields-header.result c.fields-header.ensures c.if-bytes-lt-HEADER_LENGTH.false
+    (magic_is c.args.bytes.now c.if-not-starts_with.ensures.value) c.if-header-ne-VERSION.true
+
+pub returns-then-header-gt-CODE_LIMIT-clause-refused : goal.returns-then-header-gt-CODE_LIMIT-clause-refused
+returns-then-header-gt-CODE_LIMIT-clause-refused c =
+    code_beyond c.args.bytes.now c.fields-header.result c.fields-header.ensures c.if-bytes-lt-HEADER_LENGTH.false
+    (magic_is c.args.bytes.now c.if-not-starts_with.ensures.value) c.if-header-ne-VERSION.false c.if-header-gt-CODE_LIMIT.true
 
 pub returns-then-header-eq0-clause-refused : goal.returns-then-header-eq0-clause-refused
 returns-then-header-eq0-clause-refused c =

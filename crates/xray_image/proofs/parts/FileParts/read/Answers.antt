@@ -1,10 +1,17 @@
-use Rattle.std.proofs.Common.{length, map, inr, sym, ap, ◌∙◌}
+use Rattle.std.proofs.Common.{[], length, map, inr, sym, ap, ◌∙◌}
 use Rattle.std.proofs.lemmas.Bool.{false≢true, eq-eqb, eqb-true}
 use Rattle.std.proofs.lemmas.List.{nil_from_length}
 use Rattle.std.proofs.lemmas.Result.{err_from_is_err_and}
 use Rattle.xray_image.specs.private.Views.{function_of, entry_of}
-use Rattle.xray_image.proofs.FileParts.{short_functions, short_entries, trailing, whole, refused_by}
+use Rattle.xray_image.proofs.FileParts.{short_code, short_functions, short_entries, trailing, whole, refused_by}
 use Rattle.xray_image.proofs.parts.FileParts.read.Goals as goal
+
+pub returns-then-following-code_length-clause-refused : goal.returns-then-following-code_length-clause-refused
+returns-then-following-code_length-clause-refused c =
+    let h = c.args.header.now in
+    let is = c.requires.header in
+    inr (short_code c.args.bytes.now c.requires.long c.split_at.result.1.now [] h.code_length h.functions h.entries
+    c.split_at.ensures.back is.code_length is.functions is.entries c.if-following-code_length.true)
 
 pub returns-in_err-functions-clause-refused : goal.returns-in_err-functions-clause-refused
 returns-in_err-functions-clause-refused c =

@@ -2,7 +2,7 @@ use Rattle.std.proofs.Common.{◌∙◌, List, ℕ, subst}
 use Rattle.std.specs.Prelude.{codes}
 use Rattle.std.specs.Option.{option_map}
 use Rattle.xray_io.specs.Text.{AddsText, adds_failed, adds_more, adds_stop, adds_within}
-use Rattle.fdr_file.specs.private.Cursor.{events_left}
+use Rattle.fdr_file.specs.EventsLeft.{events_left}
 use Rattle.yaml_convert.specs.Yaml.{records_text}
 use Rattle.yaml_convert.proofs.YamlLines.{yaml_of_parts}
 use Rattle.yaml_convert.proofs.yaml_bytes.YamlBytesPrinted.add_to.Goals as goal

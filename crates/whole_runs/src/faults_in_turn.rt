@@ -1,0 +1,364 @@
+//! Each command with a fault at each call of the desk, of out and of err in turn.
+//!
+//! A call that fails ends the run with status 3 or 4 and a line that names the file. Outputs before
+//! the one that failed are whole, that one holds a prefix, and nothing else is changed. No call of
+//! the desk or of out follows the one that failed. If err fails, only its line is lost.
+use crate::checks::{check_same, check_same_at};
+use crate::runs::{IMAGE, Run, assert_held, assert_no_fault, run_line, status_of};
+use crate::trace_bytes::{ONE_CALL, RECURSION, file};
+use std::alloc::Global;
+use std::process::Abort;
+use std::sync::Wait;
+use std::test::Fail;
+use std::thread::Threads;
+use test_helpers::{DeskCall, DeskFault, WatchedDesk, WatchedSink};
+use xray_io::{MemDesk, MemSink, OpenGate};
+
+/// A file that a command reads: its name, and the parts of its bytes.
+type Input = (&'static str, &'static [&'static [u8]]);
+
+/// A command: its words, what it reads, and the names of what it writes, in this order.
+struct Command {
+    words: &'static str,
+    inputs: &'static [Input],
+    outputs: &'static [&'static str],
+}
+
+/// An image.
+const I: Input = ("i", &[&IMAGE]);
+
+/// A script that patches everything before the threads start.
+const S: Input = ("s", &[b"patch\nset_handler\ninit\ngo\n"]);
+
+/// A text of a move, an output and a return.
+const X: Input = (
+    "x",
+    &[b"base 0x1000\nfn main always\nmov eax, 65\nout 1\nret\n"],
+);
+
+/// The commands. Another command is another row.
+const COMMANDS: [Command; 10] = [
+    Command {
+        words: "asm x o",
+        inputs: &[X],
+        outputs: &["o"],
+    },
+    Command {
+        words: "plain i --threads 2",
+        inputs: &[I],
+        outputs: &[],
+    },
+    Command {
+        words: "extract i",
+        inputs: &[I],
+        outputs: &[],
+    },
+    Command {
+        words: "sim i s c t a --wall 0 --threads 2 --buffer-size 88 --buffer-max 3 --cpus 2 --migrate 1",
+        inputs: &[I, S, ("c", &[b"t 2 1\np 1\n"])],
+        outputs: &["t", "a"],
+    },
+    Command {
+        words: "run i s t a --wall 0",
+        inputs: &[I, S],
+        outputs: &["t", "a"],
+    },
+    Command {
+        words: "account t",
+        inputs: &[("t", &RECURSION)],
+        outputs: &[],
+    },
+    Command {
+        words: "account t i --format csv --sort sum",
+        inputs: &[("t", &RECURSION), I],
+        outputs: &[],
+    },
+    Command {
+        words: "stack t i",
+        inputs: &[("t", &RECURSION), I],
+        outputs: &[],
+    },
+    Command {
+        words: "convert t i",
+        inputs: &[("t", &ONE_CALL), I],
+        outputs: &[],
+    },
+    Command {
+        words: "soak 1",
+        inputs: &[],
+        outputs: &[],
+    },
+];
+
+/// What each output holds before, and a name that no command has.
+const OLD: &[u8] = b"old";
+
+const OTHER: &str = "z";
+
+/// No command makes as many calls.
+const ENDLESS: u64 = 10_000;
+
+/// The numbers of the calls that are to fail, of the desk, of out and of err.
+#[derive(Clone, Copy)]
+struct Failing<'f> {
+    desk: &'f [u64],
+    out: &'f [u64],
+    err: &'f [u64],
+}
+
+/// What a run left, and its status.
+#[derive(Drop)]
+struct Left {
+    status: u8,
+    desk: WatchedDesk,
+    out: WatchedSink,
+    err: WatchedSink,
+}
+
+/// What a command leaves without a fault: its files, its status and its text.
+#[derive(Drop)]
+struct Whole {
+    desk: MemDesk,
+    run: Run,
+}
+
+/// A desk that holds what a command reads, old outputs, and another name.
+fn desk_for(alloc: Global, command: &Command, failing: &[u64]) -> Result<MemDesk, Fail> {
+    let mut desk = MemDesk::new(alloc, Vec::from_slice(alloc, failing)?);
+    desk.put(OTHER, OLD)?;
+    for name in command.outputs {
+        desk.put(name, OLD)?;
+    }
+    for (name, parts) in command.inputs {
+        desk.put(name, &file(alloc, parts)?)?;
+    }
+    Ok(desk)
+}
+
+/// Runs a command over a desk and streams that fail at these calls.
+fn run_with<R: Threads + Wait + Sync + AllocGlobal>(
+    rt: &R,
+    command: &Command,
+    failing: Failing,
+) -> Result<Left, Fail> {
+    let alloc = rt.alloc();
+    let mut desk = WatchedDesk::new(alloc, desk_for(alloc, command, failing.desk)?);
+    let mut out = WatchedSink::new(MemSink::new(alloc, Vec::from_slice(alloc, failing.out)?));
+    let mut err = WatchedSink::new(MemSink::new(alloc, Vec::from_slice(alloc, failing.err)?));
+    let status = status_of(rt, command.words, &mut desk, &mut out, &mut err, &OpenGate)?;
+    Ok(Left {
+        status,
+        desk,
+        out,
+        err,
+    })
+}
+
+/// Runs a command without a fault, over a desk that gives and takes all bytes that are asked for.
+fn whole_of<R: Abort + Threads + Wait + Sync + AllocGlobal>(
+    rt: &R,
+    command: &Command,
+) -> Result<Whole, Fail> {
+    let mut desk = desk_for(rt.alloc(), command, &[])?;
+    let run = run_line(rt, command.words, &mut desk)?;
+    assert_no_fault(rt, &run);
+    Ok(Whole { desk, run })
+}
+
+/// The status that a run has to have, and its line on err.
+fn ending_of(alloc: Global, left: &Left) -> Result<(u8, String), Fail> {
+    match left.desk.fault() {
+        Some(
+            DeskFault {
+                call: DeskCall::Read,
+                name,
+            },
+        ) => Ok((3, format!(in alloc; "xray: {name}: read fault\n")?)),
+        Some(fault) => Ok((4, format!(in alloc; "xray: {}: write fault\n", fault.name)?)),
+        None => {
+            if left.out.has_failed() {
+                return Ok((4, String::from_str(alloc, "xray: output: write fault\n")?));
+            }
+            Ok((0, String::new(alloc)))
+        }
+    }
+}
+
+/// Checks that bytes are all of these, or a prefix and not all of them if their writing failed.
+fn check_written<R: Abort>(rt: &R, bytes: &[u8], whole: &[u8], has_failed: bool) {
+    check_same(rt, &whole.get(..bytes.len()), &Some(bytes));
+    check_same(rt, &(bytes.len() < whole.len()), &has_failed);
+}
+
+/// Checks the outputs before the one that failed, that one, and the later ones. If a read failed,
+/// all of them are as before.
+fn check_outputs<R: Abort>(rt: &R, command: &Command, whole: &Whole, left: &Left) {
+    let fault = left.desk.fault();
+    let mut is_before = !is_at(fault, DeskCall::Read);
+    for name in command.outputs {
+        let held = left.desk.get(name);
+        let all = whole.desk.get(name);
+        if is_before && names(fault, name) {
+            is_before = false;
+            if is_at(fault, DeskCall::Append) {
+                check_written(rt, held.unwrap_or(OLD), all.unwrap_or(OLD), true);
+                continue;
+            }
+        }
+        check_same(rt, &held, &if is_before { all } else { Some(OLD) });
+    }
+}
+
+/// Whether a call of this kind failed.
+fn is_at(fault: Option<&DeskFault>, call: DeskCall) -> bool {
+    match fault {
+        Some(fault) => fault.call == call,
+        None => false,
+    }
+}
+
+/// Whether a call failed that was given this name.
+fn names(fault: Option<&DeskFault>, name: &str) -> bool {
+    match fault {
+        Some(fault) => fault.name.as_str() == name,
+        None => false,
+    }
+}
+
+/// Checks the names that aren't outputs.
+fn check_inputs<R: Abort + AllocGlobal>(
+    rt: &R,
+    command: &Command,
+    desk: &WatchedDesk,
+) -> Result<(), Fail> {
+    for (name, parts) in command.inputs {
+        assert_held(rt, desk.get(name), &file(rt.alloc(), parts)?);
+    }
+    assert_held(rt, desk.get(OTHER), OLD);
+    Ok(())
+}
+
+/// Runs a command over a desk and streams that fail at these calls, and checks all that it leaves.
+fn tried<R: Abort + Threads + Wait + Sync + AllocGlobal>(
+    rt: &R,
+    command: &Command,
+    whole: &Whole,
+    failing: Failing,
+) -> Result<Left, Fail> {
+    let left = run_with(rt, command, failing)?;
+    let (status, line) = ending_of(rt.alloc(), &left)?;
+    check_same_at(rt, &left.status, &status, command.words);
+    let (has_line, text) = (left.err.has_failed(), line.as_str().as_bytes());
+    check_written(rt, left.err.bytes(), text, has_line);
+    let later = left
+        .desk
+        .later_calls()
+        .saturating_add(left.out.later_calls());
+    check_same_at(rt, &later, &0, command.words);
+    check_outputs(rt, command, whole, &left);
+    check_inputs(rt, command, &left.desk)?;
+    if left.desk.fault().is_some() {
+        check_same_at(rt, &left.out.bytes().len(), &0, command.words);
+    } else {
+        let text = whole.run.out.as_str().as_bytes();
+        check_written(rt, left.out.bytes(), text, left.out.has_failed());
+    }
+    Ok(left)
+}
+
+/// Fails each call of the desk in turn, until a run has no fault. Then the same with the next call
+/// and err failing too.
+fn try_each_desk_call<R: Abort + Threads + Wait + Sync + AllocGlobal>(
+    rt: &R,
+    command: &Command,
+    whole: &Whole,
+) -> Result<(), Fail> {
+    for call in 0..ENDLESS {
+        let one = Failing {
+            desk: &[call],
+            out: &[],
+            err: &[],
+        };
+        let two = Failing {
+            desk: &[call, call.saturating_add(1)],
+            out: &[],
+            err: &[0],
+        };
+        let left = tried(rt, command, whole, one)?;
+        tried(rt, command, whole, two)?;
+        if left.desk.fault().is_none() {
+            return Ok(());
+        }
+    }
+    Err("the calls of the desk have no end".into())
+}
+
+/// The same with the calls of out.
+fn try_each_out_call<R: Abort + Threads + Wait + Sync + AllocGlobal>(
+    rt: &R,
+    command: &Command,
+    whole: &Whole,
+) -> Result<(), Fail> {
+    for call in 0..ENDLESS {
+        let one = Failing {
+            desk: &[],
+            out: &[call],
+            err: &[],
+        };
+        let two = Failing {
+            desk: &[],
+            out: &[call, call.saturating_add(1)],
+            err: &[0],
+        };
+        let left = tried(rt, command, whole, one)?;
+        tried(rt, command, whole, two)?;
+        if !left.out.has_failed() {
+            return Ok(());
+        }
+    }
+    Err("the calls of out have no end".into())
+}
+
+/// Fails each call of err in turn, while the first call of the desk or of out fails too.
+fn try_each_err_call<R: Abort + Threads + Wait + Sync + AllocGlobal>(
+    rt: &R,
+    command: &Command,
+    whole: &Whole,
+) -> Result<(), Fail> {
+    for call in 0..ENDLESS {
+        let failing = Failing {
+            desk: &[0],
+            out: &[0],
+            err: &[call],
+        };
+        let left = tried(rt, command, whole, failing)?;
+        if !left.err.has_failed() {
+            return Ok(());
+        }
+    }
+    Err("the calls of err have no end".into())
+}
+
+#[test]
+fn each_call_of_the_desk_may_fail(rt: HostRuntime) -> Result<(), Fail> {
+    for command in &COMMANDS {
+        try_each_desk_call(&rt, command, &whole_of(&rt, command)?)?;
+    }
+    Ok(())
+}
+
+#[test]
+fn each_call_of_out_may_fail(rt: HostRuntime) -> Result<(), Fail> {
+    for command in &COMMANDS {
+        try_each_out_call(&rt, command, &whole_of(&rt, command)?)?;
+    }
+    Ok(())
+}
+
+#[test]
+fn each_call_of_err_may_fail(rt: HostRuntime) -> Result<(), Fail> {
+    for command in &COMMANDS {
+        try_each_err_call(&rt, command, &whole_of(&rt, command)?)?;
+    }
+    Ok(())
+}

@@ -1,0 +1,118 @@
+//! Reports on traces that come a byte a read, and on faults that are followed by many bytes.
+use crate::checks::{check_same, check_same_at};
+use crate::runs::{assert_left, assert_stopped, run_line};
+use crate::trace_bytes::{
+    BUFFERS_OF_88, CPU_AT_1, CPU_AT_2, EXIT, EXIT_OF_2, EXTENTS_72, FORMAT, HEADER, PREAMBLE,
+    PREAMBLE_OF_2, file,
+};
+use std::alloc::Global;
+use std::process::Abort;
+use std::sync::Wait;
+use std::test::Fail;
+use std::thread::Threads;
+use test_helpers::Trickle;
+use xray_io::MemDesk;
+
+/// The reports on a trace.
+const REPORTS: [&str; 3] = ["account t", "stack t", "convert t"];
+
+/// A file of three blocks of an event, of the threads 1, 2 and 2: 296 bytes.
+const THREE_BLOCKS: [&[u8]; 14] = [
+    FORMAT,
+    BUFFERS_OF_88,
+    EXTENTS_72,
+    PREAMBLE,
+    CPU_AT_2,
+    EXIT,
+    EXTENTS_72,
+    PREAMBLE_OF_2,
+    CPU_AT_1,
+    EXIT_OF_2,
+    EXTENTS_72,
+    PREAMBLE_OF_2,
+    CPU_AT_2,
+    EXIT,
+];
+
+/// A desk that fails at these calls, and holds these bytes as `t`.
+fn desk_with(alloc: Global, failing: &[u64], bytes: &[u8]) -> Result<MemDesk, Fail> {
+    let mut desk = MemDesk::new(alloc, Vec::from_slice(alloc, failing)?);
+    desk.put("t", bytes)?;
+    Ok(desk)
+}
+
+/// Checks that each report on a file is the same if it comes a byte a read, and that all of the file
+/// is read, whether or not it is a trace.
+fn check_reports<R: Abort + Threads + Wait + Sync + AllocGlobal>(
+    rt: &R,
+    bytes: &[u8],
+) -> Result<(), Fail> {
+    for line in &REPORTS {
+        let mut desk = desk_with(rt.alloc(), &[], bytes)?;
+        let wanted = run_line(rt, line, &mut desk)?;
+        let mut trickle = Trickle::new(desk);
+        let run = run_line(rt, line, &mut trickle)?;
+        assert_left(rt, &run, wanted.status, &wanted.out, &wanted.err);
+        check_same_at(rt, &trickle.next(), &(bytes.len() as u64), line);
+        check_same_at(rt, &trickle.is_in_order(), &true, line);
+    }
+    Ok(())
+}
+
+/// Checks the reports on a file with a byte changed.
+fn check_changed<R: Abort + Threads + Wait + Sync + AllocGlobal>(
+    rt: &R,
+    bytes: &[u8],
+    at: usize,
+    to: u8,
+) -> Result<(), Fail> {
+    let mut changed = Vec::from_slice(rt.alloc(), bytes)?;
+    if let Some(byte) = changed.get_mut(at) {
+        *byte ^= to;
+    }
+    check_reports(rt, &changed)
+}
+
+#[test]
+fn a_trace_that_comes_byte_by_byte_has_the_same_reports(rt: HostRuntime) -> Result<(), Fail> {
+    let bytes = file(rt.alloc(), &THREE_BLOCKS)?;
+    check_same(&rt, &bytes.len(), &296);
+    for len in 0..=bytes.len() {
+        check_reports(&rt, &bytes[..len])?;
+    }
+    for at in 0..bytes.len() {
+        check_changed(&rt, &bytes, at, 0x01)?;
+        check_changed(&rt, &bytes, at, 0x80)?;
+    }
+    Ok(())
+}
+
+/// The most bytes of a trace.
+const LIMIT: usize = 67_108_864;
+
+/// A header, and a record of a kind that isn't known.
+const FAULTY: [&[u8]; 2] = [HEADER, b"\x0B"];
+
+/// A number of bytes, the call of the desk that fails, the status, and the line on err. A read asks
+/// for 65,536 bytes.
+const AFTER_A_FAULT: [(usize, u64, u8, &str); 4] = [
+    (65_536, 2, 2, "xray: t: trace Bad 32 Kind 5\n"),
+    (65_537, 1, 3, "xray: t: read fault\n"),
+    (LIMIT, 4096, 2, "xray: t: trace Bad 32 Kind 5\n"),
+    (LIMIT + 1, 4096, 6, "xray: t: too long\n"),
+];
+
+/// What comes after a fault is read: a later read fault, or one byte too many, decides.
+#[test]
+fn a_fault_in_the_first_block_ends_no_reading(rt: HostRuntime) -> Result<(), Fail> {
+    for (length, failing, status, line) in &AFTER_A_FAULT {
+        let mut bytes = file(rt.alloc(), &FAULTY)?;
+        bytes.resize(*length, 0)?;
+        for report in &REPORTS {
+            let mut desk = desk_with(rt.alloc(), &[*failing], &bytes)?;
+            let run = run_line(&rt, report, &mut desk)?;
+            assert_stopped(&rt, &run, *status, line);
+        }
+    }
+    Ok(())
+}
