@@ -1,0 +1,101 @@
+//! The line of an event.
+ghost use Rattle.std.specs.{Prelude.{◌≡◌, ◌≤◌, ◌++◌, length}, Option.{option_map}};
+ghost use Rattle.xray_io.specs.Text.{AddsText};
+ghost use Rattle.yaml_convert.specs.Yaml.{arg_text, event_end, event_line, event_start, kind_text};
+ghost use Rattle.yaml_convert.specs.private.Stamps.{happened_text};
+
+use crate::row::Row;
+use crate::stamp::Stamp;
+use fdr_record::{Event, Kind};
+use function_names::add_name;
+use xray_image::Image;
+use xray_io::{Sink, Text, WriteFault};
+
+/// Adds the line of an event. The stamp is kept from line to line.
+pub(crate) fn add_event<S: Sink>(
+    text: &mut Text<S>,
+    stamp: &mut Stamp,
+    thread: u32,
+    pid: u32,
+    event: &Event,
+    image: Option<&Image>,
+) -> Result<(), WriteFault>
+    ensures { AddsText S.written S.faults S.along text.old text.new
+        (event_line (option_map (λ image. image.now) image.entry)
+        (record { thread = thread; pid = pid; event = event.now })) result }
+{
+    text.bytes(start_of(event).as_slice())?;
+    add_name(text, image, event.func)?;
+    add_end(text, stamp, thread, pid, event)
+}
+
+/// Adds the text after the name of its function.
+fn add_end<S: Sink>(
+    text: &mut Text<S>,
+    stamp: &mut Stamp,
+    thread: u32,
+    pid: u32,
+    event: &Event,
+) -> Result<(), WriteFault>
+    ensures { AddsText S.written S.faults S.along text.old text.new
+        (event_end (record { thread = thread; pid = pid; event = event.now })) result }
+{
+    stamp.renew(event.cpu, thread, pid);
+    text.bytes(stamp.as_slice())?;
+    text.bytes(happened(event).as_slice())
+}
+
+/// The text before the name of its function.
+fn start_of(event: &Event) -> Row
+    ensures { result ≡ event_start event.now }
+{
+    let mut row = Row::new();
+    row.put(b", function: '");
+    row.put_number(u64::from(event.func));
+    row.put(b"  - { type: 0, func-id: ");
+    row
+}
+
+/// The text from its kind on.
+fn happened(event: &Event) -> Row
+    ensures { result ≡ happened_text event.now }
+{
+    let mut row = Row::new();
+    row.put(b" }\n");
+    row.put_number(event.tsc);
+    row.put(b", tsc: ");
+    put_arg(&mut row, event);
+    put_kind(&mut row, event.kind);
+    row
+}
+
+/// Puts the argument of an event before the row, if it logs one.
+#[inline]
+fn put_arg(row: &mut Row, event: &Event)
+    requires { length row.old ≤ 40 }
+    ensures text { row.new ≡ arg_text event.now.kind event.now.arg ++ row.old }
+    ensures short { length row.new ≤ 80 }
+{
+    match event.kind {
+        Kind::Entry | Kind::Exit | Kind::TailExit => (),
+        Kind::EntryArgs => {
+            row.put(b" ]");
+            row.put_number(event.arg);
+            row.put(b", args: [ ");
+        }
+    }
+}
+
+/// Puts the word for a kind before the row.
+#[inline]
+fn put_kind(row: &mut Row, kind: Kind)
+    requires { length row.old ≤ 80 }
+    ensures { row.new ≡ kind_text kind ++ row.old }
+{
+    match kind {
+        Kind::Entry => row.put(b"function-enter"),
+        Kind::Exit => row.put(b"function-exit"),
+        Kind::TailExit => row.put(b"function-tail-exit"),
+        Kind::EntryArgs => row.put(b"function-enter-arg"),
+    }
+}
