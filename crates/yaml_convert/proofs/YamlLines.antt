@@ -1,5 +1,5 @@
 -- The lines of a YAML document, as they are put together.
-use Rattle.std.proofs.Common.{◌≡◌, ◌⊎◌, inl, inr, ◌++◌, ◌∙◌, ◌||◌, ◌<◌, arith, ℕ, Bool, true, cond, Option, List, [], ◌∷◌, length, map, nat_lt, refl, sym, ap, append_assoc}
+use Rattle.std.proofs.Common.{◌≡◌, ◌++◌, ◌∙◌, ◌||◌, ◌<◌, arith, ℕ, Bool, true, cond, Option, List, [], ◌∷◌, length, map, nat_lt, refl, sym, ap, append_assoc}
 use Rattle.std.specs.Prelude.{codes, decimal, Ok}
 use Rattle.std.specs.List.{flat_map, list_any}
 use Rattle.std.proofs.lemmas.Bool.Decides.{nat_tests}
@@ -7,8 +7,6 @@ use Rattle.std.proofs.lemmas.List.{append-nil}
 use Rattle.std.proofs.lemmas.List.Concat.{flat_map-append}
 use Rattle.std.proofs.lemmas.List.Folds.{flat_map-map}
 use Rattle.fdr_record.specs.declared.event.Event.{Event}
-use Rattle.fdr_record.specs.declared.event.Kind.{Kind}
-use Rattle.fdr_record.specs.declared.event.Kind.TheVariants.{Entry, Exit, TailExit, EntryArgs}
 use Rattle.fdr_file.specs.declared.header.Header.{Header}
 use Rattle.fdr_file.specs.declared.trace.Block.{Block}
 use Rattle.fdr_file.specs.declared.trace.Trace.{Trace}
@@ -28,6 +26,8 @@ pub header_pieces : (header : Header) (version frequency : ℕ) (constant nonsto
 header_pieces header version frequency constant nonstop same_version same_constant same_nonstop same_frequency =
     rw (same_version, same_constant, same_nonstop, same_frequency) (simp append_assoc)
 
+-- ---- rows
+
 pub start_row : (event : Event) (func : ℕ) (r r1 r2 r3 : List ℕ) → func ≡ event.func → r ≡ [] → r1 ≡ codes ", function: '" ++ r → r2 ≡ decimal func ++ r1
     → r3 ≡ codes "  - { type: 0, func-id: " ++ r2 → r3 ≡ event_start event
 start_row event func r r1 r2 r3 same e e1 e2 e3 = rw (e3, e2, e1, e, same) (simp append_assoc)
@@ -42,10 +42,6 @@ pub happened_row : (event : Event) (r r1 r2 r3 r4 r5 : List ℕ) → r ≡ [] �
     → r4 ≡ arg_text event.kind event.arg ++ r3 → r5 ≡ kind_text event.kind ++ r4 → r5 ≡ happened_text event
 happened_row event r r1 r2 r3 r4 r5 e e1 e2 e3 e4 e5 = rw (e5, e4, e3, e2, e1, e) (simp append_assoc)
 
-pub arg_row : (kind : Kind) (arg : ℕ) (r r1 r2 r3 : List ℕ) → kind ≡ EntryArgs → r1 ≡ codes " ]" ++ r → r2 ≡ decimal arg ++ r1 → r3 ≡ codes ", args: [ " ++ r2
-    → r3 ≡ arg_text kind arg ++ r
-arg_row kind arg r r1 r2 r3 is e1 e2 e3 = rw (e3, e2, e1, is) (simp append_assoc)
-
 -- the text after a name is put together of the stamp and what happened
 pub end_whole : (e : ThreadEvent) → stamp_text e.event.cpu e.thread e.pid ++ happened_text e.event ≡ event_end e
 end_whole e =
@@ -54,12 +50,6 @@ end_whole e =
     let arg = arg_text e.event.kind e.event.arg in
     let counter = event_counter e.event in
     sym (ap (λ (t : List ℕ). t ++ counter) (append_assoc stamp kind arg) ∙ append_assoc stamp (kind ++ arg) counter)
-
--- an event that logs no argument has none in its line
-pub no_arg : (kind : Kind) (arg : ℕ) → (kind ≡ Entry) ⊎ (kind ≡ Exit) ⊎ (kind ≡ TailExit) → arg_text kind arg ≡ []
-no_arg kind arg (inl is) = ap (λ (k : Kind). arg_text k arg) is
-no_arg kind arg (inr (inl is)) = ap (λ (k : Kind). arg_text k arg) is
-no_arg kind arg (inr (inr is)) = ap (λ (k : Kind). arg_text k arg) is
 
 -- ---- whether there is an event
 

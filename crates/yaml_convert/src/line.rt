@@ -1,15 +1,21 @@
 //! The line of an event.
-ghost use Rattle.std.specs.{Prelude.{◌≡◌, ◌≤◌, ◌++◌, length}, Option.{option_map}};
+ghost use Rattle.std.specs.{Prelude.{◌≡◌, ◌+◌, ◌≤◌, ◌++◌, length}, Option.{option_map}};
 ghost use Rattle.xray_io.specs.Text.{AddsText};
 ghost use Rattle.yaml_convert.specs.Yaml.{arg_text, event_end, event_line, event_start, kind_text};
 ghost use Rattle.yaml_convert.specs.private.Stamps.{happened_text};
 
-use crate::row::Row;
+use crate::row::{ROOM, Row};
 use crate::stamp::Stamp;
 use fdr_record::{Event, Kind};
 use function_names::add_name;
 use xray_image::Image;
 use xray_io::{Sink, Text, WriteFault};
+
+/// The length of the longest argument, with its key.
+const MOST_OF_ARG: usize = 32;
+
+/// The length of the longest word for a kind.
+const MOST_OF_KIND: usize = 18;
 
 /// Adds the line of an event. The stamp is kept from line to line.
 pub(crate) fn add_event<S: Sink>(
@@ -72,9 +78,9 @@ fn happened(event: &Event) -> Row
 /// Puts the argument of an event before the row, if it logs one.
 #[inline]
 fn put_arg(row: &mut Row, event: &Event)
-    requires { length row.old ≤ 40 }
+    requires { MOST_OF_ARG + length row.old ≤ ROOM }
     ensures text { row.new ≡ arg_text event.now.kind event.now.arg ++ row.old }
-    ensures short { length row.new ≤ 80 }
+    ensures short { length row.new ≤ MOST_OF_ARG + length row.old }
 {
     match event.kind {
         Kind::Entry | Kind::Exit | Kind::TailExit => (),
@@ -89,7 +95,7 @@ fn put_arg(row: &mut Row, event: &Event)
 /// Puts the word for a kind before the row.
 #[inline]
 fn put_kind(row: &mut Row, kind: Kind)
-    requires { length row.old ≤ 80 }
+    requires { MOST_OF_KIND + length row.old ≤ ROOM }
     ensures { row.new ≡ kind_text kind ++ row.old }
 {
     match kind {
