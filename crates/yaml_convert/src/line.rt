@@ -1,5 +1,5 @@
 //! The line of an event.
-ghost use Rattle.std.specs.{Prelude.{◌≡◌, ◌+◌, ◌≤◌, ◌++◌, length}, Option.{option_map}};
+ghost use Rattle.std.specs.{Prelude.{◌≡◌, ◌+◌, ◌≤◌, [], ◌++◌, length}, Option.{option_map}};
 ghost use Rattle.xray_io.specs.Text.{AddsText};
 ghost use Rattle.yaml_convert.specs.Yaml.{arg_text, event_end, event_line, event_start, kind_text};
 ghost use Rattle.yaml_convert.specs.private.Stamps.{happened_text};
@@ -30,7 +30,9 @@ pub(crate) fn add_event<S: Sink>(
         (event_line (option_map (λ image. image.now) image.entry)
         (record { thread = thread; pid = pid; event = event.now })) result }
 {
-    text.bytes(start_of(event).as_slice())?;
+    let mut row = Row::new();
+    put_start(&mut row, event);
+    text.bytes(row.as_slice())?;
     add_name(text, image, event.func)?;
     add_end(text, stamp, thread, pid, event)
 }
@@ -48,31 +50,33 @@ fn add_end<S: Sink>(
 {
     stamp.renew(event.cpu, thread, pid);
     text.bytes(stamp.as_slice())?;
-    text.bytes(happened(event).as_slice())
+    let mut row = Row::new();
+    put_happened(&mut row, event);
+    text.bytes(row.as_slice())
 }
 
-/// The text before the name of its function.
-fn start_of(event: &Event) -> Row
-    ensures { result ≡ event_start event.now }
+/// Puts the text before the name of its function into an empty row.
+#[inline]
+fn put_start(row: &mut Row, event: &Event)
+    requires { row.old ≡ [] }
+    ensures { row.new ≡ event_start event.now }
 {
-    let mut row = Row::new();
     row.put(b", function: '");
     row.put_number(u64::from(event.func));
     row.put(b"  - { type: 0, func-id: ");
-    row
 }
 
-/// The text from its kind on.
-fn happened(event: &Event) -> Row
-    ensures { result ≡ happened_text event.now }
+/// Puts the text from its kind on into an empty row.
+#[inline]
+fn put_happened(row: &mut Row, event: &Event)
+    requires { row.old ≡ [] }
+    ensures { row.new ≡ happened_text event.now }
 {
-    let mut row = Row::new();
     row.put(b" }\n");
     row.put_number(event.tsc);
     row.put(b", tsc: ");
-    put_arg(&mut row, event);
-    put_kind(&mut row, event.kind);
-    row
+    put_arg(row, event);
+    put_kind(row, event.kind);
 }
 
 /// Puts the argument of an event before the row, if it logs one.

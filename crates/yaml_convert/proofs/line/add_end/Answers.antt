@@ -16,6 +16,6 @@ pub returns : goal.returns
 returns g c =
     let e : ThreadEvent = record { thread = c.args.thread; pid = c.args.pid; event = c.args.event.now } in
     let stamped = c.as_slice.ensures ∙ c.renew.ensures in
-    let said = c.as_slice-2.ensures ∙ c.happened.ensures in
+    let said = c.as_slice-2.ensures ∙ c.put_happened.ensures in
     subst (λ (t : List ℕ). AddsText g.S.Sink.written g.S.Sink.faults g.S.Sink.along c.args.text.now c.bytes-2.new.self t c.bytes-2.result)
     (end_whole e) (adds_more g.met.S.Sink.along_both (rw stamped at c.in_ok-bytes.ensures.adds) (rw said at c.bytes-2.ensures.adds))

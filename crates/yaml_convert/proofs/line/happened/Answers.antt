@@ -1,6 +1,0 @@
-use Rattle.yaml_convert.proofs.YamlLines.{happened_row}
-use Rattle.yaml_convert.proofs.line.happened.Goals as goal
-
-pub returns : goal.returns
-returns c =
-    happened_row c.args.event.now _ _ _ _ _ _ c.new-row.ensures c.put.ensures c.put_number.ensures.text c.put-2.ensures c.put_arg.ensures.text c.put_kind.ensures
