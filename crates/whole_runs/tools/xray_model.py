@@ -13,7 +13,7 @@ import re
 
 import run_model
 import soak_model
-from image_model import Refused, image_of, sled_map_text
+from image_model import RELATIVE_VERSION, Refused, image_of, sled_map_text
 from machine_model import WORD_64, Thread, plain_text
 from replay_model import NUMBER_LIMIT, RECORDED, WAITING, commands_of, replayed, runs_text, turns_of
 from report_model import account_text, stack_text, yaml_text
@@ -313,9 +313,8 @@ def results(command, names, options, world, assemble):
     match command:
         case "asm":
             text_name, image_name = names
-            relative = options["map-version"] == 2
-            made = lambda text: assemble(text, options["threshold"], relative)  # noqa: E731
-            image = taken(world, text_name, "text", TEXT_LIMIT, made)
+            relative = options["map-version"] == RELATIVE_VERSION
+            image = taken(world, text_name, "text", TEXT_LIMIT, lambda text: assemble(text, options["threshold"], relative))
             return {image_name: image}, ""
         case "plain":
             return {}, plain_texts(taken_image(world, names[0]), options)
