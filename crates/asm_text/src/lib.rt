@@ -36,7 +36,6 @@ mod written;
 pub use assembling::assemble;
 pub use fault::AsmFault;
 pub use laws::{
-    an_assembled_file_is_accepted, both_map_versions_hold_one_program,
-    each_sled_is_of_its_function,
+    an_assembled_file_is_accepted, both_map_versions_hold_one_program, each_sled_is_of_its_function,
 };
 pub use written::{a_written_text_is_read, functions_that_say_always_have_ids};

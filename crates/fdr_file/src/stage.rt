@@ -136,7 +136,10 @@ fn past_wall(version: Version, thread: u32, wall: Wall) -> (Inside, Told)
     match version {
         Version::Two => {
             let pid = NO_PROCESS;
-            (Inside::Events { base: None }, Told::Begun { thread, wall, pid })
+            (
+                Inside::Events { base: None },
+                Told::Begun { thread, wall, pid },
+            )
         }
         Version::Three => (Inside::Wall { thread, wall }, Told::Nothing),
     }

@@ -1,9 +1,7 @@
 //! Calls of `xray_image`: what an image file says, and why others are refused.
 
 use crate::checks::{check_same, check_same_at};
-use crate::image_files::{
-    add_entry, add_entry_of, add_function, header_and_code, image_file,
-};
+use crate::image_files::{add_entry, add_entry_of, add_function, header_and_code, image_file};
 use example_images::OUTPUTS_AN_A;
 use sled_words::{Part, part_value};
 use std::alloc::{AllocError, Global};
@@ -100,8 +98,10 @@ fn only_sleds_of_kind_3_call_the_argument_trampoline(rt: HostRuntime) -> Result<
 /// refused.
 type Damage = (&'static [(usize, u8)], usize, ImageFault);
 
-/// The length of that image, and the place of its map.
+/// The length of that image.
 const WHOLE: usize = 170;
+
+/// The place of its map.
 const MAP: usize = 106;
 
 /// The damaged file.
@@ -215,8 +215,10 @@ fn a_damaged_image_is_refused_by_its_first_fault(rt: HostRuntime) -> Result<(), 
 /// first entry is at 0x101000, and the second at 0x101020.
 type Mapped = ([(u64, u64, u8); 2], Option<ImageFault>);
 
-/// The first and the second entry, as version 2 has them.
+/// The first entry, as version 2 has it.
 const FIRST: (u64, u64, u8) = (0xFFFF_FFFF_FFF0_0000, 0xFFFF_FFFF_FFEF_FFF8, 2);
+
+/// The second entry, as version 2 has it.
 const SECOND: (u64, u64, u8) = (0xFFFF_FFFF_FFEF_FFF2, 0xFFFF_FFFF_FFEF_FFD8, 2);
 
 const MAPS: [Mapped; 10] = [
@@ -226,7 +228,10 @@ const MAPS: [Mapped; 10] = [
     ([FIRST, (0x1012, 0x1000, 1)], None),
     // fields of the other version
     ([(0x1000, 0x1000, 2), SECOND], Some(ImageFault::MapOrder(0))),
-    ([FIRST, (SECOND.0, SECOND.1, 1)], Some(ImageFault::MapOrder(1))),
+    (
+        [FIRST, (SECOND.0, SECOND.1, 1)],
+        Some(ImageFault::MapOrder(1)),
+    ),
     // a sled 16 bytes below 0, which is one at 0xFFFF_FFFF_FFFF_FFF0
     (
         [(0xFFFF_FFFF_FFEF_EFF0, FIRST.1, 2), SECOND],

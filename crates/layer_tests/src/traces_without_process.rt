@@ -50,17 +50,31 @@ fn a_block_of_version_2_is_of_process_0(rt: HostRuntime) -> Result<(), Fail> {
     let [other] = wanted.blocks.as_slice() else {
         return Err("other blocks".into());
     };
-    check_same(&rt, &(block.thread, block.wall, block.pid), &(1, other.wall, 0));
+    check_same(
+        &rt,
+        &(block.thread, block.wall, block.pid),
+        &(1, other.wall, 0),
+    );
     check_same(&rt, &block.events.as_slice(), &other.events.as_slice());
     Ok(())
 }
 
 #[test]
 fn a_block_of_32_bytes_is_accepted(rt: HostRuntime) -> Result<(), Fail> {
-    let bytes = file(rt.alloc(), &[HEADER, EXTENTS_32, PREAMBLE, EXTENTS_64, PREAMBLE, ONE_CALL])?;
+    let bytes = file(
+        rt.alloc(),
+        &[HEADER, EXTENTS_32, PREAMBLE, EXTENTS_64, PREAMBLE, ONE_CALL],
+    )?;
     check_trace(&rt, &bytes, FIELDS, 2, 2);
     check_trace(&rt, &bytes[..80], FIELDS, 1, 0);
-    check_fault(&rt, rt.alloc(), &bytes[..79], TraceFault::Short(32), Ok(32), 79);
+    check_fault(
+        &rt,
+        rt.alloc(),
+        &bytes[..79],
+        TraceFault::Short(32),
+        Ok(32),
+        79,
+    );
     Ok(())
 }
 

@@ -37,7 +37,11 @@ const PRINTED: [Printed; 8] = [
     ),
     (&[HEADER], "stack --format flame t", ""),
     (&ONE_CALL, "convert t i", YAML_OF_ONE_CALL),
-    (&ONE_CALL_WITHOUT_PROCESS, "convert t i", YAML_WITHOUT_PROCESS),
+    (
+        &ONE_CALL_WITHOUT_PROCESS,
+        "convert t i",
+        YAML_WITHOUT_PROCESS,
+    ),
     (&ONE_CALL_WITHOUT_PROCESS, "stack t i", TEXT_OF_ONE_CALL),
     (&[HEADER], "convert t --format yaml", YAML_OF_NONE),
 ];
