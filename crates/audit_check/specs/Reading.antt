@@ -4,14 +4,15 @@ use Rattle.audit_check.specs.declared.fault.AuditFault.{AuditFault}
 use Rattle.audit_check.specs.declared.fault.AuditFault.TheVariants.{Form, NoMemory}
 use Rattle.audit_check.specs.Statements.{MayState, Statement, text_of}
 
+-- lines whose first one begins with one more byte
+abbrev pub with_byte : ℕ → List (List ℕ) → List (List ℕ)
+with_byte byte [] = (byte ∷ []) ∷ []
+with_byte byte (line ∷ lines) = (byte ∷ line) ∷ lines
+
 -- the lines of bytes, each with the line feed (10) at its end; bytes after the last line feed are a line too
 abbrev pub whole_lines : List ℕ → List (List ℕ)
 whole_lines [] = []
-whole_lines (byte ∷ bytes) = if byte == 10 then (byte ∷ []) ∷ whole_lines bytes else onto (whole_lines bytes)
-  where
-    onto : List (List ℕ) → List (List ℕ)
-    onto [] = (byte ∷ []) ∷ []
-    onto (line ∷ lines) = (byte ∷ line) ∷ lines
+whole_lines (byte ∷ bytes) = if byte == 10 then (byte ∷ []) ∷ whole_lines bytes else with_byte byte (whole_lines bytes)
 
 -- The first `count` lines of the bytes are the first `count` lines of some audit. If the bytes have fewer lines, this audit
 -- has no more than they have.

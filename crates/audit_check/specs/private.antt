@@ -1,8 +1,8 @@
 -- What the contracts of private functions cite. No promise of this crate rests on it.
 pub mod Parts
+pub mod Marks
 pub mod Lines
 pub mod Turns
 pub mod Switches
 pub mod Ways
 pub mod Judging
-pub mod Blocks

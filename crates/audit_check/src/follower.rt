@@ -1,10 +1,15 @@
 //! The marks of a thread, judged one after the other.
 
-ghost use Rattle.std.specs.Prelude.{◌≡◌, ◌<◌, ◌≤◌, ◌+◌, ◌∷◌, ◌++◌, [], ℕ, List, length, IfOk, IsTrue};
+ghost use Rattle.std.specs.Prelude.{◌≡◌, ◌<◌, ◌≤◌, ◌+◌, ◌^◌, ◌∷◌, ◌++◌, [], ℕ, List, length, IfOk, is_some};
 ghost use Rattle.handler_word.specs.declared.mark.Mark.{Mark};
 ghost use Rattle.patch_script.specs.declared.command.Command.{Command};
+ghost use Rattle.patch_script.specs.Refusals.{commands_of};
+ghost use Rattle.sled_words.specs.Words.{arg_handler_word, handler_word, state_word};
+ghost use Rattle.machine_step.specs.Loads.{is_held_at};
 ghost use Rattle.xray_image.specs.Program.{Program};
-ghost use Rattle.audit_check.specs.private.Judging.{FollowsTo};
+ghost use Rattle.audit_check.specs.private.Judging.{ArePassed, FindsBound, FindsEitherHandler, FindsEnd, FindsPlace, HasJudged, IsReady, SameButGuesses, bounds_passing, lesser};
+ghost use Rattle.audit_check.specs.private.Switches.{IsCourseOf, is_recording, is_set};
+ghost use Rattle.audit_check.specs.private.Ways.{arg_handler_tree, handler_tree, head_tree, passing_tree};
 
 use crate::switches::{Awaited, Course};
 use handler_word::Mark;
@@ -32,7 +37,7 @@ struct Passed {
 /// in turn has a least place at which it may end with its mark.
 #[derive(Drop)]
 pub(crate) struct Follower<'a> {
-    image: &'a Image,
+    pub(crate) image: &'a Image,
     course: &'a Course,
     thread: u32,
     /// The passing before which the script holds the thread.
@@ -47,7 +52,9 @@ pub(crate) struct Follower<'a> {
 }
 
 /// The lesser of two places, of which either may be missing.
-fn lesser(first: Option<u32>, second: Option<u32>) -> Option<u32> {
+fn lesser(first: Option<u32>, second: Option<u32>) -> Option<u32>
+    ensures { result ≡ lesser first second }
+{
     match (first, second) {
         (None, other) | (other, None) => other,
         (Some(first), Some(second)) => Some(first.min(second)),
@@ -56,7 +63,9 @@ fn lesser(first: Option<u32>, second: Option<u32>) -> Option<u32> {
 
 impl Awaited {
     /// Whether it waits for a thread's passing of this number, from 0.
-    fn bounds(&self, thread: u32, passing: u32) -> bool {
+    fn bounds(&self, thread: u32, passing: u32) -> bool
+        ensures { result ≡ bounds_passing thread passing self.now }
+    {
         self.thread == thread && passing < self.count
     }
 }
@@ -69,7 +78,12 @@ impl<'a> Follower<'a> {
         script: &Script,
         course: &'a Course,
         thread: u32,
-    ) -> Result<Follower<'a>, NoMemory> {
+    ) -> Result<Follower<'a>, NoMemory>
+        requires { (1 ≤ thread) × (thread ≤ script.now.threads) }
+        ensures { IfOk result (λ follower. (program : Program) (threads : ℕ) → image.now ≡ program
+            → script.now.threads ≡ threads → IsCourseOf program threads (commands_of script.now.lines) course.now
+            → HasJudged program threads (commands_of script.now.lines) follower [] []) }
+    {
         Ok(Follower {
             image,
             course,
@@ -89,13 +103,25 @@ impl<'a> Follower<'a> {
     }
 
     /// Whether the marks so far may be those of loads that follow the script.
-    pub(crate) fn follows(&self) -> bool {
+    pub(crate) fn follows(&self) -> bool
+        ensures { result ≡ is_some self.now.place }
+    {
         self.place.is_some()
     }
 
     /// Judges the mark of the next passing, which is of this sled.
     #[inline]
-    pub(crate) fn judge(&mut self, sled: u32, mark: Mark) {
+    pub(crate) fn judge(&mut self, sled: u32, mark: Mark)
+        requires ready { IsReady self.old }
+        requires sled { sled < length self.old.image.now.sleds }
+        requires room { self.old.passing + 1 < 2 ^ 32 }
+        ensures ready { IsReady self.new }
+        ensures passing { self.new.passing ≡ self.old.passing + 1 }
+        ensures image { self.new.image ≡ self.old.image }
+        ensures judged { (program : Program) (threads : ℕ) (script : List Command) (sleds : List ℕ)
+            (marks : List Mark) → HasJudged program threads script self.old sleds marks
+            → HasJudged program threads script self.new (sleds ++ sled ∷ []) (marks ++ mark ∷ []) }
+    {
         let bound = self.bound();
         if let Some(place) = self.place {
             self.place = self.end_of(sled, mark, place, bound);
@@ -104,7 +130,12 @@ impl<'a> Follower<'a> {
     }
 
     /// The last place for the loads of the next passing.
-    fn bound(&mut self) -> u32 {
+    fn bound(&mut self) -> u32
+        ensures same { self.new ≡ record self.old { awaits = self.new.awaits } }
+        ensures bound { ArePassed self.old self.old.passing self.old.awaits → FindsBound self.old self.old.passing result }
+        ensures passed { ArePassed self.old self.old.passing self.old.awaits
+            → ArePassed self.new self.old.passing self.new.awaits }
+    {
         let awaits = &self.course.awaits;
         'awaits: while self.awaits < awaits.len()
             && !awaits[self.awaits].bounds(self.thread, self.passing)
@@ -119,7 +150,13 @@ impl<'a> Follower<'a> {
 
     /// The least place at which the next passing may end with its mark.
     #[inline]
-    fn end_of(&mut self, sled: u32, mark: Mark, from: u32, bound: u32) -> Option<u32> {
+    fn end_of(&mut self, sled: u32, mark: Mark, from: u32, bound: u32) -> Option<u32>
+        requires ready { IsReady self.old }
+        requires sled { sled < length self.old.image.now.sleds }
+        ensures same { SameButGuesses self.old self.new }
+        ensures end { FindsEnd self.old (λ program threads. passing_tree program threads self.old.thread
+            (is_held_at self.old.hold self.old.passing) sled) mark from bound result }
+    {
         let at = if self.hold == Some(self.passing) {
             let release = &self.course.switches.releases[self.thread as usize - 1];
             release.first(true, from, bound, &mut self.passed.release)?
@@ -131,7 +168,12 @@ impl<'a> Follower<'a> {
 
     /// The same from the load of the head on.
     #[inline]
-    fn end_from_head(&mut self, sled: u32, mark: Mark, from: u32, bound: u32) -> Option<u32> {
+    fn end_from_head(&mut self, sled: u32, mark: Mark, from: u32, bound: u32) -> Option<u32>
+        requires ready { IsReady self.old }
+        requires sled { sled < length self.old.image.now.sleds }
+        ensures same { SameButGuesses self.old self.new }
+        ensures end { FindsEnd self.old (λ program threads. head_tree program threads sled) mark from bound result }
+    {
         let head = &self.course.switches.heads[sled as usize];
         let passed = &mut self.passed.heads[sled as usize];
         if mark == Mark::Skipped {
@@ -149,7 +191,10 @@ impl<'a> Follower<'a> {
 
     /// The same from the load of the handler's word on.
     #[inline]
-    fn end_from_handler(&mut self, mark: Mark, from: u32, bound: u32) -> Option<u32> {
+    fn end_from_handler(&mut self, mark: Mark, from: u32, bound: u32) -> Option<u32>
+        ensures same { SameButGuesses self.old self.new }
+        ensures end { FindsEnd self.old (λ program threads. handler_tree program) mark from bound result }
+    {
         match mark {
             Mark::NoHandler => self.handler(false, from, bound),
             Mark::NotLogging => {
@@ -166,7 +211,10 @@ impl<'a> Follower<'a> {
 
     /// The same from the load of the argument handler's word on.
     #[inline]
-    fn end_from_arg_handler(&mut self, mark: Mark, from: u32, bound: u32) -> Option<u32> {
+    fn end_from_arg_handler(&mut self, mark: Mark, from: u32, bound: u32) -> Option<u32>
+        ensures same { SameButGuesses self.old self.new }
+        ensures end { FindsEnd self.old (λ program threads. arg_handler_tree program threads) mark from bound result }
+    {
         match mark {
             Mark::NoHandler | Mark::Recorded => {
                 let at = self.arg_handler(false, from, bound)?;
@@ -186,7 +234,10 @@ impl<'a> Follower<'a> {
 
     /// The least place at which a passing may have found an argument handler, or a handler after it has
     /// found no argument handler. It is one of the places from which it loads the log's state.
-    fn either_handler(&mut self, from: u32, bound: u32) -> Option<u32> {
+    fn either_handler(&mut self, from: u32, bound: u32) -> Option<u32>
+        ensures same { SameButGuesses self.old self.new }
+        ensures least { FindsEitherHandler self.old from bound result }
+    {
         let by_argument = self.arg_handler(true, from, bound);
         if by_argument == Some(from) {
             return by_argument;
@@ -197,7 +248,10 @@ impl<'a> Follower<'a> {
 
     /// The first place at which the handler is set, or isn't.
     #[inline]
-    fn handler(&mut self, set: bool, from: u32, bound: u32) -> Option<u32> {
+    fn handler(&mut self, set: bool, from: u32, bound: u32) -> Option<u32>
+        ensures same { SameButGuesses self.old self.new }
+        ensures place { FindsPlace self.old (λ program threads. handler_word program) is_set set from bound result }
+    {
         self.course
             .switches
             .handler
@@ -206,7 +260,10 @@ impl<'a> Follower<'a> {
 
     /// The first place at which the argument handler is set, or isn't.
     #[inline]
-    fn arg_handler(&mut self, set: bool, from: u32, bound: u32) -> Option<u32> {
+    fn arg_handler(&mut self, set: bool, from: u32, bound: u32) -> Option<u32>
+        ensures same { SameButGuesses self.old self.new }
+        ensures place { FindsPlace self.old (λ program threads. arg_handler_word program threads) is_set set from bound result }
+    {
         self.course
             .switches
             .arg_handler
@@ -215,7 +272,10 @@ impl<'a> Follower<'a> {
 
     /// The first place at which the log records, or doesn't.
     #[inline]
-    fn log(&mut self, records: bool, from: u32, bound: u32) -> Option<u32> {
+    fn log(&mut self, records: bool, from: u32, bound: u32) -> Option<u32>
+        ensures same { SameButGuesses self.old self.new }
+        ensures place { FindsPlace self.old (λ program threads. state_word program) is_recording records from bound result }
+    {
         self.course
             .switches
             .log

@@ -1,15 +1,15 @@
 //! What a script does to the words on which marks depend.
 
-ghost use Rattle.std.specs.Prelude.{◌≡◌, ◌<◌, ◌≤◌, ◌+◌, ◌^◌, ℕ, length, IfOk, OnOk, vec_len};
-ghost use Rattle.sled_words.specs.Words.{IsCodeWord};
-ghost use Rattle.patch_script.specs.{CodeAt.{code_at}, Limits.{most_micros}, Micros.{micros, start_of, total_of}};
-ghost use Rattle.patch_script.specs.Refusals.{commands_of};
-ghost use Rattle.audit_check.specs.private.Switches.{AreAwaits, AreSwitches, IsNext, IsCourseOf, IsOfWords, StaysSame};
+ghost use Rattle.std.specs.Prelude.{◌≡◌, ◌<◌, ◌≤◌, ◌+◌, ℕ, List, [], All, IfOk, OnOk, length};
+ghost use Rattle.xray_image.specs.Program.{Program};
+ghost use Rattle.patch_script.specs.declared.command.Command.{Command};
+ghost use Rattle.patch_script.specs.{CodeAt.{code_at}, Limits.{most_micros}, Refusals.{commands_of}};
+ghost use Rattle.audit_check.specs.private.Switches.{AreSwitches, IsCourseOf, IsNext, IsOfWords, TakesOne, TakesStep, TakesStore};
 
 use crate::turns::Turns;
 use patch_script::{Micro, Script, stores_give_the_code};
 use sled_words::{
-    LogState, NO_HANDLER, PARTS, PATCHED_HEAD, arg_handler_word, handler_word, state_word,
+    LogState, MAX_THREADS, NO_HANDLER, PARTS, PATCHED_HEAD, arg_handler_word, handler_word, state_word,
 };
 use std::alloc::{AllocError, Global};
 use xray_image::Image;
@@ -62,7 +62,10 @@ pub(crate) struct Course {
 }
 
 /// Words that are all off.
-fn all_off(alloc: Global, count: u32) -> Result<Vec<Turns>, NoMemory> {
+fn all_off(alloc: Global, count: u32) -> Result<Vec<Turns>, NoMemory>
+    ensures count { IfOk result (λ all. length all.items ≡ count) }
+    ensures off { IfOk result (λ all. All (λ turns. turns.places.items ≡ []) all.items) }
+{
     let mut all = Vec::with_capacity(alloc, count as usize)?;
     for _word in 0..count {
         all.push(Turns::new(alloc))?;
@@ -72,7 +75,13 @@ fn all_off(alloc: Global, count: u32) -> Result<Vec<Turns>, NoMemory> {
 
 impl Switches {
     /// All switches before the first micro step.
-    fn new(alloc: Global, image: &Image, threads: u32) -> Result<Switches, NoMemory> {
+    fn new(alloc: Global, image: &Image, threads: u32) -> Result<Switches, NoMemory>
+        requires { threads ≤ MAX_THREADS }
+        ensures words { IfOk result (IsOfWords image.now threads) }
+        ensures switches { IfOk result (λ switches. (script : List Command)
+            → AreSwitches image.now threads (code_at image.now threads script) 0 switches) }
+    {
+        stores_give_the_code();
         Ok(Switches {
             heads: all_off(alloc, image.sled_count())?,
             handler: Turns::new(alloc),
@@ -86,7 +95,14 @@ impl Switches {
     }
 
     /// Notes a store of a value in a word: it has the value from the place on.
-    fn store(&mut self, word: u32, value: u64, place: u32) -> Result<(), AllocError> {
+    fn store(&mut self, word: u32, value: u64, place: u32) -> Result<(), AllocError>
+        requires { TakesStore self.old word }
+        ensures words { OnOk result ((program : Program) (threads : ℕ) → IsOfWords program threads self.old
+            → IsOfWords program threads self.new) }
+        ensures switches { OnOk result ((program : Program) (threads : ℕ) (code : ℕ → ℕ → ℕ) (last : ℕ)
+            → IsOfWords program threads self.old → AreSwitches program threads code last self.old
+            → place ≡ last + 1 → IsNext code last word value → AreSwitches program threads code place self.new) }
+    {
         if word < self.handler_word {
             self.store_part(word, value, place)
         } else if word == self.handler_word {
@@ -101,7 +117,15 @@ impl Switches {
     }
 
     /// Notes a store in a word of a sled, which matters if it is the head.
-    fn store_part(&mut self, word: u32, value: u64, place: u32) -> Result<(), AllocError> {
+    fn store_part(&mut self, word: u32, value: u64, place: u32) -> Result<(), AllocError>
+        requires words { TakesStore self.old word }
+        requires part { word < self.old.handler_word }
+        ensures words { OnOk result ((program : Program) (threads : ℕ) → IsOfWords program threads self.old
+            → IsOfWords program threads self.new) }
+        ensures switches { OnOk result ((program : Program) (threads : ℕ) (code : ℕ → ℕ → ℕ) (last : ℕ)
+            → IsOfWords program threads self.old → AreSwitches program threads code last self.old
+            → place ≡ last + 1 → IsNext code last word value → AreSwitches program threads code place self.new) }
+    {
         if word % PARTS == 0 {
             self.heads[(word / PARTS) as usize].note(place, value == PATCHED_HEAD)
         } else {
@@ -120,6 +144,7 @@ impl Course {
     ) -> Result<Course, NoMemory>
         requires program { script.now.program ≡ image.now }
         requires threads { script.now.threads ≡ threads }
+        requires few { threads ≤ MAX_THREADS }
         ensures { IfOk result (IsCourseOf image.now threads (commands_of script.now.lines)) }
     {
         stores_give_the_code();
@@ -138,7 +163,13 @@ impl Course {
     }
 
     /// Takes the micro step at a place.
-    fn take(&mut self, micro: Micro, place: u32) -> Result<(), NoMemory> {
+    fn take(&mut self, micro: Micro, place: u32) -> Result<(), NoMemory>
+        requires step { TakesStep self.old micro }
+        requires place { place < most_micros }
+        ensures words { OnOk result ((program : Program) (threads : ℕ) → IsOfWords program threads self.old.switches
+            → IsOfWords program threads self.new.switches) }
+        ensures step { OnOk result (TakesOne self.old micro place self.new) }
+    {
         match micro {
             Micro::Store { word, value } => self.switches.store(word, value, place + 1)?,
             Micro::Await { thread, count } => self.awaits.push(Awaited {

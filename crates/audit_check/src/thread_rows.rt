@@ -1,12 +1,14 @@
 //! The two rows of a thread, and the last row of an audit.
 
-ghost use Rattle.std.specs.Prelude.{◌≡◌, ◌<◌, ◌≤◌, ◌^◌, ◌++◌, ℕ, List, [], Some, length, IfSome, IsSome, OnSome, codes, decimal};
-ghost use Rattle.machine_step.specs.Texts.{line_feed, marks_line};
+ghost use Rattle.std.specs.Prelude.{◌≡◌, ◌≢◌, ◌<◌, ◌≤◌, ◌+◌, ◌^◌, ◌∷◌, ◌++◌, ℕ, List, [], Some, None, length, IfSome, IsSome, OnSome, codes, decimal, replicate};
+ghost use Rattle.machine_step.specs.Texts.{end_text, line_feed, marks_line};
 ghost use Rattle.handler_word.specs.declared.mark.Mark.{Mark};
-ghost use Rattle.trace_flush.specs.Audit.{ThreadAudit, recycled_line, thread_line};
-ghost use Rattle.audit_check.specs.private.Marks.{Goes, HasMarks, mark_symbol};
-ghost use Rattle.audit_check.specs.private.Parts.{counts_row};
-ghost use Rattle.audit_check.specs.Statements.{HasCounts, most_marks};
+ghost use Rattle.handler_word.specs.Runs.{run_text};
+ghost use Rattle.trace_flush.specs.Audit.{recycled_line};
+ghost use Rattle.audit_check.specs.private.Lines.{counts_row};
+ghost use Rattle.audit_check.specs.private.Marks.{AreRuns, TakesRun, TakesRuns, marks_of_runs, spaced, symbol_text};
+ghost use Rattle.audit_check.specs.private.Parts.{BeginsNoDigit, HasShortCounts, counts_part};
+ghost use Rattle.audit_check.specs.Statements.{most_marks};
 
 use crate::row::Row;
 use handler_word::{Mark, Marks};
@@ -37,14 +39,8 @@ pub(crate) struct Counts {
 /// What a row says of the thread of this number, if it is the first row of that thread.
 pub(crate) fn read_counts(row: &[u8], thread: u32) -> Option<Counts>
     ensures found { IfSome result (λ counts. row.now ≡ counts_row thread counts) }
-    ensures only { (said : ThreadAudit) → HasCounts said → said.thread ≡ thread
-        → row.now ≡ thread_line said → result ≡ Some (record {
-          end = said.end;
-          passings = said.passings;
-          recorded = said.recorded;
-          segments = said.segments;
-          first = said.first;
-        }) }
+    ensures only { (counts : Counts) → HasShortCounts counts → row.now ≡ counts_row thread counts
+        → result ≡ Some counts }
 {
     let mut row = Row::new(row);
     if row.short_field(b"thread ")? != thread {
@@ -56,7 +52,11 @@ pub(crate) fn read_counts(row: &[u8], thread: u32) -> Option<Counts>
 }
 
 /// Takes the end of a thread and its counts.
-fn take_counts(row: &mut Row) -> Option<Counts> {
+fn take_counts(row: &mut Row) -> Option<Counts>
+    ensures found { IfSome result (λ counts. row.old ≡ counts_part counts ++ row.new) }
+    ensures only { (counts : Counts) (rest : List ℕ) → HasShortCounts counts → BeginsNoDigit rest
+        → row.old ≡ counts_part counts ++ rest → (result ≡ Some counts) × (row.new ≡ rest) }
+{
     row.word(b" ")?;
     Some(Counts {
         end: row.end()?,
@@ -73,30 +73,46 @@ pub(crate) fn read_marks(row: &[u8], marks: &mut Marks) -> Option<()>
     requires empty { marks.old.items ≡ [] }
     requires room { marks.old.room ≡ most_marks }
     ensures found { OnSome result (row.now ≡ marks_line marks.new.items) }
-    ensures within { length marks.new.items ≤ most_marks }
     ensures only { (all : List Mark) → length all ≤ most_marks → row.now ≡ marks_line all
         → IsSome result × (marks.new.items ≡ all) }
 {
     let mut row = Row::new(row);
-    row.word(b"marks ")?;
-    if row.word(b"-").is_none() {
+    row.word(b"marks")?;
+    if row.word(b" -").is_none() {
         take_runs(&mut row, marks)?;
     }
     row.word(b"\n")?;
     if row.is_done() { Some(()) } else { None }
 }
 
-/// Takes runs of marks, with a space between them.
-fn take_runs(row: &mut Row, marks: &mut Marks) -> Option<()> {
-    let mut last = take_run(row, marks, None)?;
+/// Takes one run of marks or more, each with a space before it.
+fn take_runs(row: &mut Row, marks: &mut Marks) -> Option<()>
+    requires empty { marks.old.items ≡ [] }
+    requires room { marks.old.room ≡ most_marks }
+    ensures room { marks.new.room ≡ most_marks }
+    ensures found { OnSome result ((runs : List (Mark × ℕ)) × TakesRuns row.old row.new marks.new.items runs) }
+    ensures only { (runs : List (Mark × ℕ)) (rest : List ℕ) → AreRuns None runs → runs ≢ []
+        → length (marks_of_runs runs) ≤ most_marks → row.old ≡ spaced runs ++ 10 ∷ rest
+        → IsSome result × (row.new ≡ 10 ∷ rest) × (marks.new.items ≡ marks_of_runs runs) }
+{
+    let mut before = None;
     'runs: while row.word(b" ").is_some() {
-        last = take_run(row, marks, Some(last))?;
+        before = Some(take_run(row, marks, before)?);
     }
-    Some(())
+    if before.is_some() { Some(()) } else { None }
 }
 
 /// Takes a run of marks, which aren't those of the run before it. Answers its mark.
-fn take_run(row: &mut Row, marks: &mut Marks, before: Option<Mark>) -> Option<Mark> {
+fn take_run(row: &mut Row, marks: &mut Marks, before: Option<Mark>) -> Option<Mark>
+    requires { marks.old.room ≡ most_marks }
+    ensures room { marks.new.room ≡ most_marks }
+    ensures found { IfSome result (λ mark. (before ≢ Some mark)
+        × ((count : ℕ) × TakesRun row.old row.new marks.old.items marks.new.items mark count)) }
+    ensures only { (mark : Mark) (count : ℕ) (rest : List ℕ) → before ≢ Some mark → 0 < count
+        → length marks.old.items + count ≤ most_marks → BeginsNoDigit rest
+        → row.old ≡ run_text (mark, count) ++ rest
+        → (result ≡ Some mark) × (row.new ≡ rest) × (marks.new.items ≡ marks.old.items ++ replicate count mark) }
+{
     let mark = take_mark(row)?;
     if before == Some(mark) {
         return None;
@@ -105,14 +121,27 @@ fn take_run(row: &mut Row, marks: &mut Marks, before: Option<Mark>) -> Option<Ma
     if count == 0 || count > MOST_MARKS - marks.len() {
         return None;
     }
-    for _mark in 0..count {
-        marks.add(mark);
-    }
+    add_run(marks, mark, count);
     Some(mark)
 }
 
+/// Adds this many equal marks.
+fn add_run(marks: &mut Marks, mark: Mark, count: u32)
+    requires { length marks.old.items + count ≤ marks.old.room }
+    ensures items { marks.new.items ≡ marks.old.items ++ replicate count mark }
+    ensures room { marks.new.room ≡ marks.old.room }
+{
+    for _mark in 0..count {
+        marks.add(mark);
+    }
+}
+
 /// Takes the character of a mark.
-fn take_mark(row: &mut Row) -> Option<Mark> {
+fn take_mark(row: &mut Row) -> Option<Mark>
+    ensures found { IfSome result (λ mark. row.old ≡ symbol_text mark ++ row.new) }
+    ensures only { (mark : Mark) (rest : List ℕ) → row.old ≡ symbol_text mark ++ rest
+        → (result ≡ Some mark) × (row.new ≡ rest) }
+{
     for mark in MARKS {
         if row.word(symbol(mark)).is_some() {
             return Some(mark);
@@ -123,7 +152,7 @@ fn take_mark(row: &mut Row) -> Option<Mark> {
 
 /// The character of a mark.
 fn symbol(mark: Mark) -> &'static [u8]
-    ensures { result.now ≡ mark_symbol mark }
+    ensures { result.now ≡ symbol_text mark }
 {
     match mark {
         Mark::Skipped => b".",

@@ -1,6 +1,6 @@
 //! The places at which a word turns.
 
-ghost use Rattle.std.specs.Prelude.{◌≡◌, ◌<◌, ◌≤◌, ◌+◌, ◌==◌, ◌%◌, ◌^◌, ℕ, Bool, List, length, OnOk, IsTrue, vec_len};
+ghost use Rattle.std.specs.Prelude.{◌≡◌, ◌≤◌, ◌+◌, ℕ, Bool, [], OnOk, vec_len};
 ghost use Rattle.audit_check.specs.private.Turns.{AreMade, IsLeast, IsMet, IsTurned, is_odd};
 
 use std::alloc::{AllocError, Global};
@@ -16,7 +16,7 @@ pub(crate) struct Turns {
 impl Turns {
     /// No turns yet: the word is off.
     pub(crate) fn new(alloc: Global) -> Self
-        ensures { (on : ℕ → Bool) → IsTrue (not (on 0)) → IsTurned on 0 result.places.items }
+        ensures { result.places.items ≡ [] }
     {
         Turns {
             places: Vec::new(alloc),

@@ -5,8 +5,9 @@ use Rattle.xray_io.specs.declared.wall.Wall.{Wall}
 use Rattle.fdr_buffer.specs.declared.buffer.TheConstants.{LARGEST_SIZE, LEAST_SIZE, MOST_BUFFERS, TRACE_LIMIT}
 use Rattle.sled_words.specs.declared.words.TheConstants.{MAX_THREADS}
 use Rattle.machine_step.specs.declared.setup.Setup.{Setup}
-use Rattle.machine_step.specs.Texts.{line_feed}
+use Rattle.machine_step.specs.Texts.{end_text, line_feed}
 use Rattle.trace_flush.specs.Audit.{limits_text}
+use Rattle.audit_check.specs.declared.thread_rows.Counts.{Counts}
 
 -- the bytes don't go on with a digit
 abbrev pub BeginsNoDigit : List ℕ → Type 0
@@ -52,3 +53,18 @@ pub record AreBuffers (setup : Setup) : Type 0 where
 pub record AreStamps (setup : Setup) : Type 0 where
   pub pid : setup.pid < 2 ^ 31
   pub micros : setup.wall.micros < 1000000
+
+-- ---- the counts of a thread
+
+-- they have 32 bits
+pub record HasShortCounts (counts : Counts) : Type 0 where
+  pub passings : counts.passings < 2 ^ 32
+  pub recorded : counts.recorded < 2 ^ 32
+  pub segments : counts.segments < 2 ^ 32
+  pub first : counts.first < 2 ^ 32
+
+-- how it ended, and its counts
+abbrev pub counts_part : Counts → List ℕ
+counts_part counts =
+    codes " " ++ end_text counts.end ++ codes " passings " ++ decimal counts.passings ++ codes " recorded " ++ decimal counts.recorded
+    ++ codes " segments " ++ decimal counts.segments ++ codes " first " ++ decimal counts.first
