@@ -1,0 +1,12 @@
+mod Digits
+mod FollowWays
+mod LeastEnds
+mod LeastMarks
+mod Owning
+mod Refusals
+mod RowLines
+mod RowTexts
+mod TreeLoads
+mod TurnLemmas
+mod Walking
+mod WaysFollow
