@@ -118,14 +118,15 @@ fn each_row_of_the_table_gives_its_verdict(rt: HostRuntime) -> Result<(), Fail> 
 fn marks_follow_the_script(rt: HostRuntime) -> Result<(), Fail> {
     let alloc = rt.alloc();
     // Patched, and unpatched again while the thread runs. Or it waits until the script has done that.
-    let cases: [(&[u8], &[u8], bool); 7] = [
+    let cases: [(&[u8], &[u8], bool); 8] = [
         (b"patch\nset_handler\ninit\ngo\nunpatch\n", b"+1 .1", true),
         (b"patch\nset_handler\ninit\ngo\nunpatch\n", b".2", true),
         (b"patch\nset_handler\ninit\ngo\nunpatch\n", b".1 +1", true),
         (b"patch\nset_handler\ninit\ngo\nunpatch\npatch\n", b".1 +1", true),
         (b"patch\nset_handler\ninit\ngo\nawait 1 1\nunpatch\n", b".2", false),
         (b"patch\nset_handler\ninit\ngo\nawait 1 1\nunpatch\n", b"+1 .1", true),
-        (b"patch\nset_handler\ninit\nhold 1 1\ngo\nunpatch\nrelease 1\n", b"+2", true),
+        (b"patch\nset_handler\ninit\nhold 1 1\ngo\nunpatch\nrelease 1\n", b"+2", false),
+        (b"patch\nset_handler\ninit\nhold 1 1\ngo\nunpatch\nrelease 1\n", b"+1 .1", true),
     ];
     for (script, marks, follows) in cases {
         let mut rows = Vec::from_slice(
