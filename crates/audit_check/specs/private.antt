@@ -6,3 +6,5 @@ pub mod Turns
 pub mod Switches
 pub mod Ways
 pub mod Judging
+pub mod Blocks
+pub mod Walks

@@ -1,7 +1,14 @@
 //! A trace, compared with the segments of runs.
 
-ghost use Rattle.std.specs.Prelude.{◌≡◌, ◌++◌, [], ℕ, List, IfOk, IsTrue};
+ghost use Rattle.std.specs.Prelude.{◌≡◌, ◌<◌, ◌+◌, ◌^◌, ◌∷◌, ◌++◌, ◌↔◌, [], ℕ, List, IfOk, IsTrue, true, if◌then◌else◌, length, nat_le};
+ghost use Rattle.fdr_record.specs.declared.event.Event.{Event};
+ghost use Rattle.fdr_record.specs.Recordable.{IsRecordable};
+ghost use Rattle.fdr_buffer.specs.Segments.{segments};
+ghost use Rattle.fdr_file.specs.Files.{block_bytes, header_bytes};
 ghost use Rattle.machine_step.specs.declared.setup.Setup.{Setup};
+ghost use Rattle.machine_step.specs.Setups.{IsSetup};
+ghost use Rattle.trace_flush.specs.Flush.{run_header};
+ghost use Rattle.audit_check.specs.private.Blocks.{HasCompared, HasNoted, kept_bytes, whole_of};
 
 use fdr_buffer::{Buffer, a_segment_grows, segments_hold_all};
 use fdr_file::write_file;
@@ -25,7 +32,9 @@ impl<'a> TraceLeft<'a> {
         alloc: Global,
         setup: &Setup,
         trace: &'a [u8],
-    ) -> Result<TraceLeft<'a>, NoMemory> {
+    ) -> Result<TraceLeft<'a>, NoMemory>
+        ensures { IfOk result (HasCompared trace.now (header_bytes (run_header setup.now))) }
+    {
         let mut header = MemSink::new(alloc, Vec::new(alloc));
         if write_file(&trace_header(setup), &[], &mut header).is_err() {
             return Err(NoMemory);
@@ -39,7 +48,10 @@ impl<'a> TraceLeft<'a> {
     }
 
     /// Compares the next bytes with these.
-    fn take(&mut self, bytes: &[u8]) {
+    fn take(&mut self, bytes: &[u8])
+        ensures { (trace before : List ℕ) → HasCompared trace before self.old
+            → HasCompared trace (before ++ bytes.now) self.new }
+    {
         match self.left.strip_prefix(bytes) {
             Some(left) if self.same => self.left = left,
             _ => self.same = false,
@@ -47,7 +59,10 @@ impl<'a> TraceLeft<'a> {
     }
 
     /// Compares the next bytes with the block of a buffer.
-    fn take_block(&mut self, buffer: &Buffer) {
+    fn take_block(&mut self, buffer: &Buffer)
+        ensures { (trace before : List ℕ) → HasCompared trace before self.old
+            → HasCompared trace (before ++ block_bytes buffer.now) self.new }
+    {
         let bytes = buffer.bytes();
         let mut extents = [0; METADATA_BYTES];
         let rec = Rec::Extents {
@@ -59,7 +74,10 @@ impl<'a> TraceLeft<'a> {
     }
 
     /// Whether the whole trace was the same.
-    pub(crate) fn is_same(&self) -> bool {
+    pub(crate) fn is_same(&self) -> bool
+        ensures { (trace bytes : List ℕ) → HasCompared trace bytes self.now
+            → IsTrue result ↔ (trace ≡ bytes) }
+    {
         self.same && self.left.is_empty()
     }
 }
@@ -86,7 +104,10 @@ impl Recording {
         setup: &Setup,
         thread: u32,
         lost: u32,
-    ) -> Result<Recording, NoMemory> {
+    ) -> Result<Recording, NoMemory>
+        requires { IsSetup setup.now }
+        ensures { IfOk result (HasNoted setup.now thread lost []) }
+    {
         Ok(Recording {
             buffer: Buffer::new(alloc, setup.size)?,
             thread,
@@ -98,7 +119,18 @@ impl Recording {
     }
 
     /// Notes an event: in the open segment if there is room, and otherwise in the next one.
-    pub(crate) fn note(&mut self, event: &Event, trace: &mut TraceLeft) {
+    pub(crate) fn note(&mut self, event: &Event, trace: &mut TraceLeft)
+        requires recordable { IsRecordable event.now }
+        requires room { self.old.whole + 1 < 2 ^ 32 }
+        ensures noted { (setup : Setup) (thread lost : ℕ) (events : List Event)
+            → HasNoted setup thread lost events self.old
+            → HasNoted setup thread lost (events ++ event.now ∷ []) self.new }
+        ensures compared { (setup : Setup) (thread lost : ℕ) (events : List Event) (all before : List ℕ)
+            → HasNoted setup thread lost events self.old
+            → HasCompared all (before ++ kept_bytes setup lost thread (whole_of setup.size events)) trace.old
+            → HasCompared all (before ++ kept_bytes setup lost thread (whole_of setup.size (events ++ event.now ∷ [])))
+            trace.new }
+    {
         a_segment_grows();
         segments_hold_all();
         if !self.buffer.begun() {
@@ -112,7 +144,15 @@ impl Recording {
     }
 
     /// Ends the last segment. Answers how many there are.
-    pub(crate) fn finish(self, trace: &mut TraceLeft) -> u32 {
+    pub(crate) fn finish(self, trace: &mut TraceLeft) -> u32
+        requires { self.whole + 1 < 2 ^ 32 }
+        ensures segments { (setup : Setup) (thread lost : ℕ) (events : List Event)
+            → HasNoted setup thread lost events self → result ≡ length (segments setup.size events) }
+        ensures compared { (setup : Setup) (thread lost : ℕ) (events : List Event) (all before : List ℕ)
+            → HasNoted setup thread lost events self
+            → HasCompared all (before ++ kept_bytes setup lost thread (whole_of setup.size events)) trace.old
+            → HasCompared all (before ++ kept_bytes setup lost thread (segments setup.size events)) trace.new }
+    {
         if self.buffer.begun() {
             self.compare(trace);
             self.whole + 1
@@ -122,13 +162,27 @@ impl Recording {
     }
 
     /// Begins the next segment.
-    fn begin(&mut self) {
+    fn begin(&mut self)
+        ensures { self.new ≡ record self.old { buffer = record {
+          size = self.old.buffer.size;
+          begun = true;
+          thread = self.old.thread;
+          serial = self.old.whole;
+          wall = self.old.wall;
+          pid = self.old.pid;
+          events = [];
+        } } }
+    {
         self.buffer
             .begin(self.thread, self.whole, self.wall, self.pid);
     }
 
     /// Compares the open segment with the trace, unless it is lost.
-    fn compare(&self, trace: &mut TraceLeft) {
+    fn compare(&self, trace: &mut TraceLeft)
+        ensures { (all before : List ℕ) → HasCompared all before trace.old
+            → HasCompared all (before ++ (if nat_le self.now.lost self.now.whole then block_bytes self.now.buffer else []))
+            trace.new }
+    {
         if self.lost <= self.whole {
             trace.take_block(&self.buffer);
         }

@@ -206,9 +206,10 @@ impl<'a> Cpu<'a> {
         }
     }
 
-    /// Makes the passing that the thread wants to be let into, as one with this mark, whatever it would
-    /// have loaded. A caller that knows the marks of a thread gets its events in this way, without its
-    /// words. The answer is the event of the passing, if the mark records one.
+    /// Makes the passing that the thread wants to be let into, as one with this mark. The thread makes no
+    /// loads, so the mark may be any, also one that no loads could give. A caller that knows the marks of
+    /// a thread gets its events in this way. The answer is the event of the passing, if the mark records
+    /// one.
     #[inline(always)]
     pub fn pass(&mut self, mark: Mark) -> Option<Event>
         requires { IsGate self.old.want }
