@@ -1,12 +1,14 @@
-mod Digits
-mod FollowWays
-mod LeastEnds
-mod LeastMarks
-mod Owning
-mod Refusals
-mod RowLines
-mod RowTexts
-mod TreeLoads
-mod TurnLemmas
-mod Walking
-mod WaysFollow
+pub mod Bounding
+pub mod Digits
+pub mod FollowWays
+pub mod LeastEnds
+pub mod LeastMarks
+pub mod Owning
+pub mod Refusals
+pub mod RowLines
+pub mod RowTexts
+pub mod Switching
+pub mod TreeLoads
+pub mod TurnLemmas
+pub mod Walking
+pub mod WaysFollow

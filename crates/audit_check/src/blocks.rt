@@ -1,6 +1,6 @@
 //! A trace, compared with the segments of runs.
 
-ghost use Rattle.std.specs.Prelude.{◌≡◌, ◌<◌, ◌+◌, ◌^◌, ◌∷◌, ◌++◌, ◌↔◌, [], ℕ, List, IfOk, IsTrue, true, if◌then◌else◌, length, nat_le};
+ghost use Rattle.std.specs.Prelude.{◌≡◌, ◌<◌, ◌≤◌, ◌+◌, ◌^◌, ◌∷◌, ◌++◌, ◌↔◌, [], ℕ, List, IfOk, IsTrue, true, if◌then◌else◌, length, nat_le};
 ghost use Rattle.fdr_record.specs.declared.event.Event.{Event};
 ghost use Rattle.fdr_record.specs.Recordable.{IsRecordable};
 ghost use Rattle.fdr_buffer.specs.Segments.{segments};
@@ -125,6 +125,7 @@ impl Recording {
         ensures noted { (setup : Setup) (thread lost : ℕ) (events : List Event)
             → HasNoted setup thread lost events self.old
             → HasNoted setup thread lost (events ++ event.now ∷ []) self.new }
+        ensures whole { self.new.whole ≤ self.old.whole + 1 }
         ensures compared { (setup : Setup) (thread lost : ℕ) (events : List Event) (all before : List ℕ)
             → HasNoted setup thread lost events self.old
             → HasCompared all (before ++ kept_bytes setup lost thread (whole_of setup.size events)) trace.old

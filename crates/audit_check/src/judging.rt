@@ -1,8 +1,17 @@
 //! The verdict on an audit and a trace.
 
-ghost use Rattle.std.specs.Prelude.{◌≡◌, IfOk};
+ghost use Rattle.std.specs.Prelude.{◌≡◌, ◌<◌, ◌≤◌, ◌+◌, ◌↔◌, ◌++◌, ℕ, List, [], None, IfOk, IsTrue, length};
+ghost use Rattle.xray_image.specs.Program.{IsAccepted, Program};
 ghost use Rattle.patch_script.specs.Refusals.{commands_of};
-ghost use Rattle.audit_check.specs.{Statements.{NamesThreads, statement_of}, Verdicts.{IsJudged}};
+ghost use Rattle.machine_step.specs.declared.end.End.{End as How};
+ghost use Rattle.machine_step.specs.{PlainStep.{Passing, PlainRun, State}, Setups.{IsSetup}, Traced.{IsLoad}};
+ghost use Rattle.traced_run.specs.Runs.{ThreadRun};
+ghost use Rattle.audit_check.specs.private.Judging.{IsReady};
+ghost use Rattle.audit_check.specs.private.Switches.{IsCourseOf};
+ghost use Rattle.audit_check.specs.private.Walks.{HasWalked, IsFound, IsWayOf, KeepsLast, Way, first_of, mark_or_skipped};
+ghost use Rattle.audit_check.specs.Rows.{RecycledAgrees};
+ghost use Rattle.audit_check.specs.Statements.{NamesThreads, said_by, statement_of};
+ghost use Rattle.audit_check.specs.Verdicts.{IsJudged};
 
 use crate::audit::{Audit, AuditEntry};
 use crate::blocks::{Recording, TraceLeft};
@@ -95,7 +104,27 @@ impl Judge<'_> {
         alloc: Global,
         entry: &AuditEntry,
         trace: &mut TraceLeft,
-    ) -> Result<Agreement, NoMemory> {
+    ) -> Result<Agreement, NoMemory>
+        requires setup { IsSetup self.now.setup.now }
+        requires program { self.now.script.now.program ≡ self.now.steps.now }
+        requires threads { self.now.script.now.threads ≡ self.now.setup.now.threads }
+        requires number { (1 ≤ entry.now.thread) × (entry.now.thread ≤ self.now.setup.now.threads) }
+        requires course { IsCourseOf self.now.steps.now self.now.setup.now.threads
+            (commands_of self.now.script.now.lines) self.now.course.now }
+        ensures { IfOk result (λ agreement. (all before : List ℕ) (run : ThreadRun)
+            → PlainRun self.now.steps.now self.now.setup.now.limits entry.now.thread run.passed run.end run.last
+            → run.marks ≡ entry.now.marks.items → run.lost ≡ entry.now.first
+            → IsFound (record {
+              program = self.now.steps.now;
+              script = commands_of self.now.script.now.lines;
+              setup = self.now.setup.now;
+              thread = entry.now.thread;
+              lost = entry.now.first;
+              marks = entry.now.marks.items;
+              trace = all;
+              before = before;
+            }) (said_by entry.now) run agreement trace.old trace.new) }
+    {
         let image = self.steps.image();
         let mut follower = Follower::new(alloc, image, self.script, self.course, entry.thread)?;
         let mut recording = Recording::new(alloc, self.setup, entry.thread, entry.first)?;
@@ -126,7 +155,9 @@ impl Judge<'_> {
 }
 
 /// Whether a thread is stated to have kept its last segment, if it has segments.
-fn is_kept(entry: &AuditEntry) -> bool {
+fn is_kept(entry: &AuditEntry) -> bool
+    ensures { IsTrue result ↔ KeepsLast entry.now.segments entry.now.first }
+{
     if entry.segments == 0 {
         entry.first == 0
     } else {
@@ -142,7 +173,23 @@ fn walk(
     follower: &mut Follower,
     recording: &mut Recording,
     trace: &mut TraceLeft,
-) -> Walked {
+) -> Walked
+    requires between { IsLoad cpu.old.want → ⊥ }
+    requires ready { IsReady follower.old }
+    requires image { follower.old.image.now ≡ cpu.old.program }
+    requires passing { follower.old.passing ≡ length cpu.old.marks }
+    requires whole { recording.old.whole ≤ length cpu.old.marks }
+    ensures whole { recording.new.whole ≤ result.passings }
+    ensures end { (bytes : List ℕ) (passed : List Passing) (end : How) (last : State)
+        → IsAccepted bytes cpu.old.program
+        → PlainRun cpu.old.program cpu.old.limits cpu.old.thread passed end last
+        → (result.end ≡ end) × (result.passings ≡ length passed) }
+    ensures walked { (bytes : List ℕ) (way : Way) (passed : List Passing) (end : How) (last : State)
+        → IsAccepted bytes way.program → IsWayOf way cpu.old marks.now.items
+        → PlainRun way.program way.setup.limits way.thread passed end last → cpu.old.marks ≡ []
+        → HasWalked way [] follower.old recording.old trace.old
+        → HasWalked way passed follower.new recording.new trace.new }
+{
     'passings: loop {
         match cpu.want() {
             Want::Gate(passing) => {
@@ -163,7 +210,9 @@ fn walk(
 
 /// The mark of a passing. A passing without a mark is taken as skipped: its thread has fewer marks than
 /// passings, whatever its other marks are.
-fn mark_at(marks: &Marks, passing: u32) -> Mark {
+fn mark_at(marks: &Marks, passing: u32) -> Mark
+    ensures { result ≡ mark_or_skipped marks.now.items passing }
+{
     if passing < marks.len() {
         marks.get(passing)
     } else {
@@ -173,7 +222,11 @@ fn mark_at(marks: &Marks, passing: u32) -> Mark {
 
 impl FirstThreads {
     /// All rows agree so far.
-    fn none() -> Self {
+    fn none() -> Self
+        ensures ends { result.ends ≡ None }
+        ensures marks { result.marks ≡ None }
+        ensures counts { result.counts ≡ None }
+    {
         FirstThreads {
             ends: None,
             marks: None,
@@ -182,7 +235,11 @@ impl FirstThreads {
     }
 
     /// Notes which rows of the next thread agree.
-    fn note(&mut self, thread: u32, agreement: Agreement) {
+    fn note(&mut self, thread: u32, agreement: Agreement)
+        ensures ends { self.new.ends ≡ first_of self.old.ends thread agreement.ends }
+        ensures marks { self.new.marks ≡ first_of self.old.marks thread agreement.marks }
+        ensures counts { self.new.counts ≡ first_of self.old.counts thread agreement.counts }
+    {
         self.ends = first_of(self.ends, thread, agreement.ends);
         self.marks = first_of(self.marks, thread, agreement.marks);
         self.counts = first_of(self.counts, thread, agreement.counts);
@@ -207,13 +264,18 @@ impl FirstThreads {
 }
 
 /// The first thread of which a row doesn't agree, after one more thread.
-fn first_of(before: Option<u32>, thread: u32, agrees: bool) -> Option<u32> {
+fn first_of(before: Option<u32>, thread: u32, agrees: bool) -> Option<u32>
+    ensures { result ≡ first_of before thread agrees }
+{
     if agrees { before } else { before.or(Some(thread)) }
 }
 
 /// Whether as many segments are stated to be recycled as the threads have lost, and as their queue had
 /// no spare buffers for.
-fn recycles(audit: &Audit) -> bool {
+fn recycles(audit: &Audit) -> bool
+    requires { NamesThreads (statement_of audit.now) }
+    ensures { IsTrue result ↔ RecycledAgrees (statement_of audit.now) }
+{
     let lost: u64 = audit
         .entries
         .iter()

@@ -1,25 +1,22 @@
 //! The parts of a row.
 
-ghost use Rattle.std.specs.Prelude.{◌≡◌, ◌<◌, ◌≤◌, ◌↔◌, ◌^◌, ◌++◌, ℕ, List, [], Some, length, decimal, IfSome, IsSome, IsTrue, OnSome};
+ghost use Rattle.std.specs.Prelude.{◌≡◌, ◌<◌, ◌≤◌, ◌↔◌, ◌^◌, ◌∷◌, ◌++◌, ℕ, List, [], Some, length, decimal, IfNone, IfSome, IsSome, IsTrue, OnSome};
+ghost use Rattle.handler_word.specs.declared.mark.Mark.{Mark};
+ghost use Rattle.handler_word.specs.Runs.{mark_byte};
 ghost use Rattle.machine_step.specs.declared.end.End.{End};
 ghost use Rattle.machine_step.specs.Texts.{end_text};
-ghost use Rattle.audit_check.specs.private.Parts.{BeginsNoDigit, field_text};
+ghost use Rattle.audit_check.specs.private.Parts.{BeginsNoDigit, field_text, guessed_end, stack_end};
 
+use handler_word::Mark;
 use itoa::Buffer;
 use machine_step::{End, end_name};
 use std::marker::Model;
 use text_lines::{a_written_number_is_itself, parse_digits};
 
-/// The ends of threads. The name of none of them begins another one's.
-const ENDS: [End; 7] = [
-    End::Returned,
-    End::Fuel,
-    End::Passings,
-    End::OutputFull,
-    End::StackFull,
-    End::StackEmpty,
-    End::BadTarget,
-];
+/// The place in the names of `stack-full` and `stack-empty` at which they differ, and the byte of the
+/// first there.
+const STACK_DIFFERS: usize = 6;
+const FULL: u8 = b'f';
 
 /// A row that is being read. In contracts it is the bytes that are left of it.
 #[derive(Drop)]
@@ -53,6 +50,7 @@ impl<'a> Row<'a> {
         ensures found { OnSome result (self.old ≡ word.now ++ self.new) }
         ensures only { (rest : List ℕ) → self.old ≡ word.now ++ rest
             → IsSome result × (self.new ≡ rest) }
+        ensures same { IfNone result (self.new ≡ self.old) }
     {
         self.left = self.left.strip_prefix(word)?;
         Some(())
@@ -95,12 +93,62 @@ impl<'a> Row<'a> {
         ensures only { (end : End) (rest : List ℕ) → self.old ≡ end_text end ++ rest
             → (result ≡ Some end) × (self.new ≡ rest) }
     {
-        for end in ENDS {
-            if self.word(end_name(end)).is_some() {
-                return Some(end);
-            }
+        let end = self.guessed_end()?;
+        self.word(end_name(end))?;
+        Some(end)
+    }
+
+    /// The end whose name the row may go on with, by the bytes at which the names differ.
+    fn guessed_end(&self) -> Option<End>
+        ensures { result ≡ guessed_end self.now }
+    {
+        match *self.left.first()? {
+            b'r' => Some(End::Returned),
+            b'f' => Some(End::Fuel),
+            b'p' => Some(End::Passings),
+            b'o' => Some(End::OutputFull),
+            b's' => Some(self.stack_end()),
+            b'b' => Some(End::BadTarget),
+            _ => None,
         }
-        None
+    }
+
+    /// Which of the ends of a stack the row may go on with.
+    fn stack_end(&self) -> End
+        ensures { result ≡ stack_end self.now }
+    {
+        if self.left.get(STACK_DIFFERS) == Some(&FULL) {
+            End::StackFull
+        } else {
+            End::StackEmpty
+        }
+    }
+
+    /// Takes the character of a mark.
+    pub(crate) fn symbol(&mut self) -> Option<Mark>
+        ensures found { IfSome result (λ mark. self.old ≡ mark_byte mark ∷ self.new) }
+        ensures only { (mark : Mark) (rest : List ℕ) → self.old ≡ mark_byte mark ∷ rest
+            → (result ≡ Some mark) × (self.new ≡ rest) }
+    {
+        let (byte, left) = self.left.split_first()?;
+        let mark = mark_named(*byte)?;
+        self.left = left;
+        Some(mark)
+    }
+}
+
+/// The mark of a character.
+fn mark_named(byte: u8) -> Option<Mark>
+    ensures found { IfSome result (λ mark. byte ≡ mark_byte mark) }
+    ensures only { (mark : Mark) → byte ≡ mark_byte mark → result ≡ Some mark }
+{
+    match byte {
+        b'.' => Some(Mark::Skipped),
+        b'n' => Some(Mark::NoHandler),
+        b'f' => Some(Mark::NotLogging),
+        b'+' => Some(Mark::Recorded),
+        b'a' => Some(Mark::RecordedArg),
+        _ => None,
     }
 }
 

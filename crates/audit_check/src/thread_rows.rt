@@ -1,12 +1,12 @@
 //! The two rows of a thread, and the last row of an audit.
 
 ghost use Rattle.std.specs.Prelude.{◌≡◌, ◌≢◌, ◌<◌, ◌≤◌, ◌+◌, ◌^◌, ◌∷◌, ◌++◌, ℕ, List, [], Some, None, length, IfSome, IsSome, OnSome, codes, decimal, replicate};
-ghost use Rattle.machine_step.specs.Texts.{end_text, line_feed, marks_line};
+ghost use Rattle.machine_step.specs.Texts.{marks_line};
 ghost use Rattle.handler_word.specs.declared.mark.Mark.{Mark};
 ghost use Rattle.handler_word.specs.Runs.{run_text};
 ghost use Rattle.trace_flush.specs.Audit.{recycled_line};
 ghost use Rattle.audit_check.specs.private.Lines.{counts_row};
-ghost use Rattle.audit_check.specs.private.Marks.{AreRuns, TakesRun, TakesRuns, marks_of_runs, spaced, symbol_text};
+ghost use Rattle.audit_check.specs.private.Marks.{AreRuns, TakesRun, TakesRuns, marks_of_runs, spaced};
 ghost use Rattle.audit_check.specs.private.Parts.{BeginsNoDigit, HasShortCounts, counts_part};
 ghost use Rattle.audit_check.specs.Statements.{most_marks};
 
@@ -16,15 +16,6 @@ use machine_step::End;
 
 /// The most marks of a thread.
 pub(crate) const MOST_MARKS: u32 = 1_048_576;
-
-/// The marks.
-const MARKS: [Mark; 5] = [
-    Mark::Skipped,
-    Mark::NoHandler,
-    Mark::NotLogging,
-    Mark::Recorded,
-    Mark::RecordedArg,
-];
 
 /// What the first row of a thread says.
 #[derive(Clone, Copy)]
@@ -113,7 +104,7 @@ fn take_run(row: &mut Row, marks: &mut Marks, before: Option<Mark>) -> Option<Ma
         → row.old ≡ run_text (mark, count) ++ rest
         → (result ≡ Some mark) × (row.new ≡ rest) × (marks.new.items ≡ marks.old.items ++ replicate count mark) }
 {
-    let mark = take_mark(row)?;
+    let mark = row.symbol()?;
     if before == Some(mark) {
         return None;
     }
@@ -133,33 +124,6 @@ fn add_run(marks: &mut Marks, mark: Mark, count: u32)
 {
     for _mark in 0..count {
         marks.add(mark);
-    }
-}
-
-/// Takes the character of a mark.
-fn take_mark(row: &mut Row) -> Option<Mark>
-    ensures found { IfSome result (λ mark. row.old ≡ symbol_text mark ++ row.new) }
-    ensures only { (mark : Mark) (rest : List ℕ) → row.old ≡ symbol_text mark ++ rest
-        → (result ≡ Some mark) × (row.new ≡ rest) }
-{
-    for mark in MARKS {
-        if row.word(symbol(mark)).is_some() {
-            return Some(mark);
-        }
-    }
-    None
-}
-
-/// The character of a mark.
-fn symbol(mark: Mark) -> &'static [u8]
-    ensures { result.now ≡ symbol_text mark }
-{
-    match mark {
-        Mark::Skipped => b".",
-        Mark::NoHandler => b"n",
-        Mark::NotLogging => b"f",
-        Mark::Recorded => b"+",
-        Mark::RecordedArg => b"a",
     }
 }
 

@@ -2,11 +2,7 @@
 use Rattle.std.specs.Prelude.{◌≡◌, ◌≢◌, ◌<◌, ℕ, List, [], ◌∷◌, ◌++◌, Option, Some, None, replicate}
 use Rattle.std.specs.List.{flat_map}
 use Rattle.handler_word.specs.declared.mark.Mark.{Mark}
-use Rattle.handler_word.specs.Runs.{mark_byte, run_text}
-
--- the character of a mark
-abbrev pub symbol_text : Mark → List ℕ
-symbol_text mark = mark_byte mark ∷ []
+use Rattle.handler_word.specs.Runs.{run_text}
 
 -- the marks of runs
 abbrev pub marks_of_runs : List (Mark × ℕ) → List Mark
