@@ -16,6 +16,7 @@ pub mod StagesLeft
 pub mod LoadFacts
 pub mod GiveClauses
 pub mod PassFacts
+pub mod Limited
 pub mod Beginning
 pub mod Runs
 pub mod SomeEnd
