@@ -14,7 +14,7 @@ least_same A B None into back never = λ n b. never n (back n b)
 least_same A B (Some p) into back (holds, least) = (into p holds, λ n b. least n (back n b))
 
 module _ (code : ℕ → ℕ → ℕ) (bound : ℕ) (mark : Mark) where
-  abbrev To : Tree → ℕ → ℕ → Type 0
+  abbrev pub To : Tree → ℕ → ℕ → Type 0
   To tree place end = Reaches code bound mark tree place end
 
   -- no way leads through the tree to the mark
@@ -35,14 +35,17 @@ module _ (code : ℕ → ℕ → ℕ) (bound : ℕ) (mark : Mark) where
       least_same (To tree place) (To (Node word recording (λ _. tree)) place) x (λ end way. (place, low, within, way))
       (λ end (at, from, high, way). reaches_earlier code bound mark tree place at end from way) found
 
+  pub any_dead : (word : ℕ) (recording : Mark) (tree : Tree) → IsDead tree → IsDead (Node word recording (λ _. tree))
+  any_dead word recording tree dead place end (at, from, high, way) = dead at end way
+
   -- ---- a word that leads on by a test of its value
 
   module _ (word : ℕ) (recording : Mark) (test : ℕ → Bool) (on off : Tree) (next : ℕ → Tree)
       (is_on : (value : ℕ) → test value ≡ true → next value ≡ on) (is_off : (value : ℕ) → test value ≡ false → next value ≡ off) where
-    abbrev At : Bool → ℕ → ℕ → Type 0
+    abbrev pub At : Bool → ℕ → ℕ → Type 0
     At wants from at = IsMet (λ place. test (code place word)) wants from bound at
 
-    abbrev side : Bool → Tree
+    abbrev pub side : Bool → Tree
     side true = on
     side false = off
 
@@ -51,14 +54,14 @@ module _ (code : ℕ → ℕ → ℕ) (bound : ℕ) (mark : Mark) where
     leads false at e = is_off (code at word) e
 
     -- a way on one of the sides
-    abbrev Way : Bool → ℕ → ℕ → Type 0
+    abbrev pub Way : Bool → ℕ → ℕ → Type 0
     Way wants place end = (at : ℕ) × At wants place at × To (side wants) at end
 
-    into : (wants : Bool) (place end : ℕ) → Way wants place end → To (Node word recording next) place end
+    pub into : (wants : Bool) (place end : ℕ) → Way wants place end → To (Node word recording next) place end
     into wants place end (at, met, way) =
         (at, met.low, met.high, subst (λ (t : Tree). To t at end) (sym (leads wants at met.is)) way)
 
-    out : (place end : ℕ) → To (Node word recording next) place end → Way true place end ⊎ Way false place end
+    pub out : (place end : ℕ) → To (Node word recording next) place end → Way true place end ⊎ Way false place end
     out place end (at, low, high, way) = by (test (code at word)) refl
       where
         by : (b : Bool) → test (code at word) ≡ b → Way true place end ⊎ Way false place end
@@ -86,6 +89,13 @@ module _ (code : ℕ → ℕ → ℕ) (bound : ℕ) (mark : Mark) where
         → IsLeast (To (Node word recording next) place) None
     side_never wants place dead never = λ end way.
         let (there, met, way') = only_side wants dead place end way in never there met
+
+    -- it leads to the mark itself
+    pub side_leaf : (wants : Bool) (place : ℕ) (x : Option ℕ) → side wants ≡ Leaf mark → IsDead (side (not wants)) → IsLeast (At wants place) x
+        → IsLeast (To (Node word recording next) place) x
+    side_leaf wants place None is dead never = side_never wants place dead never
+    side_leaf wants place (Some at) is dead found =
+        side_then wants place at (Some at) dead found (subst (λ (t : Tree). IsLeast (To t at) (Some at)) (sym is) (leaf at mark refl))
 
     -- neither side leads to it
     pub both_dead : IsDead on → IsDead off → IsDead (Node word recording next)

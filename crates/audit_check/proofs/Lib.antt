@@ -3,6 +3,7 @@ pub mod Digits
 pub mod FollowWays
 pub mod LeastEnds
 pub mod LeastMarks
+pub mod OneVerdict
 pub mod Owning
 pub mod Refusals
 pub mod RowLines
