@@ -87,3 +87,14 @@ module _ (thread passing : ℕ) where
       let past : awaits_passing thread passing (Await other count) ≡ false = none 0 first (omega arith) refl in
       let later = no_bound (place + 1) steps (earlier (length (awaits_from (place + 1) steps)) first (awaits_from (place + 1) steps) none) in
       let skip = position_passed steps (Await other count) past in omega arith
+
+  -- no bound is after the whole script
+  pub bound_within : (steps : List Micro) → position_or_len (awaits_passing thread passing) steps ≤ length steps
+  bound_within [] = omega arith
+  bound_within (step ∷ steps) = by (awaits_passing thread passing step) refl
+    where
+      by : (b : Bool) → awaits_passing thread passing step ≡ b → position_or_len (awaits_passing thread passing) (step ∷ steps) ≤ length (step ∷ steps)
+      by true met = let at = position_met steps step met in omega arith
+      by false none =
+          let skip = position_passed steps step none in
+          let rest = bound_within steps in omega arith

@@ -3,6 +3,7 @@
 ghost use Rattle.std.specs.Prelude.{◌≡◌, ◌<◌, ◌≤◌, ◌+◌, ◌^◌, ◌∷◌, ◌++◌, ◌↔◌, [], ℕ, List, IfOk, IsTrue, true, if◌then◌else◌, length, nat_le};
 ghost use Rattle.fdr_record.specs.declared.event.Event.{Event};
 ghost use Rattle.fdr_record.specs.Recordable.{IsRecordable};
+ghost use Rattle.fdr_buffer.specs.declared.buffer.TheConstants.{LEAST_SIZE};
 ghost use Rattle.fdr_buffer.specs.Segments.{segments};
 ghost use Rattle.fdr_file.specs.Files.{block_bytes, header_bytes};
 ghost use Rattle.machine_step.specs.declared.setup.Setup.{Setup};
@@ -10,7 +11,7 @@ ghost use Rattle.machine_step.specs.Setups.{IsSetup};
 ghost use Rattle.trace_flush.specs.Flush.{run_header};
 ghost use Rattle.audit_check.specs.private.Blocks.{HasCompared, HasNoted, kept_bytes, whole_of};
 
-use fdr_buffer::{Buffer, a_segment_grows, segments_hold_all};
+use fdr_buffer::{Buffer, a_segment_grows, one_event_fits};
 use fdr_file::write_file;
 use fdr_record::{Event, METADATA_BYTES, Rec, put_rec};
 use machine_step::Setup;
@@ -133,7 +134,7 @@ impl Recording {
             trace.new }
     {
         a_segment_grows();
-        segments_hold_all();
+        one_event_fits();
         if !self.buffer.begun() {
             self.begin();
         } else if !self.buffer.fits(event) {
@@ -164,7 +165,8 @@ impl Recording {
 
     /// Begins the next segment.
     fn begin(&mut self)
-        ensures { self.new ≡ record self.old { buffer = record {
+        ensures least { LEAST_SIZE ≤ self.old.buffer.size }
+        ensures begun { self.new ≡ record self.old { buffer = record {
           size = self.old.buffer.size;
           begun = true;
           thread = self.old.thread;

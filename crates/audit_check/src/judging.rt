@@ -10,7 +10,7 @@ ghost use Rattle.audit_check.specs.private.Judging.{IsReady};
 ghost use Rattle.audit_check.specs.private.Switches.{IsCourseOf};
 ghost use Rattle.audit_check.specs.private.Walks.{HasWalked, IsFound, IsWayOf, KeepsLast, Way, first_of, mark_or_skipped};
 ghost use Rattle.audit_check.specs.Rows.{RecycledAgrees};
-ghost use Rattle.audit_check.specs.Statements.{NamesThreads, said_by, statement_of};
+ghost use Rattle.audit_check.specs.Statements.{NamesThreads, most_marks, said_by, statement_of};
 ghost use Rattle.audit_check.specs.Verdicts.{IsJudged};
 
 use crate::audit::{Audit, AuditEntry};
@@ -179,7 +179,10 @@ fn walk(
     requires image { follower.old.image.now ≡ cpu.old.program }
     requires passing { follower.old.passing ≡ length cpu.old.marks }
     requires whole { recording.old.whole ≤ length cpu.old.marks }
+    requires few { length cpu.old.marks ≤ most_marks }
+    requires limit { cpu.old.limits.passings ≤ most_marks }
     ensures whole { recording.new.whole ≤ result.passings }
+    ensures few { result.passings ≤ most_marks }
     ensures end { (bytes : List ℕ) (passed : List Passing) (end : How) (last : State)
         → IsAccepted bytes cpu.old.program
         → PlainRun cpu.old.program cpu.old.limits cpu.old.thread passed end last

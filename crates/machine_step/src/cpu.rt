@@ -195,6 +195,7 @@ impl<'a> Cpu<'a> {
     pub fn sled(&self) -> u32
         requires { IsGate self.now.want }
         ensures within { result < length self.now.program.sleds }
+        ensures left { length self.now.marks < self.now.limits.passings }
         ensures passing { (passed : List Passing) (end : End) (last : State)
             → PlainRun self.now.program self.now.limits self.now.thread passed end last
             → (passing : Passing) × (slice_get passed (length self.now.marks) ≡ Some passing)

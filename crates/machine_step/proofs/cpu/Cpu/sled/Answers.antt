@@ -1,10 +1,11 @@
-use Rattle.std.proofs.Common.{◌≡◌, ◌<◌, List, length, subst, Some}
+use Rattle.std.proofs.Common.{◌≡◌, ◌<◌, List, length, subst, Some, arith}
 use Rattle.std.specs.Prelude.{slice_get}
 use Rattle.machine_step.specs.declared.end.End.{End}
 use Rattle.machine_step.specs.PlainStep.{Passing, PlainRun, State}
 use Rattle.machine_step.specs.Traced.{Traced}
 use Rattle.machine_step.proofs.Opening.{gate_at, sled_within}
 use Rattle.machine_step.proofs.PassFacts.{passing_here}
+use Rattle.machine_step.proofs.Tracing.{before_of}
 use Rattle.machine_step.proofs.cpu.Cpu.sled.Goals as goal
 
 pub returns-in-Gate-clause-within : goal.returns-in-Gate-clause-within
@@ -12,6 +13,12 @@ returns-in-Gate-clause-within c =
     subst (λ (t : Traced). c.in-Gate.sled < length t.program.sleds) c.self.view_is
     (sled_within c.self.inside c.self.invariant c.in-Gate.place c.in-Gate.sled
     (gate_at c.self.inside c.self.invariant c.in-Gate.place c.in-Gate.sled c.in-Gate.is))
+
+pub returns-in-Gate-clause-left : goal.returns-in-Gate-clause-left
+returns-in-Gate-clause-left c =
+    let before = before_of c.self.inside c.self.invariant c.in-Gate.place c.in-Gate.sled
+    (gate_at c.self.inside c.self.invariant c.in-Gate.place c.in-Gate.sled c.in-Gate.is) in
+    subst (λ (t : Traced). length t.marks < t.limits.passings) c.self.view_is (omega (arith, before.left, c.self.invariant.made))
 
 pub returns-in-Gate-clause-passing : goal.returns-in-Gate-clause-passing
 returns-in-Gate-clause-passing c =
