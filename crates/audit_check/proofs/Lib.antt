@@ -3,6 +3,7 @@ pub mod Comparing
 pub mod Digits
 pub mod FollowWays
 pub mod Judged
+pub mod Lawful
 pub mod LeastEnds
 pub mod LeastMarks
 pub mod OneVerdict

@@ -30,7 +30,7 @@ pub record AreOff (s : Switches) : Type 0 where
   pub arg_handler : IsOff s.arg_handler
   pub releases : All IsOff s.releases.items
 
-each : {X : Type 0} (P : X → Type 0) (xs : List X) (i : ℕ) (x : X) → All P xs → slice_get xs i ≡ Some x → P x
+pub each : {X : Type 0} (P : X → Type 0) (xs : List X) (i : ℕ) (x : X) → All P xs → slice_get xs i ≡ Some x → P x
 each P xs i x all at = subst P (get_or_from_slice_get xs i x x at) (All-get_or P xs i x (slice_get_within xs i x at) all)
 
 unpatched_off : (kind : SledKind) → is_patched (unpatched_head kind) ≡ false

@@ -19,9 +19,10 @@ use crate::follower::Follower;
 use crate::switches::Course;
 use crate::verdict::Verdict;
 use handler_word::{Mark, Marks};
-use machine_step::{Cpu, End, Setup, Steps, Want, one_end};
+use machine_step::{Cpu, End, Setup, Steps, Want, one_end, some_end};
 use patch_script::Script;
 use std::alloc::Global;
+use traced_run::passings_fit;
 use xray_image::Image;
 use xray_io::NoMemory;
 
@@ -47,7 +48,8 @@ pub fn check_audit(
     requires names { NamesThreads (statement_of audit.now) }
     ensures { IfOk result (IsJudged image.now (commands_of script.now.lines) (statement_of audit.now) trace.now) }
 {
-    one_end();
+    image.each_was_accepted();
+    some_end();
     let steps = Steps::new(alloc, image)?;
     let course = Course::new(alloc, image, script, audit.setup.threads)?;
     let judge = Judge {
@@ -174,6 +176,7 @@ fn walk(
     recording: &mut Recording,
     trace: &mut TraceLeft,
 ) -> Walked
+    requires accepted { (bytes : List ℕ) × IsAccepted bytes cpu.old.program }
     requires between { IsLoad cpu.old.want → ⊥ }
     requires ready { IsReady follower.old }
     requires image { follower.old.image.now ≡ cpu.old.program }
@@ -190,9 +193,12 @@ fn walk(
     ensures walked { (bytes : List ℕ) (way : Way) (passed : List Passing) (end : How) (last : State)
         → IsAccepted bytes way.program → IsWayOf way cpu.old marks.now.items
         → PlainRun way.program way.setup.limits way.thread passed end last → cpu.old.marks ≡ []
-        → HasWalked way [] follower.old recording.old trace.old
-        → HasWalked way passed follower.new recording.new trace.new }
+        → HasWalked way passed 0 follower.old recording.old trace.old
+        → HasWalked way passed (length passed) follower.new recording.new trace.new }
 {
+    one_end();
+    some_end();
+    passings_fit();
     'passings: loop {
         match cpu.want() {
             Want::Gate(passing) => {

@@ -14,7 +14,7 @@ ghost use Rattle.audit_check.specs.Reading.{ReadsAs};
 ghost use Rattle.audit_check.specs.Statements.{MayState, Statement, run_statement, text_of};
 ghost use Rattle.audit_check.specs.Verdicts.{IsJudged};
 
-use machine_step::one_end;
+use machine_step::{one_end, passings_are_limited};
 use trace_flush::audit_tells_its_run;
 
 /// Bytes read as one statement, or are refused at one line.
@@ -36,17 +36,18 @@ pub fn one_verdict()
     one_end();
 }
 
-/// The audit of a run of an accepted image is read as what the run states (`read`), and the verdict on
-/// it and on the run's trace is `Yes` if the run is lawful (`yes`): the marks of its threads follow the
-/// script, and as many segments are lost as the threads' queue had no spare buffers for. This is what a
-/// replay and a run on real threads promise.
+/// The verdict on the audit and the trace of a lawful run is `Yes` (`yes`): the marks of its threads
+/// follow the script, and as many segments are lost as the threads' queue had no spare buffers for. This
+/// is what a replay and a run on real threads promise. Its audit is read as what the run states (`read`).
 pub fn a_lawful_run_is_accepted()
-    ensures read { (bytes : List ℕ) (program : Program) (setup : Setup) (runs : List ThreadRun)
-        → IsAccepted bytes program → IsSetup setup → IsRun program setup runs
+    ensures read { (program : Program) (script : List Command) (setup : Setup) (runs : List ThreadRun)
+        → IsSetup setup → IsRun program setup runs → AllMarksFollow program setup.threads script runs
         → AreLost setup.size (spare_of setup) runs
         → MayState (run_statement setup runs) × (audit_of_run setup runs ≡ text_of (run_statement setup runs)) }
     ensures yes { (program : Program) (script : List Command) (setup : Setup) (runs : List ThreadRun)
         → IsRun program setup runs → AllMarksFollow program setup.threads script runs
         → AreLost setup.size (spare_of setup) runs
         → IsJudged program script (run_statement setup runs) (trace_bytes setup runs) Yes }
-{}
+{
+    passings_are_limited();
+}

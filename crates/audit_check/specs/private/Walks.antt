@@ -1,5 +1,5 @@
 -- A thread that is taken through its plain run with the marks of an audit.
-use Rattle.std.specs.Prelude.{◌≡◌, ◌<◌, ◌++◌, ◌↔◌, ℕ, zero, suc, Bool, true, false, List, [], ◌∷◌, Option, Some, None, IsTrue, length, slice_get, unwrap_or}
+use Rattle.std.specs.Prelude.{◌≡◌, ◌<◌, ◌++◌, ◌↔◌, ℕ, zero, suc, Bool, true, false, List, [], ◌∷◌, Option, Some, None, IsTrue, length, slice_get, take, unwrap_or}
 use Rattle.xray_image.specs.Program.{Program}
 use Rattle.fdr_record.specs.declared.event.Event.{Event}
 use Rattle.handler_word.specs.declared.mark.Mark.{Mark}
@@ -51,13 +51,13 @@ pub record IsWayOf (way : Way) (t : Traced) (marks : List Mark) : Type 0 where
   pub thread : t.thread ≡ way.thread
   pub marks_are : way.marks ≡ marks
 
--- These passings of a thread were made: their marks were judged, the events of these marks were noted, and the trace was
--- compared with all segments that are whole.
-pub record HasWalked (way : Way) (passed : List Passing) (follower : Follower) (recording : Recording) (left : TraceLeft) : Type 0 where
-  pub judged : HasJudged way.program way.setup.threads way.script follower (sleds_passed passed) (first_marks (length passed) way.marks)
-  pub noted : HasNoted way.setup way.thread way.lost (recorded passed (first_marks (length passed) way.marks)) recording
+-- The first passings of a plain run, as many as `made` says, were made: their marks were judged, the events of these marks
+-- were noted, and the trace was compared with all segments that are whole.
+pub record HasWalked (way : Way) (passed : List Passing) (made : ℕ) (follower : Follower) (recording : Recording) (left : TraceLeft) : Type 0 where
+  pub judged : HasJudged way.program way.setup.threads way.script follower (sleds_passed (take made passed)) (first_marks made way.marks)
+  pub noted : HasNoted way.setup way.thread way.lost (recorded passed (first_marks made way.marks)) recording
   pub compared : HasCompared way.trace (way.before
-      ++ kept_bytes way.setup way.lost way.thread (whole_of way.setup.size (recorded passed (first_marks (length passed) way.marks)))) left
+      ++ kept_bytes way.setup way.lost way.thread (whole_of way.setup.size (recorded passed (first_marks made way.marks)))) left
 
 -- ---- rows
 
