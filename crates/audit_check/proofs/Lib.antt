@@ -18,5 +18,6 @@ pub mod Storing
 pub mod Switching
 pub mod TreeLoads
 pub mod TurnLemmas
+pub mod Walked
 pub mod Walking
 pub mod WaysFollow
