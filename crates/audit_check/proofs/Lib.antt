@@ -1,5 +1,6 @@
 pub mod Bounding
 pub mod Comparing
+pub mod Coursing
 pub mod Digits
 pub mod FollowWays
 pub mod Judged
@@ -12,6 +13,8 @@ pub mod PassingEnds
 pub mod Refusals
 pub mod RowLines
 pub mod RowTexts
+pub mod RunTexts
+pub mod Running
 pub mod Segmenting
 pub mod Starting
 pub mod Storing
