@@ -42,7 +42,7 @@ module _ (program : Program) (threads : ℕ) (script : List Command) where
   code = code_at program threads script
 
   -- the marks of a thread of this number follow the script up to a place
-  abbrev Follow : ℕ → List ℕ → List Mark → ℕ → Type 0
+  abbrev pub Follow : ℕ → List ℕ → List Mark → ℕ → Type 0
   Follow thread sleds marks place =
       MarksFollow program threads code (start_of program threads script) (bound_of program threads script thread) thread (hold_of thread script) sleds marks place
 

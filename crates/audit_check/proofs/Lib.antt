@@ -3,6 +3,7 @@ pub mod Comparing
 pub mod Coursing
 pub mod Digits
 pub mod FollowWays
+pub mod Found
 pub mod Judged
 pub mod Lawful
 pub mod LeastEnds

@@ -43,7 +43,7 @@ sleds_more (first ∷ passed) (suc n) p found = ap (λ l. first.sled ∷ l) (sle
 
 -- ---- one more passing
 
-module _ (way : Way) (passed : List Passing) (n : ℕ) (p : Passing) (found : slice_get passed n ≡ Some p) (old new : Follower)
+module _ (way : Way) (passed : List Passing) (n : ℕ) (p : Passing) (found : slice_get passed n ≡ Some p) (old new : Follower) (thread : new.thread ≡ old.thread)
     (judged : HasJudged way.program way.setup.threads way.script old (sleds_passed (take n passed)) (first_marks n way.marks)
     → HasJudged way.program way.setup.threads way.script new (sleds_passed (take n passed) ++ p.sled ∷ [])
     (first_marks n way.marks ++ mark_or_skipped way.marks n ∷ [])) where
@@ -62,6 +62,7 @@ module _ (way : Way) (passed : List Passing) (n : ℕ) (p : Passing) (found : sl
   walked_none r t none walked =
       let same : events n ≡ events (n + 1) = sym (none ∙ append-nil (events n)) in
       record {
+        thread_is = thread ∙ walked.thread_is;
         judged = next_judged walked.judged;
         noted = subst (λ (es : List Event). HasNoted way.setup way.thread way.lost es r) same walked.noted;
         compared = subst (λ (es : List Event). HasCompared way.trace (way.before ++ kept_bytes way.setup way.lost way.thread (whole_of way.setup.size es)) t)
@@ -77,6 +78,7 @@ module _ (way : Way) (passed : List Passing) (n : ℕ) (p : Passing) (found : sl
       → HasWalked way passed n old r t → HasWalked way passed (n + 1) new r' t'
   walked_some r r' t t' event more notes compares walked =
       record {
+        thread_is = thread ∙ walked.thread_is;
         judged = next_judged walked.judged;
         noted = subst (λ (es : List Event). HasNoted way.setup way.thread way.lost es r') (sym more)
             (notes way.setup way.thread way.lost (events n) walked.noted);

@@ -107,7 +107,8 @@ impl Recording {
         lost: u32,
     ) -> Result<Recording, NoMemory>
         requires { IsSetup setup.now }
-        ensures { IfOk result (HasNoted setup.now thread lost []) }
+        ensures whole { IfOk result (λ recording. recording.whole ≡ 0) }
+        ensures noted { IfOk result (HasNoted setup.now thread lost []) }
     {
         Ok(Recording {
             buffer: Buffer::new(alloc, setup.size)?,

@@ -80,7 +80,8 @@ impl<'a> Follower<'a> {
         thread: u32,
     ) -> Result<Follower<'a>, NoMemory>
         requires { (1 ≤ thread) × (thread ≤ script.now.threads) }
-        ensures { IfOk result (λ follower. (program : Program) (threads : ℕ) → image.now ≡ program
+        ensures thread { IfOk result (λ follower. follower.thread ≡ thread) }
+        ensures judged { IfOk result (λ follower. (program : Program) (threads : ℕ) → image.now ≡ program
             → script.now.threads ≡ threads → IsCourseOf program threads (commands_of script.now.lines) course.now
             → HasJudged program threads (commands_of script.now.lines) follower [] []) }
     {
@@ -118,6 +119,7 @@ impl<'a> Follower<'a> {
         ensures ready { IsReady self.new }
         ensures passing { self.new.passing ≡ self.old.passing + 1 }
         ensures image { self.new.image ≡ self.old.image }
+        ensures thread { self.new.thread ≡ self.old.thread }
         ensures judged { (program : Program) (threads : ℕ) (script : List Command) (sleds : List ℕ)
             (marks : List Mark) → HasJudged program threads script self.old sleds marks
             → HasJudged program threads script self.new (sleds ++ sled ∷ []) (marks ++ mark ∷ []) }

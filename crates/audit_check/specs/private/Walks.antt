@@ -54,6 +54,7 @@ pub record IsWayOf (way : Way) (t : Traced) (marks : List Mark) : Type 0 where
 -- The first passings of a plain run, as many as `made` says, were made: their marks were judged, the events of these marks
 -- were noted, and the trace was compared with all segments that are whole.
 pub record HasWalked (way : Way) (passed : List Passing) (made : ℕ) (follower : Follower) (recording : Recording) (left : TraceLeft) : Type 0 where
+  pub thread_is : follower.thread ≡ way.thread
   pub judged : HasJudged way.program way.setup.threads way.script follower (sleds_passed (take made passed)) (first_marks made way.marks)
   pub noted : HasNoted way.setup way.thread way.lost (recorded passed (first_marks made way.marks)) recording
   pub compared : HasCompared way.trace (way.before
