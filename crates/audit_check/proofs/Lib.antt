@@ -2,6 +2,7 @@ pub mod Bounding
 pub mod Comparing
 pub mod Coursing
 pub mod Digits
+pub mod Firsts
 pub mod FollowWays
 pub mod Found
 pub mod Judged
@@ -17,6 +18,7 @@ pub mod RowTexts
 pub mod RunTexts
 pub mod Running
 pub mod Segmenting
+pub mod SomeRuns
 pub mod Starting
 pub mod Storing
 pub mod Switching

@@ -8,7 +8,7 @@ ghost use Rattle.machine_step.specs.{PlainStep.{Passing, PlainRun, State}, Setup
 ghost use Rattle.traced_run.specs.Runs.{ThreadRun};
 ghost use Rattle.audit_check.specs.private.Judging.{IsReady};
 ghost use Rattle.audit_check.specs.private.Switches.{IsCourseOf};
-ghost use Rattle.audit_check.specs.private.Walks.{HasWalked, IsFound, IsWayOf, KeepsLast, Way, first_of, mark_or_skipped};
+ghost use Rattle.audit_check.specs.private.Walks.{HasWalked, IsFound, IsWayOf, KeepsLast, Way, first_of, mark_or_skipped, verdict_by};
 ghost use Rattle.audit_check.specs.Rows.{RecycledAgrees};
 ghost use Rattle.audit_check.specs.Statements.{NamesThreads, most_marks, said_by, statement_of};
 ghost use Rattle.audit_check.specs.Verdicts.{IsJudged};
@@ -64,7 +64,7 @@ pub fn check_audit(
         let agreement = judge.thread(alloc, entry, &mut trace)?;
         first.note(entry.thread, agreement);
     }
-    Ok(first.verdict(audit, &trace))
+    Ok(first.verdict(recycles(audit), trace.is_same()))
 }
 
 /// What threads are judged by.
@@ -254,17 +254,19 @@ impl FirstThreads {
         self.counts = first_of(self.counts, thread, agreement.counts);
     }
 
-    /// The verdict, after all threads.
-    fn verdict(&self, audit: &Audit, trace: &TraceLeft) -> Verdict {
+    /// The verdict, after all threads. `recycled` and `same` say whether the rows of all threads agree.
+    fn verdict(&self, recycled: bool, same: bool) -> Verdict
+        ensures { result ≡ verdict_by self.now.ends self.now.marks self.now.counts recycled same }
+    {
         if let Some(thread) = self.ends {
             Verdict::Ends(thread)
         } else if let Some(thread) = self.marks {
             Verdict::Marks(thread)
         } else if let Some(thread) = self.counts {
             Verdict::Counts(thread)
-        } else if !recycles(audit) {
+        } else if !recycled {
             Verdict::Recycled
-        } else if !trace.is_same() {
+        } else if !same {
             Verdict::Trace
         } else {
             Verdict::Yes

@@ -17,6 +17,8 @@ use Rattle.audit_check.specs.declared.blocks.Recording.{Recording}
 use Rattle.audit_check.specs.declared.blocks.TraceLeft.{TraceLeft}
 use Rattle.audit_check.specs.declared.follower.Follower.{Follower}
 use Rattle.audit_check.specs.declared.judging.Agreement.{Agreement}
+use Rattle.audit_check.specs.declared.verdict.Verdict.{Verdict}
+use Rattle.audit_check.specs.declared.verdict.Verdict.TheVariants.{Yes, Ends, Marks, Counts, Recycled, Trace}
 use Rattle.audit_check.specs.private.Blocks.{HasCompared, HasNoted, kept_bytes, whole_of}
 use Rattle.audit_check.specs.private.Judging.{HasJudged}
 use Rattle.audit_check.specs.Rows.{CountsAgree, EndsAgree, MarksAgree}
@@ -88,3 +90,12 @@ first_of (Some first) thread false = Some first
 abbrev pub IsFirst : (threads : ℕ) → (ℕ → Type 0) → Option ℕ → Type 0
 IsFirst threads Row None = AllAgree threads Row
 IsFirst threads Row (Some thread) = FirstToDiffer threads Row thread
+
+-- the verdict of the first threads of which the rows of a thread don't agree, and of whether the other rows agree
+abbrev pub verdict_by : (ends marks counts : Option ℕ) → (recycled same : Bool) → Verdict
+verdict_by (Some thread) marks counts recycled same = Ends thread
+verdict_by None (Some thread) counts recycled same = Marks thread
+verdict_by None None (Some thread) recycled same = Counts thread
+verdict_by None None None false same = Recycled
+verdict_by None None None true false = Trace
+verdict_by None None None true true = Yes
