@@ -1,3 +1,4 @@
+pub mod Agreeing
 pub mod Bounding
 pub mod Comparing
 pub mod Coursing
