@@ -1,5 +1,5 @@
 -- The audit and the trace of a lawful run.
-use Rattle.std.proofs.Common.{◌≡◌, ℕ, zero, suc, ◌+◌, ◌-◌, ◌*◌, ◌<◌, ◌≤◌, ◌^◌, cond, Bool, true, false, List, [], ◌∷◌, ◌++◌, length, map, Some, refl, sym, ap, subst, ◌∙◌, arith}
+use Rattle.std.proofs.Common.{◌≡◌, ℕ, zero, suc, ◌+◌, ◌-◌, ◌*◌, ◌<◌, ◌≤◌, ◌^◌, cond, Bool, true, false, List, [], ◌∷◌, ◌++◌, length, map, Some, refl, sym, ap, subst, ◌∙◌, arith, suc-mul}
 use Rattle.std.specs.Prelude.{All, if◌then◌else◌, slice_get, sum_by}
 use Rattle.std.specs.List.{enumerate_from}
 use Rattle.std.proofs.lemmas.List.{length-map}
@@ -98,13 +98,13 @@ few_segments : (size : ℕ) (events : List Event) → length (segments size even
 few_segments size [] = omega arith
 few_segments size (event ∷ events) = cut_short size (event ∷ []) events
 
-sum_within : (g : ThreadRun → ℕ) (most : ℕ) (runs : List ThreadRun) → All (λ run. g run ≤ most) runs → sum_by g runs ≤ length runs * most
+pub sum_within : {X : Type 0} (g : X → ℕ) (most : ℕ) (xs : List X) → All (λ x. g x ≤ most) xs → sum_by g xs ≤ length xs * most
 sum_within g most [] all = omega arith
-sum_within g most (run ∷ runs) all =
-    let rest = sum_within g most runs (All-tail (λ r. g r ≤ most) run runs all) in
-    let here = All-head (λ r. g r ≤ most) run runs all in
-    let product : length (run ∷ runs) * most ≡ most + length runs * most = grind (arith, nat) in
-    omega (arith, rest, here, product, sum_by-cons g run runs)
+sum_within g most (x ∷ xs) all =
+    let rest = sum_within g most xs (All-tail (λ y. g y ≤ most) x xs all) in
+    let here = All-head (λ y. g y ≤ most) x xs all in
+    let product : length (x ∷ xs) * most ≡ length xs * most + most = suc-mul (length xs) most in
+    omega (arith, rest, here, product, sum_by-cons g x xs)
 
 -- ---- a lawful run
 

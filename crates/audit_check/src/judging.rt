@@ -58,13 +58,13 @@ pub fn check_audit(
         course: &course,
         setup: &audit.setup,
     };
-    let mut trace = TraceLeft::new(alloc, &audit.setup, trace)?;
+    let mut left = TraceLeft::new(alloc, &audit.setup, trace)?;
     let mut first = FirstThreads::none();
     for entry in &audit.entries {
-        let agreement = judge.thread(alloc, entry, &mut trace)?;
+        let agreement = judge.thread(alloc, entry, &mut left)?;
         first.note(entry.thread, agreement);
     }
-    Ok(first.verdict(recycles(audit), trace.is_same()))
+    Ok(first.verdict(recycles(audit), left.is_same()))
 }
 
 /// What threads are judged by.

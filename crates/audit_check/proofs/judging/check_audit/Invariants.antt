@@ -10,4 +10,4 @@ use Rattle.audit_check.proofs.judging.check_audit.Given as goal
 abbrev pub invariant-loop-entry : goal.invariant-loop-entry
 invariant-loop-entry l =
     (runs : List ThreadRun) → AreRunsOf l.image (statement_of l.audit) runs
-    → Judged l.image (commands_of l.script.lines) (statement_of l.audit) l.fn.trace runs l.entry-index l.first l.trace
+    → Judged l.image (commands_of l.script.lines) (statement_of l.audit) l.trace runs l.entry-index l.first l.left
