@@ -14,6 +14,7 @@ pub mod LeastMarks
 pub mod OneVerdict
 pub mod Owning
 pub mod PassingEnds
+pub mod Readings
 pub mod Refusals
 pub mod RowLines
 pub mod RowTexts
@@ -24,6 +25,7 @@ pub mod SomeRuns
 pub mod Starting
 pub mod Storing
 pub mod Switching
+pub mod TellingSetup
 pub mod TreeLoads
 pub mod TurnLemmas
 pub mod Walked

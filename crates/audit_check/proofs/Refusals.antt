@@ -29,7 +29,7 @@ unfolding join
 join-append [] ys = refl
 join-append (x ∷ xs) ys = ap (λ (l : List ℕ). x ++ l) (join-append xs ys) ∙ sym (append_assoc x (join xs) (join ys))
 
-setup_joined : (setup : Setup) → setup_lines setup ≡ format_row ++ setup_row setup
+pub setup_joined : (setup : Setup) → setup_lines setup ≡ format_row ++ setup_row setup
 setup_joined setup = simp append_assoc
 
 threads_joined : (threads : List ThreadAudit) → join (flat_map rows_of threads) ≡ flat_map thread_lines threads

@@ -68,3 +68,10 @@ get_set (z ∷ xs) (suc at) (suc i) x y is = elim (get_set xs at i x y is) [
   | inl here ↦ inl (ap suc here.0, here.1)
   | inr other ↦ inr ((λ (e : suc i ≡ suc at). other.0 (omega (arith, e))), other.1)
 ]
+
+-- an element of a list with one more at its end
+pub cases_last : {X : Type 0} (xs : List X) (i : ℕ) (x y : X) → slice_get (xs ++ y ∷ []) i ≡ Some x → (slice_get xs i ≡ Some x) ⊎ ((i ≡ length xs) × (x ≡ y))
+cases_last [] zero x y is = let same : x ≡ y = cc in inr (refl, same)
+cases_last [] (suc i) x y is = absurd cc
+cases_last (z ∷ xs) zero x y is = inl is
+cases_last (z ∷ xs) (suc i) x y is = elim (cases_last xs i x y is) [ inl old ↦ inl old | inr new ↦ inr (ap suc new.0, new.1) ]
