@@ -111,7 +111,7 @@ sum_within g most (x ∷ xs) all =
 module _ (program : Program) (script : List Command) (setup : Setup) (runs : List ThreadRun) (is_run : IsRun program setup runs)
     (follow : AllMarksFollow program setup.threads script runs) (lost : AreLost setup.size (spare_of setup) runs) where
   as_many : (i : ℕ) (run : ThreadRun) → slice_get runs i ≡ Some run → length run.marks ≡ length run.passed
-  as_many i run at = (follow i run at).each ∙ length-map (λ (p : Passing). p.sled) run.passed
+  as_many i run at = (follow i run at).each ∙ length-map run.passed (λ (p : Passing). p.sled)
 
   -- the row of a thread agrees if it does for what is said of its run
   row : (Agree : ℕ → ThreadAudit → ThreadRun → Type 0) → ((i : ℕ) (run : ThreadRun) → slice_get runs i ≡ Some run → Agree (i + 1) (audit_of setup (i + 1, run)) run)
@@ -207,7 +207,7 @@ module _ (program : Program) (script : List Command) (setup : Setup) (runs : Lis
     stated = record {
       names = record {
         setup_is = setup_is;
-        count = length-map (audit_of setup) (enumerate_from 1 runs) ∙ (length-enumerate_from 1 runs ∙ is_run.count);
+        count = length-map (enumerate_from 1 runs) (audit_of setup) ∙ (length-enumerate_from 1 runs ∙ is_run.count);
         numbered = λ i said at.
             let found = said_at setup 1 runs i said at in
             let number : 1 + i ≡ i + 1 = omega arith in ap (λ (s : ThreadAudit). s.thread) found.2 ∙ number;
