@@ -1,8 +1,9 @@
 //! A trace, compared with the segments of runs.
 
-ghost use Rattle.std.specs.Prelude.{◌≡◌, ◌<◌, ◌≤◌, ◌+◌, ◌^◌, ◌∷◌, ◌++◌, ◌↔◌, [], ℕ, List, IfOk, IsTrue, true, if◌then◌else◌, length, nat_le};
+ghost use Rattle.std.specs.Prelude.{◌≡◌, ◌<◌, ◌≤◌, ◌+◌, ◌^◌, ◌∷◌, ◌++◌, ◌↔◌, [], true, ℕ, List, IfOk, IsTrue, if◌then◌else◌, length, nat_le};
 ghost use Rattle.fdr_record.specs.declared.event.Event.{Event};
-ghost use Rattle.fdr_record.specs.Recordable.{IsRecordable};
+ghost use Rattle.fdr_record.specs.declared.rec.Rec.TheVariants.{Extents};
+ghost use Rattle.fdr_record.specs.{Recordable.{IsRecordable}, Records.{record_bytes}};
 ghost use Rattle.fdr_buffer.specs.declared.buffer.TheConstants.{LEAST_SIZE};
 ghost use Rattle.fdr_buffer.specs.Segments.{segments};
 ghost use Rattle.fdr_file.specs.Files.{block_bytes, header_bytes};
@@ -65,12 +66,7 @@ impl<'a> TraceLeft<'a> {
             → HasCompared trace (before ++ block_bytes buffer.now) self.new }
     {
         let bytes = buffer.bytes();
-        let mut extents = [0; METADATA_BYTES];
-        let rec = Rec::Extents {
-            size: bytes.len() as u64,
-        };
-        put_rec(&rec, &mut extents, 0);
-        self.take(&extents);
+        self.take(&extents(bytes.len() as u64));
         self.take(bytes);
     }
 
@@ -81,6 +77,15 @@ impl<'a> TraceLeft<'a> {
     {
         self.same && self.left.is_empty()
     }
+}
+
+/// The extents of a block that has `size` bytes after them.
+fn extents(size: u64) -> [u8; METADATA_BYTES]
+    ensures { result ≡ record_bytes (Extents size) }
+{
+    let mut bytes = [0; METADATA_BYTES];
+    put_rec(&Rec::Extents { size }, &mut bytes, 0);
+    bytes
 }
 
 /// The events of a thread, on their way into segments. Only the segment that is open is kept. Those that
