@@ -1,4 +1,5 @@
 -- Turns of a word, and the search among them.
+use mathlib.Core.Bool.{beq}
 use Rattle.std.proofs.Common.{◌≡◌, ◌≢◌, ℕ, zero, suc, ◌+◌, ◌-◌, ◌%◌, ◌==◌, ◌<◌, ◌≤◌, Bool, true, false, not, List, [], ◌∷◌, ◌++◌, length, get_or, Option, Some, None, refl, sym, ap, subst, ◌∙◌, arith, inl, inr, length-append, eqb-true, eq-eqb}
 use Rattle.std.specs.Prelude.{◌⊎◌, slice_get}
 use Rattle.std.proofs.lemmas.Bool.{cases_lt, cases_order, eqb-false, ne_eqb}
@@ -25,6 +26,23 @@ other_side true true e = absurd (e refl)
 other_side true false e = refl
 other_side false true e = refl
 other_side false false e = absurd (e refl)
+
+-- sides of a test that are compared
+pub same_sides : (a b : Bool) → beq a b ≡ true → a ≡ b
+same_sides true true e = refl
+same_sides true false e = sym e
+same_sides false true e = e
+same_sides false false e = refl
+
+pub apart_sides : (a b : Bool) → beq a b ≡ false → a ≡ b → ⊥
+apart_sides true true e same = absurd cc
+apart_sides true false e same = absurd cc
+apart_sides false true e same = absurd cc
+apart_sides false false e same = absurd cc
+
+pub not_false : (b : Bool) → not b ≡ false → b ≡ true
+not_false true e = refl
+not_false false e = absurd cc
 
 -- ---- places in a list
 

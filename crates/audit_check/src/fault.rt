@@ -18,6 +18,7 @@ pub enum AuditFault {
 
 /// A refused allocation ends the reading.
 impl<E: Into<xray_io::NoMemory> + Drop> From<E> for AuditFault {
+    ghost use Rattle.std.specs.Prelude.{◌≡◌};
     ghost use Rattle.audit_check.specs.declared.fault.AuditFault.TheVariants as faults;
 
     ghost from_gives = { λ _ fault. fault ≡ faults.NoMemory };
