@@ -1,5 +1,5 @@
 -- The rows of the first threads, one thread after the other.
-use Rattle.std.proofs.Common.{◌≡◌, ℕ, zero, suc, ◌+◌, ◌-◌, ◌<◌, ◌≤◌, Bool, List, [], ◌∷◌, ◌++◌, length, map, take, Option, Some, None, refl, sym, ap, subst, ◌∙◌, arith, append-nil, append_assoc}
+use Rattle.std.proofs.Common.{◌≡◌, ℕ, zero, suc, ◌+◌, ◌-◌, ◌<◌, ◌≤◌, Bool, List, [], ◌∷◌, ◌++◌, length, map, take, Option, Some, None, refl, sym, ap, subst, ◌∙◌, add-one, arith, append-nil, append_assoc}
 use Rattle.std.specs.Prelude.{◌↔◌, IsTrue, slice_get}
 use Rattle.std.specs.List.{enumerate_from, flat_map}
 use Rattle.std.proofs.lemmas.Grind.{flat_map-append}
@@ -35,7 +35,7 @@ same_at f g (x ∷ xs) (y ∷ ys) same zero x' y' at at' = let is : x ≡ x' = c
 same_at f g (x ∷ xs) (y ∷ ys) same (suc i) x' y' at at' = let rest : map f xs ≡ map g ys = cc in same_at f g xs ys rest i x' y' at at'
 
 take_next : (n i : ℕ) (runs : List ThreadRun) (run : ThreadRun) → slice_get runs i ≡ Some run
-    → take (i + 1) (enumerate_from n runs) ≡ take i (enumerate_from n runs) ++ (n + i, run) ∷ []
+    → take (suc i) (enumerate_from n runs) ≡ take i (enumerate_from n runs) ++ (n + i, run) ∷ []
 take_next n i [] run at = absurd cc
 take_next n zero (first ∷ runs) run at =
     let here : n ≡ n + 0 = omega arith in
@@ -56,7 +56,7 @@ bytes_next setup runs i run at =
     let header = header_bytes (run_header setup) in
     let buffers : flat_map (thread_buffers setup) (take (i + 1) (enumerate_from 1 runs))
         ≡ flat_map (thread_buffers setup) before ++ thread_buffers setup (1 + i, run) =
-    ap (flat_map (thread_buffers setup)) (take_next 1 i runs run at)
+    ap (λ m. flat_map (thread_buffers setup) (take m (enumerate_from 1 runs))) (add-one i) ∙ ap (flat_map (thread_buffers setup)) (take_next 1 i runs run at)
     ∙ (flat_map-append (thread_buffers setup) before ((1 + i, run) ∷ [])
     ∙ ap (λ (l : List Filled). flat_map (thread_buffers setup) before ++ l) (append-nil (thread_buffers setup (1 + i, run)))) in
     append_assoc header (flat_map block_bytes (flat_map (thread_buffers setup) before)) (flat_map block_bytes (thread_buffers setup (1 + i, run)))

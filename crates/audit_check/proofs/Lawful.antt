@@ -83,14 +83,14 @@ recorded_is (p ∷ passed) (mark ∷ marks) same =
     by RecordedArg e = omega (arith, e)
 
 -- there are no more segments than events
-cut_short : (size : ℕ) (opened events : List Event) → length (segments_from size opened events) ≤ length events + 1
+cut_short : (size : ℕ) (opened events : List Event) → length (segments_from size opened events) ≤ suc (length events)
 cut_short size opened [] = omega arith
 cut_short size opened (event ∷ events) =
     by (has_room size (opened ++ event ∷ [])) (cut_short size (opened ++ event ∷ []) events) (cut_short size (event ∷ []) events)
   where
-    by : (b : Bool) → length (segments_from size (opened ++ event ∷ []) events) ≤ length events + 1
-        → length (segments_from size (event ∷ []) events) ≤ length events + 1
-        → length (if b then segments_from size (opened ++ event ∷ []) events else opened ∷ segments_from size (event ∷ []) events) ≤ length events + 1 + 1
+    by : (b : Bool) → length (segments_from size (opened ++ event ∷ []) events) ≤ suc (length events)
+        → length (segments_from size (event ∷ []) events) ≤ suc (length events)
+        → length (if b then segments_from size (opened ++ event ∷ []) events else opened ∷ segments_from size (event ∷ []) events) ≤ suc (suc (length events))
     by true joined cut = omega (arith, joined)
     by false joined cut = omega (arith, cut)
 

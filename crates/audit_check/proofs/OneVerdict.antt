@@ -82,6 +82,9 @@ abbrev ArePlain : Program → Limits → ℕ → List ThreadRun → Type 0
 ArePlain program limits next runs =
     (i : ℕ) (run : ThreadRun) → slice_get runs i ≡ Some run → PlainRun program limits (next + i) run.passed run.end run.last
 
+abbrev of_parts : List Passing → End → State → List Mark → ℕ → ThreadRun
+of_parts passed end last marks lost = record { passed = passed; end = end; last = last; marks = marks; lost = lost }
+
 runs_from : (program : Program) → OneEnd program → (limits : Limits) (next : ℕ) (runs others : List ThreadRun)
     → ArePlain program limits next runs → ArePlain program limits next others
     → map (λ (r : ThreadRun). r.marks) runs ≡ map (λ (r : ThreadRun). r.marks) others
@@ -105,7 +108,10 @@ runs_from program one limits next (run ∷ runs) (other ∷ others) plain plain'
     ap (λ (r : ThreadRun). r ∷ runs) first ∙ ap (λ (rs : List ThreadRun). other ∷ rs) later
   where
     whole : (r s : ThreadRun) → r.passed ≡ s.passed → r.end ≡ s.end → r.last ≡ s.last → r.marks ≡ s.marks → r.lost ≡ s.lost → r ≡ s
-    whole r s p e l m n = cc
+    whole r s p e l m n =
+        ap (λ (x : List Passing). of_parts x r.end r.last r.marks r.lost) p ∙ (ap (λ (x : End). of_parts s.passed x r.last r.marks r.lost) e
+        ∙ (ap (λ (x : State). of_parts s.passed s.end x r.marks r.lost) l ∙ (ap (λ (x : List Mark). of_parts s.passed s.end s.last x r.lost) m
+        ∙ ap (of_parts s.passed s.end s.last s.marks) n)))
 
 plain_from : (program : Program) (limits : Limits) (runs : List ThreadRun) (threads : ℕ)
     → ((i : ℕ) (run : ThreadRun) → slice_get runs i ≡ Some run → PlainRun program limits (i + 1) run.passed run.end run.last)

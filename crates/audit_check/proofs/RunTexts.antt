@@ -1,5 +1,5 @@
 -- Marks and their longest runs.
-use Rattle.std.proofs.Common.{◌≡◌, ◌≢◌, ℕ, zero, suc, ◌+◌, ◌<◌, ◌==◌, Bool, true, false, List, [], ◌∷◌, ◌++◌, map, Option, Some, None, refl, sym, ap, ◌∙◌, arith, append-nil, eqb-true, eq-eqb}
+use Rattle.std.proofs.Common.{◌≡◌, ◌≢◌, ℕ, zero, suc, ◌+◌, ◌<◌, ◌==◌, Bool, true, false, List, [], ◌∷◌, ◌++◌, map, Option, Some, None, refl, sym, ap, ◌∙◌, add-one, arith, append-nil, eqb-true, eq-eqb}
 use Rattle.std.specs.Prelude.{codes, if◌then◌else◌, replicate}
 use Rattle.std.specs.List.{flat_map, join_with_byte}
 use Rattle.std.proofs.lemmas.Bool.{eqb-false, ne_eqb}
@@ -53,7 +53,7 @@ onto_marks mark ((next, count) ∷ runs) = by (mark_byte mark == mark_byte next)
         → marks_of_runs (if b then (next, count + 1) ∷ runs else (mark, 1) ∷ (next, count) ∷ runs) ≡ mark ∷ marks_of_runs ((next, count) ∷ runs)
     by true is =
         let same : next ≡ mark = sym (same_mark mark next (eqb-true (mark_byte mark) (mark_byte next) is)) in
-        ap (λ (m : Mark). m ∷ marks_of_runs ((next, count) ∷ runs)) same
+        ap (λ n. replicate n next ++ marks_of_runs runs) (add-one count) ∙ ap (λ (m : Mark). m ∷ marks_of_runs ((next, count) ∷ runs)) same
     by false is = refl
 
 pub runs_marks : (marks : List Mark) → marks_of_runs (runs_of marks) ≡ marks
@@ -79,7 +79,7 @@ onto_others mark ((next, count) ∷ runs) are =
 repeated : (mark : Mark) (count : ℕ) (marks : List Mark) (runs : List Run) → runs_of marks ≡ runs → AreRuns (Some mark) runs
     → runs_of (replicate (suc count) mark ++ marks) ≡ (mark, suc count) ∷ runs
 repeated mark zero marks runs is are = ap (onto_runs mark) is ∙ onto_others mark runs are
-repeated mark (suc count) marks runs is are = ap (onto_runs mark) (repeated mark count marks runs is are) ∙ onto_itself mark (suc count) runs
+repeated mark (suc count) marks runs is are = ap (onto_runs mark) (repeated mark count marks runs is are) ∙ (onto_itself mark (suc count) runs ∙ ap (λ n. (mark, n) ∷ runs) (add-one (suc count)))
 
 pub runs_back : (before : Option Mark) (runs : List Run) → AreRuns before runs → runs_of (marks_of_runs runs) ≡ runs
 runs_back before [] are = refl

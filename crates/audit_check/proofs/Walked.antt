@@ -1,5 +1,5 @@
 -- A thread that is taken through its plain run, one passing after the other.
-use Rattle.std.proofs.Common.{◌≡◌, ℕ, zero, suc, ◌+◌, List, [], ◌∷◌, ◌++◌, length, take, Option, Some, None, refl, sym, ap, subst, ◌∙◌, arith, append-nil}
+use Rattle.std.proofs.Common.{◌≡◌, ℕ, zero, suc, ◌+◌, List, [], ◌∷◌, ◌++◌, length, take, Option, Some, None, refl, sym, ap, subst, ◌∙◌, add-one, append-nil}
 use Rattle.std.specs.Prelude.{slice_get}
 use Rattle.std.proofs.lemmas.Option.{same_Some}
 use Rattle.fdr_record.specs.declared.event.Event.{Event}
@@ -18,11 +18,14 @@ use Rattle.audit_check.specs.private.Walks.{HasWalked, Way, first_marks, mark_or
 
 -- ---- the first marks
 
+first_next : (n : ℕ) (marks : List Mark) → first_marks (suc n) marks ≡ first_marks n marks ++ mark_or_skipped marks n ∷ []
+first_next zero [] = refl
+first_next zero (mark ∷ marks) = refl
+first_next (suc n) [] = ap (λ l. Skipped ∷ l) (first_next n [])
+first_next (suc n) (mark ∷ marks) = ap (λ l. mark ∷ l) (first_next n marks)
+
 pub first_more : (n : ℕ) (marks : List Mark) → first_marks (n + 1) marks ≡ first_marks n marks ++ mark_or_skipped marks n ∷ []
-first_more zero [] = refl
-first_more zero (mark ∷ marks) = refl
-first_more (suc n) [] = ap (λ l. Skipped ∷ l) (first_more n [])
-first_more (suc n) (mark ∷ marks) = ap (λ l. mark ∷ l) (first_more n marks)
+first_more n marks = ap (λ m. first_marks m marks) (add-one n) ∙ first_next n marks
 
 -- they are all marks if there are as many
 pub first_all : (marks : List Mark) → first_marks (length marks) marks ≡ marks
@@ -35,11 +38,15 @@ pub take_all : {X : Type 0} (xs : List X) → take (length xs) xs ≡ xs
 take_all [] = refl
 take_all (x ∷ xs) = ap (λ l. x ∷ l) (take_all xs)
 
+sleds_next : (passed : List Passing) (n : ℕ) (p : Passing) → slice_get passed n ≡ Some p
+    → sleds_passed (take (suc n) passed) ≡ sleds_passed (take n passed) ++ p.sled ∷ []
+sleds_next [] n p found = absurd cc
+sleds_next (first ∷ passed) zero p found = ap (λ (q : Passing). q.sled ∷ []) (same_Some first p found)
+sleds_next (first ∷ passed) (suc n) p found = ap (λ l. first.sled ∷ l) (sleds_next passed n p found)
+
 sleds_more : (passed : List Passing) (n : ℕ) (p : Passing) → slice_get passed n ≡ Some p
     → sleds_passed (take (n + 1) passed) ≡ sleds_passed (take n passed) ++ p.sled ∷ []
-sleds_more [] n p found = absurd cc
-sleds_more (first ∷ passed) zero p found = ap (λ (q : Passing). q.sled ∷ []) (same_Some first p found)
-sleds_more (first ∷ passed) (suc n) p found = ap (λ l. first.sled ∷ l) (sleds_more passed n p found)
+sleds_more passed n p found = ap (λ m. sleds_passed (take m passed)) (add-one n) ∙ sleds_next passed n p found
 
 -- ---- one more passing
 
