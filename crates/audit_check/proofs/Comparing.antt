@@ -10,14 +10,14 @@ pub goes_on : (trace before bytes rest : List ℕ) (old new : TraceLeft) → Has
     → new.same ≡ true → new.left.now ≡ rest → HasCompared trace (before ++ bytes) new
 goes_on trace before bytes rest old new has same is same' is' = record {
   same = λ e. has.same same ∙ (ap (λ (l : List ℕ). before ++ l) (is ∙ ap (λ (l : List ℕ). bytes ++ l) (sym is')) ∙ sym (append_assoc before bytes new.left.now));
-  other = λ e. absurd (let (q : true ≡ false) = sym same' ∙ e in cc);
+  other = λ e. absurd (let q : true ≡ false = sym same' ∙ e in cc);
 }
 
 -- it doesn't, or it was another one before
 pub differs : (trace before bytes : List ℕ) (old new : TraceLeft) → HasCompared trace before old
     → ((rest : List ℕ) → old.left.now ≢ bytes ++ rest) ⊎ (old.same ≡ false) → new.same ≡ false → HasCompared trace (before ++ bytes) new
 differs trace before bytes old new has other other' = record {
-  same = λ e. absurd (let (q : true ≡ false) = sym e ∙ other' in cc);
+  same = λ e. absurd (let q : true ≡ false = sym e ∙ other' in cc);
   other = λ e rest. by rest other old.same refl;
 }
   where
@@ -25,7 +25,7 @@ differs trace before bytes old new has other other' = record {
     by rest unlike false e is = has.other e (bytes ++ rest) (is ∙ append_assoc before bytes rest)
     by rest (inl unlike) true e is =
         unlike rest (append_cancel_left before old.left.now (bytes ++ rest) (sym (has.same e) ∙ (is ∙ append_assoc before bytes rest)))
-    by rest (inr no) true e is = absurd (let (q : true ≡ false) = sym e ∙ no in cc)
+    by rest (inr no) true e is = absurd (let q : true ≡ false = sym e ∙ no in cc)
 
 -- it is all of the bytes
 pub is_all : (trace bytes : List ℕ) (t : TraceLeft) (empty : Bool) → IsTrue empty ↔ (t.left.now ≡ []) → HasCompared trace bytes t
@@ -37,4 +37,4 @@ is_all trace bytes t empty decides has = by t.same refl
       (λ done. has.same e ∙ (ap (λ (l : List ℕ). bytes ++ l) (decides.0 done) ∙ append-nil bytes)),
       (λ is. decides.1 (append_cancel_left bytes t.left.now [] (sym (has.same e) ∙ (is ∙ sym (append-nil bytes))))),
     )
-    by false e = ((λ done. absurd (let (q : false ≡ true) = done in cc)), λ is. absurd (has.other e [] (is ∙ sym (append-nil bytes))))
+    by false e = ((λ done. absurd (let q : false ≡ true = done in cc)), λ is. absurd (has.other e [] (is ∙ sym (append-nil bytes))))

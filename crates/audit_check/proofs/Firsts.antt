@@ -32,7 +32,7 @@ module _ (Row : ℕ → Type 0) where
   first_next threads None false all decides = record {
     some = omega arith;
     within = omega arith;
-    differs = λ row. let (q : false ≡ true) = decides.1 row in absurd cc;
+    differs = λ row. let q : false ≡ true = decides.1 row in absurd cc;
     earlier = λ other some low. all other some (omega arith);
   }
   first_next threads (Some thread) true first decides = later thread first
@@ -74,9 +74,9 @@ module _ (program : Program) (script : List Command) (statement : Statement) (tr
       let marks = by_marks ends in (ends, marks, by_counts ends marks)
   verdict_is None None None false same ends by_marks by_counts by_recycled by_trace =
       let marks = by_marks ends in
-      (ends, marks, by_counts ends marks, λ row. let (q : false ≡ true) = by_recycled.1 row in absurd cc)
+      (ends, marks, by_counts ends marks, λ row. let q : false ≡ true = by_recycled.1 row in absurd cc)
   verdict_is None None None true false ends by_marks by_counts by_recycled by_trace =
       let marks = by_marks ends in
-      (ends, marks, by_counts ends marks, by_recycled.0 refl, λ row. let (q : false ≡ true) = (by_trace ends marks).1 row in absurd cc)
+      (ends, marks, by_counts ends marks, by_recycled.0 refl, λ row. let q : false ≡ true = (by_trace ends marks).1 row in absurd cc)
   verdict_is None None None true true ends by_marks by_counts by_recycled by_trace =
       let marks = by_marks ends in (ends, marks, by_counts ends marks, by_recycled.0 refl, (by_trace ends marks).0 refl)

@@ -40,7 +40,7 @@ least_follows : (program : Program) (threads : ℕ) (script : List Command) (thr
     → IsLeast (Follow program threads script thread sleds marks) place → IfSome place (λ p. p ≤ total_of program threads script)
     → IsTrue (is_some place) ↔ MarksFollowScript program threads script thread sleds marks
 least_follows program threads script thread sleds marks None never low =
-    ((λ is. absurd (let (q : false ≡ true) = is in cc)), λ follow. absurd (never (total_of program threads script) follow))
+    ((λ is. absurd (let q : false ≡ true = is in cc)), λ follow. absurd (never (total_of program threads script) follow))
 least_follows program threads script thread sleds marks (Some place) (follows, least) low =
     ((λ is. whole_script program threads script thread sleds marks place low follows), λ follow. refl)
 
@@ -74,15 +74,15 @@ module _ (program : Program) (threads : ℕ) (script : List Command) (thread : �
     where
       left_of : (a b : Bool) → IsTrue (a && b) → a ≡ true
       left_of true b both = refl
-      left_of false b both = absurd (let (q : false ≡ true) = both in cc)
+      left_of false b both = absurd (let q : false ≡ true = both in cc)
 
       right_of : (a b : Bool) → IsTrue (a && b) → IsTrue b
       right_of true b both = both
-      right_of false b both = absurd (let (q : false ≡ true) = both in cc)
+      right_of false b both = absurd (let q : false ≡ true = both in cc)
 
       both_of : (a b : Bool) → a ≡ true → IsTrue b → IsTrue (a && b)
       both_of true b e both = both
-      both_of false b e both = absurd (let (q : false ≡ true) = e in cc)
+      both_of false b e both = absurd (let q : false ≡ true = e in cc)
 
 -- ---- events
 

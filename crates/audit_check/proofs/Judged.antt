@@ -102,7 +102,7 @@ module _ (program : Program) (threads : ℕ) (script : List Command) where
       least.least_after program threads code (start_of program threads script) (bound_of program threads script old.thread) old.thread (hold_of old.thread script)
       has.judges.ready.some has.within sleds marks sled mark from end has.exist low found at_count
     where
-      abbrev At : ℕ → Option ℕ → ℕ → Type 0
+      At : ℕ → Option ℕ → ℕ → Type 0
       At b hold n = IsLeast (Reaches code b mark (passing_tree program threads old.thread (is_held_at hold n) sled) from) end
 
       at_bound : At (bound_of program threads script old.thread old.passing) old.hold old.passing

@@ -249,7 +249,7 @@ module _ (program : Program) (threads : ℕ) (code : ℕ → ℕ → ℕ) (bound
           (λ value e. choose_set value (state_tree program Recorded) (Leaf NoHandler) e)
           (λ value e. choose_unset value (state_tree program Recorded) (Leaf NoHandler) e) at n way) [
             | inl (there, met', on) ↦ (there, inr (at, met, met'), on)
-            | inr (there, met', leaf) ↦ absurd (let (e : NoHandler ≡ NotLogging) = leaf.0 in cc)
+            | inr (there, met', leaf) ↦ absurd (let e : NoHandler ≡ NotLogging = leaf.0 in cc)
           ]
 
   of_either : (from n : ℕ) → (at : ℕ) × Either from at × Off at n → Reaches code bound NotLogging (arg_handler_tree program threads) from n

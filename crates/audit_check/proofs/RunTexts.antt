@@ -30,7 +30,7 @@ same_mark mark other alike = sym (marked_back mark) ∙ (ap marked alike ∙ mar
 -- ---- the runs of marks
 
 onto_are : (mark : Mark) (runs : List Run) → AreRuns None runs → AreRuns None (onto_runs mark runs)
-onto_are mark [] are = ((λ e. absurd cc), (omega arith, tt))
+onto_are mark [] are = ((λ e. absurd cc), omega arith, tt)
 onto_are mark ((next, count) ∷ runs) are = by (mark_byte mark == mark_byte next) refl
   where
     by : (b : Bool) → mark_byte mark == mark_byte next ≡ b
