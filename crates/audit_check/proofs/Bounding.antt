@@ -91,10 +91,9 @@ module _ (thread passing : ℕ) where
   -- no bound is after the whole script
   pub bound_within : (steps : List Micro) → position_or_len (awaits_passing thread passing) steps ≤ length steps
   bound_within [] = omega arith
-  bound_within (step ∷ steps) = by (awaits_passing thread passing step) refl
+  bound_within (step ∷ steps) = by (awaits_passing thread passing step) refl (bound_within steps)
     where
-      by : (b : Bool) → awaits_passing thread passing step ≡ b → position_or_len (awaits_passing thread passing) (step ∷ steps) ≤ length (step ∷ steps)
-      by true met = let at = position_met steps step met in omega arith
-      by false none =
-          let skip = position_passed steps step none in
-          let rest = bound_within steps in omega arith
+      by : (b : Bool) → awaits_passing thread passing step ≡ b → position_or_len (awaits_passing thread passing) steps ≤ length steps
+          → position_or_len (awaits_passing thread passing) (step ∷ steps) ≤ length (step ∷ steps)
+      by true met rest = let at = position_met steps step met in omega arith
+      by false none rest = let skip = position_passed steps step none in omega (arith, skip, rest)

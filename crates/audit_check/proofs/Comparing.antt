@@ -25,7 +25,7 @@ differs trace before bytes old new has other other' = record {
     by rest unlike false e is = has.other e (bytes ++ rest) (is ∙ append_assoc before bytes rest)
     by rest (inl unlike) true e is =
         unlike rest (append_cancel_left before old.left.now (bytes ++ rest) (sym (has.same e) ∙ (is ∙ append_assoc before bytes rest)))
-    by rest (inr no) true e is = absurd (let q : true ≡ false = sym e ∙ no in cc)
+    by rest (inr past) true e is = absurd (let q : true ≡ false = sym e ∙ past in cc)
 
 -- it is all of the bytes
 pub is_all : (trace bytes : List ℕ) (t : TraceLeft) (empty : Bool) → IsTrue empty ↔ (t.left.now ≡ []) → HasCompared trace bytes t

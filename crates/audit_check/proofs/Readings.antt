@@ -57,7 +57,7 @@ module _ (bytes : List ℕ) (rows : Rows) (taken : List (List ℕ)) (IsRow : Lis
 
 -- ---- each row
 
-pub format_refused : (bytes : List ℕ) (rest : List (List ℕ)) → whole_lines bytes ≡ [] ++ rest → Unlike IsFormatRow rest → IsRefused bytes (length ([] : List (List ℕ)) + 1)
+pub format_refused : (bytes : List ℕ) (rest : List (List ℕ)) → whole_lines bytes ≡ [] ++ rest → Unlike IsFormatRow rest → IsRefused bytes 1
 format_refused bytes rest lines other = refused_format bytes rest lines other
 
 pub setup_refused : (bytes : List ℕ) (rest : List (List ℕ)) → whole_lines bytes ≡ (format_row ∷ []) ++ rest → Unlike IsSetupRow rest

@@ -81,8 +81,9 @@ with_byte_joined byte (line ∷ lines) = refl
 
 pub joined_lines : (bytes : List ℕ) → flat_map (λ line. line) (whole_lines bytes) ≡ bytes
 joined_lines [] = refl
-joined_lines (byte ∷ bytes) = by (byte == 10)
+joined_lines (byte ∷ bytes) = by (byte == 10) (joined_lines bytes)
   where
-    by : (b : Bool) → flat_map (λ line. line) (if b then (byte ∷ []) ∷ whole_lines bytes else with_byte byte (whole_lines bytes)) ≡ byte ∷ bytes
-    by true = ap (λ (bs : List ℕ). byte ∷ bs) (joined_lines bytes)
-    by false = with_byte_joined byte (whole_lines bytes) ∙ ap (λ (bs : List ℕ). byte ∷ bs) (joined_lines bytes)
+    by : (b : Bool) → flat_map (λ line. line) (whole_lines bytes) ≡ bytes
+        → flat_map (λ line. line) (if b then (byte ∷ []) ∷ whole_lines bytes else with_byte byte (whole_lines bytes)) ≡ byte ∷ bytes
+    by true rest = ap (λ (bs : List ℕ). byte ∷ bs) rest
+    by false rest = with_byte_joined byte (whole_lines bytes) ∙ ap (λ (bs : List ℕ). byte ∷ bs) rest

@@ -138,11 +138,11 @@ recycled_is recycled = ended (more (word (codes "recycled ") refl) (num recycled
 
 threads_are : (threads : List ThreadAudit) → AreLines (flat_map rows_of threads)
 threads_are [] = tt
-threads_are (said ∷ threads) = (thread_is said, marks_is said.marks, threads_are threads)
+threads_are (said ∷ threads) = (thread_is said, (marks_is said.marks, threads_are threads))
 
 -- ---- an audit
 
 pub rows_are : (statement : Statement) → AreLines (all_rows statement)
 rows_are statement =
     lines-append (first_rows statement.setup statement.threads) (recycled_line statement.recycled ∷ [])
-    (format_is, setup_is statement.setup, threads_are statement.threads) (recycled_is statement.recycled, tt)
+    (format_is, (setup_is statement.setup, threads_are statement.threads)) (recycled_is statement.recycled, tt)

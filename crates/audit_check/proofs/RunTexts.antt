@@ -35,11 +35,11 @@ onto_are mark ((next, count) ∷ runs) are = by (mark_byte mark == mark_byte nex
   where
     by : (b : Bool) → mark_byte mark == mark_byte next ≡ b
         → AreRuns None (if b then (next, count + 1) ∷ runs else (mark, 1) ∷ (next, count) ∷ runs)
-    by true is = ((λ e. absurd cc), (omega arith, are.2))
+    by true is = ((λ e. absurd cc), omega arith, are.2)
     by false is =
         let unlike : Some mark ≢ Some next = λ (e : Some mark ≡ Some next).
         eqb-false (mark_byte mark) (mark_byte next) is (ap mark_byte (let same : mark ≡ next = cc in same)) in
-        ((λ e. absurd cc), (omega arith, (unlike, (are.1, are.2))))
+        ((λ e. absurd cc), omega arith, (unlike, are.1, are.2))
 
 pub runs_are : (marks : List Mark) → AreRuns None (runs_of marks)
 runs_are [] = tt

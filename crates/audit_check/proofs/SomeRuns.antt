@@ -13,7 +13,7 @@ use Rattle.audit_check.specs.Statements.{Statement}
 
 module _ (program : Program) (limits : Limits)
     (ends : (thread : ℕ) → (passed : List Passing) × (end : End) × (last : State) × PlainRun program limits thread passed end last) where
-  run_of : ℕ → ThreadAudit → ThreadRun
+  abbrev run_of : ℕ → ThreadAudit → ThreadRun
   run_of thread said =
       let e = ends thread in record { passed = e.0; end = e.1; last = e.2; marks = said.marks; lost = said.first }
 
