@@ -18,9 +18,8 @@ use Rattle.std.proofs.lemmas.Map.Keys.{IsDistinct-head, IsDistinct-IsPermutation
 use Rattle.stack_rebuild.specs.declared.tally.Tally.{Tally}
 use Rattle.stack_rebuild.specs.declared.stack_row.StackRow.{StackRow}
 use Rattle.stack_rebuild.specs.Ascending.{each_once}
-use Rattle.stack_rebuild.specs.private.PathNumbers.{path_at}
+use Rattle.stack_rebuild.specs.PathSums.{AllNumbered, AreSums, no_tally, path_at, tally_of}
 use Rattle.stack_rebuild.specs.private.Rows.{row_before, row_by, rows_at, rows_for}
-use Rattle.stack_rebuild.specs.private.Scanning.{AllNumbered, AreSums, no_tally, tally_of}
 use Rattle.stack_rebuild.specs.Stacks.{PathRow, Timed, has_path, path_cmp, path_row, told}
 use Rattle.stack_rebuild.proofs.Orders.{order_all, order_distinct, order_low}
 use Rattle.stack_rebuild.proofs.Ascents.{Strict, each_in, is_each_once}

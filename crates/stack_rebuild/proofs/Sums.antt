@@ -11,8 +11,8 @@ use Rattle.std.proofs.lemmas.List.{length-set, get_or-set_same, get_or-set_other
 use Rattle.std.proofs.lemmas.List.Sums.{sum_by-append, sum_by-cons}
 use Rattle.stack_rebuild.specs.declared.tally.Tally.{Tally}
 use Rattle.stack_rebuild.specs.Stacks.{Timed, has_path, path_cmp}
-use Rattle.stack_rebuild.specs.private.PathNumbers.{path_at}
-use Rattle.stack_rebuild.specs.private.Scanning.{AllNumbered, AreSums, Keeps, no_tally, tally_of, with_pair}
+use Rattle.stack_rebuild.specs.PathSums.{AllNumbered, AreSums, no_tally, path_at, tally_of, with_pair}
+use Rattle.stack_rebuild.specs.private.Scanning.{Keeps}
 use Rattle.stack_rebuild.proofs.Trees.{apart_more, each_more, path_kept}
 
 -- ---- the order of paths

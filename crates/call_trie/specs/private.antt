@@ -1,0 +1,5 @@
+-- What the contracts of private functions cite. No promise of this crate rests on it.
+pub mod Frames
+pub mod Nodes
+pub mod Steps
+pub mod Tables

@@ -1,0 +1,35 @@
+-- The frames of open calls.
+use Rattle.std.specs.Prelude.{◌<◌, ◌≤◌, ◌≡◌, ℕ, List, All, length, map, reverse, vec_capacity}
+use Rattle.stack_rebuild.specs.OpenPaths.{OpenPath}
+use Rattle.stack_rebuild.specs.PathSums.{path_at}
+use Rattle.stack_rebuild.specs.Stacks.{most_open}
+use Rattle.call_trie.specs.declared.frames.Frame.{Frame}
+use Rattle.call_trie.specs.declared.recorder.TrieRecorder.TheInside.{Inside}
+use Rattle.call_trie.specs.Tries.{Trie}
+
+-- the open call of a frame
+abbrev pub open_path : List (List ℕ) → Frame → OpenPath
+open_path paths frame = record { func = frame.func; path = path_at paths frame.node; tsc = frame.tsc; spent = frame.spent }
+
+-- the open calls, from the innermost to the outermost, if the frames are listed from the outermost to the innermost
+abbrev pub open_in : List (List ℕ) → List Frame → List OpenPath
+open_in paths frames = map (open_path paths) (reverse frames)
+
+-- the nodes of frames have numbers other than 0
+abbrev pub AreWithin : List (List ℕ) → List Frame → Type 0
+AreWithin paths frames = All (λ frame. (0 < frame.node) × (frame.node < length paths)) frames
+
+abbrev pub trie_in : Inside → Trie
+trie_in a = record {
+  room = a.nodes.room;
+  state = a.state;
+  paths = a.nodes.paths;
+  tallies = a.nodes.tallies;
+  open = open_in a.nodes.paths a.frames.items;
+}
+
+-- the nodes of frames are there, and there is room for as many frames as there may be
+pub record IsTrie (a : Inside) : Type 0 where
+  pub frames : AreWithin a.nodes.paths a.frames.items
+  pub few : length a.frames.items ≤ most_open
+  pub fit : most_open ≤ vec_capacity a.frames

@@ -1,0 +1,139 @@
+//! A recorder that keeps a call trie.
+
+ghost use Rattle.std.specs.Prelude.{◌≡◌, ◌≢◌, ◌≤◌, ◌<◌, ◌-◌, ◌^◌, ◌++◌, List, [], ◌∷◌, length, IfOk};
+ghost use Rattle.fdr_record.specs.declared.event.Event.{Event};
+ghost use Rattle.call_trie.specs.declared.state.TrieState.{TrieState};
+
+use crate::frames::{Frame, innermost, innermost_of, spend};
+use crate::nodes::Nodes;
+use crate::state::TrieState;
+use fdr_record::{Event, Kind, Recorder};
+use stack_rebuild::{MOST_OPEN, PathSums};
+use std::alloc::Global;
+use std::marker::Model;
+use xray_io::NoMemory;
+
+/// The most nodes that a recorder may have.
+pub const MOST_NODES: u32 = 262_144;
+
+/// Records the events of one thread in a call trie: a node for each distinct path on which a function
+/// was called, with the sums of a stack report's row. It keeps no event.
+///
+/// It takes all its memory when it is made: for its nodes, and for 4,096 open calls. If an entry needs
+/// more, the recorder stops, and its state says why.
+#[derive(Drop)]
+pub struct TrieRecorder {
+    state: TrieState,
+    nodes: Nodes,
+    /// The open calls, outermost first.
+    frames: Vec<Frame>,
+}
+
+impl Model for TrieRecorder {
+    ghost use Rattle.call_trie.specs.Tries.{Trie};
+
+    ghost Value = { Trie };
+
+    ghost use Rattle.call_trie.specs.private.Frames.{IsTrie, trie_in};
+
+    ghost view = { trie_in };
+
+    ghost invariant = { IsTrie };
+}
+
+impl TrieRecorder {
+    ghost use Rattle.call_trie.specs.Tries.{StandsFor, Trie};
+
+    /// A recorder with so many nodes, which stands for no event. `NoMemory` means that an allocation
+    /// was refused.
+    pub fn new(alloc: Global, nodes: u32) -> Result<TrieRecorder, NoMemory>
+        requires { (1 ≤ nodes) × (nodes ≤ MOST_NODES) }
+        ensures room { IfOk result (λ trie. trie.room ≡ nodes) }
+        ensures no_events { IfOk result (λ trie. StandsFor trie []) }
+    {
+        let frames = Vec::with_capacity(alloc, MOST_OPEN)?;
+        let nodes = Nodes::new(alloc, nodes)?;
+        Ok(TrieRecorder {
+            state: TrieState::Live,
+            nodes,
+            frames,
+        })
+    }
+
+    /// Whether it still takes events.
+    pub fn state(&self) -> TrieState
+        ensures { result ≡ self.now.state }
+    {
+        self.state
+    }
+
+    /// Takes an entry.
+    fn enter(&mut self, func: u32, tsc: u64) {
+        if self.frames.len() == MOST_OPEN {
+            self.state = TrieState::Deep;
+            return;
+        }
+        match self.node_of(func) {
+            Some(node) => {
+                self.frames.push_reserved(Frame {
+                    node,
+                    func,
+                    tsc,
+                    spent: 0,
+                });
+            }
+            None => self.state = TrieState::Full,
+        }
+    }
+
+    /// The node for a call of a function in the innermost open call. There is none if all nodes are in
+    /// use.
+    fn node_of(&mut self, func: u32) -> Option<u32> {
+        let parent = innermost(&self.frames);
+        match self.nodes.child(parent, func) {
+            Some(node) => Some(node),
+            None if self.nodes.is_full() => None,
+            None => Some(self.nodes.add(parent, func)),
+        }
+    }
+
+    /// Takes an exit or tail exit. It ends the innermost open call of its function, if there is one,
+    /// and all calls that were made in that one.
+    fn leave(&mut self, func: u32, tsc: u64) {
+        if let Some(place) = innermost_of(&self.frames, func) {
+            let ended = self.frames[place];
+            let duration = tsc.wrapping_sub(ended.tsc);
+            let own = u128::from(duration).saturating_sub(ended.spent);
+            self.frames.truncate(place);
+            spend(&mut self.frames, duration);
+            self.nodes.add_pair(ended.node, duration, own);
+        }
+    }
+
+    /// Adds what it says of each path to sums.
+    pub(crate) fn add_to(&self, alloc: Global, sums: &mut PathSums) -> Result<(), NoMemory> {
+        self.nodes.add_to(alloc, sums)
+    }
+}
+
+impl Recorder for TrieRecorder {
+    ghost use Rattle.call_trie.specs.Tries.{HasSameRoom, StandsFor, same_along, same_itself};
+
+    ghost stands = { StandsFor };
+
+    ghost follows = { HasSameRoom };
+
+    ghost follows_itself = { same_itself };
+
+    ghost follows_along = { same_along };
+
+    fn note(&mut self, event: Event) {
+        match self.state {
+            TrieState::Live => match event.kind {
+                Kind::Entry | Kind::EntryArgs => self.enter(event.func, event.tsc),
+                Kind::Exit | Kind::TailExit => self.leave(event.func, event.tsc),
+            },
+            TrieState::Full | TrieState::Deep => {}
+        }
+    }
+}
