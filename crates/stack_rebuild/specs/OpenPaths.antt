@@ -57,13 +57,13 @@ with_spent duration [] = []
 with_spent duration (call ∷ outer) = record call { spent = call.spent + duration } ∷ outer
 
 -- the pair of a call that an exit ends
-abbrev pub ended_by : Event → OpenPath → Timed
-ended_by e call = let duration = cycles_between call.tsc e.tsc in record { path = call.path; duration = duration; own = duration - call.spent }
+abbrev pub pair_of_open : Event → OpenPath → Timed
+pair_of_open e call = let duration = cycles_between call.tsc e.tsc in record { path = call.path; duration = duration; own = duration - call.spent }
 
 -- what an exit leaves, by the call that it ends and those outside it
 abbrev pub stacked_closing : Event → Stacked → List OpenPath → Stacked
 stacked_closing e before [] = before
-stacked_closing e before (call ∷ outer) = record { open = with_spent (cycles_between call.tsc e.tsc) outer; pairs = before.pairs ++ ended_by e call ∷ [] }
+stacked_closing e before (call ∷ outer) = record { open = with_spent (cycles_between call.tsc e.tsc) outer; pairs = before.pairs ++ pair_of_open e call ∷ [] }
 
 -- the thread after one more event
 abbrev pub next_by_kind : Kind → Event → Stacked → Stacked

@@ -1,5 +1,5 @@
 -- The paths so far, each with a number, and what pairs say of each.
-use Rattle.std.specs.Prelude.{◌≡◌, ◌<◌, ◌+◌, ◌++◌, ◌⊎◌, ℕ, List, [], ◌∷◌, length, sum_by, count_by, All, IsTrue, if◌then◌else◌, slice_index_or}
+use Rattle.std.specs.Prelude.{◌≡◌, ◌<◌, ◌+◌, ◌++◌, ◌⊎◌, ℕ, List, [], ◌∷◌, length, sum_by, count_by, true, All, if◌then◌else◌, slice_index_or}
 use Rattle.stack_rebuild.specs.declared.tally.Tally.{Tally}
 use Rattle.stack_rebuild.specs.Stacks.{Timed, has_path}
 
@@ -48,7 +48,7 @@ tally_of pairs path = record {
 
 -- some pairs are all of this path, and this is what they say of it
 pub record AreOfPath (path : List ℕ) (tally : Tally) (pairs : List Timed) : Type 0 where
-  pub all : All (λ pair. IsTrue (has_path path pair)) pairs
+  pub all : All (λ pair. has_path path pair ≡ true) pairs
   pub tally_is : tally ≡ tally_of pairs path
 
 -- ---- both
