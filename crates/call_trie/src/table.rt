@@ -1,7 +1,7 @@
 //! Where the steps of a trie are found.
 
 ghost use Rattle.std.specs.Prelude.{◌≡◌, ◌≤◌, ◌<◌, ◌+◌, ◌-◌, ◌^◌, ◌++◌, [], ◌∷◌, length, IfOk, MatchOption, slice_index_or};
-ghost use Rattle.call_trie.specs.private.Tables.{HasNone, IsNumberOf, bucket_in};
+ghost use Rattle.call_trie.specs.private.Tables.{AreChained, HasNone, IsNumberOf, bucket_in};
 
 use std::alloc::{AllocError, Global};
 use std::marker::Model;
@@ -48,17 +48,37 @@ impl Model for Table {
     ghost invariant = { IsTable };
 }
 
-/// The bucket of a step.
+/// The bucket of a step, of so many buckets.
+#[tactic(auto, unfolding(crate::specs::private::Tables::bucket_in))]
 fn bucket_of(buckets: usize, step: Step) -> usize
-    requires { buckets < 2 ^ 32 }
+    requires { (0 < buckets) × (buckets < 2 ^ 32) }
     ensures is { result ≡ bucket_in buckets step }
-    ensures within { 0 < buckets → result < buckets }
+    ensures within { result < buckets }
 {
     let mixed = u64::from(step.parent)
         .wrapping_mul(PARENT_FACTOR)
         .wrapping_add(u64::from(step.func))
         .wrapping_mul(STEP_FACTOR);
-    ((mixed >> 32) * buckets as u64 >> 32) as usize
+    let part = mixed >> 32;
+    let scaled = part * buckets as u64;
+    (scaled >> 32) as usize
+}
+
+/// The number of a step among the steps of its bucket.
+fn number_in(steps: &[Step], before: &[u32], latest: &[u32], step: Step) -> Option<u32>
+    requires chained { AreChained (length latest.now) steps.now before.now latest.now }
+    requires buckets { (0 < length latest.now) × (length latest.now < 2 ^ 32) }
+    ensures { MatchOption result (HasNone steps.now step) (IsNumberOf steps.now step) }
+{
+    let mut number = latest[bucket_of(latest.len(), step)];
+    'walking: while number > 0 {
+        let place = number as usize - 1;
+        if steps[place] == step {
+            return Some(number);
+        }
+        number = before[place];
+    }
+    None
 }
 
 impl Table {
@@ -105,15 +125,7 @@ impl Table {
         ensures { MatchOption result (HasNone self.now.steps step)
             (IsNumberOf self.now.steps step) }
     {
-        let mut number = self.latest[bucket_of(self.latest.len(), step)];
-        'walking: while number > 0 {
-            let place = number as usize - 1;
-            if self.steps[place] == step {
-                return Some(number);
-            }
-            number = self.before[place];
-        }
-        None
+        number_in(&self.steps, &self.before, &self.latest, step)
     }
 
     /// Adds a step, and returns its number.

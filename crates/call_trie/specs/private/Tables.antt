@@ -3,6 +3,7 @@
 use Rattle.std.specs.Prelude.{◌≡◌, ◌<◌, ◌≤◌, ◌+◌, ◌*◌, ◌-◌, ◌/◌, ◌%◌, ◌^◌, ℕ, List, length, slice_index_or, vec_capacity}
 use Rattle.call_trie.specs.declared.table.Step.{Step}
 use Rattle.call_trie.specs.declared.table.Table.TheInside.{Inside}
+use Rattle.call_trie.specs.declared.table.TheConstants.{PARENT_FACTOR, STEP_FACTOR}
 
 -- for how many steps a table has room, and its steps by their numbers
 pub record Steps : Type 0 where
@@ -25,7 +26,7 @@ HasNone steps step = (k : ℕ) (d : Step) → k < length steps → slice_index_o
 -- the bucket of a step, if there are so many
 unfoldable pub bucket_in : ℕ → Step → ℕ
 bucket_in buckets step =
-    (step.parent * 11400714819323198485 % 2 ^ 64 + step.func) % 2 ^ 64 * 15241094284759029579 % 2 ^ 64 / 2 ^ 32 * buckets / 2 ^ 32
+    (step.parent * PARENT_FACTOR % 2 ^ 64 + step.func) % 2 ^ 64 * STEP_FACTOR % 2 ^ 64 / 2 ^ 32 * buckets / 2 ^ 32
 
 -- this is the number of the latest of the first so many steps that is in a bucket, or 0 if none is
 pub record IsLatest (buckets : ℕ) (steps : List Step) (bucket count n : ℕ) : Type 0 where
@@ -34,15 +35,21 @@ pub record IsLatest (buckets : ℕ) (steps : List Step) (bucket count n : ℕ) :
   pub none : (k : ℕ) (d : Step) → n ≤ k → k < count → bucket_in buckets (slice_index_or steps k d) ≡ bucket → ⊥
 
 -- each bucket has the number of its latest step, and each step that of the latest one before it in its bucket
-pub record AreChained (steps : List Step) (before latest : List ℕ) : Type 0 where
+pub record AreChained (buckets : ℕ) (steps : List Step) (before latest : List ℕ) : Type 0 where
   pub level : length before ≡ length steps
-  pub latest_are : (bucket : ℕ) → bucket < length latest → IsLatest (length latest) steps bucket (length steps) (slice_index_or latest bucket 0)
+  pub latest_are : (bucket : ℕ) → bucket < buckets → IsLatest buckets steps bucket (length steps) (slice_index_or latest bucket 0)
   pub before_are : (i : ℕ) (d : Step) → i < length steps
-      → IsLatest (length latest) steps (bucket_in (length latest) (slice_index_or steps i d)) i (slice_index_or before i 0)
+      → IsLatest buckets steps (bucket_in buckets (slice_index_or steps i d)) i (slice_index_or before i 0)
+
+-- the number of a step that is looked for is this one or a lower one, or it has none
+pub record Walks (buckets : ℕ) (steps : List Step) (step : Step) (n : ℕ) : Type 0 where
+  pub low : n ≤ length steps
+  pub own : (d : Step) → 0 < n → bucket_in buckets (slice_index_or steps (n - 1) d) ≡ bucket_in buckets step
+  pub absent : (k : ℕ) (d : Step) → n ≤ k → k < length steps → slice_index_or steps k d ≡ step → ⊥
 
 -- a table has room for its steps
 pub record IsTable (a : Inside) : Type 0 where
-  pub chained : AreChained a.steps.items a.before.items a.latest.items
+  pub chained : AreChained (length a.latest.items) a.steps.items a.before.items a.latest.items
   pub buckets : length a.latest.items ≡ 2 * a.room
   pub some : 0 < a.room
   pub few : a.room ≤ 262144

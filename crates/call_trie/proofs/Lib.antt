@@ -1,0 +1,4 @@
+pub mod Among
+pub mod NodeLemmas
+pub mod Standing
+pub mod TableLemmas
