@@ -1,4 +1,6 @@
 pub mod Among
+pub mod Bounds
+pub mod FrameLemmas
 pub mod NodeLemmas
 pub mod Standing
 pub mod TableLemmas

@@ -1,9 +1,9 @@
 //! The open calls of a thread.
 
-ghost use Rattle.std.specs.Prelude.{◌≡◌, ◌≤◌, ◌<◌, ◌+◌, ◌-◌, ◌^◌, ◌++◌, ℕ, List, [], ◌∷◌, length, map, reverse, take, MatchOption, slice_index_or};
+ghost use Rattle.std.specs.Prelude.{◌≡◌, ◌≤◌, ◌<◌, ◌+◌, ◌-◌, ◌^◌, ◌++◌, ℕ, List, [], ◌∷◌, All, length, map, take, MatchOption, slice_index_or, vec_capacity};
 ghost use Rattle.stack_rebuild.specs.OpenPaths.{innermost_path, open_from, with_spent};
 ghost use Rattle.stack_rebuild.specs.PathSums.{path_at};
-ghost use Rattle.call_trie.specs.private.Frames.{open_in, open_path};
+ghost use Rattle.call_trie.specs.private.Frames.{node_in, open_in, open_path};
 
 /// What is kept of an open call.
 #[derive(Clone, Copy)]
@@ -49,8 +49,11 @@ pub(crate) fn innermost_of(frames: &[Frame], func: u32) -> Option<usize>
 
 /// Adds a duration to what was spent in the innermost frame.
 pub(crate) fn spend(frames: &mut Vec<Frame>, duration: u64)
-    ensures { (paths : List (List ℕ)) → open_in paths frames.new.items
+    requires { All (λ frame. frame.spent < 2 ^ 127) frames.old.items }
+    ensures spent { (paths : List (List ℕ)) → open_in paths frames.new.items
         ≡ with_spent duration (open_in paths frames.old.items) }
+    ensures nodes { map node_in frames.new.items ≡ map node_in frames.old.items }
+    ensures capacity { vec_capacity frames.new ≡ vec_capacity frames.old }
 {
     if let Some(frame) = frames.last_mut() {
         frame.spent += u128::from(duration);

@@ -3,7 +3,7 @@
 ghost use Rattle.std.specs.Prelude.{◌≡◌, ◌≤◌, ◌<◌, ◌↔◌, ◌+◌, ◌-◌, ◌^◌, ◌++◌, List, [], ◌∷◌, length, IfOk, IsTrue, MatchOption, OnOk, slice_index_or, slice_set};
 ghost use Rattle.stack_rebuild.specs.PathSums.{AreSums, no_tally, path_at, with_pair};
 ghost use Rattle.stack_rebuild.specs.Stacks.{Timed};
-ghost use Rattle.call_trie.specs.private.Nodes.{AreTallies, IsAt, IsNew};
+ghost use Rattle.call_trie.specs.private.Nodes.{AreTallies, GetsNode, GetsNone, IsAt, IsNew};
 ghost use Rattle.call_trie.specs.private.Steps.{IsRoomy};
 
 use crate::table::{Step, Table};
@@ -48,14 +48,28 @@ impl Nodes {
     }
 
     /// Whether there is a node for each path that there is room for.
-    pub(crate) fn is_full(&self) -> bool
+    fn is_full(&self) -> bool
         ensures { IsTrue result ↔ (length self.now.paths ≡ self.now.room + 1) }
     {
         self.table.len() == self.table.room()
     }
 
+    /// The number of a path with one more function. If the path is new, it gets a node; there is no
+    /// number if none is left.
+    pub(crate) fn node_of(&mut self, parent: u32, func: u32) -> Option<u32>
+        requires { parent < length self.old.paths }
+        ensures { let path = path_at self.old.paths parent ++ func ∷ [] in
+            MatchOption result (GetsNone path self.old self.new) (GetsNode path self.old self.new) }
+    {
+        match self.child(parent, func) {
+            Some(node) => Some(node),
+            None if self.is_full() => None,
+            None => Some(self.add(parent, func)),
+        }
+    }
+
     /// The number of a path with one more function.
-    pub(crate) fn child(&self, parent: u32, func: u32) -> Option<u32>
+    fn child(&self, parent: u32, func: u32) -> Option<u32>
         requires { parent < length self.now.paths }
         ensures child { MatchOption result
             (IsNew self.now.paths (path_at self.now.paths parent ++ func ∷ []))
@@ -65,7 +79,7 @@ impl Nodes {
     }
 
     /// Adds a node for a path with one more function, and returns its number.
-    pub(crate) fn add(&mut self, parent: u32, func: u32) -> u32
+    fn add(&mut self, parent: u32, func: u32) -> u32
         requires parent { parent < length self.old.paths }
         requires absent { IsNew self.old.paths (path_at self.old.paths parent ++ func ∷ []) }
         requires room { length self.old.paths ≤ self.old.room }

@@ -1,14 +1,17 @@
 //! A recorder that keeps a call trie.
 
-ghost use Rattle.std.specs.Prelude.{◌≡◌, ◌≢◌, ◌≤◌, ◌<◌, ◌-◌, ◌^◌, ◌++◌, List, [], ◌∷◌, length, IfOk};
+ghost use Rattle.std.specs.Prelude.{◌≡◌, ◌≤◌, ◌<◌, ◌-◌, ◌^◌, ◌++◌, List, [], ◌∷◌, length, IfOk, OnOk};
 ghost use Rattle.fdr_record.specs.declared.event.Event.{Event};
-ghost use Rattle.call_trie.specs.declared.state.TrieState.{TrieState};
+ghost use Rattle.fdr_record.specs.Recordable.{IsRecordable};
+ghost use Rattle.stack_rebuild.specs.OpenPaths.{innermost_path};
+ghost use Rattle.stack_rebuild.specs.PathSums.{AreSums};
+ghost use Rattle.stack_rebuild.specs.Stacks.{Timed, timed_pairs};
 
 use crate::frames::{Frame, innermost, innermost_of, spend};
 use crate::nodes::Nodes;
 use crate::state::TrieState;
 use fdr_record::{Event, Kind, Recorder};
-use stack_rebuild::{MOST_OPEN, PathSums};
+use stack_rebuild::{MOST_OPEN, PathSums, a_thread_goes_on};
 use std::alloc::Global;
 use std::marker::Model;
 use xray_io::NoMemory;
@@ -42,7 +45,8 @@ impl Model for TrieRecorder {
 }
 
 impl TrieRecorder {
-    ghost use Rattle.call_trie.specs.Tries.{StandsFor, Trie};
+    ghost use Rattle.call_trie.specs.Tries.{StandsFor};
+    ghost use Rattle.call_trie.specs.private.Steps.{AreRoomy, Enters, Leaves};
 
     /// A recorder with so many nodes, which stands for no event. `NoMemory` means that an allocation
     /// was refused.
@@ -68,12 +72,15 @@ impl TrieRecorder {
     }
 
     /// Takes an entry.
-    fn enter(&mut self, func: u32, tsc: u64) {
+    fn enter(&mut self, func: u32, tsc: u64)
+        ensures { let path = innermost_path self.old.open ++ func ∷ [] in
+            Enters (record { func = func; path = path; tsc = tsc; spent = 0 }) self.old self.new }
+    {
         if self.frames.len() == MOST_OPEN {
             self.state = TrieState::Deep;
             return;
         }
-        match self.node_of(func) {
+        match self.nodes.node_of(innermost(&self.frames), func) {
             Some(node) => {
                 self.frames.push_reserved(Frame {
                     node,
@@ -86,20 +93,12 @@ impl TrieRecorder {
         }
     }
 
-    /// The node for a call of a function in the innermost open call. There is none if all nodes are in
-    /// use.
-    fn node_of(&mut self, func: u32) -> Option<u32> {
-        let parent = innermost(&self.frames);
-        match self.nodes.child(parent, func) {
-            Some(node) => Some(node),
-            None if self.nodes.is_full() => None,
-            None => Some(self.nodes.add(parent, func)),
-        }
-    }
-
     /// Takes an exit or tail exit. It ends the innermost open call of its function, if there is one,
     /// and all calls that were made in that one.
-    fn leave(&mut self, func: u32, tsc: u64) {
+    fn leave(&mut self, func: u32, tsc: u64)
+        requires { AreRoomy self.old }
+        ensures { Leaves func tsc self.old self.new }
+    {
         if let Some(place) = innermost_of(&self.frames, func) {
             let ended = self.frames[place];
             let duration = tsc.wrapping_sub(ended.tsc);
@@ -111,7 +110,14 @@ impl TrieRecorder {
     }
 
     /// Adds what it says of each path to sums.
-    pub(crate) fn add_to(&self, alloc: Global, sums: &mut PathSums) -> Result<(), NoMemory> {
+    pub(crate) fn add_to(&self, alloc: Global, sums: &mut PathSums) -> Result<(), NoMemory>
+        requires { self.now.state ≡ TrieState.Live }
+        ensures { OnOk result ((before : List Timed) (events : List Event)
+            → AreSums sums.old.paths sums.old.tallies before → StandsFor self.now events
+            → AreSums sums.new.paths sums.new.tallies (before ++ timed_pairs events)) }
+    {
+        // Called for its contract: the path of each pair has a node.
+        a_thread_goes_on();
         self.nodes.add_to(alloc, sums)
     }
 }
@@ -127,7 +133,17 @@ impl Recorder for TrieRecorder {
 
     ghost follows_along = { same_along };
 
-    fn note(&mut self, event: Event) {
+    /// Once its state isn't `Live`, it changes nothing.
+    fn note(&mut self, event: Event)
+        requires recordable { IsRecordable event }
+        requires room { (events : List Event) × StandsFor self.old events × (length events < 2 ^ 32 - 1) }
+        ensures noted { (events : List Event) → StandsFor self.old events
+            → StandsFor self.new (events ++ event ∷ []) }
+        ensures follows { HasSameRoom self.old self.new }
+        ensures stopped { (self.old.state ≡ TrieState.Live → ⊥) → self.new ≡ self.old }
+    {
+        // Called for its contract: what one more event changes.
+        a_thread_goes_on();
         match self.state {
             TrieState::Live => match event.kind {
                 Kind::Entry | Kind::EntryArgs => self.enter(event.func, event.tsc),

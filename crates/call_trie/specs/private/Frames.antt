@@ -15,9 +15,13 @@ open_path paths frame = record { func = frame.func; path = path_at paths frame.n
 abbrev pub open_in : List (List ℕ) → List Frame → List OpenPath
 open_in paths frames = map (open_path paths) (reverse frames)
 
+-- the number of a frame's node
+abbrev pub node_in : Frame → ℕ
+node_in frame = frame.node
+
 -- the nodes of frames have numbers other than 0
 abbrev pub AreWithin : List (List ℕ) → List Frame → Type 0
-AreWithin paths frames = All (λ frame. (0 < frame.node) × (frame.node < length paths)) frames
+AreWithin paths frames = All (λ node. (0 < node) × (node < length paths)) (map node_in frames)
 
 abbrev pub trie_in : Inside → Trie
 trie_in a = record {

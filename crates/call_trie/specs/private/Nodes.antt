@@ -1,7 +1,7 @@
 -- The nodes of a trie: paths with their numbers and their tallies.
 use Rattle.std.specs.Prelude.{◌≡◌, ◌<◌, ◌≤◌, ◌+◌, ◌++◌, ℕ, List, [], ◌∷◌, drop, length, map, reverse, slice_index_or, vec_capacity}
 use Rattle.stack_rebuild.specs.declared.tally.Tally.{Tally}
-use Rattle.stack_rebuild.specs.PathSums.{AllNumbered, AreApart, path_at, tally_of}
+use Rattle.stack_rebuild.specs.PathSums.{AllNumbered, AreApart, no_tally, path_at, tally_of}
 use Rattle.stack_rebuild.specs.Stacks.{Timed}
 use Rattle.call_trie.specs.declared.nodes.Nodes.TheInside.{Inside}
 use Rattle.call_trie.specs.declared.table.Step.{Step}
@@ -50,6 +50,18 @@ IsNew paths path = (n : ℕ) → n < length paths → path_at paths n ≡ path �
 pub record IsAt (paths : List (List ℕ)) (path : List ℕ) (n : ℕ) : Type 0 where
   pub within : n < length paths
   pub is : path_at paths n ≡ path
+
+-- a path has this node: it had it before, or it is new and gets the next number
+pub data GetsNode (path : List ℕ) (old new : Numbered) (n : ℕ) : Type 0 where
+  had : IsAt old.paths path n → new ≡ old → GetsNode path old new n
+  got : IsNew old.paths path → length old.paths ≤ old.room → n ≡ length old.paths
+      → new ≡ record old { paths = old.paths ++ path ∷ []; tallies = old.tallies ++ no_tally ∷ [] } → GetsNode path old new n
+
+-- a path is new, and there is no node left for it
+pub record GetsNone (path : List ℕ) (old new : Numbered) : Type 0 where
+  pub absent : IsNew old.paths path
+  pub used : length old.paths ≡ old.room + 1
+  pub same : new ≡ old
 
 -- the tallies are what pairs say of the paths, and each pair's path has a number other than 0
 pub record AreTallies (paths : List (List ℕ)) (tallies : List Tally) (pairs : List Timed) : Type 0 where
