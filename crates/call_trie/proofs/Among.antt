@@ -36,7 +36,7 @@ equal_from Greater is = let never : false ≡ true = is in cc
 abbrev same_path : List ℕ → List ℕ → Bool
 same_path path other = is_eq (path_cmp other path)
 
-same_path_from : (path other : List ℕ) → same_path path other ≡ true → other ≡ path
+pub same_path_from : (path other : List ℕ) → same_path path other ≡ true → other ≡ path
 same_path_from path other is = slice_cmp-IsAntisymmetric nat_cmp-IsAntisymmetric other path (equal_from (path_cmp other path) is)
 
 same_path_is : (path other : List ℕ) → other ≡ path → same_path path other ≡ true
@@ -131,13 +131,13 @@ pub numbered_append : (paths : List (List ℕ)) (pairs : List Timed) (pair : Tim
 numbered_append paths [] pair all has = (has, tt)
 numbered_append paths (p ∷ pairs) pair all has = (all.0, numbered_append paths pairs pair all.1 has)
 
-has_own : (pair : Timed) → has_path pair.path pair ≡ true
+pub has_own : (pair : Timed) → has_path pair.path pair ≡ true
 has_own pair = ap is_eq (path_cmp_same pair.path)
 
-has_other : (path : List ℕ) (pair : Timed) → (pair.path ≡ path → ⊥) → has_path path pair ≡ false
+pub has_other : (path : List ℕ) (pair : Timed) → (pair.path ≡ path → ⊥) → has_path path pair ≡ false
 has_other path pair apart = differs path pair.path apart
 
-same_tally : (x y : Tally) → x.count ≡ y.count → x.sum ≡ y.sum → x.own ≡ y.own → x ≡ y
+pub same_tally : (x y : Tally) → x.count ≡ y.count → x.sum ≡ y.sum → x.own ≡ y.own → x ≡ y
 same_tally x y c s o =
     ap (λ (n : ℕ). tally_as n x.sum x.own) c ∙ (ap (λ (n : ℕ). tally_as y.count n x.own) s ∙ ap (λ (n : ℕ). tally_as y.count y.sum n) o)
   where

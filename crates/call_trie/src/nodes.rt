@@ -120,11 +120,11 @@ impl Nodes {
         // The number in the sums of each path.
         let mut numbers = Vec::with_capacity(alloc, self.tallies.len())?;
         numbers.push(0)?;
-        'adding: for number in 1..=self.table.len() {
-            let step = self.table.step(number);
-            let sum = sums.number_of(numbers[step.parent as usize], step.func)?;
-            sums.add_tally(sum, &self.tallies[number as usize - 1])?;
-            numbers.push(sum)?;
+        'adding: for place in 0..self.tallies.len() {
+            let step = self.table.step(place as u32 + 1);
+            let number = sums.number_of(numbers[step.parent as usize], step.func)?;
+            sums.add_tally(number, &self.tallies[place])?;
+            numbers.push(number)?;
         }
         Ok(())
     }
