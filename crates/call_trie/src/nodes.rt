@@ -3,7 +3,7 @@
 ghost use Rattle.std.specs.Prelude.{◌≡◌, ◌≤◌, ◌<◌, ◌↔◌, ◌+◌, ◌-◌, ◌^◌, ◌++◌, List, [], ◌∷◌, length, IfOk, IsTrue, MatchOption, OnOk, slice_index_or, slice_set};
 ghost use Rattle.stack_rebuild.specs.PathSums.{AreSums, no_tally, path_at, with_pair};
 ghost use Rattle.stack_rebuild.specs.Stacks.{Timed};
-ghost use Rattle.call_trie.specs.private.Nodes.{AreTallies, GetsNode, GetsNone, IsAt, IsNew};
+ghost use Rattle.call_trie.specs.private.Paths.{AreTallies, GetsNode, GetsNone, IsAt, IsNew};
 ghost use Rattle.call_trie.specs.private.Steps.{IsRoomy};
 
 use crate::table::{Step, Table};
@@ -26,7 +26,8 @@ pub(crate) struct Nodes {
 }
 
 impl Model for Nodes {
-    ghost use Rattle.call_trie.specs.private.Nodes.{AreNodes, Numbered, numbered_in};
+    ghost use Rattle.call_trie.specs.private.Paths.{Numbered};
+    ghost use Rattle.call_trie.specs.private.Nodes.{AreNodes, numbered_in};
 
     ghost Value = { Numbered };
 

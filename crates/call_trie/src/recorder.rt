@@ -37,7 +37,7 @@ impl Model for TrieRecorder {
 
     ghost Value = { Trie };
 
-    ghost use Rattle.call_trie.specs.private.Frames.{IsTrie, trie_in};
+    ghost use Rattle.call_trie.specs.private.Recorders.{IsTrie, trie_in};
 
     ghost view = { trie_in };
 

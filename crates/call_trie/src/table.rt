@@ -1,7 +1,7 @@
 //! Where the steps of a trie are found.
 
 ghost use Rattle.std.specs.Prelude.{◌≡◌, ◌≤◌, ◌<◌, ◌+◌, ◌-◌, ◌^◌, ◌++◌, [], ◌∷◌, length, IfOk, MatchOption, slice_index_or};
-ghost use Rattle.call_trie.specs.private.Tables.{AreChained, HasNone, IsNumberOf, bucket_in};
+ghost use Rattle.call_trie.specs.private.Chains.{AreChained, HasNone, IsNumberOf, bucket_in};
 
 use std::alloc::{AllocError, Global};
 use std::marker::Model;
@@ -39,7 +39,8 @@ pub(crate) struct Table {
 }
 
 impl Model for Table {
-    ghost use Rattle.call_trie.specs.private.Tables.{IsTable, Steps, steps_in};
+    ghost use Rattle.call_trie.specs.private.Chains.{Steps};
+    ghost use Rattle.call_trie.specs.private.Tables.{IsTable, steps_in};
 
     ghost Value = { Steps };
 

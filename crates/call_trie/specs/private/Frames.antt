@@ -1,11 +1,8 @@
 -- The frames of open calls.
-use Rattle.std.specs.Prelude.{◌<◌, ◌≤◌, ◌≡◌, ℕ, List, All, length, map, reverse, vec_capacity}
+use Rattle.std.specs.Prelude.{◌<◌, ℕ, List, All, length, map, reverse}
 use Rattle.stack_rebuild.specs.OpenPaths.{OpenPath}
 use Rattle.stack_rebuild.specs.PathSums.{path_at}
-use Rattle.stack_rebuild.specs.Stacks.{most_open}
 use Rattle.call_trie.specs.declared.frames.Frame.{Frame}
-use Rattle.call_trie.specs.declared.recorder.TrieRecorder.TheInside.{Inside}
-use Rattle.call_trie.specs.Tries.{Trie}
 
 -- the open call of a frame
 abbrev pub open_path : List (List ℕ) → Frame → OpenPath
@@ -22,18 +19,3 @@ node_in frame = frame.node
 -- the nodes of frames have numbers other than 0
 abbrev pub AreWithin : List (List ℕ) → List Frame → Type 0
 AreWithin paths frames = All (λ node. (0 < node) × (node < length paths)) (map node_in frames)
-
-abbrev pub trie_in : Inside → Trie
-trie_in a = record {
-  room = a.nodes.room;
-  state = a.state;
-  paths = a.nodes.paths;
-  tallies = a.nodes.tallies;
-  open = open_in a.nodes.paths a.frames.items;
-}
-
--- the nodes of frames are there, and there is room for as many frames as there may be
-pub record IsTrie (a : Inside) : Type 0 where
-  pub frames : AreWithin a.nodes.paths a.frames.items
-  pub few : length a.frames.items ≤ most_open
-  pub fit : most_open ≤ vec_capacity a.frames
