@@ -1,6 +1,6 @@
 -- What the fields of a recorder say.
-use Rattle.std.specs.Prelude.{◌≤◌, length, vec_capacity}
-use Rattle.stack_rebuild.specs.Stacks.{most_open}
+use Rattle.std.specs.Prelude.{◌≡◌, ◌<◌, [], length}
+use Rattle.stack_rebuild.specs.PathSums.{path_at}
 use Rattle.call_trie.specs.declared.recorder.TrieRecorder.TheInside.{Inside}
 use Rattle.call_trie.specs.private.Frames.{AreWithin, open_in}
 use Rattle.call_trie.specs.Tries.{Trie}
@@ -12,11 +12,11 @@ trie_in a = record {
   state = a.state;
   paths = a.nodes.paths;
   tallies = a.nodes.tallies;
-  open = open_in a.nodes.paths a.frames.items;
+  open = open_in a.nodes.paths a.frames;
 }
 
--- the nodes of frames are there, and there is room for as many frames as there may be
+-- the nodes of frames are there
 pub record IsTrie (a : Inside) : Type 0 where
-  pub frames : AreWithin a.nodes.paths a.frames.items
-  pub few : length a.frames.items ≤ most_open
-  pub fit : most_open ≤ vec_capacity a.frames
+  pub frames : AreWithin a.nodes.paths a.frames
+  pub root : path_at a.nodes.paths 0 ≡ []
+  pub some : 0 < length a.nodes.paths
