@@ -1,5 +1,5 @@
 -- Steps with numbers from 1 on. The steps of a bucket are chained, from the latest one to the first.
-use Rattle.std.specs.Prelude.{◌≡◌, ◌<◌, ◌≤◌, ◌+◌, ◌*◌, ◌-◌, ◌/◌, ◌%◌, ◌^◌, ℕ, List, length, slice_index_or}
+use Rattle.std.specs.Prelude.{◌≡◌, ◌<◌, ◌≤◌, ◌+◌, ◌*◌, ◌-◌, ◌/◌, ◌%◌, ◌^◌, ℕ, List, bit_xor, length, slice_index_or}
 use Rattle.call_trie.specs.declared.table.Step.{Step}
 use Rattle.call_trie.specs.declared.table.TheConstants.{PARENT_FACTOR, STEP_FACTOR}
 
@@ -21,7 +21,8 @@ HasNone steps step = (k : ℕ) (d : Step) → k < length steps → slice_index_o
 -- the bucket of a step, if there are so many
 unfoldable pub bucket_in : ℕ → Step → ℕ
 bucket_in buckets step =
-    (step.parent * PARENT_FACTOR % 2 ^ 64 + step.func) % 2 ^ 64 * STEP_FACTOR % 2 ^ 64 / 2 ^ 32 * buckets / 2 ^ 32
+    let both = (step.parent * PARENT_FACTOR % 2 ^ 64 + step.func) % 2 ^ 64 in
+    bit_xor both (both / 2 ^ 32) * STEP_FACTOR % 2 ^ 64 / 2 ^ 32 * buckets / 2 ^ 32
 
 -- this is the number of the latest of the first so many steps that is in a bucket, or 0 if none is
 pub record IsLatest (buckets : ℕ) (steps : List Step) (bucket count n : ℕ) : Type 0 where
