@@ -1,3 +1,4 @@
+pub mod Adding
 pub mod Among
 pub mod Bounds
 pub mod FrameLemmas

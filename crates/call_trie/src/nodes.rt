@@ -113,6 +113,7 @@ impl Nodes {
 
     /// Adds the tallies of all paths to sums.
     pub(crate) fn add_to(&self, alloc: Global, sums: &mut PathSums) -> Result<(), NoMemory>
+        requires { (before : List Timed) × AreSums sums.old.paths sums.old.tallies before }
         ensures { OnOk result ((before pairs : List Timed)
             → AreSums sums.old.paths sums.old.tallies before
             → AreTallies self.now.paths self.now.tallies pairs

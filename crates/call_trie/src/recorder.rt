@@ -109,7 +109,8 @@ impl TrieRecorder {
 
     /// Adds what it says of each path to sums.
     pub(crate) fn add_to(&self, alloc: Global, sums: &mut PathSums) -> Result<(), NoMemory>
-        requires { self.now.state ≡ TrieState.Live }
+        requires live { self.now.state ≡ TrieState.Live }
+        requires sums { (before : List Timed) × AreSums sums.old.paths sums.old.tallies before }
         ensures { OnOk result ((before : List Timed) (events : List Event)
             → AreSums sums.old.paths sums.old.tallies before → StandsFor self.now events
             → AreSums sums.new.paths sums.new.tallies (before ++ timed_pairs events)) }

@@ -1,5 +1,5 @@
 -- The paths of a trie, with their numbers and their tallies.
-use Rattle.std.specs.Prelude.{◌≡◌, ◌<◌, ◌≤◌, ◌+◌, ◌++◌, ℕ, List, [], ◌∷◌, drop, length, map, reverse, slice_index_or}
+use Rattle.std.specs.Prelude.{◌≡◌, ◌<◌, ◌≤◌, ◌+◌, ◌++◌, ℕ, List, [], ◌∷◌, length, map, reverse, slice_index_or}
 use Rattle.stack_rebuild.specs.declared.tally.Tally.{Tally}
 use Rattle.stack_rebuild.specs.PathSums.{AllNumbered, AreApart, no_tally, path_at, tally_of}
 use Rattle.stack_rebuild.specs.Stacks.{Timed}
@@ -53,7 +53,9 @@ pub record GetsNone (path : List ℕ) (old new : Numbered) : Type 0 where
   pub used : length old.paths ≡ old.room + 1
   pub same : new ≡ old
 
--- the tallies are what pairs say of the paths, and each pair's path has a number other than 0
+-- the tallies are what pairs say of the paths after the empty one, and each pair has one of these paths
 pub record AreTallies (paths : List (List ℕ)) (tallies : List Tally) (pairs : List Timed) : Type 0 where
-  pub tallies_are : tallies ≡ map (tally_of pairs) (drop 1 paths)
-  pub numbered : AllNumbered (drop 1 paths) pairs
+  pub opened : List (List ℕ)
+  pub paths_are : paths ≡ [] ∷ opened
+  pub tallies_are : tallies ≡ map (tally_of pairs) opened
+  pub numbered : AllNumbered opened pairs
