@@ -8,27 +8,29 @@ use Rattle.stack_rebuild.specs.PathSums.{AreApart, AreOfPath, AreSums, HasNumber
 use Rattle.stack_rebuild.specs.Stacks.{Timed}
 use Rattle.call_trie.specs.declared.table.Step.{Step}
 use Rattle.call_trie.specs.private.Chains.{IsNumberOf}
-use Rattle.call_trie.specs.private.Paths.{AreTallies, Climb, IsAt, path_by}
+use Rattle.call_trie.specs.private.Paths.{AreTallies, Climb, HasRoot, IsAt, path_by}
 use Rattle.call_trie.proofs.Among.{Has}
 use Rattle.call_trie.proofs.Grouping.{are_of_path, grouped, grouped_more, pairs_with, sums_of_all}
 
 -- The tallies of the first so many paths after the empty one were added. Each of these paths has a number in the sums.
 pub record Adds (old now : Summed) (paths : List (List ℕ)) (tallies : List Tally) (numbers : List ℕ) (k : ℕ) : Type 0 where
+  pub root : HasRoot now.paths
   pub count : length numbers ≡ k + 1
   pub each : (i : ℕ) → i < length numbers → IsAt now.paths (path_at paths i) (get_or numbers i 0)
   pub sums : (before pairs : List Timed) → AreSums old.paths old.tallies before → (own : AreTallies paths tallies pairs)
       → AreSums now.paths now.tallies (before ++ grouped pairs (take k own.opened))
 
-pub adds_none : (old : Summed) (steps_paths : List (List ℕ)) (tallies : List Tally) (numbers : List ℕ) (some : List Timed) → AreSums old.paths old.tallies some
+pub adds_none : (old : Summed) (steps_paths : List (List ℕ)) (tallies : List Tally) (numbers : List ℕ) → HasRoot old.paths
     → path_at steps_paths 0 ≡ [] → numbers ≡ 0 ∷ [] → Adds old old steps_paths tallies numbers 0
-adds_none old paths tallies numbers some sums root is = record {
+adds_none old paths tallies numbers has root is = record {
+  root = has;
   count = ap {B = ℕ} length is;
   each = λ i within. subst (λ (l : List ℕ). (j : ℕ) → j < length l → IsAt old.paths (path_at paths j) (get_or l j 0)) (sym is) first i within;
   sums = λ before pairs so own. subst (AreSums old.paths old.tallies) (sym (append-nil before)) so;
 }
   where
     first : (j : ℕ) → j < length (0 ∷ []) → IsAt old.paths (path_at paths j) (get_or (0 ∷ []) j 0)
-    first zero within = record { within = sums.some; is = sums.root ∙ sym root }
+    first zero within = record { within = has.some; is = has.root ∙ sym root }
     first (suc j) within = absurd (omega (arith, within))
 
 -- a path that has a number still has it
@@ -67,6 +69,7 @@ pub adds_more : (old now mid new : Summed) (steps : List Step) (paths : List (Li
     → numbers' ≡ numbers ++ n ∷ [] → Adds old new paths tallies numbers' (k + 1)
 adds_more old now mid new steps paths tallies numbers numbers' k n parent step d climb level adds own parent_is number kept same added longer =
     subst (λ (l : List ℕ). Adds old new paths tallies l (k + 1)) (sym longer) (record {
+      root = record { some = rooted.within; root = rooted.is };
       count = omega (arith, adds.count, length-append numbers (n ∷ []));
       each = λ i within. below_more (λ m. IsAt new.paths (path_at paths m) (get_or (numbers ++ n ∷ []) m 0)) (length numbers)
           (λ m low. subst (IsAt new.paths (path_at paths m)) (sym (get_or-append numbers (n ∷ []) 0 m low))
@@ -75,6 +78,11 @@ adds_more old now mid new steps paths tallies numbers numbers' k n parent step d
       sums = λ before pairs so mine. sum before pairs so mine;
     })
   where
+    rooted : IsAt new.paths [] 0
+    rooted =
+        grown (path_at now.paths parent ++ step.func ∷ []) n now.paths mid.paths new.paths [] 0 number same
+        (record { within = adds.root.some; is = adds.root.root })
+
     front : path_at now.paths parent ≡ path_at paths step.parent
     front = ap (path_at now.paths) parent_is ∙ (parent_number old now steps paths tallies numbers k step climb adds own).is
 

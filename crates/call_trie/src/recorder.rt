@@ -6,6 +6,7 @@ ghost use Rattle.fdr_record.specs.Recordable.{IsRecordable};
 ghost use Rattle.stack_rebuild.specs.OpenPaths.{innermost_path};
 ghost use Rattle.stack_rebuild.specs.PathSums.{AreSums};
 ghost use Rattle.stack_rebuild.specs.Stacks.{Timed, timed_pairs};
+ghost use Rattle.call_trie.specs.private.Paths.{HasRoot};
 
 use crate::frames::{Frame, Frames};
 use crate::nodes::Nodes;
@@ -110,8 +111,9 @@ impl TrieRecorder {
     /// Adds what it says of each path to sums.
     pub(crate) fn add_to(&self, alloc: Global, sums: &mut PathSums) -> Result<(), NoMemory>
         requires live { self.now.state ≡ TrieState.Live }
-        requires sums { (before : List Timed) × AreSums sums.old.paths sums.old.tallies before }
-        ensures { OnOk result ((before : List Timed) (events : List Event)
+        requires root { HasRoot sums.old.paths }
+        ensures root { OnOk result (HasRoot sums.new.paths) }
+        ensures sums { OnOk result ((before : List Timed) (events : List Event)
             → AreSums sums.old.paths sums.old.tallies before → StandsFor self.now events
             → AreSums sums.new.paths sums.new.tallies (before ++ timed_pairs events)) }
     {

@@ -53,6 +53,11 @@ pub record GetsNone (path : List ℕ) (old new : Numbered) : Type 0 where
   pub used : length old.paths ≡ old.room + 1
   pub same : new ≡ old
 
+-- number 0 is the empty path
+pub record HasRoot (paths : List (List ℕ)) : Type 0 where
+  pub some : 0 < length paths
+  pub root : path_at paths 0 ≡ []
+
 -- the tallies are what pairs say of the paths after the empty one, and each pair has one of these paths
 pub record AreTallies (paths : List (List ℕ)) (tallies : List Tally) (pairs : List Timed) : Type 0 where
   pub opened : List (List ℕ)
