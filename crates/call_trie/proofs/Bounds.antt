@@ -126,5 +126,5 @@ roomy trie events live own short =
     let few : length (pairs_of events) ≤ length events = omega (arith, pairs.few, length-reverse events) in record {
       tallies = subst (All IsRoomy) (sym (own.tallies live))
           (tallies_roomy events (paths_opened events) short (timed_short events (pairs_of events) pairs.short) (omega (arith, few, length-map (pairs_of events) (timed events))));
-      open = subst (All (λ (call : OpenPath). call.spent < 2 ^ 127)) (sym (own.open live)) (open_roomy events (open_calls (reverse events)) short pairs.short few);
+      calls = subst (All (λ (call : OpenPath). call.spent < 2 ^ 127)) (sym (own.calls live)) (open_roomy events (open_calls (reverse events)) short pairs.short few);
     }

@@ -51,7 +51,7 @@ snoc P nil step events = subst P (reverse-reverse events) (all (reverse events))
 -- ---- the open calls and the pairs
 
 abbrev stacked_with : List OpenPath → List Timed → Stacked
-stacked_with open pairs = record { open = open; pairs = pairs }
+stacked_with calls pairs = record { calls = calls; pairs = pairs }
 
 entry_stack : Law → (events : List Event) (e : Event) → IsEntry e
     → stacked_after (events ++ e ∷ []) ≡ stacked_with (opened_by e (open_of events) ∷ open_of events) (timed_pairs events)
@@ -86,7 +86,7 @@ entry_paths law events e is =
     let own : path_of (open_calls (e ∷ h)) ≡ (opened_by e (open_of events)).path =
     sym (innermost_is (events ++ e ∷ []) (open_calls (e ∷ h)))
     ∙ (ap (λ (hs : List Event). innermost_path (open_paths (events ++ e ∷ []) (open_calls hs))) (sym (turned events e))
-    ∙ ap (λ (s : Stacked). innermost_path s.open) (entry_stack law events e is)) in
+    ∙ ap (λ (s : Stacked). innermost_path s.calls) (entry_stack law events e is)) in
     ap paths_in (turned events e)
     ∙ (ap (λ b. cond b (with_path (paths_in h) (path_of (open_calls (e ∷ h)))) (paths_in h)) (opens is)
     ∙ ap (with_path (paths_in h)) own)
@@ -110,11 +110,11 @@ abbrev AllOpen : List (List ℕ) → List OpenPath → Type 0
 AllOpen paths [] = Unit {0}
 AllOpen paths (call ∷ outer) = Has paths call.path × AllOpen paths outer
 
-open_kept : (old new : List (List ℕ)) (open : List OpenPath) → Keeps old new → AllOpen old open → AllOpen new open
+open_kept : (old new : List (List ℕ)) (calls : List OpenPath) → Keeps old new → AllOpen old calls → AllOpen new calls
 open_kept old new [] keeps all = tt
 open_kept old new (call ∷ outer) keeps all = (has_kept old new call.path keeps all.0, open_kept old new outer keeps all.1)
 
-from_open : (paths : List (List ℕ)) (func : ℕ) (open : List OpenPath) → AllOpen paths open → AllOpen paths (open_from func open)
+from_open : (paths : List (List ℕ)) (func : ℕ) (calls : List OpenPath) → AllOpen paths calls → AllOpen paths (open_from func calls)
 from_open paths func [] all = tt
 from_open paths func (call ∷ outer) all = by_func (nat_eq call.func func) (from_open paths func outer all.1)
   where
@@ -122,21 +122,21 @@ from_open paths func (call ∷ outer) all = by_func (nat_eq call.func func) (fro
     by_func true later = all
     by_func false later = later
 
-open_spent : (paths : List (List ℕ)) (duration : ℕ) (open : List OpenPath) → AllOpen paths open → AllOpen paths (with_spent duration open)
+open_spent : (paths : List (List ℕ)) (duration : ℕ) (calls : List OpenPath) → AllOpen paths calls → AllOpen paths (with_spent duration calls)
 open_spent paths duration [] all = tt
 open_spent paths duration (call ∷ outer) all = all
 
 -- the paths of the pairs and of the open calls are among those that were opened, and no two of these are the same
 pub record Known (paths : List (List ℕ)) (s : Stacked) : Type 0 where
   pub pairs : AllNumbered paths s.pairs
-  pub open : AllOpen paths s.open
+  pub calls : AllOpen paths s.calls
   pub apart : AreApart paths
 
 known_closing : (paths : List (List ℕ)) (e : Event) (s : Stacked) (found : List OpenPath) → Known paths s → AllOpen paths found → Known paths (stacked_closing e s found)
 known_closing paths e s [] own all = own
 known_closing paths e s (call ∷ outer) own all = record {
   pairs = numbered_append paths s.pairs (pair_of_open e call) own.pairs all.0;
-  open = open_spent paths (cycles_between call.tsc e.tsc) outer all.1;
+  calls = open_spent paths (cycles_between call.tsc e.tsc) outer all.1;
   apart = own.apart;
 }
 
@@ -144,7 +144,7 @@ pub known_after : Law → (events : List Event) → Known (paths_opened events) 
 known_after law = snoc (λ events. Known (paths_opened events) (stacked_after events)) nil (λ events e own. step events e own (either e))
   where
     nil : Known (paths_opened []) (stacked_after [])
-    nil = record { pairs = tt; open = tt; apart = record { apart = λ n m low high same. absurd (omega (arith, low)) } }
+    nil = record { pairs = tt; calls = tt; apart = record { apart = λ n m low high same. absurd (omega (arith, low)) } }
 
     step : (events : List Event) (e : Event) → Known (paths_opened events) (stacked_after events) → IsEntry e ⊎ IsExit e
         → Known (paths_opened (events ++ e ∷ [])) (stacked_after (events ++ e ∷ []))
@@ -155,13 +155,13 @@ known_after law = snoc (λ events. Known (paths_opened events) (stacked_after ev
         (subst (λ (paths : List (List ℕ)). Known paths (stacked_with (call ∷ open_of events) (timed_pairs events))) (sym (entry_paths law events e is))
         (record {
           pairs = numbered_kept (paths_opened events) (with_path (paths_opened events) call.path) (timed_pairs events) more.keeps own.pairs;
-          open = (more.has, open_kept (paths_opened events) (with_path (paths_opened events) call.path) (open_of events) more.keeps own.open);
+          calls = (more.has, open_kept (paths_opened events) (with_path (paths_opened events) call.path) (open_of events) more.keeps own.calls);
           apart = more.apart own.apart;
         }))
     step events e own (inr is) =
         subst (λ (s : Stacked). Known (paths_opened (events ++ e ∷ [])) s) (sym (exit_stack law events e is))
         (subst (λ (paths : List (List ℕ)). Known paths (stacked_closing e (stacked_after events) (open_from e.func (open_of events)))) (sym (exit_paths events e is))
-        (known_closing (paths_opened events) e (stacked_after events) (open_from e.func (open_of events)) own (from_open (paths_opened events) e.func (open_of events) own.open)))
+        (known_closing (paths_opened events) e (stacked_after events) (open_from e.func (open_of events)) own (from_open (paths_opened events) e.func (open_of events) own.calls)))
 
 -- ---- the state
 
@@ -228,7 +228,7 @@ stands_stopped trie events e stopped own = record {
   state = own.state ∙ sym (state_stays trie.room events e (λ live. stopped (own.state ∙ live)));
   paths = λ live. absurd (stopped live);
   tallies = λ live. absurd (stopped live);
-  open = λ live. absurd (stopped live);
+  calls = λ live. absurd (stopped live);
 }
 
 -- the numbers of paths, without the empty path
@@ -242,9 +242,9 @@ new_opened paths path absent k within is = absent (suc k) (omega (arith, within)
 
 -- an entry
 pub stands_entered : Law → (old new : Trie) (events : List Event) (e : Event) → IsEntry e → old.state ≡ Live → StandsFor old events
-    → Enters (opened_by e old.open) old new → StandsFor new (events ++ e ∷ [])
+    → Enters (opened_by e old.calls) old new → StandsFor new (events ++ e ∷ [])
 stands_entered law old new events e is live own enters_now =
-    by_case (subst (λ (open : List OpenPath). Enters (opened_by e open) old new) (own.open live) enters_now)
+    by_case (subst (λ (calls : List OpenPath). Enters (opened_by e calls) old new) (own.calls live) enters_now)
   where
     call : OpenPath
     call = opened_by e (open_of events)
@@ -262,7 +262,7 @@ stands_entered law old new events e is live own enters_now =
     stack = entry_stack law events e is
 
     open_now : open_of (events ++ e ∷ []) ≡ call ∷ open_of events
-    open_now = ap (λ (s : Stacked). s.open) stack
+    open_now = ap (λ (s : Stacked). s.calls) stack
 
     pairs_now : timed_pairs (events ++ e ∷ []) ≡ timed_pairs events
     pairs_now = ap (λ (s : Stacked). s.pairs) stack
@@ -279,8 +279,8 @@ stands_entered law old new events e is live own enters_now =
     as_in : paths_opened (events ++ e ∷ []) ≡ paths_in (e ∷ h)
     as_in = ap paths_in (turned events e)
 
-    size : length old.open ≡ length (open_of events)
-    size = ap {B = ℕ} length (own.open live)
+    size : length old.calls ≡ length (open_of events)
+    size = ap {B = ℕ} length (own.calls live)
 
     count : length old.paths ≡ suc (length (paths_opened events))
     count = ap {B = ℕ} length (own.paths live)
@@ -291,7 +291,7 @@ stands_entered law old new events e is live own enters_now =
           state = sym (state_now old.room events e was ∙ found);
           paths = λ never. absurd (stopped never);
           tallies = λ never. absurd (stopped never);
-          open = λ never. absurd (stopped never);
+          calls = λ never. absurd (stopped never);
         })
 
     by_case : Enters call old new → StandsFor new (events ++ e ∷ [])
@@ -313,7 +313,7 @@ stands_entered law old new events e is live own enters_now =
           paths = λ still. own.paths live ∙ ap (λ (ps : List (List ℕ)). [] ∷ ps) (sym same);
           tallies = λ still. own.tallies live ∙ (ap (λ (ps : List Timed). map (tally_of ps) (paths_opened events)) (sym pairs_now)
               ∙ ap (map (tally_of (timed_pairs (events ++ e ∷ [])))) (sym same));
-          open = λ still. ap (λ (l : List OpenPath). call ∷ l) (own.open live) ∙ sym open_now;
+          calls = λ still. ap (λ (l : List OpenPath). call ∷ l) (own.calls live) ∙ sym open_now;
         })
     by_case (fresh few absent room is_new) =
         let own_new : IsNew (paths_opened events) call.path = new_opened (paths_opened events) call.path (subst (λ (ps : List (List ℕ)). IsNew ps call.path) (own.paths live) absent) in
@@ -330,11 +330,11 @@ stands_entered law old new events e is live own enters_now =
               ∙ (sym (map-append (tally_of (timed_pairs events)) (paths_opened events) (call.path ∷ []))
               ∙ (ap (λ (ps : List Timed). map (tally_of ps) (paths_opened events ++ call.path ∷ [])) (sym pairs_now)
               ∙ ap (map (tally_of (timed_pairs (events ++ e ∷ [])))) (sym longer))));
-          open = λ still. ap (λ (l : List OpenPath). call ∷ l) (own.open live) ∙ sym open_now;
+          calls = λ still. ap (λ (l : List OpenPath). call ∷ l) (own.calls live) ∙ sym open_now;
         })
 
 -- fewer calls are open than before
-from_shorter : (func : ℕ) (open : List OpenPath) → length (open_from func open) ≤ length open
+from_shorter : (func : ℕ) (calls : List OpenPath) → length (open_from func calls) ≤ length calls
 from_shorter func [] = omega arith
 from_shorter func (call ∷ outer) = by_func (nat_eq call.func func) (from_shorter func outer)
   where
@@ -342,7 +342,7 @@ from_shorter func (call ∷ outer) = by_func (nat_eq call.func func) (from_short
     by_func true later = omega arith
     by_func false later = omega (arith, later)
 
-spent_long : (duration : ℕ) (open : List OpenPath) → length (with_spent duration open) ≡ length open
+spent_long : (duration : ℕ) (calls : List OpenPath) → length (with_spent duration calls) ≡ length calls
 spent_long duration [] = refl
 spent_long duration (call ∷ outer) = refl
 
@@ -366,10 +366,10 @@ stands_left law old new events e is live own = by_case
     same : paths_opened (events ++ e ∷ []) ≡ paths_opened events
     same = exit_paths events e is
 
-    stack : (found : List OpenPath) → open_from e.func old.open ≡ found → stacked_after (events ++ e ∷ []) ≡ stacked_closing e (stacked_after events) found
+    stack : (found : List OpenPath) → open_from e.func old.calls ≡ found → stacked_after (events ++ e ∷ []) ≡ stacked_closing e (stacked_after events) found
     stack found at =
         exit_stack law events e is
-        ∙ ap (stacked_closing e (stacked_after events)) (ap (open_from e.func) (sym (own.open live)) ∙ at)
+        ∙ ap (stacked_closing e (stacked_after events)) (ap (open_from e.func) (sym (own.calls live)) ∙ at)
 
     goes_on : length (open_of (events ++ e ∷ [])) ≤ most_open → state_after old.room (events ++ e ∷ []) ≡ Live
     goes_on few =
@@ -380,14 +380,14 @@ stands_left law old new events e is live own = by_case
     by_case : Leaves e.func e.tsc old new → StandsFor new (events ++ e ∷ [])
     by_case (none found is_new) =
         let after = stack [] found in
-        let open_now : open_of (events ++ e ∷ []) ≡ open_of events = ap (λ (s : Stacked). s.open) after in
+        let open_now : open_of (events ++ e ∷ []) ≡ open_of events = ap (λ (s : Stacked). s.calls) after in
         let pairs_now : timed_pairs (events ++ e ∷ []) ≡ timed_pairs events = ap (λ (s : Stacked). s.pairs) after in
         subst (λ (t : Trie). StandsFor t (events ++ e ∷ [])) (sym is_new) (record {
           state = live ∙ sym (goes_on (let as_many : length (open_of (events ++ e ∷ [])) ≡ length (open_of events) = ap {B = ℕ} length open_now in omega (arith, as_many, shallow)));
           paths = λ still. own.paths live ∙ ap (λ (ps : List (List ℕ)). [] ∷ ps) (sym same);
           tallies = λ still. own.tallies live ∙ (ap (λ (ps : List Timed). map (tally_of ps) (paths_opened events)) (sym pairs_now)
               ∙ ap (map (tally_of (timed_pairs (events ++ e ∷ [])))) (sym same));
-          open = λ still. own.open live ∙ sym open_now;
+          calls = λ still. own.calls live ∙ sym open_now;
         })
     by_case (ended call outer n found some at is_new) =
         let after = stack (call ∷ outer) found in
@@ -395,19 +395,19 @@ stands_left law old new events e is live own = by_case
         let pair = pair_of_open e call in
         let paths = paths_opened events in
         let pairs = timed_pairs events in
-        let open_now : open_of (events ++ e ∷ []) ≡ with_spent duration outer = ap (λ (s : Stacked). s.open) after in
+        let open_now : open_of (events ++ e ∷ []) ≡ with_spent duration outer = ap (λ (s : Stacked). s.calls) after in
         let pairs_now : timed_pairs (events ++ e ∷ []) ≡ pairs ++ pair ∷ [] = ap (λ (s : Stacked). s.pairs) after in
-        let fewer : suc (length outer) ≤ length old.open = omega (arith, from_shorter e.func old.open, ap {B = ℕ} length found) in
+        let fewer : suc (length outer) ≤ length old.calls = omega (arith, from_shorter e.func old.calls, ap {B = ℕ} length found) in
         let its : (n - 1 < length paths) × (path_at paths (n - 1) ≡ call.path) = below n some (subst (λ (ps : List (List ℕ)). IsAt ps call.path n) (own.paths live) at) in
         subst (λ (t : Trie). StandsFor t (events ++ e ∷ [])) (sym is_new) (record {
           state = live ∙ sym (goes_on (let as_many : length (open_of (events ++ e ∷ [])) ≡ length (with_spent duration outer) = ap {B = ℕ} length open_now in
-              let size : length old.open ≡ length (open_of events) = ap {B = ℕ} length (own.open live) in
+              let size : length old.calls ≡ length (open_of events) = ap {B = ℕ} length (own.calls live) in
               omega (arith, as_many, spent_long duration outer, fewer, size, shallow)));
           paths = λ still. own.paths live ∙ ap (λ (ps : List (List ℕ)). [] ∷ ps) (sym same);
           tallies = λ still. ap (λ (ts : List Tally). set ts (n - 1) (with_pair duration (duration - call.spent) (get_or ts (n - 1) no_tally))) (own.tallies live)
               ∙ (sym (tallies_more paths pairs pair (n - 1) (known_after law events).apart its.0 its.1)
               ∙ (ap (λ (ps : List Timed). map (tally_of ps) paths) (sym pairs_now) ∙ ap (map (tally_of (timed_pairs (events ++ e ∷ [])))) (sym same)));
-          open = λ still. sym open_now;
+          calls = λ still. sym open_now;
         })
       where
         below : (m : ℕ) → 0 < m → IsAt ([] ∷ paths_opened events) call.path m → (m - 1 < length (paths_opened events)) × (path_at (paths_opened events) (m - 1) ≡ call.path)

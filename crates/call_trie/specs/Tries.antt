@@ -20,7 +20,7 @@ pub record Trie : Type 0 where
   pub state : TrieState
   pub paths : List (List ℕ)
   pub tallies : List Tally
-  pub open : List OpenPath
+  pub calls : List OpenPath
 
 -- ---- the paths that entries opened
 
@@ -72,7 +72,7 @@ pub record StandsFor (trie : Trie) (events : List Event) : Type 0 where
   pub state : trie.state ≡ state_after trie.room events
   pub paths : trie.state ≡ Live → trie.paths ≡ [] ∷ paths_opened events
   pub tallies : trie.state ≡ Live → trie.tallies ≡ map (tally_of (timed_pairs events)) (paths_opened events)
-  pub open : trie.state ≡ Live → trie.open ≡ open_of events
+  pub calls : trie.state ≡ Live → trie.calls ≡ open_of events
 
 -- it has nodes for as many paths as before
 pub record HasSameRoom (old new : Trie) : Type 0 where

@@ -80,7 +80,7 @@ impl Frames {
     }
 
     /// Opens a call inside the others.
-    pub(crate) fn open(&mut self, frame: Frame)
+    pub(crate) fn begin(&mut self, frame: Frame)
         requires { length self.old < most_open }
         ensures { self.new ≡ self.old ++ frame ∷ [] }
     {

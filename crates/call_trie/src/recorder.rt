@@ -74,7 +74,7 @@ impl TrieRecorder {
 
     /// Takes an entry.
     fn enter(&mut self, func: u32, tsc: u64)
-        ensures { let path = innermost_path self.old.open ++ func ∷ [] in
+        ensures { let path = innermost_path self.old.calls ++ func ∷ [] in
             Enters (record { func = func; path = path; tsc = tsc; spent = 0 }) self.old self.new }
     {
         if self.frames.len() == MOST_OPEN {
@@ -83,7 +83,7 @@ impl TrieRecorder {
         }
         match self.nodes.node_of(self.frames.innermost(), func) {
             Some(node) => {
-                self.frames.open(Frame {
+                self.frames.begin(Frame {
                     node,
                     func,
                     tsc,

@@ -21,7 +21,7 @@ abbrev opened : Call → List Call → ℕ → OpenPath
 opened call outer spent = record { func = call.func; path = path_of (call ∷ outer); tsc = call.tsc; spent = spent }
 
 abbrev stacked_with : List OpenPath → List Timed → Stacked
-stacked_with open pairs = record { open = open; pairs = pairs }
+stacked_with calls pairs = record { calls = calls; pairs = pairs }
 
 -- a thread after a history
 abbrev stacked_at : List Event → Stacked

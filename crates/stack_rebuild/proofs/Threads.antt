@@ -49,9 +49,9 @@ rows_same ps qs same =
         same_row (path_row ps path) (path_row qs path) refl (same (λ p. cond (has_path path p) 1 0)) (same (λ p. cond (has_path path p) p.duration 0))
         (same (λ p. cond (has_path path p) p.own 0))
 
-    moved : (as bs : List Timed) → ((f : Timed → ℕ) → sum_by f as ≡ sum_by f bs) → (path : List ℕ) → IsIn path (paths_of_pairs as) → IsIn path (paths_of_pairs bs)
-    moved as bs equal path is =
-        counted-in path bs (subst (λ (n : ℕ). 0 < n) (equal (λ p. cond (has_path path p) 1 0)) (in-counted path as is))
+    moved : (xs ys : List Timed) → ((f : Timed → ℕ) → sum_by f xs ≡ sum_by f ys) → (path : List ℕ) → IsIn path (paths_of_pairs xs) → IsIn path (paths_of_pairs ys)
+    moved xs ys equal path is =
+        counted-in path ys (subst (λ (n : ℕ). 0 < n) (equal (λ p. cond (has_path path p) 1 0)) (in-counted path xs is))
 
     paths : each_once path_cmp (paths_of_pairs ps) ≡ each_once path_cmp (paths_of_pairs qs)
     paths =

@@ -31,11 +31,11 @@ open_of events = open_paths events (open_calls (reverse events))
 -- a thread after some events: its open calls, from the innermost to the outermost, and its pairs, in the order of their
 -- exits
 pub record Stacked : Type 0 where
-  pub open : List OpenPath
+  pub calls : List OpenPath
   pub pairs : List Timed
 
 abbrev pub stacked_after : List Event → Stacked
-stacked_after events = record { open = open_of events; pairs = timed_pairs events }
+stacked_after events = record { calls = open_of events; pairs = timed_pairs events }
 
 -- the path of the innermost call, or the empty path if no call is open
 abbrev pub innermost_path : List OpenPath → List ℕ
@@ -44,7 +44,7 @@ innermost_path (call ∷ outer) = call.path
 
 -- the call that an entry opens
 abbrev pub opened_by : Event → List OpenPath → OpenPath
-opened_by e open = record { func = e.func; path = innermost_path open ++ e.func ∷ []; tsc = e.tsc; spent = 0 }
+opened_by e calls = record { func = e.func; path = innermost_path calls ++ e.func ∷ []; tsc = e.tsc; spent = 0 }
 
 -- the calls from the innermost one of a function outwards, or none if no call of the function is open
 abbrev pub open_from : ℕ → List OpenPath → List OpenPath
@@ -63,14 +63,14 @@ pair_of_open e call = let duration = cycles_between call.tsc e.tsc in record { p
 -- what an exit leaves, by the call that it ends and those outside it
 abbrev pub stacked_closing : Event → Stacked → List OpenPath → Stacked
 stacked_closing e before [] = before
-stacked_closing e before (call ∷ outer) = record { open = with_spent (cycles_between call.tsc e.tsc) outer; pairs = before.pairs ++ pair_of_open e call ∷ [] }
+stacked_closing e before (call ∷ outer) = record { calls = with_spent (cycles_between call.tsc e.tsc) outer; pairs = before.pairs ++ pair_of_open e call ∷ [] }
 
 -- the thread after one more event
 abbrev pub next_by_kind : Kind → Event → Stacked → Stacked
-next_by_kind Entry e before = record { open = opened_by e before.open ∷ before.open; pairs = before.pairs }
-next_by_kind EntryArgs e before = record { open = opened_by e before.open ∷ before.open; pairs = before.pairs }
-next_by_kind Exit e before = stacked_closing e before (open_from e.func before.open)
-next_by_kind TailExit e before = stacked_closing e before (open_from e.func before.open)
+next_by_kind Entry e before = record { calls = opened_by e before.calls ∷ before.calls; pairs = before.pairs }
+next_by_kind EntryArgs e before = record { calls = opened_by e before.calls ∷ before.calls; pairs = before.pairs }
+next_by_kind Exit e before = stacked_closing e before (open_from e.func before.calls)
+next_by_kind TailExit e before = stacked_closing e before (open_from e.func before.calls)
 
 abbrev pub next_stacked : Event → Stacked → Stacked
 next_stacked e before = next_by_kind e.kind e before

@@ -12,7 +12,7 @@ trie_in a = record {
   state = a.state;
   paths = a.nodes.paths;
   tallies = a.nodes.tallies;
-  open = open_in a.nodes.paths a.frames;
+  calls = open_in a.nodes.paths a.frames;
 }
 
 -- the nodes of frames are there
