@@ -1,5 +1,5 @@
 -- The chains of a table: the way along one, and one more step.
-use Rattle.std.proofs.Common.{◌≡◌, ◌≢◌, ◌+◌, ◌-◌, ◌*◌, ◌/◌, ◌^◌, ◌++◌, ◌<◌, ◌≤◌, ◌∙◌, ℕ, zero, suc, Bool, true, false, List, [], ◌∷◌, length, refl, ap, sym, subst, arith, nat_eq, nat_lt, get_or, set, below_more, length-append}
+use Rattle.std.proofs.Common.{◌≡◌, ◌≢◌, ◌+◌, ◌-◌, ◌*◌, ◌/◌, ◌%◌, ◌^◌, ◌++◌, ◌<◌, ◌≤◌, ◌∙◌, ◌&&◌, ℕ, zero, suc, Bool, true, false, List, [], ◌∷◌, length, refl, ap, sym, subst, arith, nat_eq, nat_lt, get_or, set, below_more, length-append}
 use Rattle.std.specs.Prelude.{replicate}
 use Rattle.std.proofs.Math.ListN.{get_or-append}
 use Rattle.std.proofs.Math.Seq.{get_or-append_seam}
@@ -7,11 +7,15 @@ use Rattle.std.proofs.lemmas.Bool.{eq-eqb}
 use Rattle.std.proofs.lemmas.Bool.Decides.{nat_tests}
 use Rattle.std.proofs.lemmas.List.{get_or-set_other, get_or-set_same, length-set}
 use Rattle.std.proofs.Math.Nat.{mul-lt-mul_of_pos_right}
-use Rattle.std.proofs.lemmas.Nat.{div_below, mul-lt}
+use Rattle.std.proofs.lemmas.Nat.{div_below, mod_below, mul-lt}
 use Rattle.call_trie.specs.declared.table.Step.{Step}
 use Rattle.call_trie.specs.private.Chains.{AreChained, HasNone, IsLatest, IsNumberOf, Walks, bucket_in}
 
 -- ---- buckets
+
+-- the upper half of a number of 64 bits
+pub part_low : (n : ℕ) → n % 2 ^ 64 / 2 ^ 32 < 2 ^ 32
+part_low n = div_below (n % 2 ^ 64) (2 ^ 32) (2 ^ 32) (omega arith) (mod_below n (2 ^ 64) (omega arith))
 
 -- a number of 32 bits in proportion to a count is below it
 pub scaled_fits : (part buckets : ℕ) → part < 2 ^ 32 → buckets < 2 ^ 32 → part * buckets < 2 ^ 64
@@ -86,7 +90,7 @@ chained_none buckets latest n is = record {
   before_are = λ i d within. absurd (omega (arith, within));
 }
   where
-    zeros : (m k : ℕ) → get_or (replicate m 0) k 0 ≡ 0
+    zeros : (m k : ℕ) → let zs : List ℕ = replicate m 0 in get_or zs k 0 ≡ 0
     zeros zero k = refl
     zeros (suc m) zero = refl
     zeros (suc m) (suc k) = zeros m k
@@ -173,3 +177,36 @@ chained_more buckets steps before latest step b chained size is within = record 
         (subst (IsLatest buckets (steps ++ step ∷ []) (bucket_in buckets step) (length steps)) (sym here)
         (subst (λ (m : ℕ). IsLatest buckets (steps ++ step ∷ []) m (length steps) (get_or latest b 0)) is
         (kept_latest buckets steps step b (length steps) (get_or latest b 0) (omega arith) (chained.latest_are b within))))
+
+-- ---- what the code has
+
+-- an item that is there doesn't depend on what stands for one that isn't
+pub any_default : {X : Type 0} (xs : List X) (i : ℕ) (d e : X) → i < length xs → get_or xs i d ≡ get_or xs i e
+any_default [] i d e within = absurd (omega (arith, within))
+any_default (x ∷ xs) zero d e within = refl
+any_default (x ∷ xs) (suc i) d e within = any_default xs i d e (omega (arith, within))
+
+-- a step that isn't the one that is looked for
+pub differs_at : (steps : List Step) (place : ℕ) (step zero_step : Step) → place < length steps
+    → (nat_eq (get_or steps place zero_step).parent step.parent && nat_eq (get_or steps place zero_step).func step.func) ≡ false
+    → (d : Step) → get_or steps place d ≡ step → ⊥
+differs_at steps place step zero_step within other d same =
+    let is : get_or steps place zero_step ≡ step = any_default steps place zero_step d within ∙ same in
+    let test : (nat_eq (get_or steps place zero_step).parent step.parent && nat_eq (get_or steps place zero_step).func step.func) ≡ true =
+    ap (λ (s : Step). nat_eq s.parent step.parent && nat_eq s.func step.func) is
+    ∙ (ap (λ b. b && nat_eq step.func step.func) (eq-eqb step.parent step.parent refl) ∙ eq-eqb step.func step.func refl) in
+    let never : true ≡ false = sym test ∙ other in (let n : ⊥ = cc in n)
+
+pub table_more : (steps steps' : List Step) (before before' latest latest' : List ℕ) (step : Step) (b n x : ℕ) → AreChained (length latest) steps before latest
+    → b ≡ bucket_in (length latest) step → b < length latest → steps' ≡ steps ++ step ∷ [] → before' ≡ before ++ x ∷ [] → x ≡ get_or latest b x
+    → latest' ≡ set latest b n → n ≡ length steps + 1 → AreChained (length latest') steps' before' latest'
+table_more steps steps' before before' latest latest' step b n x chained is within steps_are before_are here latest_are number =
+    let own = chained_more (length latest) steps before latest step b chained refl is within in
+    let first : x ≡ get_or latest b 0 = here ∙ any_default latest b x 0 within in
+    let befores : before' ≡ before ++ get_or latest b 0 ∷ [] = before_are ∙ ap (λ (m : ℕ). before ++ m ∷ []) first in
+    let latests : latest' ≡ set latest b (length steps + 1) = latest_are ∙ ap (set latest b) number in
+    let size : length latest' ≡ length latest = ap {B = ℕ} length latest_are ∙ length-set latest b n in
+    subst (λ (m : ℕ). AreChained m steps' before' latest') (sym size)
+    (subst (λ (l : List Step). AreChained (length latest) l before' latest') (sym steps_are)
+    (subst (λ (l : List ℕ). AreChained (length latest) (steps ++ step ∷ []) l latest') (sym befores)
+    (subst (AreChained (length latest) (steps ++ step ∷ []) (before ++ get_or latest b 0 ∷ [])) (sym latests) own)))

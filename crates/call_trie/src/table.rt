@@ -51,7 +51,7 @@ impl Model for Table {
 }
 
 /// The bucket of a step, of so many buckets.
-#[tactic(auto, unfolding(crate::specs::private::Tables::bucket_in))]
+#[tactic(auto, unfolding(crate::specs::private::Chains::bucket_in))]
 fn bucket_of(buckets: usize, step: Step) -> usize
     requires { (0 < buckets) × (buckets < 2 ^ 32) }
     ensures is { result ≡ bucket_in buckets step }
