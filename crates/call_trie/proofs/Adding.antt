@@ -1,5 +1,5 @@
 -- How the tallies of a trie are added to sums.
-use Rattle.std.proofs.Common.{◌≡◌, ◌⊎◌, ◌+◌, ◌++◌, ◌<◌, ◌≤◌, ◌∙◌, ℕ, zero, suc, List, [], ◌∷◌, length, map, take, refl, ap, sym, subst, arith, get_or, inl, inr, append_assoc, below_more, length-append}
+use Rattle.std.proofs.Common.{◌≡◌, ◌⊎◌, ◌+◌, ◌-◌, ◌++◌, ◌<◌, ◌≤◌, ◌∙◌, ℕ, zero, suc, List, [], ◌∷◌, length, map, take, refl, ap, sym, subst, arith, get_or, inl, inr, append_assoc, below_more, length-append}
 use Rattle.std.proofs.Math.ListN.{get_or-append}
 use Rattle.std.proofs.Math.Seq.{get_or-append_seam, take-length}
 use Rattle.std.proofs.lemmas.List.{append-nil, get_or-map, length-map}
@@ -29,7 +29,7 @@ adds_none old paths tallies numbers has root is = record {
   sums = λ before pairs so own. subst (AreSums old.paths old.tallies) (sym (append-nil before)) so;
 }
   where
-    first : (j : ℕ) → j < length (0 ∷ []) → IsAt old.paths (path_at paths j) (get_or (0 ∷ []) j 0)
+    first : (j : ℕ) → let one : List ℕ = 0 ∷ [] in j < length one → IsAt old.paths (path_at paths j) (get_or one j 0)
     first zero within = record { within = has.some; is = has.root ∙ sym root }
     first (suc j) within = absurd (omega (arith, within))
 

@@ -1,10 +1,10 @@
 -- The frames of open calls, listed from the outermost to the innermost.
 use Rattle.std.proofs.Common.{◌≡◌, ◌≢◌, ◌+◌, ◌-◌, ◌%◌, ◌^◌, ◌++◌, ◌<◌, ◌≤◌, ◌∙◌, ℕ, zero, suc, Bool, true, false, cond, List, [], ◌∷◌, length, map, reverse, take, refl, ap, sym, subst, arith, nat_eq, get_or, set, length-append, count_by, sum_by}
-use Rattle.std.specs.Prelude.{All}
+use Rattle.std.specs.Prelude.{All, replicate}
 use Rattle.std.proofs.Math.Seq.{get_or-append_seam, set-append_seam, take-length}
 use Rattle.std.proofs.lemmas.Bool.{eq-eqb}
 use Rattle.std.proofs.lemmas.Bool.Decides.{nat_tests}
-use Rattle.std.proofs.lemmas.List.{get_or-map, get_or-set_other, get_or-set_same, length-map, length-reverse, length-set, map-append, map-set, reverse-append, reverse-reverse, take_more}
+use Rattle.std.proofs.lemmas.List.{get_or-map, get_or-replicate, get_or-set_other, get_or-set_same, length-map, length-replicate, length-reverse, length-set, map-append, map-set, reverse-append, reverse-reverse, take_more}
 use Rattle.std.proofs.lemmas.List.Elements.{All-cons, All-head, All-nil, All-tail}
 use Rattle.std.proofs.lemmas.List.Sorted.{All-permutation, IsPermutation-map, IsPermutation-reverse, sum_by-IsPermutation}
 use Rattle.std.proofs.lemmas.List.Sums.{sum_by-append, sum_by-cons}
@@ -185,13 +185,20 @@ none_like paths frames func b place none =
     by_order (f ∷ fs) zero_of =
         let more = sum_by-cons (λ (g : Frame). cond (is_like b g) 1 0) f fs in
         let later : count_by (is_like b) fs ≡ 0 = omega (arith, zero_of, more) in
-        let first : cond (is_like b f) 1 0 ≡ 0 = omega (arith, zero_of, more) in
+        let first : ◌≡◌ {A = ℕ} (cond (is_like b f) 1 0) 0 = omega (arith, zero_of, more) in
         by_func (nat_eq f.func func) refl first (by_order fs later)
       where
-        by_func : (same : Bool) → nat_eq f.func func ≡ same → cond (is_like b f) 1 0 ≡ 0 → open_from func (map (open_path paths) fs) ≡ []
+        by_func : (same : Bool) → nat_eq f.func func ≡ same → ◌≡◌ {A = ℕ} (cond (is_like b f) 1 0) 0 → open_from func (map (open_path paths) fs) ≡ []
             → cond same (open_path paths f ∷ map (open_path paths) fs) (open_from func (map (open_path paths) fs)) ≡ []
         by_func true same never rest =
             let func_is : f.func ≡ func = let e : nat_eq f.func func ≡ true = same in grind (arith, nat_tests) in
             let its : is_like b f ≡ true = ap (λ (n : ℕ). nat_eq (n % 8192) b) func_is ∙ eq-eqb (func % 8192) b (sym place) in
             absurd (omega (arith, never, ap {B = ℕ} (λ a. cond a 1 0) its))
         by_func false same never rest = rest
+
+-- no frame is counted
+pub counts_none : (counts : List ℕ) (n : ℕ) → n ≡ 8192 → counts ≡ replicate n 0 → AreCounts [] counts
+counts_none counts n many is = record {
+  size = ap {B = ℕ} length is ∙ (length-replicate n 0 ∙ many);
+  each = λ b within. ap (λ (l : List ℕ). get_or l b 0) is ∙ get_or-replicate n b 0 0 (omega (arith, within, many));
+}

@@ -1,5 +1,6 @@
 -- The paths of a trie's nodes, and one more.
-use Rattle.std.proofs.Common.{◌≡◌, ◌⊎◌, ◌+◌, ◌-◌, ◌++◌, ◌<◌, ◌≤◌, ◌∙◌, ℕ, zero, suc, List, [], ◌∷◌, length, reverse, refl, ap, sym, subst, arith, get_or, below_more, inl, inr, length-append}
+use Rattle.std.proofs.Common.{◌≡◌, ◌⊎◌, ◌+◌, ◌-◌, ◌++◌, ◌<◌, ◌≤◌, ◌∙◌, ℕ, zero, suc, List, [], ◌∷◌, length, reverse, refl, ap, sym, subst, arith, get_or, below_more, inl, inr, length-append, Option, Some, None}
+use Rattle.std.specs.Prelude.{MatchOption}
 use Rattle.std.proofs.Math.ListN.{get_or-append}
 use Rattle.std.proofs.Math.Seq.{get_or-append_seam}
 use Rattle.std.proofs.lemmas.List.{append_cancel_right, reverse-append}
@@ -113,3 +114,22 @@ step_new steps paths step climb low none (suc i) within same =
     ap (λ (p : ℕ). let r : Step = record { parent = p; func = own.func } in r) parent
     ∙ ap (λ (f : ℕ). let r : Step = record { parent = step.parent; func = f } in r) func in
     none i step below same_step
+
+-- what the table finds
+pub child_is : (steps : List Step) (paths : List (List ℕ)) (step : Step) (r : Option ℕ) → Climb steps (paths_of_steps steps) → paths_of_steps steps ≡ paths → step.parent < length paths
+    → MatchOption r (HasNone steps step) (IsNumberOf steps step) → MatchOption r (IsNew paths (path_by paths step)) (IsAt paths (path_by paths step))
+child_is steps paths step None climb view low none = step_new steps paths step (subst (Climb steps) view climb) low none
+child_is steps paths step (Some n) climb view low own = step_found steps paths step n (subst (Climb steps) view climb) own
+
+pub climb_added : (steps steps' : List Step) (paths : List (List ℕ)) (step : Step) → Climb steps (paths_of_steps steps) → paths_of_steps steps ≡ paths → step.parent < length paths
+    → IsNew paths (path_by paths step) → steps' ≡ steps ++ step ∷ [] → Climb steps' (paths_of_steps steps')
+climb_added steps steps' paths step climb view low absent is =
+    subst (λ (l : List Step). Climb l (paths_of_steps l)) (sym is)
+    (subst (Climb (steps ++ step ∷ [])) (sym (paths_more steps step))
+    (climb_more steps (paths_of_steps steps) step climb (subst (λ (ps : List (List ℕ)). step.parent < length ps) (sym view) low)
+    (subst (λ (ps : List (List ℕ)). IsNew ps (path_by ps step)) (sym view) absent)))
+
+pub paths_added : (steps steps' : List Step) (paths : List (List ℕ)) (step : Step) → paths_of_steps steps ≡ paths → steps' ≡ steps ++ step ∷ []
+    → paths_of_steps steps' ≡ paths ++ path_by paths step ∷ []
+paths_added steps steps' paths step view is =
+    ap paths_of_steps is ∙ (paths_more steps step ∙ ap (λ (ps : List (List ℕ)). ps ++ path_by ps step ∷ []) view)

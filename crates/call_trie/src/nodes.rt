@@ -50,7 +50,8 @@ impl Nodes {
 
     /// Whether there is a node for each path that there is room for.
     fn is_full(&self) -> bool
-        ensures { IsTrue result ↔ (length self.now.paths ≡ self.now.room + 1) }
+        ensures full { IsTrue result ↔ (length self.now.paths ≡ self.now.room + 1) }
+        ensures few { length self.now.paths ≤ self.now.room + 1 }
     {
         self.table.len() == self.table.room()
     }
@@ -123,10 +124,10 @@ impl Nodes {
         // The number in the sums of each path.
         let mut numbers = Vec::with_capacity(alloc, self.tallies.len())?;
         numbers.push(0)?;
-        'adding: for place in 0..self.tallies.len() {
-            let step = self.table.step(place as u32 + 1);
+        'adding: for place in 0..self.table.len() {
+            let step = self.table.step(place + 1);
             let number = sums.number_of(numbers[step.parent as usize], step.func)?;
-            sums.add_tally(number, &self.tallies[place])?;
+            sums.add_tally(number, &self.tallies[place as usize])?;
             numbers.push(number)?;
         }
         Ok(())

@@ -102,7 +102,8 @@ impl Table {
 
     /// How many steps there are.
     pub(crate) fn len(&self) -> u32
-        ensures { result ≡ length self.now.steps }
+        ensures count { result ≡ length self.now.steps }
+        ensures few { result ≤ self.now.room }
     {
         self.steps.len() as u32
     }
