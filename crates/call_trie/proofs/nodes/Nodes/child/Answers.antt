@@ -7,4 +7,4 @@ use Rattle.call_trie.proofs.nodes.Nodes.child.Goals as goal
 pub returns : goal.returns
 returns c =
     let step : Step = record { parent = c.args.parent; func = c.args.func } in
-    child_is c.self.inside.table.steps c.args.self.now.paths step c.find.result c.self.invariant.climb (ap (λ (n : Numbered). n.paths) c.self.view_is) c.requires c.find.ensures
+    record { child = child_is c.self.inside.table.steps c.args.self.now.paths step c.find.result c.self.invariant.climb (ap (λ (n : Numbered). n.paths) c.self.view_is) c.requires c.find.ensures }
