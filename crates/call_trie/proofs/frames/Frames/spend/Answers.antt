@@ -10,6 +10,6 @@ invariant_of-self c =
     let old = c.self.inside.frames.items in
     record {
       counted = record { size = i.counted.size; each = λ b low. i.counted.each b low ∙ sym (c.spend.ensures.like b) };
-      few = omega (arith, ap {B = ℕ} length c.spend.ensures.nodes, length-map node_in new, length-map node_in old, i.few);
+      few = omega (arith, ap {B = ℕ} length c.spend.ensures.nodes, length-map new node_in, length-map old node_in, i.few);
       fit = omega (arith, c.spend.ensures.capacity, i.fit);
     }
