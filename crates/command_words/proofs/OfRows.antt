@@ -10,10 +10,11 @@ use Rattle.command_words.specs.Numbers.{number_of}
 use Rattle.command_words.specs.Reports.{account_options_in, choice_in, stack_formats}
 use Rattle.command_words.specs.Rows.{CommandRow}
 use Rattle.command_words.specs.Tables.{account_row, asm_row, convert_row, extract_row, plain_row, run_row, sim_row}
-use Rattle.command_words.specs.Tables.{convert_format_option, seeds, soak_row, stack_format_option, stack_row, threshold_option}
-use Rattle.command_words.specs.Words.{Command, Sim, Run, Plain, Extract, Asm, Account, Stack, Convert, Soak}
-use Rattle.command_words.specs.Words.{account_in, asm_in, bounds_in, convert_in, extract_in, plain_in, report_by, run_in, run_options_in, sim_in, soak_in, stack_in}
+use Rattle.command_words.specs.Tables.{convert_format_option, profile_row, seeds, soak_row, stack_format_option, stack_row, threshold_option}
+use Rattle.command_words.specs.Words.{Command, Sim, Run, Plain, Extract, Asm, Account, Stack, Convert, Soak, Profile}
+use Rattle.command_words.specs.Words.{account_in, asm_in, bounds_in, convert_in, extract_in, plain_in, profile_in, profile_options_in, report_by, run_in, run_options_in, sim_in, soak_in, stack_in}
 use Rattle.command_words.specs.declared.run_options.Bounds.{Bounds}
+use Rattle.command_words.specs.declared.run_options.ProfileOptions.{ProfileOptions}
 use Rattle.command_words.specs.declared.run_options.RunOptions.{RunOptions}
 use Rattle.command_words.proofs.Texts.{equal_texts}
 
@@ -130,6 +131,18 @@ soak_of line command says = go line.files refl
     go [] e = absurd (never command (rw e at says))
     go (a ∷ b ∷ names) e = absurd (never command (rw e at says))
 
+profile_of : (line : Line) (command : Command) → profile_in line ≡ Some command → IsOf profile_row line.files command
+profile_of line command says = go line.files (profile_options_in line) refl refl
+  where
+    go : (names : List (List ℕ)) (options : Option ProfileOptions) → line.files ≡ names → profile_options_in line ≡ options → IsOf profile_row line.files command
+    go (image ∷ script ∷ []) (Some options) e f =
+        let is : Profile image script options ≡ command = same _ _ (rw (e, f) at says) in
+        rw (sym is, e) (record { row_is = refl; names_are = refl })
+    go (image ∷ script ∷ []) None e f = absurd (never command (rw (e, f) at says))
+    go [] options e f = absurd (never command (rw e at says))
+    go (a ∷ []) options e f = absurd (never command (rw e at says))
+    go (a ∷ b ∷ c ∷ names) options e f = absurd (never command (rw e at says))
+
 -- the outputs of each
 pub outputs_of_row : OutputsAreOfTheRow
 outputs_of_row = grind arith
@@ -173,4 +186,5 @@ of_their_rows wall word words command says =
     (branch word words command stack_row _ _ (of_line stack_in stack_row items command (λ line. stack_of line command))
     (branch word words command convert_row _ _ (of_line convert_in convert_row items command (λ line. convert_of line command))
     (branch word words command soak_row _ _ (of_line soak_in soak_row items command (λ line. soak_of line command))
-    (λ no. absurd (never command no)))))))))) says
+    (branch word words command profile_row _ _ (of_line profile_in profile_row items command (λ line. profile_of line command))
+    (λ no. absurd (never command no))))))))))) says

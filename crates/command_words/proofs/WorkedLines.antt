@@ -2,7 +2,8 @@
 use Rattle.std.proofs.Common.{◌≡◌, ℕ, List, [], ◌∷◌, Option, Some, None, refl}
 use Rattle.std.specs.Prelude.{codes, option_map}
 use Rattle.xray_io.specs.declared.wall.Wall.{Wall}
-use Rattle.command_words.specs.Words.{Command, Sim, Plain, Extract, Asm, Soak, outputs_of, reading}
+use Rattle.command_words.specs.Words.{Command, Sim, Plain, Extract, Asm, Soak, Profile, outputs_of, reading}
+use Rattle.command_words.specs.declared.report_options.StackFormat.TheVariants.{Flame}
 
 -- a wall time that is passed in
 noon : Wall
@@ -89,3 +90,21 @@ seed_of_65_bits = refl
 
 no_seed : says (codes "soak" ∷ []) ≡ None
 no_seed = refl
+
+-- a profile has nodes for some paths, and at least one
+profile : says (codes "profile" ∷ codes "i" ∷ codes "s" ∷ codes "--nodes=1" ∷ codes "--format" ∷ codes "flame" ∷ []) ≡ Some (Profile (codes "i") (codes "s") (record {
+  bounds = record { threads = 1; fuel = 10000000; passings = 1048576 };
+  stamps = record { tick = 1; tsc = 0; frequency = 0; cpus = 1; migrate = 1048576 };
+  nodes = 1;
+  format = Flame;
+}))
+profile = refl
+
+no_nodes : says (codes "profile" ∷ codes "i" ∷ codes "s" ∷ codes "--nodes=0" ∷ []) ≡ None
+no_nodes = refl
+
+many_nodes : says (codes "profile" ∷ codes "i" ∷ codes "s" ∷ codes "--nodes=262145" ∷ []) ≡ None
+many_nodes = refl
+
+profile_in_csv : says (codes "profile" ∷ codes "i" ∷ codes "s" ∷ codes "--format=csv" ∷ []) ≡ None
+profile_in_csv = refl

@@ -5,8 +5,8 @@ use Rattle.command_words.specs.Items.{files_of, items_of}
 use Rattle.command_words.specs.Lines.{outputs_in}
 use Rattle.command_words.specs.Rows.{CommandRow, FileRow, is_output, names_file}
 use Rattle.command_words.specs.Tables.{account_row, asm_row, convert_row, extract_row, plain_row, run_row, sim_row}
-use Rattle.command_words.specs.Tables.{soak_row, stack_row}
-use Rattle.command_words.specs.Words.{Command, Sim, Run, Plain, Extract, Asm, Account, Stack, Convert, Soak, outputs_of, reading}
+use Rattle.command_words.specs.Tables.{profile_row, soak_row, stack_row}
+use Rattle.command_words.specs.Words.{Command, Sim, Run, Plain, Extract, Asm, Account, Stack, Convert, Soak, Profile, outputs_of, reading}
 
 -- ---- a line for each command
 
@@ -21,6 +21,7 @@ row_of (Account trace image options) = account_row
 row_of (Stack trace image format) = stack_row
 row_of (Convert trace image) = convert_row
 row_of (Soak number) = soak_row
+row_of (Profile image script options) = profile_row
 
 -- a trace, and an image if one is named
 abbrev pub report_names : (trace : List ℕ) → (image : Option (List ℕ)) → List (List ℕ)
@@ -38,6 +39,7 @@ names_of (Account trace image options) = report_names trace image
 names_of (Stack trace image format) = report_names trace image
 names_of (Convert trace image) = report_names trace image
 names_of (Soak number) = []
+names_of (Profile image script options) = image ∷ script ∷ []
 
 -- ---- by the roles of the row
 

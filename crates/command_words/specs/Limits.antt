@@ -26,6 +26,10 @@ most_stay = 1048576
 abbrev pub most_pid : ℕ
 most_pid = 2147483647
 
+-- the most paths that each recorder of a profile may have nodes for
+abbrev pub most_nodes : ℕ
+most_nodes = 262144
+
 -- the most bytes of a trace file
 abbrev pub trace_limit : ℕ
 trace_limit = TRACE_LIMIT

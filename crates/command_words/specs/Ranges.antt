@@ -5,10 +5,11 @@ use Rattle.fdr_buffer.specs.declared.buffer.TheConstants.{LARGEST_SIZE, LEAST_SI
 use Rattle.fdr_buffer.specs.Times.{IsTime}
 use Rattle.command_words.specs.declared.run_options.Bounds.{Bounds}
 use Rattle.command_words.specs.declared.run_options.Buffers.{Buffers}
+use Rattle.command_words.specs.declared.run_options.ProfileOptions.{ProfileOptions}
 use Rattle.command_words.specs.declared.run_options.RunOptions.{RunOptions}
 use Rattle.command_words.specs.declared.run_options.Stamps.{Stamps}
-use Rattle.command_words.specs.Limits.{most_cpus, most_fuel, most_passings, most_pid, most_stay, most_threads, trace_limit}
-use Rattle.command_words.specs.Words.{Command, Sim, Run, Plain, Extract, Asm, Account, Stack, Convert, Soak}
+use Rattle.command_words.specs.Limits.{most_cpus, most_fuel, most_nodes, most_passings, most_pid, most_stay, most_threads, trace_limit}
+use Rattle.command_words.specs.Words.{Command, Sim, Run, Plain, Extract, Asm, Account, Stack, Convert, Soak, Profile}
 
 -- there may be this many threads: at least one, and at most `most_threads`
 abbrev pub IsThreadCount : ℕ → Type 0
@@ -42,6 +43,12 @@ pub record AreRunOptions (options : RunOptions) : Type 0 where
   pub pid : options.pid ≤ most_pid
   pub wall : IsTime options.wall
 
+-- a profile may have these options
+pub record AreProfileOptions (options : ProfileOptions) : Type 0 where
+  pub bounds : AreBounds options.bounds
+  pub stamps : AreStamps options.stamps
+  pub nodes : (1 ≤ options.nodes) × (options.nodes ≤ most_nodes)
+
 -- all that a command holds is in its range, and no two outputs have the same name
 abbrev pub HasRanges : Command → Type 0
 HasRanges (Sim image script schedule trace audit options) = AreRunOptions options × (trace ≢ audit)
@@ -53,3 +60,4 @@ HasRanges (Account trace image options) = IfSome options.top (λ top. top ≤ 42
 HasRanges (Stack trace image format) = Unit {0}
 HasRanges (Convert trace image) = Unit {0}
 HasRanges (Soak number) = number < 2 ^ 64
+HasRanges (Profile image script options) = AreProfileOptions options

@@ -2,7 +2,7 @@
 use Rattle.std.specs.Prelude.{option_map}
 use Rattle.command_words.specs.declared.words.Command as command
 use Rattle.command_words.specs.declared.words.Command.TheVariants as command_of
-use Rattle.command_words.specs.Words.{Command, Sim, Run, Plain, Extract, Asm, Account, Stack, Convert, Soak}
+use Rattle.command_words.specs.Words.{Command, Sim, Run, Plain, Extract, Asm, Account, Stack, Convert, Soak, Profile}
 
 abbrev pub command_view : command.Command → Command
 command_view (command_of.Sim image script schedule trace audit options) =
@@ -15,3 +15,4 @@ command_view (command_of.Account trace image options) = Account trace.now (optio
 command_view (command_of.Stack trace image format) = Stack trace.now (option_map (λ i. i.now) image) format
 command_view (command_of.Convert trace image) = Convert trace.now (option_map (λ i. i.now) image)
 command_view (command_of.Soak number) = Soak number
+command_view (command_of.Profile image script options) = Profile image.now script.now options

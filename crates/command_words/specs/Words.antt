@@ -9,14 +9,15 @@ use Rattle.command_words.specs.Lines.{Line, line_of, number_in, value_in}
 use Rattle.command_words.specs.Numbers.{number_of}
 use Rattle.command_words.specs.Reports.{account_options_in, choice_in, report_files_in, stack_formats}
 use Rattle.command_words.specs.Tables.{account_row, asm_row, convert_row, extract_row, plain_row, run_row, sim_row}
-use Rattle.command_words.specs.Tables.{seeds, soak_row, stack_row}
-use Rattle.command_words.specs.Tables.{convert_format_option, stack_format_option}
+use Rattle.command_words.specs.Tables.{profile_row, seeds, soak_row, stack_row}
+use Rattle.command_words.specs.Tables.{convert_format_option, nodes_option, stack_format_option}
 use Rattle.command_words.specs.Tables.{threads_option, fuel_option, passings_option, buffer_size_option, buffer_max_option, threshold_option}
 use Rattle.command_words.specs.Tables.{tick_option, tsc_option, frequency_option, cpus_option, migrate_option, pid_option, wall_option}
 use Rattle.command_words.specs.declared.report_options.AccountOptions.{AccountOptions}
 use Rattle.command_words.specs.declared.report_options.StackFormat.{StackFormat}
 use Rattle.command_words.specs.declared.run_options.Bounds.{Bounds}
 use Rattle.command_words.specs.declared.run_options.Buffers.{Buffers}
+use Rattle.command_words.specs.declared.run_options.ProfileOptions.{ProfileOptions}
 use Rattle.command_words.specs.declared.run_options.RunOptions.{RunOptions}
 use Rattle.command_words.specs.declared.run_options.Stamps.{Stamps}
 
@@ -30,6 +31,7 @@ pub data Command : Type 0 where
   Stack : (trace : List ℕ) → (image : Option (List ℕ)) → (format : StackFormat) → Command
   Convert : (trace : List ℕ) → (image : Option (List ℕ)) → Command
   Soak : (number : ℕ) → Command
+  Profile : (image script : List ℕ) → (options : ProfileOptions) → Command
 
 -- ---- the options of the commands that run threads
 
@@ -82,6 +84,25 @@ run_options_in wall line = of_parts (bounds_in line) (stamps_in line) (buffers_i
     of_parts (Some bounds) (Some stamps) (Some buffers) (Some pid) (Some wall) =
         checked (record { bounds = bounds; stamps = stamps; buffers = buffers; pid = pid; wall = wall })
     of_parts _ _ _ _ _ = None
+
+-- how the passings of a profile are stamped; no event of it is written, so no words say the counter's frequency
+abbrev pub profile_stamps_in : Line → Option Stamps
+profile_stamps_in line =
+    of_numbers (number_in tick_option line) (number_in tsc_option line) (number_in cpus_option line) (number_in migrate_option line)
+  where
+    of_numbers : Option ℕ → Option ℕ → Option ℕ → Option ℕ → Option Stamps
+    of_numbers (Some tick) (Some tsc) (Some cpus) (Some migrate) =
+        Some (record { tick = tick; tsc = tsc; frequency = 0; cpus = cpus; migrate = migrate })
+    of_numbers _ _ _ _ = None
+
+-- all options of a profile
+abbrev pub profile_options_in : Line → Option ProfileOptions
+profile_options_in line = of_parts (bounds_in line) (profile_stamps_in line) (number_in nodes_option line) (choice_in stack_format_option stack_formats line)
+  where
+    of_parts : Option Bounds → Option Stamps → Option ℕ → Option StackFormat → Option ProfileOptions
+    of_parts (Some bounds) (Some stamps) (Some nodes) (Some format) =
+        Some (record { bounds = bounds; stamps = stamps; nodes = nodes; format = format })
+    of_parts _ _ _ _ = None
 
 -- ---- the commands
 
@@ -146,6 +167,13 @@ soak_in line = of_files line.files
     of_files (seed ∷ []) = option_map Soak (number_of seeds seed)
     of_files _ = None
 
+abbrev pub profile_in : Line → Option Command
+profile_in line = of_parts line.files (profile_options_in line)
+  where
+    of_parts : List (List ℕ) → Option ProfileOptions → Option Command
+    of_parts (image ∷ script ∷ []) (Some options) = Some (Profile image script options)
+    of_parts _ _ = None
+
 -- the command that words say at this wall time, if they say one
 abbrev pub reading : Wall → List (List ℕ) → Option Command
 reading wall [] = None
@@ -160,6 +188,7 @@ reading wall (word ∷ words) =
     else if bytes_eq word stack_row.word then option_and_then stack_in (line_of stack_row items)
     else if bytes_eq word convert_row.word then option_and_then convert_in (line_of convert_row items)
     else if bytes_eq word soak_row.word then option_and_then soak_in (line_of soak_row items)
+    else if bytes_eq word profile_row.word then option_and_then profile_in (line_of profile_row items)
     else None
 
 -- ---- the outputs
@@ -175,3 +204,4 @@ outputs_of (Account trace image options) = []
 outputs_of (Stack trace image format) = []
 outputs_of (Convert trace image) = []
 outputs_of (Soak number) = []
+outputs_of (Profile image script options) = []

@@ -1,13 +1,14 @@
 //! The options of the commands that run threads.
 ghost use Rattle.std.specs.Prelude.{◌≡◌, IfSome};
 ghost use Rattle.fdr_buffer.specs.Times.{IsTime};
-ghost use Rattle.command_words.specs.Ranges.{AreBounds, AreBuffers, AreRunOptions, AreStamps};
+ghost use Rattle.command_words.specs.Ranges.{AreBounds, AreBuffers, AreProfileOptions, AreRunOptions, AreStamps};
 ghost use Rattle.command_words.specs.private.CodeViews.{line_view};
-ghost use Rattle.command_words.specs.Words.{bounds_in, buffers_in, have_room, run_options_in, stamps_in, wall_in};
+ghost use Rattle.command_words.specs.Words.{bounds_in, buffers_in, have_room, profile_options_in, profile_stamps_in, run_options_in, stamps_in, wall_in};
 
 use crate::line::Line;
+use crate::report_options::{StackFormat, stack_format_in};
 use crate::tables::{
-    BUFFER_MAX, BUFFER_SIZE, CPUS, FREQUENCY, FUEL, MIGRATE, PASSINGS, PID, THREADS, TICK, TSC,
+    BUFFER_MAX, BUFFER_SIZE, CPUS, FREQUENCY, FUEL, MIGRATE, NODES, PASSINGS, PID, THREADS, TICK, TSC,
     WALL,
 };
 use fdr_buffer::TRACE_LIMIT;
@@ -71,6 +72,19 @@ pub struct RunOptions {
     pub wall: Wall,
 }
 
+/// All options of a profile.
+#[derive(Clone, Copy, Debug, PartialEq, Eq)]
+pub struct ProfileOptions {
+    /// The limits of its threads.
+    pub bounds: Bounds,
+    /// How passings are stamped. The frequency is 0, since no trace is written.
+    pub stamps: Stamps,
+    /// For how many paths the recorder of each thread has nodes, from 1 to 262,144.
+    pub nodes: u32,
+    /// The form in which the stacks are printed.
+    pub format: StackFormat,
+}
+
 impl RunOptions {
     /// Whether there is a buffer for each thread, and all buffers fit a trace file.
     fn have_room(&self) -> bool
@@ -107,6 +121,33 @@ fn stamps_in(line: &Line<'_>) -> Option<Stamps>
         frequency: FREQUENCY.number_in(line)?,
         cpus: CPUS.number_in(line)? as u16,
         migrate: MIGRATE.number_in(line)? as u32,
+    })
+}
+
+/// How the passings of a profile are stamped. `None` if a value isn't allowed.
+fn profile_stamps_in(line: &Line<'_>) -> Option<Stamps>
+    ensures reads { result ≡ profile_stamps_in (line_view line.now) }
+    ensures ranges { IfSome result AreStamps }
+{
+    Some(Stamps {
+        tick: TICK.number_in(line)?,
+        tsc: TSC.number_in(line)?,
+        frequency: 0,
+        cpus: CPUS.number_in(line)? as u16,
+        migrate: MIGRATE.number_in(line)? as u32,
+    })
+}
+
+/// All options of a profile. `None` if a value isn't allowed.
+pub(crate) fn profile_options_in(line: &Line<'_>) -> Option<ProfileOptions>
+    ensures reads { result ≡ profile_options_in (line_view line.now) }
+    ensures ranges { IfSome result AreProfileOptions }
+{
+    Some(ProfileOptions {
+        bounds: bounds_in(line)?,
+        stamps: profile_stamps_in(line)?,
+        nodes: NODES.number_in(line)? as u32,
+        format: stack_format_in(line)?,
     })
 }
 

@@ -174,6 +174,16 @@ pub(crate) const STACK_FORMAT: OptionRow = OptionRow {
     default: Some(0),
 };
 
+/// For how many paths each recorder of a profile has nodes.
+pub(crate) const NODES: OptionRow = OptionRow {
+    name: "nodes",
+    values: Values::Number {
+        least: 1,
+        most: 262_144,
+    },
+    default: Some(4096),
+};
+
 /// The form that a trace is converted to.
 pub(crate) const CONVERT_FORMAT: OptionRow = OptionRow {
     name: "format",
@@ -198,6 +208,19 @@ const RUN_OPTIONS: &[OptionRow] = &[
     MIGRATE,
     PID,
     WALL,
+];
+
+/// The options of a profile.
+const PROFILE_OPTIONS: &[OptionRow] = &[
+    THREADS,
+    FUEL,
+    PASSINGS,
+    TICK,
+    TSC,
+    CPUS,
+    MIGRATE,
+    NODES,
+    STACK_FORMAT,
 ];
 
 /// An image that is read.
@@ -331,4 +354,12 @@ pub(crate) const SOAK: CommandRow = CommandRow {
     word: "soak",
     files: &[SEED],
     options: &[],
+};
+
+/// `profile IMAGE SCRIPT`: runs threads over an image while a script patches it, and prints their
+/// stacks.
+pub(crate) const PROFILE: CommandRow = CommandRow {
+    word: "profile",
+    files: &[IMAGE, SCRIPT],
+    options: PROFILE_OPTIONS,
 };

@@ -12,9 +12,12 @@ use crate::report_options::{
     AccountOptions, ReportFiles, StackFormat, account_options_in, report_files_in, stack_format_in,
 };
 use crate::rows::CommandRow;
-use crate::run_options::{Bounds, RunOptions, bounds_in, run_options_in};
+use crate::run_options::{
+    Bounds, ProfileOptions, RunOptions, bounds_in, profile_options_in, run_options_in,
+};
 use crate::tables::{
-    ACCOUNT, ASM, CONVERT, CONVERT_FORMAT, EXTRACT, PLAIN, RUN, SEEDS, SIM, SOAK, STACK, THRESHOLD,
+    ACCOUNT, ASM, CONVERT, CONVERT_FORMAT, EXTRACT, PLAIN, PROFILE, RUN, SEEDS, SIM, SOAK, STACK,
+    THRESHOLD,
 };
 use std::alloc::{AllocError, Global};
 use xray_io::Wall;
@@ -102,6 +105,15 @@ pub enum Command<'a> {
         /// The number.
         number: u64,
     },
+    /// Runs threads over an image while a script patches it, and prints their stacks.
+    Profile {
+        /// The image file.
+        image: &'a str,
+        /// The script of the patcher.
+        script: &'a str,
+        /// What the run is made with.
+        options: ProfileOptions,
+    },
 }
 
 /// The command that words say at a wall time, or `None` if they say none. The words are those after
@@ -148,6 +160,8 @@ enum Verb {
     Report(Report),
     /// `soak SEED`.
     Soak,
+    /// `profile IMAGE SCRIPT`.
+    Profile,
 }
 
 /// A report on a trace.
@@ -184,6 +198,8 @@ impl Verb {
             Some(Verb::Report(Report::Convert))
         } else if word == SOAK.word {
             Some(Verb::Soak)
+        } else if word == PROFILE.word {
+            Some(Verb::Profile)
         } else {
             None
         }
@@ -203,6 +219,7 @@ impl Verb {
             Verb::Report(Report::Stack) => STACK,
             Verb::Report(Report::Convert) => CONVERT,
             Verb::Soak => SOAK,
+            Verb::Profile => PROFILE,
         }
     }
 }
@@ -238,6 +255,17 @@ fn command_in<'a>(verb: Verb, wall: Wall, line: &Line<'a>) -> Option<Command<'a>
             _ => None,
         },
         Verb::Report(report) => report_in(report, line),
+        Verb::Profile => match files {
+            [image, script] => {
+                let options = profile_options_in(line)?;
+                Some(Command::Profile {
+                    image,
+                    script,
+                    options,
+                })
+            }
+            _ => None,
+        },
         Verb::Soak => match files {
             [seed] => {
                 let number = SEEDS.number_of(seed)?;
