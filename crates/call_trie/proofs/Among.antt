@@ -12,7 +12,7 @@ use Rattle.std.proofs.lemmas.List.Sums.{sum_by-append, sum_by-cons}
 use Rattle.stack_rebuild.specs.declared.tally.Tally.{Tally}
 use Rattle.stack_rebuild.specs.PathSums.{AllNumbered, AreApart, no_tally, path_at, tally_of, with_pair}
 use Rattle.stack_rebuild.specs.Stacks.{Timed, has_path, path_cmp}
-use Rattle.call_trie.specs.private.Nodes.{IsNew}
+use Rattle.call_trie.specs.private.Paths.{IsNew}
 use Rattle.call_trie.specs.Tries.{is_among, with_path}
 use Rattle.call_trie.proofs.NodeLemmas.{apart_more, path_kept, path_last}
 

@@ -5,8 +5,8 @@ use Rattle.std.proofs.Math.Seq.{get_or-append_seam}
 use Rattle.std.proofs.lemmas.List.{append_cancel_right, reverse-append}
 use Rattle.stack_rebuild.specs.PathSums.{AreApart, path_at}
 use Rattle.call_trie.specs.declared.table.Step.{Step}
-use Rattle.call_trie.specs.private.Nodes.{Climb, IsAt, IsNew, path_by, paths_after, paths_of_steps}
-use Rattle.call_trie.specs.private.Tables.{HasNone, IsNumberOf}
+use Rattle.call_trie.specs.private.Paths.{Climb, IsAt, IsNew, path_by, paths_after, paths_of_steps}
+use Rattle.call_trie.specs.private.Chains.{HasNone, IsNumberOf}
 
 -- ---- lists with the same last item
 

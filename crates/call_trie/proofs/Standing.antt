@@ -13,7 +13,7 @@ use Rattle.stack_rebuild.specs.PathSums.{AllNumbered, AreApart, no_tally, path_a
 use Rattle.stack_rebuild.specs.Stacks.{Timed, most_open, path_of, timed_pairs}
 use Rattle.call_trie.specs.declared.state.TrieState.{TrieState}
 use Rattle.call_trie.specs.declared.state.TrieState.TheVariants.{Live, Full, Deep}
-use Rattle.call_trie.specs.private.Nodes.{IsAt, IsNew}
+use Rattle.call_trie.specs.private.Paths.{IsAt, IsNew}
 use Rattle.call_trie.specs.private.Steps.{Enters, Leaves, deep, ended, fresh, full, known, none}
 use Rattle.call_trie.specs.Tries.{StandsFor, Trie, excess, first_stop, is_among, paths_in, paths_opened, state_after, state_in, with_path}
 use Rattle.call_trie.proofs.Among.{Has, IsWith, Keeps, among_at, at_among, has_kept, new_among, none_has, numbered_append, numbered_kept, tallies_more, with_is, with_known, with_new}

@@ -1,5 +1,5 @@
 -- The chains of a table: the way along one, and one more step.
-use Rattle.std.proofs.Common.{◌≡◌, ◌≢◌, ◌+◌, ◌-◌, ◌*◌, ◌/◌, ◌^◌, ◌++◌, ◌<◌, ◌≤◌, ◌∙◌, ℕ, zero, suc, Bool, true, false, List, [], ◌∷◌, length, refl, ap, sym, subst, arith, nat_eq, get_or, set, below_more, length-append, ◌⊎◌, inl, inr}
+use Rattle.std.proofs.Common.{◌≡◌, ◌≢◌, ◌+◌, ◌-◌, ◌*◌, ◌/◌, ◌^◌, ◌++◌, ◌<◌, ◌≤◌, ◌∙◌, ℕ, zero, suc, Bool, true, false, List, [], ◌∷◌, length, refl, ap, sym, subst, arith, nat_eq, nat_lt, get_or, set, below_more, length-append}
 use Rattle.std.specs.Prelude.{replicate}
 use Rattle.std.proofs.Math.ListN.{get_or-append}
 use Rattle.std.proofs.Math.Seq.{get_or-append_seam}
@@ -9,7 +9,7 @@ use Rattle.std.proofs.lemmas.List.{get_or-set_other, get_or-set_same, length-set
 use Rattle.std.proofs.Math.Nat.{mul-lt-mul_of_pos_right}
 use Rattle.std.proofs.lemmas.Nat.{div_below, mul-lt}
 use Rattle.call_trie.specs.declared.table.Step.{Step}
-use Rattle.call_trie.specs.private.Tables.{AreChained, HasNone, IsLatest, IsNumberOf, Walks, bucket_in}
+use Rattle.call_trie.specs.private.Chains.{AreChained, HasNone, IsLatest, IsNumberOf, Walks, bucket_in}
 
 -- ---- buckets
 
@@ -63,15 +63,15 @@ walks_on buckets steps before latest step n place next chained walks some at oth
         other d (ap (λ (m : ℕ). get_or steps m d) (sym here) ∙ same)
     by_place k d from below same false is none =
         let apart : k ≢ place = λ e. let yes : nat_eq k place ≡ true = eq-eqb k place e in let never : true ≡ false = sym yes ∙ is in (let n : ⊥ = cc in n) in
-        later (order k place apart)
+        by_order (nat_lt k place) refl apart
       where
-        order : (a b : ℕ) → a ≢ b → (a < b) ⊎ (b < a)
-        order a b differ = grind arith
-
-        later : (k < place) ⊎ (place < k) → ⊥
-        later (inl low) =
-            none low (ap (bucket_in buckets) same ∙ sym (ap (λ (m : ℕ). bucket_in buckets (get_or steps m step)) at ∙ walks.own step some))
-        later (inr high) = walks.absent k d (omega (arith, high, at, some)) below same
+        by_order : (less : Bool) → nat_lt k place ≡ less → k ≢ place → ⊥
+        by_order true low differ =
+            none (let e : nat_lt k place ≡ true = low in grind (arith, nat_tests))
+            (ap (bucket_in buckets) same ∙ sym (ap (λ (m : ℕ). bucket_in buckets (get_or steps m step)) at ∙ walks.own step some))
+        by_order false high differ =
+            let up : place ≤ k = let e : nat_lt k place ≡ false = high in grind (arith, nat_tests) in
+            walks.absent k d (omega (arith, up, differ, at, some)) below same
 
 -- at the end of a chain there is none
 pub walked : (buckets : ℕ) (steps : List Step) (step : Step) (n : ℕ) → Walks buckets steps step n → n ≡ 0 → HasNone steps step

@@ -3,7 +3,7 @@
 ghost use Rattle.std.specs.Prelude.{◌≡◌, ◌≤◌, ◌<◌, ◌↔◌, ◌+◌, ◌-◌, ◌^◌, ◌++◌, List, [], ◌∷◌, length, IfOk, IsTrue, MatchOption, OnOk, slice_index_or, slice_set};
 ghost use Rattle.stack_rebuild.specs.PathSums.{AreSums, no_tally, path_at, with_pair};
 ghost use Rattle.stack_rebuild.specs.Stacks.{Timed};
-ghost use Rattle.call_trie.specs.private.Nodes.{AreTallies, GetsNode, GetsNone, IsAt, IsNew};
+ghost use Rattle.call_trie.specs.private.Paths.{AreTallies, GetsNode, GetsNone, HasRoot, IsAt, IsNew};
 ghost use Rattle.call_trie.specs.private.Steps.{IsRoomy};
 
 use crate::table::{Step, Table};
@@ -26,7 +26,8 @@ pub(crate) struct Nodes {
 }
 
 impl Model for Nodes {
-    ghost use Rattle.call_trie.specs.private.Nodes.{AreNodes, Numbered, numbered_in};
+    ghost use Rattle.call_trie.specs.private.Paths.{Numbered};
+    ghost use Rattle.call_trie.specs.private.Nodes.{AreNodes, numbered_in};
 
     ghost Value = { Numbered };
 
@@ -112,7 +113,9 @@ impl Nodes {
 
     /// Adds the tallies of all paths to sums.
     pub(crate) fn add_to(&self, alloc: Global, sums: &mut PathSums) -> Result<(), NoMemory>
-        ensures { OnOk result ((before pairs : List Timed)
+        requires { HasRoot sums.old.paths }
+        ensures root { OnOk result (HasRoot sums.new.paths) }
+        ensures sums { OnOk result ((before pairs : List Timed)
             → AreSums sums.old.paths sums.old.tallies before
             → AreTallies self.now.paths self.now.tallies pairs
             → AreSums sums.new.paths sums.new.tallies (before ++ pairs)) }

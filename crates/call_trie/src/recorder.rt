@@ -6,8 +6,9 @@ ghost use Rattle.fdr_record.specs.Recordable.{IsRecordable};
 ghost use Rattle.stack_rebuild.specs.OpenPaths.{innermost_path};
 ghost use Rattle.stack_rebuild.specs.PathSums.{AreSums};
 ghost use Rattle.stack_rebuild.specs.Stacks.{Timed, timed_pairs};
+ghost use Rattle.call_trie.specs.private.Paths.{HasRoot};
 
-use crate::frames::{Frame, innermost, innermost_of, spend};
+use crate::frames::{Frame, Frames};
 use crate::nodes::Nodes;
 use crate::state::TrieState;
 use fdr_record::{Event, Kind, Recorder};
@@ -29,7 +30,7 @@ pub struct TrieRecorder {
     state: TrieState,
     nodes: Nodes,
     /// The open calls, outermost first.
-    frames: Vec<Frame>,
+    frames: Frames,
 }
 
 impl Model for TrieRecorder {
@@ -37,7 +38,7 @@ impl Model for TrieRecorder {
 
     ghost Value = { Trie };
 
-    ghost use Rattle.call_trie.specs.private.Frames.{IsTrie, trie_in};
+    ghost use Rattle.call_trie.specs.private.Recorders.{IsTrie, trie_in};
 
     ghost view = { trie_in };
 
@@ -55,7 +56,7 @@ impl TrieRecorder {
         ensures room { IfOk result (λ trie. trie.room ≡ nodes) }
         ensures no_events { IfOk result (λ trie. StandsFor trie []) }
     {
-        let frames = Vec::with_capacity(alloc, MOST_OPEN)?;
+        let frames = Frames::new(alloc)?;
         let nodes = Nodes::new(alloc, nodes)?;
         Ok(TrieRecorder {
             state: TrieState::Live,
@@ -80,9 +81,9 @@ impl TrieRecorder {
             self.state = TrieState::Deep;
             return;
         }
-        match self.nodes.node_of(innermost(&self.frames), func) {
+        match self.nodes.node_of(self.frames.innermost(), func) {
             Some(node) => {
-                self.frames.push_reserved(Frame {
+                self.frames.open(Frame {
                     node,
                     func,
                     tsc,
@@ -99,20 +100,20 @@ impl TrieRecorder {
         requires { AreRoomy self.old }
         ensures { Leaves func tsc self.old self.new }
     {
-        if let Some(place) = innermost_of(&self.frames, func) {
-            let ended = self.frames[place];
+        if let Some(ended) = self.frames.end(func) {
             let duration = tsc.wrapping_sub(ended.tsc);
             let own = u128::from(duration).saturating_sub(ended.spent);
-            self.frames.truncate(place);
-            spend(&mut self.frames, duration);
+            self.frames.spend(duration);
             self.nodes.add_pair(ended.node, duration, own);
         }
     }
 
     /// Adds what it says of each path to sums.
     pub(crate) fn add_to(&self, alloc: Global, sums: &mut PathSums) -> Result<(), NoMemory>
-        requires { self.now.state ≡ TrieState.Live }
-        ensures { OnOk result ((before : List Timed) (events : List Event)
+        requires live { self.now.state ≡ TrieState.Live }
+        requires root { HasRoot sums.old.paths }
+        ensures root { OnOk result (HasRoot sums.new.paths) }
+        ensures sums { OnOk result ((before : List Timed) (events : List Event)
             → AreSums sums.old.paths sums.old.tallies before → StandsFor self.now events
             → AreSums sums.new.paths sums.new.tallies (before ++ timed_pairs events)) }
     {

@@ -1,7 +1,7 @@
 //! Where the steps of a trie are found.
 
 ghost use Rattle.std.specs.Prelude.{◌≡◌, ◌≤◌, ◌<◌, ◌+◌, ◌-◌, ◌^◌, ◌++◌, [], ◌∷◌, length, IfOk, MatchOption, slice_index_or};
-ghost use Rattle.call_trie.specs.private.Tables.{AreChained, HasNone, IsNumberOf, bucket_in};
+ghost use Rattle.call_trie.specs.private.Chains.{AreChained, HasNone, IsNumberOf, bucket_in};
 
 use std::alloc::{AllocError, Global};
 use std::marker::Model;
@@ -9,7 +9,8 @@ use std::marker::Model;
 /// How many buckets there are for each step that a table has room for.
 const BUCKETS_PER_STEP: usize = 2;
 
-/// Odd numbers by which the parts of a step are multiplied, so that steps are spread over buckets.
+/// Odd numbers by which the parts of a step are multiplied. With them, steps are spread over buckets
+/// about as if by chance: see the numbers in this crate's README.
 const PARENT_FACTOR: u64 = 0x9E37_79B9_7F4A_7C15;
 const STEP_FACTOR: u64 = 0xD383_1C9E_B0F1_4B0B;
 
@@ -39,7 +40,8 @@ pub(crate) struct Table {
 }
 
 impl Model for Table {
-    ghost use Rattle.call_trie.specs.private.Tables.{IsTable, Steps, steps_in};
+    ghost use Rattle.call_trie.specs.private.Chains.{Steps};
+    ghost use Rattle.call_trie.specs.private.Tables.{IsTable, steps_in};
 
     ghost Value = { Steps };
 
@@ -55,10 +57,10 @@ fn bucket_of(buckets: usize, step: Step) -> usize
     ensures is { result ≡ bucket_in buckets step }
     ensures within { result < buckets }
 {
-    let mixed = u64::from(step.parent)
+    let both = u64::from(step.parent)
         .wrapping_mul(PARENT_FACTOR)
-        .wrapping_add(u64::from(step.func))
-        .wrapping_mul(STEP_FACTOR);
+        .wrapping_add(u64::from(step.func));
+    let mixed = (both ^ (both >> 32)).wrapping_mul(STEP_FACTOR);
     let part = mixed >> 32;
     let scaled = part * buckets as u64;
     (scaled >> 32) as usize

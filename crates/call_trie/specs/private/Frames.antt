@@ -1,11 +1,8 @@
 -- The frames of open calls.
-use Rattle.std.specs.Prelude.{◌<◌, ◌≤◌, ◌≡◌, ℕ, List, All, length, map, reverse, vec_capacity}
+use Rattle.std.specs.Prelude.{◌≡◌, ◌<◌, ◌%◌, ◌==◌, Bool, ℕ, List, All, count_by, length, map, reverse, slice_index_or}
 use Rattle.stack_rebuild.specs.OpenPaths.{OpenPath}
 use Rattle.stack_rebuild.specs.PathSums.{path_at}
-use Rattle.stack_rebuild.specs.Stacks.{most_open}
 use Rattle.call_trie.specs.declared.frames.Frame.{Frame}
-use Rattle.call_trie.specs.declared.recorder.TrieRecorder.TheInside.{Inside}
-use Rattle.call_trie.specs.Tries.{Trie}
 
 -- the open call of a frame
 abbrev pub open_path : List (List ℕ) → Frame → OpenPath
@@ -23,17 +20,11 @@ node_in frame = frame.node
 abbrev pub AreWithin : List (List ℕ) → List Frame → Type 0
 AreWithin paths frames = All (λ node. (0 < node) × (node < length paths)) (map node_in frames)
 
-abbrev pub trie_in : Inside → Trie
-trie_in a = record {
-  room = a.nodes.room;
-  state = a.state;
-  paths = a.nodes.paths;
-  tallies = a.nodes.tallies;
-  open = open_in a.nodes.paths a.frames.items;
-}
+-- whether a frame's function has this remainder
+abbrev pub is_like : ℕ → Frame → Bool
+is_like b frame = frame.func % 8192 == b
 
--- the nodes of frames are there, and there is room for as many frames as there may be
-pub record IsTrie (a : Inside) : Type 0 where
-  pub frames : AreWithin a.nodes.paths a.frames.items
-  pub few : length a.frames.items ≤ most_open
-  pub fit : most_open ≤ vec_capacity a.frames
+-- the counts are those of frames, by the remainders of their functions
+pub record AreCounts (frames : List Frame) (counts : List ℕ) : Type 0 where
+  pub size : length counts ≡ 8192
+  pub each : (b : ℕ) → b < 8192 → slice_index_or counts b 0 ≡ count_by (is_like b) frames

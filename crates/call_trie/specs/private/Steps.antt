@@ -6,7 +6,7 @@ use Rattle.stack_rebuild.specs.OpenPaths.{OpenPath, open_from, with_spent}
 use Rattle.stack_rebuild.specs.PathSums.{no_tally, with_pair}
 use Rattle.stack_rebuild.specs.Stacks.{most_open}
 use Rattle.call_trie.specs.declared.state.TrieState.TheVariants.{Live, Full, Deep}
-use Rattle.call_trie.specs.private.Nodes.{IsAt, IsNew}
+use Rattle.call_trie.specs.private.Paths.{IsAt, IsNew}
 use Rattle.call_trie.specs.Tries.{Trie}
 
 -- An entry opens this call. If as many calls are open as may be, or if the call's path is new and each node is in use,

@@ -1,5 +1,5 @@
 use Rattle.std.proofs.Common.{length}
-use Rattle.call_trie.specs.private.Tables.{Walks}
+use Rattle.call_trie.specs.private.Chains.{Walks}
 use Rattle.call_trie.proofs.table.number_in.Given as goal
 
 abbrev pub invariant-walking : goal.invariant-walking
