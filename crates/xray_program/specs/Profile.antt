@@ -28,14 +28,15 @@ stop_word Live = None
 stop_word Full = Some (codes "full")
 stop_word Deep = Some (codes "deep")
 
+-- the trouble of a thread whose recorder stops, or else that of later threads
+abbrev pub trouble_at : (number : ℕ) → Option (List ℕ) → Option (List ℕ) → Option (List ℕ)
+trouble_at number None later = later
+trouble_at number (Some word) later = Some (codes "profile: " ++ word ++ codes " " ++ decimal number)
+
 -- the trouble of the least thread whose recorder stops, of threads that are numbered from a number on
 abbrev pub trouble_of : (nodes number : ℕ) → List (List Event) → Option (List ℕ)
 trouble_of nodes number [] = None
-trouble_of nodes number (events ∷ threads) = first_trouble (stop_word (state_after nodes events))
-  where
-    first_trouble : Option (List ℕ) → Option (List ℕ)
-    first_trouble (Some word) = Some (codes "profile: " ++ word ++ codes " " ++ decimal number)
-    first_trouble None = trouble_of nodes (number + 1) threads
+trouble_of nodes number (events ∷ threads) = trouble_at number (stop_word (state_after nodes events)) (trouble_of nodes (number + 1) threads)
 
 -- the report, unless a recorder stopped
 abbrev pub report_unless : Option (List ℕ) → StackFormat → Program → List (List Event) → List ℕ
