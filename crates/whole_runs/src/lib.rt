@@ -26,6 +26,7 @@ mod gates;
 mod pieces;
 #[cfg(test)]
 mod plain;
+mod profile;
 #[cfg(test)]
 mod run;
 #[cfg(test)]
