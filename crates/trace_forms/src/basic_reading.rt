@@ -1,6 +1,6 @@
 //! Basic logs as they are read.
 
-ghost use Rattle.std.specs.Prelude.{◌≡◌, ◌⊎◌, ◌≤◌, ◌+◌, Err, Ok, drop, length};
+ghost use Rattle.std.specs.Prelude.{◌≡◌, ◌⊎◌, ◌≤◌, ◌+◌, Err, Ok, OnOk, drop, length};
 ghost use Rattle.byteorder.specs.Endian.{little_number};
 ghost use Rattle.trace_forms.specs.declared.basic.BasicFault.TheVariants.{NoMemory};
 ghost use Rattle.trace_forms.specs.BasicLogs.{arg_logged, basic_header, basic_header_rows, basic_of, event_in, kind_numbered, record_rows};
@@ -77,7 +77,8 @@ fn read_header(bytes: &[u8]) -> Result<Header, BasicFault>
 /// The thread, the process and the event of the record that bytes begin with. `place` is its place
 /// in the file.
 fn read_record(place: u64, bytes: &[u8]) -> Result<(u32, u32, Event), BasicFault>
-    ensures { result ≡ record_rows place bytes.now }
+    ensures reads { result ≡ record_rows place bytes.now }
+    ensures whole { OnOk result (32 ≤ length bytes.now) }
 {
     if bytes.len() < RECORD_BYTES {
         return Err(BasicFault::Short(place));

@@ -1,6 +1,6 @@
 //! Basic logs as they are written.
 
-ghost use Rattle.std.specs.{Prelude.{◌≡◌, ◌<◌, ◌^◌, None, Some, length, nat_lt, if◌then◌else◌}, List.{flat_map}};
+ghost use Rattle.std.specs.{Prelude.{◌≡◌, ◌<◌, ◌^◌, None, length}, List.{flat_map}};
 ghost use Rattle.fdr_record.specs.Records.{action_of};
 ghost use Rattle.fdr_file.specs.ThreadEvents.{event_given, thread_events};
 ghost use Rattle.xray_io.specs.{Text.{AddsText}, Writes.{WritesText}};
@@ -11,6 +11,9 @@ use crate::source::{EventSource, TraceCursor};
 use fdr_file::{Header, Trace};
 use fdr_record::{Event, Kind};
 use xray_io::{Piece, Printed, Sink, Text, WriteFault, write_text};
+
+/// The greatest CPU that fits the byte for it.
+const MOST_CPU: u16 = 255;
 
 /// The two bytes that each record of an event begins with.
 const TAG: [u8; 2] = [0; 2];
@@ -34,19 +37,12 @@ fn find_wide<E: EventSource>(events: &mut E) -> Option<u64>
 {
     let mut number = 0;
     'narrow: while let Some((_, _, event)) = events.next_event() {
-        if narrow_cpu(&event).is_none() {
+        if event.cpu > MOST_CPU {
             return Some(number);
         }
         number += 1;
     }
     None
-}
-
-/// The CPU of an event, if it fits a byte.
-fn narrow_cpu(event: &Event) -> Option<u8>
-    ensures { result ≡ (if nat_lt 255 event.now.cpu then None else Some event.now.cpu) }
-{
-    u8::try_from(event.cpu).ok()
 }
 
 /// A trace as a basic log: a header of 32 bytes, and 32 bytes for each event, in the order of the

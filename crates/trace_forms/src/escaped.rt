@@ -1,9 +1,10 @@
 //! Names within the strings of JSON.
 
-ghost use Rattle.std.specs.{Prelude.{◌≡◌, ◌∷◌, [], IsTrue}, Option.{option_map, option_map_or}};
+ghost use Rattle.std.specs.{Prelude.{◌≡◌}, Option.{option_map, option_map_or}};
 ghost use Rattle.json.specs.Print.{escape, escape_byte, escape_letter as short_escape};
 ghost use Rattle.xray_io.specs.Text.{AddsText};
 ghost use Rattle.function_names.specs.Name.{name_text};
+ghost use Rattle.trace_forms.specs.private.Texts.{is_plain_byte};
 
 use function_names::add_name;
 use xray_image::Image;
@@ -32,7 +33,7 @@ fn escape_letter(byte: u8) -> Option<u8>
 
 /// Whether a byte may stand in a string as it is.
 fn is_plain(byte: u8) -> bool
-    ensures { IsTrue result → escape_byte byte ≡ byte ∷ [] }
+    ensures { result ≡ is_plain_byte byte }
 {
     byte >= SPACE && byte != b'"' && byte != BACKSLASH
 }

@@ -26,11 +26,11 @@ pub(crate) struct RunBlocks {
 }
 
 impl RunBlocks {
-    ghost use Rattle.trace_forms.specs.private.RunBlocks.{blocks_so_far};
+    ghost use Rattle.trace_forms.specs.private.RunBlocks.{HoldsRuns, blocks_so_far};
 
     /// No blocks.
     pub(crate) fn new(alloc: Global) -> RunBlocks
-        ensures { blocks_so_far result ≡ [] }
+        ensures { HoldsRuns result [] }
     {
         RunBlocks {
             blocks: Vec::new(alloc),
@@ -67,8 +67,8 @@ impl RunBlocks {
         pid: u32,
         event: Event,
     ) -> Result<(), AllocError>
-        ensures { OnOk result ((events : List ThreadEvent) → blocks_so_far self.old ≡ runs events
-            → blocks_so_far self.new ≡ runs (events ++ event_given (thread, pid, event) ∷ [])) }
+        ensures { OnOk result ((events : List ThreadEvent) → HoldsRuns self.old events
+            → HoldsRuns self.new (events ++ event_given (thread, pid, event) ∷ [])) }
     {
         if thread != self.thread || pid != self.pid {
             self.end_run(alloc)?;
@@ -81,7 +81,8 @@ impl RunBlocks {
 
     /// The blocks.
     pub(crate) fn finish(mut self, alloc: Global) -> Result<Vec<Block>, AllocError>
-        ensures { IfOk result (λ blocks. blocks.items ≡ blocks_so_far self) }
+        ensures { IfOk result (λ blocks. (events : List ThreadEvent) → HoldsRuns self events
+            → blocks.items ≡ runs events) }
     {
         self.end_run(alloc)?;
         Ok(self.blocks)

@@ -1,5 +1,5 @@
 -- The text of trace events, put together of its parts.
-use Rattle.std.specs.Prelude.{ℕ, List, [], ◌∷◌, ◌++◌, codes, decimal, Option}
+use Rattle.std.specs.Prelude.{ℕ, Bool, List, [], ◌∷◌, ◌++◌, ◌==◌, ◌&&◌, not, nat_le, codes, decimal, Option}
 use Rattle.std.specs.List.{flat_map}
 use Rattle.json.specs.Print.{escape}
 use Rattle.fdr_record.specs.declared.event.Event.{Event}
@@ -15,7 +15,7 @@ abbrev pub event_start : Kind → ℕ → List ℕ
 event_start Entry arg = codes "{\"cpu\":"
 event_start Exit arg = codes "{\"cpu\":"
 event_start TailExit arg = codes "{\"cpu\":"
-event_start EntryArgs arg = codes "{\"args\":{\"arg\":" ++ decimal arg ++ codes "},\"cpu\":"
+event_start EntryArgs arg = codes "{\"args\":{\"arg\":" ++ (decimal arg ++ codes "},\"cpu\":")
 
 -- its CPU, and all up to its name
 abbrev pub event_cpu : ℕ → List ℕ
@@ -24,8 +24,8 @@ event_cpu cpu = decimal cpu ++ codes ",\"name\":\""
 -- all that comes after its name
 abbrev pub event_end : ThreadEvent → List ℕ
 event_end e =
-    codes "\",\"ph\":\"" ++ phase_text e.event.kind ++ codes "\",\"pid\":" ++ decimal e.pid ++ codes ",\"tid\":" ++ decimal e.thread
-    ++ codes ",\"ts\":" ++ decimal e.event.tsc ++ codes "}"
+    codes "\",\"ph\":\"" ++ (phase_text e.event.kind ++ (codes "\",\"pid\":" ++ (decimal e.pid ++ (codes ",\"tid\":" ++ (decimal e.thread
+    ++ (codes ",\"ts\":" ++ (decimal e.event.tsc ++ codes "}")))))))
 
 -- an event
 abbrev pub event_json : Option Program → ThreadEvent → List ℕ
@@ -40,3 +40,7 @@ later_json program events = flat_map (λ e. codes "," ++ event_json program e) e
 abbrev pub list_json : Option Program → List ThreadEvent → List ℕ
 list_json program [] = []
 list_json program (e ∷ events) = event_json program e ++ later_json program events
+
+-- a byte may stand in a string as it is
+abbrev pub is_plain_byte : ℕ → Bool
+is_plain_byte b = nat_le 32 b && not (b == 34) && not (b == 92)
