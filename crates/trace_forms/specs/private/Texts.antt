@@ -17,10 +17,6 @@ event_start Exit arg = codes "{\"cpu\":"
 event_start TailExit arg = codes "{\"cpu\":"
 event_start EntryArgs arg = codes "{\"args\":{\"arg\":" ++ (decimal arg ++ codes "},\"cpu\":")
 
--- its CPU, and all up to its name
-abbrev pub event_cpu : ℕ → List ℕ
-event_cpu cpu = decimal cpu ++ codes ",\"name\":\""
-
 -- all that comes after its name
 abbrev pub event_end : ThreadEvent → List ℕ
 event_end e =
@@ -30,7 +26,7 @@ event_end e =
 -- an event
 abbrev pub event_json : Option Program → ThreadEvent → List ℕ
 event_json program e =
-    event_start e.event.kind e.event.arg ++ (event_cpu e.event.cpu ++ (escape (name_text program e.event.func) ++ event_end e))
+    event_start e.event.kind e.event.arg ++ (decimal e.event.cpu ++ (codes ",\"name\":\"" ++ (escape (name_text program e.event.func) ++ event_end e)))
 
 -- events after the first, each with a comma before it
 abbrev pub later_json : Option Program → List ThreadEvent → List ℕ

@@ -1,0 +1,10 @@
+pub mod Flags
+pub mod Places
+pub mod RunLaws
+pub mod Records
+pub mod Logs
+pub mod Escapes
+pub mod JsonTexts
+pub mod Pieces
+pub mod Lines
+pub mod Sources
