@@ -60,6 +60,10 @@ last_line len (Some fault) = codes "stop " ++ decimal len ++ codes " " ++ unwrap
 abbrev pub record_lines : List ℕ → List ℕ
 record_lines bytes = flat_map standing_line (standings 32 (drop 32 bytes))
 
+-- the lines of a prefix, and the last line
+abbrev pub lines_of : (prefix : List ℕ) → (len : ℕ) → Option TraceFault → List ℕ
+lines_of prefix len fault = header_line prefix ++ record_lines prefix ++ last_line len fault
+
 -- the dump of bytes whose longest prefix that is a trace has this length
 abbrev pub dump_text : List ℕ → ℕ → List ℕ
-dump_text bytes len = header_line bytes ++ record_lines (take len bytes) ++ last_line len (fault_in bytes)
+dump_text bytes len = lines_of (take len bytes) len (fault_in bytes)

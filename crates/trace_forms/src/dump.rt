@@ -1,6 +1,6 @@
 //! Dumps of traces.
 
-ghost use Rattle.std.specs.{Prelude.{◌≡◌, ◌≤◌, ◌++◌, ℕ, [], Ok, decimal, length}, Option.{unwrap_or}};
+ghost use Rattle.std.specs.{Prelude.{◌≡◌, ◌++◌, ℕ, [], Ok, decimal}, Option.{unwrap_or}};
 ghost use Rattle.fdr_file.specs.declared.trace.Trace.{Trace};
 ghost use Rattle.fdr_file.specs.{Prefixes.{IsReadable}, Traces.{trace_of}};
 ghost use Rattle.trace_words.specs.TraceWords.{trace_words};
@@ -85,7 +85,6 @@ fn add_header<S: Sink>(text: &mut Text<S>, bytes: &[u8]) -> Result<(), WriteFaul
 
 /// Adds the lines of the records after the header.
 fn add_records<S: Sink>(text: &mut Text<S>, bytes: &[u8]) -> Result<(), WriteFault>
-    requires { 32 ≤ length bytes.now }
     ensures { AddsText S.written S.faults S.along text.old text.new (record_lines bytes.now) result }
 {
     let mut at = HEADER_BYTES;
