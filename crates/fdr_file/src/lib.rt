@@ -30,7 +30,6 @@ pub use laws::{
 };
 pub use longest::readable;
 pub use reading::read_trace;
-pub use records::{record_len, record_of};
 pub use scan::TraceScan;
 pub use taker::{KeepNothing, Taker};
 pub use trace::{Block, Blocks, Events, Items, Trace};

@@ -27,17 +27,16 @@ fn length_of_first(first: u8) -> usize
     }
 }
 
-/// The length in bytes of the record that bytes begin with, by the first of them: 8 for a function
-/// record, and 16 for any other. It says so of bytes that aren't a record, too.
-pub fn record_len(bytes: &[u8]) -> usize
+/// The length of the record that bytes begin with, by the first of them.
+pub(crate) fn record_len(bytes: &[u8]) -> usize
     requires { 0 < length bytes.now }
     ensures { result ≡ record_length bytes.now }
 {
     length_of_first(bytes[0])
 }
 
-/// The record that bytes begin with. `RecFault` says why there is none.
-pub fn record_of(bytes: &[u8]) -> Result<Rec, RecFault>
+/// The record that bytes begin with.
+pub(crate) fn record_of(bytes: &[u8]) -> Result<Rec, RecFault>
     ensures { result ≡ record_in bytes.now }
 {
     match taken_at(bytes, 0) {

@@ -7,9 +7,9 @@ ghost use Rattle.trace_words.specs.TraceWords.{trace_words};
 ghost use Rattle.xray_io.specs.{Piece.{piece_text}, Text.{AddsText}, Writes.{WritesText}};
 ghost use Rattle.trace_forms.specs.Dumps.{dump_text, fault_in as first_fault, header_line, kind_word, last_line, record_line, record_lines, record_text};
 
+use crate::records::{record_len, record_of};
 use fdr_file::{
     EventCursor, KeepNothing, TraceFault, TraceScan, a_file_is_read_by_records, readable,
-    record_len, record_of,
 };
 use fdr_record::{Kind, Rec};
 use fault_words::Fault;

@@ -8,6 +8,7 @@ mod dump;
 mod escaped;
 mod gathered;
 mod laws;
+mod records;
 mod runs;
 mod source;
 mod trace_events;
