@@ -1,16 +1,18 @@
 -- Basic logs, record by record.
-use Rattle.std.proofs.Common.{◌≡◌, ℕ, ◌+◌, ◌<◌, ◌≤◌, ◌++◌, ◌∙◌, List, [], ◌∷◌, length, drop, Result, Ok, Err, refl, sym, ap, append_assoc, arith, lit<, false}
-use Rattle.std.specs.Prelude.{All, nat_lt}
+use Rattle.std.proofs.Common.{◌≡◌, ℕ, ◌+◌, ◌<◌, ◌≤◌, ◌++◌, ◌∙◌, List, [], ◌∷◌, Bool, true, false, length, drop, Ok, Err, refl, sym, ap, append_assoc, arith, lit<}
+use Rattle.std.specs.Prelude.{◌==◌, All, Result, nat_lt, not}
 use Rattle.std.specs.List.{flat_map}
 use Rattle.std.proofs.lemmas.Bool.{le-ltb}
 use Rattle.std.proofs.lemmas.List.{append-nil}
 use Rattle.std.proofs.lemmas.List.Elements.{All-head, All-tail}
-use Rattle.xray_io.specs.Rows.{InTurn, ◌>>=◌}
+use Rattle.xray_io.specs.Rows.{First, InTurn, ◌>>=◌}
 use Rattle.fdr_record.specs.declared.event.Event.{Event}
 use Rattle.fdr_file.specs.declared.header.Header.{Header}
 use Rattle.fdr_file.specs.declared.trace.Trace.{Trace}
 use Rattle.fdr_file.specs.ThreadEvents.{ThreadEvent, event_given, thread_events}
+use Rattle.fdr_file.specs.Traces.{type_in, version_in}
 use Rattle.trace_forms.specs.declared.basic.BasicFault.{BasicFault}
+use Rattle.trace_forms.specs.declared.basic.BasicFault.TheVariants as faults
 use Rattle.trace_forms.specs.BasicLogs.{EventFits, TraceFits, basic_bytes, basic_header, basic_header_bytes, basic_header_rows, basic_of, event_bytes, event_in, events_rows, log_bytes, record_length, record_rows, record_starts}
 use Rattle.trace_forms.specs.Runs.{runs}
 use Rattle.trace_forms.proofs.Places.{starts_first, starts_none}
@@ -46,14 +48,51 @@ read_refused events at bytes fault some is = read_first events at bytes some ∙
 pub read_all : (events : List ThreadEvent) (at : ℕ) → read_on events at [] ≡ Ok events
 read_all events at = ap (InTurn events_rows events) (starts_none (λ _. record_length) at)
 
+-- a row that leaves it to what follows
+first_left : {A B F : Type 0} (b : Bool) (fault : F) (follows : Result A F) (other : Result B F) (x : A) → First b (Err fault) follows ≡ Ok x
+    → (First b (Err fault) other ≡ other) × (follows ≡ Ok x)
+first_left true fault follows other x is = absurd cc
+first_left false fault follows other x is = (refl, is)
+
+-- a header that is accepted leaves it to what follows
+opened : {B : Type 0} (bytes : List ℕ) (said header : Header) (other : Result B BasicFault) → basic_header_rows bytes (Ok said) ≡ Ok header
+    → (basic_header_rows bytes other ≡ other) × (said ≡ header)
+opened {B} bytes said header other is =
+    let short = nat_lt (length bytes) 32 in
+    let version = not (version_in bytes == 3) in
+    let form = not (type_in bytes == 0) in
+    let form_rows : Result B BasicFault = First form (Err (faults.Form (type_in bytes))) other in
+    let version_rows : Result B BasicFault = First version (Err (faults.Version (version_in bytes))) form_rows in
+    let one = first_left short (faults.Short 0) _ version_rows header is in
+    let two = first_left version (faults.Version (version_in bytes)) _ form_rows header one.1 in
+    let three = first_left form (faults.Form (type_in bytes)) (Ok said) other header two.1 in
+    let same : said ≡ header = let h = three.1 in cc in
+    (one.0 ∙ (two.0 ∙ three.0), same)
+
+first_refused : {A B F : Type 0} (b : Bool) (decided fault : F) (follows : Result A F) (other : Result B F) → First b (Err decided) follows ≡ Err fault
+    → (follows ≡ Err fault → other ≡ Err fault) → First b (Err decided) other ≡ Err fault
+first_refused {B = B} {F = F} true decided fault follows other is later =
+    let same : decided ≡ fault = cc in
+    ap (λ (f : F). let r : Result B F = Err f in r) same
+first_refused false decided fault follows other is later = later is
+
+header_refused : {B : Type 0} (bytes : List ℕ) (said : Header) (other : Result B BasicFault) (fault : BasicFault) → basic_header_rows bytes (Ok said) ≡ Err fault
+    → basic_header_rows bytes other ≡ Err fault
+header_refused bytes said other fault is =
+    first_refused (nat_lt (length bytes) 32) (faults.Short 0) fault _ _ is (λ one.
+    first_refused (not (version_in bytes == 3)) (faults.Version (version_in bytes)) fault _ _ one (λ two.
+    first_refused (not (type_in bytes == 0)) (faults.Form (type_in bytes)) fault (Ok said) other two (λ three. absurd cc)))
+
 -- a log that has a header, by what its records read as
 pub log_opened : (bytes : List ℕ) (header : Header) → basic_header_rows bytes (Ok (basic_header bytes)) ≡ Ok header
     → basic_of bytes ≡ log_read header (read_on [] 32 (drop 32 bytes))
-log_opened bytes header is = by_length (nat_lt (length bytes) 32) refl is
-  where
-    by_length : (b : Bool) → nat_lt (length bytes) 32 ≡ b → basic_header_rows bytes (Ok (basic_header bytes)) ≡ Ok header
-        → basic_of bytes ≡ log_read header (read_on [] 32 (drop 32 bytes))
-    by_length b short h = ?
+log_opened bytes header is =
+    let both = opened bytes (basic_header bytes) header (log_read (basic_header bytes) (read_on [] 32 (drop 32 bytes))) is in
+    both.0 ∙ ap (λ (h : Header). log_read h (read_on [] 32 (drop 32 bytes))) both.1
+
+-- a header that is refused refuses the log
+pub log_refused : (bytes : List ℕ) (fault : BasicFault) → basic_header_rows bytes (Ok (basic_header bytes)) ≡ Err fault → basic_of bytes ≡ Err fault
+log_refused bytes fault is = header_refused bytes (basic_header bytes) (log_read (basic_header bytes) (read_on [] 32 (drop 32 bytes))) fault is
 
 -- ---- what is written reads back
 
