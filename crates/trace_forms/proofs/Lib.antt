@@ -1,7 +1,7 @@
 pub mod Flags
 pub mod Places
 pub mod RunLaws
-pub mod Records
+pub mod LogRecords
 pub mod Logs
 pub mod Escapes
 pub mod JsonTexts

@@ -47,8 +47,8 @@ AreApart (block ∷ blocks) = IsOtherThan block blocks × AreApart blocks
 
 -- The blocks are the longest runs of these events: they have these events in this order, none is empty, none could be
 -- joined with the next one, and their wall time is 0.
-pub record AreRuns (events : List ThreadEvent) (blocks : List Block) : Type 0 where
-  pub events : thread_events blocks ≡ events
+pub record AreRuns (given : List ThreadEvent) (blocks : List Block) : Type 0 where
+  pub events : thread_events blocks ≡ given
   pub some : All (λ block. block.events ≢ []) blocks
   pub apart : AreApart blocks
   pub walls : All (λ block. block.wall ≡ no_wall) blocks

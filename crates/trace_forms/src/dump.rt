@@ -133,11 +133,11 @@ fn add_field<S: Sink>(text: &mut Text<S>, name: &[u8], number: u64) -> Result<()
 }
 
 /// Adds a name and two numbers, with something between them.
-fn add_fields_of<S: Sink>(
+fn add_fields_of<'a, S: Sink>(
     text: &mut Text<S>,
-    name: &[u8],
+    name: &'a [u8],
     first: u64,
-    between: &[u8],
+    between: &'a [u8],
     second: u64,
 ) -> Result<(), WriteFault>
     ensures { AddsText S.written S.faults S.along text.old text.new
