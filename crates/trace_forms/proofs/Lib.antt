@@ -8,3 +8,5 @@ pub mod JsonTexts
 pub mod Pieces
 pub mod Lines
 pub mod Sources
+pub mod GivenTexts
+pub mod Wide

@@ -153,7 +153,7 @@ is_true : (a b c d : ℕ) → a ≡ b → c ≡ d → (a == b) && (c == d) ≡ t
 is_true a b c d first second = let t = eq-eqb a b first in let p = eq-eqb c d second in rw (t, p) refl
 
 other_kept : (e : ThreadEvent) (block : Block) (blocks : List Block) → belongs e block ≡ false → IsOtherThan (run_with e) (block ∷ blocks)
-other_kept e block blocks no same = absurd (true≢false (sym (is_true e.thread block.thread e.pid block.pid same.0 same.1) ∙ no))
+other_kept e block blocks other same = absurd (true≢false (sym (is_true e.thread block.thread e.pid block.pid same.0 same.1) ∙ other))
 
 kept_before : (e : ThreadEvent) (blocks : List Block) → AreKept blocks → AreKept (run_before e blocks)
 kept_before e [] kept = (record { some = some_events e.event []; wall = refl }, tt, tt)
