@@ -3,6 +3,7 @@ use Rattle.std.proofs.Common.{◌≡◌, ◌≢◌, ◌⊎◌, ◌∙◌, ◌++�
 use Rattle.std.specs.Prelude.{◌==◌, ◌&&◌, ⊤, All}
 use Rattle.std.proofs.lemmas.Bool.{cases_Bool, eq-eqb, ne_eqb, true≢false}
 use Rattle.std.proofs.lemmas.Bool.Decides.{eqb_tells}
+use Rattle.std.proofs.lemmas.List.{append-nil}
 use Rattle.std.proofs.lemmas.List.Elements.{All-cons, All-head, All-nil, All-tail}
 use Rattle.xray_io.specs.declared.wall.Wall.{Wall}
 use Rattle.fdr_record.specs.declared.event.Event.{Event}
@@ -229,3 +230,42 @@ runs_only (block ∷ blocks) events are =
     let other : IsOtherThan block (runs (thread_events blocks)) = subst (IsOtherThan block) rest are.apart.0 in
     let one = runs_block block block.events (thread_events blocks) refl (All-head (λ block. block.events ≢ []) block blocks are.some) (All-head (λ block. block.wall ≡ no_wall) block blocks are.walls) other in
     ap (λ (bs : List Block). block ∷ bs) rest ∙ (sym one ∙ ap runs are.events)
+
+-- ---- blocks that are made of events, one after the other
+
+is_false : (a b c d : ℕ) → ((a ≡ b) × (c ≡ d) → ⊥) → (a == b) && (c == d) ≡ false
+is_false a b c d ne =
+    elim (eqb_tells a b) [
+      | inl t ↦ elim (eqb_tells c d) [ inl p ↦ absurd (ne (t.1, p.1)) | inr p ↦ rw (t.0, p.0) refl ]
+      | inr t ↦ rw t.0 refl
+    ]
+
+-- the first event of all
+first_run : (blocks : List Block) (events : List ThreadEvent) (thread pid : ℕ) (event : Event) → blocks ++ [] ≡ runs events → events ≡ []
+    → blocks ++ run_of thread pid (event ∷ []) ∷ [] ≡ runs (events ++ thread_event thread pid event ∷ [])
+first_run blocks events thread pid event are none =
+    let empty : blocks ≡ [] = sym (append-nil blocks) ∙ (are ∙ ap runs none) in
+    ap (λ (bs : List Block). bs ++ run_of thread pid (event ∷ []) ∷ []) empty
+    ∙ sym (ap (λ (es : List ThreadEvent). runs (es ++ thread_event thread pid event ∷ [])) none)
+
+-- one more event of the last block
+pub same_run : (blocks : List Block) (thread pid : ℕ) (last : List Event) (event : Event) (events : List ThreadEvent)
+    → blocks ++ last_run thread pid last ≡ runs events → (last ≡ [] → events ≡ [])
+    → blocks ++ last_run thread pid (last ++ event ∷ []) ≡ runs (events ++ thread_event thread pid event ∷ [])
+same_run blocks thread pid [] event events are begun = first_run blocks events thread pid event are (begun refl)
+same_run blocks thread pid (x ∷ xs) event events are begun = runs_longer events blocks thread pid x xs event are
+
+-- an event of another thread or process than the last block
+pub other_run : (blocks : List Block) (t p : ℕ) (last : List Event) (thread pid : ℕ) (event : Event) (events : List ThreadEvent)
+    → blocks ++ last_run t p last ≡ runs events → (last ≡ [] → events ≡ []) → ((thread ≡ t) × (pid ≡ p) → ⊥)
+    → (blocks ++ last_run t p last) ++ last_run thread pid (event ∷ []) ≡ runs (events ++ thread_event thread pid event ∷ [])
+other_run blocks t p [] thread pid event events are begun other =
+    ap (λ (bs : List Block). bs ++ run_of thread pid (event ∷ []) ∷ []) (append-nil blocks)
+    ∙ first_run blocks events thread pid event are (begun refl)
+other_run blocks t p (x ∷ xs) thread pid event events are begun other =
+    runs_begin events blocks t p x xs (thread_event thread pid event) are (is_false thread t pid p other)
+
+-- the last block has an event once one was added
+pub added_some : {X : Type 0} (xs : List X) (x : X) → xs ++ x ∷ [] ≡ [] → ⊥
+added_some [] x same = cc
+added_some (y ∷ ys) x same = cc
