@@ -16,9 +16,9 @@ records-preserved g c =
     let e : ThreadEvent = record { thread = c.in-Some.thread; pid = c.in-Some.pid; event = c.in-Some.event } in (
       given ++ e ∷ [],
       one_given _ given _ _ e c.records.invariant.1 c.in-Some.ensures,
-      narrow_later e _ (sym (ap wide_cpu c.in-Some.ensures) ∙ c.records.invariant.2),
+      narrow_later e (g.E.EventSource.left c.next_event.new.self) (sym (ap wide_cpu c.in-Some.ensures) ∙ c.records.invariant.2),
       subst (λ (t : List ℕ). AddsText g.S.Sink.written g.S.Sink.faults g.S.Sink.along c.args.text.now c.add_record.new.text t (Ok tt)) (one_text event_bytes given e)
-          (adds_more g.met.S.Sink.along_both c.records.invariant.3 c.in_ok-add_record.ensures),
+          (adds_more g.met.S.Sink.along_both {answer = Ok tt} c.records.invariant.3 c.in_ok-add_record.ensures),
     )
 
 pub returns-in_err-add_record : goal.returns-in_err-add_record
