@@ -14,7 +14,7 @@ use xray_io::NoMemory;
 
 /// The names that a sled map gives to functions, by their ids. In contracts it is these names
 /// (`Naming`).
-#[derive(Drop)]
+#[derive(Debug, Drop)]
 pub struct MapNames {
     names: HashMap<u32, Vec<u8>>,
 }
