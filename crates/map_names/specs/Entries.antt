@@ -106,18 +106,21 @@ quoted_byte Single true b = if b == 39 then Some (b ∷ [], false) else None
 quoted_byte Double false b = if b == 34 then None else Some (if b == 92 then ([], true) else (b ∷ [], false))
 quoted_byte Double true b = Some (if b == 34 || b == 92 then (b ∷ [], false) else (92 ∷ b ∷ [], false))
 
+-- the name that bytes between quotation marks say, if the first of them belongs to the byte before it, or if it doesn't
+abbrev pub quoted_from : Quote → List ℕ → Bool → Option (List ℕ)
+quoted_from quote [] belongs = if belongs then None else Some []
+quoted_from quote (b ∷ bytes) belongs =
+    option_and_then (λ one. option_map (λ more. one.0 ++ more) (quoted_from quote bytes one.1)) (quoted_byte quote belongs b)
+
 -- the name that bytes between quotation marks say
-abbrev pub quoted_name : Quote → Bool → List ℕ → Option (List ℕ)
-quoted_name quote false [] = Some []
-quoted_name quote true [] = None
-quoted_name quote belongs (b ∷ bytes) =
-    option_and_then (λ one. option_map (λ more. one.0 ++ more) (quoted_name quote one.1 bytes)) (quoted_byte quote belongs b)
+abbrev pub quoted_name : Quote → List ℕ → Option (List ℕ)
+quoted_name quote bytes = quoted_from quote bytes false
 
 -- the name that is written so: between single or double quotation marks, or without any
 abbrev pub name_written : List ℕ → Option (List ℕ)
 name_written bytes =
-    option_map_or (quoted_name Single false) (between Single bytes)
-    (option_map_or (quoted_name Double false) (between Double bytes)
+    option_map_or (quoted_name Single) (between Single bytes)
+    (option_map_or (quoted_name Double) (between Double bytes)
     (plain_name bytes))
 
 -- ---- lines

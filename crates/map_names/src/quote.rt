@@ -1,6 +1,6 @@
 //! Names between quotation marks.
 
-ghost use Rattle.std.specs.Prelude.{◌≡◌, ◌++◌, false, option_map, OnOk, IfOk};
+ghost use Rattle.std.specs.Prelude.{◌≡◌, ◌++◌, option_map, OnOk, IfOk};
 ghost use Rattle.map_names.specs.Entries.{between, mark_of, quoted_byte, quoted_name};
 ghost use Rattle.map_names.specs.private.Parts.{added_by};
 
@@ -62,7 +62,7 @@ impl Quote {
 
     /// The name that bytes between these marks say, or `None` if they aren't written so.
     pub(crate) fn read(self, alloc: Global, bytes: &[u8]) -> Result<Option<Vec<u8>>, AllocError>
-        ensures { IfOk result (λ name. option_map (λ n. n.items) name ≡ quoted_name self false bytes.now) }
+        ensures { IfOk result (λ name. option_map (λ n. n.items) name ≡ quoted_name self bytes.now) }
     {
         let mut name = Vec::with_capacity(alloc, bytes.len())?;
         let mut belongs = false;

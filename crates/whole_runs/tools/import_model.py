@@ -231,12 +231,20 @@ def taken_blocks(log):
     return taken, doubled, empty
 
 
+def pieces_of(events):
+    """The events of a block in lists, each as long as fits in a block of the trace."""
+    recorded = trace_model.Recorded(MOST_OF_A_BLOCK)
+    for event in events:
+        recorded.add(event)
+    return recorded.segments
+
+
 def trace_made(log):
     """The trace that is written."""
     blocks = [
         trace_model.Block(block.thread, block.wall, block.pid, events)
         for block in taken_blocks(log)[0]
-        for events in trace_model.segments_of(block.events, MOST_OF_A_BLOCK)
+        for events in pieces_of(block.events)
     ]
     return trace_model.Trace(log.header, blocks)
 
