@@ -67,6 +67,7 @@ fn add_each<S: Sink>(text: &mut Text<S>, form: NameForm, name: &[u8]) -> Result<
 }
 
 /// Adds the bytes of a name.
+#[tactic(auto, using(crate::proofs::Bytes::themselves))]
 fn add_bytes<S: Sink>(text: &mut Text<S>, form: NameForm, name: &[u8]) -> Result<(), WriteFault>
     ensures { AddsText S.written S.faults S.along text.old text.new
         (flat_map (byte_text form) name.now) result }
@@ -94,6 +95,21 @@ fn marks_around(form: NameForm, name: &[u8]) -> &'static [u8]
     }
 }
 
+/// Adds a name between marks.
+fn add_between<S: Sink>(
+    text: &mut Text<S>,
+    marks: &[u8],
+    form: NameForm,
+    name: &[u8],
+) -> Result<(), WriteFault>
+    ensures { AddsText S.written S.faults S.along text.old text.new
+        (marks.now ++ flat_map (byte_text form) name.now ++ marks.now) result }
+{
+    text.bytes(marks)?;
+    add_bytes(text, form, name)?;
+    text.bytes(marks)
+}
+
 /// Adds a name in a form.
 pub(crate) fn add_spelled<S: Sink>(
     text: &mut Text<S>,
@@ -103,7 +119,5 @@ pub(crate) fn add_spelled<S: Sink>(
     ensures { AddsText S.written S.faults S.along text.old text.new (spelled form name.now) result }
 {
     let marks = marks_around(form, name);
-    text.bytes(marks)?;
-    add_bytes(text, form, name)?;
-    text.bytes(marks)
+    add_between(text, marks, form, name)
 }

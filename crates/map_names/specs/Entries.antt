@@ -1,7 +1,7 @@
 -- What a line of a sled map says: the id of a function, and its name.
 --
 -- A line is `- { id: 1, address: 0x1000, function: 0x1000, kind: function-enter, always-instrument: true, function-name: 'main' }`.
--- A version may stand before the brace at its end. `Spellings` has the same as a way to write entries.
+-- A version may stand before the brace at its end.
 use Rattle.std.specs.Prelude.{ℕ, Bool, true, false, ◌&&◌, ◌||◌, ◌+◌, ◌-◌, ◌==◌, not, nat_le, List, [], ◌∷◌, ◌++◌, length, take, drop, position, codes, Option, Some, None, is_some, option_map, option_and_then, if◌then◌else◌}
 use Rattle.std.specs.Option.{option_map_or, option_or}
 use Rattle.std.specs.List.{list_all, list_any}

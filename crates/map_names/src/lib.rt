@@ -7,7 +7,6 @@
 
 mod entry;
 mod fault;
-mod laws;
 mod naming;
 mod parts;
 mod quote;
@@ -15,6 +14,5 @@ mod reading;
 mod refusal;
 
 pub use fault::MapFault;
-pub use laws::{an_entry_is_read, sled_maps_are_read};
 pub use naming::MapNames;
 pub use reading::read_map;
