@@ -8,7 +8,7 @@ use Rattle.map_names.specs.declared.fault.MapFault.{MapFault}
 use Rattle.map_names.specs.declared.fault.MapFault.TheVariants.{Syntax, NoMemory}
 use Rattle.map_names.specs.declared.reading.Draft.{Draft}
 use Rattle.map_names.specs.Entries.{Entry}
-use Rattle.map_names.specs.Maps.{Before, Nothing, Entries, Whole, ended, line_rows, map_naming, map_of, naming_of}
+use Rattle.map_names.specs.Maps.{Before, Start, Listed, Whole, ended, line_rows, map_naming, map_of, naming_of}
 use Rattle.map_names.specs.private.Drafts.{IsDraftOf, Reads, Stands, Takes, before_in}
 
 -- what the lines after these come to
@@ -16,7 +16,7 @@ abbrev later : List (ℕ × List ℕ) → Result Before MapFault → Result Befo
 later lines before = before >>= λ after. InTurn line_rows after lines
 
 -- what a call that takes a line ensures
-abbrev Took : Draft → ℕ × List ℕ → Result Unit MapFault → Draft → Type 0
+abbrev Took : Draft → ℕ × List ℕ → Result (Unit {0}) MapFault → Draft → Type 0
 Took old line result new = (entries : List Entry) → IsDraftOf entries old → Takes result (line_rows (before_in old.ended entries) line) new
 
 -- a line was taken
@@ -40,7 +40,7 @@ line_refused old new before line rest fault stands took =
     ]
 
 -- the text is refused where its lines are
-pub text_refused : (text : List ℕ) (fault : MapFault) → InTurn line_rows Nothing (numbered_lines text) ≡ Err fault → map_of text ≡ Err fault
+pub text_refused : (text : List ℕ) (fault : MapFault) → InTurn line_rows Start (numbered_lines text) ≡ Err fault → map_of text ≡ Err fault
 text_refused text fault is = ap (λ before. before >>= ended (length (lines text) + 1)) is
 
 -- the names of a text that is refused
@@ -48,7 +48,7 @@ pub naming_refused : (text : List ℕ) (fault : MapFault) → map_of text ≡ Er
 naming_refused text fault is = ap (λ entries. entries >>= λ es. Ok (naming_of es)) is
 
 -- what the end of the text comes to
-at_end : (text : List ℕ) (before : Before) → InTurn line_rows Nothing (numbered_lines text) ≡ Ok before
+at_end : (text : List ℕ) (before : Before) → InTurn line_rows Start (numbered_lines text) ≡ Ok before
     → map_of text ≡ ended (length (lines text) + 1) before
 at_end text before is = ap (λ all. all >>= ended (length (lines text) + 1)) is
 
@@ -65,5 +65,5 @@ pub naming_open : (text : List ℕ) (draft : Draft) → draft.ended ≡ false �
     → Err (Syntax (length (lines text) + 1)) ≡ map_naming text
 naming_open text draft is read =
     let entries = read.1.0 in
-    let open_map : read.0 ≡ Entries entries = sym read.1.2 ∙ ap (λ b. before_in b entries) is in
+    let open_map : read.0 ≡ Listed entries = sym read.1.2 ∙ ap (λ b. before_in b entries) is in
     sym (naming_refused text (Syntax (length (lines text) + 1)) (at_end text read.0 read.2 ∙ ap (ended (length (lines text) + 1)) open_map))

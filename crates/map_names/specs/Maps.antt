@@ -11,8 +11,8 @@ use Rattle.map_names.specs.Naming.{Naming}
 
 -- what came before a line: nothing; `---` and these entries; or these entries and `...`
 pub data Before : Type 0 where
-  Nothing : Before
-  Entries : List Entry → Before
+  Start : Before
+  Listed : List Entry → Before
   Whole : List Entry → Before
 
 -- the line is this text
@@ -21,21 +21,21 @@ is_line text line = bytes_eq line text
 
 -- what came before the line after this one
 abbrev pub line_rows : Before → ℕ × List ℕ → Result Before MapFault
-line_rows Nothing (number, line) = First (not (is_line (codes "---") line)) (Err (Syntax number)) (Ok (Entries []))
-line_rows (Entries entries) (number, line) =
+line_rows Start (number, line) = First (not (is_line (codes "---") line)) (Err (Syntax number)) (Ok (Listed []))
+line_rows (Listed entries) (number, line) =
     First (is_line (codes "...") line) (Ok (Whole entries))
-    (NeedsPart (entry_of line) (Err (Syntax number)) λ entry. Ok (Entries (entries ++ entry ∷ [])))
+    (NeedsPart (entry_of line) (Err (Syntax number)) λ entry. Ok (Listed (entries ++ entry ∷ [])))
 line_rows (Whole entries) (number, line) = Err (Syntax number)
 
 -- what is missing at the end of the text is refused with the number after the last line
 abbrev pub ended : ℕ → Before → Result (List Entry) MapFault
-ended number Nothing = Err (Syntax number)
-ended number (Entries entries) = Err (Syntax number)
+ended number Start = Err (Syntax number)
+ended number (Listed entries) = Err (Syntax number)
 ended number (Whole entries) = Ok entries
 
 -- the entries of a sled map, or the refusal of the first line that isn't as it has to be
 abbrev pub map_of : List ℕ → Result (List Entry) MapFault
-map_of text = InTurn line_rows Nothing (numbered_lines text) >>= ended (length (lines text) + 1)
+map_of text = InTurn line_rows Start (numbered_lines text) >>= ended (length (lines text) + 1)
 
 -- ---- names
 
