@@ -30,6 +30,7 @@ read_from quote name rest said = put name (option_and_then (λ one. option_map (
 pub letter_added : (quote : Quote) (bytes : List ℕ) (i : ℕ) (belongs : Bool) (name : List ℕ) (said : List ℕ × Bool) → i < length bytes
     → Some said ≡ quoted_byte quote belongs (get_or bytes i 0)
     → put name (quoted_from quote (drop i bytes) belongs) ≡ put (name ++ said.0) (quoted_from quote (drop (i + 1) bytes) said.1)
+unfolding quoted_from
 letter_added quote bytes i belongs name said within is =
     ap (λ rest. put name (quoted_from quote rest belongs)) (from_here bytes i within)
     ∙ ap (read_from quote name (drop (i + 1) bytes)) (sym is)
@@ -38,6 +39,7 @@ letter_added quote bytes i belongs name said within is =
 -- a byte can't stand there
 pub letter_refused : (quote : Quote) (bytes : List ℕ) (i : ℕ) (belongs : Bool) (name : List ℕ) → i < length bytes
     → None ≡ quoted_byte quote belongs (get_or bytes i 0) → put name (quoted_from quote (drop i bytes) belongs) ≡ None
+unfolding quoted_from
 letter_refused quote bytes i belongs name within is =
     ap (λ rest. put name (quoted_from quote rest belongs)) (from_here bytes i within)
     ∙ ap (read_from quote name (drop (i + 1) bytes)) (sym is)
@@ -45,6 +47,7 @@ letter_refused quote bytes i belongs name within is =
 -- all bytes were read
 pub letters_end : (quote : Quote) (bytes : List ℕ) (i : ℕ) (belongs : Bool) (name : List ℕ) → length bytes ≤ i
     → put name (quoted_from quote (drop i bytes) belongs) ≡ (if belongs then None else Some name)
+unfolding quoted_from
 letters_end quote bytes i belongs name past =
     ap (λ rest. put name (quoted_from quote rest belongs)) (drop_all i bytes past) ∙ ended belongs
   where

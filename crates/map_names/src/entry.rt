@@ -2,7 +2,7 @@
 
 ghost use Rattle.std.specs.Prelude.{◌≡◌, codes, option_map, IfOk};
 ghost use Rattle.std.specs.List.{list_all};
-ghost use Rattle.map_names.specs.Entries.{before_end, entry_of, id_in, is_address, is_kind, is_plain_byte, is_truth, name_written, past_field, plain_name, written_name};
+ghost use Rattle.map_names.specs.Entries.{before_end, entry_of, id_in, is_address, is_entry, is_event, is_exit, is_kind, is_plain_byte, is_truth, name_written, past_field, plain_name, written_name};
 ghost use Rattle.map_names.specs.private.Parts.{entry_read, written_in};
 
 use crate::parts::{after_label, before_ending, field_in};
@@ -18,6 +18,7 @@ pub(crate) struct IdName {
 }
 
 /// Whether a word is an address: `0x`, and a number in hexadecimal digits that fits 64 bits.
+#[tactic(auto, unfolding(crate::specs::Entries::is_address))]
 fn is_address(word: &[u8]) -> bool
     ensures { result ≡ is_address word.now }
 {
@@ -27,20 +28,42 @@ fn is_address(word: &[u8]) -> bool
     }
 }
 
+/// Whether a word names a kind of sleds at which a function is entered.
+#[tactic(auto, unfolding(crate::specs::Entries::is_entry))]
+fn is_entry(word: &[u8]) -> bool
+    ensures { result ≡ is_entry word.now }
+{
+    word == b"function-enter".as_slice()
+        || word == b"function-enter-arg".as_slice()
+        || word == b"log-args-enter".as_slice()
+}
+
+/// Whether a word names a kind of sleds at which a function is left.
+#[tactic(auto, unfolding(crate::specs::Entries::is_exit))]
+fn is_exit(word: &[u8]) -> bool
+    ensures { result ≡ is_exit word.now }
+{
+    word == b"function-exit".as_slice() || word == b"tail-exit".as_slice()
+}
+
+/// Whether a word names a kind of sleds that log an event of the program's own.
+#[tactic(auto, unfolding(crate::specs::Entries::is_event))]
+fn is_event(word: &[u8]) -> bool
+    ensures { result ≡ is_event word.now }
+{
+    word == b"custom-event".as_slice() || word == b"typed-event".as_slice()
+}
+
 /// Whether a word names a kind of sleds.
+#[tactic(auto, unfolding(crate::specs::Entries::is_kind))]
 fn is_kind(word: &[u8]) -> bool
     ensures { result ≡ is_kind word.now }
 {
-    word == b"function-enter".as_slice()
-        || word == b"function-exit".as_slice()
-        || word == b"tail-exit".as_slice()
-        || word == b"function-enter-arg".as_slice()
-        || word == b"log-args-enter".as_slice()
-        || word == b"custom-event".as_slice()
-        || word == b"typed-event".as_slice()
+    is_entry(word) || is_exit(word) || is_event(word)
 }
 
 /// Whether a word says yes or no.
+#[tactic(auto, unfolding(crate::specs::Entries::is_truth))]
 fn is_truth(word: &[u8]) -> bool
     ensures { result ≡ is_truth word.now }
 {
@@ -48,6 +71,7 @@ fn is_truth(word: &[u8]) -> bool
 }
 
 /// What follows a field with this label whose value is an address.
+#[tactic(auto, unfolding(crate::specs::Entries::past_field))]
 fn past_address<'a>(label: &[u8], bytes: &'a [u8]) -> Option<&'a [u8]>
     ensures { option_map (λ rest. rest.now) result ≡ past_field label.now is_address bytes.now }
 {
@@ -56,6 +80,7 @@ fn past_address<'a>(label: &[u8], bytes: &'a [u8]) -> Option<&'a [u8]>
 }
 
 /// What follows the field of the kind.
+#[tactic(auto, unfolding(crate::specs::Entries::past_field))]
 fn past_kind(bytes: &[u8]) -> Option<&[u8]>
     ensures { option_map (λ rest. rest.now) result ≡ past_field (codes " kind: ") is_kind bytes.now }
 {
@@ -64,6 +89,7 @@ fn past_kind(bytes: &[u8]) -> Option<&[u8]>
 }
 
 /// What follows the field that says whether the function is always instrumented.
+#[tactic(auto, unfolding(crate::specs::Entries::past_field))]
 fn past_truth(bytes: &[u8]) -> Option<&[u8]>
     ensures { option_map (λ rest. rest.now) result ≡ past_field (codes " always-instrument: ") is_truth bytes.now }
 {
@@ -72,6 +98,7 @@ fn past_truth(bytes: &[u8]) -> Option<&[u8]>
 }
 
 /// What stands before the brace at the end of a line, and before the version, if there is one.
+#[tactic(auto, unfolding(crate::specs::Entries::before_end))]
 fn before_end(bytes: &[u8]) -> Option<&[u8]>
     ensures { option_map (λ part. part.now) result ≡ before_end bytes.now }
 {
@@ -88,6 +115,7 @@ fn before_end(bytes: &[u8]) -> Option<&[u8]>
 }
 
 /// What is written for the name, if the fields after the id are as they have to be.
+#[tactic(auto, unfolding(crate::specs::Entries::written_name))]
 fn written_name(bytes: &[u8]) -> Option<&[u8]>
     ensures { option_map (λ part. part.now) result ≡ written_name bytes.now }
 {
@@ -99,6 +127,7 @@ fn written_name(bytes: &[u8]) -> Option<&[u8]>
 }
 
 /// The id of a line, and what follows its field.
+#[tactic(auto, unfolding(crate::specs::Entries::id_in))]
 fn id_in(line: &[u8]) -> Option<(u32, &[u8])>
     ensures { option_map (λ start. (start.0, start.1.now)) result ≡ id_in line.now }
 {
@@ -117,6 +146,7 @@ fn written_in(line: &[u8]) -> Option<(u32, &[u8])>
 }
 
 /// Whether a byte may stand in a name without quotation marks.
+#[tactic(auto, unfolding(crate::specs::Entries::is_plain_byte))]
 fn is_plain_byte(byte: u8) -> bool
     ensures { result ≡ is_plain_byte byte }
 {
@@ -131,6 +161,7 @@ fn are_plain(bytes: &[u8]) -> bool
 }
 
 /// The name that bytes without quotation marks are.
+#[tactic(auto, unfolding(crate::specs::Entries::plain_name))]
 fn plain_name(alloc: Global, bytes: &[u8]) -> Result<Option<Vec<u8>>, AllocError>
     ensures { IfOk result (λ name. option_map (λ n. n.items) name ≡ plain_name bytes.now) }
 {
@@ -142,6 +173,7 @@ fn plain_name(alloc: Global, bytes: &[u8]) -> Result<Option<Vec<u8>>, AllocError
 }
 
 /// The name that is written so, or `None` if no name is.
+#[tactic(auto, unfolding(crate::specs::Entries::name_written))]
 fn name_written(alloc: Global, bytes: &[u8]) -> Result<Option<Vec<u8>>, AllocError>
     ensures { IfOk result (λ name. option_map (λ n. n.items) name ≡ name_written bytes.now) }
 {
@@ -155,6 +187,7 @@ fn name_written(alloc: Global, bytes: &[u8]) -> Result<Option<Vec<u8>>, AllocErr
 }
 
 /// The entry that a line says, or `None` if it says none.
+#[tactic(auto, unfolding(crate::specs::Entries::entry_of))]
 pub(crate) fn read_entry(alloc: Global, line: &[u8]) -> Result<Option<IdName>, AllocError>
     ensures { IfOk result (λ read. option_map entry_read read ≡ entry_of line.now) }
 {

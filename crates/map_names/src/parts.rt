@@ -4,6 +4,7 @@ ghost use Rattle.std.specs.Prelude.{◌≡◌, ◌==◌, position, option_map};
 ghost use Rattle.map_names.specs.Entries.{after_label, at_comma, before_ending, field_in};
 
 /// What follows a label, if bytes begin with it.
+#[tactic(auto, unfolding(crate::specs::Entries::after_label))]
 pub(crate) fn after_label<'a>(label: &[u8], bytes: &'a [u8]) -> Option<&'a [u8]>
     ensures { option_map (λ part. part.now) result ≡ after_label label.now bytes.now }
 {
@@ -11,6 +12,7 @@ pub(crate) fn after_label<'a>(label: &[u8], bytes: &'a [u8]) -> Option<&'a [u8]>
 }
 
 /// What stands before an ending, if bytes end with it.
+#[tactic(auto, unfolding(crate::specs::Entries::before_ending))]
 pub(crate) fn before_ending<'a>(ending: &[u8], bytes: &'a [u8]) -> Option<&'a [u8]>
     ensures { option_map (λ part. part.now) result ≡ before_ending ending.now bytes.now }
 {
@@ -25,6 +27,7 @@ fn comma_in(bytes: &[u8]) -> Option<usize>
 }
 
 /// The parts before the first comma and after it.
+#[tactic(auto, unfolding(crate::specs::Entries::at_comma))]
 fn at_comma(bytes: &[u8]) -> Option<(&[u8], &[u8])>
     ensures { option_map (λ parts. (parts.0.now, parts.1.now)) result ≡ at_comma bytes.now }
 {
@@ -34,6 +37,7 @@ fn at_comma(bytes: &[u8]) -> Option<(&[u8], &[u8])>
 
 /// A field with this label, if bytes begin with one: its value, which has no comma, and what follows
 /// the comma after it.
+#[tactic(auto, unfolding(crate::specs::Entries::field_in))]
 pub(crate) fn field_in<'a>(label: &[u8], bytes: &'a [u8]) -> Option<(&'a [u8], &'a [u8])>
     ensures { option_map (λ parts. (parts.0.now, parts.1.now)) result ≡ field_in label.now bytes.now }
 {

@@ -42,6 +42,7 @@ impl Quote {
     }
 
     /// What stands between two such marks, if bytes begin and end with one.
+    #[tactic(auto, unfolding(crate::specs::Entries::between))]
     pub(crate) fn between(self, bytes: &[u8]) -> Option<&[u8]>
         ensures { option_map (λ part. part.now) result ≡ between self bytes.now }
     {
@@ -81,31 +82,37 @@ impl Quote {
 }
 
 /// What a byte adds to a name between single marks.
+#[tactic(auto, unfolding(crate::specs::Entries::quoted_byte))]
 fn single_byte(belongs: bool, byte: u8) -> Option<Added>
     ensures { option_map added_by result ≡ quoted_byte Quote.Single belongs byte }
 {
-    let is_mark = byte == b'\'';
     if belongs {
-        return if is_mark { Some(Added::Byte(byte)) } else { None };
+        if byte == b'\'' { Some(Added::Byte(byte)) } else { None }
+    } else if byte == b'\'' {
+        Some(Added::Nothing)
+    } else {
+        Some(Added::Byte(byte))
     }
-    Some(if is_mark { Added::Nothing } else { Added::Byte(byte) })
 }
 
 /// What a byte adds to a name between double marks.
+#[tactic(auto, unfolding(crate::specs::Entries::quoted_byte))]
 fn double_byte(belongs: bool, byte: u8) -> Option<Added>
     ensures { option_map added_by result ≡ quoted_byte Quote.Double belongs byte }
 {
     if belongs {
-        return Some(if byte == b'"' || byte == BACKSLASH {
-            Added::Byte(byte)
+        if byte == b'"' || byte == BACKSLASH {
+            Some(Added::Byte(byte))
         } else {
-            Added::Escape(byte)
-        });
+            Some(Added::Escape(byte))
+        }
+    } else if byte == b'"' {
+        None
+    } else if byte == BACKSLASH {
+        Some(Added::Nothing)
+    } else {
+        Some(Added::Byte(byte))
     }
-    if byte == b'"' {
-        return None;
-    }
-    Some(if byte == BACKSLASH { Added::Nothing } else { Added::Byte(byte) })
 }
 
 /// Whether the next byte belongs to the one that added this.
