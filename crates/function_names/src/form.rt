@@ -51,7 +51,9 @@ fn add_byte<S: Sink>(text: &mut Text<S>, form: NameForm, byte: u8) -> Result<(),
         NameForm::Field if byte == b'"' => text.bytes(b"\"\""),
         NameForm::Frame if byte == b';' => text.bytes(b":"),
         NameForm::Quoted if byte == b'\'' => text.bytes(b"''"),
-        NameForm::Plain | NameForm::Field | NameForm::Frame | NameForm::Quoted => text.bytes(&[byte]),
+        NameForm::Plain | NameForm::Field | NameForm::Frame | NameForm::Quoted => text.bytes(&[
+            byte,
+        ]),
     }
 }
 

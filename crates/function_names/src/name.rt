@@ -50,11 +50,7 @@ fn add_number<S: Sink>(text: &mut Text<S>, id: u32) -> Result<(), WriteFault>
 /// Adds `;` and the name of a callee, as a frame. In a path it stands after the name of its caller.
 ///
 /// On `WriteFault` a prefix of what the text was given is written, and the sink counted a fault.
-pub fn add_callee_name<S: Sink>(
-    text: &mut Text<S>,
-    names: Names,
-    id: u32,
-) -> Result<(), WriteFault>
+pub fn add_callee_name<S: Sink>(text: &mut Text<S>, names: Names, id: u32) -> Result<(), WriteFault>
     ensures { AddsText S.written S.faults S.along text.old text.new
         (codes ";" ++ name_text Frame (naming names.entry) id) result }
 {

@@ -54,8 +54,14 @@ const REFUSED: [(&[u8], u32); 8] = [
     (b"---\n\n...\n", 2),
     (b"---\r\n...", 0),
     (b"---\n...\n\n", 3),
-    (b"---\n- { id: 1, address: 0x1, function: 0x1, kind: function-enter, always-instrument: true, function-name: 'a'b' }\n...\n", 2),
-    (b"---\n- { id: 4294967296, address: 0x1, function: 0x1, kind: function-enter, always-instrument: true, function-name: '' }\n...\n", 2),
+    (
+        b"---\n- { id: 1, address: 0x1, function: 0x1, kind: function-enter, always-instrument: true, function-name: 'a'b' }\n...\n",
+        2,
+    ),
+    (
+        b"---\n- { id: 4294967296, address: 0x1, function: 0x1, kind: function-enter, always-instrument: true, function-name: '' }\n...\n",
+        2,
+    ),
 ];
 
 /// The line that refuses a text, or 0 if it is a map.
@@ -137,7 +143,8 @@ fn names_are_frames_of_paths(rt: HostRuntime) -> Result<(), Fail> {
 }
 
 /// The document of one event.
-const DOCUMENT: &str = "---\nheader:\n  version: 3\n  type: 1\n  constant-tsc: true\n  nonstop-tsc: true\n  cycle-frequency: 0\n\
+const DOCUMENT: &str =
+    "---\nheader:\n  version: 3\n  type: 1\n  constant-tsc: true\n  nonstop-tsc: true\n  cycle-frequency: 0\n\
     records:\n  - { type: 0, func-id: 3, function: 'it''s [u8; 4]', cpu: 0, thread: 1, process: 1, \
     kind: function-enter, tsc: 2 }\n...\n";
 

@@ -87,7 +87,11 @@ fn single_byte(belongs: bool, byte: u8) -> Option<Added>
     ensures { option_map added_by result ≡ quoted_byte Quote.Single belongs byte }
 {
     if belongs {
-        if byte == b'\'' { Some(Added::Byte(byte)) } else { None }
+        if byte == b'\'' {
+            Some(Added::Byte(byte))
+        } else {
+            None
+        }
     } else if byte == b'\'' {
         Some(Added::Nothing)
     } else {

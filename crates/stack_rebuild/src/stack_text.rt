@@ -167,11 +167,7 @@ fn add_weight<S: Sink>(
 }
 
 /// Adds the names of a path.
-fn add_path<S: Sink>(
-    text: &mut Text<S>,
-    path: &[u32],
-    names: Names,
-) -> Result<(), WriteFault>
+fn add_path<S: Sink>(text: &mut Text<S>, path: &[u32], names: Names) -> Result<(), WriteFault>
     ensures { AddsText S.written S.faults S.along text.old text.new
         (path_text (naming names.entry) path.now) result }
 {
@@ -185,11 +181,7 @@ fn add_path<S: Sink>(
 }
 
 /// Adds the names of a path's functions after the first one.
-fn add_inner<S: Sink>(
-    text: &mut Text<S>,
-    inner: &[u32],
-    names: Names,
-) -> Result<(), WriteFault>
+fn add_inner<S: Sink>(text: &mut Text<S>, inner: &[u32], names: Names) -> Result<(), WriteFault>
     ensures { AddsText S.written S.faults S.along text.old text.new
         (flat_map (λ f. codes ";" ++ name_text Frame (naming names.entry) f)
         inner.now) result }

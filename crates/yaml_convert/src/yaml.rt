@@ -109,11 +109,7 @@ fn has_event(block: &Block) -> bool
 }
 
 /// Adds the lines of blocks.
-fn add_blocks<S: Sink>(
-    text: &mut Text<S>,
-    blocks: &[Block],
-    names: Names,
-) -> Result<(), WriteFault>
+fn add_blocks<S: Sink>(text: &mut Text<S>, blocks: &[Block], names: Names) -> Result<(), WriteFault>
     ensures { AddsText S.written S.faults S.along text.old text.new
         (flat_map (λ block. flat_map (event_line (naming names.entry))
         (block_events block)) blocks.now) result }
@@ -125,11 +121,7 @@ fn add_blocks<S: Sink>(
 }
 
 /// Adds a line for each event of a block.
-fn add_block<S: Sink>(
-    text: &mut Text<S>,
-    block: &Block,
-    names: Names,
-) -> Result<(), WriteFault>
+fn add_block<S: Sink>(text: &mut Text<S>, block: &Block, names: Names) -> Result<(), WriteFault>
     ensures { AddsText S.written S.faults S.along text.old text.new
         (flat_map (event_line (naming names.entry))
         (block_events block.now)) result }
