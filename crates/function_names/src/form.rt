@@ -1,6 +1,6 @@
 //! The forms in which names are written.
 
-ghost use Rattle.std.specs.Prelude.{◌≡◌, ◌++◌};
+ghost use Rattle.std.specs.Prelude.{◌≡◌, ◌==◌, ◌++◌, ◌∷◌, [], if◌then◌else◌};
 ghost use Rattle.std.specs.List.{flat_map, list_all, list_any};
 ghost use Rattle.xray_io.specs.Text.{AddsText};
 ghost use Rattle.function_names.specs.Name.{byte_text, marks_around, needs_marks, spelled};
@@ -43,17 +43,32 @@ fn are_themselves(form: NameForm, name: &[u8]) -> bool
     name.iter().all(|byte| is_itself(form, *byte))
 }
 
+/// Adds a byte, or another text in place of one byte.
+fn add_one<S: Sink>(
+    text: &mut Text<S>,
+    byte: u8,
+    replaced: u8,
+    other: &[u8],
+) -> Result<(), WriteFault>
+    ensures { AddsText S.written S.faults S.along text.old text.new
+        (if byte == replaced then other.now else byte ∷ []) result }
+{
+    if byte == replaced {
+        text.bytes(other)
+    } else {
+        text.bytes(&[byte])
+    }
+}
+
 /// Adds a byte of a name.
 fn add_byte<S: Sink>(text: &mut Text<S>, form: NameForm, byte: u8) -> Result<(), WriteFault>
     ensures { AddsText S.written S.faults S.along text.old text.new (byte_text form byte) result }
 {
     match form {
-        NameForm::Field if byte == b'"' => text.bytes(b"\"\""),
-        NameForm::Frame if byte == b';' => text.bytes(b":"),
-        NameForm::Quoted if byte == b'\'' => text.bytes(b"''"),
-        NameForm::Plain | NameForm::Field | NameForm::Frame | NameForm::Quoted => text.bytes(&[
-            byte,
-        ]),
+        NameForm::Plain => text.bytes(&[byte]),
+        NameForm::Field => add_one(text, byte, b'"', b"\"\""),
+        NameForm::Frame => add_one(text, byte, b';', b":"),
+        NameForm::Quoted => add_one(text, byte, b'\'', b"''"),
     }
 }
 
@@ -87,13 +102,20 @@ fn needs_marks(byte: u8) -> bool
     matches!(byte, b',' | b'"' | b'\n' | b'\r')
 }
 
+/// Whether a field of csv needs marks around it.
+fn has_special(name: &[u8]) -> bool
+    ensures { result ≡ list_any needs_marks name.now }
+{
+    name.iter().any(|byte| needs_marks(*byte))
+}
+
 /// The marks around a name.
 fn marks_around(form: NameForm, name: &[u8]) -> &'static [u8]
     ensures { result.now ≡ marks_around form name.now }
 {
     match form {
-        NameForm::Field if name.iter().any(|byte| needs_marks(*byte)) => b"\"",
-        NameForm::Plain | NameForm::Field | NameForm::Frame | NameForm::Quoted => b"",
+        NameForm::Field => { if has_special(name) { b"\"" } else { b"" } }
+        NameForm::Plain | NameForm::Frame | NameForm::Quoted => b"",
     }
 }
 
