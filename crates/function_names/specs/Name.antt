@@ -2,6 +2,7 @@
 use Rattle.std.specs.Prelude.{ℕ, Bool, ◌||◌, ◌==◌, List, [], ◌∷◌, ◌++◌, codes, decimal, Option, Some, None, if◌then◌else◌}
 use Rattle.std.specs.Option.{option_map_or}
 use Rattle.std.specs.List.{flat_map, list_any}
+use Rattle.map_names.specs.MapNames.{named}
 use Rattle.map_names.specs.Naming.{Naming, no_names}
 use Rattle.xray_image.specs.Program.{Program}
 use Rattle.xray_image.specs.Ids.{name_of}
@@ -25,7 +26,7 @@ image_names (Some program) = program_names program
 abbrev pub naming : Names → Naming
 naming Ids = no_names
 naming (Image image) = program_names image.now
-naming (Map map) = map.now
+naming (Map map) = named map.now
 
 -- ---- the text of a name
 

@@ -2,8 +2,10 @@
 use Rattle.std.proofs.Common.{◌≡◌, ◌<◌, ◌≤◌, ◌+◌, ◌++◌, ◌∷◌, ◌∙◌, ℕ, Bool, true, false, List, [], Option, Some, None, length, get_or, drop, refl, sym, ap, add-one, drop-cons, append_assoc, arith}
 use Rattle.std.specs.Prelude.{option_map, option_and_then, if◌then◌else◌}
 use Rattle.std.proofs.lemmas.List.{append-nil, drop_all}
+use Rattle.map_names.specs.declared.quote.Added.{Added}
 use Rattle.map_names.specs.declared.quote.Quote.{Quote}
 use Rattle.map_names.specs.Entries.{quoted_byte, quoted_from}
+use Rattle.map_names.specs.private.Parts.{added_by}
 
 -- what stands before a name that may be there
 abbrev pub put : List ℕ → Option (List ℕ) → Option (List ℕ)
@@ -54,3 +56,7 @@ letters_end quote bytes i belongs name past =
     ended : (b : Bool) → put name (quoted_from quote [] b) ≡ (if b then None else Some name)
     ended true = refl
     ended false = ap Some (append-nil name)
+
+-- what isn't found isn't said
+pub refused_by : (found : Option Added) (said : Option (List ℕ × Bool)) → found ≡ None → option_map added_by found ≡ said → None ≡ said
+refused_by found said none is = sym (ap (λ (o : Option Added). option_map added_by o) none) ∙ is

@@ -1,9 +1,9 @@
 //! Reading sled maps from their texts.
 
-ghost use Rattle.std.specs.Prelude.{◌≡◌, ◌<◌, ◌⊎◌, ◌+◌, [], List, length, Err};
-ghost use Rattle.map_names.specs.declared.fault.MapFault.TheVariants.{NoMemory};
+ghost use Rattle.std.specs.Prelude.{◌≡◌, ◌<◌, [], List, false, length};
 ghost use Rattle.map_names.specs.Entries.{Entry};
 ghost use Rattle.map_names.specs.Maps.{line_rows, map_naming};
+ghost use Rattle.map_names.specs.MapNames.{IsReading};
 ghost use Rattle.map_names.specs.private.Drafts.{IsDraftOf, Reads, Takes, before_in};
 
 use crate::entry::read_entry;
@@ -46,7 +46,8 @@ impl Draft {
         if self.ended {
             return Err(MapFault::Syntax(line.number));
         }
-        if line.bytes == END {
+        let ends = line.bytes == END;
+        if ends {
             self.ended = true;
             return Ok(());
         }
@@ -67,7 +68,8 @@ fn read_lines(alloc: Global, text: &[u8]) -> Result<Draft, MapFault>
     let Some(first) = lines.next() else {
         return Err(MapFault::Syntax(1));
     };
-    if first.bytes != BEGIN {
+    let begins = first.bytes == BEGIN;
+    if !begins {
         return Err(MapFault::Syntax(first.number));
     }
     let mut draft = Draft::new(alloc);
@@ -87,7 +89,7 @@ fn read_lines(alloc: Global, text: &[u8]) -> Result<Draft, MapFault>
 /// `MapFault`. `NoMemory` may come in place of any answer.
 pub fn read_map(alloc: Global, text: &[u8]) -> Result<MapNames, MapFault>
     requires { length text.now < u32.MAX }
-    ensures reads { (result ≡ Err NoMemory) ⊎ (result ≡ map_naming text.now) }
+    ensures reads { IsReading (map_naming text.now) result }
 {
     let draft = read_lines(alloc, text)?;
     if !draft.ended {

@@ -6,6 +6,7 @@ use Rattle.map_names.specs.declared.fault.MapFault.{MapFault}
 use Rattle.map_names.specs.declared.fault.MapFault.TheVariants.{NoMemory}
 use Rattle.map_names.specs.declared.reading.Draft.{Draft}
 use Rattle.map_names.specs.Entries.{Entry}
+use Rattle.map_names.specs.MapNames.{named}
 use Rattle.map_names.specs.Maps.{Before, Start, Listed, Whole, line_rows, map_of, naming_of}
 
 -- what came before the next line, if these entries did, and the map has ended or not
@@ -15,7 +16,7 @@ before_in true entries = Whole entries
 
 -- the draft has the names of these entries
 pub record IsDraftOf (entries : List Entry) (draft : Draft) : Type 0 where
-  pub names : draft.names ≡ naming_of entries
+  pub names : named draft.names ≡ naming_of entries
 
 -- the draft is what came before the next line
 abbrev pub Stands : Draft → Before → Type 0
