@@ -12,5 +12,5 @@ pub lines-init : goal.lines-init
 lines-init c =
     (Listed [], ([], c.new-draft.ensures.names, ap (λ b. before_in b []) c.new-draft.ensures.open),
     first_taken c.args.text.now c.in-Some.first.number c.in-Some.first.bytes.now c.next.new.self
-    (sym c.new-lines.ensures.lines ∙ c.in-Some.ensures.steps) (sym c.eq-begins.ensures ∙ c.if-begins.true)
+    (sym c.new-lines.ensures.lines ∙ c.in-Some.ensures.steps) (sym c.eq-begins.ensures ∙ c.if-not-begins.false)
     ∙ ap (InTurn line_rows (Listed [])) (sym c.into_iter-line-iterator.ensures.into_iter_gives))
