@@ -6,7 +6,7 @@ use Rattle.std.proofs.Math.Path.{fun_ext}
 use Rattle.std.proofs.lemmas.List.Folds.{find-append}
 use Rattle.map_names.specs.Entries.{Entry}
 use Rattle.map_names.specs.Maps.{names_id, naming_of}
-use Rattle.map_names.specs.Naming.{Naming, no_names}
+use Rattle.map_names.specs.Naming.{Naming}
 
 -- the name of an entry that may be there
 abbrev name_found : Option Entry → Option (List ℕ)

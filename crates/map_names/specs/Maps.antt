@@ -1,5 +1,5 @@
 -- Sled maps as texts: the entries that their lines say, or the first line that refuses the text.
-use Rattle.std.specs.Prelude.{ℕ, ◌+◌, ◌==◌, ◌&&◌, not, Bool, List, [], ◌∷◌, ◌++◌, length, codes, Option, Result, Ok, Err, find, option_map}
+use Rattle.std.specs.Prelude.{ℕ, ◌+◌, ◌==◌, ◌&&◌, not, Bool, List, [], ◌∷◌, ◌++◌, length, codes, Result, Ok, Err, find, option_map}
 use Rattle.std.specs.Str.{bytes_eq}
 use Rattle.std.specs.Str.Lines.{lines}
 use Rattle.xray_io.specs.Rows.{First, NeedsPart, InTurn, ◌>>=◌}

@@ -1,6 +1,6 @@
-use Rattle.std.proofs.Common.{◌≡◌, ◌∙◌, ◌+◌, ◌≤◌, Bool, List, ℕ, None, Some, Option, length, drop, get_or, sym, ap, arith}
+use Rattle.std.proofs.Common.{◌∙◌, ◌+◌, ◌≤◌, Bool, List, ℕ, None, Some, Option, length, drop, sym, ap, arith}
 use Rattle.std.specs.Prelude.{if◌then◌else◌}
-use Rattle.map_names.specs.Entries.{quoted_byte, quoted_from}
+use Rattle.map_names.specs.Entries.{quoted_from}
 use Rattle.map_names.specs.private.Parts.{added_by}
 use Rattle.map_names.proofs.Letters.{put, letter_added, letter_refused, letters_end, refused_by}
 use Rattle.map_names.proofs.quote.Quote.read.Goals as goal
