@@ -18,4 +18,4 @@ returns-in_err-add_bytes g c =
 
 pub returns : goal.returns
 returns g c =
-    adds_more g.met.S.Sink.along_both (adds_more g.met.S.Sink.along_both c.in_ok-bytes.ensures.adds c.in_ok-add_bytes.ensures) c.bytes.ensures.adds
+    adds_more g.met.S.Sink.along_both (adds_more g.met.S.Sink.along_both c.in_ok-bytes.ensures.adds c.in_ok-add_bytes.ensures) c.bytes-2.ensures.adds
