@@ -2,7 +2,7 @@
 
 ghost use Rattle.std.specs.Prelude.{◌≡◌, ◌++◌, ◌==◌, ⊤, codes, decimal, if◌then◌else◌};
 ghost use Rattle.std.specs.{List.{flat_map}, Option.{option_map}};
-ghost use Rattle.function_names.specs.Name.{image_names, naming};
+ghost use Rattle.function_names.specs.Name.{image_names, name_text, naming};
 ghost use Rattle.xray_io.specs.{Piece.{piece_text}, Text.{AddsText}, Writes.{WritesText}};
 ghost use Rattle.account_report.specs.AccountText.{account_text, column_text, duration_word, first_line, format_for, head_words, line_text, in_column, function_row_text, name_form, separator_text, column_words};
 
@@ -143,8 +143,21 @@ fn add_row<S: Sink>(
         (function_row_text format (naming names.entry) row.now) result }
 {
     add_columns(text, row, format)?;
-    add_name(text, names, name_form(format), row.func)?;
+    add_row_name(text, row, names, format)?;
     text.bytes(b"\n")
+}
+
+/// Adds the name of a row's function.
+fn add_row_name<S: Sink>(
+    text: &mut Text<S>,
+    row: &AccountRow,
+    names: Names,
+    format: AccountFormat,
+) -> Result<(), WriteFault>
+    ensures { AddsText S.written S.faults S.along text.old text.new
+        (name_text (name_form format) (naming names.entry) row.now.func) result }
+{
+    add_name(text, names, name_form(format), row.func)
 }
 
 /// How a function is named in a row.

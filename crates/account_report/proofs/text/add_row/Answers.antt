@@ -13,10 +13,10 @@ returns-in_err-add_columns g c =
     let broken = adds_stop (name ++ codes "\n") c.in_err-add_columns.ensures in
     adds_failed (rw (sym (append_assoc columns name (codes "\n"))) at broken) c.from_residual.result c.from_residual.ensures.1
 
-pub returns-in_err-add_name : goal.returns-in_err-add_name
-returns-in_err-add_name g c =
-    adds_failed (adds_within g.met.S.Sink.along_both (codes "\n") c.in_ok-add_columns.ensures c.in_err-add_name.ensures refl)
-    c.from_residual-in_err-add_name.result c.from_residual-in_err-add_name.ensures.1
+pub returns-in_err-add_row_name : goal.returns-in_err-add_row_name
+returns-in_err-add_row_name g c =
+    adds_failed (adds_within g.met.S.Sink.along_both (codes "\n") c.in_ok-add_columns.ensures c.in_err-add_row_name.ensures refl)
+    c.from_residual-in_err-add_row_name.result c.from_residual-in_err-add_row_name.ensures.1
 
 pub returns : goal.returns
-returns g c = adds_more g.met.S.Sink.along_both (adds_more g.met.S.Sink.along_both c.in_ok-add_columns.ensures c.in_ok-add_name.ensures) c.bytes.ensures.adds
+returns g c = adds_more g.met.S.Sink.along_both (adds_more g.met.S.Sink.along_both c.in_ok-add_columns.ensures c.in_ok-add_row_name.ensures) c.bytes.ensures.adds
