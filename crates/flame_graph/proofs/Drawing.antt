@@ -1,0 +1,40 @@
+-- Whether a frame is drawn, and where.
+use Rattle.std.proofs.Common.{◌≡◌, ◌∙◌, ◌<◌, ◌≤◌, ◌+◌, ◌-◌, ◌*◌, ◌^◌, Bool, true, false, cond, ℕ, List, [], length, min, refl, ap, sym, arith, leb}
+use Rattle.std.specs.Prelude.{◌&&◌, Option}
+use Rattle.std.proofs.lemmas.Bool.{and_from, and_left, and_right, cond-false, cond-true, le-leb, lt-leb}
+use Rattle.xray_image.specs.Program.{Program}
+use Rattle.function_names.specs.Name.{name_text}
+use Rattle.stack_rebuild.specs.Stacks.{PathRow}
+use Rattle.flame_graph.specs.FlameText.{frame_text, func_of, line_text, top_of}
+use Rattle.flame_graph.specs.Frames.{calls_of, capped, end_of, own_sum, place_of, start_of, total_of, weight_of}
+use Rattle.flame_graph.specs.Picture.{is_drawn, least_width, left_of, levels_of, most_levels, width_of}
+use Rattle.flame_graph.proofs.Spans.{span_within}
+
+pub too_long : (rows : List PathRow) (frame : List ℕ) → most_levels < length frame → is_drawn rows frame ≡ false
+too_long rows frame long = and_left (leb (length frame) most_levels) (leb least_width (width_of rows frame)) (lt-leb (length frame) most_levels long)
+
+pub too_thin : (rows : List PathRow) (frame : List ℕ) → width_of rows frame < least_width → is_drawn rows frame ≡ false
+too_thin rows frame thin = and_right (leb (length frame) most_levels) (leb least_width (width_of rows frame)) (lt-leb least_width (width_of rows frame) thin)
+
+pub is_wide : (rows : List PathRow) (frame : List ℕ) → length frame ≤ most_levels → least_width ≤ width_of rows frame → is_drawn rows frame ≡ true
+is_wide rows frame few wide =
+    and_from (leb (length frame) most_levels) (leb least_width (width_of rows frame)) (le-leb (length frame) most_levels few) (le-leb least_width (width_of rows frame) wide)
+
+-- what is printed of it
+pub text_none : (program : Option Program) (rows : List PathRow) (frame : List ℕ) → is_drawn rows frame ≡ false → frame_text program rows frame ≡ []
+text_none program rows frame no =
+    cond-false (is_drawn rows frame)
+    (line_text (left_of rows frame) (width_of rows frame) (top_of (levels_of rows) (length frame)) (func_of frame) (name_text program (func_of frame)) (calls_of rows frame)) [] no
+
+pub text_line : (program : Option Program) (rows : List PathRow) (frame : List ℕ) → is_drawn rows frame ≡ true
+    → frame_text program rows frame ≡ line_text (left_of rows frame) (width_of rows frame) (top_of (levels_of rows) (length frame)) (func_of frame) (name_text program (func_of frame)) (calls_of rows frame)
+text_line program rows frame is =
+    cond-true (is_drawn rows frame)
+    (line_text (left_of rows frame) (width_of rows frame) (top_of (levels_of rows) (length frame)) (func_of frame) (name_text program (func_of frame)) (calls_of rows frame)) [] is
+
+-- it is within all rows
+pub start_within : (rows : List PathRow) (frame : List ℕ) → start_of rows frame ≤ total_of rows
+start_within rows frame = let span = span_within frame rows in omega (arith, span)
+
+pub end_within : (rows : List PathRow) (frame : List ℕ) → end_of rows frame ≤ total_of rows
+end_within rows frame = let span = span_within frame rows in omega (arith, span)

@@ -1,0 +1,4 @@
+pub mod Frames
+pub mod FlameText
+pub mod Picture
+pub mod private

@@ -1,0 +1,18 @@
+//! Flame graphs: the stacks of a trace as a picture.
+//!
+//! `flame` prints the picture. `walk` goes through the rows once and keeps the frames that are open;
+//! `open_frames` opens them. `sums` has the totals, `scale` places, `line` the line of a frame, and
+//! `names` its name.
+#![tactic(auto)]
+
+mod flame;
+mod frame;
+mod line;
+mod names;
+mod open_frames;
+mod scale;
+mod sums;
+mod walk;
+
+pub use flame::{FlameGraph, write_flame_graph};
+pub use frame::Calls;
