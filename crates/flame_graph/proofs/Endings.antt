@@ -6,17 +6,17 @@ use Rattle.std.proofs.lemmas.Grind.{flat_map-append}
 use Rattle.std.proofs.lemmas.List.{append-nil, append_assoc, drop-map, drop_all, get_or-drop, get_or-map, get_or_default, length-drop, length-map, length-take-le}
 use Rattle.std.proofs.lemmas.List.Sums.{sum_by-append, sum_by_more}
 use Rattle.stack_rebuild.specs.Stacks.{PathRow}
-use Rattle.flame_graph.specs.Frames.{AreAscending, Precedes, beginnings, begins, calls_in, calls_of, capped, end_of, frames, is_begun, no_calls, own_sum, place_of, start_of, weight_of}
+use Rattle.flame_graph.specs.Frames.{Precedes, prefixes, begins, calls_in, calls_of, capped, end_of, frames, is_begun, no_calls, own_sum, place_of, start_of, weight_of}
 use Rattle.flame_graph.specs.Picture.{is_drawn, most_levels}
 use Rattle.flame_graph.specs.private.Walking.{AreKept, IsKept, IsOpen, Stands, count_left, ended_at, no_opening, opened, path_at, shared, shared_at}
 use Rattle.flame_graph.specs.declared.frame.Opening.{Opening}
 use Rattle.flame_graph.specs.declared.walk.Walk.{Walk}
-use Rattle.flame_graph.proofs.Orders.{begins_take, between, same_shared, shared_comm, shared_within, shares, shares_not}
+use Rattle.flame_graph.proofs.Orders.{Ascends, IsBefore, begins_take, between, same_shared, shared_comm, shared_within, shares, shares_not}
 use Rattle.flame_graph.proofs.Spans.{calls_at, ends_at, starts_at}
 
 -- ---- rows by their positions
 
-no_row : PathRow
+pub no_row : PathRow
 no_row = record { path = []; count = 0; sum = 0; own = 0 }
 
 pub row_path : (rows : List PathRow) (at : ℕ) (d : PathRow) → at < length rows → (get_or rows at d).path ≡ path_at rows at
@@ -29,12 +29,12 @@ split_at [] at d within = absurd (omega (arith, within))
 split_at (row ∷ rows) zero d within = refl
 split_at (row ∷ rows) (suc at) d within = ap (λ (rest : List PathRow). row ∷ rest) (split_at rows at d (omega (arith, within)))
 
-first_precedes : (row : PathRow) (rows : List PathRow) (j : ℕ) → AllByRecursion (λ (r : PathRow). Precedes row.path r.path) rows → j < length rows → Precedes row.path (path_at rows j)
+first_precedes : (row : PathRow) (rows : List PathRow) (j : ℕ) → AllByRecursion (IsBefore row) rows → j < length rows → Precedes row.path (path_at rows j)
 first_precedes row [] j all within = absurd (omega (arith, within))
 first_precedes row (r ∷ rows) zero all within = all.0
 first_precedes row (r ∷ rows) (suc j) all within = first_precedes row rows j all.1 (omega (arith, within))
 
-precedes_at : (rows : List PathRow) (i j : ℕ) → AreAscending rows → i < j → j < length rows → Precedes (path_at rows i) (path_at rows j)
+precedes_at : (rows : List PathRow) (i j : ℕ) → Ascends rows → i < j → j < length rows → Precedes (path_at rows i) (path_at rows j)
 precedes_at [] i j ascending below within = absurd (omega (arith, within))
 precedes_at (row ∷ rows) i zero ascending below within = absurd (omega (arith, below))
 precedes_at (row ∷ rows) zero (suc j) ascending below within = first_precedes row rows j ascending.0 (omega (arith, within))
@@ -60,7 +60,7 @@ none_in_drop frame (row ∷ rows) (suc at) each = none_in_drop frame rows at (λ
 -- ---- which frames are those of other rows too
 
 -- a frame that the row before doesn't share is that of no earlier row
-pub is_new : (rows : List PathRow) (at n : ℕ) → AreAscending rows → at < length rows → shared_at rows at ≤ n → n < length (path_at rows at)
+pub is_new : (rows : List PathRow) (at n : ℕ) → Ascends rows → at < length rows → shared_at rows at ≤ n → n < length (path_at rows at)
     → is_begun (take at rows) (take (suc n) (path_at rows at)) ≡ false
 is_new rows zero n ascending within new few = refl
 is_new rows (suc last) n ascending within new few = none_in_take frame rows (suc last) (omega (arith, within)) each
@@ -85,7 +85,7 @@ is_new rows (suc last) n ascending within new few = none_in_take frame rows (suc
         by_order (inr (inr high)) = absurd (omega (arith, below, high))
 
 -- a frame that the next row doesn't share is that of no later row
-pub is_over : (rows : List PathRow) (at n : ℕ) → AreAscending rows → at < length rows → shared (path_at rows at) (path_at rows (suc at)) ≤ n → n < length (path_at rows at)
+pub is_over : (rows : List PathRow) (at n : ℕ) → Ascends rows → at < length rows → shared (path_at rows at) (path_at rows (suc at)) ≤ n → n < length (path_at rows at)
     → is_begun (drop (suc at) rows) (take (suc n) (path_at rows at)) ≡ false
 is_over rows at n ascending within over few = none_in_drop (take (suc n) (path_at rows at)) rows (suc at) each
   where
@@ -118,7 +118,7 @@ shared_none : (path : List ℕ) → shared path [] ≡ 0
 shared_none [] = refl
 shared_none (f ∷ path) = refl
 
-is_row : (path : List ℕ) (rows : List PathRow) (j n : ℕ) → n < shared path (path_at rows j) → j < length rows
+pub is_row : (path : List ℕ) (rows : List PathRow) (j n : ℕ) → n < shared path (path_at rows j) → j < length rows
 is_row path [] j n few = absurd (omega (arith, few, shared_none path))
 is_row path (row ∷ rows) zero n few = omega arith
 is_row path (row ∷ rows) (suc j) n few = let rest = is_row path rows j n few in omega (arith, rest)
@@ -139,20 +139,20 @@ filter_map test g (x ∷ xs) = by_test (test (g x)) (filter_map test g xs)
     by_test false rest = rest
 
 filter_ended : (test : List ℕ → Bool) (path : List ℕ) (kept : ℕ) → ((n : ℕ) → kept ≤ n → n < length path → test (take (suc n) path) ≡ true)
-    → ((n : ℕ) → n < kept → n < length path → test (take (suc n) path) ≡ false) → filter test (beginnings path) ≡ drop kept (beginnings path)
+    → ((n : ℕ) → n < kept → n < length path → test (take (suc n) path) ≡ false) → filter test (prefixes path) ≡ drop kept (prefixes path)
 filter_ended test [] zero on off = refl
 filter_ended test [] (suc kept) on off = refl
 filter_ended test (f ∷ path) zero on off =
-    cond-true (test (f ∷ [])) ((f ∷ []) ∷ filter test (map (λ (x : List ℕ). f ∷ x) (beginnings path))) (filter test (map (λ (x : List ℕ). f ∷ x) (beginnings path))) (on 0 (omega arith) (omega arith))
+    cond-true (test (f ∷ [])) ((f ∷ []) ∷ filter test (map (λ (x : List ℕ). f ∷ x) (prefixes path))) (filter test (map (λ (x : List ℕ). f ∷ x) (prefixes path))) (on 0 (omega arith) (omega arith))
     ∙ ap (λ (l : List (List ℕ)). (f ∷ []) ∷ l)
-    (filter_map test (λ (x : List ℕ). f ∷ x) (beginnings path)
+    (filter_map test (λ (x : List ℕ). f ∷ x) (prefixes path)
     ∙ ap (map (λ (x : List ℕ). f ∷ x)) (filter_ended (λ (x : List ℕ). test (f ∷ x)) path 0 (λ n low few. on (suc n) (omega arith) (omega (arith, few))) (λ n high few. absurd (omega (arith, high)))))
 filter_ended test (f ∷ path) (suc kept) on off =
-    cond-false (test (f ∷ [])) ((f ∷ []) ∷ filter test (map (λ (x : List ℕ). f ∷ x) (beginnings path))) (filter test (map (λ (x : List ℕ). f ∷ x) (beginnings path))) (off 0 (omega arith) (omega arith))
-    ∙ filter_map test (λ (x : List ℕ). f ∷ x) (beginnings path)
+    cond-false (test (f ∷ [])) ((f ∷ []) ∷ filter test (map (λ (x : List ℕ). f ∷ x) (prefixes path))) (filter test (map (λ (x : List ℕ). f ∷ x) (prefixes path))) (off 0 (omega arith) (omega arith))
+    ∙ filter_map test (λ (x : List ℕ). f ∷ x) (prefixes path)
     ∙ ap (map (λ (x : List ℕ). f ∷ x))
     (filter_ended (λ (x : List ℕ). test (f ∷ x)) path kept (λ n low few. on (suc n) (omega (arith, low)) (omega (arith, few))) (λ n high few. off (suc n) (omega (arith, high)) (omega (arith, few))))
-    ∙ sym (drop-map (λ (x : List ℕ). f ∷ x) kept (beginnings path))
+    ∙ sym (drop-map (λ (x : List ℕ). f ∷ x) kept (prefixes path))
 
 rows_from : (rows : List PathRow) (at : ℕ) (d : PathRow) → at < length rows → drop at rows ≡ get_or rows at d ∷ drop (suc at) rows
 rows_from [] at d within = absurd (omega (arith, within))
@@ -160,12 +160,12 @@ rows_from (row ∷ rows) zero d within = refl
 rows_from (row ∷ rows) (suc at) d within = rows_from rows at d (omega (arith, within))
 
 -- the frames that end at a row, and then those that end later
-pub frames_from : (rows : List PathRow) (at : ℕ) → AreAscending rows → at < length rows
+pub frames_from : (rows : List PathRow) (at : ℕ) → Ascends rows → at < length rows
     → frames (drop at rows) ≡ ended_at rows at ++ frames (drop (suc at) rows)
 frames_from rows at ascending within =
     ap frames (rows_from rows at no_row within)
     ∙ ap (λ (fs : List (List ℕ)). fs ++ frames (drop (suc at) rows))
-    (ap (λ (path : List ℕ). filter (λ (frame : List ℕ). not (is_begun (drop (suc at) rows) frame)) (beginnings path)) (row_path rows at no_row within)
+    (ap (λ (path : List ℕ). filter (λ (frame : List ℕ). not (is_begun (drop (suc at) rows) frame)) (prefixes path)) (row_path rows at no_row within)
     ∙ filter_ended (λ (frame : List ℕ). not (is_begun (drop (suc at) rows) frame)) (path_at rows at) (shared (path_at rows at) (path_at rows (suc at)))
     (λ n over few. not_from_false (is_begun (drop (suc at) rows) (take (suc n) (path_at rows at))) (is_over rows at n ascending within over few))
     (λ n shared few. not_from_true (is_begun (drop (suc at) rows) (take (suc n) (path_at rows at))) (goes_on rows at n shared)))
@@ -177,7 +177,7 @@ begins_row rows at n within =
     ap (λ (path : List ℕ). begins (take (suc n) (path_at rows at)) path) (row_path rows at no_row within) ∙ begins_take (suc n) (path_at rows at)
 
 -- a frame that opens at a row
-pub opens_at : (rows : List PathRow) (at n : ℕ) (d : PathRow) → AreAscending rows → at < length rows → shared_at rows at ≤ n → n < length (path_at rows at)
+pub opens_at : (rows : List PathRow) (at n : ℕ) (d : PathRow) → Ascends rows → at < length rows → shared_at rows at ≤ n → n < length (path_at rows at)
     → IsKept rows (take (suc n) (path_at rows at)) (opened (get_or rows at d) (capped (own_sum (take at rows))) n)
 opens_at rows at n d ascending within new few = record {
   start = sym (ap capped place_is);
@@ -193,7 +193,7 @@ opens_at rows at n d ascending within new few = record {
     calls_are =
         ap (λ (rs : List PathRow). calls_of rs (take (suc n) (path_at rows at))) (split_at rows at no_row within)
         ∙ calls_at (take (suc n) (path_at rows at)) (take at rows) (get_or rows at no_row) (drop (suc at) rows)
-        (subst AreAscending (split_at rows at no_row within) ascending) (is_new rows at n ascending within new few) (begins_row rows at n within)
+        (subst Ascends (split_at rows at no_row within) ascending) (is_new rows at n ascending within new few) (begins_row rows at n within)
         ∙ ap (λ (size : ℕ). cond (eqb (length (get_or rows at no_row).path) size) (calls_in (get_or rows at no_row)) no_calls)
         (length-take-le (suc n) (path_at rows at) (omega (arith, few)))
 
@@ -203,19 +203,19 @@ own_next rows at d within =
     ap (λ (n : ℕ). own_sum (take n rows)) (sym (add-one at)) ∙ sum_by_more (λ (row : PathRow). row.own) rows at d within
 
 -- a frame that ends with a row
-pub closes_at : (rows : List PathRow) (at n : ℕ) → AreAscending rows → at < length rows → shared_at rows (suc at) ≤ n → n < length (path_at rows at)
+pub closes_at : (rows : List PathRow) (at n : ℕ) → Ascends rows → at < length rows → shared_at rows (suc at) ≤ n → n < length (path_at rows at)
     → end_of rows (take (suc n) (path_at rows at)) ≡ capped (own_sum (take (suc at) rows))
 closes_at rows at n ascending within over few =
     ap capped
     (ap (λ (rs : List PathRow). place_of rs (take (suc n) (path_at rows at)) + weight_of rs (take (suc n) (path_at rows at))) (split_at rows at no_row within)
-    ∙ ends_at (take (suc n) (path_at rows at)) (take at rows) (get_or rows at no_row) (drop (suc at) rows) (subst AreAscending (split_at rows at no_row within) ascending)
+    ∙ ends_at (take (suc n) (path_at rows at)) (take at rows) (get_or rows at no_row) (drop (suc at) rows) (subst Ascends (split_at rows at no_row within) ascending)
     (begins_row rows at n within) (is_over rows at n ascending within over few)
     ∙ sym (own_next rows at no_row within))
 
 -- ---- all frames, row by row
 
 -- those of one row more
-pub frames_more : (rows : List PathRow) (at : ℕ) (done : List (List ℕ)) → AreAscending rows → at < length rows → frames rows ≡ done ++ frames (drop at rows)
+pub frames_more : (rows : List PathRow) (at : ℕ) (done : List (List ℕ)) → Ascends rows → at < length rows → frames rows ≡ done ++ frames (drop at rows)
     → frames rows ≡ (done ++ ended_at rows at) ++ frames (drop (at + 1) rows)
 frames_more rows at done ascending within so_far =
     so_far ∙ ap (λ (l : List (List ℕ)). done ++ l) (frames_from rows at ascending within) ∙ sym (append_assoc done (ended_at rows at) (frames (drop (suc at) rows)))
@@ -241,26 +241,26 @@ left_more rows done more a b before now =
 
 -- ---- the frames of one row, by how many functions they have
 
-length-beginnings : (path : List ℕ) → length (beginnings path) ≡ length path
-length-beginnings [] = refl
-length-beginnings (f ∷ path) = let rest = length-beginnings path in let more = length-map (beginnings path) (λ (x : List ℕ). f ∷ x) in omega (arith, rest, more)
+length-prefixes : (path : List ℕ) → length (prefixes path) ≡ length path
+length-prefixes [] = refl
+length-prefixes (f ∷ path) = let rest = length-prefixes path in let more = length-map (prefixes path) (λ (x : List ℕ). f ∷ x) in omega (arith, rest, more)
 
-beginning_at : (path : List ℕ) (n : ℕ) (d : List ℕ) → n < length path → get_or (beginnings path) n d ≡ take (suc n) path
-beginning_at [] n d few = absurd (omega (arith, few))
-beginning_at (f ∷ path) zero d few = refl
-beginning_at (f ∷ path) (suc n) d few =
-    let within : n < length (beginnings path) = omega (arith, few, length-beginnings path) in
-    get_or-map (λ (x : List ℕ). f ∷ x) (beginnings path) n d d within ∙ ap (λ (x : List ℕ). f ∷ x) (beginning_at path n d (omega (arith, few)))
+prefix_at : (path : List ℕ) (n : ℕ) (d : List ℕ) → n < length path → get_or (prefixes path) n d ≡ take (suc n) path
+prefix_at [] n d few = absurd (omega (arith, few))
+prefix_at (f ∷ path) zero d few = refl
+prefix_at (f ∷ path) (suc n) d few =
+    let within : n < length (prefixes path) = omega (arith, few, length-prefixes path) in
+    get_or-map (λ (x : List ℕ). f ∷ x) (prefixes path) n d d within ∙ ap (λ (x : List ℕ). f ∷ x) (prefix_at path n d (omega (arith, few)))
 
 pub length-ended : (rows : List PathRow) (at : ℕ) → length (ended_at rows at) ≡ length (path_at rows at) - shared_at rows (suc at)
-length-ended rows at = length-drop (shared_at rows (suc at)) (beginnings (path_at rows at)) ∙ ap (λ (n : ℕ). n - shared_at rows (suc at)) (length-beginnings (path_at rows at))
+length-ended rows at = length-drop (shared_at rows (suc at)) (prefixes (path_at rows at)) ∙ ap (λ (n : ℕ). n - shared_at rows (suc at)) (length-prefixes (path_at rows at))
 
 pub ended_is : (rows : List PathRow) (at n : ℕ) (d : List ℕ) → shared_at rows (suc at) ≤ n → n < length (path_at rows at)
     → get_or (ended_at rows at) (n - shared_at rows (suc at)) d ≡ take (suc n) (path_at rows at)
 ended_is rows at n d low few =
-    get_or-drop (shared_at rows (suc at)) (beginnings (path_at rows at)) (n - shared_at rows (suc at)) d
+    get_or-drop (shared_at rows (suc at)) (prefixes (path_at rows at)) (n - shared_at rows (suc at)) d
     ∙ (let seam : shared_at rows (suc at) + (n - shared_at rows (suc at)) ≡ n = omega (arith, low) in
-    ap (λ (k : ℕ). get_or (beginnings (path_at rows at)) k d) seam ∙ beginning_at (path_at rows at) n d few)
+    ap (λ (k : ℕ). get_or (prefixes (path_at rows at)) k d) seam ∙ prefix_at (path_at rows at) n d few)
 
 pub left_step : (rows : List PathRow) (some : List (List ℕ)) (i : ℕ) (d frame : List ℕ) (before a b : ℕ) → i < length some → get_or some i d ≡ frame → a ≡ capped (before + count_left rows (take i some))
     → b ≡ capped (a + cond (is_drawn rows frame) 0 1) → b ≡ capped (before + count_left rows (take (i + 1) some))
@@ -281,7 +281,7 @@ pub stands_first : (rows : List PathRow) (openings : List Opening) → Stands ro
 stands_first rows openings = record { place = refl; standing = refl; kept = λ n few low. absurd (omega (arith, few)) }
 
 -- a row is opened
-pub row_opens : (rows : List PathRow) (at : ℕ) (d : PathRow) (old : Walk) (openings : List Opening) → AreAscending rows → at < length rows → Stands rows at old
+pub row_opens : (rows : List PathRow) (at : ℕ) (d : PathRow) (old : Walk) (openings : List Opening) → Ascends rows → at < length rows → Stands rows at old
     → ((n : ℕ) → n < old.standing → get_or openings n no_opening ≡ get_or old.openings n no_opening)
     → ((n : ℕ) → old.standing ≤ n → n < length (path_at rows at) → n < most_levels → get_or openings n no_opening ≡ opened (get_or rows at d) old.place n)
     → AreKept rows (path_at rows at) (length (path_at rows at)) openings

@@ -1,9 +1,33 @@
 -- Paths in ascending order: those that begin with a frame stand together.
 use Rattle.std.proofs.Common.{◌≡◌, ◌⊎◌, ◌∙◌, ◌<◌, ◌≤◌, ◌+◌, Bool, true, false, cond, ℕ, zero, suc, List, [], ◌∷◌, length, take, refl, ap, sym, subst, arith, inl, inr, eqb}
 use Rattle.std.specs.Prelude.{◌&&◌}
+use Rattle.std.specs.List.{AllByRecursion}
 use Rattle.std.proofs.lemmas.Bool.{and_from, and_parts, eq-eqb, eqb-false, eqb-true, false≢true}
-use Rattle.flame_graph.specs.Frames.{Precedes, begins}
+use Rattle.std.proofs.lemmas.List.Elements.{All-from_recursion, recursion_from_All}
+use Rattle.std.proofs.lemmas.List.Kept.{AllPairs-cons}
+use Rattle.stack_rebuild.specs.Stacks.{PathRow}
+use Rattle.flame_graph.specs.Frames.{AreAscending, Precedes, begins}
 use Rattle.flame_graph.specs.private.Walking.{shared}
+
+-- the path of a row comes before that of another
+abbrev pub IsBefore : PathRow → PathRow → Type 0
+IsBefore row later = Precedes row.path later.path
+
+-- rows in ascending order, row by row
+abbrev pub Ascends : List PathRow → Type 0
+Ascends [] = Unit {0}
+Ascends (row ∷ later) = AllByRecursion (IsBefore row) later × Ascends later
+
+pub ascends : (rows : List PathRow) → AreAscending rows → Ascends rows
+ascends [] all = tt
+ascends (row ∷ rows) all = (
+  recursion_from_All (IsBefore row) rows (λ k d within. all 0 (suc k) d (omega arith) (omega (arith, within))),
+  ascends rows (λ i j d low within. all (suc i) (suc j) d (omega (arith, low)) (omega (arith, within))),
+)
+
+pub ascending_from : (rows : List PathRow) → Ascends rows → AreAscending rows
+ascending_from [] all = λ i j d low within. absurd (omega (arith, within))
+ascending_from (row ∷ rows) all = AllPairs-cons IsBefore row rows (All-from_recursion (IsBefore row) rows all.0) (ascending_from rows all.1)
 
 -- what begins with the functions of a frame and one before them
 pub begins_more : (f a : ℕ) (frame path : List ℕ) → f ≡ a → begins frame path ≡ true → begins (f ∷ frame) (a ∷ path) ≡ true
@@ -32,18 +56,18 @@ between (f ∷ frame) (a ∷ p) (b ∷ q) (c ∷ z) before after first last = by
     by_cases (inr low) (inl high) again = absurd (omega (arith, head.0, tail.0, low.0, high))
     by_cases (inr low) (inr high) again = begins_more f b frame q (head.0 ∙ low.0) (again low.1 high.1)
 
--- a path doesn't precede one of its own beginnings
-pub no_beginning_after : (path frame : List ℕ) → Precedes path frame → begins frame path ≡ true → ⊥
-no_beginning_after [] [] before is = before
-no_beginning_after [] (f ∷ frame) before is = false≢true is
-no_beginning_after (a ∷ path) [] before is = before
-no_beginning_after (a ∷ path) (f ∷ frame) before is = by_cases before (begins_first f a frame path is) (λ low begun. no_beginning_after path frame low begun)
+-- a path doesn't precede one of its own prefixes
+pub no_prefix_after : (path frame : List ℕ) → Precedes path frame → begins frame path ≡ true → ⊥
+no_prefix_after [] [] before is = before
+no_prefix_after [] (f ∷ frame) before is = false≢true is
+no_prefix_after (a ∷ path) [] before is = before
+no_prefix_after (a ∷ path) (f ∷ frame) before is = by_cases before (begins_first f a frame path is) (λ low begun. no_prefix_after path frame low begun)
   where
     by_cases : (a < f) ⊎ ((a ≡ f) × Precedes path frame) → (f ≡ a) × (begins frame path ≡ true) → (Precedes path frame → begins frame path ≡ true → ⊥) → ⊥
     by_cases (inl low) parts again = omega (arith, low, parts.0)
     by_cases (inr low) parts again = again low.1 parts.1
 
--- a path begins with each of its beginnings
+-- a path begins with each of its prefixes
 pub begins_take : (n : ℕ) (path : List ℕ) → begins (take n path) path ≡ true
 begins_take zero path = refl
 begins_take (suc n) [] = refl

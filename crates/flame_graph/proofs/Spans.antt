@@ -6,13 +6,13 @@ use Rattle.std.proofs.lemmas.Bool.{and_from, and_left, and_parts, and_right, cas
 use Rattle.std.proofs.lemmas.List.Sums.{sum_by-cons, sum_by-le-sum_by}
 use Rattle.stack_rebuild.specs.Stacks.{PathRow}
 use Rattle.flame_graph.specs.declared.frame.Calls.{Calls}
-use Rattle.flame_graph.specs.Frames.{AreAscending, Precedes, begins, calls_in, calls_of, is_begun, is_frame, no_calls, own_sum, place_of, weight_of}
-use Rattle.flame_graph.proofs.Orders.{between, no_beginning_after}
+use Rattle.flame_graph.specs.Frames.{Precedes, begins, calls_in, calls_of, is_begun, is_frame, no_calls, own_sum, place_of, weight_of}
+use Rattle.flame_graph.proofs.Orders.{Ascends, IsBefore, between, no_prefix_after}
 
-weight_more : (frame : List ℕ) (row : PathRow) (rows : List PathRow) → weight_of (row ∷ rows) frame ≡ cond (begins frame row.path) row.own 0 + weight_of rows frame
+pub weight_more : (frame : List ℕ) (row : PathRow) (rows : List PathRow) → weight_of (row ∷ rows) frame ≡ cond (begins frame row.path) row.own 0 + weight_of rows frame
 weight_more frame row rows = sum_by-cons (λ (r : PathRow). cond (begins frame r.path) r.own 0) row rows
 
-own_more : (row : PathRow) (rows : List PathRow) → own_sum (row ∷ rows) ≡ row.own + own_sum rows
+pub own_more : (row : PathRow) (rows : List PathRow) → own_sum (row ∷ rows) ≡ row.own + own_sum rows
 own_more row rows = sum_by-cons (λ (r : PathRow). r.own) row rows
 
 -- a frame that no row begins with
@@ -24,14 +24,14 @@ weight_none frame (row ∷ rows) none =
     ∙ (let rest = weight_none frame rows parts.1 in omega (arith, rest)))
 
 -- a row precedes the last of those after it
-last_after : (row : PathRow) (before : List PathRow) (last : PathRow) (later : List PathRow) → AllByRecursion (λ (r : PathRow). Precedes row.path r.path) (before ++ last ∷ later)
+last_after : (row : PathRow) (before : List PathRow) (last : PathRow) (later : List PathRow) → AllByRecursion (IsBefore row) (before ++ last ∷ later)
     → Precedes row.path last.path
 last_after row [] last later all = all.0
 last_after row (r ∷ before) last later all = last_after row before last later all.1
 
 -- if two rows begin with a frame, the rows between them do
 weight_all : (frame : List ℕ) (first : PathRow) (before : List PathRow) (last : PathRow) (later : List PathRow)
-    → AllByRecursion (λ (r : PathRow). Precedes first.path r.path) (before ++ last ∷ later) → AreAscending (before ++ last ∷ later)
+    → AllByRecursion (IsBefore first) (before ++ last ∷ later) → Ascends (before ++ last ∷ later)
     → begins frame first.path ≡ true → begins frame last.path ≡ true → is_begun later frame ≡ false
     → weight_of (before ++ last ∷ later) frame ≡ own_sum before + last.own
 weight_all frame first [] last later after ascending begun ends none =
@@ -45,7 +45,7 @@ weight_all frame first (row ∷ before) last later after ascending begun ends no
     weight_more frame row (before ++ last ∷ later) ∙ (let sums = own_more row before in omega (arith, own, rest, sums))
 
 -- a frame ends with the last row that begins with it
-pub ends_at : (frame : List ℕ) (before : List PathRow) (last : PathRow) (later : List PathRow) → AreAscending (before ++ last ∷ later)
+pub ends_at : (frame : List ℕ) (before : List PathRow) (last : PathRow) (later : List PathRow) → Ascends (before ++ last ∷ later)
     → begins frame last.path ≡ true → is_begun later frame ≡ false
     → place_of (before ++ last ∷ later) frame + weight_of (before ++ last ∷ later) frame ≡ own_sum before + last.own
 ends_at frame [] last later ascending ends none =
@@ -95,7 +95,7 @@ same_path (f ∷ frame) (g ∷ path) begun same =
     ap (λ (h : ℕ). h ∷ path) (sym (eqb-true f g parts.0)) ∙ ap (λ (rest : List ℕ). f ∷ rest) (same_path frame path parts.1 (omega (arith, same)))
 
 -- its calls are those of this row, or it has none
-calls_none : (frame : List ℕ) (row : PathRow) (rows : List PathRow) → AllByRecursion (λ (r : PathRow). Precedes row.path r.path) rows → begins frame row.path ≡ true
+calls_none : (frame : List ℕ) (row : PathRow) (rows : List PathRow) → AllByRecursion (IsBefore row) rows → begins frame row.path ≡ true
     → (length row.path ≡ length frame → ⊥) → calls_of rows frame ≡ no_calls
 calls_none frame row [] after begun longer = refl
 calls_none frame row (r ∷ rows) after begun longer =
@@ -107,9 +107,9 @@ calls_none frame row (r ∷ rows) after begun longer =
     not_it (inl is) =
         let parts = and_parts (begins frame r.path) (eqb (length r.path) (length frame)) is in
         let whole : r.path ≡ frame = same_path frame r.path parts.0 (eqb-true (length r.path) (length frame) parts.1) in
-        absurd (no_beginning_after row.path frame (subst (λ (p : List ℕ). Precedes row.path p) whole after.0) begun)
+        absurd (no_prefix_after row.path frame (subst (λ (p : List ℕ). Precedes row.path p) whole after.0) begun)
 
-pub calls_at : (frame : List ℕ) (before : List PathRow) (first : PathRow) (later : List PathRow) → AreAscending (before ++ first ∷ later)
+pub calls_at : (frame : List ℕ) (before : List PathRow) (first : PathRow) (later : List PathRow) → Ascends (before ++ first ∷ later)
     → is_begun before frame ≡ false → begins frame first.path ≡ true
     → calls_of (before ++ first ∷ later) frame ≡ cond (eqb (length first.path) (length frame)) (calls_in first) no_calls
 calls_at frame [] first later ascending none begun = by_test (eqb (length first.path) (length frame)) refl

@@ -25,7 +25,7 @@ fitting width = (width - 6000) / 7300
 
 -- the part of a name that has room for this many characters: the whole name, or its first characters and two dots
 abbrev pub cut_text : List ℕ → List ℕ
-cut_text beginning = xml_text beginning ++ codes ".."
+cut_text start = xml_text start ++ codes ".."
 
 abbrev pub shortened : (room : ℕ) → List ℕ → List ℕ
 shortened room name = if nat_le (length name) room then xml_text name else cut_text (take (room - 2) name)
@@ -73,7 +73,7 @@ size_text width = codes " width=\"" ++ pixels width ++ codes "\" height=\"15\" r
 
 abbrev pub colour_text : ℕ → List ℕ
 colour_text id =
-    codes " fill=\"rgb(" ++ decimal (205 + id * 31 % 50) ++ codes "," ++ decimal (60 + id * 89 % 160) ++ codes "," ++ decimal (id * 37 % 55) ++ codes ")\"/>"
+    codes " fill=\"rgb(" ++ decimal (205 + id * 31 % 50) ++ codes "," ++ decimal (100 + id * 89 % 120) ++ codes "," ++ decimal (id * 37 % 55) ++ codes ")\"/>"
 
 abbrev pub box_text : (left width top id : ℕ) → List ℕ
 box_text left width top id = corner_text (left + 10000) top ++ size_text width ++ colour_text id

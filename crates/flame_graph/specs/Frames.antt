@@ -1,5 +1,5 @@
 -- The frames of a flame graph. A frame is a path, which is listed from its outermost function, as the paths of rows are.
-use Rattle.std.specs.Prelude.{◌+◌, ◌-◌, ◌^◌, ◌<◌, ◌==◌, ◌&&◌, ◌≡◌, ◌⊎◌, Bool, true, false, not, ℕ, List, [], ◌∷◌, ◌++◌, length, map, filter, min, sum_by, if◌then◌else◌}
+use Rattle.std.specs.Prelude.{◌+◌, ◌-◌, ◌^◌, ◌<◌, ◌==◌, ◌&&◌, ◌≡◌, ◌⊎◌, All, Bool, true, false, not, ℕ, List, [], ◌∷◌, ◌++◌, length, map, filter, min, sum_by, if◌then◌else◌}
 use Rattle.std.specs.List.{AllPairs, list_any}
 use Rattle.stack_rebuild.specs.Stacks.{PathRow}
 use Rattle.flame_graph.specs.declared.frame.Calls.{Calls}
@@ -17,6 +17,11 @@ Precedes (f ∷ path) (g ∷ other) = (f < g) ⊎ ((f ≡ g) × Precedes path ot
 abbrev pub AreAscending : List PathRow → Type 0
 AreAscending rows = AllPairs (λ row later. Precedes row.path later.path) rows
 
+-- what the rows of stacks are: in this order, and none of no function
+pub record AreStacks (rows : List PathRow) : Type 0 where
+  pub ascending : AreAscending rows
+  pub some : All (λ row. 0 < length row.path) rows
+
 -- ---- which frames there are
 
 -- whether a path begins with the functions of a frame
@@ -25,19 +30,19 @@ begins [] path = true
 begins (f ∷ frame) [] = false
 begins (f ∷ frame) (g ∷ path) = (f == g) && begins frame path
 
--- the beginnings of a path, from its outermost function alone to the whole path
-abbrev pub beginnings : List ℕ → List (List ℕ)
-beginnings [] = []
-beginnings (f ∷ path) = (f ∷ []) ∷ map (λ frame. f ∷ frame) (beginnings path)
+-- the prefixes of a path, from its outermost function alone to the whole path
+abbrev pub prefixes : List ℕ → List (List ℕ)
+prefixes [] = []
+prefixes (f ∷ path) = (f ∷ []) ∷ map (λ frame. f ∷ frame) (prefixes path)
 
 -- whether the path of some row begins with a frame
 abbrev pub is_begun : List PathRow → List ℕ → Bool
 is_begun rows frame = list_any (λ row. begins frame row.path) rows
 
--- the frames of rows: the beginnings of their paths, each once, at the last row whose path begins with it
+-- the frames of rows: the prefixes of their paths, each once, at the last row whose path begins with it
 abbrev pub frames : List PathRow → List (List ℕ)
 frames [] = []
-frames (row ∷ later) = filter (λ frame. not (is_begun later frame)) (beginnings row.path) ++ frames later
+frames (row ∷ later) = filter (λ frame. not (is_begun later frame)) (prefixes row.path) ++ frames later
 
 -- ---- where they are, in cycles
 

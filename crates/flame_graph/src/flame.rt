@@ -4,7 +4,7 @@ ghost use Rattle.std.specs.{Prelude.{◌≡◌, ◌^◌, ◌<◌, ◌≤◌, map
 ghost use Rattle.stack_rebuild.specs.Stacks.{told};
 ghost use Rattle.xray_io.specs.{Text.{AddsText}, Writes.{WritesText}};
 ghost use Rattle.flame_graph.specs.FlameText.{flame_text, foot_text, head_text, seconds_text, total_text};
-ghost use Rattle.flame_graph.specs.Frames.{AreAscending};
+ghost use Rattle.flame_graph.specs.{Frames.{AreStacks}, Laws.{LowestAddUp, NoneSticksOut}};
 
 use crate::sums::{levels_of, total_of};
 use crate::walk::{ABOVE, LEVEL, Picture, add_frames};
@@ -19,8 +19,8 @@ use xray_io::{Piece, Printed, Sink, Text, WriteFault, write_text};
 /// the time that was spent in it and in the frames above it. Frames that are narrower than a tenth of
 /// a pixel are left out, and the last line says how many.
 ///
-/// The rows have to be in ascending order of their paths, each path once, as `stacks` and
-/// `StackFold::rows` give them.
+/// The rows have to be in ascending order of their paths, each path once and with a function, as
+/// `stacks` and `StackFold::rows` give them.
 #[derive(Clone, Copy, Debug)]
 pub struct FlameGraph<'a> {
     /// The rows.
@@ -37,7 +37,7 @@ impl Printed for FlameGraph<'_> {
     ghost text = { λ flame. flame_text flame.frequency (option_map (λ image. image.now) flame.image)
         (map told flame.rows.now) };
 
-    ghost ready = { λ flame. AreAscending (map told flame.rows.now) };
+    ghost ready = { λ flame. AreStacks (map told flame.rows.now) };
 
     fn add_to<S: Sink>(&self, to: &mut Text<S>) -> Result<(), WriteFault> {
         let picture = Picture {
@@ -62,9 +62,11 @@ pub fn write_flame_graph<S: Sink>(
     frequency: u64,
     sink: &mut S,
 ) -> Result<(), WriteFault>
-    requires { AreAscending (map told rows.now) }
+    requires { AreStacks (map told rows.now) }
     ensures writes { WritesText S.written S.faults S.along sink.old sink.new
         (flame_text frequency (option_map (λ image. image.now) image.entry) (map told rows.now)) result }
+    ensures within { NoneSticksOut (map told rows.now) }
+    ensures adds_up { LowestAddUp (map told rows.now) }
 {
     write_text(
         &FlameGraph {

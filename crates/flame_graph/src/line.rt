@@ -143,7 +143,7 @@ fn add_colour<S: Sink>(to: &mut Text<S>, id: u128) -> Result<(), WriteFault>
         Piece::Bytes(b" fill=\"rgb("),
         Piece::Number(205 + id * 31 % 50),
         Piece::Bytes(b","),
-        Piece::Number(60 + id * 89 % 160),
+        Piece::Number(100 + id * 89 % 120),
         Piece::Bytes(b","),
         Piece::Number(id * 37 % 55),
         Piece::Bytes(b")\"/>"),

@@ -42,11 +42,11 @@ pub(crate) fn add_shortened<S: Sink>(
     add_cut(to, &name[..room.saturating_sub(2)])
 }
 
-/// Adds the beginning of a name, and two dots.
-fn add_cut<S: Sink>(to: &mut Text<S>, beginning: &[u8]) -> Result<(), WriteFault>
-    ensures { AddsText S.written S.faults S.along to.old to.new (cut_text beginning.now) result }
+/// Adds the start of a name, and two dots.
+fn add_cut<S: Sink>(to: &mut Text<S>, start: &[u8]) -> Result<(), WriteFault>
+    ensures { AddsText S.written S.faults S.along to.old to.new (cut_text start.now) result }
 {
-    add_xml(to, beginning)?;
+    add_xml(to, start)?;
     to.bytes(b"..")
 }
 

@@ -32,11 +32,11 @@ const PICTURE_OF_RECURSION: &str = "\
     <rect width=\"1200\" height=\"128\" fill=\"#f8f4e4\"/>\n\
     <text x=\"600\" y=\"28\" font-size=\"17\" text-anchor=\"middle\">Flame graph: 35 cycles</text>\n\
     <g><title>#1: count 0, sum 0, self 0</title><rect x=\"10.000\" y=\"80\" width=\"1180.000\" \
-    height=\"15\" rx=\"2\" fill=\"rgb(236,149,37)\"/><text x=\"13.000\" y=\"92\">#1</text></g>\n\
+    height=\"15\" rx=\"2\" fill=\"rgb(236,189,37)\"/><text x=\"13.000\" y=\"92\">#1</text></g>\n\
     <g><title>#1: count 1, sum 35, self 25</title><rect x=\"10.000\" y=\"64\" width=\"1180.000\" \
-    height=\"15\" rx=\"2\" fill=\"rgb(236,149,37)\"/><text x=\"13.000\" y=\"76\">#1</text></g>\n\
+    height=\"15\" rx=\"2\" fill=\"rgb(236,189,37)\"/><text x=\"13.000\" y=\"76\">#1</text></g>\n\
     <g><title>#1: count 1, sum 10, self 10</title><rect x=\"852.857\" y=\"48\" width=\"337.143\" \
-    height=\"15\" rx=\"2\" fill=\"rgb(236,149,37)\"/><text x=\"855.857\" y=\"60\">#1</text></g>\n\
+    height=\"15\" rx=\"2\" fill=\"rgb(236,189,37)\"/><text x=\"855.857\" y=\"60\">#1</text></g>\n\
     <text x=\"10\" y=\"116\">Frames narrower than 0.1 pixels, which are left out: 0</text>\n\
     </svg>\n";
 

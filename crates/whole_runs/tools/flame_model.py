@@ -29,7 +29,7 @@ class PathRow:
 
 @dataclasses.dataclass(frozen=True)
 class Frame:
-    """A beginning of a path, where it begins and ends in cycles, and the row with its path, if there is one."""
+    """A prefix of a path, where it begins and ends in cycles, and the row with its path, if there is one."""
 
     path: tuple
     start: int
@@ -66,7 +66,7 @@ def escaped(name):
 
 
 def shortened(name, room):
-    """The name, or its beginning and two dots."""
+    """The name, or its start and two dots."""
     return escaped(name) if len(name) <= room else escaped(name[: room - 2]) + ".."
 
 
@@ -77,7 +77,7 @@ def pixels(thousandths):
 
 def colour(function):
     """The colour of a function, by its id."""
-    return f"rgb({205 + function * 31 % 50},{60 + function * 89 % 160},{function * 37 % 55})"
+    return f"rgb({205 + function * 31 % 50},{100 + function * 89 % 120},{function * 37 % 55})"
 
 
 def total_words(total, frequency):

@@ -14,7 +14,7 @@ use crate::trace_feed::TraceFeed;
 use crate::work::Work;
 use command_words::{StackFormat, TRACE_LIMIT};
 use fdr_file::Trace;
-use flame_graph::FlameGraph;
+use flame_graph::{FlameGraph, stacks_can_be_drawn};
 use stack_rebuild::{StackFault, StackFold, StackForm, StackRow, StackText};
 use std::alloc::Global;
 use trace_words::TraceRefusal;
@@ -117,6 +117,7 @@ impl<'a> Work<'a> for Stack<'a> {
     ) -> Result<(), Stop<'a>> {
         match &inputs.log.rows {
             Ok(rows) => {
+                stacks_can_be_drawn();
                 let text = StackReport {
                     rows,
                     image: inputs.image.as_ref(),
@@ -141,13 +142,13 @@ struct StackReport<'a> {
 }
 
 impl Printed for StackReport<'_> {
-    ghost use Rattle.flame_graph.specs.Frames.{AreAscending};
+    ghost use Rattle.flame_graph.specs.Frames.{AreStacks};
     ghost use Rattle.xray_program.specs.Stack.{rows_text};
 
     ghost text = { λ report. rows_text report.format report.frequency
         (option_map (λ image. image.now) report.image) (map told report.rows.now) };
 
-    ghost ready = { λ report. AreAscending (map told report.rows.now) };
+    ghost ready = { λ report. AreStacks (map told report.rows.now) };
 
     fn add_to<S: Sink>(&self, to: &mut Text<S>) -> Result<(), WriteFault> {
         match self.format {

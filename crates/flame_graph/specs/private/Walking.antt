@@ -1,7 +1,7 @@
 -- One walk through the rows, in which a frame is open from its first row to its last.
 use Rattle.std.specs.Prelude.{◌≡◌, ◌+◌, ◌<◌, ◌≤◌, ◌==◌, Bool, not, ℕ, zero, suc, List, [], ◌∷◌, drop, length, take, count_by, slice_index_or, if◌then◌else◌}
 use Rattle.stack_rebuild.specs.Stacks.{PathRow}
-use Rattle.flame_graph.specs.Frames.{beginnings, calls_in, calls_of, capped, end_of, no_calls, own_sum, start_of}
+use Rattle.flame_graph.specs.Frames.{prefixes, calls_in, calls_of, capped, end_of, no_calls, own_sum, start_of}
 use Rattle.flame_graph.specs.Picture.{is_drawn, most_levels}
 use Rattle.flame_graph.specs.declared.frame.Calls.{Calls}
 use Rattle.flame_graph.specs.declared.frame.Opening.{Opening}
@@ -41,9 +41,9 @@ pub record IsKept (rows : List PathRow) (frame : List ℕ) (opening : Opening) :
 abbrev pub AreKept : List PathRow → List ℕ → ℕ → List Opening → Type 0
 AreKept rows path count openings = (n : ℕ) → n < count → n < most_levels → IsKept rows (take (suc n) path) (slice_index_or openings n no_opening)
 
--- the frames that end with a row: the beginnings of its path with more functions than the next row shares
+-- the frames that end with a row: the prefixes of its path with more functions than the next row shares
 abbrev pub ended_at : List PathRow → ℕ → List (List ℕ)
-ended_at rows at = drop (shared_at rows (suc at)) (beginnings (path_at rows at))
+ended_at rows at = drop (shared_at rows (suc at)) (prefixes (path_at rows at))
 
 -- before a row: the frames that it shares with the row before it are kept, and all rows before it end at its place
 pub record Stands (rows : List PathRow) (at : ℕ) (walk : Walk) : Type 0 where

@@ -9,6 +9,7 @@ use Rattle.flame_graph.specs.FlameText.{frame_text}
 use Rattle.flame_graph.specs.Frames.{capped, frames}
 use Rattle.flame_graph.specs.private.Walking.{count_left, ended_at}
 use Rattle.flame_graph.proofs.Endings.{frames_done, frames_more, left_more, stands_first, texts_more}
+use Rattle.flame_graph.proofs.Orders.{ascends}
 use Rattle.flame_graph.proofs.walk.add_frames.Goals as goal
 
 pub rows-init : goal.rows-init
@@ -24,7 +25,7 @@ rows-preserved g c =
     let at = c.rows.at in
     let within : at < length rows = omega (arith, c.rows-test.true, length-map c.args.picture.now.rows.now told) in (
       done ++ ended_at rows at,
-      frames_more rows at done c.requires.ascending within c.rows.invariant.1,
+      frames_more rows at done (ascends rows c.requires.ascending) within c.rows.invariant.1,
       subst (λ (t : List ℕ). AddsText g.S.Sink.written g.S.Sink.faults g.S.Sink.along c.args.to.now c.add_row.new.to t (Ok tt)) (sym (flat_map-append text done (ended_at rows at)))
           (adds_more g.met.S.Sink.along_both c.rows.invariant.2 c.in_ok-add_row.ensures.adds),
       left_more rows done (ended_at rows at) _ _ c.rows.invariant.3 c.in_ok-add_row.ensures.left,
@@ -39,7 +40,7 @@ returns-in_err-add_row g c = record {
       let done = c.rows.invariant.0 in
       let at = c.rows.at in
       let within : at < length rows = omega (arith, c.rows-test.true, length-map c.args.picture.now.rows.now told) in
-      let whole = frames_more rows at done c.requires.ascending within c.rows.invariant.1 in
+      let whole = frames_more rows at done (ascends rows c.requires.ascending) within c.rows.invariant.1 in
       adds_failed (adds_within g.met.S.Sink.along_both _ c.rows.invariant.2 c.in_err-add_row.ensures.adds (texts_more text rows at done (ended_at rows at) whole))
       c.from_residual.result c.from_residual.ensures.1;
   left = search rules;

@@ -1,7 +1,6 @@
 use Rattle.std.proofs.Common.{◌≡◌, ◌∙◌, ℕ, List, [], None, Option, map, option_map, ap, sym, subst}
 use Rattle.fdr_file.specs.declared.trace.Trace.{Trace}
-use Rattle.flame_graph.specs.Frames.{AreAscending}
-use Rattle.flame_graph.proofs.Sorted.{stack_ascending}
+use Rattle.flame_graph.specs.Frames.{AreStacks}
 use Rattle.stack_rebuild.specs.declared.stack_row.StackRow.{StackRow}
 use Rattle.stack_rebuild.specs.Stacks.{PathRow, stack_of, told}
 use Rattle.xray_image.specs.Program.{Program}
@@ -39,4 +38,4 @@ pub deliver-requires-clause-text : goal.deliver-requires-clause-text
 deliver-requires-clause-text g c =
     let trace = c.requires.0 in
     let told_so = stacks_told c.args.inputs.now.log.rows c.in-Ok.rows trace c.in-Ok.is c.requires.1.rows in
-    subst (λ (rs : List PathRow). AreAscending rs) (sym (ap (λ (rs : List StackRow). map told rs) c.deref.ensures.value ∙ told_so.0)) (stack_ascending trace.blocks)
+    subst (λ (rs : List PathRow). AreStacks rs) (sym (ap (λ (rs : List StackRow). map told rs) c.deref.ensures.value ∙ told_so.0)) (c.stacks_can_be_drawn.ensures trace.blocks)
