@@ -47,6 +47,14 @@ still_some zero some each = each
 still_some (suc n) [] each = tt
 still_some (suc n) (frame ∷ some) each = still_some n some each.1
 
+width_of_nothing : (rows : List PathRow) → lowest_width rows (frames []) ≡ 0
+unfolding lowest_width
+width_of_nothing rows = refl
+
+width_is : (rows : List PathRow) (some : List (List ℕ)) → sum_by (width_of rows) (filter is_lowest some) ≡ lowest_width rows some
+unfolding lowest_width
+width_is rows some = refl
+
 -- among the prefixes of a path there is one, if none is left out
 width_of_none : (rows : List PathRow) (path : List ℕ) (n : ℕ) → lowest_width rows (drop (suc n) (prefixes path)) ≡ 0
 unfolding lowest_width
@@ -75,7 +83,6 @@ width_and_left rows frame = let less = left_le_right rows frame in omega (arith,
 -- the widths of the lowest frames that end at a row or later add up to what is between the first of them and the end
 pub lowest_from : (rows : List PathRow) (more at : ℕ) → Ascends rows → ((k : ℕ) → k < length rows → 0 < length (path_at rows k)) → at + suc more ≡ length rows
     → lowest_width rows (frames (drop at rows)) + left_of rows (take (suc zero) (path_at rows at)) ≡ thousandths_at (total_of rows) (total_of rows)
-unfolding lowest_width
 lowest_from rows zero at ascending some last = by_count (shared_at rows (suc at)) refl
   where
     within : at < length rows
@@ -85,7 +92,7 @@ lowest_from rows zero at ascending some last = by_count (shared_at rows (suc at)
     split = ap (λ (l : List (List ℕ)). lowest_width rows l) (frames_from rows at ascending within) ∙ width_more rows (ended_at rows at) (frames (drop (suc at) rows))
 
     after : lowest_width rows (frames (drop (suc at) rows)) ≡ 0
-    after = ap (λ (l : List PathRow). lowest_width rows (frames l)) (drop_all (suc at) rows (omega (arith, last)))
+    after = ap (λ (l : List PathRow). lowest_width rows (frames l)) (drop_all (suc at) rows (omega (arith, last))) ∙ width_of_nothing rows
 
     by_count : (n : ℕ) → shared_at rows (suc at) ≡ n
         → lowest_width rows (frames (drop at rows)) + left_of rows (take (suc zero) (path_at rows at)) ≡ thousandths_at (total_of rows) (total_of rows)
@@ -133,7 +140,6 @@ lowest_from rows (suc more) at ascending some last =
 -- ---- all rows
 
 pub lowest_add_up : (rows : List PathRow) → AreStacks rows → LowestAddUp rows
-unfolding lowest_width
 lowest_add_up [] stacks spent = absurd (omega (arith, spent))
 lowest_add_up (row ∷ rows) stacks spent =
     let all : List PathRow = row ∷ rows in
@@ -147,4 +153,4 @@ lowest_add_up (row ∷ rows) stacks spent =
     let starts = (opens_at all zero zero no_row rising (omega arith) (omega arith) (each zero (omega arith))).start in
     let first : left_of all (take (suc zero) (path_at all zero)) ≡ 0 = ap (λ (n : ℕ). thousandths_at (total_of all) n) (sym starts) ∙ at_none (total_of all) in
     let full = at_whole (total_of all) (omega (arith, spent)) in
-    omega (arith, whole, first, full)
+    width_is all (frames all) ∙ omega (arith, whole, first, full)

@@ -57,10 +57,10 @@ path_some blocks path is =
     omega (arith, same, size)
 
 -- so each row has one
-rows_some : (pairs : List Timed) (paths : List (List ℕ)) → ((path : List ℕ) → IsIn path paths → 0 < length path) → All (λ row. 0 < length row.path) (map (path_row pairs) paths)
-rows_some pairs [] some = All-nil (λ row. 0 < length row.path)
+rows_some : (pairs : List Timed) (paths : List (List ℕ)) → ((path : List ℕ) → IsIn path paths → 0 < length path) → All (λ (row : PathRow). 0 < length row.path) (map (path_row pairs) paths)
+rows_some pairs [] some = All-nil (λ (row : PathRow). 0 < length row.path)
 rows_some pairs (path ∷ paths) some =
-    All-cons (λ row. 0 < length row.path) (path_row pairs path) (map (path_row pairs) paths) (some path (inl refl)) (rows_some pairs paths (λ other there. some other (inr there)))
+    All-cons (λ (row : PathRow). 0 < length row.path) (path_row pairs path) (map (path_row pairs) paths) (some path (inl refl)) (rows_some pairs paths (λ other there. some other (inr there)))
 
 pub stacks_are : (blocks : List Block) → AreStacks (stack_of blocks)
 stacks_are blocks = record {
