@@ -151,18 +151,18 @@ all_prefixes [] = All-nil (λ (frame : List ℕ). begins frame [] ≡ true)
 all_prefixes (f ∷ path) =
     All-cons (λ (frame : List ℕ). begins frame (f ∷ path) ≡ true) (f ∷ []) _ (begins_more f f [] path refl refl)
     (All-map (λ (frame : List ℕ). begins frame (f ∷ path) ≡ true) (λ (frame : List ℕ). f ∷ frame) (prefixes path)
-    (All-weaker (λ (frame : List ℕ). begins frame path ≡ true) (λ (frame : List ℕ). begins (f ∷ frame) (f ∷ path) ≡ true) (λ (frame : List ℕ) is. begins_more f f frame path refl is) (prefixes path) (all_prefixes path)))
+    (All-weaker (λ (frame : List ℕ). begins frame path ≡ true) (λ (frame : List ℕ). begins (f ∷ frame) (f ∷ path) ≡ true) (λ frame is. begins_more f f frame path refl is) (prefixes path) (all_prefixes path)))
 
 pub all_begun : (rows : List PathRow) → All (λ (frame : List ℕ). is_begun rows frame ≡ true) (frames rows)
 all_begun [] = All-nil (λ (frame : List ℕ). is_begun [] frame ≡ true)
 all_begun (row ∷ rows) =
     All-append (λ (frame : List ℕ). is_begun (row ∷ rows) frame ≡ true) (filter (λ (frame : List ℕ). not (is_begun rows frame)) (prefixes row.path)) (frames rows)
-    (All-weaker (λ (frame : List ℕ). begins frame row.path ≡ true) (λ (frame : List ℕ). is_begun (row ∷ rows) frame ≡ true) (λ (frame : List ℕ) is. or_left (begins frame row.path) (is_begun rows frame) is)
+    (All-weaker (λ (frame : List ℕ). begins frame row.path ≡ true) (λ (frame : List ℕ). is_begun (row ∷ rows) frame ≡ true) (λ frame is. or_left (begins frame row.path) (is_begun rows frame) is)
     (filter (λ (frame : List ℕ). not (is_begun rows frame)) (prefixes row.path))
     (All-filter (λ (frame : List ℕ). not (is_begun rows frame)) (λ (frame : List ℕ). begins frame row.path ≡ true) (prefixes row.path) (all_prefixes row.path)))
-    (All-weaker (λ (frame : List ℕ). is_begun rows frame ≡ true) (λ (frame : List ℕ). is_begun (row ∷ rows) frame ≡ true) (λ (frame : List ℕ) is. or_right (begins frame row.path) (is_begun rows frame) is) (frames rows) (all_begun rows))
+    (All-weaker (λ (frame : List ℕ). is_begun rows frame ≡ true) (λ (frame : List ℕ). is_begun (row ∷ rows) frame ≡ true) (λ frame is. or_right (begins frame row.path) (is_begun rows frame) is) (frames rows) (all_begun rows))
 
 pub none_sticks_out : (rows : List PathRow) → AreStacks rows → NoneSticksOut rows
 none_sticks_out rows stacks =
     All-weaker (λ (frame : List ℕ). is_begun rows frame ≡ true) (λ (frame : List ℕ). IsWithin rows frame (below frame))
-    (λ (frame : List ℕ) some. is_within rows frame (below frame) (ascends rows stacks.ascending) (begins_take (length frame - 1) frame) some) (frames rows) (all_begun rows)
+    (λ frame some. is_within rows frame (below frame) (ascends rows stacks.ascending) (begins_take (length frame - 1) frame) some) (frames rows) (all_begun rows)
