@@ -7,7 +7,7 @@ ghost use Rattle.flame_graph.specs.FlameText.{flame_text, foot_text, head_text, 
 ghost use Rattle.flame_graph.specs.{Frames.{AreStacks}, Laws.{LowestAddUp, NoneSticksOut}};
 
 use crate::sums::{levels_of, total_of};
-use crate::walk::{ABOVE, LEVEL, Picture, add_frames};
+use crate::walk::{LEVEL, Picture, add_frames};
 use stack_rebuild::StackRow;
 use xray_image::Image;
 use xray_io::{Piece, Printed, Sink, Text, WriteFault, write_text};
@@ -89,7 +89,7 @@ fn add_head<S: Sink>(
     ensures { AddsText S.written S.faults S.along to.old to.new
         (head_text frequency levels total) result }
 {
-    let height = ABOVE + BELOW + levels as u128 * LEVEL;
+    let height = AROUND + levels as u128 * LEVEL;
     to.pieces(&[
         Piece::Bytes(b"<svg xmlns=\"http://www.w3.org/2000/svg\" width=\"1200\" height=\""),
         Piece::Number(height),
@@ -107,8 +107,8 @@ fn add_head<S: Sink>(
     to.bytes(b"</text>\n")
 }
 
-/// What is free below the frames, in pixels.
-const BELOW: u128 = 32;
+/// What is free above and below the frames, in pixels.
+const AROUND: u128 = 80;
 
 /// How many parts of a second are printed.
 const MILLIONTHS: u128 = 1_000_000;
@@ -154,12 +154,12 @@ fn add_foot<S: Sink>(to: &mut Text<S>, levels: usize, left: u128) -> Result<(), 
 {
     to.pieces(&[
         Piece::Bytes(b"<text x=\"10\" y=\""),
-        Piece::Number(ABOVE + FOOT + levels as u128 * LEVEL),
+        Piece::Number(FOOT + levels as u128 * LEVEL),
         Piece::Bytes(b"\">Frames narrower than 0.1 pixels, which are left out: "),
         Piece::Number(left),
         Piece::Bytes(b"</text>\n</svg>\n"),
     ])
 }
 
-/// How far below the frames the last line stands, in pixels.
-const FOOT: u128 = 20;
+/// Where the last line stands if there are no frames, in pixels from the upper end of the picture.
+const FOOT: u128 = 68;

@@ -78,3 +78,36 @@ fn add_xml_byte<S: Sink>(to: &mut Text<S>, byte: u8) -> Result<(), WriteFault>
         to.bytes(&REPLACEMENT)
     }
 }
+
+#[cfg(test)]
+mod tests {
+    use super::*;
+    use std::test::Fail;
+    use xray_io::MemSink;
+
+    /// Names, how many characters there is room for, and what is printed.
+    const NAMES: [(&[u8], usize, &str); 9] = [
+        (b"main", 4, "main"),
+        (b"main", 3, "m.."),
+        (b"a<b>", 9, "a&lt;b&gt;"),
+        (b"a&b", 9, "a&amp;b"),
+        (b"\"quoted\"", 9, "&quot;quoted&quot;"),
+        (b"a[0]]>", 9, "a[0]]&gt;"),
+        (b"\x01\t\x7F", 9, "\u{fffd}\u{fffd}\u{fffd}"),
+        (b"\xC3\xA9", 9, "\u{fffd}\u{fffd}"),
+        (b"a&&&&", 4, "a&amp;.."),
+    ];
+
+    #[test]
+    fn names_are_escaped_and_cut(rt: HostRuntime) -> Result<(), Fail> {
+        let alloc = rt.alloc();
+        for (name, room, wanted) in &NAMES {
+            let mut sink = MemSink::new(alloc, Vec::new(alloc));
+            let mut text = Text::new(&mut sink);
+            add_shortened(&mut text, *room, name)?;
+            text.done()?;
+            assert_eq!(rt; std::str::from_utf8(sink.bytes())?, *wanted);
+        }
+        Ok(())
+    }
+}

@@ -32,3 +32,20 @@ fn unit_of(total: u128) -> u128
 {
     if total < LARGE { 1 } else { LARGE_UNIT }
 }
+
+#[cfg(test)]
+mod tests {
+    use super::*;
+
+    /// Half of the cycles that can be counted.
+    const HALF: u128 = 1 << 127;
+
+    #[test]
+    fn places_are_rounded_down(rt: HostRuntime) {
+        assert_eq!(rt; thousandths_at(35, 25), 842_857);
+        assert_eq!(rt; thousandths_at(35, 35), 1_180_000);
+        assert_eq!(rt; thousandths_at(0, 0), 0);
+        assert_eq!(rt; thousandths_at(u128::MAX, HALF), 590_000);
+        assert_eq!(rt; thousandths_at(u128::MAX, u128::MAX), 1_180_000);
+    }
+}

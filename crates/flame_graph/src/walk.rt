@@ -25,7 +25,7 @@ const LEAST_WIDTH: u128 = 100;
 pub(crate) const LEVEL: u128 = 16;
 
 /// What is free above the frames, in pixels.
-pub(crate) const ABOVE: u128 = 48;
+const ABOVE: u128 = 48;
 
 /// What is drawn, and what is known of all rows.
 #[derive(Drop)]

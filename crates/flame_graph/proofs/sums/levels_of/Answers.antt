@@ -7,7 +7,7 @@ use Rattle.flame_graph.proofs.sums.levels_of.Goals as goal
 
 pub rows-preserved : goal.rows-preserved
 rows-preserved c =
-    c.longer.ensures
+    c.longer-levels.ensures
     ∙ (ap (λ (n : ℕ). max n (length c.row-item.result.path.items)) c.rows.invariant
     ∙ sym (longer_step c.args.rows.now c.rows.row-index c.row-item.result c.rows-test.true c.row-item.is))
 
