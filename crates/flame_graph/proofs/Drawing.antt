@@ -22,9 +22,9 @@ is_wide rows frame few wide =
 
 -- what is printed of it
 pub text_none : (program : Option Program) (rows : List PathRow) (frame : List ℕ) → is_drawn rows frame ≡ false → frame_text program rows frame ≡ []
-text_none program rows frame no =
+text_none program rows frame misses =
     cond-false (is_drawn rows frame)
-    (line_text (left_of rows frame) (width_of rows frame) (top_of (levels_of rows) (length frame)) (func_of frame) (name_text program (func_of frame)) (calls_of rows frame)) [] no
+    (line_text (left_of rows frame) (width_of rows frame) (top_of (levels_of rows) (length frame)) (func_of frame) (name_text program (func_of frame)) (calls_of rows frame)) [] misses
 
 pub text_line : (program : Option Program) (rows : List PathRow) (frame : List ℕ) → is_drawn rows frame ≡ true
     → frame_text program rows frame ≡ line_text (left_of rows frame) (width_of rows frame) (top_of (levels_of rows) (length frame)) (func_of frame) (name_text program (func_of frame)) (calls_of rows frame)

@@ -63,14 +63,14 @@ none_in_drop frame (row ∷ rows) (suc at) each = none_in_drop frame rows at (λ
 pub is_new : (rows : List PathRow) (at n : ℕ) → Ascends rows → at < length rows → shared_at rows at ≤ n → n < length (path_at rows at)
     → is_begun (take at rows) (take (suc n) (path_at rows at)) ≡ false
 is_new rows zero n ascending within new few = refl
-is_new rows (suc last) n ascending within new few = none_in_take frame rows (suc last) (omega (arith, within)) each
+is_new rows (suc last) n ascending within new few = none_in_take (take (suc n) (path_at rows (suc last))) rows (suc last) (omega (arith, within)) each
   where
     not_last : begins (take (suc n) (path_at rows (suc last))) (path_at rows last) ≡ false
     not_last = shares_not n (path_at rows (suc last)) (path_at rows last) (let same = shared_comm (path_at rows last) (path_at rows (suc last)) in omega (arith, new, same)) few
 
     by_test : (i : ℕ) → i < last → (begins (take (suc n) (path_at rows (suc last))) (path_at rows i) ≡ true) ⊎ (begins (take (suc n) (path_at rows (suc last))) (path_at rows i) ≡ false)
         → begins (take (suc n) (path_at rows (suc last))) (path_at rows i) ≡ false
-    by_test i below (inr no) = no
+    by_test i below (inr misses) = misses
     by_test i below (inl is) =
         absurd (false≢true (sym not_last ∙ between (take (suc n) (path_at rows (suc last))) (path_at rows i) (path_at rows last) (path_at rows (suc last))
         (precedes_at rows i last ascending below (omega (arith, within))) (precedes_at rows last (suc last) ascending (omega arith) within) is
@@ -94,7 +94,7 @@ is_over rows at n ascending within over few = none_in_drop (take (suc n) (path_a
 
     by_test : (j : ℕ) → suc at < j → j < length rows → (begins (take (suc n) (path_at rows at)) (path_at rows j) ≡ true) ⊎ (begins (take (suc n) (path_at rows at)) (path_at rows j) ≡ false)
         → begins (take (suc n) (path_at rows at)) (path_at rows j) ≡ false
-    by_test j high inside (inr no) = no
+    by_test j high inside (inr misses) = misses
     by_test j high inside (inl is) =
         absurd (false≢true (sym not_next ∙ between (take (suc n) (path_at rows at)) (path_at rows at) (path_at rows (suc at)) (path_at rows j)
         (precedes_at rows at (suc at) ascending (omega arith) (omega (arith, high, inside))) (precedes_at rows (suc at) j ascending high inside)
@@ -266,11 +266,11 @@ pub left_step : (rows : List PathRow) (some : List (List ℕ)) (i : ℕ) (d fram
     → b ≡ capped (a + cond (is_drawn rows frame) 0 1) → b ≡ capped (before + count_left rows (take (i + 1) some))
 left_step rows some i d frame before a b within is so_far now =
     let more = sum_by_more (λ (f : List ℕ). cond (not (is_drawn rows f)) 1 0) some i d within in
-    let one = ap (λ (f : List ℕ). cond (not (is_drawn rows f)) 1 0) is in
+    let one = ap {B = ℕ} (λ (f : List ℕ). cond (not (is_drawn rows f)) 1 0) is in
     let same = other_way (is_drawn rows frame) in
     omega (arith, more, one, same, so_far, now)
   where
-    other_way : (t : Bool) → cond (not t) 1 0 ≡ cond t 0 1
+    other_way : (t : Bool) → let one : ℕ = cond (not t) 1 0 in let other : ℕ = cond t 0 1 in one ≡ other
     other_way true = refl
     other_way false = refl
 

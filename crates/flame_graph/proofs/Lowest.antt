@@ -18,7 +18,7 @@ use Rattle.flame_graph.proofs.Within.{left_le_right}
 
 -- ---- the lowest ones among some frames
 
-lowest_width : List PathRow → List (List ℕ) → ℕ
+pub lowest_width : List PathRow → List (List ℕ) → ℕ
 lowest_width rows some = sum_by (width_of rows) (filter is_lowest some)
 
 width_more : (rows : List PathRow) (some more : List (List ℕ)) → lowest_width rows (some ++ more) ≡ lowest_width rows some + lowest_width rows more

@@ -103,7 +103,7 @@ calls_none frame row (r ∷ rows) after begun longer =
     ∙ calls_none frame row rows after.1 begun longer
   where
     not_it : (is_frame frame r.path ≡ true) ⊎ (is_frame frame r.path ≡ false) → is_frame frame r.path ≡ false
-    not_it (inr no) = no
+    not_it (inr misses) = misses
     not_it (inl is) =
         let parts = and_parts (begins frame r.path) (eqb (length r.path) (length frame)) is in
         let whole : r.path ≡ frame = same_path frame r.path parts.0 (eqb-true (length r.path) (length frame) parts.1) in

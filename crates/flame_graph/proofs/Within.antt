@@ -26,7 +26,7 @@ begins_both (g ∷ outer) (f ∷ frame) (h ∷ path) on is =
 
 -- if the first row of several doesn't begin with a frame, but some do, a later one does
 begun_later : (frame : List ℕ) (row : PathRow) (rows : List PathRow) → begins frame row.path ≡ false → is_begun (row ∷ rows) frame ≡ true → is_begun rows frame ≡ true
-begun_later frame row rows no some = sym (ap (λ (t : Bool). t || is_begun rows frame) no) ∙ some
+begun_later frame row rows misses some = sym (ap (λ (t : Bool). t || is_begun rows frame) misses) ∙ some
 
 begun_outer : (outer frame : List ℕ) (rows : List PathRow) → begins outer frame ≡ true → is_begun rows frame ≡ true → is_begun rows outer ≡ true
 begun_outer outer frame [] on some = absurd (false≢true some)
@@ -34,7 +34,7 @@ begun_outer outer frame (row ∷ rows) on some = by_test (cases_Bool (begins fra
   where
     by_test : (begins frame row.path ≡ true) ⊎ (begins frame row.path ≡ false) → (is_begun rows frame ≡ true → is_begun rows outer ≡ true) → is_begun (row ∷ rows) outer ≡ true
     by_test (inl is) again = or_left (begins outer row.path) (is_begun rows outer) (begins_both outer frame row.path on is)
-    by_test (inr no) again = or_right (begins outer row.path) (is_begun rows outer) (again (begun_later frame row rows no some))
+    by_test (inr misses) again = or_right (begins outer row.path) (is_begun rows outer) (again (begun_later frame row rows misses some))
 
 -- a row between one that begins with a frame and later ones of which some do begins with it
 begins_between : (outer : List ℕ) (row next : PathRow) (rows : List PathRow) → IsBefore row next → AllByRecursion (IsBefore next) rows → begins outer row.path ≡ true
@@ -44,7 +44,7 @@ begins_between outer row next (r ∷ rows) before after begun some = by_test (ca
   where
     by_test : (begins outer r.path ≡ true) ⊎ (begins outer r.path ≡ false) → (is_begun rows outer ≡ true → begins outer next.path ≡ true) → begins outer next.path ≡ true
     by_test (inl is) again = between outer row.path next.path r.path before after.0 begun is
-    by_test (inr no) again = again (begun_later outer r rows no some)
+    by_test (inr misses) again = again (begun_later outer r rows misses some)
 
 -- ---- in cycles
 
@@ -58,7 +58,7 @@ weight_le outer frame rows on =
         let here = cond-true (begins frame r.path) r.own 0 is in
         let there = cond-true (begins outer r.path) r.own 0 (begins_both outer frame r.path on is) in
         omega (arith, here, there)
-    at_most r (inr no) = let here = cond-false (begins frame r.path) r.own 0 no in omega (arith, here)
+    at_most r (inr misses) = let here = cond-false (begins frame r.path) r.own 0 misses in omega (arith, here)
 
 -- after a row that begins with an outer frame, a frame ends within it
 ends_within : (outer frame : List ℕ) (row : PathRow) (rows : List PathRow) → begins outer frame ≡ true → begins outer row.path ≡ true
@@ -73,10 +73,10 @@ ends_within outer frame row (next ∷ rows) on begun after ascending some =
         let place = cond-true (begins frame next.path) 0 (next.own + place_of rows frame) is in
         let less = weight_le outer frame (next ∷ rows) on in
         omega (arith, place, less)
-    by_test (inr no) again =
-        let later = begun_later frame next rows no some in
-        let place = cond-false (begins frame next.path) 0 (next.own + place_of rows frame) no in
-        let none = cond-false (begins frame next.path) next.own 0 no in
+    by_test (inr misses) again =
+        let later = begun_later frame next rows misses some in
+        let place = cond-false (begins frame next.path) 0 (next.own + place_of rows frame) misses in
+        let none = cond-false (begins frame next.path) next.own 0 misses in
         let weight = weight_more frame next rows in
         let here = cond-true (begins outer next.path) next.own 0 (begins_between outer row next rows after.0 ascending.0 begun (begun_outer outer frame rows on later)) in
         let whole = weight_more outer next rows in
@@ -90,9 +90,9 @@ starts_within outer frame (row ∷ rows) on = by_test (cases_Bool (begins outer 
   where
     by_test : (begins outer row.path ≡ true) ⊎ (begins outer row.path ≡ false) → place_of rows outer ≤ place_of rows frame → place_of (row ∷ rows) outer ≤ place_of (row ∷ rows) frame
     by_test (inl is) again = let place = cond-true (begins outer row.path) 0 (row.own + place_of rows outer) is in omega (arith, place)
-    by_test (inr no) again =
-        let none = false_from_ne_true (begins frame row.path) (λ is. false≢true (sym no ∙ begins_both outer frame row.path on is)) in
-        let place = cond-false (begins outer row.path) 0 (row.own + place_of rows outer) no in
+    by_test (inr misses) again =
+        let none = false_from_ne_true (begins frame row.path) (λ is. false≢true (sym misses ∙ begins_both outer frame row.path on is)) in
+        let place = cond-false (begins outer row.path) 0 (row.own + place_of rows outer) misses in
         let other = cond-false (begins frame row.path) 0 (row.own + place_of rows frame) none in
         omega (arith, place, other, again)
 
@@ -110,23 +110,23 @@ frame_within outer frame (row ∷ rows) on ascending some =
         let place = cond-true (begins frame row.path) 0 (row.own + place_of rows frame) is in
         let less = weight_le outer frame (row ∷ rows) on in
         omega (arith, place, less)
-    by_tests (inr no) (inl begun) again =
-        let later = begun_later frame row rows no some in
-        let place = cond-false (begins frame row.path) 0 (row.own + place_of rows frame) no in
-        let none = cond-false (begins frame row.path) row.own 0 no in
+    by_tests (inr misses) (inl begun) again =
+        let later = begun_later frame row rows misses some in
+        let place = cond-false (begins frame row.path) 0 (row.own + place_of rows frame) misses in
+        let none = cond-false (begins frame row.path) row.own 0 misses in
         let weight = weight_more frame row rows in
         let here = cond-true (begins outer row.path) row.own 0 begun in
         let whole = weight_more outer row rows in
         let rest = ends_within outer frame row rows on begun ascending.0 ascending.1 later in
         omega (arith, place, none, weight, here, whole, rest)
-    by_tests (inr no) (inr nor) again =
-        let place = cond-false (begins frame row.path) 0 (row.own + place_of rows frame) no in
-        let none = cond-false (begins frame row.path) row.own 0 no in
+    by_tests (inr misses) (inr nor) again =
+        let place = cond-false (begins frame row.path) 0 (row.own + place_of rows frame) misses in
+        let none = cond-false (begins frame row.path) row.own 0 misses in
         let weight = weight_more frame row rows in
         let other = cond-false (begins outer row.path) 0 (row.own + place_of rows outer) nor in
         let neither = cond-false (begins outer row.path) row.own 0 nor in
         let whole = weight_more outer row rows in
-        let rest = again (begun_later frame row rows no some) in
+        let rest = again (begun_later frame row rows misses some) in
         omega (arith, place, none, weight, other, neither, whole, rest)
 
 -- ---- in thousandths of a pixel
