@@ -1,6 +1,6 @@
 -- Whether a frame is drawn, and where.
 use Rattle.std.proofs.Common.{◌≡◌, ◌∙◌, ◌<◌, ◌≤◌, ◌+◌, ◌-◌, ◌*◌, ◌^◌, Bool, true, false, cond, ℕ, List, [], length, min, refl, ap, sym, arith, leb}
-use Rattle.std.specs.Prelude.{◌&&◌, Option}
+use Rattle.std.specs.Prelude.{◌&&◌, Err, Ok, OnOk, Option, Result}
 use Rattle.std.proofs.lemmas.Bool.{and_from, and_left, and_right, cond-false, cond-true, le-leb, lt-leb}
 use Rattle.xray_image.specs.Program.{Program}
 use Rattle.function_names.specs.Name.{name_text}
@@ -38,3 +38,12 @@ start_within rows frame = let span = span_within frame rows in omega (arith, spa
 
 pub end_within : (rows : List PathRow) (frame : List ℕ) → end_of rows frame ≤ total_of rows
 end_within rows frame = let span = span_within frame rows in omega (arith, span)
+
+-- and it isn't counted with those that are left out
+pub not_left : (rows : List PathRow) (frame : List ℕ) (left : ℕ) → is_drawn rows frame ≡ true → left < 2 ^ 128 → left ≡ capped (left + cond (is_drawn rows frame) 0 1)
+not_left rows frame left is low = let none = ap {B = ℕ} (λ (t : Bool). cond t 0 1) is in omega (arith, none, low)
+
+-- what is true is true after a success
+pub on_ok_from : {T E P : Type 0} (result : Result T E) → P → OnOk result P
+on_ok_from (Ok value) is = is
+on_ok_from (Err error) is = tt

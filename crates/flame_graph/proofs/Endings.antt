@@ -308,3 +308,7 @@ next_stands rows at walk now standing = record {
       subst (λ (frame : List ℕ). IsKept rows frame (get_or walk.openings n no_opening)) (same_shared n (path_at rows at) (path_at rows (suc at)) (omega (arith, few, standing)))
       (now.kept n (omega (arith, few, standing, within)) low);
 }
+
+-- a frame of a row, as it is cut from the row's path
+pub frame_cut : (cut path : List ℕ) (outer : ℕ) → cut ≡ path → take (suc outer) path ≡ take (outer + 1) cut
+frame_cut cut path outer same = ap (λ (l : List ℕ). take (suc outer) l) (sym same) ∙ ap (λ (k : ℕ). take k cut) (sym (add-one outer))

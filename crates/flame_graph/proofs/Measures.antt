@@ -9,7 +9,7 @@ use Rattle.flame_graph.specs.Frames.{own_sum}
 use Rattle.flame_graph.specs.Picture.{longest}
 use Rattle.flame_graph.specs.private.Walking.{path_at, shared}
 
-told_at : (rows : List StackRow) (i : ℕ) (row : StackRow) → i < length rows → row ≡ get_or rows i row → get_or (map told rows) i (told row) ≡ told row
+pub told_at : (rows : List StackRow) (i : ℕ) (row : StackRow) → i < length rows → row ≡ get_or rows i row → get_or (map told rows) i (told row) ≡ told row
 told_at rows i row within is = get_or-map told rows i row (told row) within ∙ ap told (sym is)
 
 -- the sum over one row more

@@ -146,6 +146,7 @@ fn add_ended<S: Sink>(
     ensures left { OnOk result (left.new ≡ capped (left.old
         + count_left (map told picture.now.rows.now) (ended_at (map told picture.now.rows.now) at))) }
 {
+    let _before = *left;
     let path = picture.rows[at].path.as_slice();
     'frames: for outer in walk.standing..path.len() {
         add_frame(to, picture, &path[..outer + 1], walk, left)?;
@@ -171,14 +172,15 @@ fn add_frame<S: Sink>(
     ensures left { OnOk result (left.new ≡ capped (left.old
         + (if is_drawn (map told picture.now.rows.now) frame.now then 0 else 1))) }
 {
+    let before = *left;
     if frame.len() > MOST_LEVELS {
-        *left = left.saturating_add(1);
+        *left = before.saturating_add(1);
         return Ok(());
     }
     let opening = walk.openings[frame.len() - 1];
     let place = place_of(picture, frame, opening.start, walk.place);
     if place.width < LEAST_WIDTH {
-        *left = left.saturating_add(1);
+        *left = before.saturating_add(1);
         return Ok(());
     }
     let func = frame[frame.len() - 1];
