@@ -5,6 +5,7 @@ use Rattle.std.proofs.lemmas.Bool.{and_from, and_left, and_right, cond-false, co
 use Rattle.xray_image.specs.Program.{Program}
 use Rattle.function_names.specs.Name.{name_text}
 use Rattle.stack_rebuild.specs.Stacks.{PathRow}
+use Rattle.flame_graph.specs.declared.frame.Calls.{Calls}
 use Rattle.flame_graph.specs.FlameText.{frame_text, func_of, line_text, top_of}
 use Rattle.flame_graph.specs.Frames.{calls_of, capped, end_of, own_sum, place_of, start_of, total_of, weight_of}
 use Rattle.flame_graph.specs.Picture.{is_drawn, least_width, left_of, levels_of, most_levels, width_of}
@@ -47,3 +48,16 @@ not_left rows frame left is low = let none = ap {B = ℕ} (λ (t : Bool). cond t
 pub on_ok_from : {T E P : Type 0} (result : Result T E) → P → OnOk result P
 on_ok_from (Ok value) is = is
 on_ok_from (Err error) is = tt
+
+-- the line with the frame's own place and calls is its text
+pub line_drawn : (program : Option Program) (rows : List PathRow) (frame : List ℕ) (left width top : ℕ) (calls : Calls) → is_drawn rows frame ≡ true → left ≡ left_of rows frame
+    → width ≡ width_of rows frame → top ≡ top_of (levels_of rows) (length frame) → calls ≡ calls_of rows frame
+    → line_text left width top (func_of frame) (name_text program (func_of frame)) calls ≡ frame_text program rows frame
+line_drawn program rows frame left width top calls is lefts widths tops all =
+    let func : ℕ = func_of frame in
+    let name : List ℕ = name_text program func in
+    ap (λ (n : ℕ). line_text n width top func name calls) lefts
+    ∙ (ap (λ (n : ℕ). line_text (left_of rows frame) n top func name calls) widths
+    ∙ (ap (λ (n : ℕ). line_text (left_of rows frame) (width_of rows frame) n func name calls) tops
+    ∙ (ap (λ (some : Calls). line_text (left_of rows frame) (width_of rows frame) (top_of (levels_of rows) (length frame)) func name some) all
+    ∙ sym (text_line program rows frame is))))

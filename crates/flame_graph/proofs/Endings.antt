@@ -114,7 +114,7 @@ found frame [] j within is = absurd (omega (arith, within))
 found frame (row ∷ rows) zero within is = or_left (begins frame row.path) (is_begun rows frame) is
 found frame (row ∷ rows) (suc j) within is = found frame rows j (omega (arith, within)) is
 
-shared_none : (path : List ℕ) → shared path [] ≡ 0
+pub shared_none : (path : List ℕ) → shared path [] ≡ 0
 shared_none [] = refl
 shared_none (f ∷ path) = refl
 

@@ -4,6 +4,7 @@ use Rattle.std.specs.Option.{option_map}
 use Rattle.std.proofs.lemmas.List.{length-map, length-take-le, take_all}
 use Rattle.xray_io.proofs.ItemTexts.{adds_broken, adds_next}
 use Rattle.xray_io.specs.Text.{AddsText, adds_nothing}
+use Rattle.stack_rebuild.specs.declared.stack_row.StackRow.{StackRow}
 use Rattle.stack_rebuild.specs.Stacks.{told}
 use Rattle.flame_graph.specs.FlameText.{frame_text}
 use Rattle.flame_graph.specs.Frames.{capped, end_of}
@@ -31,7 +32,8 @@ add_frame-requires-clause-kept g c = λ few.
     let cut = c.as_slice-path.result.now in
     let outer = c.frames.outer in
     let path = path_at rows c.args.at in
-    let same : cut ≡ path = c.as_slice-path.ensures.value ∙ sym (path_told all c.args.at c.index-picture-at.result c.requires.within c.index-picture-at.is) in
+    let same : cut ≡ path = c.as_slice-path.ensures.value
+    ∙ (ap (λ (r : StackRow). r.path.items) (sym c.index-picture-at.is) ∙ sym (path_told all c.args.at c.index-picture-at.result c.requires.within c.index-picture-at.is)) in
     let sizes = ap (λ (p : List ℕ). length p) same in
     let size : length (take (outer + 1) cut) ≡ outer + 1 = length-take-le (outer + 1) cut (omega (arith, c.frames-test.true)) in
     let at_end : outer ≡ length (take (outer + 1) cut) - 1 = omega (arith, size) in
@@ -47,7 +49,8 @@ add_frame-requires-clause-end g c =
     let cut = c.as_slice-path.result.now in
     let outer = c.frames.outer in
     let path = path_at rows c.args.at in
-    let same : cut ≡ path = c.as_slice-path.ensures.value ∙ sym (path_told all c.args.at c.index-picture-at.result c.requires.within c.index-picture-at.is) in
+    let same : cut ≡ path = c.as_slice-path.ensures.value
+    ∙ (ap (λ (r : StackRow). r.path.items) (sym c.index-picture-at.is) ∙ sym (path_told all c.args.at c.index-picture-at.result c.requires.within c.index-picture-at.is)) in
     let sizes = ap (λ (p : List ℕ). length p) same in
     let within : c.args.at < length rows = omega (arith, c.requires.within, length-map all told) in
     let over : shared_at rows (suc c.args.at) ≤ outer = omega (arith, c.requires.standing, c.frames.auto.outer) in
@@ -64,7 +67,8 @@ returns-in_err-add_frame-clause-adds g c =
     let cut = c.as_slice-path.result.now in
     let outer = c.frames.outer in
     let path = path_at rows c.args.at in
-    let same : cut ≡ path = c.as_slice-path.ensures.value ∙ sym (path_told all c.args.at c.index-picture-at.result c.requires.within c.index-picture-at.is) in
+    let same : cut ≡ path = c.as_slice-path.ensures.value
+    ∙ (ap (λ (r : StackRow). r.path.items) (sym c.index-picture-at.is) ∙ sym (path_told all c.args.at c.index-picture-at.result c.requires.within c.index-picture-at.is)) in
     let sizes = ap (λ (p : List ℕ). length p) same in
     let over : shared_at rows (suc c.args.at) ≤ outer = omega (arith, c.requires.standing, c.frames.auto.outer) in
     let few : outer < length path = omega (arith, c.frames-test.true, sizes) in
@@ -84,7 +88,8 @@ frames-preserved g c =
     let cut = c.as_slice-path.result.now in
     let outer = c.frames.outer in
     let path = path_at rows c.args.at in
-    let same : cut ≡ path = c.as_slice-path.ensures.value ∙ sym (path_told all c.args.at c.index-picture-at.result c.requires.within c.index-picture-at.is) in
+    let same : cut ≡ path = c.as_slice-path.ensures.value
+    ∙ (ap (λ (r : StackRow). r.path.items) (sym c.index-picture-at.is) ∙ sym (path_told all c.args.at c.index-picture-at.result c.requires.within c.index-picture-at.is)) in
     let sizes = ap (λ (p : List ℕ). length p) same in
     let over : shared_at rows (suc c.args.at) ≤ outer = omega (arith, c.requires.standing, c.frames.auto.outer) in
     let few : outer < length path = omega (arith, c.frames-test.true, sizes) in
@@ -106,7 +111,8 @@ returns-clause-adds g c =
     let rows = map told all in
     let text = frame_text (option_map (λ image. image.now) c.args.picture.now.image) rows in
     let some = ended_at rows c.args.at in
-    let same : c.as_slice-path.result.now ≡ path_at rows c.args.at = c.as_slice-path.ensures.value ∙ sym (path_told all c.args.at c.index-picture-at.result c.requires.within c.index-picture-at.is) in
+    let same : c.as_slice-path.result.now ≡ path_at rows c.args.at = c.as_slice-path.ensures.value
+    ∙ (ap (λ (r : StackRow). r.path.items) (sym c.index-picture-at.is) ∙ sym (path_told all c.args.at c.index-picture-at.result c.requires.within c.index-picture-at.is)) in
     let sizes = ap (λ (p : List ℕ). length p) same in
     let whole : take (c.frames.outer - c.args.walk.now.standing) some ≡ some =
     take_all (c.frames.outer - c.args.walk.now.standing) some (omega (arith, length-ended rows c.args.at, sizes, c.frames-test.false, c.requires.standing)) in
@@ -118,7 +124,8 @@ returns-clause-left g c =
     let all = c.args.picture.now.rows.now in
     let rows = map told all in
     let some = ended_at rows c.args.at in
-    let same : c.as_slice-path.result.now ≡ path_at rows c.args.at = c.as_slice-path.ensures.value ∙ sym (path_told all c.args.at c.index-picture-at.result c.requires.within c.index-picture-at.is) in
+    let same : c.as_slice-path.result.now ≡ path_at rows c.args.at = c.as_slice-path.ensures.value
+    ∙ (ap (λ (r : StackRow). r.path.items) (sym c.index-picture-at.is) ∙ sym (path_told all c.args.at c.index-picture-at.result c.requires.within c.index-picture-at.is)) in
     let sizes = ap (λ (p : List ℕ). length p) same in
     let whole : take (c.frames.outer - c.args.walk.now.standing) some ≡ some =
     take_all (c.frames.outer - c.args.walk.now.standing) some (omega (arith, length-ended rows c.args.at, sizes, c.frames-test.false, c.requires.standing)) in

@@ -9,5 +9,5 @@ pub returns-clause-stands : goal.returns-clause-stands
 returns-clause-stands g c =
     let rows = map told c.args.picture.now.rows.now in
     let walk = record c.open_row.new.walk { standing = c.shared_after.result } in
-    let open = record { place = c.open_row.ensures.place; kept = c.open_row.ensures.kept } in
-    on_ok_from c.add_ended.result (subst (λ (n : ℕ). Stands rows n walk) (sym (add-one c.args.at)) (next_stands rows c.args.at walk open c.shared_after.ensures))
+    let now = record { place = c.open_row.ensures.place; kept = c.open_row.ensures.kept } in
+    on_ok_from c.add_ended.result (subst (λ (n : ℕ). Stands rows n walk) (sym (add-one c.args.at)) (next_stands rows c.args.at walk now c.shared_after.ensures))
