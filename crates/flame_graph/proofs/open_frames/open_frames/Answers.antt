@@ -1,4 +1,4 @@
-use Rattle.std.proofs.Common.{◌≡◌, ◌≢◌, ◌∙◌, ◌<◌, ℕ, ap, arith, get_or-set_other, inl, inr, length, sym}
+use Rattle.std.proofs.Common.{◌≢◌, ◌∙◌, ◌<◌, ℕ, ap, arith, get_or-set_other, inl, inr, length, sym}
 use Rattle.std.proofs.lemmas.Bool.{cases_order}
 use Rattle.std.proofs.lemmas.Grind.{get_or-set_at}
 use Rattle.std.proofs.lemmas.List.{length-set}

@@ -1,6 +1,5 @@
-use Rattle.std.proofs.Common.{◌≡◌, ◌≤◌, ◌<◌, ◌*◌, ◌/◌, ◌^◌, ap, sym, subst, arith, refl, ℕ, ◌∙◌}
-use Rattle.flame_graph.specs.Picture.{unit_of}
-use Rattle.flame_graph.proofs.Scales.{few_units, part_of_width, unit_some, units_le}
+use Rattle.std.proofs.Common.{arith}
+use Rattle.flame_graph.proofs.Scales.{unit_some}
 use Rattle.flame_graph.proofs.scale.thousandths_at.Goals as goal
 
 pub nonzero_div-whole : goal.nonzero_div-whole

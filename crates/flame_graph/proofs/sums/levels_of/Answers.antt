@@ -1,7 +1,7 @@
 use Rattle.std.proofs.Common.{◌∙◌, arith, ap, length, max, sym, ℕ}
 use Rattle.stack_rebuild.specs.Stacks.{PathRow}
 use Rattle.std.specs.Prelude.{List}
-use Rattle.flame_graph.specs.Picture.{levels_of, longest}
+use Rattle.flame_graph.specs.Picture.{longest}
 use Rattle.flame_graph.proofs.Measures.{all_rows, longer_step}
 use Rattle.flame_graph.proofs.sums.levels_of.Goals as goal
 

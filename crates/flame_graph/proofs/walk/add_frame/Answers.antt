@@ -1,4 +1,4 @@
-use Rattle.std.proofs.Common.{◌≡◌, ◌<◌, ◌≤◌, List, ℕ, Ok, arith, length, map, subst, sym}
+use Rattle.std.proofs.Common.{◌<◌, ◌≤◌, List, ℕ, Ok, arith, length, map, subst, sym}
 use Rattle.std.specs.Option.{option_map}
 use Rattle.xray_io.specs.Text.{AddsText, adds_nothing}
 use Rattle.stack_rebuild.specs.Stacks.{told}

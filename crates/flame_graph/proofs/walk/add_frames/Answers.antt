@@ -1,4 +1,4 @@
-use Rattle.std.proofs.Common.{◌≡◌, ◌++◌, ◌<◌, ◌≤◌, List, ℕ, [], Ok, ap, arith, drop, length, rules, map, refl, subst, sym, ◌∙◌}
+use Rattle.std.proofs.Common.{◌++◌, ◌<◌, ◌≤◌, List, ℕ, [], Ok, ap, arith, length, rules, map, refl, subst, sym, ◌∙◌}
 use Rattle.std.specs.List.{flat_map}
 use Rattle.std.specs.Option.{option_map}
 use Rattle.std.proofs.lemmas.Grind.{flat_map-append}
@@ -6,7 +6,7 @@ use Rattle.std.proofs.lemmas.List.{length-map}
 use Rattle.xray_io.specs.Text.{AddsText, adds_failed, adds_more, adds_nothing, adds_within}
 use Rattle.stack_rebuild.specs.Stacks.{told}
 use Rattle.flame_graph.specs.FlameText.{frame_text}
-use Rattle.flame_graph.specs.Frames.{capped, frames}
+use Rattle.flame_graph.specs.Frames.{capped}
 use Rattle.flame_graph.specs.private.Walking.{count_left, ended_at}
 use Rattle.flame_graph.proofs.Endings.{frames_done, frames_more, left_more, stands_first, texts_more}
 use Rattle.flame_graph.proofs.Orders.{ascends}
