@@ -106,13 +106,16 @@ frame_text program rows frame =
 
 -- ---- the picture
 
--- what stands before the frames
-abbrev pub head_text : (frequency levels total : ℕ) → List ℕ
-head_text frequency levels total =
+-- what stands before the total
+abbrev pub start_text : (levels : ℕ) → List ℕ
+start_text levels =
     codes "<svg xmlns=\"http://www.w3.org/2000/svg\" width=\"1200\" height=\"" ++ decimal (height_of levels) ++ codes "\" viewBox=\"0 0 1200 "
     ++ decimal (height_of levels) ++ codes "\" font-family=\"monospace\" font-size=\"12\">\n<rect width=\"1200\" height=\"" ++ decimal (height_of levels)
-    ++ codes "\" fill=\"#f8f4e4\"/>\n<text x=\"600\" y=\"28\" font-size=\"17\" text-anchor=\"middle\">Flame graph: " ++ total_text frequency total
-    ++ codes "</text>\n"
+    ++ codes "\" fill=\"#f8f4e4\"/>\n<text x=\"600\" y=\"28\" font-size=\"17\" text-anchor=\"middle\">Flame graph: "
+
+-- what stands before the frames
+abbrev pub head_text : (frequency levels total : ℕ) → List ℕ
+head_text frequency levels total = start_text levels ++ total_text frequency total ++ codes "</text>\n"
 
 -- what stands after them
 abbrev pub foot_text : (levels left : ℕ) → List ℕ

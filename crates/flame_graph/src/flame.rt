@@ -3,7 +3,7 @@
 ghost use Rattle.std.specs.{Prelude.{◌≡◌, ◌^◌, ◌<◌, ◌≤◌, map}, Option.{option_map}};
 ghost use Rattle.stack_rebuild.specs.Stacks.{told};
 ghost use Rattle.xray_io.specs.{Text.{AddsText}, Writes.{WritesText}};
-ghost use Rattle.flame_graph.specs.FlameText.{flame_text, foot_text, head_text, seconds_text, total_text};
+ghost use Rattle.flame_graph.specs.FlameText.{flame_text, foot_text, head_text, seconds_text, start_text, total_text};
 ghost use Rattle.flame_graph.specs.{Frames.{AreStacks}, Laws.{LowestAddUp, NoneSticksOut}};
 
 use crate::sums::{levels_of, total_of};
@@ -89,6 +89,16 @@ fn add_head<S: Sink>(
     ensures { AddsText S.written S.faults S.along to.old to.new
         (head_text frequency levels total) result }
 {
+    add_start(to, levels)?;
+    add_total(to, u128::from(frequency), total)?;
+    to.bytes(b"</text>\n")
+}
+
+/// Adds what stands before the total.
+fn add_start<S: Sink>(to: &mut Text<S>, levels: usize) -> Result<(), WriteFault>
+    requires { levels ≤ 4096 }
+    ensures { AddsText S.written S.faults S.along to.old to.new (start_text levels) result }
+{
     let height = AROUND + levels as u128 * LEVEL;
     to.pieces(&[
         Piece::Bytes(b"<svg xmlns=\"http://www.w3.org/2000/svg\" width=\"1200\" height=\""),
@@ -102,9 +112,7 @@ fn add_head<S: Sink>(
         Piece::Bytes(
             b"\" fill=\"#f8f4e4\"/>\n<text x=\"600\" y=\"28\" font-size=\"17\" text-anchor=\"middle\">Flame graph: ",
         ),
-    ])?;
-    add_total(to, u128::from(frequency), total)?;
-    to.bytes(b"</text>\n")
+    ])
 }
 
 /// What is free above and below the frames, in pixels.
