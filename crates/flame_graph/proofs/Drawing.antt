@@ -1,13 +1,13 @@
 -- Whether a frame is drawn, and where.
-use Rattle.std.proofs.Common.{◌≡◌, ◌∙◌, ◌<◌, ◌≤◌, ◌+◌, ◌-◌, ◌*◌, ◌^◌, Bool, true, false, cond, ℕ, List, [], length, min, refl, ap, sym, arith, leb}
-use Rattle.std.specs.Prelude.{◌&&◌, Err, Ok, OnOk, Option, Result}
+use Rattle.std.proofs.Common.{◌≡◌, ◌∙◌, ◌<◌, ◌≤◌, ◌+◌, ◌^◌, Bool, true, false, cond, ℕ, List, [], length, ap, sym, arith, leb}
+use Rattle.std.specs.Prelude.{Err, Ok, OnOk, Option, Result}
 use Rattle.std.proofs.lemmas.Bool.{and_from, and_left, and_right, cond-false, cond-true, le-leb, lt-leb}
 use Rattle.xray_image.specs.Program.{Program}
 use Rattle.function_names.specs.Name.{name_text}
 use Rattle.stack_rebuild.specs.Stacks.{PathRow}
 use Rattle.flame_graph.specs.declared.frame.Calls.{Calls}
 use Rattle.flame_graph.specs.FlameText.{frame_text, func_of, line_text, top_of}
-use Rattle.flame_graph.specs.Frames.{calls_of, capped, end_of, own_sum, place_of, start_of, total_of, weight_of}
+use Rattle.flame_graph.specs.Frames.{calls_of, capped, end_of, start_of, total_of}
 use Rattle.flame_graph.specs.Picture.{is_drawn, least_width, left_of, levels_of, most_levels, width_of}
 use Rattle.flame_graph.proofs.Spans.{span_within}
 

@@ -1,12 +1,12 @@
 -- Which frames open at a row, and which end there.
-use Rattle.std.proofs.Common.{◌≡◌, ◌⊎◌, ◌∙◌, ◌<◌, ◌≤◌, ◌+◌, ◌-◌, add-one, Bool, true, false, cond, not, ℕ, zero, suc, List, [], ◌∷◌, ◌++◌, length, map, filter, take, drop, get_or, min, refl, ap, sym, subst, arith, inl, inr, eqb, ltb}
+use Rattle.std.proofs.Common.{◌≡◌, ◌⊎◌, ◌∙◌, ◌<◌, ◌≤◌, ◌+◌, ◌-◌, add-one, Bool, true, false, cond, not, ℕ, zero, suc, List, [], ◌∷◌, ◌++◌, length, map, filter, take, drop, get_or, refl, ap, sym, subst, arith, inl, inr, eqb}
 use Rattle.std.specs.List.{AllByRecursion, flat_map}
 use Rattle.std.proofs.lemmas.Bool.{cases_Bool, cases_order, cond-false, cond-true, false≢true, not_from_false, not_from_true, or_from, or_left}
 use Rattle.std.proofs.lemmas.Grind.{flat_map-append}
 use Rattle.std.proofs.lemmas.List.{append-nil, append_assoc, drop-map, drop_all, get_or-drop, get_or-map, get_or_default, length-drop, length-map, length-take-le}
 use Rattle.std.proofs.lemmas.List.Sums.{sum_by-append, sum_by_more}
 use Rattle.stack_rebuild.specs.Stacks.{PathRow}
-use Rattle.flame_graph.specs.Frames.{Precedes, prefixes, begins, calls_in, calls_of, capped, end_of, frames, is_begun, no_calls, own_sum, place_of, start_of, weight_of}
+use Rattle.flame_graph.specs.Frames.{Precedes, prefixes, begins, calls_in, calls_of, capped, end_of, frames, is_begun, no_calls, own_sum, place_of, weight_of}
 use Rattle.flame_graph.specs.Picture.{is_drawn, most_levels}
 use Rattle.flame_graph.specs.private.Walking.{AreKept, IsKept, IsOpen, Stands, count_left, ended_at, no_opening, opened, path_at, shared, shared_at}
 use Rattle.flame_graph.specs.declared.frame.Opening.{Opening}

@@ -1,5 +1,5 @@
 -- The widths of the lowest row of frames add up to the whole.
-use Rattle.std.proofs.Common.{◌≡◌, ◌∙◌, ◌<◌, ◌≤◌, ◌+◌, ◌-◌, ◌/◌, ◌*◌, ℕ, zero, suc, List, [], ◌∷◌, ◌++◌, drop, filter, length, map, refl, ap, sym, take, arith}
+use Rattle.std.proofs.Common.{◌≡◌, ◌∙◌, ◌<◌, ◌+◌, ℕ, zero, suc, List, [], ◌∷◌, ◌++◌, drop, filter, length, map, refl, ap, sym, take, arith}
 use Rattle.std.specs.Prelude.{sum_by}
 use Rattle.std.specs.List.{AllByRecursion}
 use Rattle.std.proofs.lemmas.Bool.{cond-false, ne_eqb}
@@ -7,9 +7,9 @@ use Rattle.std.proofs.lemmas.List.{drop-map, drop_all, take_all}
 use Rattle.std.proofs.lemmas.List.Elements.{filter-append}
 use Rattle.std.proofs.lemmas.List.Sums.{sum_by-append, sum_by-cons}
 use Rattle.stack_rebuild.specs.Stacks.{PathRow}
-use Rattle.flame_graph.specs.Frames.{AreStacks, prefixes, capped, end_of, frames, own_sum, start_of, total_of}
+use Rattle.flame_graph.specs.Frames.{AreStacks, prefixes, capped, end_of, frames, own_sum, total_of}
 use Rattle.flame_graph.specs.Laws.{LowestAddUp, is_lowest}
-use Rattle.flame_graph.specs.Picture.{across, left_of, right_of, thousandths_at, width_of}
+use Rattle.flame_graph.specs.Picture.{left_of, right_of, thousandths_at, width_of}
 use Rattle.flame_graph.specs.private.Walking.{ended_at, path_at, shared_at}
 use Rattle.flame_graph.proofs.Endings.{closes_at, frames_from, is_row, no_row, opens_at, row_path}
 use Rattle.flame_graph.proofs.Orders.{Ascends, ascends, same_shared}

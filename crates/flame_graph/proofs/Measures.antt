@@ -1,6 +1,6 @@
 -- What is known of all rows, row by row; and how much two paths share, function by function.
-use Rattle.std.proofs.Common.{◌≡◌, ◌≢◌, ◌∙◌, ◌<◌, ◌≤◌, ◌+◌, ℕ, zero, suc, List, [], ◌∷◌, length, map, take, get_or, max, min, refl, ap, sym, arith, add-one, Bool, true, false, cond, eqb}
-use Rattle.std.proofs.lemmas.Bool.{eq-eqb, eqb-true, ne_eqb}
+use Rattle.std.proofs.Common.{◌≡◌, ◌∙◌, ◌<◌, ◌≤◌, ◌+◌, ℕ, zero, suc, List, [], ◌∷◌, length, map, take, get_or, max, refl, ap, sym, arith, add-one, Bool, true, false, cond, eqb}
+use Rattle.std.proofs.lemmas.Bool.{eq-eqb, ne_eqb}
 use Rattle.std.proofs.lemmas.List.{get_or-map, length-map, take_all}
 use Rattle.std.proofs.lemmas.List.Sums.{sum_by_more}
 use Rattle.stack_rebuild.specs.declared.stack_row.StackRow.{StackRow}

@@ -1,6 +1,6 @@
 -- Places in units, and in thousandths of a pixel.
-use Rattle.std.proofs.Common.{◌≡◌, ◌<◌, ◌≤◌, ◌+◌, ◌*◌, ◌/◌, ◌^◌, ◌∙◌, ℕ, zero, suc, refl, ap, sym, subst, arith, Bool, true, false, ltb, cond}
-use Rattle.std.proofs.Math.Nat.{div-le_of_le-mul, div-zero, mul-div_cancel_left, zero-div, le-div_iff_mul-le, div-mul-le_self, mul-le-mul_left, mul-le-mul_right, mul_comm, le_trans}
+use Rattle.std.proofs.Common.{◌≡◌, ◌<◌, ◌≤◌, ◌*◌, ◌/◌, ◌^◌, ◌∙◌, ℕ, zero, suc, refl, ap, arith, Bool, true, false, ltb, cond}
+use Rattle.std.proofs.Math.Nat.{div-le_of_le-mul, div-zero, mul-div_cancel_left, zero-div, le-div_iff_mul-le, div-mul-le_self, mul-le-mul_right}
 use Rattle.std.proofs.lemmas.Bool.{ltb-true, ltb-false}
 use Rattle.flame_graph.specs.Picture.{across, thousandths_at, unit_of}
 

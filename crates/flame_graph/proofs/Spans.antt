@@ -1,11 +1,10 @@
 -- Where a frame begins and ends, by the rows before and after one of its rows.
-use Rattle.std.proofs.Common.{◌≡◌, ◌⊎◌, ◌∙◌, ◌<◌, ◌≤◌, ◌+◌, Bool, true, false, cond, ℕ, zero, suc, List, [], ◌∷◌, ◌++◌, length, take, refl, ap, sym, subst, arith, inl, inr, eqb}
-use Rattle.std.specs.Prelude.{sum_by, ◌&&◌}
-use Rattle.std.specs.List.{AllByRecursion, list_any}
-use Rattle.std.proofs.lemmas.Bool.{and_from, and_left, and_parts, and_right, cases_Bool, cond-false, cond-true, eq-eqb, eqb-true, false≢true, false_from_ne_true, ne_eqb, or_from, or_parts}
+use Rattle.std.proofs.Common.{◌≡◌, ◌⊎◌, ◌∙◌, ◌≤◌, ◌+◌, Bool, true, false, cond, ℕ, List, [], ◌∷◌, ◌++◌, length, refl, ap, sym, subst, arith, inl, inr, eqb}
+use Rattle.std.specs.Prelude.{◌&&◌}
+use Rattle.std.specs.List.{AllByRecursion}
+use Rattle.std.proofs.lemmas.Bool.{and_from, and_left, and_parts, and_right, cases_Bool, cond-false, cond-true, eq-eqb, eqb-true, false≢true, or_parts}
 use Rattle.std.proofs.lemmas.List.Sums.{sum_by-cons, sum_by-le-sum_by}
 use Rattle.stack_rebuild.specs.Stacks.{PathRow}
-use Rattle.flame_graph.specs.declared.frame.Calls.{Calls}
 use Rattle.flame_graph.specs.Frames.{Precedes, begins, calls_in, calls_of, is_begun, is_frame, no_calls, own_sum, place_of, weight_of}
 use Rattle.flame_graph.proofs.Orders.{Ascends, IsBefore, between, no_prefix_after}
 

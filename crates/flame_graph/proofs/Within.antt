@@ -1,12 +1,12 @@
 -- No frame sticks out of one that it begins with.
-use Rattle.std.proofs.Common.{◌≡◌, ◌⊎◌, ◌∙◌, ◌<◌, ◌≤◌, ◌+◌, ◌-◌, Bool, true, false, cond, ℕ, List, [], ◌∷◌, ◌++◌, filter, length, not, refl, ap, sym, arith, inl, inr}
+use Rattle.std.proofs.Common.{◌≡◌, ◌⊎◌, ◌∙◌, ◌≤◌, ◌+◌, ◌-◌, Bool, true, false, cond, ℕ, List, [], ◌∷◌, filter, length, not, refl, ap, sym, arith, inl, inr}
 use Rattle.std.specs.Prelude.{◌||◌, All}
 use Rattle.std.specs.List.{AllByRecursion}
 use Rattle.std.proofs.lemmas.Bool.{cases_Bool, cond-false, cond-true, false≢true, false_from_ne_true, or_left, or_right}
 use Rattle.std.proofs.lemmas.List.Elements.{All-append, All-cons, All-filter, All-map, All-nil, All-weaker}
 use Rattle.std.proofs.lemmas.List.Sums.{sum_by-le-sum_by}
 use Rattle.stack_rebuild.specs.Stacks.{PathRow}
-use Rattle.flame_graph.specs.Frames.{AreStacks, prefixes, begins, capped, end_of, frames, is_begun, place_of, start_of, total_of, weight_of}
+use Rattle.flame_graph.specs.Frames.{AreStacks, prefixes, begins, end_of, frames, is_begun, place_of, start_of, total_of, weight_of}
 use Rattle.flame_graph.specs.Laws.{IsWithin, NoneSticksOut, below}
 use Rattle.flame_graph.specs.Picture.{left_of, right_of}
 use Rattle.flame_graph.proofs.Orders.{Ascends, IsBefore, ascends, begins_first, begins_more, begins_take, between}

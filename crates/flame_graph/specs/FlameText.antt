@@ -1,5 +1,5 @@
 -- The text of a flame graph: a picture in SVG, with a line for each frame that is drawn.
-use Rattle.std.specs.Prelude.{◌+◌, ◌-◌, ◌*◌, ◌/◌, ◌%◌, ◌==◌, ◌&&◌, Bool, ℕ, List, [], ◌∷◌, ◌++◌, codes, decimal, length, nat_le, nat_lt, slice_index, take, Option, if◌then◌else◌}
+use Rattle.std.specs.Prelude.{◌+◌, ◌-◌, ◌*◌, ◌/◌, ◌%◌, ◌==◌, ◌&&◌, ℕ, List, [], ◌∷◌, ◌++◌, codes, decimal, length, nat_le, nat_lt, slice_index, take, Option, if◌then◌else◌}
 use Rattle.std.specs.List.{flat_map}
 use Rattle.xray_image.specs.Program.{Program}
 use Rattle.function_names.specs.Name.{name_text}

@@ -1,7 +1,5 @@
 -- Where a frame is drawn. Lengths are in pixels, or in thousandths of a pixel where a name says so.
-use Rattle.std.specs.Prelude.{◌+◌, ◌-◌, ◌*◌, ◌/◌, ◌%◌, ◌^◌, ◌&&◌, Bool, not, ℕ, List, [], ◌∷◌, ◌++◌, length, max, min, map, filter, nat_le, nat_lt, count_by, if◌then◌else◌}
-use Rattle.std.specs.Fmt.{decimal}
-use Rattle.std.specs.Prelude.{codes}
+use Rattle.std.specs.Prelude.{◌-◌, ◌*◌, ◌/◌, ◌^◌, ◌&&◌, Bool, not, ℕ, List, [], ◌∷◌, length, max, min, nat_le, nat_lt, count_by, if◌then◌else◌}
 use Rattle.stack_rebuild.specs.Stacks.{PathRow}
 use Rattle.flame_graph.specs.Frames.{capped, end_of, frames, start_of, total_of}
 

@@ -1,9 +1,8 @@
 -- One walk through the rows, in which a frame is open from its first row to its last.
-use Rattle.std.specs.Prelude.{◌≡◌, ◌+◌, ◌<◌, ◌≤◌, ◌==◌, Bool, not, ℕ, zero, suc, List, [], ◌∷◌, drop, length, take, count_by, slice_index_or, if◌then◌else◌}
+use Rattle.std.specs.Prelude.{◌≡◌, ◌<◌, ◌==◌, not, ℕ, zero, suc, List, [], ◌∷◌, drop, length, take, count_by, slice_index_or, if◌then◌else◌}
 use Rattle.stack_rebuild.specs.Stacks.{PathRow}
-use Rattle.flame_graph.specs.Frames.{prefixes, calls_in, calls_of, capped, end_of, no_calls, own_sum, start_of}
+use Rattle.flame_graph.specs.Frames.{prefixes, calls_in, calls_of, capped, no_calls, own_sum, start_of}
 use Rattle.flame_graph.specs.Picture.{is_drawn, most_levels}
-use Rattle.flame_graph.specs.declared.frame.Calls.{Calls}
 use Rattle.flame_graph.specs.declared.frame.Opening.{Opening}
 use Rattle.flame_graph.specs.declared.walk.Walk.{Walk}
 

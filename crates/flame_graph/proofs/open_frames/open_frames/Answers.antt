@@ -13,11 +13,11 @@ opening-preserved c =
       whole = let same = length-set c.opening.openings c.opening.outer c.opening-in-opening.result in same ∙ c.opening.invariant.whole;
       stay = λ n few. let other : n ≢ c.opening.outer = omega (arith, few) in rw get_or-set_other (c.opening.invariant.stay n few);
       opened = λ n low up. elim (cases_order n c.opening.outer) [
-          inl same ↦ get_or-set_at c.opening.openings c.opening.outer n _ _ same within ∙ c.opening-in-opening.ensures
-              ∙ ap (λ (k : ℕ). opened (told c.args.row.now) c.args.start k) (sym same)
+        | inl same ↦ get_or-set_at c.opening.openings c.opening.outer n _ _ same within ∙ c.opening-in-opening.ensures
+            ∙ ap (λ (k : ℕ). opened (told c.args.row.now) c.args.start k) (sym same)
         | inr apart ↦ elim apart [
-            inl below ↦ (let other : n ≢ c.opening.outer = omega (arith, below) in rw get_or-set_other (c.opening.invariant.opened n low below))
+          | inl below ↦ (let other : n ≢ c.opening.outer = omega (arith, below) in rw get_or-set_other (c.opening.invariant.opened n low below))
           | inr above ↦ absurd (omega (arith, up, above))
-          ]
-        ];
+        ]
+      ];
     }

@@ -1,4 +1,4 @@
-use Rattle.std.proofs.Common.{◌++◌, List, ℕ, append_assoc, map, refl, sym}
+use Rattle.std.proofs.Common.{◌++◌, append_assoc, map, refl, sym}
 use Rattle.std.specs.List.{flat_map}
 use Rattle.std.specs.Option.{option_map}
 use Rattle.xray_io.specs.Text.{adds_failed, adds_more, adds_stop, adds_within}
