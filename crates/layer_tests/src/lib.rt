@@ -60,3 +60,5 @@ mod sled_values;
 mod stack_folds;
 #[cfg(test)]
 mod trace_files;
+#[cfg(test)]
+mod traces_without_process;
