@@ -5,6 +5,7 @@ It is written from docs/formats and docs/COMMANDS.md alone, and shares nothing w
 import collections
 import dataclasses
 
+import flame_model
 from image_model import Refused
 from trace_model import CONSTANT, ENTRIES, ENTRY_ARGS, NONSTOP, WORD_64
 
@@ -183,6 +184,10 @@ def stack_rows(threads):
 
 
 def stack_text(trace, image, options):
+    if options["format"] == "svg":
+        name_of = namer(image)
+        rows = [flame_model.PathRow(path, row.count, row.sum, row.own) for path, row in stacks_of(trace)]
+        return flame_model.flame_text(rows, lambda function: name_of(function).encode(), trace.header.frequency)
     return rows_text(stacks_of(trace), image, options)
 
 

@@ -1,0 +1,9 @@
+pub mod Drawing
+pub mod Endings
+pub mod Lowest
+pub mod Measures
+pub mod Orders
+pub mod Scales
+pub mod Sorted
+pub mod Spans
+pub mod Within
