@@ -256,7 +256,7 @@ fn command_lines_say_what_the_rows_say(rt: HostRuntime) -> Result<(), Fail> {
             rows = rows.wrapping_add(1);
         }
     }
-    check_same(&rt, &rows, &114);
+    check_same(&rt, &rows, &115);
     Ok(())
 }
 
