@@ -10,13 +10,46 @@ use xray_io::NoMemory;
 ///
 /// They are in the order of the paths. No clause says so, since the rows are sorted in any case,
 /// which takes little time if they are in order.
+///
+/// The tree is walked, and each number is exchanged with the one that stands at its place. So
+/// whatever the links say, each number stays there once.
 pub(crate) fn in_order(alloc: Global, nodes: &[Node]) -> Result<Vec<usize>, NoMemory>
     ensures { IfOk result (λ order. IsPermutation (range_with_len 0 (length nodes.now)) order.items) }
 {
-    let ranks = ranks(alloc, nodes)?;
     let mut order = numbers_below(alloc, nodes.len())?;
-    order.sort_unstable_by_key(|number| ranks.get(*number).copied());
+    let mut places = numbers_below(alloc, nodes.len())?;
+    let mut ahead = Vec::new(alloc);
+    ahead.push(0)?;
+    'walking: for place in 0..nodes.len() {
+        let Some(number) = ahead.pop() else {
+            break;
+        };
+        bring(&mut order, &mut places, number, place);
+        add_next(&mut ahead, nodes, number)?;
+    }
     Ok(order)
+}
+
+/// Exchanges a number with the one that stands at a place. `places` has the place of each number.
+fn bring(order: &mut Vec<usize>, places: &mut [usize], number: usize, place: usize)
+    ensures { IsPermutation order.old.items order.new.items }
+{
+    let Some(from) = places.get(number).copied() else {
+        return;
+    };
+    if from < order.len() && place < order.len() {
+        let other = order[place];
+        order.swap(from, place);
+        put_place(places, number, place);
+        put_place(places, other, from);
+    }
+}
+
+/// Notes the place of a number.
+fn put_place(places: &mut [usize], number: usize, place: usize) {
+    if let Some(noted) = places.get_mut(number) {
+        *noted = place;
+    }
 }
 
 /// The numbers below a count.
@@ -28,23 +61,6 @@ fn numbers_below(alloc: Global, count: usize) -> Result<Vec<usize>, NoMemory>
         numbers.push(number)?;
     }
     Ok(numbers)
-}
-
-/// For each number, how many paths come before its path.
-fn ranks(alloc: Global, nodes: &[Node]) -> Result<Vec<usize>, NoMemory> {
-    let mut ranks = vec![in alloc; 0; nodes.len()]?;
-    let mut ahead = Vec::new(alloc);
-    ahead.push(0)?;
-    'walking: for rank in 0..nodes.len() {
-        let Some(number) = ahead.pop() else {
-            break;
-        };
-        if let Some(place) = ranks.get_mut(number) {
-            *place = rank;
-        }
-        add_next(&mut ahead, nodes, number)?;
-    }
-    Ok(ranks)
 }
 
 /// Adds the numbers of the paths that go on from a path, from the last path to the first.
