@@ -14,7 +14,7 @@ use Rattle.command_words.specs.declared.report_options.SortColumn.TheVariants.{P
 use Rattle.command_words.specs.declared.report_options.SortOrder.{SortOrder}
 use Rattle.command_words.specs.declared.report_options.SortOrder.TheVariants.{Ascending, Descending}
 use Rattle.command_words.specs.declared.report_options.StackFormat.{StackFormat}
-use Rattle.command_words.specs.declared.report_options.StackFormat.TheVariants.{Human, Flame}
+use Rattle.command_words.specs.declared.report_options.StackFormat.TheVariants.{Human, Flame, Svg}
 
 -- a trace, and an image if one is named
 abbrev pub report_files_in : List (List ℕ) → Option (List ℕ × Option (List ℕ))
@@ -38,7 +38,7 @@ account_formats = Text ∷ Csv ∷ []
 
 -- the formats of stacks
 abbrev pub stack_formats : List StackFormat
-stack_formats = Human ∷ Flame ∷ []
+stack_formats = Human ∷ Flame ∷ Svg ∷ []
 
 -- the most rows that are printed: the number that is given, or none for all rows
 abbrev pub top_in : Line → Option (Option ℕ)

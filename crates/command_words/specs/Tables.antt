@@ -94,7 +94,7 @@ account_format_option =
 -- the form in which stacks are printed
 abbrev pub stack_format_option : OptionRow
 stack_format_option =
-    record { name = codes "format"; values = Listed (codes "human" ∷ codes "flame" ∷ []); default = Some 0 }
+    record { name = codes "format"; values = Listed (codes "human" ∷ codes "flame" ∷ codes "svg" ∷ []); default = Some 0 }
 
 -- the form that a trace is converted to
 abbrev pub convert_format_option : OptionRow

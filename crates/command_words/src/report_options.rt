@@ -64,6 +64,8 @@ pub enum StackFormat {
     Human,
     /// A line per stack, for tools that draw flame graphs.
     Flame,
+    /// A flame graph, as a picture in SVG.
+    Svg,
 }
 
 /// The options of an account.
@@ -135,7 +137,8 @@ pub(crate) fn stack_format_in(line: &Line<'_>) -> Option<StackFormat>
 {
     match STACK_FORMAT.number_in(line)? {
         0 => Some(StackFormat::Human),
-        _ => Some(StackFormat::Flame),
+        1 => Some(StackFormat::Flame),
+        _ => Some(StackFormat::Svg),
     }
 }
 

@@ -183,7 +183,7 @@ pub(crate) const ACCOUNT_FORMAT: OptionRow = OptionRow {
 /// The form in which stacks are printed.
 pub(crate) const STACK_FORMAT: OptionRow = OptionRow {
     name: "format",
-    values: Values::Listed(&["human", "flame"]),
+    values: Values::Listed(&["human", "flame", "svg"]),
     default: Some(0),
 };
 

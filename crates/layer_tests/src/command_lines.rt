@@ -119,6 +119,7 @@ account|t|--sort=sum|--sort=sum => none
 account => none
 stack|t => stack [t] None Human
 stack|t|i|--format=flame => stack [t] Some(\"i\") Flame
+stack|--format|svg|t => stack [t] None Svg
 stack|t|--format=yaml => none
 convert|t => convert [t] None
 convert|t|i|--format|yaml => convert [t] Some(\"i\")

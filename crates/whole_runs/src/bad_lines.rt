@@ -4,7 +4,7 @@ use crate::runs::{
 };
 use std::test::Fail;
 
-const BAD_LINES: [&str; 57] = [
+const BAD_LINES: [&str; 59] = [
     // No words, and commands with too few or too many names, or with an output named twice.
     "",
     "sim i s",
@@ -59,6 +59,8 @@ const BAD_LINES: [&str; 57] = [
     "plain i --threshold 1",
     // `stack` and `convert`.
     "stack t --format yaml",
+    "stack t --format svg --format svg",
+    "account t --format svg",
     "stack t --format=flame --format=flame",
     "stack t i i",
     "convert t --format flame",

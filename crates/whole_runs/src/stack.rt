@@ -22,8 +22,32 @@ const YAML_WITHOUT_PROCESS: &str = "---\nheader:\n  version: 2\n  type: 1\n  con
     - { type: 0, func-id: 1, function: 'main', cpu: 0, thread: 1, process: 0, kind: function-enter, tsc: 0 }\n  \
     - { type: 0, func-id: 1, function: 'main', cpu: 0, thread: 1, process: 0, kind: function-exit, tsc: 2 }\n...\n";
 
+/// The flame graph of no row, as `flame_model.py` has it.
+const PICTURE_OF_NONE: &str = "\
+    <svg xmlns=\"http://www.w3.org/2000/svg\" width=\"1200\" height=\"80\" viewBox=\"0 0 1200 80\" \
+    font-family=\"monospace\" font-size=\"12\">\n\
+    <rect width=\"1200\" height=\"80\" fill=\"#f8f4e4\"/>\n\
+    <text x=\"600\" y=\"28\" font-size=\"17\" text-anchor=\"middle\">Flame graph: 0 cycles</text>\n\
+    <text x=\"10\" y=\"68\">Frames narrower than 0.1 pixels, which are left out: 0</text>\n\
+    </svg>\n";
+
+/// That of two rows, whose outermost caller has none.
+const PICTURE_OF_RECURSION: &str = "\
+    <svg xmlns=\"http://www.w3.org/2000/svg\" width=\"1200\" height=\"128\" viewBox=\"0 0 1200 128\" \
+    font-family=\"monospace\" font-size=\"12\">\n\
+    <rect width=\"1200\" height=\"128\" fill=\"#f8f4e4\"/>\n\
+    <text x=\"600\" y=\"28\" font-size=\"17\" text-anchor=\"middle\">Flame graph: 35 cycles</text>\n\
+    <g><title>#1: count 0, sum 0, self 0</title><rect x=\"10.000\" y=\"80\" width=\"1180.000\" \
+    height=\"15\" rx=\"2\" fill=\"rgb(236,189,37)\"/><text x=\"13.000\" y=\"92\">#1</text></g>\n\
+    <g><title>#1: count 1, sum 35, self 25</title><rect x=\"10.000\" y=\"64\" width=\"1180.000\" \
+    height=\"15\" rx=\"2\" fill=\"rgb(236,189,37)\"/><text x=\"13.000\" y=\"76\">#1</text></g>\n\
+    <g><title>#1: count 1, sum 10, self 10</title><rect x=\"852.857\" y=\"48\" width=\"337.143\" \
+    height=\"15\" rx=\"2\" fill=\"rgb(236,189,37)\"/><text x=\"855.857\" y=\"60\">#1</text></g>\n\
+    <text x=\"10\" y=\"116\">Frames narrower than 0.1 pixels, which are left out: 0</text>\n\
+    </svg>\n";
+
 /// The parts of traces, words, and what is printed.
-const PRINTED: [Printed; 8] = [
+const PRINTED: [Printed; 10] = [
     (&ONE_CALL, "stack t i", TEXT_OF_ONE_CALL),
     (
         &RECURSION,
@@ -36,6 +60,8 @@ const PRINTED: [Printed; 8] = [
         "#1 3\n#1;#2 3\n#1;#2;#3 4\n",
     ),
     (&[HEADER], "stack --format flame t", ""),
+    (&[HEADER], "stack t --format svg", PICTURE_OF_NONE),
+    (&RECURSION, "stack t --format=svg", PICTURE_OF_RECURSION),
     (&ONE_CALL, "convert t i", YAML_OF_ONE_CALL),
     (
         &ONE_CALL_WITHOUT_PROCESS,

@@ -70,6 +70,7 @@ COMMANDS = [
     ["account", "trace", "image", "--sort=sum", "--sortorder=desc", "--format=csv"],
     ["stack", "trace", "image"],
     ["stack", "trace", "--format=flame"],
+    ["stack", "trace", "--format=svg"],
     ["convert", "trace", "image"],
 ]
 LIMITS = {

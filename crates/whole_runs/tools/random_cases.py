@@ -57,7 +57,7 @@ REPORT_VALUES = {
     "top": [0, 1, 2, 3, 10, LARGEST_32],
     "format": ["text", "csv"],
 }
-FORMATS = {"account": ["text", "csv"], "stack": ["human", "flame"], "convert": ["yaml"]}
+FORMATS = {"account": ["text", "csv"], "stack": ["human", "flame", "svg"], "convert": ["yaml"]}
 WRONG_REPORT_WORDS = [
     "--sort=func", "--sort", "--sort=", "--sort=Count", "--sortorder=dsc", "--sortorder=ascending", "--top=-1",
     "--top=4294967296",

@@ -112,9 +112,9 @@ FULL_DISK = [
     Row(
         "Each command that prints reports that standard output can't be written.",
         "for words in 'plain call.xrim' 'extract call.xrim' 'account TRACE' 'account TRACE call.xrim --format csv' \\\n"
-        "'stack TRACE' 'stack TRACE --format flame' 'convert TRACE' 'soak 7'\n"
+        "'stack TRACE' 'stack TRACE --format flame' 'stack TRACE --format svg' 'convert TRACE' 'soak 7'\n"
         "do xray ${words/TRACE/whole.small.trace} > /dev/full; echo $?; done",
-        "xray: output: write fault\n4\n" * 8,
+        "xray: output: write fault\n4\n" * 9,
     ),
 ]
 

@@ -5,6 +5,7 @@ It is written from docs/formats and docs/COMMANDS.md alone, and shares nothing w
 import collections
 import dataclasses
 
+import flame_model
 from image_model import Refused
 from trace_model import CONSTANT, ENTRIES, ENTRY_ARGS, NONSTOP, WORD_64
 
@@ -178,6 +179,9 @@ def stacks_of(trace):
 
 def stack_text(trace, image, options):
     name_of = namer(image)
+    if options["format"] == "svg":
+        rows = [flame_model.PathRow(path, row.count, row.sum, row.own) for path, row in stacks_of(trace)]
+        return flame_model.flame_text(rows, lambda function: name_of(function).encode(), trace.header.frequency)
     named = [(";".join(map(name_of, path)), row) for path, row in stacks_of(trace)]
     if options["format"] == "flame":
         return "".join(f"{path} {row.own}\n" for path, row in named)

@@ -120,7 +120,7 @@ FORMS = {
     "sim": Form(range(5, 6), (3, 4), TRACE_OPTIONS),
     "run": Form(range(4, 5), (2, 3), TRACE_OPTIONS),
     "account": Form(TRACE_AND_IMAGE, (), ACCOUNT_OPTIONS),
-    "stack": Form(TRACE_AND_IMAGE, (), {"format": Choice("human", "flame")}),
+    "stack": Form(TRACE_AND_IMAGE, (), {"format": Choice("human", "flame", "svg")}),
     "convert": Form(TRACE_AND_IMAGE, (), {"format": Choice("yaml")}),
     "soak": Form(range(1, 2), (), {}, {0: Numbers(0, LARGEST_64, None)}),
 }

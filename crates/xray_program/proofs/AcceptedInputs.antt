@@ -15,7 +15,6 @@ use Rattle.patch_script.specs.FaultWords.{script_words}
 use Rattle.patch_script.specs.Plans.{Plan, plan_of, waiting_line}
 use Rattle.stack_rebuild.specs.FaultWords.{deep_words}
 use Rattle.stack_rebuild.specs.Stacks.{deep_in, most_open, stack_of}
-use Rattle.stack_rebuild.specs.StackText.{stack_text}
 use Rattle.step_sim.specs.FaultWords.{schedule_words, waits_words}
 use Rattle.step_sim.specs.Schedules.{schedule_of}
 use Rattle.step_sim.specs.declared.turns.Turns.{Turns}
@@ -37,7 +36,7 @@ use Rattle.xray_program.specs.Run.{FollowsPlan}
 use Rattle.xray_program.specs.Setups.{setup_of}
 use Rattle.xray_program.specs.Sim.{Replayed, Replays}
 use Rattle.xray_program.specs.Soak.{IsSummary}
-use Rattle.xray_program.specs.Stack.{StacksCome, form_of}
+use Rattle.xray_program.specs.Stack.{StacksCome, stacks_text}
 use Rattle.xray_program.specs.Taking.{Form, Leaves, Prints, RefuseIf, Sound, Take, TakeMaybe}
 use Rattle.xray_program.specs.Traced.{Traces}
 use Rattle.xray_program.proofs.Meanings.{IsDecided, decided_by}
@@ -117,7 +116,7 @@ abbrev account_next : AccountOptions → Trace → Option Program → Outcome �
 account_next options t program outcome = outcome ≡ Done [] (account_report options t program)
 
 abbrev stack_next : StackFormat → Trace → Option Program → Outcome → Type 0
-stack_next format t program outcome = outcome ≡ Done [] (stack_text (form_of format) program (stack_of t.blocks))
+stack_next format t program outcome = outcome ≡ Done [] (stacks_text format program t)
 
 abbrev convert_next : Trace → Option Program → Outcome → Type 0
 convert_next t program outcome = outcome ≡ Done [] (yaml_text program t)

@@ -7,7 +7,6 @@ use Rattle.fdr_file.specs.declared.trace.Block.{Block}
 use Rattle.fdr_file.specs.declared.trace.Trace.{Trace}
 use Rattle.stack_rebuild.specs.FaultWords.{deep_words}
 use Rattle.stack_rebuild.specs.Stacks.{IsDeepFault, deep_in, most_open, stack_of, told}
-use Rattle.stack_rebuild.specs.StackText.{stack_text}
 use Rattle.stack_rebuild.specs.declared.stack_row.StackFault.{StackFault}
 use Rattle.stack_rebuild.specs.declared.stack_row.StackRow.{StackRow}
 use Rattle.xray_image.specs.Program.{Program}
@@ -15,9 +14,9 @@ use Rattle.xray_io.specs.Desk.{Entry}
 use Rattle.xray_program.specs.Commands.{TellsAll}
 use Rattle.xray_program.specs.Inputs.{image_form}
 use Rattle.xray_program.specs.Outcomes.{Outcome, Done}
-use Rattle.xray_program.specs.Stack.{StackComes, StacksCome, form_of}
+use Rattle.xray_program.specs.Stack.{StackComes, StacksCome, stacks_text}
 use Rattle.xray_program.specs.Taking.{Sound}
-use Rattle.xray_program.specs.private.Meant.{StacksMean}
+use Rattle.xray_program.specs.private.Meant.{RowsMean}
 use Rattle.xray_program.proofs.Meanings.{AnyOutcome, HoldsBytes, IsAlone, IsDecided, IsJudged, SomeOutcome, refuse_alone, some_refuse}
 use Rattle.xray_program.proofs.Reports.{report_alone, report_some}
 
@@ -25,7 +24,7 @@ abbrev reason : Trace → Option (List ℕ)
 reason t = option_map deep_words (deep_in most_open t.blocks)
 
 abbrev printed : StackFormat → Trace → Option Program → Outcome → Type 0
-printed format t program outcome = outcome ≡ Done [] (stack_text (form_of format) program (stack_of t.blocks))
+printed format t program outcome = outcome ≡ Done [] (stacks_text format program t)
 
 pub stack_alone : IsDecided image_form → (held : List ℕ → Entry) (trace : List ℕ) (image : Option (List ℕ)) (format : StackFormat)
     → TellsAll held → IsAlone AnyOutcome (StackComes Sound held trace image format)
@@ -37,7 +36,7 @@ pub stack_some : IsJudged image_form → (held : List ℕ → Entry) (trace : Li
     → TellsAll held → HoldsBytes held → SomeOutcome (StackComes Sound held trace image format)
 stack_some is held trace image format told holds =
     report_some is held trace image (λ t program. StacksCome trace format t program) told holds
-    (λ t program. some_refuse (reason t) trace (codes "trace") (printed format t program) (λ none. (Done [] (stack_text (form_of format) program (stack_of t.blocks)), refl)))
+    (λ t program. some_refuse (reason t) trace (codes "trace") (printed format t program) (λ none. (Done [] (stacks_text format program t), refl)))
 
 -- if no thread has too many calls open, its stacks come
 pub stack_prints : (trace : List ℕ) (format : StackFormat) (t : Trace) (program : Option Program) (outcome : Outcome)
@@ -49,11 +48,11 @@ pub stacks_kept : (Took : List Block → Type 0) (kept : Result (Vec StackRow Gl
     → IfOk kept (λ rows. (blocks : List Block) → Took blocks → map told rows.items ≡ stack_of blocks)
     → OnOk kept ((blocks : List Block) → Took blocks → deep_in most_open blocks ≡ None)
     → IfErr kept (λ fault. (blocks : List Block) → Took blocks → IsDeepFault fault (deep_in most_open blocks))
-    → Took t.blocks → StacksMean kept t
+    → Took t.blocks → RowsMean kept t
 stacks_kept Took (Ok rows) t are shallow deep took = (are t.blocks took, shallow t.blocks took)
 stacks_kept Took (Err fault) t are shallow deep took = deep t.blocks took
 
 -- what rows say of a trace, if they are what was kept of it
-pub stacks_told : (kept : Result (Vec StackRow Global) StackFault) (rows : Vec StackRow Global) (t : Trace) → kept ≡ Ok rows → StacksMean kept t
+pub stacks_told : (kept : Result (Vec StackRow Global) StackFault) (rows : Vec StackRow Global) (t : Trace) → kept ≡ Ok rows → RowsMean kept t
     → (map told rows.items ≡ stack_of t.blocks) × (deep_in most_open t.blocks ≡ None)
-stacks_told kept rows t is means = subst (λ k. StacksMean k t) is means
+stacks_told kept rows t is means = subst (λ k. RowsMean k t) is means

@@ -13,9 +13,13 @@ ghost use Rattle.xray_program.specs.Outcomes.{Outcome, status_of, written_by};
 ghost use Rattle.machine_step.specs.Setups.{IsSetup};
 ghost use Rattle.xray_program.specs.Traced.{IsReported};
 ghost use Rattle.command_words.specs.Words.{Command};
+ghost use Rattle.fdr_file.specs.declared.trace.Trace.{Trace};
+ghost use Rattle.flame_graph.specs.Laws.{LowestAddUp, NoneSticksOut};
+ghost use Rattle.stack_rebuild.specs.Stacks.{stack_of};
 
 use crate::drawn::each_input_is_read;
 use fdr_file::a_trace_is_read;
+use flame_graph::{no_frame_sticks_out, stacks_can_be_drawn, the_lowest_frames_add_up};
 use machine_step::{one_end, some_end, some_marks_follow};
 use patch_script::each_script_lets_threads_end;
 use step_sim::{one_run, some_run};
@@ -102,4 +106,16 @@ pub fn reports_take_a_run()
     a_run_is_traced();
     a_trace_is_short();
     a_trace_is_read();
+}
+
+/// In the picture that `stack --format svg` prints of a trace, no frame sticks out of that of its
+/// caller, and the widths of the lowest row add up to the whole, if any time was spent. Both are true
+/// of the numbers that are printed.
+pub fn pictures_add_up()
+    ensures within { (trace : Trace) → NoneSticksOut (stack_of trace.blocks) }
+    ensures lowest { (trace : Trace) → LowestAddUp (stack_of trace.blocks) }
+{
+    stacks_can_be_drawn();
+    no_frame_sticks_out();
+    the_lowest_frames_add_up();
 }

@@ -1,6 +1,7 @@
 //! `stack`: on which paths the functions of a trace were called, and for how long.
-ghost use Rattle.std.specs.Prelude.{◌≡◌, option_map};
-ghost use Rattle.xray_program.specs.Stack.{form_of};
+ghost use Rattle.std.specs.Prelude.{◌≡◌, map, option_map};
+ghost use Rattle.stack_rebuild.specs.Stacks.{told};
+ghost use Rattle.fdr_file.specs.declared.trace.Trace.{Trace};
 ghost use Rattle.xray_program.specs.private.Meant.{StacksMean};
 
 use crate::delivery::{NoOutputs, deliver};
@@ -13,10 +14,21 @@ use crate::trace_feed::TraceFeed;
 use crate::work::Work;
 use command_words::{StackFormat, TRACE_LIMIT};
 use fdr_file::Trace;
+use flame_graph::{FlameGraph, stacks_can_be_drawn};
 use stack_rebuild::{StackFault, StackFold, StackForm, StackRow, StackText};
 use std::alloc::Global;
 use trace_words::TraceRefusal;
-use xray_io::{Desk, Sink};
+use xray_image::Image;
+use xray_io::{Desk, Printed, Sink, Text, WriteFault};
+
+/// The stacks of a trace.
+#[derive(Drop)]
+pub(crate) struct TraceStacks {
+    /// How often the counter advances, in cycles a second, or 0.
+    frequency: u64,
+    /// The rows, or why there are none.
+    rows: Result<Vec<StackRow>, StackFault>,
+}
 
 /// A trace of which the stacks are made.
 #[derive(Drop)]
@@ -29,7 +41,7 @@ impl StreamKind for StackKind {
 
     type Pieces = TraceFeed<StackFold>;
 
-    type Value = Result<Vec<StackRow>, StackFault>;
+    type Value = TraceStacks;
 
     type Refusal = TraceRefusal;
 
@@ -53,9 +65,12 @@ impl StreamKind for StackKind {
         &self,
         _alloc: Global,
         feed: TraceFeed<StackFold>,
-    ) -> Result<Result<Vec<StackRow>, StackFault>, TraceRefusal> {
-        match feed.finish() {
-            Ok(fold) => Ok(fold.rows()),
+    ) -> Result<TraceStacks, TraceRefusal> {
+        match feed.finish_with_header() {
+            Ok((header, fold)) => Ok(TraceStacks {
+                frequency: header.frequency,
+                rows: fold.rows(),
+            }),
             Err(fault) => Err(TraceRefusal { fault }),
         }
     }
@@ -73,40 +88,41 @@ pub(crate) struct Stack<'a> {
 }
 
 impl<'a> Work<'a> for Stack<'a> {
-    ghost use Rattle.std.specs.Prelude.{⊤};
     ghost use Rattle.command_words.specs.Words as words;
     ghost use Rattle.xray_program.specs.Stack.{StacksCome};
     ghost use Rattle.xray_program.specs.private.ReportTakes.{ComesOfMeant};
 
-    type Inputs = ReportInputs<Result<Vec<StackRow>, StackFault>>;
+    type Inputs = ReportInputs<TraceStacks>;
 
     ghost says = { λ s. words.Stack s.trace.now (option_map (λ n. n.now) s.image) s.format };
 
     ghost yields = { λ s. ComesOfMeant StacksMean (StacksCome s.trace.now s.format) };
 
-    ghost fits = { λ _ _. ⊤ };
+    ghost fits = { λ _ inputs. (trace : Trace) × StacksMean inputs.log trace };
 
     fn take<D: Desk>(
         &self,
         alloc: Global,
         desk: &mut D,
-    ) -> Result<ReportInputs<Result<Vec<StackRow>, StackFault>>, Stop<'a>> {
+    ) -> Result<ReportInputs<TraceStacks>, Stop<'a>> {
         take_report(alloc, desk, self.trace, &StackKind, self.image)
     }
 
     fn finish<D: Desk, O: Sink>(
         &self,
         _alloc: Global,
-        inputs: &ReportInputs<Result<Vec<StackRow>, StackFault>>,
+        inputs: &ReportInputs<TraceStacks>,
         desk: &mut D,
         out: &mut O,
     ) -> Result<(), Stop<'a>> {
-        match &inputs.log {
+        match &inputs.log.rows {
             Ok(rows) => {
-                let text = StackText {
+                stacks_can_be_drawn();
+                let text = StackReport {
                     rows,
                     image: inputs.image.as_ref(),
-                    form: form_of(self.format),
+                    frequency: inputs.log.frequency,
+                    format: self.format,
                 };
                 deliver(desk, out, &NoOutputs, &text, None)
             }
@@ -115,12 +131,51 @@ impl<'a> Work<'a> for Stack<'a> {
     }
 }
 
-/// The form of stacks, as the report has it.
-fn form_of(format: StackFormat) -> StackForm
-    ensures { result ≡ form_of format }
-{
-    match format {
-        StackFormat::Human => StackForm::Human,
-        StackFormat::Flame => StackForm::Flame,
+/// Stacks in a format.
+#[derive(Clone, Copy)]
+struct StackReport<'a> {
+    rows: &'a [StackRow],
+    image: Option<&'a Image>,
+    /// How often the counter advances, in cycles a second, or 0.
+    frequency: u64,
+    format: StackFormat,
+}
+
+impl Printed for StackReport<'_> {
+    ghost use Rattle.flame_graph.specs.Frames.{AreStacks};
+    ghost use Rattle.xray_program.specs.Stack.{rows_text};
+
+    ghost text = { λ report. rows_text report.format report.frequency
+        (option_map (λ image. image.now) report.image) (map told report.rows.now) };
+
+    ghost ready = { λ report. AreStacks (map told report.rows.now) };
+
+    fn add_to<S: Sink>(&self, to: &mut Text<S>) -> Result<(), WriteFault> {
+        match self.format {
+            StackFormat::Human => self.in_lines(StackForm::Human).add_to(to),
+            StackFormat::Flame => self.in_lines(StackForm::Flame).add_to(to),
+            StackFormat::Svg => FlameGraph {
+                rows: self.rows,
+                image: self.image,
+                frequency: self.frequency,
+            }
+            .add_to(to),
+        }
+    }
+}
+
+impl<'a> StackReport<'a> {
+    /// The same with a line for each row.
+    fn in_lines(&self, form: StackForm) -> StackText<'a>
+        ensures form { result.form ≡ form }
+        ensures rows { result.rows.now ≡ self.now.rows.now }
+        ensures image { option_map (λ image. image.now) result.image
+            ≡ option_map (λ image. image.now) self.now.image }
+    {
+        StackText {
+            rows: self.rows,
+            image: self.image,
+            form,
+        }
     }
 }

@@ -4,7 +4,7 @@ ghost use Rattle.fdr_file.specs.declared.trace.Trace.{Trace};
 ghost use Rattle.fdr_file.specs.Traces.{trace_of};
 ghost use Rattle.xray_program.specs.private.TraceFeeds.{IsTraceFed};
 
-use fdr_file::{Taker, TraceFault, TraceScan};
+use fdr_file::{Header, Taker, TraceFault, TraceScan};
 use xray_io::{Feed, NoMemory};
 
 /// A trace that is scanned piece by piece, and what takes its blocks and events.
@@ -36,6 +36,21 @@ impl<K: Taker + Drop> TraceFeed<K> {
     {
         match self.scan.finish() {
             Ok(_) => Ok(self.taker),
+            Err(fault) => Err(fault),
+        }
+    }
+
+    /// The trace's header, and the taker, which took all blocks of the trace. The answer is an error
+    /// if the bytes aren't a trace.
+    pub(crate) fn finish_with_header(self) -> Result<(Header, K), TraceFault>
+        ensures takes { IfOk result (λ taken. (bytes : List ℕ) → IsTraceFed K.took self bytes →
+            (trace : Trace) × (taken.0 ≡ trace.header) × K.took taken.1 trace.blocks
+            × (trace_of bytes ≡ Ok trace)) }
+        ensures faults { IfErr result (λ fault. (bytes : List ℕ) → IsTraceFed K.took self bytes →
+            trace_of bytes ≡ Err fault) }
+    {
+        match self.scan.finish() {
+            Ok(header) => Ok((header, self.taker)),
             Err(fault) => Err(fault),
         }
     }

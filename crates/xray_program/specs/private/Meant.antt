@@ -12,16 +12,22 @@ use Rattle.stack_rebuild.specs.declared.stack_row.StackFault.{StackFault}
 use Rattle.stack_rebuild.specs.declared.stack_row.StackRow.{StackRow}
 use Rattle.xray_program.specs.Account.{is_descending, key_of}
 use Rattle.xray_program.specs.declared.account.AccountRows.{AccountRows}
+use Rattle.xray_program.specs.declared.stack.TraceStacks.{TraceStacks}
 
 -- the account of a trace, in the order and of the length that the options ask for
 pub record AccountMeans (options : AccountOptions) (account : AccountRows) (trace : Trace) : Type 0 where
   pub rows : account.rows.items ≡ arranged (key_of options.sort) (is_descending options.order) options.top (account_of trace.blocks)
   pub latencies : account.latencies ≡ latencies_of (account_of trace.blocks)
 
--- the stacks of a trace, or why there are none
-abbrev pub StacksMean : Result (Vec StackRow Global) StackFault → Trace → Type 0
-StacksMean (Ok rows) trace = (map told rows.items ≡ stack_of trace.blocks) × (deep_in most_open trace.blocks ≡ None)
-StacksMean (Err fault) trace = IsDeepFault fault (deep_in most_open trace.blocks)
+-- the rows of the stacks of a trace, or why there are none
+abbrev pub RowsMean : Result (Vec StackRow Global) StackFault → Trace → Type 0
+RowsMean (Ok rows) trace = (map told rows.items ≡ stack_of trace.blocks) × (deep_in most_open trace.blocks ≡ None)
+RowsMean (Err fault) trace = IsDeepFault fault (deep_in most_open trace.blocks)
+
+-- the stacks of a trace, with the frequency of its counter
+pub record StacksMean (stacks : TraceStacks) (trace : Trace) : Type 0 where
+  pub frequency : stacks.frequency ≡ trace.header.frequency
+  pub rows : RowsMean stacks.rows trace
 
 -- the bytes of a trace
 abbrev pub BytesMean : Vec ℕ Global → Trace → Type 0

@@ -1,13 +1,12 @@
-use Rattle.std.proofs.Common.{◌≡◌, ◌∙◌, List, [], None, Option, map, option_map, ap}
+use Rattle.std.proofs.Common.{◌≡◌, ◌∙◌, ℕ, List, [], None, Option, map, option_map, ap, refl, sym, subst}
 use Rattle.fdr_file.specs.declared.trace.Trace.{Trace}
+use Rattle.flame_graph.specs.Frames.{AreStacks}
 use Rattle.stack_rebuild.specs.declared.stack_row.StackRow.{StackRow}
-use Rattle.stack_rebuild.specs.declared.stack_text.StackForm.{StackForm}
 use Rattle.stack_rebuild.specs.Stacks.{PathRow, stack_of, told}
-use Rattle.stack_rebuild.specs.StackText.{stack_text}
 use Rattle.xray_image.specs.Program.{Program}
 use Rattle.xray_io.specs.World.{desk_view, sink_view}
 use Rattle.xray_program.specs.Outcomes.{Done}
-use Rattle.xray_program.specs.Stack.{StacksCome, form_of}
+use Rattle.xray_program.specs.Stack.{StacksCome, rows_text, stacks_text}
 use Rattle.xray_program.specs.private.Meant.{StacksMean}
 use Rattle.xray_program.specs.private.ReportTakes.{ComesOfMeant}
 use Rattle.xray_program.proofs.Endings.{finishes}
@@ -22,15 +21,22 @@ returns-in-Ok-clause-finishes g c =
     let inputs = c.args.inputs.now in
     let shown = option_map (λ image. image.now) c.as_ref.result in
     let rows = map told c.deref.result.now in
-    let text = stack_text c.form_of.result shown rows in
-    let same : (trace : Trace) → rows ≡ stack_of trace.blocks → text ≡ stack_text (form_of s.format) inputs.image (stack_of trace.blocks) =
-    λ trace are.
-    ap (λ (form : StackForm). stack_text form shown rows) c.form_of.ensures
-    ∙ (ap (λ (program : Option Program). stack_text (form_of s.format) program rows) c.as_ref.ensures.value
-    ∙ ap (λ (all : List PathRow). stack_text (form_of s.format) inputs.image all) are) in
+    let text = rows_text s.format inputs.log.frequency shown rows in
+    let same : (trace : Trace) → rows ≡ stack_of trace.blocks → inputs.log.frequency ≡ trace.header.frequency → text ≡ stacks_text s.format inputs.image trace =
+    λ trace are often.
+    ap (λ (program : Option Program). rows_text s.format inputs.log.frequency program rows) c.as_ref.ensures.value
+    ∙ (ap (λ (frequency : ℕ). rows_text s.format frequency inputs.image rows) often
+    ∙ ap (λ (all : List PathRow). rows_text s.format trace.header.frequency inputs.image all) are) in
     finishes (ComesOfMeant StacksMean (StacksCome s.trace.now s.format) inputs) [] text None (seen c.args.desk.now)
     (seen c.deliver.new.desk) (got c.args.out.now) (got c.deliver.new.out) (g.D.Desk.along c.args.desk.now c.deliver.new.desk) c.deliver.result
     (λ trace means.
-    let told_so = stacks_told inputs.log c.in-Ok.rows trace c.in-Ok.is means in
+    let told_so = stacks_told inputs.log.rows c.in-Ok.rows trace c.in-Ok.is means.rows in
     stack_prints s.trace.now s.format trace inputs.image _ told_so.1
-    (ap (Done []) (same trace (ap (λ (rs : List StackRow). map told rs) c.deref.ensures.value ∙ told_so.0)))) c.deliver.ensures.delivers
+    (ap (Done []) (same trace (ap (λ (rs : List StackRow). map told rs) c.deref.ensures.value ∙ told_so.0) means.frequency))) c.deliver.ensures.delivers
+
+pub deliver-requires : goal.deliver-requires
+deliver-requires g c =
+    let trace = c.requires.0 in
+    let told_so = stacks_told c.args.inputs.now.log.rows c.in-Ok.rows trace c.in-Ok.is c.requires.1.rows in
+    let are : map told c.deref.result.now ≡ stack_of trace.blocks = ap (λ (rs : List StackRow). map told rs) c.deref.ensures.value ∙ told_so.0 in
+    λ k. ((refl, tt), (tt, subst (λ (rs : List PathRow). AreStacks rs) (sym are) (c.stacks_can_be_drawn.ensures trace.blocks)))

@@ -1,0 +1,10 @@
+pub mod Drawing
+pub mod Endings
+pub mod Lowest
+pub mod Measures
+pub mod Orders
+pub mod Rows
+pub mod Scales
+pub mod Sorted
+pub mod Spans
+pub mod Within

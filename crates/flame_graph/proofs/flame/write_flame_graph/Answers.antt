@@ -1,0 +1,11 @@
+use Rattle.std.proofs.Common.{map}
+use Rattle.stack_rebuild.specs.Stacks.{told}
+use Rattle.flame_graph.proofs.Lowest.{lowest_add_up}
+use Rattle.flame_graph.proofs.Within.{none_sticks_out}
+use Rattle.flame_graph.proofs.flame.write_flame_graph.Goals as goal
+
+pub returns-clause-within : goal.returns-clause-within
+returns-clause-within g c = none_sticks_out (map told c.args.rows.now) c.requires
+
+pub returns-clause-adds_up : goal.returns-clause-adds_up
+returns-clause-adds_up g c = lowest_add_up (map told c.args.rows.now) c.requires

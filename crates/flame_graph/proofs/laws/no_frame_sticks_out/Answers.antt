@@ -1,0 +1,5 @@
+use Rattle.flame_graph.proofs.Within.{none_sticks_out}
+use Rattle.flame_graph.proofs.laws.no_frame_sticks_out.Goals as goal
+
+pub returns : goal.returns
+returns c = none_sticks_out

@@ -1,0 +1,5 @@
+use Rattle.std.proofs.Common.{append_assoc}
+use Rattle.flame_graph.proofs.line.add_baseline.Goals as goal
+
+pub returns : goal.returns
+returns g c = simp append_assoc c.pieces.ensures.adds

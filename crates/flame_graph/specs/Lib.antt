@@ -1,0 +1,5 @@
+pub mod Frames
+pub mod FlameText
+pub mod Laws
+pub mod Picture
+pub mod private

@@ -1,0 +1,24 @@
+//! Laws of flame graphs. Each law is the contract of a function that does nothing.
+
+ghost use Rattle.std.specs.Prelude.{List};
+ghost use Rattle.fdr_file.specs.declared.trace.Block.{Block};
+ghost use Rattle.stack_rebuild.specs.Stacks.{PathRow, stack_of};
+ghost use Rattle.flame_graph.specs.{Frames.{AreStacks}, Laws.{LowestAddUp, NoneSticksOut}};
+
+/// The stacks of blocks are in ascending order of their paths, each path once and with a function.
+/// So a flame graph can be drawn of them.
+pub fn stacks_can_be_drawn()
+    ensures { (blocks : List Block) → AreStacks (stack_of blocks) }
+{}
+
+/// No frame sticks out of the frame of its caller, or, if it has none, out of the whole. This is true
+/// of what is printed.
+pub fn no_frame_sticks_out()
+    ensures { (rows : List PathRow) → AreStacks rows → NoneSticksOut rows }
+{}
+
+/// If any time was spent, the widths of the lowest row of frames add up to the whole. This is true of
+/// what is printed, with the frames that are left out.
+pub fn the_lowest_frames_add_up()
+    ensures { (rows : List PathRow) → AreStacks rows → LowestAddUp rows }
+{}

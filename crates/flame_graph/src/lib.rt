@@ -1,0 +1,20 @@
+//! Flame graphs: the stacks of a trace as a picture.
+//!
+//! `flame` prints the picture. `walk` goes through the rows once and keeps the frames that are open;
+//! `open_frames` opens them. `sums` has the totals, `scale` places, `line` the line of a frame, and
+//! `names` its name. `laws` says what is true of every picture.
+#![tactic(auto)]
+
+mod flame;
+mod frame;
+mod laws;
+mod line;
+mod names;
+mod open_frames;
+mod scale;
+mod sums;
+mod walk;
+
+pub use flame::{FlameGraph, write_flame_graph};
+pub use frame::Calls;
+pub use laws::{no_frame_sticks_out, stacks_can_be_drawn, the_lowest_frames_add_up};
