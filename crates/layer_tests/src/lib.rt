@@ -9,6 +9,8 @@ mod accounts;
 #[cfg(test)]
 mod assembler;
 #[cfg(test)]
+mod audits;
+#[cfg(test)]
 mod call_tries;
 #[cfg(test)]
 mod checks;
