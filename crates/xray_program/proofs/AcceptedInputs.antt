@@ -8,6 +8,7 @@ use Rattle.command_words.specs.declared.report_options.AccountOptions.{AccountOp
 use Rattle.command_words.specs.declared.report_options.StackFormat.{StackFormat}
 use Rattle.command_words.specs.declared.run_options.Bounds.{Bounds}
 use Rattle.command_words.specs.Words.{Command, Sim, Run, Plain, Extract, Asm, Account, Stack, Convert, Soak}
+use Rattle.function_names.specs.Name.{image_names}
 use Rattle.machine_step.specs.declared.setup.Setup.{Setup}
 use Rattle.asm_text.specs.Assembling.{assembled}
 use Rattle.asm_text.specs.FaultWords.{asm_words}
@@ -117,10 +118,10 @@ abbrev account_next : AccountOptions → Trace → Option Program → Outcome �
 account_next options t program outcome = outcome ≡ Done [] (account_report options t program)
 
 abbrev stack_next : StackFormat → Trace → Option Program → Outcome → Type 0
-stack_next format t program outcome = outcome ≡ Done [] (stack_text (form_of format) program (stack_of t.blocks))
+stack_next format t program outcome = outcome ≡ Done [] (stack_text (form_of format) (image_names program) (stack_of t.blocks))
 
 abbrev convert_next : Trace → Option Program → Outcome → Type 0
-convert_next t program outcome = outcome ≡ Done [] (yaml_text program t)
+convert_next t program outcome = outcome ≡ Done [] (yaml_text (image_names program) t)
 
 accepted_done : IsDecided image_form → (held : List ℕ → Entry) (command : Command) → AreAccepted held command → IsDone (Means (Some command) held)
 accepted_done is held (Sim i s c t a options) (program, plan, turns, at, of_script, of_schedule, still) =

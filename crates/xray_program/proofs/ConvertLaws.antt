@@ -1,5 +1,6 @@
 -- `convert`: one thing comes of it, and something in any case.
 use Rattle.std.proofs.Common.{◌≡◌, ◌∙◌, ℕ, List, [], Option, refl, sym}
+use Rattle.function_names.specs.Name.{image_names}
 use Rattle.xray_io.specs.Desk.{Entry}
 use Rattle.xray_program.specs.Commands.{TellsAll}
 use Rattle.xray_program.specs.Convert.{ConvertComes}
@@ -13,10 +14,10 @@ use Rattle.yaml_convert.specs.Yaml.{yaml_text}
 pub convert_alone : IsDecided image_form → (held : List ℕ → Entry) (trace : List ℕ) (image : Option (List ℕ)) → TellsAll held
     → IsAlone AnyOutcome (ConvertComes Sound held trace image)
 convert_alone is held trace image told =
-    report_alone is AnyOutcome held trace image (λ t program outcome. outcome ≡ Done [] (yaml_text program t)) told (λ t program a b sort x y. y ∙ sym x)
+    report_alone is AnyOutcome held trace image (λ t program outcome. outcome ≡ Done [] (yaml_text (image_names program) t)) told (λ t program a b sort x y. y ∙ sym x)
 
 pub convert_some : IsJudged image_form → (held : List ℕ → Entry) (trace : List ℕ) (image : Option (List ℕ)) → TellsAll held → HoldsBytes held
     → SomeOutcome (ConvertComes Sound held trace image)
 convert_some is held trace image told holds =
-    report_some is held trace image (λ t program outcome. outcome ≡ Done [] (yaml_text program t)) told holds
-    (λ t program. (Done [] (yaml_text program t), refl))
+    report_some is held trace image (λ t program outcome. outcome ≡ Done [] (yaml_text (image_names program) t)) told holds
+    (λ t program. (Done [] (yaml_text (image_names program) t), refl))

@@ -5,6 +5,7 @@ use Rattle.std.specs.declared.alloc.Global.{Global}
 use Rattle.command_words.specs.declared.report_options.StackFormat.{StackFormat}
 use Rattle.fdr_file.specs.declared.trace.Block.{Block}
 use Rattle.fdr_file.specs.declared.trace.Trace.{Trace}
+use Rattle.function_names.specs.Name.{image_names}
 use Rattle.stack_rebuild.specs.FaultWords.{deep_words}
 use Rattle.stack_rebuild.specs.Stacks.{IsDeepFault, deep_in, most_open, stack_of, told}
 use Rattle.stack_rebuild.specs.StackText.{stack_text}
@@ -25,7 +26,7 @@ abbrev reason : Trace → Option (List ℕ)
 reason t = option_map deep_words (deep_in most_open t.blocks)
 
 abbrev printed : StackFormat → Trace → Option Program → Outcome → Type 0
-printed format t program outcome = outcome ≡ Done [] (stack_text (form_of format) program (stack_of t.blocks))
+printed format t program outcome = outcome ≡ Done [] (stack_text (form_of format) (image_names program) (stack_of t.blocks))
 
 pub stack_alone : IsDecided image_form → (held : List ℕ → Entry) (trace : List ℕ) (image : Option (List ℕ)) (format : StackFormat)
     → TellsAll held → IsAlone AnyOutcome (StackComes Sound held trace image format)
@@ -37,7 +38,7 @@ pub stack_some : IsJudged image_form → (held : List ℕ → Entry) (trace : Li
     → TellsAll held → HoldsBytes held → SomeOutcome (StackComes Sound held trace image format)
 stack_some is held trace image format told holds =
     report_some is held trace image (λ t program. StacksCome trace format t program) told holds
-    (λ t program. some_refuse (reason t) trace (codes "trace") (printed format t program) (λ none. (Done [] (stack_text (form_of format) program (stack_of t.blocks)), refl)))
+    (λ t program. some_refuse (reason t) trace (codes "trace") (printed format t program) (λ none. (Done [] (stack_text (form_of format) (image_names program) (stack_of t.blocks)), refl)))
 
 -- if no thread has too many calls open, its stacks come
 pub stack_prints : (trace : List ℕ) (format : StackFormat) (t : Trace) (program : Option Program) (outcome : Outcome)

@@ -15,6 +15,7 @@ use Rattle.command_words.specs.declared.report_options.SortColumn.TheVariants.{F
 use Rattle.command_words.specs.declared.report_options.SortOrder.{SortOrder}
 use Rattle.command_words.specs.declared.report_options.SortOrder.TheVariants.{Ascending, Descending}
 use Rattle.fdr_file.specs.declared.trace.Trace.{Trace}
+use Rattle.function_names.specs.Name.{image_names}
 use Rattle.xray_image.specs.Program.{Program}
 use Rattle.xray_io.specs.Desk.{Entry}
 use Rattle.xray_program.specs.Inputs.{trace_form}
@@ -49,7 +50,7 @@ format_of Csv = formats.Csv
 abbrev pub account_report : AccountOptions → Trace → Option Program → List ℕ
 account_report options trace program =
     let rows = account_of trace.blocks in
-    account_text (format_of options.format) (latencies_of rows) program
+    account_text (format_of options.format) (latencies_of rows) (image_names program)
     (arranged (key_of options.sort) (is_descending options.order) options.top rows)
 
 -- what comes of the command

@@ -3,6 +3,7 @@ use Rattle.std.specs.Prelude.{◌≡◌, ℕ, List, [], Option, option_map, code
 use Rattle.command_words.specs.declared.report_options.StackFormat.{StackFormat}
 use Rattle.command_words.specs.declared.report_options.StackFormat.TheVariants.{Human, Flame}
 use Rattle.fdr_file.specs.declared.trace.Trace.{Trace}
+use Rattle.function_names.specs.Name.{image_names}
 use Rattle.stack_rebuild.specs.FaultWords.{deep_words}
 use Rattle.stack_rebuild.specs.Stacks.{deep_in, most_open, stack_of}
 use Rattle.stack_rebuild.specs.StackText.{stack_text}
@@ -25,7 +26,7 @@ form_of Flame = forms.Flame
 abbrev pub StacksCome : (trace : List ℕ) → StackFormat → Trace → Option Program → Outcome → Type 0
 StacksCome trace format t program =
     RefuseIf (option_map deep_words (deep_in most_open t.blocks)) trace (codes "trace")
-    (λ outcome. outcome ≡ Done [] (stack_text (form_of format) program (stack_of t.blocks)))
+    (λ outcome. outcome ≡ Done [] (stack_text (form_of format) (image_names program) (stack_of t.blocks)))
 
 -- what comes of the command
 abbrev pub StackComes : DeskReads → (List ℕ → Entry) → (trace : List ℕ) → (image : Option (List ℕ)) → StackFormat → Outcome → Type 0

@@ -17,6 +17,7 @@ use crate::work::Work;
 use account_report::{AccountFold, AccountRow, AccountText, order_rows};
 use command_words::{AccountOptions, TRACE_LIMIT};
 use fdr_file::{Taker, Trace, TraceFault};
+use function_names::Names;
 use std::alloc::Global;
 use trace_words::TraceRefusal;
 use xray_io::{Desk, NoMemory, Sink};
@@ -143,7 +144,7 @@ impl<'a> Work<'a> for Account<'a> {
         let text = AccountText {
             rows: &inputs.log.rows,
             latencies: inputs.log.latencies,
-            image: inputs.image.as_ref(),
+            names: Names::of_image(inputs.image.as_ref()),
             format: format_of(self.options.format),
         };
         deliver(desk, out, &NoOutputs, &text, None)

@@ -13,6 +13,7 @@ use crate::trace_feed::TraceFeed;
 use crate::work::Work;
 use command_words::TRACE_LIMIT;
 use fdr_file::{KeepNothing, Trace, TraceFault};
+use function_names::Names;
 use std::alloc::Global;
 use trace_words::TraceRefusal;
 use xray_io::{Desk, Feed, Sink};
@@ -82,6 +83,7 @@ impl<'a> Work<'a> for Convert<'a> {
     ghost use Rattle.command_words.specs.Words as words;
     ghost use Rattle.xray_program.specs.Outcomes.{Done};
     ghost use Rattle.xray_program.specs.private.ReportTakes.{ComesOfMeant};
+    ghost use Rattle.function_names.specs.Name.{image_names};
     ghost use Rattle.yaml_convert.specs.Yaml.{yaml_text};
 
     type Inputs = ReportInputs<Vec<u8>>;
@@ -89,7 +91,7 @@ impl<'a> Work<'a> for Convert<'a> {
     ghost says = { λ c. words.Convert c.trace.now (option_map (λ n. n.now) c.image) };
 
     ghost yields = { λ _. ComesOfMeant BytesMean
-        (λ trace program outcome. outcome ≡ Done [] (yaml_text program trace)) };
+        (λ trace program outcome. outcome ≡ Done [] (yaml_text (image_names program) trace)) };
 
     ghost fits = { λ _ inputs. (trace : Trace) × BytesMean inputs.log trace };
 
@@ -110,7 +112,7 @@ impl<'a> Work<'a> for Convert<'a> {
     ) -> Result<(), Stop<'a>> {
         let text = YamlBytes {
             bytes: &inputs.log,
-            image: inputs.image.as_ref(),
+            names: Names::of_image(inputs.image.as_ref()),
         };
         deliver(desk, out, &NoOutputs, &text, None)
     }

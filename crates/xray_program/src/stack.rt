@@ -13,6 +13,7 @@ use crate::trace_feed::TraceFeed;
 use crate::work::Work;
 use command_words::{StackFormat, TRACE_LIMIT};
 use fdr_file::Trace;
+use function_names::Names;
 use stack_rebuild::{StackFault, StackFold, StackForm, StackRow, StackText};
 use std::alloc::Global;
 use trace_words::TraceRefusal;
@@ -105,7 +106,7 @@ impl<'a> Work<'a> for Stack<'a> {
             Ok(rows) => {
                 let text = StackText {
                     rows,
-                    image: inputs.image.as_ref(),
+                    names: Names::of_image(inputs.image.as_ref()),
                     form: form_of(self.format),
                 };
                 deliver(desk, out, &NoOutputs, &text, None)

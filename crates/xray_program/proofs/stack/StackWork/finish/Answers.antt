@@ -1,10 +1,11 @@
-use Rattle.std.proofs.Common.{◌≡◌, ◌∙◌, List, [], None, Option, map, option_map, ap}
+use Rattle.std.proofs.Common.{◌≡◌, ◌∙◌, List, [], None, map, ap}
 use Rattle.fdr_file.specs.declared.trace.Trace.{Trace}
 use Rattle.stack_rebuild.specs.declared.stack_row.StackRow.{StackRow}
 use Rattle.stack_rebuild.specs.declared.stack_text.StackForm.{StackForm}
 use Rattle.stack_rebuild.specs.Stacks.{PathRow, stack_of, told}
 use Rattle.stack_rebuild.specs.StackText.{stack_text}
-use Rattle.xray_image.specs.Program.{Program}
+use Rattle.function_names.specs.Name.{image_names, naming}
+use Rattle.map_names.specs.Naming.{Naming}
 use Rattle.xray_io.specs.World.{desk_view, sink_view}
 use Rattle.xray_program.specs.Outcomes.{Done}
 use Rattle.xray_program.specs.Stack.{StacksCome, form_of}
@@ -20,14 +21,14 @@ returns-in-Ok-clause-finishes g c =
     let got = sink_view g.O.Sink.written g.O.Sink.faults in
     let s = c.args.self.now in
     let inputs = c.args.inputs.now in
-    let shown = option_map (λ image. image.now) c.as_ref.result in
+    let shown = naming c.of_image.result in
     let rows = map told c.deref.result.now in
     let text = stack_text c.form_of.result shown rows in
-    let same : (trace : Trace) → rows ≡ stack_of trace.blocks → text ≡ stack_text (form_of s.format) inputs.image (stack_of trace.blocks) =
+    let same : (trace : Trace) → rows ≡ stack_of trace.blocks → text ≡ stack_text (form_of s.format) (image_names inputs.image) (stack_of trace.blocks) =
     λ trace are.
     ap (λ (form : StackForm). stack_text form shown rows) c.form_of.ensures
-    ∙ (ap (λ (program : Option Program). stack_text (form_of s.format) program rows) c.as_ref.ensures.value
-    ∙ ap (λ (all : List PathRow). stack_text (form_of s.format) inputs.image all) are) in
+    ∙ (ap (λ (names : Naming). stack_text (form_of s.format) names rows) (c.of_image.ensures ∙ ap image_names c.as_ref.ensures.value)
+    ∙ ap (λ (all : List PathRow). stack_text (form_of s.format) (image_names inputs.image) all) are) in
     finishes (ComesOfMeant StacksMean (StacksCome s.trace.now s.format) inputs) [] text None (seen c.args.desk.now)
     (seen c.deliver.new.desk) (got c.args.out.now) (got c.deliver.new.out) (g.D.Desk.along c.args.desk.now c.deliver.new.desk) c.deliver.result
     (λ trace means.
