@@ -1,16 +1,17 @@
 -- What words mean: only one thing if they are decided, a refusal and nothing else, and something in any case. Each
 -- command has a line.
-use Rattle.std.proofs.Common.{◌≡◌, ◌∙◌, ℕ, List, ◌∷◌, map, Option, Some, None, true, arith, codes, refl, subst, sym}
+use Rattle.std.proofs.Common.{◌≡◌, ◌∙◌, ◌++◌, ℕ, List, ◌∷◌, map, Option, Some, None, true, codes, refl, subst, sym}
 use Rattle.std.specs.Prelude.{IsPermutation}
 use Rattle.std.proofs.lemmas.List.Sorted.{IsPermutation-refl}
-use Rattle.command_words.specs.Files.{AreOfTheirRows, inputs_in, names_of, row_of}
+use Rattle.command_words.specs.Files.{AreOfTheirRows, inputs_in, names_given, names_of, row_of}
+use Rattle.command_words.specs.Reports.{ByIds, ByImage, ByMap}
 use Rattle.xray_io.specs.Desk.{Entry}
 use Rattle.xray_io.specs.declared.wall.Wall.{Wall}
 use Rattle.xray_program.specs.Commands.{Comes, IsDecided, IsStill, Means, TellsAll, inputs_of, is_decided}
 use Rattle.xray_program.specs.Outcomes.{Outcome, BadLine, written_by}
 use Rattle.xray_program.specs.Setups.{setup_of}
 use Rattle.xray_program.specs.Taking.{Sound}
-use Rattle.command_words.specs.Words.{Command, Sim, Run, Plain, Extract, Asm, Account, Stack, Convert, Soak, reading}
+use Rattle.command_words.specs.Words.{Command, Sim, Run, Plain, Extract, Asm, Account, Stack, Convert, Soak, Import, reading}
 use Rattle.xray_program.proofs.AccountLaws.{account_alone, account_some}
 use Rattle.xray_program.proofs.AsmLaws.{asm_alone, asm_some}
 use Rattle.xray_program.proofs.ConvertLaws.{convert_alone, convert_some}
@@ -92,10 +93,11 @@ still_by_word rows wall word words other = by_said (reading wall (word ∷ words
     by_said (Some (Plain image bounds)) is = refl
     by_said (Some (Extract image)) is = refl
     by_said (Some (Asm text image threshold relative)) is = refl
-    by_said (Some (Account trace image options)) is = refl
-    by_said (Some (Stack trace image format)) is = refl
-    by_said (Some (Convert trace image)) is = refl
+    by_said (Some (Account trace names options)) is = refl
+    by_said (Some (Stack trace names format)) is = refl
+    by_said (Some (Convert trace names)) is = refl
     by_said (Some (Soak number)) is = refl
+    by_said (Some (Import log trace)) is = refl
 
 -- ---- words
 
@@ -116,13 +118,28 @@ some_means laws (Some command) held told holds = command_some laws held told hol
 
 -- ---- rows
 
--- the inputs are those of the row, in its order
-in_order : (command : Command) → map (λ input. input.0) (inputs_of command) ≡ inputs_in (row_of command).files (names_of command)
-in_order = grind arith
+-- the inputs are those of the row, in its order, and then those that options name
+in_order : (command : Command) → map (λ input. input.0) (inputs_of command) ≡ inputs_in (row_of command).files (names_of command) ++ names_given command
+in_order (Sim image script schedule trace audit options) = refl
+in_order (Run image script trace audit options) = refl
+in_order (Plain image bounds) = refl
+in_order (Extract image) = refl
+in_order (Asm text image threshold relative) = refl
+in_order (Account trace ByIds options) = refl
+in_order (Account trace (ByImage name) options) = refl
+in_order (Account trace (ByMap name) options) = refl
+in_order (Stack trace ByIds format) = refl
+in_order (Stack trace (ByImage name) format) = refl
+in_order (Stack trace (ByMap name) format) = refl
+in_order (Convert trace ByIds) = refl
+in_order (Convert trace (ByImage name)) = refl
+in_order (Convert trace (ByMap name)) = refl
+in_order (Soak number) = refl
+in_order (Import log trace) = refl
 
 pub inputs_of_row : (command : Command)
-    → IsPermutation (inputs_in (row_of command).files (names_of command)) (map (λ input. input.0) (inputs_of command))
+    → IsPermutation (inputs_in (row_of command).files (names_of command) ++ names_given command) (map (λ input. input.0) (inputs_of command))
 inputs_of_row command =
-    let names = inputs_in (row_of command).files (names_of command) in
+    let names = inputs_in (row_of command).files (names_of command) ++ names_given command in
     let P : List (List ℕ) → Type 0 = IsPermutation names in
     subst P (sym (in_order command)) (IsPermutation-refl names)

@@ -10,6 +10,7 @@ pub mod Headline
 pub mod Images
 pub mod Judging
 pub mod Meanings
+pub mod NamesTaken
 pub mod Ordering
 pub mod Outputting
 pub mod PlainLaws

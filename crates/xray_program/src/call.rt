@@ -332,30 +332,30 @@ fn perform_report<'a, D: Desk, O: Sink>(
     match command {
         Command::Account {
             trace,
-            image,
+            names,
             options,
         } => {
             let account = Account {
                 trace,
-                image,
+                names,
                 options,
             };
             perform(alloc, &account, desk, out)
         }
         Command::Stack {
             trace,
-            image,
+            names,
             format,
         } => {
             let stack = Stack {
                 trace,
-                image,
+                names,
                 format,
             };
             perform(alloc, &stack, desk, out)
         }
-        Command::Convert { trace, image } => {
-            perform(alloc, &Convert { trace, image }, desk, out)
+        Command::Convert { trace, names } => {
+            perform(alloc, &Convert { trace, names }, desk, out)
         }
         _ => unreachable!(),
     }

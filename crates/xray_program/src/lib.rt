@@ -26,6 +26,7 @@ mod image_file;
 mod input;
 mod inputs;
 mod laws;
+mod names;
 mod plain;
 mod report_inputs;
 mod run;

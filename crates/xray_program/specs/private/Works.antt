@@ -122,9 +122,9 @@ IsOther (Run image script trace audit options) = ⊥
 IsOther (Plain image bounds) = Unit {0}
 IsOther (Extract image) = Unit {0}
 IsOther (Asm text image threshold relative) = Unit {0}
-IsOther (Account trace image options) = Unit {0}
-IsOther (Stack trace image format) = Unit {0}
-IsOther (Convert trace image) = Unit {0}
+IsOther (Account trace names options) = Unit {0}
+IsOther (Stack trace names format) = Unit {0}
+IsOther (Convert trace names) = Unit {0}
 IsOther (Soak number) = Unit {0}
 
 -- what words say is in its ranges
