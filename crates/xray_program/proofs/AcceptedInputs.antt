@@ -7,12 +7,14 @@ use Rattle.command_words.specs.Limits.{trace_limit}
 use Rattle.command_words.specs.declared.report_options.AccountOptions.{AccountOptions}
 use Rattle.command_words.specs.declared.report_options.StackFormat.{StackFormat}
 use Rattle.command_words.specs.declared.run_options.Bounds.{Bounds}
-use Rattle.command_words.specs.Words.{Command, Sim, Run, Plain, Extract, Asm, Account, Stack, Convert, Soak}
+use Rattle.command_words.specs.Words.{Command, Sim, Run, Plain, Extract, Asm, Account, Stack, Convert, Soak, Import}
 use Rattle.command_words.specs.Reports.{NameSource, ByIds, ByImage, ByMap}
 use Rattle.function_names.specs.Name.{program_names}
 use Rattle.map_names.specs.FaultWords.{map_words}
 use Rattle.map_names.specs.Maps.{map_naming}
 use Rattle.map_names.specs.Naming.{Naming, no_names}
+use Rattle.runtime_log.specs.Facts.{facts_text}
+use Rattle.runtime_log.specs.declared.facts.Facts.{Facts}
 use Rattle.machine_step.specs.declared.setup.Setup.{Setup}
 use Rattle.asm_text.specs.Assembling.{assembled}
 use Rattle.asm_text.specs.FaultWords.{asm_words}
@@ -33,7 +35,7 @@ use Rattle.xray_io.specs.World.{World}
 use Rattle.xray_program.specs.Accepted.{AreAccepted, CountsNoFault, HoldsInput, HoldsNames, HoldsReport}
 use Rattle.xray_program.specs.Answers.{IsAnswer}
 use Rattle.xray_program.specs.Commands.{Means}
-use Rattle.xray_program.specs.Inputs.{image_form, map_form, map_limit, schedule_form, schedule_limit, script_form, script_limit, text_form, text_limit, trace_form}
+use Rattle.xray_program.specs.Inputs.{image_form, log_form, map_form, map_limit, schedule_form, schedule_limit, script_form, script_limit, text_form, text_limit, trace_form}
 use Rattle.xray_program.specs.Outcomes.{Outcome, Done, status_of}
 use Rattle.xray_program.specs.Account.{account_report}
 use Rattle.xray_program.specs.Plain.{PlainPrints}
@@ -127,8 +129,11 @@ stack_next format t naming outcome = outcome ≡ Done [] (stack_text (form_of fo
 abbrev convert_next : Trace → Naming → Outcome → Type 0
 convert_next t naming outcome = outcome ≡ Done [] (yaml_text naming t)
 
-accepted_done : IsDecided image_form → (held : List ℕ → Entry) (command : Command) → AreAccepted held command → IsDone (Means (Some command) held)
-accepted_done is held (Sim i s c t a options) (program, plan, turns, at, of_script, of_schedule, still) =
+abbrev import_next : List ℕ → List ℕ × Facts → Outcome → Type 0
+import_next trace made outcome = outcome ≡ Done ((trace, made.0) ∷ []) (facts_text made.1)
+
+accepted_done : IsDecided image_form → IsDecided log_form → (held : List ℕ → Entry) (command : Command) → AreAccepted held command → IsDone (Means (Some command) held)
+accepted_done is log_is held (Sim i s c t a options) (program, plan, turns, at, of_script, of_schedule, still) =
     let setup = setup_of options in
     accepted_take image_form is held i
     (λ p. Take (script_form p setup.threads) Sound held s (λ l. Take (schedule_form setup.threads) Sound held c (Replays s t a setup p l))) program at
@@ -138,34 +143,35 @@ accepted_done is held (Sim i s c t a options) (program, plan, turns, at, of_scri
     (Replays s t a setup program plan) turns of_schedule
     (unrefused waits_words (waiting_line plan.lines) s (codes "script") (sim_next s t a setup program plan turns) still
     (left_done (Traces (Replayed program plan turns setup) program setup t a)))))
-accepted_done is held (Run i s t a options) (program, plan, at, of_script) =
+accepted_done is log_is held (Run i s t a options) (program, plan, at, of_script) =
     let setup = setup_of options in
     accepted_take image_form is held i (λ p. Take (script_form p setup.threads) Sound held s (λ l. run_next t a setup p l)) program at
     (accepted_take (script_form program setup.threads) (decided_by (codes "script") script_limit (plan_of program setup.threads) script_words) held s
     (λ l. run_next t a setup program l) plan of_script (left_done (Traces (FollowsPlan setup program plan) program setup t a)))
-accepted_done is held (Plain i bounds) (program, at) =
+accepted_done is log_is held (Plain i bounds) (program, at) =
     accepted_take image_form is held i (plain_next bounds) program at (left_done (λ outputs text. (outputs ≡ []) × PlainPrints program bounds text))
-accepted_done is held (Extract i) (program, at) = accepted_take image_form is held i extract_next program at (λ outcome same. ap status_of same)
-accepted_done is held (Asm t i threshold relative) (file, at) =
+accepted_done is log_is held (Extract i) (program, at) = accepted_take image_form is held i extract_next program at (λ outcome same. ap status_of same)
+accepted_done is log_is held (Asm t i threshold relative) (file, at) =
     accepted_take (text_form threshold relative) (decided_by (codes "text") text_limit (λ bytes. assembled bytes threshold relative) asm_words) held t (asm_next i) file at
     (λ outcome same. ap status_of same)
-accepted_done is held (Account t i options) at =
+accepted_done is log_is held (Account t i options) at =
     report_done is held t i (λ u. ⊤) (account_next options) at (λ u program so outcome same. ap status_of same)
-accepted_done is held (Stack t i format) at =
+accepted_done is log_is held (Stack t i format) at =
     report_done is held t i (λ u. deep_in most_open u.blocks ≡ None) (λ u program. StacksCome t format u program) at
     (λ u program shallow. unrefused deep_words (deep_in most_open u.blocks) t (codes "trace") (stack_next format u program) shallow
     (λ outcome same. ap status_of same))
-accepted_done is held (Convert t i) at = report_done is held t i (λ u. ⊤) convert_next at (λ u program so outcome same. ap status_of same)
-accepted_done is held (Soak number) at = left_done (λ outputs text. (outputs ≡ []) × IsSummary number text)
+accepted_done is log_is held (Convert t i) at = report_done is held t i (λ u. ⊤) convert_next at (λ u program so outcome same. ap status_of same)
+accepted_done is log_is held (Soak number) at = left_done (λ outputs text. (outputs ≡ []) × IsSummary number text)
+accepted_done is log_is held (Import log trace) (made, at) = accepted_take log_form log_is held log (import_next trace) made at (λ outcome same. ap status_of same)
 
-pub done_or_memory : IsDecided image_form → (command : Command) (before after : World) (status : ℕ) → AreAccepted before.desk.held command
+pub done_or_memory : IsDecided image_form → IsDecided log_form → (command : Command) (before after : World) (status : ℕ) → AreAccepted before.desk.held command
     → CountsNoFault before after → IsAnswer (Some command) before after status → (status ≡ 0) ⊎ (status ≡ 5)
-done_or_memory is command before after status accepted calm (inl (outcome, meant, same)) =
-    inl (sym same ∙ accepted_done is before.desk.held command accepted outcome meant)
-done_or_memory is command before after status accepted calm (inr (inl memory)) = inr memory
-done_or_memory is command before after status accepted calm (inr (inr (inl (three, rose)))) = absurd (calm.reads rose)
-done_or_memory is command before after status accepted calm (inr (inr (inr (four, inl rose)))) = absurd (calm.writes rose)
-done_or_memory is command before after status accepted calm (inr (inr (inr (four, inr rose)))) = absurd (calm.out rose)
+done_or_memory is log_is command before after status accepted calm (inl (outcome, meant, same)) =
+    inl (sym same ∙ accepted_done is log_is before.desk.held command accepted outcome meant)
+done_or_memory is log_is command before after status accepted calm (inr (inl memory)) = inr memory
+done_or_memory is log_is command before after status accepted calm (inr (inr (inl (three, rose)))) = absurd (calm.reads rose)
+done_or_memory is log_is command before after status accepted calm (inr (inr (inr (four, inl rose)))) = absurd (calm.writes rose)
+done_or_memory is log_is command before after status accepted calm (inr (inr (inr (four, inr rose)))) = absurd (calm.out rose)
 
 -- ---- none has status 7
 
@@ -232,6 +238,8 @@ not_7 held (Convert t i) =
     report_not_7 held t i convert_next (λ u program. done_not_7 (convert_next u program) (λ outcome same. ap status_of same))
 not_7 held (Soak number) =
     done_not_7 (λ outcome. Means (Some (Soak number)) held outcome) (left_done (λ outputs text. (outputs ≡ []) × IsSummary number text))
+not_7 held (Import log trace) =
+    take_not_7 log_form held log (import_next trace) (λ made. done_not_7 (import_next trace made) (λ outcome same. ap status_of same))
 
 pub none_fell : (said : Option Command) (held : List ℕ → Entry) (outcome : Outcome) → Means said held outcome → status_of outcome ≢ 7
 none_fell None held outcome is = other_status outcome _ 1 is refl (λ e. omega arith)

@@ -16,6 +16,9 @@ use Rattle.xray_program.proofs.AccountLaws.{account_alone, account_some}
 use Rattle.xray_program.proofs.AsmLaws.{asm_alone, asm_some}
 use Rattle.xray_program.proofs.ConvertLaws.{convert_alone, convert_some}
 use Rattle.xray_program.proofs.ExtractLaws.{extract_alone, extract_some}
+use Rattle.runtime_log.specs.Laws.{OneImport, SomeImport}
+use Rattle.xray_program.proofs.ImportLaws.{import_alone, import_some}
+use Rattle.xray_program.proofs.Logs.{log_decided, log_judged}
 use Rattle.xray_program.proofs.Images.{Accepts, OneVerdict, SomeVerdict, image_decided, image_judged}
 use Rattle.xray_program.proofs.Meanings.{AnyOutcome, HoldsBytes, IsAlone, IsRefusal, SomeOutcome, refusal_alone}
 use Rattle.xray_program.proofs.PlainLaws.{OneEnd, SomeEnd, plain_alone, plain_some}
@@ -31,6 +34,7 @@ pub record Laws : Type 0 where
   pub accepts : Accepts
   pub end : OneEnd
   pub run : OneRun
+  pub imports : OneImport
 
 pub record Existence : Type 0 where
   pub verdict : SomeVerdict
@@ -41,6 +45,7 @@ pub record Existence : Type 0 where
   pub marks : SomeMarks
   pub losses : SomeLosses
   pub drawn : DrawnLaws
+  pub imports : SomeImport
 
 -- ---- a line for each command
 
@@ -56,6 +61,7 @@ command_alone laws held told (Account t i options) decided = account_alone (imag
 command_alone laws held told (Stack t i format) decided = stack_alone (image_decided laws.verdict laws.accepts) held t i format told
 command_alone laws held told (Convert t i) decided = convert_alone (image_decided laws.verdict laws.accepts) held t i told
 command_alone laws held told (Soak number) decided = soak_alone (image_decided laws.verdict laws.accepts) laws.run number
+command_alone laws held told (Import log trace) decided = import_alone (log_decided laws.imports) held log trace told
 
 -- if a refusal comes of a command, nothing else does
 command_refuses : Laws → (held : List ℕ → Entry) → TellsAll held → (command : Command) → IsAlone IsRefusal (Comes Sound held command)
@@ -68,6 +74,7 @@ command_refuses laws held told (Account t i options) = refusal_alone _ (command_
 command_refuses laws held told (Stack t i format) = refusal_alone _ (command_alone laws held told (Stack t i format) refl)
 command_refuses laws held told (Convert t i) = refusal_alone _ (command_alone laws held told (Convert t i) refl)
 command_refuses laws held told (Soak number) = refusal_alone _ (command_alone laws held told (Soak number) refl)
+command_refuses laws held told (Import log trace) = refusal_alone _ (command_alone laws held told (Import log trace) refl)
 
 -- each command comes to something
 command_some : Existence → (held : List ℕ → Entry) → TellsAll held → HoldsBytes held → (command : Command) → SomeOutcome (Comes Sound held command)
@@ -80,6 +87,7 @@ command_some laws held told holds (Account t i options) = account_some (image_ju
 command_some laws held told holds (Stack t i format) = stack_some (image_judged laws.verdict laws.accepts) held t i format told holds
 command_some laws held told holds (Convert t i) = convert_some (image_judged laws.verdict laws.accepts) held t i told holds
 command_some laws held told holds (Soak number) = soak_some laws.run laws.drawn number
+command_some laws held told holds (Import log trace) = import_some (log_judged laws.imports) held log trace told holds
 
 -- only `run` may wait
 pub still_by_word : AreOfTheirRows → (wall : Wall) (word : List ℕ) (words : List (List ℕ)) → (word ≡ codes "run" → ⊥)

@@ -8,7 +8,9 @@ pub mod Endings
 pub mod ExtractLaws
 pub mod Headline
 pub mod Images
+pub mod ImportLaws
 pub mod Judging
+pub mod Logs
 pub mod Meanings
 pub mod NamesTaken
 pub mod Ordering

@@ -3,6 +3,7 @@ use Rattle.std.specs.Prelude.{◌≡◌, ◌≤◌, ℕ, zero, suc, List, length
 use Rattle.command_words.specs.Reports.{NameSource, ByIds, ByImage, ByMap}
 use Rattle.fdr_file.specs.declared.trace.Trace.{Trace}
 use Rattle.map_names.specs.Naming.{Naming}
+use Rattle.runtime_log.specs.declared.facts.Facts.{Facts}
 use Rattle.patch_script.specs.Plans.{Plan, waiting_line}
 use Rattle.stack_rebuild.specs.Stacks.{deep_in, most_open}
 use Rattle.step_sim.specs.declared.turns.Turns.{Turns}
@@ -10,9 +11,9 @@ use Rattle.xray_image.specs.Program.{Program}
 use Rattle.xray_io.specs.Desk.{Entry, Holds}
 use Rattle.xray_io.specs.Faults.{Rose}
 use Rattle.xray_io.specs.World.{World}
-use Rattle.xray_program.specs.Inputs.{image_form, map_form, schedule_form, script_form, text_form, trace_form}
+use Rattle.xray_program.specs.Inputs.{image_form, log_form, map_form, schedule_form, script_form, text_form, trace_form}
 use Rattle.xray_program.specs.Taking.{Form, IsAcceptedAs}
-use Rattle.command_words.specs.Words.{Command, Sim, Run, Plain, Extract, Asm, Account, Stack, Convert, Soak}
+use Rattle.command_words.specs.Words.{Command, Sim, Run, Plain, Extract, Asm, Account, Stack, Convert, Soak, Import}
 
 -- the desk reports that a name holds bytes of this kind, within its limit, which read as this value
 pub record HoldsInput {X : Type 0} (form : Form X) (entry : Entry) (value : X) : Type 0 where
@@ -48,6 +49,7 @@ AreAccepted held (Account trace names options) = HoldsReport held trace names (�
 AreAccepted held (Stack trace names format) = HoldsReport held trace names (λ t. deep_in most_open t.blocks ≡ None)
 AreAccepted held (Convert trace names) = HoldsReport held trace names (λ t. ⊤)
 AreAccepted held (Soak number) = ⊤
+AreAccepted held (Import log trace) = (made : List ℕ × Facts) × HoldsInput log_form (held log) made
 
 -- ---- the first inputs, in the order in which they are taken
 
@@ -83,6 +85,7 @@ AcceptsInputs held (Account trace names options) count = AcceptsReport trace_for
 AcceptsInputs held (Stack trace names format) count = AcceptsReport trace_form held trace names count
 AcceptsInputs held (Convert trace names) count = AcceptsReport trace_form held trace names count
 AcceptsInputs held (Soak number) count = ⊤
+AcceptsInputs held (Import log trace) count = AcceptsInput log_form held log (λ made later. ⊤) count
 
 -- no fault of the desk or of out is counted in a call
 pub record CountsNoFault (before after : World) : Type 0 where

@@ -7,6 +7,7 @@ use Rattle.xray_program.specs.Account.{AccountComes}
 use Rattle.xray_program.specs.Asm.{AsmComes}
 use Rattle.xray_program.specs.Convert.{ConvertComes}
 use Rattle.xray_program.specs.Extract.{ExtractComes}
+use Rattle.xray_program.specs.Import.{ImportComes}
 use Rattle.xray_program.specs.Inputs.{image_limit, text_limit, script_limit, schedule_limit}
 use Rattle.xray_program.specs.Outcomes.{Outcome, BadLine, Unread}
 use Rattle.xray_program.specs.Plain.{PlainComes}
@@ -17,7 +18,7 @@ use Rattle.xray_program.specs.Sim.{SimComes}
 use Rattle.xray_program.specs.Soak.{SoakComes}
 use Rattle.xray_program.specs.Stack.{StackComes}
 use Rattle.xray_program.specs.Taking.{DeskReads, Sound, Faulty}
-use Rattle.command_words.specs.Words.{Command, Sim, Run, Plain, Extract, Asm, Account, Stack, Convert, Soak, outputs_of}
+use Rattle.command_words.specs.Words.{Command, Sim, Run, Plain, Extract, Asm, Account, Stack, Convert, Soak, Import, outputs_of}
 
 -- ---- a line for each command
 
@@ -33,6 +34,7 @@ inputs_of (Account trace names options) = report_inputs trace trace_limit names
 inputs_of (Stack trace names format) = report_inputs trace trace_limit names
 inputs_of (Convert trace names) = report_inputs trace trace_limit names
 inputs_of (Soak number) = []
+inputs_of (Import log trace) = (log, trace_limit) ∷ []
 
 -- what comes of it
 abbrev pub Comes : DeskReads → (List ℕ → Entry) → Command → Outcome → Type 0
@@ -45,6 +47,7 @@ Comes reads held (Account trace names options) = AccountComes reads held trace n
 Comes reads held (Stack trace names format) = StackComes reads held trace names format
 Comes reads held (Convert trace names) = ConvertComes reads held trace names
 Comes reads held (Soak number) = SoakComes number
+Comes reads held (Import log trace) = ImportComes reads held log trace
 
 -- whether only one outcome comes of it, over what a desk holds; this fails if threads run in an order of their own
 abbrev pub is_decided : Command → Bool
@@ -57,6 +60,7 @@ is_decided (Account trace names options) = true
 is_decided (Stack trace names format) = true
 is_decided (Convert trace names) = true
 is_decided (Soak number) = true
+is_decided (Import log trace) = true
 
 -- whether it waits for nobody, and starts no thread
 abbrev pub is_still : Command → Bool
@@ -69,6 +73,7 @@ is_still (Account trace names options) = true
 is_still (Stack trace names format) = true
 is_still (Convert trace names) = true
 is_still (Soak number) = true
+is_still (Import log trace) = true
 
 -- whether it reports on a trace
 abbrev pub is_report : Command → Bool
@@ -81,6 +86,7 @@ is_report (Account trace names options) = true
 is_report (Stack trace names format) = true
 is_report (Convert trace names) = true
 is_report (Soak number) = false
+is_report (Import log trace) = false
 
 -- ---- what was said: a command, or none
 

@@ -18,9 +18,14 @@ use Rattle.trace_words.specs.TraceWords.{trace_words}
 use Rattle.map_names.specs.FaultWords.{map_words}
 use Rattle.map_names.specs.Maps.{map_naming}
 use Rattle.map_names.specs.Naming.{Naming}
+use Rattle.runtime_log.specs.FaultWords.{log_words}
+use Rattle.runtime_log.specs.Imports.{IsImport}
+use Rattle.runtime_log.specs.Logs.{logged}
+use Rattle.runtime_log.specs.declared.facts.Facts.{Facts}
+use Rattle.runtime_log.specs.declared.fault.LogFault.{LogFault}
 use Rattle.xray_program.specs.Taking.{Form}
 
--- ---- the most bytes of each kind; `trace_limit` has those of a trace
+-- ---- the most bytes of each kind; `trace_limit` has those of a trace and of a log
 
 abbrev pub image_limit : ℕ
 image_limit = 4194304
@@ -81,3 +86,12 @@ trace_form = form_by (codes "trace") trace_limit trace_of trace_words
 -- a sled map, which reads as the names that it gives to functions
 abbrev pub map_form : Form Naming
 map_form = form_by (codes "map") map_limit map_naming map_words
+
+-- a log of LLVM's runtime, which reads as the file of the trace that is made of it, with the facts that are printed
+abbrev pub log_form : Form (List ℕ × Facts)
+log_form = record {
+  kind = codes "log";
+  limit = trace_limit;
+  Reads = λ bytes made. IsImport bytes made.0 made.1;
+  Refuses = λ bytes refusal. (fault : LogFault) × (logged bytes ≡ Err fault) × (refusal ≡ refused_for (log_words fault));
+}

@@ -13,6 +13,7 @@ use crate::account::Account;
 use crate::asm::Asm;
 use crate::convert::Convert;
 use crate::extract::Extract;
+use crate::import::Import;
 use crate::plain::Plain;
 use crate::run::perform_run;
 use crate::run_inputs::Run;
@@ -312,6 +313,7 @@ fn perform_other<'a, D: Desk, O: Sink>(
             perform(alloc, &asm, desk, out)
         }
         Command::Soak { number } => perform(alloc, &Soak { number }, desk, out),
+        Command::Import { log, trace } => perform(alloc, &Import { log, trace }, desk, out),
         report => perform_report(alloc, report, desk, out),
     }
 }

@@ -18,6 +18,7 @@ use crate::drawn::each_input_is_read;
 use fdr_file::a_trace_is_read;
 use machine_step::{one_end, some_end, some_marks_follow};
 use patch_script::each_script_lets_threads_end;
+use runtime_log::{one_import, some_import};
 use step_sim::{one_run, some_run};
 use trace_flush::{a_run_is_traced, a_trace_is_short};
 use traced_run::some_losses_are_of_a_queue;
@@ -32,6 +33,7 @@ pub fn one_meaning()
     one_verdict();
     one_end();
     one_run();
+    one_import();
 }
 
 /// If words mean an outcome that writes nothing, they mean nothing else, over a desk that reports
@@ -44,6 +46,7 @@ pub fn refusal_is_the_only_meaning()
     one_verdict();
     one_end();
     one_run();
+    one_import();
 }
 
 /// Words mean something over a desk that reports every name, whatever bytes the names hold. For
@@ -64,6 +67,7 @@ pub fn some_meaning()
     each_input_is_read();
     a_run_is_traced();
     a_trace_is_read();
+    some_import();
 }
 
 /// The inputs of a command, whose turns come one after another, are the files that are read by its
@@ -85,6 +89,7 @@ pub fn accepted_inputs_mean_done()
         → IsAnswer (Some command) before after status → (status ≡ 0) ⊎ (status ≡ 5) }
 {
     one_verdict();
+    one_import();
 }
 
 /// No words mean an outcome with status 7, whatever the desk holds.

@@ -1,8 +1,8 @@
 //! The top call: all that the program does, from the words of its command line to what it writes.
 //!
 //! The words are read first, together with the wall time (`command_words`). A command is one module
-//! (`sim`, `run`, `plain`, `extract`, `asm`, `account`, `stack`, `convert`, `soak`), which implements
-//! `Work`. It takes its inputs in their order (`inputs_of`, `input`). Each is read, measured and
+//! (`sim`, `run`, `plain`, `extract`, `asm`, `account`, `stack`, `convert`, `soak`, `import`), which
+//! implements `Work`. It takes its inputs in their order (`inputs_of`, `input`). Each is read, measured and
 //! judged before the next is opened, so the first that fails decides. Then it does its work, and
 //! writes its outputs and its text (`delivery`). What is written of traced threads is in `traced`.
 //! The inputs of `soak` are `drawn`, and its text is a `summary`. Last, if something stopped the
@@ -23,6 +23,7 @@ mod delivery;
 mod drawn;
 mod extract;
 mod image_file;
+mod import;
 mod input;
 mod inputs;
 mod laws;

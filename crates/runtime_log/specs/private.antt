@@ -1,0 +1,1 @@
+-- What the contracts of private functions cite. No promise of this crate rests on it.
