@@ -17,7 +17,8 @@ from trace_model import ENTRY_ARGS, FLIGHT_DATA_RECORDER, FUNCTION_LENGTH, HEADE
 
 BASIC = 0
 VERSIONS = range(2, 6)
-BASIC_VERSIONS = range(2, 4)
+BASIC_VERSION = 3
+FUNCTIONS = 1 << 28
 MOST_BYTES = 1 << 26
 MOST_OF_A_BLOCK = 1 << 20
 NEW_BUFFER, NEW_CPU, TSC_WRAP, WALL_TIME, CUSTOM, ARGUMENT, EXTENTS, TYPED, PID = 0, 2, 3, 4, 5, 6, 7, 8, 9
@@ -168,8 +169,8 @@ def block_at(content, at, version):
 
 
 def basic_runs(content):
-    """The runs of records with one thread and one process."""
-    blocks = []
+    """The runs of records with one thread and one process. The first argument behind an entry is the entry's."""
+    blocks, is_argued = [], False
     for at in range(HEADER_LENGTH, len(content), 32):
         if len(content) - at < 32:
             raise Refused("Short", at)
@@ -180,9 +181,12 @@ def basic_runs(content):
             cpu, kind, function, tsc, thread, pid, arg = struct.unpack_from("<BBIQIIQ", content, at + 2)
             if kind > ENTRY_ARGS:
                 raise Refused("Kind", at, kind)
+            if function >= FUNCTIONS:
+                raise Refused("Function", at, function)
             if not blocks or (blocks[-1].thread, blocks[-1].pid) != (thread, pid):
                 blocks.append(Block(at, b"", thread, (0, 0), pid, []))
             blocks[-1].events.append(Event(cpu, function, kind, tsc, arg if kind == ENTRY_ARGS else 0))
+            is_argued = False
         else:
             function, thread, pid, arg = struct.unpack_from("<IIIQ", content, at + 4)
             last = blocks[-1] if blocks else None
@@ -190,7 +194,9 @@ def basic_runs(content):
             of_last = last and (last.thread, last.pid, entry.function, entry.action) == (thread, pid, function, ENTRY_ARGS)
             if not of_last:
                 raise Refused("Order", at)
-            last.events[-1] = dataclasses.replace(entry, arg=arg)
+            if not is_argued:
+                last.events[-1] = dataclasses.replace(entry, arg=arg)
+            is_argued = True
         blocks[-1].content += content[at : at + 32]
     return blocks
 
@@ -203,9 +209,11 @@ def logged(content):
     if len(content) < HEADER_LENGTH:
         raise Refused("Short", 0)
     version, form, flags, frequency, size = struct.unpack_from("<HHIQQ", content)
+    if version not in VERSIONS:
+        raise Refused("Version", version)
     if form not in (FLIGHT_DATA_RECORDER, BASIC):
         raise Refused("Form", form)
-    if version not in (VERSIONS if form == FLIGHT_DATA_RECORDER else BASIC_VERSIONS):
+    if form == BASIC and version != BASIC_VERSION:
         raise Refused("Version", version)
     if form == BASIC:
         return Log(Header(frequency, 0, flags % 4), basic_runs(content))

@@ -8,6 +8,8 @@ It is written from what LLVM's and our own `extract` print, and shares nothing w
 import re
 import sys
 
+from image_model import Refused
+
 KINDS = "function-enter function-exit tail-exit function-enter-arg log-args-enter custom-event typed-event".split()
 ENTRY = re.compile(
     rb"- \{ id: (\d+), address: 0x([0-9A-Fa-f]+), function: 0x([0-9A-Fa-f]+), kind: ("
@@ -16,10 +18,6 @@ ENTRY = re.compile(
     rb"(?:'((?:[^']|'')*)'|\"((?:[^\"\\]|\\.)*)\"|([A-Za-z0-9_^.,\- \t]+?))(?:, version: [012])? \}",
     re.DOTALL,
 )
-
-
-class Refused(Exception):
-    """The first line that isn't as it has to be."""
 
 
 def lines_of(text):
@@ -33,10 +31,10 @@ def lines_of(text):
 def entry_of(line, number):
     found = ENTRY.fullmatch(line)
     if found is None:
-        raise Refused(number)
+        raise Refused("Syntax", number)
     function, address, start, _, single, double, plain = found.groups()
     if int(function) >= 1 << 32 or int(address, 16) >= 1 << 64 or int(start, 16) >= 1 << 64:
-        raise Refused(number)
+        raise Refused("Syntax", number)
     if single is not None:
         return int(function), single.replace(b"''", b"'")
     if double is not None:
@@ -48,17 +46,21 @@ def names_of(text):
     """The names by ids."""
     lines = lines_of(text)
     if not lines or lines[0] != b"---":
-        raise Refused(1)
+        raise Refused("Syntax", 1)
     names = {}
     for number, line in enumerate(lines[1:], start=2):
         if line == b"...":
             if number < len(lines):
-                raise Refused(number + 1)
+                raise Refused("Syntax", number + 1)
             return names
         function, name = entry_of(line, number)
         if name:
             names.setdefault(function, name)
-    raise Refused(len(lines) + 1)
+    raise Refused("Syntax", len(lines) + 1)
+
+
+def plain(name):
+    return name
 
 
 def csv_field(name):
