@@ -1,1 +1,5 @@
 -- What the contracts of private functions cite. No promise of this crate rests on it.
+pub mod Walks
+pub mod Records
+pub mod Headers
+pub mod Choices

@@ -1,4 +1,10 @@
 //! The records of the basic mode.
+ghost use Rattle.std.specs.Prelude.{◌≡◌, ◌≤◌, ◌+◌, OnOk, drop, length, option_map};
+ghost use Rattle.byteorder.specs.Endian.{little_number};
+ghost use Rattle.fdr_file.specs.Traces.{logs_arg};
+ghost use Rattle.runtime_log.specs.BasicLogs.{argument_in, kind_numbered, may_stand, passing_rows, tagged_rows, takes_argument};
+ghost use Rattle.runtime_log.specs.private.Records.{basic_view, before_view, read_view};
+
 use crate::fault::LogFault;
 use byteorder::{ByteOrder, LittleEndian};
 use fdr_file::TraceFault;
@@ -68,17 +74,25 @@ impl BasicRec {
 }
 
 /// The number in the four bytes at a place, lowest byte first.
-fn u32_at(bytes: &[u8], at: usize) -> u32 {
+fn u32_at(bytes: &[u8], at: usize) -> u32
+    requires { at + 4 ≤ length bytes.now }
+    ensures { result ≡ little_number 4 (drop at bytes.now) }
+{
     LittleEndian::read_u32(&bytes[at..])
 }
 
 /// The number in the eight bytes at a place, lowest byte first.
-fn u64_at(bytes: &[u8], at: usize) -> u64 {
+fn u64_at(bytes: &[u8], at: usize) -> u64
+    requires { at + 8 ≤ length bytes.now }
+    ensures { result ≡ little_number 8 (drop at bytes.now) }
+{
     LittleEndian::read_u64(&bytes[at..])
 }
 
 /// The kind with this number.
-fn kind_of(number: u8) -> Option<Kind> {
+fn kind_of(number: u8) -> Option<Kind>
+    ensures { result ≡ kind_numbered number }
+{
     match number {
         0 => Some(Kind::Entry),
         1 => Some(Kind::Exit),
@@ -89,7 +103,9 @@ fn kind_of(number: u8) -> Option<Kind> {
 }
 
 /// Whether an event of this kind logs an argument.
-fn logs_arg(kind: Kind) -> bool {
+fn logs_arg(kind: Kind) -> bool
+    ensures { result ≡ logs_arg kind }
+{
     match kind {
         Kind::Entry | Kind::Exit | Kind::TailExit => false,
         Kind::EntryArgs => true,
@@ -97,7 +113,10 @@ fn logs_arg(kind: Kind) -> bool {
 }
 
 /// The passing that a record says, which is at this place of the log.
-fn passing_in(place: u64, bytes: &[u8]) -> Result<BasicRec, LogFault> {
+fn passing_in(place: u64, bytes: &[u8]) -> Result<BasicRec, LogFault>
+    requires { 32 ≤ length bytes.now }
+    ensures { read_view result ≡ passing_rows place bytes.now }
+{
     let number = bytes[KIND_AT];
     let Some(kind) = kind_of(number) else {
         return Err(LogFault::Kind(place, number));
@@ -125,7 +144,10 @@ fn passing_in(place: u64, bytes: &[u8]) -> Result<BasicRec, LogFault> {
 }
 
 /// The argument that a record says.
-fn argument_in(bytes: &[u8]) -> BasicRec {
+fn argument_in(bytes: &[u8]) -> BasicRec
+    requires { 32 ≤ length bytes.now }
+    ensures { basic_view result ≡ argument_in bytes.now }
+{
     BasicRec::Argument {
         owner: Owner {
             thread: u32_at(bytes, ARGUMENT_THREAD_AT),
@@ -137,7 +159,10 @@ fn argument_in(bytes: &[u8]) -> BasicRec {
 }
 
 /// The record that bytes begin with, at this place of the log.
-pub(crate) fn record_in(place: u64, bytes: &[u8]) -> Result<BasicRec, LogFault> {
+pub(crate) fn record_in(place: u64, bytes: &[u8]) -> Result<BasicRec, LogFault>
+    ensures reads { read_view result ≡ tagged_rows place bytes.now }
+    ensures whole { OnOk result (32 ≤ length bytes.now) }
+{
     if bytes.len() < RECORD_BYTES {
         return Err(LogFault::Trace(TraceFault::Short(place)));
     }
@@ -159,7 +184,9 @@ fn takes_argument(before: &BasicRec, of: Owner, function: u32) -> bool {
 }
 
 /// Whether a record may stand behind another one.
-pub(crate) fn may_stand(before: Option<&BasicRec>, rec: &BasicRec) -> bool {
+pub(crate) fn may_stand(before: Option<&BasicRec>, rec: &BasicRec) -> bool
+    ensures { result ≡ may_stand (before_view (option_map (λ b. b.now) before.entry)) (basic_view rec.now) }
+{
     match *rec {
         BasicRec::Passed { .. } => true,
         BasicRec::Argument { owner, func, .. } => match before {

@@ -1,6 +1,7 @@
 //! Events that a program logs itself.
-ghost use Rattle.std.specs.Prelude.{◌≡◌, ◌+◌, ◌<◌, option_map, length};
+ghost use Rattle.std.specs.Prelude.{◌≡◌, ◌≤◌, length};
 ghost use Rattle.runtime_log.specs.OwnEvents.{own_delta, own_kind, own_size};
+ghost use Rattle.runtime_log.specs.private.Walks.{own_length};
 
 use crate::version::LogVersion;
 use byteorder::{ByteOrder, LittleEndian};
@@ -63,7 +64,9 @@ pub(crate) fn own_delta(version: LogVersion, bytes: &[u8]) -> u32
 
 /// The length of an event's record and of the bytes behind it. If the record isn't whole, that of a
 /// record.
-pub(crate) fn own_len(bytes: &[u8]) -> usize {
+pub(crate) fn own_len(bytes: &[u8]) -> usize
+    ensures { result ≡ own_length bytes.now }
+{
     if bytes.len() < METADATA_BYTES {
         METADATA_BYTES
     } else {

@@ -1,4 +1,7 @@
 //! All blocks of a log, in the order of the file.
+ghost use Rattle.std.specs.Prelude.{◌≡◌, ◌<◌, ◌≤◌, ◌^◌, IfOk, OnOk, length};
+ghost use Rattle.runtime_log.specs.private.Headers.{header_for, mode_of};
+
 use crate::basic::{BasicRec, RECORD_BYTES, may_stand, record_in};
 use crate::blocks::{LogBlock, LogBlocks, Mode};
 use crate::fault::LogFault;
@@ -32,7 +35,10 @@ const CONSTANT: u32 = 1;
 const NONSTOP: u32 = 2;
 
 /// The mode of a log, or why its header isn't that of one.
-pub(crate) fn read_mode(bytes: &[u8]) -> Result<Mode, TraceFault> {
+pub(crate) fn read_mode(bytes: &[u8]) -> Result<Mode, TraceFault>
+    ensures reads { result ≡ mode_of bytes.now }
+    ensures whole { OnOk result (32 ≤ length bytes.now) }
+{
     if bytes.len() < HEADER_BYTES {
         return Err(TraceFault::Short(0));
     }
@@ -54,7 +60,10 @@ pub(crate) fn read_mode(bytes: &[u8]) -> Result<Mode, TraceFault> {
 }
 
 /// The header of the trace of a log. A basic log says the size of no buffer.
-pub(crate) fn trace_header(bytes: &[u8], mode: Mode) -> Header {
+pub(crate) fn trace_header(bytes: &[u8], mode: Mode) -> Header
+    requires { 32 ≤ length bytes.now }
+    ensures { result ≡ header_for mode bytes.now }
+{
     let flags = LittleEndian::read_u32(&bytes[FLAGS_AT..]);
     Header {
         version: VERSION,
@@ -106,7 +115,11 @@ impl LogBlocks {
         version: LogVersion,
         bytes: &[u8],
         at: usize,
-    ) -> Result<LogBlock, TraceFault> {
+    ) -> Result<LogBlock, TraceFault>
+        requires few { length bytes.now < 2 ^ 32 }
+        requires within { at ≤ length bytes.now }
+        ensures within { IfOk result (λ block. (block.begin ≡ at) × (at < block.end) × (block.end ≤ length bytes.now)) }
+    {
         let mut walk = BlockWalk::open(version, bytes, at)?;
         let mut block = LogBlock {
             begin: at,
@@ -136,7 +149,9 @@ impl LogBlocks {
     }
 
     /// The blocks of a log of the Flight Data Recorder mode.
-    fn read_recorder(&mut self, version: LogVersion, bytes: &[u8]) -> Result<(), LogFault> {
+    fn read_recorder(&mut self, version: LogVersion, bytes: &[u8]) -> Result<(), LogFault>
+        requires few { length bytes.now < 2 ^ 32 }
+    {
         let mut at = HEADER_BYTES;
         'blocks: while at < bytes.len() {
             let block = match self.read_block(version, bytes, at) {
@@ -176,7 +191,9 @@ impl LogBlocks {
     }
 
     /// The blocks of a basic log.
-    fn read_basic(&mut self, bytes: &[u8]) -> Result<(), LogFault> {
+    fn read_basic(&mut self, bytes: &[u8]) -> Result<(), LogFault>
+        requires few { length bytes.now < 2 ^ 32 }
+    {
         let mut at = HEADER_BYTES;
         let mut before = None;
         'records: while at < bytes.len() {
@@ -193,7 +210,9 @@ impl LogBlocks {
     }
 
     /// All blocks of a log of this mode.
-    pub(crate) fn read(alloc: Global, bytes: &[u8], mode: Mode) -> Result<LogBlocks, LogFault> {
+    pub(crate) fn read(alloc: Global, bytes: &[u8], mode: Mode) -> Result<LogBlocks, LogFault>
+        requires few { length bytes.now < 2 ^ 32 }
+    {
         let mut blocks = LogBlocks::new(alloc, mode);
         match mode {
             Mode::Recorder(version) => blocks.read_recorder(version, bytes)?,

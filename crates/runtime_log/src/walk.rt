@@ -1,4 +1,8 @@
 //! The records of a block of the Flight Data Recorder mode.
+ghost use Rattle.std.specs.Prelude.{◌≡◌, ◌<◌, ◌≤◌, ◌+◌, ◌^◌, IfOk, OnOk, drop, length};
+ghost use Rattle.runtime_log.specs.OwnEvents.{own_kind};
+ghost use Rattle.runtime_log.specs.private.Walks.{IsWithin, StepsTo, counter_behind, found_length, found_record, log_judged};
+
 use crate::own_event::{OwnKind, own_delta, own_kind, own_len};
 use crate::version::LogVersion;
 use fdr_file::{Stage, Told, TraceFault, judge, record_len, record_of, within_events};
@@ -25,7 +29,12 @@ struct Found {
 }
 
 /// What bytes begin with, at this stage.
-fn found_in(version: LogVersion, stage: Stage, bytes: &[u8]) -> Found {
+fn found_in(version: LogVersion, stage: Stage, bytes: &[u8]) -> Found
+    requires { 0 < length bytes.now }
+    ensures len { result.len ≡ found_length version bytes.now }
+    ensures rec { result.rec ≡ found_record version stage bytes.now }
+    ensures own { result.own ≡ own_kind version bytes.now }
+{
     match own_kind(version, bytes) {
         None => Found {
             len: record_len(bytes),
@@ -46,7 +55,9 @@ fn found_in(version: LogVersion, stage: Stage, bytes: &[u8]) -> Found {
 
 /// The counter at an event of the program's own, which bytes begin with. It is 0 if the record isn't
 /// whole.
-fn counter_behind(version: LogVersion, stage: Stage, bytes: &[u8]) -> u64 {
+fn counter_behind(version: LogVersion, stage: Stage, bytes: &[u8]) -> u64
+    ensures { result ≡ counter_behind version stage bytes.now }
+{
     if bytes.len() < METADATA_BYTES {
         return 0;
     }
@@ -63,7 +74,12 @@ impl<'a> BlockWalk<'a> {
         version: LogVersion,
         bytes: &'a [u8],
         at: usize,
-    ) -> Result<BlockWalk<'a>, TraceFault> {
+    ) -> Result<BlockWalk<'a>, TraceFault>
+        requires few { length bytes.entry.now < 2 ^ 32 }
+        requires within { at ≤ length bytes.entry.now }
+        ensures whole { IfOk result (λ walk. IsWithin (length bytes.entry.now) walk.at walk.stage) }
+        ensures bytes { IfOk result (λ walk. walk.bytes.now ≡ bytes.entry.now) }
+    {
         let place = at as u64;
         let rest = &bytes[at..];
         if rest.len() < METADATA_BYTES {
@@ -95,7 +111,9 @@ impl<'a> BlockWalk<'a> {
     }
 
     /// The place of the next record, or that after the block.
-    pub(crate) fn at(&self) -> usize {
+    pub(crate) fn at(&self) -> usize
+        ensures { result ≡ self.now.at }
+    {
         self.at
     }
 
@@ -106,7 +124,19 @@ impl<'a> BlockWalk<'a> {
 
     /// Goes past the next record. Returns what it says, and its kind if it is an event of the
     /// program's own.
-    pub(crate) fn step(&mut self) -> Result<(Told, Option<OwnKind>), TraceFault> {
+    pub(crate) fn step(&mut self) -> Result<(Told, Option<OwnKind>), TraceFault>
+        requires few { length self.old.bytes.now < 2 ^ 32 }
+        requires left { self.old.at < length self.old.bytes.now }
+        requires within { IsWithin (length self.old.bytes.now) self.old.at self.old.stage }
+        ensures steps { StepsTo (log_judged self.old.version self.old.stage self.old.at (drop self.old.at self.old.bytes.now))
+            self.new.stage result }
+        ensures own { IfOk result (λ x. x.1 ≡ own_kind self.old.version (drop self.old.at self.old.bytes.now)) }
+        ensures next { OnOk result (self.new.at
+            ≡ self.old.at + found_length self.old.version (drop self.old.at self.old.bytes.now)) }
+        ensures within { OnOk result (IsWithin (length self.new.bytes.now) self.new.at self.new.stage) }
+        ensures further { OnOk result (self.old.at < self.new.at) }
+        ensures bytes { self.new.bytes ≡ self.old.bytes }
+    {
         let found = found_in(self.version, self.stage, &self.bytes[self.at..]);
         let (stage, told) = judge(
             self.version.as_trace(),
