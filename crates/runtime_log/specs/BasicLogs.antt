@@ -39,8 +39,8 @@ tag_in bytes = little_number 2 bytes
 abbrev pub kind_byte : List ℕ → ℕ
 kind_byte bytes = slice_index bytes 3
 
-abbrev pub function_in : List ℕ → ℕ
-function_in bytes = little_number 4 (drop 4 bytes)
+abbrev pub func_in : List ℕ → ℕ
+func_in bytes = little_number 4 (drop 4 bytes)
 
 -- the passing that a record of this kind says
 abbrev pub passing_in : Kind → List ℕ → ThreadEvent
@@ -49,7 +49,7 @@ passing_in kind bytes = record {
   pid = little_number 4 (drop 20 bytes);
   event = record {
     cpu = slice_index bytes 2;
-    func = function_in bytes;
+    func = func_in bytes;
     kind = kind;
     tsc = little_number 8 (drop 8 bytes);
     arg = if logs_arg kind then little_number 8 (drop 24 bytes) else 0;
@@ -59,7 +59,7 @@ passing_in kind bytes = record {
 -- the argument that a record says
 abbrev pub argument_in : List ℕ → BasicRec
 argument_in bytes =
-    Argument (function_in bytes) (little_number 4 (drop 8 bytes)) (little_number 4 (drop 12 bytes)) (little_number 8 (drop 16 bytes))
+    Argument (func_in bytes) (little_number 4 (drop 8 bytes)) (little_number 4 (drop 12 bytes)) (little_number 8 (drop 16 bytes))
 
 -- ---- one after the other, the last of the records before one listed first
 
@@ -74,15 +74,15 @@ takes_argument (Passed e ∷ before) func thread pid = is_argument_of e func thr
 takes_argument (Argument f t p value ∷ before) func thread pid = f == func && t == thread && p == pid
 
 -- the record may stand behind these
-abbrev pub may_stand : List BasicRec → BasicRec → Bool
-may_stand before (Passed e) = true
-may_stand before (Argument func thread pid value) = takes_argument before func thread pid
+abbrev pub may_follow : List BasicRec → BasicRec → Bool
+may_follow before (Passed e) = true
+may_follow before (Argument func thread pid value) = takes_argument before func thread pid
 
 -- a record with this tag, at a place
 abbrev pub passing_rows : ℕ → List ℕ → Result BasicRec LogFault
 passing_rows at bytes =
     NeedsPart (kind_numbered (kind_byte bytes)) (Err (faults.Kind at (kind_byte bytes))) λ kind.
-    First (not (nat_lt (function_in bytes) (2 ^ 28))) (Err (faults.Function at (function_in bytes)))
+    First (not (nat_lt (func_in bytes) (2 ^ 28))) (Err (faults.Function at (func_in bytes)))
     (Ok (Passed (passing_in kind bytes)))
 
 abbrev pub tagged_rows : ℕ → List ℕ → Result BasicRec LogFault
@@ -93,7 +93,7 @@ tagged_rows at bytes =
     (Err (faults.Tag at (tag_in bytes)))))
 
 abbrev pub standing_rows : List BasicRec → ℕ → BasicRec → Result (List BasicRec) LogFault
-standing_rows before at r = First (not (may_stand before r)) (Err (faults.Trace (traces.Order at))) (Ok (r ∷ before))
+standing_rows before at r = First (not (may_follow before r)) (Err (faults.Trace (traces.Order at))) (Ok (r ∷ before))
 
 abbrev pub basic_rows : List BasicRec → ℕ × List ℕ → Result (List BasicRec) LogFault
 basic_rows before (at, bytes) = tagged_rows at bytes >>= λ r. standing_rows before at r

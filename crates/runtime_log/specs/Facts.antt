@@ -11,8 +11,8 @@ use Rattle.runtime_log.specs.Logs.{LogBlock}
 use Rattle.runtime_log.specs.Taken.{undoubled}
 
 -- the events of blocks, in order
-abbrev pub events_in : List LogBlock → List Event
-events_in blocks = flat_map (λ b. b.block.events) blocks
+abbrev pub taken_events : List LogBlock → List Event
+taken_events blocks = flat_map (λ b. b.block.events) blocks
 
 -- the threads of blocks, each once
 abbrev pub threads_in : List LogBlock → List ℕ
@@ -21,8 +21,8 @@ threads_in (b ∷ blocks) =
     let others = threads_in blocks in if list_any (λ thread. thread == b.block.thread) others then others else b.block.thread ∷ others
 
 -- the events of a thread
-abbrev pub events_of : List LogBlock → (thread : ℕ) → List Event
-events_of blocks thread = events_in (filter (λ b. b.block.thread == thread) blocks)
+abbrev pub thread_events_of : List LogBlock → (thread : ℕ) → List Event
+thread_events_of blocks thread = taken_events (filter (λ b. b.block.thread == thread) blocks)
 
 -- some event has a lower counter than the one before it
 abbrev pub goes_back : List Event → Bool
@@ -42,7 +42,7 @@ greatest_of (n ∷ ns) = Some (option_map_or (max n) (greatest_of ns) n)
 -- the facts of the blocks of a log, of which these are taken
 abbrev pub facts_of : (blocks taken : List LogBlock) → Facts
 facts_of blocks taken =
-    let events = events_in taken in
+    let events = taken_events taken in
     let counters = map (λ event. event.tsc) events in record {
       blocks = length taken;
       threads = length (threads_in taken);
@@ -54,7 +54,7 @@ facts_of blocks taken =
       empty = count_by (λ b. length b.block.events == 0) (undoubled blocks);
       first = least_of counters;
       last = greatest_of counters;
-      back = count_by (λ thread. goes_back (events_of taken thread)) (threads_in taken);
+      back = count_by (λ thread. goes_back (thread_events_of taken thread)) (threads_in taken);
     }
 
 -- ---- as they are printed

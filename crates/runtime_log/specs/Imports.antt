@@ -23,8 +23,8 @@ abbrev pub trace_taken : Header → List LogBlock → Trace
 trace_taken header taken = record { header = header; blocks = flat_map (λ b. pieces_of b.block) taken }
 
 -- a block as the buffer that it is written from
-abbrev pub buffer_of : Block → Filled
-buffer_of block = record {
+abbrev pub buffer_for : Block → Filled
+buffer_for block = record {
   size = LARGEST_SIZE;
   begun = true;
   thread = block.thread;
@@ -36,7 +36,7 @@ buffer_of block = record {
 
 -- the bytes of the file that is written for a trace
 abbrev pub trace_file : Trace → List ℕ
-trace_file trace = file_bytes trace.header (map buffer_of trace.blocks)
+trace_file trace = file_bytes trace.header (map buffer_for trace.blocks)
 
 -- The bytes are a log, of which this file is made, and of which this is printed.
 pub record IsImport (bytes file : List ℕ) (facts : Facts) : Type 0 where

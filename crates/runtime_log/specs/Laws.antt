@@ -10,7 +10,7 @@ use Rattle.runtime_log.specs.declared.facts.Facts.{Facts}
 use Rattle.runtime_log.specs.declared.fault.LogFault.TheVariants as faults
 use Rattle.runtime_log.specs.Imports.{IsImport, trace_taken}
 use Rattle.runtime_log.specs.Logs.{Log, LogBlock, logged}
-use Rattle.runtime_log.specs.Taken.{AreTaken, comes_first, first_counter}
+use Rattle.runtime_log.specs.Taken.{AreTaken, is_lower, first_counter}
 
 -- a log is imported in one way only
 abbrev pub OneImport : Type 0
@@ -48,7 +48,7 @@ buffer_key buffer = buffer.thread ∷ buffer.wall.secs ∷ buffer.wall.micros �
 -- may have the same bytes, so that one is left out.
 abbrev pub AreRising : List Filled → Type 0
 AreRising [] = Unit {0}
-AreRising (buffer ∷ buffers) = All (λ later. IsTrue (comes_first (buffer_key buffer) (buffer_key later))) buffers × AreRising buffers
+AreRising (buffer ∷ buffers) = All (λ later. IsTrue (is_lower (buffer_key buffer) (buffer_key later))) buffers × AreRising buffers
 
 -- A file that is written for buffers with events, in this order, is imported as itself.
 abbrev pub ImportsItself : Type 0

@@ -107,21 +107,21 @@ pid_of (Passed e) = e.pid
 pid_of (Argument func thread pid value) = pid
 
 -- a run of one record, and a record before the runs of those after it
-abbrev pub run_of : ℕ × List ℕ → BasicRec → BasicRun
-run_of (at, bytes) r =
+abbrev pub single_run : ℕ × List ℕ → BasicRec → BasicRun
+single_run (at, bytes) r =
     record { place = at; content = take basic_length bytes; thread = thread_of r; pid = pid_of r; records = r ∷ [] }
 
-abbrev pub before_runs : ℕ × List ℕ → BasicRec → List BasicRun → List BasicRun
-before_runs start r [] = run_of start r ∷ []
-before_runs (at, bytes) r (run ∷ runs) =
+abbrev pub joined_runs : ℕ × List ℕ → BasicRec → List BasicRun → List BasicRun
+joined_runs start r [] = single_run start r ∷ []
+joined_runs (at, bytes) r (run ∷ runs) =
     if run.thread == thread_of r && run.pid == pid_of r
     then record run { place = at; content = take basic_length bytes ++ run.content; records = r ∷ run.records } ∷ runs
-    else run_of (at, bytes) r ∷ run ∷ runs
+    else single_run (at, bytes) r ∷ run ∷ runs
 
 -- the runs of records, each of which is as long as it can be
-abbrev pub runs_of : List (ℕ × List ℕ) → List BasicRec → List BasicRun
-runs_of (start ∷ starts) (r ∷ records) = before_runs start r (runs_of starts records)
-runs_of _ _ = []
+abbrev pub basic_runs : List (ℕ × List ℕ) → List BasicRec → List BasicRun
+basic_runs (start ∷ starts) (r ∷ records) = joined_runs start r (basic_runs starts records)
+basic_runs _ _ = []
 
 -- a run is a block, which was begun at the wall time 0
 abbrev pub run_block : BasicRun → LogBlock
@@ -135,7 +135,7 @@ run_block run = record {
 
 abbrev pub basic_blocks : List ℕ → Result (List LogBlock) LogFault
 basic_blocks bytes =
-    InTurn basic_rows [] (basic_starts bytes) >>= λ before. Ok (map run_block (runs_of (basic_starts bytes) (reverse before)))
+    InTurn basic_rows [] (basic_starts bytes) >>= λ before. Ok (map run_block (basic_runs (basic_starts bytes) (reverse before)))
 
 -- ---- a log
 

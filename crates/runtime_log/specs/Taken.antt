@@ -34,9 +34,9 @@ first_counter [] = 0
 first_counter (event ∷ events) = event.tsc
 
 -- by the first number that differs
-abbrev pub comes_first : List ℕ → List ℕ → Bool
-comes_first (n ∷ ns) (m ∷ ms) = nat_lt n m || (n == m && comes_first ns ms)
-comes_first _ _ = false
+abbrev pub is_lower : List ℕ → List ℕ → Bool
+is_lower (n ∷ ns) (m ∷ ms) = nat_lt n m || (n == m && is_lower ns ms)
+is_lower _ _ = false
 
 -- By the thread, then the wall time, the first counter, and the place. The runtime writes its buffers in the order of its
 -- pool. Pairs of entries and exits are found only if the events of a thread are in the order of time.
@@ -45,7 +45,7 @@ order_key b =
     b.block.thread ∷ b.block.wall.secs ∷ b.block.wall.micros ∷ first_counter b.block.events ∷ b.place ∷ []
 
 abbrev pub comes_before : LogBlock → LogBlock → Bool
-comes_before b other = comes_first (order_key b) (order_key other)
+comes_before b other = is_lower (order_key b) (order_key other)
 
 -- These are the blocks that are taken of a log, in their order.
 pub record AreTaken (blocks taken : List LogBlock) : Type 0 where

@@ -2,7 +2,7 @@
 ghost use Rattle.std.specs.Prelude.{◌≡◌, ◌≤◌, ◌+◌, OnOk, drop, length, option_map};
 ghost use Rattle.byteorder.specs.Endian.{little_number};
 ghost use Rattle.fdr_file.specs.Traces.{logs_arg};
-ghost use Rattle.runtime_log.specs.BasicLogs.{argument_in, kind_numbered, may_stand, passing_rows, tagged_rows, takes_argument};
+ghost use Rattle.runtime_log.specs.BasicLogs.{argument_in, kind_numbered, may_follow, passing_rows, tagged_rows, takes_argument};
 ghost use Rattle.runtime_log.specs.private.Records.{basic_view, before_view, read_view};
 
 use crate::fault::LogFault;
@@ -184,8 +184,8 @@ fn takes_argument(before: &BasicRec, of: Owner, function: u32) -> bool {
 }
 
 /// Whether a record may stand behind another one.
-pub(crate) fn may_stand(before: Option<&BasicRec>, rec: &BasicRec) -> bool
-    ensures { result ≡ may_stand (before_view (option_map (λ b. b.now) before.entry)) (basic_view rec.now) }
+pub(crate) fn may_follow(before: Option<&BasicRec>, rec: &BasicRec) -> bool
+    ensures { result ≡ may_follow (before_view (option_map (λ b. b.now) before.entry)) (basic_view rec.now) }
 {
     match *rec {
         BasicRec::Passed { .. } => true,

@@ -2,7 +2,7 @@
 ghost use Rattle.std.specs.Prelude.{◌≡◌, ◌<◌, ◌≤◌, ◌^◌, IfOk, OnOk, length};
 ghost use Rattle.runtime_log.specs.private.Headers.{header_for, mode_of};
 
-use crate::basic::{BasicRec, RECORD_BYTES, may_stand, record_in};
+use crate::basic::{BasicRec, RECORD_BYTES, may_follow, record_in};
 use crate::blocks::{LogBlock, LogBlocks, Mode};
 use crate::fault::LogFault;
 use crate::own_event::OwnKind;
@@ -199,7 +199,7 @@ impl LogBlocks {
         'records: while at < bytes.len() {
             let place = at as u64;
             let rec = record_in(place, &bytes[at..])?;
-            if !may_stand(before.as_ref(), &rec) {
+            if !may_follow(before.as_ref(), &rec) {
                 return Err(LogFault::Trace(TraceFault::Order(place)));
             }
             self.add_record(at, &rec)?;

@@ -128,8 +128,8 @@ impl<'a> BlockWalk<'a> {
         requires few { length self.old.bytes.now < 2 ^ 32 }
         requires left { self.old.at < length self.old.bytes.now }
         requires within { IsWithin (length self.old.bytes.now) self.old.at self.old.stage }
-        ensures steps { StepsTo (log_judged self.old.version self.old.stage self.old.at (drop self.old.at self.old.bytes.now))
-            self.new.stage result }
+        ensures steps { let rest = drop self.old.at self.old.bytes.now in
+            StepsTo (log_judged self.old.version self.old.stage self.old.at rest) self.new.stage result }
         ensures own { IfOk result (λ x. x.1 ≡ own_kind self.old.version (drop self.old.at self.old.bytes.now)) }
         ensures next { OnOk result (self.new.at
             ≡ self.old.at + found_length self.old.version (drop self.old.at self.old.bytes.now)) }

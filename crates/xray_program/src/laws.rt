@@ -11,6 +11,7 @@ ghost use Rattle.xray_program.specs.{Accepted.{AreAccepted, CountsNoFault}, Answ
 ghost use Rattle.xray_program.specs.Commands.{IsDecided, Means, TellsAll, inputs_of};
 ghost use Rattle.xray_program.specs.Outcomes.{Outcome, status_of, written_by};
 ghost use Rattle.machine_step.specs.Setups.{IsSetup};
+ghost use Rattle.xray_program.specs.Import.{RunsImportThemselves};
 ghost use Rattle.xray_program.specs.Traced.{IsReported};
 ghost use Rattle.command_words.specs.Words.{Command};
 
@@ -18,7 +19,8 @@ use crate::drawn::each_input_is_read;
 use fdr_file::a_trace_is_read;
 use machine_step::{one_end, some_end, some_marks_follow};
 use patch_script::each_script_lets_threads_end;
-use runtime_log::{one_import, some_import};
+use fdr_buffer::segments_hold_all;
+use runtime_log::{a_trace_in_order_is_imported_as_itself, one_import, some_import};
 use step_sim::{one_run, some_run};
 use trace_flush::{a_run_is_traced, a_trace_is_short};
 use traced_run::some_losses_are_of_a_queue;
@@ -109,4 +111,15 @@ pub fn reports_take_a_run()
     a_run_is_traced();
     a_trace_is_short();
     a_trace_is_read();
+}
+
+/// The trace that `sim` or `run` wrote is imported as itself, byte for byte, if the counter rises from
+/// each event of a thread to the next. With `--tick 0` it doesn't rise, and two segments of a thread may
+/// have the same bytes, of which `import` leaves one out.
+pub fn a_run_is_imported_as_itself()
+    ensures { RunsImportThemselves }
+{
+    a_trace_in_order_is_imported_as_itself();
+    segments_hold_all();
+    a_run_is_traced();
 }
