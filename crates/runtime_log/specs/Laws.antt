@@ -1,5 +1,7 @@
 -- Laws of imports, over what the bytes of a log say.
-use Rattle.std.specs.Prelude.{◌≡◌, ◌<◌, ℕ, Bool, true, false, List, [], ◌∷◌, map, All, IsTrue, Result, Ok, Err}
+use Rattle.std.specs.Prelude.{◌≡◌, ◌<◌, ℕ, List, [], ◌∷◌, map, All, AllPairs, IsTrue, Result, Ok, Err}
+use Rattle.std.specs.Cmp.Lexicographic.{slice_cmp}
+use Rattle.std.specs.Ordering.{is_lt, nat_cmp}
 use Rattle.fdr_record.specs.declared.event.Event.{Event}
 use Rattle.fdr_buffer.specs.Filled.{Filled, has_event}
 use Rattle.fdr_file.specs.declared.header.Header.{Header}
@@ -10,7 +12,7 @@ use Rattle.runtime_log.specs.declared.facts.Facts.{Facts}
 use Rattle.runtime_log.specs.declared.fault.LogFault.TheVariants as faults
 use Rattle.runtime_log.specs.Imports.{IsImport, trace_taken}
 use Rattle.runtime_log.specs.Logs.{Log, LogBlock, logged}
-use Rattle.runtime_log.specs.Taken.{AreTaken, is_lower, first_counter}
+use Rattle.runtime_log.specs.Taken.{AreTaken, first_counter}
 
 -- a log is imported in one way only
 abbrev pub OneImport : Type 0
@@ -47,8 +49,7 @@ buffer_key buffer = buffer.thread ∷ buffer.wall.secs ∷ buffer.wall.micros �
 -- if the counter rises from each event of a thread to the next. With `--tick 0` it doesn't rise, and two segments of a thread
 -- may have the same bytes, so that one is left out.
 abbrev pub AreRising : List Filled → Type 0
-AreRising [] = Unit {0}
-AreRising (buffer ∷ buffers) = All (λ later. IsTrue (is_lower (buffer_key buffer) (buffer_key later))) buffers × AreRising buffers
+AreRising buffers = AllPairs (λ buffer later. IsTrue (is_lt (slice_cmp nat_cmp (buffer_key buffer) (buffer_key later)))) buffers
 
 -- A file that is written for buffers with events, in this order, is imported as itself.
 abbrev pub ImportsItself : Type 0

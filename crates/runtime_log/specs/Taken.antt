@@ -1,7 +1,8 @@
 -- Which blocks of a log are taken, and in which order.
-use Rattle.std.specs.Prelude.{◌≡◌, ℕ, ◌==◌, ◌||◌, ◌&&◌, Bool, true, false, List, [], ◌∷◌, nat_lt, filter, length, if◌then◌else◌, slice_index, IsPermutation}
+use Rattle.std.specs.Prelude.{◌≡◌, ℕ, Bool, List, [], ◌∷◌, nat_lt, filter, length, if◌then◌else◌, AllPairs, IsPermutation, IsTrue}
 use Rattle.std.specs.List.{list_any}
-use Rattle.std.specs.List.Sorted.{IsSortedBy}
+use Rattle.std.specs.Cmp.Lexicographic.{slice_cmp}
+use Rattle.std.specs.Ordering.{is_lt, nat_cmp}
 use Rattle.std.specs.Str.{bytes_eq}
 use Rattle.fdr_record.specs.declared.event.Event.{Event}
 use Rattle.fdr_file.specs.declared.trace.Block.{Block}
@@ -33,11 +34,6 @@ abbrev pub first_counter : List Event → ℕ
 first_counter [] = 0
 first_counter (event ∷ events) = event.tsc
 
--- by the first number that differs
-abbrev pub is_lower : List ℕ → List ℕ → Bool
-is_lower (n ∷ ns) (m ∷ ms) = nat_lt n m || (n == m && is_lower ns ms)
-is_lower _ _ = false
-
 -- By the thread, then the wall time, the first counter, and the place. The runtime writes its buffers in the order of its
 -- pool. Pairs of entries and exits are found only if the events of a thread are in the order of time.
 abbrev pub order_key : LogBlock → List ℕ
@@ -45,9 +41,9 @@ order_key b =
     b.block.thread ∷ b.block.wall.secs ∷ b.block.wall.micros ∷ first_counter b.block.events ∷ b.place ∷ []
 
 abbrev pub comes_before : LogBlock → LogBlock → Bool
-comes_before b other = is_lower (order_key b) (order_key other)
+comes_before b other = is_lt (slice_cmp nat_cmp (order_key b) (order_key other))
 
 -- These are the blocks that are taken of a log, in their order.
 pub record AreTaken (blocks taken : List LogBlock) : Type 0 where
   pub all : IsPermutation (chosen blocks) taken
-  pub sorted : IsSortedBy comes_before taken
+  pub sorted : AllPairs (λ b later. IsTrue (comes_before b later)) taken

@@ -1,9 +1,9 @@
 //! The records of the basic mode.
-ghost use Rattle.std.specs.Prelude.{◌≡◌, ◌≤◌, ◌+◌, OnOk, drop, length, option_map};
+ghost use Rattle.std.specs.Prelude.{◌≡◌, ◌≤◌, ◌+◌, ◌++◌, [], ◌∷◌, OnOk, None, drop, length, option_map, option_to_list};
 ghost use Rattle.byteorder.specs.Endian.{little_number};
 ghost use Rattle.fdr_file.specs.Traces.{logs_arg};
-ghost use Rattle.runtime_log.specs.BasicLogs.{argument_in, kind_numbered, may_follow, passing_rows, tagged_rows, takes_argument};
-ghost use Rattle.runtime_log.specs.private.Records.{basic_view, before_view, read_view};
+ghost use Rattle.runtime_log.specs.BasicLogs.{argument_in, basic_events, kind_numbered, may_follow, passing_rows, tagged_rows, takes_argument};
+ghost use Rattle.runtime_log.specs.private.Records.{basic_view, before_view, owner_in, read_view, recs_in};
 
 use crate::fault::LogFault;
 use byteorder::{ByteOrder, LittleEndian};
@@ -66,7 +66,9 @@ pub(crate) enum BasicRec {
 
 impl BasicRec {
     /// Whose record it is.
-    pub(crate) fn owner(&self) -> Owner {
+    pub(crate) fn owner(&self) -> Owner
+        ensures { result ≡ owner_in self.now }
+    {
         match *self {
             BasicRec::Passed { owner, .. } | BasicRec::Argument { owner, .. } => owner,
         }
@@ -174,7 +176,9 @@ pub(crate) fn record_in(place: u64, bytes: &[u8]) -> Result<BasicRec, LogFault>
 }
 
 /// Whether an argument of this owner's call of a function may stand behind a record.
-fn takes_argument(before: &BasicRec, of: Owner, function: u32) -> bool {
+fn takes_argument(before: &BasicRec, of: Owner, function: u32) -> bool
+    ensures { result ≡ takes_argument (basic_view before.now ∷ []) function of.thread of.pid }
+{
     match *before {
         BasicRec::Passed { owner, event } => {
             logs_arg(event.kind) && event.func == function && owner == of
@@ -205,12 +209,17 @@ pub(crate) struct BasicEvents<'a> {
 
 impl<'a> BasicEvents<'a> {
     /// The events of these records.
-    pub(crate) fn new(bytes: &'a [u8]) -> BasicEvents<'a> {
+    pub(crate) fn new(bytes: &'a [u8]) -> BasicEvents<'a>
+        ensures { result.bytes.now ≡ bytes.entry.now }
+    {
         BasicEvents { bytes }
     }
 
     /// The next record, if there is one.
-    fn next_record(&mut self) -> Option<BasicRec> {
+    fn next_record(&mut self) -> Option<BasicRec>
+        ensures gives { recs_in self.old.bytes.now ≡ option_to_list (option_map basic_view result) ++ recs_in self.new.bytes.now }
+        ensures ends { result ≡ None → recs_in self.old.bytes.now ≡ [] }
+    {
         match record_in(0, self.bytes) {
             Ok(rec) => {
                 self.bytes = &self.bytes[RECORD_BYTES..];
@@ -229,7 +238,11 @@ impl<'a> BasicEvents<'a> {
     }
 
     /// The next event.
-    pub(crate) fn next(&mut self) -> Option<Event> {
+    pub(crate) fn next(&mut self) -> Option<Event>
+        ensures gives { basic_events (recs_in self.old.bytes.now)
+            ≡ option_to_list result ++ basic_events (recs_in self.new.bytes.now) }
+        ensures ends { result ≡ None → basic_events (recs_in self.old.bytes.now) ≡ [] }
+    {
         'passing: while let Some(rec) = self.next_record() {
             if let BasicRec::Passed { event, .. } = rec {
                 let arg = self.argument().unwrap_or(event.arg);

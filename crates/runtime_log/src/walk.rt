@@ -1,7 +1,7 @@
 //! The records of a block of the Flight Data Recorder mode.
 ghost use Rattle.std.specs.Prelude.{◌≡◌, ◌<◌, ◌≤◌, ◌+◌, ◌^◌, IfOk, OnOk, drop, length};
 ghost use Rattle.runtime_log.specs.OwnEvents.{own_kind};
-ghost use Rattle.runtime_log.specs.private.Walks.{IsWithin, StepsTo, counter_behind, found_length, found_record, log_judged};
+ghost use Rattle.runtime_log.specs.private.Walks.{IsWithin, StepsTo, counter_behind, found_length, found_record, is_due, log_judged};
 
 use crate::own_event::{OwnKind, own_delta, own_kind, own_len};
 use crate::version::LogVersion;
@@ -118,7 +118,9 @@ impl<'a> BlockWalk<'a> {
     }
 
     /// Whether all records were passed.
-    pub(crate) fn is_done(&self) -> bool {
+    pub(crate) fn is_done(&self) -> bool
+        ensures { result ≡ is_due self.now.stage }
+    {
         matches!(self.stage, Stage::Due)
     }
 

@@ -1,5 +1,5 @@
 -- `import`: a log of LLVM's runtime as a trace.
-use Rattle.std.specs.Prelude.{◌≡◌, ◌<◌, ⊤, ℕ, List, [], ◌∷◌}
+use Rattle.std.specs.Prelude.{◌≡◌, ◌<◌, ℕ, List, [], ◌∷◌, AllPairs}
 use Rattle.fdr_record.specs.declared.event.Event.{Event}
 use Rattle.machine_step.specs.Buffers.{spare_of}
 use Rattle.machine_step.specs.Setups.{IsSetup}
@@ -22,11 +22,9 @@ ImportComes reads held log trace = Take log_form reads held log (λ made outcome
 
 -- ---- traces of runs
 
--- the counter rises from each event to the next
+-- the counter rises from each event to those behind it
 abbrev pub CountersRise : List Event → Type 0
-CountersRise [] = ⊤
-CountersRise (event ∷ []) = ⊤
-CountersRise (event ∷ next ∷ events) = (event.tsc < next.tsc) × CountersRise (next ∷ events)
+CountersRise events = AllPairs (λ event later. event.tsc < later.tsc) events
 
 -- The trace of a run that its setup allows is imported as itself, byte for byte, if the counter of each thread rises.
 abbrev pub RunsImportThemselves : Type 0

@@ -1,6 +1,8 @@
 -- A way through the records of a block, from one to the next.
-use Rattle.std.specs.Prelude.{◌≡◌, ◌<◌, ◌≤◌, ◌^◌, ℕ, ◌+◌, ◌%◌, Bool, List, [], length, drop, nat_lt, Option, Some, None, Result, Ok, Err, if◌then◌else◌}
+use Rattle.std.specs.Prelude.{◌≡◌, ◌<◌, ◌≤◌, ◌^◌, ℕ, ◌+◌, ◌-◌, ◌%◌, Bool, true, false, List, [], ◌∷◌, ◌++◌, length, drop, take, nat_lt, Option, Some, None, option_to_list, Result, Ok, Err, if◌then◌else◌}
+use Rattle.std.specs.List.{flat_map}
 use Rattle.std.specs.Option.{option_map_or}
+use Rattle.fdr_record.specs.declared.event.Event.{Event}
 use Rattle.fdr_record.specs.declared.fault.RecFault.{RecFault}
 use Rattle.fdr_record.specs.declared.rec.Rec.{Rec}
 use Rattle.fdr_record.specs.declared.rec.Rec.TheVariants.{TscWrap}
@@ -13,9 +15,12 @@ use Rattle.fdr_file.specs.declared.stage.Span.{Span}
 use Rattle.fdr_file.specs.declared.stage.Stage.{Stage}
 use Rattle.fdr_file.specs.declared.stage.Stage.TheVariants.{Due, Within, Faulty}
 use Rattle.fdr_file.specs.declared.stage.Told.{Told}
+use Rattle.fdr_file.specs.declared.stage.Told.TheVariants.{Nothing, Begun, Noted}
+use Rattle.fdr_file.specs.Places.{starts}
 use Rattle.fdr_file.specs.Scanning.{stage_judged}
 use Rattle.fdr_file.specs.Traces.{record_in, record_length}
 use Rattle.runtime_log.specs.declared.version.LogVersion.{LogVersion}
+use Rattle.runtime_log.specs.declared.walk.BlockWalk.{BlockWalk}
 use Rattle.runtime_log.specs.OwnEvents.{own_delta, own_kind, own_size}
 use Rattle.runtime_log.specs.Versions.{trace_version}
 
@@ -61,3 +66,34 @@ IsWithin len at (Faulty span fault) = ⊥
 abbrev pub StepsTo : {X : Type 0} → (judged : Stage × Told) → (stage : Stage) → Result (Told × X) TraceFault → Type 0
 StepsTo judged stage (Ok x) = judged ≡ (stage, x.0)
 StepsTo judged stage (Err fault) = (span : Span) × (judged.0 ≡ Faulty span fault)
+
+-- ---- what a walk has still to say
+
+abbrev pub is_due : Stage → Bool
+is_due Due = true
+is_due (Within span inside) = false
+is_due (Faulty span fault) = false
+
+-- the bytes from a place to the end of the block
+abbrev pub bytes_within : Stage → ℕ → List ℕ → List ℕ
+bytes_within Due at bytes = []
+bytes_within (Within span inside) at bytes = take (span.end - at) (drop at bytes)
+bytes_within (Faulty span fault) at bytes = []
+
+-- what is at these places, in order
+abbrev pub log_told_over : LogVersion → Stage → List (ℕ × List ℕ) → List Told
+log_told_over version stage [] = []
+log_told_over version stage ((at, bytes) ∷ later) =
+    let said = log_judged version stage at bytes in said.1 ∷ log_told_over version said.0 later
+
+-- the events that are settled by what is at a place
+abbrev pub settled : Told → List Event
+settled Nothing = []
+settled (Begun thread wall pid) = []
+settled (Noted entry event) = option_to_list entry ++ option_to_list event
+
+-- the events that the rest of the block settles
+abbrev pub walk_events : BlockWalk → List Event
+walk_events walk =
+    flat_map settled (log_told_over walk.version walk.stage
+        (starts (found_length walk.version) 0 walk.at (bytes_within walk.stage walk.at walk.bytes.now)))
