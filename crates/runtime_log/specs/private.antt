@@ -3,3 +3,5 @@ pub mod Walks
 pub mod Records
 pub mod Headers
 pub mod Choices
+pub mod Packings
+pub mod Readings

@@ -1,4 +1,8 @@
 //! The blocks of a log, by their places.
+ghost use Rattle.std.specs.Prelude.{◌≡◌, ◌<◌, ◌++◌, ◌^◌, None, [], length, option_to_list};
+ghost use Rattle.runtime_log.specs.Logs.{LogBlock as SaidBlock};
+ghost use Rattle.runtime_log.specs.private.{Choices.{IsAt, LiesWithin, head_length}, Packings.{MayGive, events_to_come}, Walks.{GoesOn, walk_events}};
+
 use crate::basic::BasicEvents;
 use crate::version::LogVersion;
 use crate::walk::BlockWalk;
@@ -15,9 +19,11 @@ pub(crate) enum Mode {
     Basic,
 }
 
-/// The length of what stands before the bytes of a block.
 impl Mode {
-    pub(crate) fn head_bytes(self) -> usize {
+    /// The length of what stands before the bytes of a block.
+    pub(crate) fn head_bytes(self) -> usize
+        ensures { result ≡ head_length self }
+    {
         match self {
             Mode::Recorder(_) => fdr_record::METADATA_BYTES,
             Mode::Basic => 0,
@@ -69,7 +75,13 @@ pub(crate) enum BlockEvents<'a> {
 }
 
 /// The next event of a block's records, and the one after it if it is known.
-fn next_told(walk: &mut BlockWalk) -> (Option<Event>, Option<Event>) {
+fn next_told(walk: &mut BlockWalk) -> (Option<Event>, Option<Event>)
+    requires on { GoesOn walk.old }
+    ensures on { GoesOn walk.new }
+    ensures gives { walk_events walk.old
+        ≡ option_to_list result.0 ++ (option_to_list result.1 ++ walk_events walk.new) }
+    ensures ends { result.0 ≡ None → walk_events walk.old ≡ [] }
+{
     'records: while !walk.is_done() {
         match walk.step() {
             Ok((Told::Noted { entry, event }, _)) => {
@@ -89,7 +101,12 @@ fn next_told(walk: &mut BlockWalk) -> (Option<Event>, Option<Event>) {
 
 impl<'a> BlockEvents<'a> {
     /// All events of a block.
-    pub(crate) fn of(bytes: &'a [u8], mode: Mode, block: &LogBlock) -> BlockEvents<'a> {
+    pub(crate) fn of(bytes: &'a [u8], mode: Mode, block: &LogBlock) -> BlockEvents<'a>
+        requires few { length bytes.entry.now < 2 ^ 32 }
+        requires within { LiesWithin bytes.entry.now mode block.now }
+        ensures may { MayGive result }
+        ensures all { (b : SaidBlock) → IsAt bytes.entry.now mode block.now b → events_to_come result ≡ b.block.events }
+    {
         match mode {
             Mode::Recorder(version) => match BlockWalk::open(version, bytes, block.begin) {
                 Ok(walk) => BlockEvents::Recorder {
@@ -103,7 +120,12 @@ impl<'a> BlockEvents<'a> {
     }
 
     /// The next event.
-    pub(crate) fn next(&mut self) -> Option<Event> {
+    pub(crate) fn next(&mut self) -> Option<Event>
+        requires may { MayGive self.old }
+        ensures may { MayGive self.new }
+        ensures gives { events_to_come self.old ≡ option_to_list result ++ events_to_come self.new }
+        ensures ends { result ≡ None → events_to_come self.old ≡ [] }
+    {
         match self {
             BlockEvents::Recorder { walk, pending } => match pending.take() {
                 Some(event) => Some(event),

@@ -1,4 +1,10 @@
 //! The events of blocks as the file of a trace.
+ghost use Rattle.std.specs.Prelude.{◌≡◌, ◌++◌, ℕ, List, [], ◌∷◌, IfOk, OnOk};
+ghost use Rattle.fdr_file.specs.{Files.{file_bytes}, declared.header.Header.{Header as TheHeader}};
+ghost use Rattle.runtime_log.specs.Logs.{LogBlock as SaidBlock};
+ghost use Rattle.runtime_log.specs.declared.blocks.Mode.{Mode as TheMode};
+ghost use Rattle.runtime_log.specs.private.{Choices.{AreLeftOut, IsAt}, Packings.{AreInOrder, HasPacked, MayGive, events_to_come}, Readings.{AreRead}};
+
 use crate::blocks::{BlockEvents, LogBlock, LogBlocks};
 use crate::facts::Facts;
 use crate::taken::LeftOut;
@@ -47,7 +53,9 @@ fn no_facts(blocks: &LogBlocks, left: LeftOut) -> Facts {
 }
 
 /// Adds the bytes of a header.
-fn add_header(alloc: Global, file: &mut Vec<u8>, header: &Header) -> Result<(), NoMemory> {
+fn add_header(alloc: Global, file: &mut Vec<u8>, header: &Header) -> Result<(), NoMemory>
+    ensures { OnOk result (file.new.items ≡ file.old.items ++ file_bytes header.now []) }
+{
     let mut sink = MemSink::new(alloc, Vec::new(alloc));
     match write_file(header, &[], &mut sink) {
         Ok(()) => {
@@ -66,7 +74,10 @@ impl Packing {
         room: usize,
         blocks: &LogBlocks,
         left: LeftOut,
-    ) -> Result<Packing, NoMemory> {
+    ) -> Result<Packing, NoMemory>
+        ensures { (bytes : List ℕ) (said : List SaidBlock) → AreRead bytes said blocks.now → AreLeftOut said left
+            → IfOk result (HasPacked header.now said []) }
+    {
         let mut file = Vec::with_capacity(alloc, room)?;
         add_header(alloc, &mut file, header)?;
         Ok(Packing {
@@ -124,7 +135,12 @@ impl Packing {
     }
 
     /// Adds the events of a block, as one block or as several.
-    pub(crate) fn add(&mut self, block: &LogBlock, events: BlockEvents) -> Result<(), NoMemory> {
+    pub(crate) fn add(&mut self, block: &LogBlock, events: BlockEvents) -> Result<(), NoMemory>
+        requires may { MayGive events.entry }
+        ensures { (bytes : List ℕ) (mode : TheMode) (header : TheHeader) (said taken : List SaidBlock) (b : SaidBlock)
+            → HasPacked header said taken self.old → AreInOrder (taken ++ b ∷ []) → IsAt bytes mode block.now b
+            → events_to_come events.entry ≡ b.block.events → OnOk result (HasPacked header said (taken ++ b ∷ []) self.new) }
+    {
         self.facts.blocks += 1;
         self.begin(block);
         let mut events = events;

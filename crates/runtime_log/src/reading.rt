@@ -1,6 +1,10 @@
 //! All blocks of a log, in the order of the file.
-ghost use Rattle.std.specs.Prelude.{◌≡◌, ◌<◌, ◌≤◌, ◌^◌, IfOk, OnOk, length};
-ghost use Rattle.runtime_log.specs.private.Headers.{header_for, mode_of};
+ghost use Rattle.std.specs.Prelude.{◌≡◌, ◌⊎◌, ◌<◌, ◌≤◌, ◌+◌, ◌^◌, [], ◌∷◌, List, Ok, Err, IfErr, IfOk, OnOk, drop, length, option_map, if◌then◌else◌};
+ghost use Rattle.std.specs.Option.{option_or};
+ghost use Rattle.fdr_file.specs.declared.fault.TraceFault.TheVariants.{NoMemory as NoRoom};
+ghost use Rattle.runtime_log.specs.declared.fault.LogFault.TheVariants.{Trace};
+ghost use Rattle.runtime_log.specs.Logs.{LogBlock as SaidBlock, is_custom, is_typed, log_block_rows};
+ghost use Rattle.runtime_log.specs.private.{Choices.{IsAt}, Headers.{header_for, mode_of}, Readings.{AreRead, blocks_said}};
 
 use crate::basic::{BasicRec, RECORD_BYTES, may_follow, record_in};
 use crate::blocks::{LogBlock, LogBlocks, Mode};
@@ -77,8 +81,10 @@ pub(crate) fn trace_header(bytes: &[u8], mode: Mode) -> Header
     }
 }
 
-/// The earlier of two events, if there are any: the first one.
-fn earlier(first: Option<u64>, entry: Option<Event>, event: Option<Event>) -> Option<u64> {
+/// The first of these, if there are any: a counter, and those of two events.
+fn earlier(first: Option<u64>, entry: Option<Event>, event: Option<Event>) -> Option<u64>
+    ensures { result ≡ option_or first (option_map (λ e. e.tsc) (option_or entry event)) }
+{
     if first.is_some() {
         return first;
     }
@@ -100,8 +106,13 @@ impl LogBlocks {
         }
     }
 
-    /// Counts an event of the program's own, if it is one.
-    fn count(&mut self, own: Option<OwnKind>) {
+    /// Counts an event of the program's own, if it is one. A log has fewer than 2^32.
+    fn count(&mut self, own: Option<OwnKind>)
+        requires few { (self.old.custom < 2 ^ 32) × (self.old.typed < 2 ^ 32) }
+        ensures custom { self.new.custom ≡ self.old.custom + (if is_custom own then 1 else 0) }
+        ensures typed { self.new.typed ≡ self.old.typed + (if is_typed own then 1 else 0) }
+        ensures rest { (self.new.blocks ≡ self.old.blocks) × (self.new.mode ≡ self.old.mode) }
+    {
         match own {
             Some(OwnKind::Custom) => self.custom += 1,
             Some(OwnKind::Typed) => self.typed += 1,
@@ -118,7 +129,15 @@ impl LogBlocks {
     ) -> Result<LogBlock, TraceFault>
         requires few { length bytes.now < 2 ^ 32 }
         requires within { at ≤ length bytes.now }
-        ensures within { IfOk result (λ block. (block.begin ≡ at) × (at < block.end) × (block.end ≤ length bytes.now)) }
+        requires counts { (self.old.custom ≤ at) × (self.old.typed ≤ at) }
+        ensures counts { IfOk result (λ block. (self.new.custom ≤ block.end) × (self.new.typed ≤ block.end)) }
+        ensures reads { IfOk result (λ block. (b : SaidBlock)
+            × (log_block_rows version [] (at, drop at bytes.now) ≡ Ok (b ∷ []))
+            × IsAt bytes.now self.old.mode block b
+            × (self.new.custom ≡ self.old.custom + b.custom) × (self.new.typed ≡ self.old.typed + b.typed)) }
+        ensures refuses { IfErr result (λ fault. log_block_rows version [] (at, drop at bytes.now) ≡ Err fault) }
+        ensures further { IfOk result (λ block. (at < block.end) × (block.end ≤ length bytes.now)) }
+        ensures blocks { (self.new.blocks ≡ self.old.blocks) × (self.new.mode ≡ self.old.mode) }
     {
         let mut walk = BlockWalk::open(version, bytes, at)?;
         let mut block = LogBlock {
@@ -212,6 +231,11 @@ impl LogBlocks {
     /// All blocks of a log of this mode.
     pub(crate) fn read(alloc: Global, bytes: &[u8], mode: Mode) -> Result<LogBlocks, LogFault>
         requires few { length bytes.now < 2 ^ 32 }
+        requires mode { mode_of bytes.now ≡ Ok mode }
+        ensures mode { IfOk result (λ blocks. blocks.mode ≡ mode) }
+        ensures reads { IfOk result (λ blocks. (said : List SaidBlock) × (blocks_said mode bytes.now ≡ Ok said)
+            × AreRead bytes.now said blocks) }
+        ensures refuses { IfErr result (λ fault. (fault ≡ Trace NoRoom) ⊎ (blocks_said mode bytes.now ≡ Err fault)) }
     {
         let mut blocks = LogBlocks::new(alloc, mode);
         match mode {

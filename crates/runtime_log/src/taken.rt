@@ -1,4 +1,9 @@
 //! The blocks that are taken, in their order.
+ghost use Rattle.std.specs.{Cmp.Lexicographic.{slice_cmp}, Ordering.{nat_cmp}};
+ghost use Rattle.std.specs.Prelude.{◌≡◌, List};
+ghost use Rattle.runtime_log.specs.{Logs.{LogBlock as SaidBlock}, Taken.{AreTaken}};
+ghost use Rattle.runtime_log.specs.private.Choices.{AreAt, AreInFileOrder, AreLeftOut, LiesWithin, content_at, time_key};
+
 use crate::blocks::{LogBlock, Mode};
 use std::cmp::Ordering;
 
@@ -12,7 +17,9 @@ pub(crate) struct LeftOut {
 }
 
 /// Which of two blocks comes first, by its thread, its wall time and its first counter.
-fn by_time(one: &LogBlock, other: &LogBlock) -> Ordering {
+fn by_time(one: &LogBlock, other: &LogBlock) -> Ordering
+    ensures { result ≡ slice_cmp nat_cmp (time_key one.now) (time_key other.now) }
+{
     one.thread
         .cmp(&other.thread)
         .then(one.wall.secs.cmp(&other.wall.secs))
@@ -21,7 +28,9 @@ fn by_time(one: &LogBlock, other: &LogBlock) -> Ordering {
 }
 
 /// The bytes of a block, without its extents.
-fn content<'a>(bytes: &'a [u8], mode: Mode, block: &LogBlock) -> &'a [u8] {
+fn content<'a>(bytes: &'a [u8], mode: Mode, block: &LogBlock) -> &'a [u8]
+    ensures { LiesWithin bytes.entry.now mode block.now → result.now ≡ content_at bytes.entry.now mode block.now }
+{
     match bytes.get(block.begin + mode.head_bytes()..block.end) {
         Some(content) => content,
         None => &[],
@@ -29,7 +38,9 @@ fn content<'a>(bytes: &'a [u8], mode: Mode, block: &LogBlock) -> &'a [u8] {
 }
 
 /// Which of some bytes come first, by the first byte that differs.
-fn by_bytes(one: &[u8], other: &[u8]) -> Ordering {
+fn by_bytes(one: &[u8], other: &[u8]) -> Ordering
+    ensures { result ≡ slice_cmp nat_cmp one.now other.now }
+{
     one.iter().cmp(other.iter())
 }
 
@@ -37,7 +48,11 @@ fn by_bytes(one: &[u8], other: &[u8]) -> Ordering {
 ///
 /// Blocks with the same bytes have the same thread, wall time and first counter. So they are beside
 /// each other once blocks are ordered by these, and then by their bytes.
-pub(crate) fn take_blocks(bytes: &[u8], mode: Mode, blocks: &mut Vec<LogBlock>) -> LeftOut {
+pub(crate) fn take_blocks(bytes: &[u8], mode: Mode, blocks: &mut Vec<LogBlock>) -> LeftOut
+    ensures takes { (said : List SaidBlock) → AreAt bytes.now mode blocks.old.items said → AreInFileOrder said
+        → (taken : List SaidBlock) × AreTaken said taken × AreAt bytes.now mode blocks.new.items taken
+        × AreLeftOut said result }
+{
     let all = blocks.len() as u64;
     blocks.sort_unstable_by(|one, other| {
         by_time(one, other)

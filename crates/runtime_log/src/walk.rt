@@ -1,7 +1,7 @@
 //! The records of a block of the Flight Data Recorder mode.
-ghost use Rattle.std.specs.Prelude.{◌≡◌, ◌<◌, ◌≤◌, ◌+◌, ◌^◌, IfOk, OnOk, drop, length};
+ghost use Rattle.std.specs.Prelude.{◌≡◌, ◌<◌, ◌≤◌, ◌+◌, ◌^◌, IfOk, OnOk, drop, false, length};
 ghost use Rattle.runtime_log.specs.OwnEvents.{own_kind};
-ghost use Rattle.runtime_log.specs.private.Walks.{IsWithin, StepsTo, counter_behind, found_length, found_record, is_due, log_judged};
+ghost use Rattle.runtime_log.specs.private.Walks.{GoesOn, StepsTo, counter_behind, found_length, found_record, is_due, log_judged};
 
 use crate::own_event::{OwnKind, own_delta, own_kind, own_len};
 use crate::version::LogVersion;
@@ -77,8 +77,8 @@ impl<'a> BlockWalk<'a> {
     ) -> Result<BlockWalk<'a>, TraceFault>
         requires few { length bytes.entry.now < 2 ^ 32 }
         requires within { at ≤ length bytes.entry.now }
-        ensures whole { IfOk result (λ walk. IsWithin (length bytes.entry.now) walk.at walk.stage) }
-        ensures bytes { IfOk result (λ walk. walk.bytes.now ≡ bytes.entry.now) }
+        ensures whole { IfOk result (λ walk. GoesOn walk × (at < walk.at)) }
+        ensures bytes { IfOk result (λ walk. (walk.bytes.now ≡ bytes.entry.now) × (walk.version ≡ version)) }
     {
         let place = at as u64;
         let rest = &bytes[at..];
@@ -127,17 +127,16 @@ impl<'a> BlockWalk<'a> {
     /// Goes past the next record. Returns what it says, and its kind if it is an event of the
     /// program's own.
     pub(crate) fn step(&mut self) -> Result<(Told, Option<OwnKind>), TraceFault>
-        requires few { length self.old.bytes.now < 2 ^ 32 }
-        requires left { self.old.at < length self.old.bytes.now }
-        requires within { IsWithin (length self.old.bytes.now) self.old.at self.old.stage }
+        requires on { GoesOn self.old }
+        requires left { is_due self.old.stage ≡ false }
         ensures steps { let rest = drop self.old.at self.old.bytes.now in
             StepsTo (log_judged self.old.version self.old.stage self.old.at rest) self.new.stage result }
         ensures own { IfOk result (λ x. x.1 ≡ own_kind self.old.version (drop self.old.at self.old.bytes.now)) }
         ensures next { OnOk result (self.new.at
             ≡ self.old.at + found_length self.old.version (drop self.old.at self.old.bytes.now)) }
-        ensures within { OnOk result (IsWithin (length self.new.bytes.now) self.new.at self.new.stage) }
+        ensures on { GoesOn self.new }
         ensures further { OnOk result (self.old.at < self.new.at) }
-        ensures bytes { self.new.bytes ≡ self.old.bytes }
+        ensures bytes { (self.new.bytes ≡ self.old.bytes) × (self.new.version ≡ self.old.version) }
     {
         let found = found_in(self.version, self.stage, &self.bytes[self.at..]);
         let (stage, told) = judge(

@@ -62,6 +62,11 @@ IsWithin len at Due = at ≤ len
 IsWithin len at (Within span inside) = (at < span.end) × (span.end ≤ len)
 IsWithin len at (Faulty span fault) = ⊥
 
+-- a walk that may go on
+pub record GoesOn (walk : BlockWalk) : Type 0 where
+  pub few : length walk.bytes.now < 2 ^ 32
+  pub within : IsWithin (length walk.bytes.now) walk.at walk.stage
+
 -- what comes of a step: the walk goes on, or the record is refused
 abbrev pub StepsTo : {X : Type 0} → (judged : Stage × Told) → (stage : Stage) → Result (Told × X) TraceFault → Type 0
 StepsTo judged stage (Ok x) = judged ≡ (stage, x.0)
