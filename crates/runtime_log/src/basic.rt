@@ -217,7 +217,8 @@ impl<'a> BasicEvents<'a> {
 
     /// The next record, if there is one.
     fn next_record(&mut self) -> Option<BasicRec>
-        ensures gives { recs_in self.old.bytes.now ≡ option_to_list (option_map basic_view result) ++ recs_in self.new.bytes.now }
+        ensures gives { recs_in self.old.bytes.now
+            ≡ option_to_list (option_map basic_view result) ++ recs_in self.new.bytes.now }
         ensures ends { result ≡ None → recs_in self.old.bytes.now ≡ [] }
     {
         match record_in(0, self.bytes) {

@@ -139,7 +139,8 @@ impl Packing {
         requires may { MayGive events.entry }
         ensures { (bytes : List ℕ) (mode : TheMode) (header : TheHeader) (said taken : List SaidBlock) (b : SaidBlock)
             → HasPacked header said taken self.old → AreInOrder (taken ++ b ∷ []) → IsAt bytes mode block.now b
-            → events_to_come events.entry ≡ b.block.events → OnOk result (HasPacked header said (taken ++ b ∷ []) self.new) }
+            → events_to_come events.entry ≡ b.block.events
+            → OnOk result (HasPacked header said (taken ++ b ∷ []) self.new) }
     {
         self.facts.blocks += 1;
         self.begin(block);

@@ -22,6 +22,7 @@ pub(crate) struct BlockWalk<'a> {
 
 /// What is at a place: its length, the record that it stands for, and its kind if it is an event of
 /// the program's own.
+#[derive(Clone, Copy)]
 struct Found {
     len: usize,
     rec: Result<Rec, RecFault>,

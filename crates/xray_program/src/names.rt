@@ -40,7 +40,7 @@ impl TakenNames {
 }
 
 /// Takes what names functions, if the words name a file for that.
-#[tactic(auto, using(crate::proofs::NamesTaken::{kept_stop, kept_taken}))]
+#[tactic(auto, using(crate::proofs::NamesTaken::kept_stop, crate::proofs::NamesTaken::kept_taken))]
 pub(crate) fn take_names<'a, D: Desk>(
     alloc: Global,
     desk: &mut D,
