@@ -24,16 +24,24 @@ const ARGUMENT: u16 = 1;
 
 /// The places of a passing's fields.
 const CPU_AT: usize = 2;
+
 const KIND_AT: usize = 3;
+
 const FUNCTION_AT: usize = 4;
+
 const COUNTER_AT: usize = 8;
+
 const THREAD_AT: usize = 16;
+
 const PROCESS_AT: usize = 20;
+
 const LOGGED_AT: usize = 24;
 
 /// The places of an argument's fields. Its function is where that of a passing is.
 const ARGUMENT_THREAD_AT: usize = 8;
+
 const ARGUMENT_PROCESS_AT: usize = 12;
+
 const VALUE_AT: usize = 16;
 
 /// Whose record it is.

@@ -90,8 +90,7 @@ impl Packing {
 
     /// Begins to fill the buffer for a block.
     fn begin(&mut self, block: &LogBlock) {
-        self.buffer
-            .begin(block.thread, 0, block.wall, block.pid);
+        self.buffer.begin(block.thread, 0, block.wall, block.pid);
     }
 
     /// Adds the buffer as a block.

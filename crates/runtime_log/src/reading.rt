@@ -23,12 +23,16 @@ const HEADER_BYTES: usize = 32;
 
 /// The places of a header's fields.
 const TYPE_AT: usize = 2;
+
 const FLAGS_AT: usize = 4;
+
 const FREQUENCY_AT: usize = 8;
+
 const SIZE_AT: usize = 16;
 
 /// The types of logs.
 const BASIC: u16 = 0;
+
 const RECORDER: u16 = 1;
 
 /// The version of basic logs.
@@ -36,6 +40,7 @@ const BASIC_VERSION: u16 = 3;
 
 /// The flag that the counter runs at a constant frequency, and the flag that it never stops.
 const CONSTANT: u32 = 1;
+
 const NONSTOP: u32 = 2;
 
 /// The mode of a log, or why its header isn't that of one.

@@ -39,7 +39,9 @@ const X: Input = (
 /// A sled map that names function 1.
 const M: Input = (
     "m",
-    &[b"---\n- { id: 1, address: 0x1, function: 0x1, kind: function-enter, always-instrument: true, function-name: f }\n...\n"],
+    &[
+        b"---\n- { id: 1, address: 0x1, function: 0x1, kind: function-enter, always-instrument: true, function-name: f }\n...\n",
+    ],
 );
 
 /// The commands. Another command is another row.

@@ -16,10 +16,10 @@ ghost use Rattle.xray_program.specs.Traced.{IsReported};
 ghost use Rattle.command_words.specs.Words.{Command};
 
 use crate::drawn::each_input_is_read;
+use fdr_buffer::segments_hold_all;
 use fdr_file::a_trace_is_read;
 use machine_step::{one_end, some_end, some_marks_follow};
 use patch_script::each_script_lets_threads_end;
-use fdr_buffer::segments_hold_all;
 use runtime_log::{a_trace_in_order_is_imported_as_itself, one_import, some_import};
 use step_sim::{one_run, some_run};
 use trace_flush::{a_run_is_traced, a_trace_is_short};

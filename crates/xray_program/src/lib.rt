@@ -47,6 +47,6 @@ mod work;
 pub use call::{may_wait, out_of_memory, xray, xray_still};
 pub use drawn::soak_inputs;
 pub use laws::{
-    a_run_is_imported_as_itself, accepted_inputs_mean_done, inputs_follow_the_rows, no_words_mean_7, one_meaning,
-    refusal_is_the_only_meaning, reports_take_a_run, some_meaning,
+    a_run_is_imported_as_itself, accepted_inputs_mean_done, inputs_follow_the_rows,
+    no_words_mean_7, one_meaning, refusal_is_the_only_meaning, reports_take_a_run, some_meaning,
 };

@@ -101,4 +101,4 @@ settled (Noted entry event) = option_to_list entry ++ option_to_list event
 abbrev pub walk_events : BlockWalk → List Event
 walk_events walk =
     flat_map settled (log_told_over walk.version walk.stage
-        (starts (found_length walk.version) 0 walk.at (bytes_within walk.stage walk.at walk.bytes.now)))
+    (starts (found_length walk.version) 0 walk.at (bytes_within walk.stage walk.at walk.bytes.now)))
