@@ -17,7 +17,7 @@ template <typename Key> struct Stock {
 
 static void *work(void *) {
   long sum = 0;
-  for (int i = 0; i < 200; i++)
+  for (int i = 0; i < 10; i++)
     sum += sell(i);
   return (void *)sum;
 }

@@ -1,5 +1,5 @@
-// Three threads in the Flight Data Recorder mode, with arguments, custom and typed events, tail calls and recursion. They are
-// patched and unpatched while they run.
+// Three threads in the Flight Data Recorder mode, with arguments, custom events, tail calls and recursion. They are patched and
+// unpatched while they run.
 #include <pthread.h>
 #include "xray/xray_interface.h"
 #include "xray/xray_log_interface.h"
@@ -14,7 +14,6 @@
 TRACED int logs(int n) {
   static const char text[] = "hello, custom";
   __xray_customevent(text, 13);
-  __xray_typedevent(7, text, 5);
   return leaf(n + 1);
 }
 
