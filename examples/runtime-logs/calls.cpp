@@ -12,7 +12,9 @@
 [[clang::xray_always_instrument]] __attribute__((noinline)) int events(int number) {
   static const char text[] = "hello, custom";
   __xray_customevent(text, 13);
+#ifndef WITHOUT_TYPED_EVENTS
   __xray_typedevent(7, text, 5);
+#endif
   return leaf(number + 1);
 }
 
