@@ -170,7 +170,7 @@ def command_of(words, forms):
             if option not in form.options or option in given:
                 raise BadLine
             value = value if is_joined else next(left, None)
-            if value is None:
+            if value is None or (not is_joined and len(value) > 1 and value.startswith("-")):
                 raise BadLine
             given[option] = form.options[option].value_of(value)
         else:
