@@ -9,7 +9,7 @@ use Rattle.xray_image.specs.Units.{Piece, IsUnits, units_from, places_from}
 use Rattle.xray_image.specs.Container.{magic, version, base_address, code_length, function_count, entry_count, entry_index, number8_at}
 use Rattle.xray_image.specs.Program.{Program, AreFunctions, EachSled, IsEntryOf, Reaches, BranchesReach, IsAccepted, program_of, sled_of}
 use Rattle.asm_text.specs.Programs.{trampolines_at}
-use Rattle.asm_text.specs.Writing.{File, image_header_bytes, function_bytes, entry_bytes, image_bytes}
+use Rattle.asm_text.specs.Writing.{File, image_header_bytes, function_bytes, image_bytes, map_bytes}
 use Rattle.asm_text.proofs.ReadBack.{FileFits, parts_back}
 
 -- the fields of the header, as they are read
@@ -27,8 +27,9 @@ pub record IsReadHeader (f : File) (bytes : List ℕ) : Type 0 where
   pub tail_trampoline : number8_at bytes 48 ≡ f.base + 0x200020
   pub args_trampoline : number8_at bytes 56 ≡ f.base + 0x200030
 
-header_front : (f : File) (rest : List ℕ) → FileFits f → f.base ≤ 0x7FFF00000000 → f.entry < 256 ^ 4 → IsReadHeader f (image_header_bytes f ++ rest)
-header_front f rest fits low entry_fits =
+header_front : (f : File) (rest : List ℕ) → FileFits f → f.entry < 256 ^ 4 → IsReadHeader f (image_header_bytes f ++ rest)
+header_front f rest fits entry_fits =
+    let low = fits.base in
     let second = little_bytes 8 (f.base + 0x200010) in
     let third = little_bytes 8 (f.base + 0x200020) in
     let last = little_bytes 8 (f.base + 0x200030) in
@@ -51,13 +52,13 @@ header_front f rest fits low entry_fits =
       args_trampoline = little_number-reads_back 8 (f.base + 0x200030) rest (omega arith);
     }
 
-pub header_back : (f : File) → FileFits f → f.base ≤ 0x7FFF00000000 → f.entry < 256 ^ 4 → IsReadHeader f (image_bytes f)
-header_back f fits low entry_fits =
+pub header_back : (f : File) → FileFits f → f.entry < 256 ^ 4 → IsReadHeader f (image_bytes f)
+header_back f fits entry_fits =
     let functions_part = flat_map function_bytes f.functions in
-    let entries_part = flat_map entry_bytes f.entries in
+    let entries_part = map_bytes f.base f.entries in
     let shape : image_bytes f ≡ image_header_bytes f ++ (f.code ++ (functions_part ++ entries_part)) =
     append_assoc (image_header_bytes f ++ f.code) functions_part entries_part ∙ append_assoc (image_header_bytes f) f.code (functions_part ++ entries_part) in
-    subst (IsReadHeader f) (sym shape) (header_front f (f.code ++ (functions_part ++ entries_part)) fits low entry_fits)
+    subst (IsReadHeader f) (sym shape) (header_front f (f.code ++ (functions_part ++ entries_part)) fits entry_fits)
 
 -- the program of a file with these pieces in its code
 abbrev pub program_in : File → List Piece → Program
@@ -75,7 +76,6 @@ program_in f pieces = record {
 pub record IsInOrder (f : File) (pieces : List Piece) : Type 0 where
   pub fits : FileFits f
   pub base_aligned : f.base % 16 ≡ 0
-  pub base_limit : f.base ≤ 0x7FFF00000000
   pub code_limit : length f.code ≤ 1048576
   pub functions_limit : length f.functions ≤ 1024
   pub sleds_limit : length f.entries ≤ 4096
@@ -93,7 +93,7 @@ module _ (f : File) (pieces : List Piece) (ordered : IsInOrder f pieces) where
   small_entry = omega (arith, ordered.entry_exists, ordered.functions_limit)
 
   header : IsReadHeader f (image_bytes f)
-  header = header_back f ordered.fits ordered.base_limit small_entry
+  header = header_back f ordered.fits small_entry
 
   -- what the bytes say
   program_read : program_in f pieces ≡ program_of (image_bytes f) (record { code = f.code; functions = f.functions; entries = f.entries; rest = [] }) pieces
@@ -130,7 +130,7 @@ module _ (f : File) (pieces : List Piece) (ordered : IsInOrder f pieces) where
           sleds_limit = omega (arith, header.entries, ordered.sleds_limit);
           entry_exists = omega (arith, header.entry, header.functions, ordered.entry_exists);
           base_aligned = subst (λ n. n % 16 ≡ 0) back ordered.base_aligned;
-          base_limit = subst (λ n. n ≤ 0x7FFF00000000) back ordered.base_limit;
+          base_limit = subst (λ n. n ≤ 0x7FFF00000000) back ordered.fits.base;
         };
         parts = record { code = f.code; functions = f.functions; entries = f.entries; rest = [] };
         reaches = parts_back f ordered.fits;

@@ -10,6 +10,7 @@ pub mod EndingLemmas
 pub mod CodeLemmas
 pub mod FileLemmas
 pub mod WriteLemmas
+pub mod MapLemmas
 pub mod Monotone
 pub mod Placing
 pub mod Fitting
@@ -19,6 +20,7 @@ pub mod Assembled
 pub mod SledMapLaw
 pub mod Owners
 pub mod ReadBack
+pub mod Versions
 pub mod FileFitting
 pub mod SaidLemmas
 pub mod SaidLines

@@ -1,13 +1,13 @@
 -- The parts of a file are read as they were written.
-use Rattle.std.proofs.Common.{◌≡◌, ℕ, zero, suc, ◌+◌, ◌^◌, ◌<◌, ◌≤◌, false, cond, List, [], ◌∷◌, ◌++◌, length, take, drop, Option, Some, None, refl, sym, ap, ◌∙◌, arith, ltb, append_assoc, append-nil, length-append}
+use Rattle.std.proofs.Common.{◌≡◌, ℕ, zero, suc, ◌+◌, ◌-◌, ◌*◌, ◌%◌, ◌^◌, ◌==◌, ◌<◌, ◌≤◌, Bool, true, false, cond, List, [], ◌∷◌, ◌++◌, length, take, drop, Option, Some, None, refl, sym, ap, ◌∙◌, arith, ltb, append_assoc, append-nil, length-append}
 use Rattle.std.specs.Prelude.{option_and_then, option_map, replicate}
 use Rattle.std.specs.List.{flat_map, AllByRecursion}
 use Rattle.std.proofs.lemmas.Bool.{le-ltb}
 use Rattle.std.proofs.Math.Seq.{take-append_seam, drop-append_seam}
 use Rattle.byteorder.specs.Endian.{little_bytes}
 use Rattle.byteorder.specs.Numbers.{little_number-reads_back}
-use Rattle.xray_image.specs.Container.{Function, MapEntry, Parts, function_entry_at, map_entry_at, several, parts_of, code_length, function_count, entry_count, number8_at}
-use Rattle.asm_text.specs.Writing.{File, image_header_bytes, trampolines_of, function_bytes, entry_bytes, image_bytes}
+use Rattle.xray_image.specs.Container.{Function, MapEntry, MapFields, Parts, address_said, base_address, entries_from, function_entry_at, map_distance, map_fields_at, several, parts_of, code_length, function_count, entry_count, number8_at}
+use Rattle.asm_text.specs.Writing.{File, image_header_bytes, trampolines_of, function_bytes, entry_bytes, field_for, fields_from, image_bytes, map_bytes}
 
 -- what fits the fields of each kind of entry
 abbrev pub FunctionFits : Function → Type 0
@@ -15,6 +15,9 @@ FunctionFits f = (f.start < 256 ^ 8) × (length f.name ≤ 255)
 
 abbrev pub EntryFits : MapEntry → Type 0
 EntryFits e = (e.sled < 256 ^ 8) × (e.function < 256 ^ 8)
+
+abbrev pub FieldsFit : MapFields → Type 0
+FieldsFit e = (e.sled < 256 ^ 8) × (e.function < 256 ^ 8)
 
 drop_none : (n : ℕ) → drop {A = ℕ} n [] ≡ []
 drop_none zero = refl
@@ -37,7 +40,7 @@ function_back f rest fits =
     ∙ ap (λ name. Some (record { start = f.start; name = name }, drop (9 + n) bytes)) (take-append_seam f.name rest)
     ∙ ap (λ xs. Some (f, xs)) following
 
-entry_back : (e : MapEntry) (rest : List ℕ) → EntryFits e → map_entry_at (entry_bytes e ++ rest) ≡ Some (e, rest)
+entry_back : (e : MapFields) (rest : List ℕ) → FieldsFit e → map_fields_at (entry_bytes e ++ rest) ≡ Some (e, rest)
 entry_back e rest fits =
     let bytes = entry_bytes e ++ rest in
     let flags = e.kind ∷ e.always ∷ e.version ∷ replicate 13 0 ++ rest in
@@ -61,39 +64,77 @@ several_back {X = X} item bytes_of Fits back (x ∷ xs) rest fits =
 functions_back : (fs : List Function) (rest : List ℕ) → AllByRecursion FunctionFits fs → several function_entry_at (length fs) (flat_map function_bytes fs ++ rest) ≡ Some (fs, rest)
 functions_back = several_back function_entry_at function_bytes FunctionFits function_back
 
-entries_back : (es : List MapEntry) (rest : List ℕ) → AllByRecursion EntryFits es → several map_entry_at (length es) (flat_map entry_bytes es ++ rest) ≡ Some (es, rest)
-entries_back = several_back map_entry_at entry_bytes EntryFits entry_back
+fields_back : (es : List MapFields) (rest : List ℕ) → AllByRecursion FieldsFit es → several map_fields_at (length es) (flat_map entry_bytes es ++ rest) ≡ Some (es, rest)
+fields_back = several_back map_fields_at entry_bytes FieldsFit entry_back
 
--- the parts, by the counts of the header
-abbrev pub parts_with : (n m k : ℕ) → List ℕ → Option Parts
-parts_with n m k b =
+-- ---- the fields of entries
+
+-- a field says the address that it was written for
+field_said : (relative : Bool) (at address : ℕ) → at ≤ 256 ^ 8 → address < 256 ^ 8
+    → cond relative ((at + cond relative ((address + (2 ^ 64 - at)) % 2 ^ 64) address) % 2 ^ 64) (cond relative ((address + (2 ^ 64 - at)) % 2 ^ 64) address) ≡ address
+field_said true at address low fits = omega (arith, low, fits)
+field_said false at address low fits = refl
+
+field_small : (relative : Bool) (at address : ℕ) → address < 256 ^ 8 → cond relative ((address + (2 ^ 64 - at)) % 2 ^ 64) address < 256 ^ 8
+field_small true at address fits = omega arith
+field_small false at address fits = fits
+
+fields_count : (at : ℕ) (es : List MapEntry) → length (fields_from at es) ≡ length es
+fields_count at [] = refl
+fields_count at (e ∷ es) = ap suc (fields_count (at + 32) es)
+
+fields_small : (at : ℕ) (es : List MapEntry) → AllByRecursion EntryFits es → AllByRecursion FieldsFit (fields_from at es)
+fields_small at [] fits = tt
+fields_small at (e ∷ es) fits =
+    ((field_small (e.version == 2) at e.sled fits.0.0, field_small (e.version == 2) (at + 8) e.function fits.0.1), fields_small (at + 32) es fits.1)
+
+entries_said : (at : ℕ) (es : List MapEntry) → at + 32 * length es < 256 ^ 8 → AllByRecursion EntryFits es → entries_from at (fields_from at es) ≡ es
+entries_said at [] low fits = refl
+entries_said at (e ∷ es) low fits =
+    let made : ℕ → ℕ → List MapEntry → List MapEntry = λ sled function others. record { sled = sled; function = function; kind = e.kind; always = e.always; version = e.version } ∷ others in
+    let sled = address_said e.version at (field_for e.version at e.sled) in
+    let function = address_said e.version (at + 8) (field_for e.version (at + 8) e.function) in
+    ap (made sled function) (entries_said (at + 32) es (omega (arith, low)) fits.1)
+    ∙ ap (λ n. made sled n es) (field_said (e.version == 2) (at + 8) e.function (omega (arith, low)) fits.0.1)
+    ∙ ap (λ n. made n e.function es) (field_said (e.version == 2) at e.sled (omega (arith, low)) fits.0.0)
+
+-- ---- the file
+
+-- the parts, by the base address and the counts of the header
+abbrev pub parts_with : (base n m k : ℕ) → List ℕ → Option Parts
+parts_with base n m k b =
     cond (ltb (length b) (64 + n)) None
-    (option_and_then (λ (fs : List Function × List ℕ). option_map (λ (es : List MapEntry × List ℕ). record { code = take n (drop 64 b); functions = fs.0; entries = es.0; rest = es.1 }) (several map_entry_at k fs.1)) (several function_entry_at m (drop (64 + n) b)))
+    (option_and_then (λ (fs : List Function × List ℕ). option_map (λ (es : List MapFields × List ℕ). record { code = take n (drop 64 b); functions = fs.0; entries = entries_from (base + map_distance) es.0; rest = es.1 }) (several map_fields_at k fs.1)) (several function_entry_at m (drop (64 + n) b)))
 
 -- what fits the fields of a file
 pub record FileFits (f : File) : Type 0 where
+  pub base : f.base ≤ 0x7FFF00000000
   pub code : length f.code < 256 ^ 4
   pub function_count : length f.functions < 256 ^ 4
   pub entry_count : length f.entries < 256 ^ 4
   pub each_function : AllByRecursion FunctionFits f.functions
   pub each_entry : AllByRecursion EntryFits f.entries
 
-counts_back : (f : File) (rest : List ℕ) → FileFits f → parts_of (image_header_bytes f ++ rest) ≡ parts_with (length f.code) (length f.functions) (length f.entries) (image_header_bytes f ++ rest)
+counts_back : (f : File) (rest : List ℕ) → FileFits f → parts_of (image_header_bytes f ++ rest) ≡ parts_with f.base (length f.code) (length f.functions) (length f.entries) (image_header_bytes f ++ rest)
 counts_back f rest fits =
     let b = image_header_bytes f ++ rest in
     let trampolines = flat_map (little_bytes 8) (trampolines_of f.base) ++ rest in
+    let counts = little_bytes 4 (length f.code) ++ little_bytes 4 (length f.functions) ++ little_bytes 4 (length f.entries) ++ little_bytes 4 f.entry ++ trampolines in
+    let base : base_address b ≡ f.base = little_number-reads_back 8 f.base counts (omega (arith, fits.base)) in
     let c : code_length b ≡ length f.code = little_number-reads_back 4 (length f.code) (little_bytes 4 (length f.functions) ++ little_bytes 4 (length f.entries) ++ little_bytes 4 f.entry ++ trampolines) fits.code in
     let m : function_count b ≡ length f.functions = little_number-reads_back 4 (length f.functions) (little_bytes 4 (length f.entries) ++ little_bytes 4 f.entry ++ trampolines) fits.function_count in
     let k : entry_count b ≡ length f.entries = little_number-reads_back 4 (length f.entries) (little_bytes 4 f.entry ++ trampolines) fits.entry_count in
-    ap (λ n. parts_with n (function_count b) (entry_count b) b) c
-    ∙ ap (λ n. parts_with (length f.code) n (entry_count b) b) m
-    ∙ ap (λ n. parts_with (length f.code) (length f.functions) n b) k
+    ap (λ n. parts_with n (code_length b) (function_count b) (entry_count b) b) base
+    ∙ ap (λ n. parts_with f.base n (function_count b) (entry_count b) b) c
+    ∙ ap (λ n. parts_with f.base (length f.code) n (entry_count b) b) m
+    ∙ ap (λ n. parts_with f.base (length f.code) (length f.functions) n b) k
 
 -- the parts of a file
 pub parts_back : (f : File) → FileFits f → parts_of (image_bytes f) ≡ Some (record { code = f.code; functions = f.functions; entries = f.entries; rest = [] })
 parts_back f fits =
     let functions_part = flat_map function_bytes f.functions in
-    let entries_part = flat_map entry_bytes f.entries in
+    let fields = fields_from (f.base + map_distance) f.entries in
+    let entries_part = map_bytes f.base f.entries in
     let rest = f.code ++ (functions_part ++ entries_part) in
     let b = image_header_bytes f ++ rest in
     let n = length f.code in
@@ -102,13 +143,16 @@ parts_back f fits =
     let long : ltb (length b) (64 + n) ≡ false = le-ltb (length b) (64 + n) (omega (arith, length-append f.code (functions_part ++ entries_part))) in
     let following : drop (64 + n) b ≡ functions_part ++ entries_part = drop_more 64 n b ∙ drop-append_seam f.code (functions_part ++ entries_part) in
     let code : take n (drop 64 b) ≡ f.code = take-append_seam f.code (functions_part ++ entries_part) in
-    let last : several map_entry_at (length f.entries) entries_part ≡ Some (f.entries, []) =
-    ap (several map_entry_at (length f.entries)) (sym (append-nil entries_part)) ∙ entries_back f.entries [] fits.each_entry in
-    let with_code : List ℕ → List MapEntry × List ℕ → List Function × List ℕ → Parts = λ c es fs. record { code = c; functions = fs.0; entries = es.0; rest = es.1 } in
+    let last : several map_fields_at (length f.entries) entries_part ≡ Some (fields, []) =
+    ap (λ k. several map_fields_at k entries_part) (sym (fields_count (f.base + map_distance) f.entries))
+    ∙ ap (several map_fields_at (length fields)) (sym (append-nil entries_part)) ∙ fields_back fields [] (fields_small (f.base + map_distance) f.entries fits.each_entry) in
+    let said : entries_from (f.base + map_distance) fields ≡ f.entries = entries_said (f.base + map_distance) f.entries (omega (arith, fits.base, fits.entry_count)) fits.each_entry in
+    let with_code : List ℕ → List MapFields × List ℕ → List Function × List ℕ → Parts = λ c es fs. record { code = c; functions = fs.0; entries = entries_from (f.base + map_distance) es.0; rest = es.1 } in
     ap parts_of shape
     ∙ counts_back f rest fits
-    ∙ ap (λ t. cond t None (option_and_then (λ (fs : List Function × List ℕ). option_map (λ (es : List MapEntry × List ℕ). with_code (take n (drop 64 b)) es fs) (several map_entry_at (length f.entries) fs.1)) (several function_entry_at (length f.functions) (drop (64 + n) b)))) long
-    ∙ ap (λ xs. option_and_then (λ (fs : List Function × List ℕ). option_map (λ (es : List MapEntry × List ℕ). with_code (take n (drop 64 b)) es fs) (several map_entry_at (length f.entries) fs.1)) (several function_entry_at (length f.functions) xs)) following
-    ∙ ap (λ o. option_and_then (λ (fs : List Function × List ℕ). option_map (λ (es : List MapEntry × List ℕ). with_code (take n (drop 64 b)) es fs) (several map_entry_at (length f.entries) fs.1)) o) (functions_back f.functions entries_part fits.each_function)
-    ∙ ap (λ o. option_map (λ (es : List MapEntry × List ℕ). with_code (take n (drop 64 b)) es (f.functions, entries_part)) o) last
-    ∙ ap (λ c. Some (with_code c (f.entries, []) (f.functions, entries_part))) code
+    ∙ ap (λ t. cond t None (option_and_then (λ (fs : List Function × List ℕ). option_map (λ (es : List MapFields × List ℕ). with_code (take n (drop 64 b)) es fs) (several map_fields_at (length f.entries) fs.1)) (several function_entry_at (length f.functions) (drop (64 + n) b)))) long
+    ∙ ap (λ xs. option_and_then (λ (fs : List Function × List ℕ). option_map (λ (es : List MapFields × List ℕ). with_code (take n (drop 64 b)) es fs) (several map_fields_at (length f.entries) fs.1)) (several function_entry_at (length f.functions) xs)) following
+    ∙ ap (λ o. option_and_then (λ (fs : List Function × List ℕ). option_map (λ (es : List MapFields × List ℕ). with_code (take n (drop 64 b)) es fs) (several map_fields_at (length f.entries) fs.1)) o) (functions_back f.functions entries_part fits.each_function)
+    ∙ ap (λ o. option_map (λ (es : List MapFields × List ℕ). with_code (take n (drop 64 b)) es (f.functions, entries_part)) o) last
+    ∙ ap (λ c. Some (with_code c (fields, []) (f.functions, entries_part))) code
+    ∙ ap (λ es. Some (record { code = f.code; functions = f.functions; entries = es; rest = [] })) said

@@ -1,8 +1,9 @@
 -- The fields of the header, line by line.
-use Rattle.std.proofs.Common.{◌≡◌, ℕ, ◌+◌, ◌%◌, ◌++◌, true, false, cond, not, List, [], ◌∷◌, length, Option, Some, None, refl, sym, ap, ◌∙◌, arith}
+use Rattle.std.proofs.Common.{◌≡◌, ℕ, ◌+◌, ◌%◌, ◌++◌, Bool, true, false, cond, not, List, [], ◌∷◌, length, map, Option, Some, None, refl, sym, ap, ◌∙◌, arith}
 use Rattle.std.specs.Prelude.{slice_get, is_some, option_map}
 use Rattle.std.specs.List.{filter_map, cons_option, position_or_len}
 use Rattle.std.specs.Str.{bytes_eq}
+use Rattle.std.proofs.lemmas.List.{length-map}
 use Rattle.xray_image.specs.Container.{Function, MapEntry}
 use Rattle.asm_text.specs.Statements.{Statement, Base, Entry, Func, Label, Does}
 use Rattle.asm_text.specs.Layout.{Placed, functions, map_entries, function_in, entry_in, entry_in_line, base_of, sled_kind, pieces, number_of_function}
@@ -10,7 +11,7 @@ use Rattle.asm_text.specs.private.Laying.{lines_of}
 use Rattle.xray_image.specs.Units.{piece_bytes}
 use Rattle.std.specs.List.{flat_map}
 use Rattle.asm_text.specs.declared.header.Header.{Header}
-use Rattle.asm_text.specs.Writing.{image_header, function_bytes, entry_bytes, image_bytes}
+use Rattle.asm_text.specs.Writing.{image_header, function_bytes, in_version, map_bytes, map_version, image_bytes}
 use Rattle.asm_text.specs.private.Files.{IsHeaderOf, image_laid}
 
 -- one more function and map entry at the start, counted and searched, whatever the base is
@@ -73,9 +74,11 @@ number_same None base all = refl
 number_same (Some name) base all = position-functions name base all
 
 -- the parts of the file, one after the other
-pub file_parts : (all : List Placed) (code : List ℕ) (h : Header) → code ≡ flat_map piece_bytes (pieces all) → IsHeaderOf all (length code) h
-    → image_header h.base h.code h.functions h.entries h.entry ++ code ++ flat_map function_bytes (functions h.base all) ++ flat_map entry_bytes (map_entries h.base all)
-    ≡ image_bytes (image_laid all)
-file_parts all code h same is =
+pub file_parts : (relative : Bool) (all : List Placed) (code : List ℕ) (h : Header) → code ≡ flat_map piece_bytes (pieces all) → IsHeaderOf all (length code) h
+    → image_header h.base h.code h.functions h.entries h.entry ++ code ++ flat_map function_bytes (functions h.base all)
+    ++ map_bytes h.base (map (in_version (map_version relative)) (map_entries h.base all))
+    ≡ image_bytes (image_laid relative all)
+file_parts relative all code h same is =
     let base = base_of (lines_of all) in
-    rw (is.base, is.code ∙ ap length same, is.count ∙ sym (length-functions base all), is.sleds ∙ sym (length-map_entries base all), is.entry ∙ sym (number_same (slice_get (filter_map (λ line. entry_in_line line.1) (lines_of all)) 0) base all), same) refl
+    let entries = map_entries base all in
+    rw (is.base, is.code ∙ ap length same, is.count ∙ sym (length-functions base all), is.sleds ∙ sym (length-map entries (in_version (map_version relative)) ∙ length-map_entries base all), is.entry ∙ sym (number_same (slice_get (filter_map (λ line. entry_in_line line.1) (lines_of all)) 0) base all), same) refl

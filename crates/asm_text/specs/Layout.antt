@@ -246,8 +246,7 @@ sled_kind (Func name choice) = Some (entry_kind choice)
 sled_kind (Label name) = None
 sled_kind (Does operation) = operation_kind operation
 
--- The map entry of a sled at an address, in a function that begins at an address. It is of version 0, so its fields are
--- these addresses.
+-- the map entry of a sled at an address, in a function that begins at an address
 abbrev pub map_entry_for : (sled function kind always : ℕ) → MapEntry
 map_entry_for sled function kind always = record { sled = sled; function = function; kind = kind; always = always; version = 0 }
 

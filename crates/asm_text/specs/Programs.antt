@@ -4,7 +4,7 @@ use Rattle.std.specs.Option.{option_map_or}
 use Rattle.std.specs.List.{flat_map, filter_map, last_or}
 use Rattle.std.specs.Str.{bytes_eq}
 use Rattle.xray_image.specs.declared.sled.Sled.{Sled}
-use Rattle.xray_image.specs.Container.{Function, MapEntry, function_address, sled_address}
+use Rattle.xray_image.specs.Container.{Function, MapEntry}
 use Rattle.xray_image.specs.Units.{piece_bytes, units_from}
 use Rattle.xray_image.specs.Program.{Program, Trampolines, IsAccepted, id_of, kind_of}
 use Rattle.asm_text.specs.Statements.{Statement, Base, Entry, Func, Label, Does}
@@ -24,9 +24,9 @@ entry_address said all =
 -- a sled as its entry in the map says, with the id of its function and the displacement that each sled has
 abbrev pub sled_said : List MapEntry → MapEntry → Sled
 sled_said entries e = record {
-  address = sled_address e;
-  function = function_address e;
-  id = id_of entries (function_address e);
+  address = e.sled;
+  function = e.function;
+  id = id_of entries e.function;
   kind = kind_of e.kind;
   always = not (e.always == 0);
   shift = sled_shift;

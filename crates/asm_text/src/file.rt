@@ -1,24 +1,18 @@
-//! The image file.
+//! The functions of the image file, and the kinds of its sleds.
 
-ghost use Rattle.std.specs.Prelude.{◌≡◌, ◌≤◌, ◌++◌, ◌∷◌, OnOk, length, replicate, if◌then◌else◌};
+ghost use Rattle.std.specs.Prelude.{◌≡◌, ◌≤◌, ◌++◌, OnOk, length};
 ghost use Rattle.std.specs.List.{flat_map};
-ghost use Rattle.asm_text.specs.Layout.{functions, map_entries, map_entry_for, sled_kind};
-ghost use Rattle.asm_text.specs.Writing.{function_bytes, entry_bytes};
+ghost use Rattle.asm_text.specs.Layout.{functions, sled_kind};
+ghost use Rattle.asm_text.specs.Writing.{function_bytes};
 ghost use Rattle.asm_text.specs.private.{Views.{statement_said}, Laying.{line_placed, placed_in}};
-ghost use Rattle.asm_text.specs.private.Files.{function_line_bytes, sled_line_bytes, HasShortName, AreShortNames};
+ghost use Rattle.asm_text.specs.private.Files.{function_line_bytes, HasShortName, AreShortNames};
 
-use crate::fields::{push_u64, push_u64s};
+use crate::fields::push_u64;
 use crate::layout::Laid;
 use crate::statement::{Operation, Statement};
 use std::alloc::AllocError;
 use xray_image::SledKind;
 use xray_image::format::{BASE_LIMIT, NAME_LIMIT};
-
-/// The padding of a map entry.
-const PADDING: [u8; 13] = [0; 13];
-
-/// The version of map entries that have absolute addresses.
-const MAP_VERSION: u8 = 0;
 
 /// Adds the entry of a function.
 fn push_function(out: &mut Vec<u8>, start: u64, name: &[u8]) -> Result<(), AllocError>
@@ -63,50 +57,6 @@ pub(crate) fn kind_of(statement: &Statement) -> Option<u8>
     }
 }
 
-/// Adds the flags of a map entry and its padding.
-fn push_flags(out: &mut Vec<u8>, kind: u8, always: bool) -> Result<(), AllocError>
-    ensures { OnOk result (out.new.items ≡ out.old.items
-        ++ kind ∷ (if always then 1 else 0) ∷ 0 ∷ replicate 13 0) }
-{
-    out.extend_from_slice(&[kind, u8::from(always), MAP_VERSION])?;
-    out.extend_from_slice(&PADDING)
-}
-
-/// Adds the map entry of a sled at an address, in a function that begins at an address. Its fields
-/// are these addresses.
-fn push_entry(
-    out: &mut Vec<u8>,
-    sled: u64,
-    function: u64,
-    kind: u8,
-    always: bool,
-) -> Result<(), AllocError>
-    ensures { OnOk result (out.new.items ≡ out.old.items
-        ++ entry_bytes (map_entry_for sled function kind (if always then 1 else 0))) }
-{
-    push_u64s(out, &[sled, function])?;
-    push_flags(out, kind, always)
-}
-
-/// Adds the map entry of a line's sled, if it has one.
-fn push_sled_line(out: &mut Vec<u8>, base: u64, line: &Laid) -> Result<(), AllocError>
-    requires base { base ≤ BASE_LIMIT }
-    ensures { OnOk result (out.new.items ≡ out.old.items
-        ++ sled_line_bytes base (line_placed line.now)) }
-{
-    let place = line.place;
-    let owner = line.owner;
-    if !owner.traced {
-        return Ok(());
-    }
-    let sled = base + (u64::from(place) + u64::from(place % 2));
-    let function = base + u64::from(owner.start);
-    match kind_of(&line.statement) {
-        Some(kind) => push_entry(out, sled, function, kind, owner.always),
-        None => Ok(()),
-    }
-}
-
 /// Adds the entries of all functions.
 pub(crate) fn push_functions(out: &mut Vec<u8>, base: u64, lines: &[Laid]) -> Result<(), AllocError>
     requires base { base ≤ BASE_LIMIT }
@@ -116,18 +66,6 @@ pub(crate) fn push_functions(out: &mut Vec<u8>, base: u64, lines: &[Laid]) -> Re
 {
     for line in lines {
         push_function_line(out, base, line)?;
-    }
-    Ok(())
-}
-
-/// Adds the sled map.
-pub(crate) fn push_map(out: &mut Vec<u8>, base: u64, lines: &[Laid]) -> Result<(), AllocError>
-    requires base { base ≤ BASE_LIMIT }
-    ensures { OnOk result (out.new.items ≡ out.old.items
-        ++ flat_map entry_bytes (map_entries base (placed_in lines.now))) }
-{
-    for line in lines {
-        push_sled_line(out, base, line)?;
     }
     Ok(())
 }

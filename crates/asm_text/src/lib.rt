@@ -3,7 +3,7 @@
 //! `line` reads a line as what it says, and `operands` checks its operands. `first_pass` gathers
 //! the lines with their names and totals, and refuses the first that may not follow. After that
 //! `layout` gives each line its place and `targets` gives each name its place. `ending` refuses
-//! names without places. `code`, `file` and `header` write the bytes.
+//! names without places. `code`, `file`, `map` and `header` write the bytes.
 #![tactic(auto)]
 
 mod assembling;
@@ -19,6 +19,7 @@ mod laid_text;
 mod laws;
 mod layout;
 mod line;
+mod map;
 mod name_table;
 mod names;
 mod numbers;
@@ -34,5 +35,7 @@ mod written;
 
 pub use assembling::assemble;
 pub use fault::AsmFault;
-pub use laws::{an_assembled_file_is_accepted, each_sled_is_of_its_function};
+pub use laws::{
+    an_assembled_file_is_accepted, both_map_versions_hold_one_program, each_sled_is_of_its_function,
+};
 pub use written::{a_written_text_is_read, functions_that_say_always_have_ids};

@@ -6,13 +6,14 @@ ghost use Rattle.xray_image.specs.Limits.{most_code, most_functions, most_sleds}
 ghost use Rattle.asm_text.specs.Layout.{functions, map_entries, base_of, entry_of, entry_in_line};
 ghost use Rattle.asm_text.specs.Writing.{image_bytes};
 ghost use Rattle.asm_text.specs.private.{Laying.{placed_in, lines_of}, LaidTexts.{all_in}};
-ghost use Rattle.asm_text.specs.private.Files.{image_laid, IsWritable, IsHeaderOf};
+ghost use Rattle.asm_text.specs.private.Files.{image_laid, is_relative, IsWritable, IsHeaderOf};
 
 use crate::code::push_code;
-use crate::file::{kind_of, push_functions, push_map};
+use crate::file::{kind_of, push_functions};
 use crate::header::{Header, push_header};
 use crate::laid_text::LaidText;
 use crate::layout::Laid;
+use crate::map::{MapVersion, push_map};
 use crate::statement::Statement;
 use std::alloc::{AllocError, Global};
 
@@ -111,10 +112,15 @@ fn header_of(text: &LaidText, code: &[u8]) -> Header
     }
 }
 
-/// The image file.
-pub(crate) fn write_file(alloc: Global, text: &LaidText) -> Result<Vec<u8>, AllocError>
+/// The image file, with a sled map of this version.
+pub(crate) fn write_file(
+    alloc: Global,
+    text: &LaidText,
+    version: MapVersion,
+) -> Result<Vec<u8>, AllocError>
     requires { IsWritable text.now }
-    ensures { IfOk result (λ file. file.items ≡ image_bytes (image_laid (all_in text.now))) }
+    ensures { IfOk result (λ file.
+        file.items ≡ image_bytes (image_laid (is_relative version) (all_in text.now))) }
 {
     let mut code = Vec::new(alloc);
     push_code(&mut code, text)?;
@@ -123,6 +129,6 @@ pub(crate) fn write_file(alloc: Global, text: &LaidText) -> Result<Vec<u8>, Allo
     push_header(&mut file, &header)?;
     file.extend_from_slice(&code)?;
     push_functions(&mut file, header.base, &text.lines)?;
-    push_map(&mut file, header.base, &text.lines)?;
+    push_map(&mut file, version, header.base, &text.lines)?;
     Ok(file)
 }

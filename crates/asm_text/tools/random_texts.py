@@ -4,7 +4,7 @@
 usage: crates/asm_text/tools/random_texts.py [PROGRAM] [--texts N] [--seed N]
     PROGRAM: the built program, crates/xray/out/xray if left out
     --texts: how many texts, 1000 if left out
-    --seed: the seed of the texts and thresholds, 1 if left out
+    --seed: the seed of the texts and options, 1 if left out
 
 The model is written from docs/formats alone, with statuses and lines on standard error from docs/COMMANDS.md. It
 shares nothing with the assembler or its definitions. Most texts are small programs with all lines of the language,
@@ -56,6 +56,11 @@ INSTRUCTIONS = ["mov", "add", "sub", "push", "pop", *BRANCHES, "ret", "out"]
 ALIGNMENT = b"\x90"
 NOP = bytes.fromhex("660F1F840000020000")
 SLED_LENGTH = 11
+SLED_MAP_ENTRY_LENGTH = 32
+# How far above the base address the sled map is, and where the field of the function is in its entries.
+MAP_DISTANCE = 0x100000
+FUNCTION_FIELD = 8
+RELATIVE_VERSION = 2
 
 
 class Choice(enum.Enum):
@@ -485,7 +490,15 @@ def said_once(statements, keyword, default):
     return next((said.operands[0] for said in statements if said.keyword == keyword), default)
 
 
-def assembled(text, threshold):
+def entry_bytes(at, relative, address, function, kind, is_always):
+    """An entry of the sled map whose first byte is at an address. Relative addresses count from their fields."""
+    version = RELATIVE_VERSION if relative else 0
+    if relative:
+        address, function = address - at, function - (at + FUNCTION_FIELD)
+    return struct.pack("<QQBBB13x", address % (1 << 64), function % (1 << 64), kind, is_always, version)
+
+
+def assembled(text, threshold, relative=False):
     """The image file of a text, or raises its refusal."""
     statements = read(text)
     rows = layout(functions_of(statements), threshold)
@@ -500,7 +513,10 @@ def assembled(text, threshold):
     counts = [len(code), len(functions), len(sleds), entry]
     header = b"XRIM" + struct.pack("<IQ4I4Q", 1, base, *counts, *trampolines)
     named = [struct.pack("<QB", base + places[name], len(name)) + name.encode("ascii") for name in functions]
-    mapped = [struct.pack("<QQBBB13x", *sled, 0) for sled in sleds]
+    first = base + MAP_DISTANCE
+    mapped = [
+        entry_bytes(first + SLED_MAP_ENTRY_LENGTH * number, relative, *sled) for number, sled in enumerate(sleds)
+    ]
     return header + code + b"".join(named) + b"".join(mapped)
 
 
@@ -829,22 +845,23 @@ LIMIT_TURNS = [(kind, past) for kind in LIMITS for past in (0, 1)]
 LIMIT_EVERY = 20
 # The functions of small texts have few instructions, so many of these decide. None leaves the option out.
 THRESHOLDS = [None, None, 0, 1, 2, 3, 4, 5, 6, 7, THRESHOLD_LIMIT]
+MAP_VERSIONS = [None, 0, RELATIVE_VERSION]
 
 
 # ---- The comparison
 
 HEADER_LENGTH = 64
-SLED_MAP_ENTRY_LENGTH = 32
 SHOWN_LENGTH = 12
 
 
 @dataclasses.dataclass(frozen=True)
 class Case:
-    """A text and a threshold, and the names of their files."""
+    """A text, a threshold and a version of the sled map, and the names of their files."""
 
     number: int
     text: bytes
     threshold: int | None
+    map_version: int | None
 
     @property
     def text_name(self):
@@ -860,7 +877,8 @@ class Case:
 
     @property
     def options(self):
-        return [] if self.threshold is None else ["--threshold", str(self.threshold)]
+        threshold = [] if self.threshold is None else ["--threshold", str(self.threshold)]
+        return threshold + ([] if self.map_version is None else [f"--map-version={self.map_version}"])
 
 
 @dataclasses.dataclass(frozen=True)
@@ -881,14 +899,14 @@ def random_case(draw, number):
         text = kind(draw, past)
     else:
         text = small_text(draw)
-    return Case(number, text, draw.choice(THRESHOLDS))
+    return Case(number, text, draw.choice(THRESHOLDS), draw.choice(MAP_VERSIONS))
 
 
 def expected(case):
     """By the model: why the text is refused, or None, and what a run has to leave."""
     threshold = WITHOUT_THRESHOLD if case.threshold is None else case.threshold
     try:
-        return None, Outcome(0, b"", b"", assembled(case.text, threshold))
+        return None, Outcome(0, b"", b"", assembled(case.text, threshold, case.map_version == RELATIVE_VERSION))
     except Refused as refused:
         refusal = refused.refusal
         if refusal is Refusal.TOO_LONG:

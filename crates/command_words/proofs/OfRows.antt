@@ -1,5 +1,5 @@
 -- A command and its row in the table.
-use Rattle.std.proofs.Common.{◌≡◌, ◌∙◌, ◌&&◌, ℕ, Bool, true, false, List, [], ◌∷◌, Option, Some, None, refl, sym, ap, arith}
+use Rattle.std.proofs.Common.{◌≡◌, ◌∙◌, ◌&&◌, ◌==◌, ℕ, Bool, true, false, List, [], ◌∷◌, Option, Some, None, refl, sym, ap, arith}
 use Rattle.std.specs.Prelude.{if◌then◌else◌, option_and_then, option_map}
 use Rattle.std.specs.Str.{bytes_eq}
 use Rattle.xray_io.specs.declared.wall.Wall.{Wall}
@@ -10,7 +10,7 @@ use Rattle.command_words.specs.Numbers.{number_of}
 use Rattle.command_words.specs.Reports.{account_options_in, choice_in, stack_formats}
 use Rattle.command_words.specs.Rows.{CommandRow}
 use Rattle.command_words.specs.Tables.{account_row, asm_row, convert_row, extract_row, plain_row, run_row, sim_row}
-use Rattle.command_words.specs.Tables.{convert_format_option, seeds, soak_row, stack_format_option, stack_row, threshold_option}
+use Rattle.command_words.specs.Tables.{convert_format_option, map_version_option, relative_map, seeds, soak_row, stack_format_option, stack_row, threshold_option}
 use Rattle.command_words.specs.Words.{Command, Sim, Run, Plain, Extract, Asm, Account, Stack, Convert, Soak}
 use Rattle.command_words.specs.Words.{account_in, asm_in, bounds_in, convert_in, extract_in, plain_in, report_by, run_in, run_options_in, sim_in, soak_in, stack_in}
 use Rattle.command_words.specs.declared.run_options.Bounds.{Bounds}
@@ -81,16 +81,17 @@ extract_of line command says = go line.files refl
     go (a ∷ b ∷ names) e = absurd (never command (rw e at says))
 
 asm_of : (line : Line) (command : Command) → asm_in line ≡ Some command → IsOf asm_row line.files command
-asm_of line command says = go line.files (number_in threshold_option line) refl refl
+asm_of line command says = go line.files (number_in threshold_option line) (number_in map_version_option line) refl refl refl
   where
-    go : (names : List (List ℕ)) (threshold : Option ℕ) → line.files ≡ names → number_in threshold_option line ≡ threshold → IsOf asm_row line.files command
-    go (text ∷ image ∷ []) (Some threshold) e f =
-        let is : Asm text image threshold ≡ command = same _ _ (rw (e, f) at says) in
+    go : (names : List (List ℕ)) (threshold version : Option ℕ) → line.files ≡ names → number_in threshold_option line ≡ threshold → number_in map_version_option line ≡ version → IsOf asm_row line.files command
+    go (text ∷ image ∷ []) (Some threshold) (Some version) e f g =
+        let is : Asm text image threshold (version == relative_map) ≡ command = same _ _ (rw (e, f, g) at says) in
         rw (sym is, e) (record { row_is = refl; names_are = refl })
-    go (text ∷ image ∷ []) None e f = absurd (never command (rw (e, f) at says))
-    go [] threshold e f = absurd (never command (rw e at says))
-    go (a ∷ []) threshold e f = absurd (never command (rw e at says))
-    go (a ∷ b ∷ c ∷ names) threshold e f = absurd (never command (rw e at says))
+    go (text ∷ image ∷ []) (Some threshold) None e f g = absurd (never command (rw (e, f, g) at says))
+    go (text ∷ image ∷ []) None version e f g = absurd (never command (rw (e, f) at says))
+    go [] threshold version e f g = absurd (never command (rw e at says))
+    go (a ∷ []) threshold version e f g = absurd (never command (rw e at says))
+    go (a ∷ b ∷ c ∷ names) threshold version e f g = absurd (never command (rw e at says))
 
 -- a report, whatever its options are
 report_of : {X : Type 0} (row : CommandRow) (make : List ℕ → Option (List ℕ) → X → Command) (names : List (List ℕ)) (options : Option X) (command : Command)

@@ -1,5 +1,5 @@
 -- Command lines worked by hand: what the definitions make of them.
-use Rattle.std.proofs.Common.{◌≡◌, ℕ, List, [], ◌∷◌, Option, Some, None, refl}
+use Rattle.std.proofs.Common.{◌≡◌, ℕ, true, false, List, [], ◌∷◌, Option, Some, None, refl}
 use Rattle.std.specs.Prelude.{codes, option_map}
 use Rattle.xray_io.specs.declared.wall.Wall.{Wall}
 use Rattle.command_words.specs.Words.{Command, Sim, Plain, Extract, Asm, Soak, outputs_of, reading}
@@ -53,8 +53,18 @@ one_name_more : says (codes "extract" ∷ codes "i" ∷ codes "j" ∷ []) ≡ No
 one_name_more = refl
 
 -- no other file has the name of asm's output
-made : says (codes "asm" ∷ codes "t" ∷ codes "i" ∷ codes "--threshold" ∷ codes "0" ∷ []) ≡ Some (Asm (codes "t") (codes "i") 0)
+made : says (codes "asm" ∷ codes "t" ∷ codes "i" ∷ codes "--threshold" ∷ codes "0" ∷ []) ≡ Some (Asm (codes "t") (codes "i") 0 false)
 made = refl
+
+-- the version of the map is 0 or 2
+relative : says (codes "asm" ∷ codes "t" ∷ codes "i" ∷ codes "--map-version=2" ∷ []) ≡ Some (Asm (codes "t") (codes "i") 1 true)
+relative = refl
+
+absolute : says (codes "asm" ∷ codes "t" ∷ codes "i" ∷ codes "--map-version=00" ∷ []) ≡ Some (Asm (codes "t") (codes "i") 1 false)
+absolute = refl
+
+map_version_1 : says (codes "asm" ∷ codes "t" ∷ codes "i" ∷ codes "--map-version=1" ∷ []) ≡ None
+map_version_1 = refl
 
 onto_itself : says (codes "asm" ∷ codes "t" ∷ codes "t" ∷ []) ≡ None
 onto_itself = refl

@@ -2,7 +2,7 @@
 use Rattle.std.specs.Prelude.{ℕ, List, [], ◌∷◌, Some, None, codes}
 use Rattle.fdr_buffer.specs.declared.buffer.TheConstants.{LARGEST_SIZE, LEAST_SIZE, MOST_BUFFERS}
 use Rattle.command_words.specs.Limits.{most_cpus, most_fuel, most_passings, most_pid, most_stay, most_threads}
-use Rattle.command_words.specs.Numbers.{Values, Number, Listed}
+use Rattle.command_words.specs.Numbers.{Values, Number, OneOf, Listed}
 use Rattle.command_words.specs.Rows.{CommandRow, FileRow, OptionRow}
 use Rattle.command_words.specs.declared.rows.Role.TheVariants.{Input, OptionalInput, Output}
 use Rattle.command_words.specs.declared.rows.Role.TheVariants as roles
@@ -61,6 +61,14 @@ wall_option = record { name = codes "wall"; values = Number 0 184467440737095516
 abbrev pub threshold_option : OptionRow
 threshold_option = record { name = codes "threshold"; values = Number 0 4294967295; default = Some 1 }
 
+-- the version of sled maps whose addresses count from the fields that hold them
+abbrev pub relative_map : ℕ
+relative_map = 2
+
+-- the version of the sled map of an assembled image; in version 0 addresses are absolute
+abbrev pub map_version_option : OptionRow
+map_version_option = record { name = codes "map-version"; values = OneOf (0 ∷ relative_map ∷ []); default = Some 0 }
+
 -- the column by which the rows of an account are sorted
 abbrev pub sort_option : OptionRow
 sort_option = record { name = codes "sort"; values = Listed columns; default = Some 0 }
@@ -107,7 +115,7 @@ abbrev pub asm_row : CommandRow
 asm_row = record {
   word = codes "asm";
   files = record { label = codes "text"; role = Input } ∷ record { label = codes "image"; role = Output } ∷ [];
-  options = threshold_option ∷ [];
+  options = threshold_option ∷ map_version_option ∷ [];
 }
 
 abbrev pub plain_row : CommandRow

@@ -1,5 +1,5 @@
 -- What a command line says: a command with the names of its files, and its options.
-use Rattle.std.specs.Prelude.{ℕ, ◌&&◌, ◌+◌, ◌*◌, List, [], ◌∷◌, Bool, nat_le, if◌then◌else◌, Option, Some, None, option_and_then, option_map}
+use Rattle.std.specs.Prelude.{ℕ, ◌&&◌, ◌==◌, ◌+◌, ◌*◌, List, [], ◌∷◌, Bool, nat_le, if◌then◌else◌, Option, Some, None, option_and_then, option_map}
 use Rattle.std.specs.Option.{option_map_or}
 use Rattle.std.specs.Str.{bytes_eq}
 use Rattle.xray_io.specs.declared.wall.Wall.{Wall}
@@ -10,7 +10,7 @@ use Rattle.command_words.specs.Numbers.{number_of}
 use Rattle.command_words.specs.Reports.{account_options_in, choice_in, report_files_in, stack_formats}
 use Rattle.command_words.specs.Tables.{account_row, asm_row, convert_row, extract_row, plain_row, run_row, sim_row}
 use Rattle.command_words.specs.Tables.{seeds, soak_row, stack_row}
-use Rattle.command_words.specs.Tables.{convert_format_option, stack_format_option}
+use Rattle.command_words.specs.Tables.{convert_format_option, map_version_option, relative_map, stack_format_option}
 use Rattle.command_words.specs.Tables.{threads_option, fuel_option, passings_option, buffer_size_option, buffer_max_option, threshold_option}
 use Rattle.command_words.specs.Tables.{tick_option, tsc_option, frequency_option, cpus_option, migrate_option, pid_option, wall_option}
 use Rattle.command_words.specs.declared.report_options.AccountOptions.{AccountOptions}
@@ -25,7 +25,7 @@ pub data Command : Type 0 where
   Run : (image script trace audit : List ℕ) → (options : RunOptions) → Command
   Plain : (image : List ℕ) → (bounds : Bounds) → Command
   Extract : (image : List ℕ) → Command
-  Asm : (text image : List ℕ) → (threshold : ℕ) → Command
+  Asm : (text image : List ℕ) → (threshold : ℕ) → (relative : Bool) → Command
   Account : (trace : List ℕ) → (image : Option (List ℕ)) → (options : AccountOptions) → Command
   Stack : (trace : List ℕ) → (image : Option (List ℕ)) → (format : StackFormat) → Command
   Convert : (trace : List ℕ) → (image : Option (List ℕ)) → Command
@@ -115,11 +115,11 @@ extract_in line = of_files line.files
     of_files _ = None
 
 abbrev pub asm_in : Line → Option Command
-asm_in line = of_parts line.files (number_in threshold_option line)
+asm_in line = of_parts line.files (number_in threshold_option line) (number_in map_version_option line)
   where
-    of_parts : List (List ℕ) → Option ℕ → Option Command
-    of_parts (text ∷ image ∷ []) (Some threshold) = Some (Asm text image threshold)
-    of_parts _ _ = None
+    of_parts : List (List ℕ) → Option ℕ → Option ℕ → Option Command
+    of_parts (text ∷ image ∷ []) (Some threshold) (Some version) = Some (Asm text image threshold (version == relative_map))
+    of_parts _ _ _ = None
 
 -- a report by these names, on a trace and an image, with what its options say
 abbrev pub report_by : {X : Type 0} → (make : List ℕ → Option (List ℕ) → X → Command) → List (List ℕ) → Option X → Option Command
@@ -170,7 +170,7 @@ outputs_of (Sim image script schedule trace audit options) = trace ∷ audit ∷
 outputs_of (Run image script trace audit options) = trace ∷ audit ∷ []
 outputs_of (Plain image bounds) = []
 outputs_of (Extract image) = []
-outputs_of (Asm text image threshold) = image ∷ []
+outputs_of (Asm text image threshold relative) = image ∷ []
 outputs_of (Account trace image options) = []
 outputs_of (Stack trace image format) = []
 outputs_of (Convert trace image) = []

@@ -136,6 +136,19 @@ pub(crate) const THRESHOLD: OptionRow = OptionRow {
     default: Some(1),
 };
 
+/// The version of sled maps with absolute addresses.
+const ABSOLUTE_MAP: u64 = 0;
+
+/// The version of sled maps whose addresses count from the fields that hold them.
+pub(crate) const RELATIVE_MAP: u64 = 2;
+
+/// The version of the sled map of an assembled image.
+pub(crate) const MAP_VERSION: OptionRow = OptionRow {
+    name: "map-version",
+    values: Values::OneOf(&[ABSOLUTE_MAP, RELATIVE_MAP]),
+    default: Some(ABSOLUTE_MAP),
+};
+
 /// The column by which the rows of an account are sorted.
 pub(crate) const SORT: OptionRow = OptionRow {
     name: "sort",
@@ -292,7 +305,7 @@ pub(crate) const CONVERT: CommandRow = CommandRow {
 pub(crate) const ASM: CommandRow = CommandRow {
     word: "asm",
     files: &[TEXT, MADE_IMAGE],
-    options: &[THRESHOLD],
+    options: &[THRESHOLD, MAP_VERSION],
 };
 
 /// `plain IMAGE`: runs an image on each thread, with its sleds only counted.

@@ -2,7 +2,7 @@
 ghost use Rattle.std.specs.Prelude.{◌≡◌, IfOk, IfSome, option_map, true};
 ghost use Rattle.fdr_buffer.specs.Times.{IsTime};
 ghost use Rattle.command_words.specs.{Items.{texts}, Lines.{outputs_differ}, Ranges.{HasRanges}};
-ghost use Rattle.command_words.specs.{Tables.{run_row, sim_row}, Views.{command_view}, Words.{reading, run_in, sim_in}};
+ghost use Rattle.command_words.specs.{Tables.{run_row, sim_row}, Views.{command_view}, Words.{asm_in, reading, run_in, sim_in}};
 ghost use Rattle.command_words.specs.private.CodeViews.{line_view, row_view};
 ghost use Rattle.command_words.specs.private.Verbs.{command_by, report_said, row_by, verb_of};
 
@@ -14,7 +14,8 @@ use crate::report_options::{
 use crate::rows::CommandRow;
 use crate::run_options::{Bounds, RunOptions, bounds_in, run_options_in};
 use crate::tables::{
-    ACCOUNT, ASM, CONVERT, CONVERT_FORMAT, EXTRACT, PLAIN, RUN, SEEDS, SIM, SOAK, STACK, THRESHOLD,
+    ACCOUNT, ASM, CONVERT, CONVERT_FORMAT, EXTRACT, MAP_VERSION, PLAIN, RELATIVE_MAP, RUN, SEEDS,
+    SIM, SOAK, STACK, THRESHOLD,
 };
 use std::alloc::{AllocError, Global};
 use xray_io::Wall;
@@ -70,6 +71,9 @@ pub enum Command<'a> {
         image: &'a str,
         /// The least number of instruction lines with which a function gets sleds.
         threshold: u32,
+        /// Whether the addresses of its sled map count from the fields that hold them. Otherwise
+        /// they are absolute.
+        relative: bool,
     },
     /// Prints how often the functions of a trace were called, and for how long.
     Account {
@@ -229,14 +233,7 @@ fn command_in<'a>(verb: Verb, wall: Wall, line: &Line<'a>) -> Option<Command<'a>
         },
         Verb::Sim => sim_in(wall, line),
         Verb::Run => run_in(wall, line),
-        Verb::Asm => match files {
-            [text, image] => Some(Command::Asm {
-                text,
-                image,
-                threshold: THRESHOLD.number_in(line)? as u32,
-            }),
-            _ => None,
-        },
+        Verb::Asm => asm_in(line),
         Verb::Report(report) => report_in(report, line),
         Verb::Soak => match files {
             [seed] => {
@@ -245,6 +242,22 @@ fn command_in<'a>(verb: Verb, wall: Wall, line: &Line<'a>) -> Option<Command<'a>
             }
             _ => None,
         },
+    }
+}
+
+/// The assembling that a line asks for. `None` if it lacks a file, or if a value isn't allowed.
+fn asm_in<'a>(line: &Line<'a>) -> Option<Command<'a>>
+    ensures reads { option_map command_view result ≡ asm_in (line_view line.now) }
+    ensures ranges { IfSome (option_map command_view result) HasRanges }
+{
+    match line.files.as_slice() {
+        [text, image] => Some(Command::Asm {
+            text,
+            image,
+            threshold: THRESHOLD.number_in(line)? as u32,
+            relative: MAP_VERSION.number_in(line)? == RELATIVE_MAP,
+        }),
+        _ => None,
     }
 }
 

@@ -15,7 +15,7 @@ use Rattle.fdr_file.specs.declared.fault.TraceFault.{TraceFault}
 use Rattle.fdr_file.specs.declared.trace.Block.{Block}
 use Rattle.fdr_file.specs.declared.trace.Trace.{Trace}
 use Rattle.fdr_file.specs.declared.version.Version.{Version}
-use Rattle.fdr_file.specs.declared.version.Version.TheVariants.{Three}
+use Rattle.fdr_file.specs.declared.version.Version.TheVariants.{Two, Three}
 use Rattle.fdr_file.specs.Places.{starts}
 use Rattle.fdr_file.specs.Traces.{PreambleItem, Standing, TheProcess, TheThread, TheWallTime, block_in, block_length, block_standings, extents_in, first_takes_arg, header_in, names_cpu, preamble_bytes, preamble_of, record_in, records_among, standings, trace_of, version_in, version_of}
 use Rattle.fdr_file.specs.private.Faults.{by_places, block_faults, blocks_faults, decided, standing_faults, told_by}
@@ -89,6 +89,8 @@ preamble_clean version before at (r ∷ records) many inner based args = absurd 
 -- the records of a block have no fault
 block_clean : (version : Version) (at : ℕ) (block : Block) (records : List Rec) → AllByRecursion IsInner records → BeginWithCpu records → ArgsFollow false records
     → standing_faults version [] (stand_from at (block_records version block records)) ≡ []
+block_clean Two at block records inner based args =
+    preamble_clean Two (WallTime block.wall ∷ NewBuffer block.thread ∷ []) (at + 16 + 16) records (0, refl) inner based args
 block_clean Three at block records inner based args =
     preamble_clean Three (Pid block.pid ∷ WallTime block.wall ∷ NewBuffer block.thread ∷ []) (at + 16 + 16 + 16) records (0, refl) inner based args
 
@@ -166,9 +168,13 @@ header_of h version constant nonstop e1 e2 e3 = rw (e1, e2, e3) refl
 version_fits : (number : ℕ) (version : Version) → version_of number ≡ Some version → number < 256 ^ 2
 version_fits number version is = by_number (eqb number 3) refl is
   where
-    by_number : (b : Bool) → eqb number 3 ≡ b → cond b (Some Three) None ≡ Some version → number < 256 ^ 2
+    by_other : (b : Bool) → eqb number 2 ≡ b → cond b (Some Two) None ≡ Some version → number < 256 ^ 2
+    by_other true e h = omega (arith, eqb-true number 2 e)
+    by_other false e h = absurd cc
+
+    by_number : (b : Bool) → eqb number 3 ≡ b → cond b (Some Three) (cond (eqb number 2) (Some Two) None) ≡ Some version → number < 256 ^ 2
     by_number true e h = omega (arith, eqb-true number 3 e)
-    by_number false e h = absurd cc
+    by_number false e h = by_other (eqb number 2) refl h
 
 abbrev pub Reads : Version → Header → List ℕ → List ℕ → Type 0
 Reads version header following bytes = HasHeader bytes version × (header_in bytes ≡ header) × (drop 32 bytes ≡ following)

@@ -25,7 +25,7 @@ use Rattle.fdr_file.specs.declared.stage.Told.TheVariants.{Nothing, Begun, Noted
 use Rattle.fdr_file.specs.declared.trace.Block.{Block}
 use Rattle.fdr_file.specs.declared.trace.Trace.{Trace}
 use Rattle.fdr_file.specs.declared.version.Version.{Version}
-use Rattle.fdr_file.specs.declared.version.Version.TheVariants.{Three}
+use Rattle.fdr_file.specs.declared.version.Version.TheVariants.{Two, Three}
 use Rattle.fdr_file.specs.Places.{starts}
 use Rattle.fdr_file.specs.Traces.{block_in, block_length, block_of, header_in, pid_named, preamble_bytes, record_in, record_length, records_among, size_named, standings, thread_named, trace_of, wall_named}
 use Rattle.fdr_file.specs.private.Faults.{block_faults, blocks_faults, decided, standing_faults, told_by}
@@ -222,6 +222,38 @@ body_run : (version : Version) (total : ℕ) (header : Header) (span : Span) (bl
     → scanned_ends total header (scanned_on version (at_stage (Within span insides.Opened) blocks) at bytes)
     ≡ (body_on version (at, take left bytes) >>= λ block. Onward version total header span.end (drop left bytes) (blocks ++ block ∷ []))
 unfolding body_on preamble_on pid_on
+body_run Two total header span blocks at bytes left many within end whole =
+    let n = record_length bytes in
+    elim (step_to Two thread_named (λ thread. (insides.Thread thread, Nothing)) total header span insides.Opened blocks at bytes left (λ ends k r. refl) (omega arith) within end whole) [
+      | inl (f, on, run) ↦ rw on run
+      | inr (thread, on, run, fits) ↦
+          let at1 = at + n in
+          let bytes1 = drop n bytes in
+          let left1 = left - n in
+          let n1 = record_length bytes1 in
+          let long1 = length-drop n bytes in
+          let most = length_most bytes in
+          let run' = run ∙ ap (λ (s : Stage). scanned_on Two (at_stage s blocks) at1 bytes1) (still_within span at1 left1 (insides.Thread thread) (omega (arith, end)) (omega arith)) in
+          elim (step_to Two wall_named (λ wall. (insides.Events None, Begun thread wall 0)) total header span (insides.Thread thread) blocks at1 bytes1 left1 (λ ends k r. refl) (omega arith) (omega arith) (omega (arith, end)) whole) [
+            | inl (f, on1, run1) ↦ rw (on, on1) (ap (scanned_ends total header) run' ∙ run1)
+            | inr (wall, on1, run1, fits1) ↦
+                let at2 = at1 + n1 in
+                let bytes2 = drop n1 bytes1 in
+                let left2 = left1 - n1 in
+                let long2 = length-drop n1 bytes1 in
+                let most1 = length_most bytes1 in
+                let empty = empty_block thread wall 0 in
+                let events = events_run Two (length bytes2) total header span blocks empty None at2 bytes2 left2 (omega arith) (omega arith) (omega (arith, end)) whole in
+                let back : n + (n1 + left2) ≡ left = omega arith in
+                let dropped : drop left2 bytes2 ≡ drop left bytes =
+                drop-drop left2 n1 bytes1 ∙ drop-drop (n1 + left2) n bytes ∙ ap (λ (k : ℕ). drop k bytes) back in
+                let read = events_on None (standings at2 (take left2 bytes2)) in
+                rw (on, on1) (
+                ap (scanned_ends total header) (run' ∙ run1) ∙ events
+                ∙ ap (λ (x : List ℕ). with_front [] read >>= λ es. Onward Two total header span.end x (blocks ++ with_events empty es ∷ [])) dropped
+                ∙ block_then read empty (Onward Two total header span.end (drop left bytes)) blocks)
+          ]
+    ]
 body_run Three total header span blocks at bytes left many within end whole =
     let n = record_length bytes in
     elim (step_to Three thread_named (λ thread. (insides.Thread thread, Nothing)) total header span insides.Opened blocks at bytes left (λ ends k r. refl) (omega arith) within end whole) [

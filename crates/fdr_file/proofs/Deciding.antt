@@ -1,7 +1,7 @@
 -- What is read from first to last is what the places of a file decide.
 use Rattle.std.proofs.Common.{◌≡◌, ℕ, zero, suc, ◌+◌, ◌%◌, ◌≤◌, ◌<◌, ◌^◌, Bool, true, false, cond, eqb, ltb, List, [], ◌∷◌, ◌++◌, length, slice_index, lit≤, take, drop, map, Option, Some, None, Result, Ok, Err, add-zero, refl, sym, ap, ◌∙◌, append_assoc, arith, inl, inr}
 use Rattle.std.specs.Prelude.{option_to_list, ◌||◌, ◌&&◌, ◌⊎◌, not, sum, is_some}
-use Rattle.std.specs.List.{list_any}
+use Rattle.std.specs.List.{filter_map, list_any}
 use Rattle.std.proofs.lemmas.Bool.{cases_Bool, ltb-false, le-leb}
 use Rattle.xray_io.specs.declared.wall.Wall.{Wall}
 use Rattle.xray_io.specs.Rows.{◌>>=◌}
@@ -9,7 +9,7 @@ use Rattle.fdr_file.specs.declared.header.Header.{Header}
 use Rattle.fdr_file.specs.declared.trace.Block.{Block}
 use Rattle.fdr_file.specs.declared.trace.Trace.{Trace}
 use Rattle.fdr_file.specs.declared.version.Version.{Version}
-use Rattle.fdr_file.specs.declared.version.Version.TheVariants.{Three}
+use Rattle.fdr_file.specs.declared.version.Version.TheVariants.{Two, Three}
 use Rattle.fdr_file.specs.Places.{starts}
 use Rattle.std.specs.List.{flat_map}
 use Rattle.std.proofs.lemmas.List.Concat.{flat_map-cons}
@@ -31,7 +31,7 @@ use Rattle.fdr_file.specs.declared.events.Base.{Base}
 use Rattle.fdr_file.specs.declared.fault.TraceFault.{TraceFault}
 use Rattle.fdr_file.specs.declared.fault.TraceFault.TheVariants as faults
 use Rattle.fdr_file.specs.Events.{arg_of, arg_said, counter_at, cpu_of, deltas_since, events_after, whole_counter}
-use Rattle.fdr_file.specs.Traces.{PreambleItem, block_starts, extents_in, first_takes_arg, header_in, is_arg, logs_arg, may_be, names_cpu, needs_cpu, preamble_bytes, preamble_of, record_in, records_among, Standing, block_in, block_of, block_standings, pid_named, block_length, record_length, standings, thread_named, wall_named}
+use Rattle.fdr_file.specs.Traces.{PreambleItem, block_starts, extents_in, first_or, first_takes_arg, header_in, is_arg, logs_arg, may_be, names_cpu, needs_cpu, preamble_bytes, preamble_of, record_in, records_among, Standing, block_in, block_of, block_standings, pid_named, block_length, record_length, standings, thread_named, wall_named}
 use Rattle.fdr_file.specs.Scanning.{entry_due, entry_with, header_on, step_on, version_read}
 use Rattle.fdr_file.specs.private.Faults.{by_places, blocks_faults, decided, record_faults, standing_faults, block_faults, told_by, unless}
 use Rattle.fdr_file.specs.private.Reading.{Left, blocks_read, body_on, end_named, end_on, events_on, is_end, left_at, named_on, pid_on, preamble_on, read_first, record_on}
@@ -304,8 +304,46 @@ decided_in : {A B : Type 0} (make : A → B) (found : List TraceFault) (x : A) �
 decided_in make [] x = refl
 decided_in make (fault ∷ later) x = refl
 
+decided_same : {A : Type 0} (found : List TraceFault) (x y : A) → (found ≡ [] → x ≡ y) → decided found x ≡ decided found y
+decided_same [] x y same = ap (λ z. Ok z) (same refl)
+decided_same (fault ∷ later) x y same = refl
+
+rest_empty : {A : Type 0} (xs ys : List A) → xs ++ ys ≡ [] → ys ≡ []
+rest_empty [] ys e = e
+rest_empty (x ∷ xs) ys e = absurd cc
+
+-- records after a preamble name no process, unless something is wrong with them
+no_pid : (version : Version) (before : List Rec) (said : List Standing) → IsBehind version before → standing_faults version before said ≡ [] → filter_map pid_named (records_among said) ≡ []
+no_pid version before [] many clean = refl
+no_pid version before ((at, Err fault) ∷ following) many clean = absurd cc
+no_pid version before ((at, Ok (Pid pid)) ∷ following) many clean =
+    let later = unless (list_any names_cpu before || true) (faults.NoBase at) ++ standing_faults version (Pid pid ∷ before) following in
+    let wrong : standing_faults version before ((at, Ok (Pid pid)) ∷ following) ≡ faults.Order at ∷ later = rw (may_behind version before (Pid pid) many) refl in
+    let none : faults.Order at ∷ later ≡ [] = sym wrong ∙ clean in
+    absurd cc
+no_pid version before ((at, Ok r) ∷ following) many clean =
+    no_pid version (r ∷ before) following (one_after version before r many) (rest_empty (record_faults version before at r) (standing_faults version (r ∷ before) following) clean)
+
 pub body_decided : (version : Version) (at : ℕ) (bytes : List ℕ) → preamble_bytes version ≤ length bytes → body_on version (at, bytes) ≡ decided (standing_faults version [] (standings at bytes)) (block_of (records_among (standings at bytes)))
 unfolding body_on preamble_on pid_on
+body_decided Two at bytes long =
+    elim (found Two thread_named NewBuffer [] at bytes thread_is (λ r none. ap (λ (o : Option ℕ). unless (is_some o && (not (is_arg r) || false)) (faults.Order at) ++ unless (false || not (needs_cpu r)) (faults.NoBase at)) none) (omega arith)) [
+      | inr (e, on, wrong) ↦ rw (on, wrong.wrong) refl
+      | inl (thread, left, on, first) ↦
+          elim (found Two wall_named WallTime (NewBuffer thread ∷ []) left.0 left.1 wall_is (λ r none. ap (λ (o : Option Wall). unless (is_some o && (not (is_arg r) || false)) (faults.Order left.0) ++ unless (false || not (needs_cpu r)) (faults.NoBase left.0)) none) (omega (arith, first.long))) [
+            | inr (e, on', wrong) ↦ rw (on, on', first.stands, wrong.wrong) refl
+            | inl (wall, left', on', second) ↦
+                let before : List Rec = WallTime wall ∷ NewBuffer thread ∷ [] in
+                let said = standings left'.0 left'.1 in
+                let events = events_after before (records_among said) in
+                let make : List Event → Block = λ events. record { thread = thread; wall = wall; pid = 0; events = events } in
+                let by_pids : List ℕ → Block = λ pids. record { thread = thread; wall = wall; pid = first_or 0 pids; events = events } in
+                rw (on, on', first.stands, second.stands, events_decided Two None before said (0, refl) (refl, refl) (λ none. refl)) (
+                decided_in make (standing_faults Two before said) events
+                ∙ decided_same (standing_faults Two before said) (make events) (by_pids (filter_map pid_named (records_among said)))
+                (λ clean. ap by_pids (sym (no_pid Two before said (0, refl) clean))))
+          ]
+    ]
 body_decided Three at bytes long =
     elim (found Three thread_named NewBuffer [] at bytes thread_is (λ r none. ap (λ (o : Option ℕ). unless (is_some o && (not (is_arg r) || false)) (faults.Order at) ++ unless (false || not (needs_cpu r)) (faults.NoBase at)) none) (omega arith)) [
       | inr (e, on, wrong) ↦ rw (on, wrong.wrong) refl

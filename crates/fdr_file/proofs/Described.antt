@@ -21,7 +21,7 @@ use Rattle.fdr_file.specs.declared.fault.TraceFault.TheVariants as faults
 use Rattle.fdr_file.specs.declared.trace.Block.{Block}
 use Rattle.fdr_file.specs.declared.trace.Trace.{Trace}
 use Rattle.fdr_file.specs.declared.version.Version.{Version}
-use Rattle.fdr_file.specs.declared.version.Version.TheVariants.{Three}
+use Rattle.fdr_file.specs.declared.version.Version.TheVariants.{Two, Three}
 use Rattle.fdr_file.specs.Places.{starts}
 use Rattle.fdr_file.specs.Traces.{Standing, block_in, block_length, block_of, block_standings, extents_in, fault_at, first_takes_arg, flags_in, header_in, may_be, may_stand, names_cpu, needs_cpu, pid_named, preamble_bytes, preamble_of, record_in, records_among, standings, thread_named, trace_of, version_in, wall_named}
 use Rattle.fdr_file.specs.Scanning.{version_read}
@@ -170,6 +170,28 @@ stands_at version before at r records clean =
     (stands.0, here.1)
 
 shaped : (version : Version) (at : ℕ) (records : List Rec) (bytes : List ℕ) → preamble_bytes version ≤ length bytes → AreSpelled records bytes → standing_faults version [] (stand_from at records) ≡ [] → Shaped version records
+shaped Two at [] bytes long is clean = absurd (omega (arith, ap length is))
+shaped Two at (a ∷ []) bytes long (f, g, e, fit, s, is) clean = absurd (omega (arith, ap length e, length-append f g, s.whole, (length_between a).1, ap length is))
+shaped Two at (a ∷ b ∷ inner) bytes long is clean =
+    let one = stands_at Two [] at a (b ∷ inner) clean in
+    let t = thread_of a one.0 in
+    let two = stands_at Two (a ∷ []) (at + length_of a) b inner one.1 in
+    let w = wall_of b two.0 in
+    let rest : standing_faults Two (WallTime w.0 ∷ NewBuffer t.0 ∷ []) (stand_from (at + length_of a + length_of b) inner) ≡ [] =
+    subst (λ (x : Rec). standing_faults Two (x ∷ NewBuffer t.0 ∷ []) (stand_from (at + length_of a + length_of b) inner) ≡ []) w.1
+    (subst (λ (x : Rec). standing_faults Two (b ∷ x ∷ []) (stand_from (at + length_of a + length_of b) inner) ≡ []) t.1 two.1) in
+    let are : a ∷ b ∷ inner ≡ NewBuffer t.0 ∷ WallTime w.0 ∷ inner =
+    ap (λ (x : Rec). x ∷ b ∷ inner) t.1 ∙ ap (λ (x : Rec). NewBuffer t.0 ∷ x ∷ inner) w.1 in
+    let inner_are = inner_is Two _ _ inner (0, refl) rest in
+    record {
+      block = block_of (NewBuffer t.0 ∷ WallTime w.0 ∷ inner);
+      inner = inner;
+      are = are;
+      told = ap block_of (sym are);
+      may = inner_are.0;
+      based = based_is Two _ _ inner (0, refl) refl rest;
+      args = inner_are.1;
+    }
 shaped Three at [] bytes long is clean = absurd (omega (arith, ap length is))
 shaped Three at (a ∷ []) bytes long (f, g, e, fit, s, is) clean = absurd (omega (arith, ap length e, length-append f g, s.whole, (length_between a).1, ap length is))
 shaped Three at (a ∷ b ∷ []) bytes long (f, g, e, fit, s, (f', g', e', fit', s', is)) clean =

@@ -26,7 +26,7 @@ use Rattle.fdr_file.specs.declared.stage.Told.{Told}
 use Rattle.fdr_file.specs.declared.stage.Told.TheVariants.{Nothing, Begun, Noted}
 use Rattle.fdr_file.specs.declared.trace.Block.{Block}
 use Rattle.fdr_file.specs.declared.version.Version.{Version}
-use Rattle.fdr_file.specs.declared.version.Version.TheVariants.{Three}
+use Rattle.fdr_file.specs.declared.version.Version.TheVariants.{Two, Three}
 use Rattle.fdr_file.specs.Traces.{header_in, pid_named, preamble_bytes, record_in, record_length, size_named, thread_named, trace_of, wall_named}
 use Rattle.fdr_file.specs.Streams.{HasLast, IsBegun, IsOpen, ReadsHeader, ReadsNothing, ReadsOn, Scans, ScansBy}
 use Rattle.fdr_file.specs.private.Scan.{Advances, CanTell, answered_by, header_longer, header_taken, last_stage, record_advanced, record_longer, record_passed, stage_answers}
@@ -114,6 +114,8 @@ thread_leads span at place (Some thread) = λ blocks begun. (tt, after_open span
 
 wall_leads : (version : Version) (span : Span) (at place thread : ℕ) (o : Option Wall) → LeadsIn span at (insides.Thread thread) (NeedsPart o (Err (faults.Order place)) λ wall. Ok (after_wall version thread wall))
 wall_leads version span at place thread None = refused_leads span at (insides.Thread thread) (faults.Order place)
+wall_leads Two span at place thread (Some wall) = λ blocks begun.
+    (tt, after_open span at (insides.Events None) (with_told (Begun thread wall 0) blocks) (record { front = blocks; last = empty_block thread wall 0; is = refl }))
 wall_leads Three span at place thread (Some wall) = λ blocks begun. (tt, after_open span at (insides.Wall thread wall) blocks tt)
 
 pid_leads : (span : Span) (at place thread : ℕ) (wall : Wall) (o : Option ℕ)

@@ -24,7 +24,7 @@ use Rattle.fdr_file.specs.declared.stage.Told.TheVariants.{Nothing, Begun, Noted
 use Rattle.fdr_file.specs.declared.trace.Block.{Block}
 use Rattle.fdr_file.specs.declared.trace.Trace.{Trace}
 use Rattle.fdr_file.specs.declared.version.Version.{Version}
-use Rattle.fdr_file.specs.declared.version.Version.TheVariants.{Three}
+use Rattle.fdr_file.specs.declared.version.Version.TheVariants.{Two, Three}
 use Rattle.fdr_file.specs.Places.{starts}
 use Rattle.fdr_file.specs.Traces.{fault_at, header_in, header_rows, logs_arg, pid_named, preamble_bytes, record_in, record_length, size_named, thread_named, wall_named}
 
@@ -82,8 +82,9 @@ record_or at (Err fault) = Err (fault_at at fault)
 abbrev pub record_within : Span → ℕ → ℕ → Result Rec RecFault → Result Rec TraceFault
 record_within span at len found = if nat_lt span.end (at + len) then Err (faults.Extents at) else record_or at found
 
--- what a thread and a wall time say
+-- what a thread and a wall time say; in version 2 no record names a process
 abbrev pub after_wall : Version → ℕ → Wall → Inside × Told
+after_wall Two thread wall = (insides.Events None, Begun thread wall 0)
 after_wall Three thread wall = (insides.Wall thread wall, Nothing)
 
 -- An entry that logs its argument is told one record later, since the argument may be in that record. If the entry is

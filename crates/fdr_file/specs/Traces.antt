@@ -15,7 +15,7 @@ use Rattle.fdr_record.specs.Refusals.{length_by}
 use Rattle.fdr_record.specs.Reading.{function_record_at, metadata_record_at}
 use Rattle.fdr_file.specs.declared.header.Header.{Header}
 use Rattle.fdr_file.specs.declared.version.Version.{Version}
-use Rattle.fdr_file.specs.declared.version.Version.TheVariants.{Three}
+use Rattle.fdr_file.specs.declared.version.Version.TheVariants.{Two, Three}
 use Rattle.fdr_file.specs.declared.fault.TraceFault.{TraceFault}
 use Rattle.fdr_file.specs.declared.fault.TraceFault.TheVariants as faults
 use Rattle.fdr_file.specs.declared.trace.Block.{Block}
@@ -47,7 +47,7 @@ header_in bytes = record {
 
 -- the version with this number, if it is read
 abbrev pub version_of : ℕ → Option Version
-version_of number = if number == 3 then Some Three else None
+version_of number = if number == 3 then Some Three else if number == 2 then Some Two else None
 
 -- A header is whole, of a version that is read, and of the type of the Flight Data Recorder mode.
 abbrev pub header_rows : {A : Type 0} → List ℕ → (Version → Result A TraceFault) → Result A TraceFault
@@ -193,6 +193,7 @@ pub data PreambleItem : Type 0 where
 
 -- what the first records of a block name, in order
 abbrev pub preamble_of : Version → List PreambleItem
+preamble_of Two = TheThread ∷ TheWallTime ∷ []
 preamble_of Three = TheThread ∷ TheWallTime ∷ TheProcess ∷ []
 
 -- how many bytes these records have

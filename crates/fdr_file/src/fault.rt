@@ -16,20 +16,22 @@ pub enum TraceFault {
     /// has, or fewer than that record names.
     #[error("the file ends within the block or header at {0}")]
     Short(u64),
-    /// The header's version, if it isn't 3. The runtime of LLVM 14, for example, writes version 5.
+    /// The header's version, if it isn't 2 or 3. The runtime of LLVM 14, for example, writes version
+    /// 5.
     #[error("version {0} isn't read")]
     Version(u16),
     /// The header's type, if it isn't 1, which is that of the Flight Data Recorder mode.
     #[error("files of the type {0} aren't read")]
     Form(u16),
     /// The record at this place isn't allowed there. A block begins with `BufferExtents`,
-    /// `NewBuffer`, `WalltimeMarker` and `Pid`, and goes on with `NewCPUId`, `TSCWrap`, function and
-    /// `CallArgument` records. A `CallArgument` may stand only directly behind an entry that logs its
-    /// argument, or behind another `CallArgument`.
+    /// `NewBuffer`, `WalltimeMarker` and in version 3 `Pid`, and goes on with `NewCPUId`, `TSCWrap`,
+    /// function and `CallArgument` records. A `CallArgument` may stand only directly behind an entry
+    /// that logs its argument, or behind another `CallArgument`.
     #[error("the record at {0} may not stand there")]
     Order(u64),
-    /// The extents at this place name fewer than the 48 bytes of a preamble. Or the record at this
-    /// place doesn't end within the block, whose end the extents say.
+    /// The extents at this place name fewer bytes than a preamble has: 48 in version 3, and 32 in
+    /// version 2. Or the record at this place doesn't end within the block, whose end the extents
+    /// say.
     #[error("the block's extents are too short at {0}")]
     Extents(u64),
     /// The bytes at this place aren't a record, because of their action or their kind.

@@ -40,7 +40,8 @@ pub(crate) const RESERVED: [u8; 8] = [0; 8];
 /// What a trace file says about itself (LLVM's `XRayFileHeader`).
 #[derive(Clone, Copy, Debug, PartialEq, Eq)]
 pub struct Header {
-    /// The version of the format. It is 3 in each file that is read.
+    /// The version of the format. It is 2 or 3 in each file that is read, and 3 in each that is
+    /// written.
     pub version: u16,
     /// Whether the counter runs at a constant frequency.
     pub constant: bool,

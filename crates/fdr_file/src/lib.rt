@@ -1,5 +1,5 @@
-//! Trace files of LLVM XRay's Flight Data Recorder mode, version 3: a header, and a block for each
-//! buffer that was flushed. `read_trace` reads a whole file, and `write_file` writes one. The
+//! Trace files of LLVM XRay's Flight Data Recorder mode, versions 2 and 3: a header, and a block for
+//! each buffer that was flushed. `read_trace` reads a whole file, and `write_file` writes one. The
 //! layout is that of "XRay Flight Data Recorder Trace Format" in LLVM's documentation.
 #![tactic(auto)]
 

@@ -4,6 +4,7 @@ ghost use Rattle.std.specs.Prelude.{◌≤◌, length, IfOk};
 ghost use Rattle.fdr_file.specs.private.Reading.{Reads, left_at, pid_on, preamble_on};
 
 use crate::records::record_at;
+use crate::version::NO_PROCESS;
 use crate::{TraceFault, Version};
 use fdr_record::Rec;
 use xray_io::Wall;
@@ -18,7 +19,8 @@ pub(crate) struct Preamble {
     pub(crate) end: usize,
 }
 
-/// The process that a block names after its thread and its wall time, and the place after it.
+/// The process that a block names after its thread and its wall time, and the place after it. A
+/// block of version 2 names none.
 #[tactic(auto, unfolding(crate::specs::private::Reading::pid_on))]
 fn read_pid(version: Version, block: &[u8], at: usize) -> Result<(u32, usize), TraceFault>
     requires { at ≤ length block.now }
@@ -27,6 +29,7 @@ fn read_pid(version: Version, block: &[u8], at: usize) -> Result<(u32, usize), T
     ensures next { IfOk result (λ x. x.1 ≤ length block.now) }
 {
     match version {
+        Version::Two => Ok((NO_PROCESS, at)),
         Version::Three => {
             let (rec, next) = record_at(block, at)?;
             let Rec::Pid { pid } = rec else {

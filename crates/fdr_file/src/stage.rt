@@ -4,6 +4,7 @@ ghost use Rattle.std.specs.Prelude.{◌≡◌, ◌≤◌, ◌+◌, ◌==◌, ℕ
 ghost use Rattle.fdr_file.specs.Scanning.{after_wall, extents_next, inside_judged, inside_next, record_within, stage_after, stage_judged, stage_within};
 
 use crate::events::{Base, step};
+use crate::version::NO_PROCESS;
 use crate::{TraceFault, Version};
 use fdr_record::{Event, METADATA_BYTES, Rec, RecFault};
 use xray_io::Wall;
@@ -22,7 +23,7 @@ pub(crate) enum Inside {
     Opened,
     /// The thread. The wall time is next.
     Thread { thread: u32 },
-    /// The thread and the wall time. The process is next.
+    /// The thread and the wall time, in version 3. The process is next.
     Wall { thread: u32, wall: Wall },
     /// The preamble, and a CPU and a counter if one was named. CPUs, counters, functions and
     /// arguments are next.
@@ -128,11 +129,18 @@ fn within(span: Span, at: u64, len: usize, found: Result<Rec, RecFault>) -> Resu
     }
 }
 
-/// What is next after the wall time.
+/// What a wall time says after a thread, and what is next.
 fn past_wall(version: Version, thread: u32, wall: Wall) -> (Inside, Told)
     ensures { result ≡ after_wall version thread wall }
 {
     match version {
+        Version::Two => {
+            let pid = NO_PROCESS;
+            (
+                Inside::Events { base: None },
+                Told::Begun { thread, wall, pid },
+            )
+        }
         Version::Three => (Inside::Wall { thread, wall }, Told::Nothing),
     }
 }

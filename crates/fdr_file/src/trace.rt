@@ -54,7 +54,7 @@ pub struct Block {
     pub thread: u32,
     /// When the buffer was begun. Reading doesn't check that the microseconds are below 1,000,000.
     pub wall: Wall,
-    /// The process that the thread belongs to.
+    /// The process that the thread belongs to. Files of version 2 don't say it, and it is 0 then.
     pub pid: u32,
     /// The events, in the order in which they were recorded.
     pub events: Events,

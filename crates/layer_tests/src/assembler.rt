@@ -12,7 +12,7 @@ fn verdict(alloc: Global, text: &[u8], threshold: u32) -> Result<Vec<u8>, AsmFau
     if count_lines(text) > 2_000_000 {
         return Err(AsmFault::NoMemory);
     }
-    assemble(alloc, text, threshold)
+    assemble(alloc, text, threshold, false)
 }
 
 /// The code of an image file.

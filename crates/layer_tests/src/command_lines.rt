@@ -57,12 +57,20 @@ plain|i|--fuel|-3 => none
 plain|i|--fuel=-3 => none
 plain|i|--fuel=3|--fuel=3 => none
 plain|i|--fuel|3|--fuel=4 => none
-asm|t|i => asm [t] [i] 1
-asm|--threshold|4294967295|t|i => asm [t] [i] 4294967295
+asm|t|i => asm [t] [i] 1 false
+asm|--threshold|4294967295|t|i => asm [t] [i] 4294967295 false
+asm|--map-version|2|t|i => asm [t] [i] 1 true
+asm|t|--map-version=+02|i|--threshold=0 => asm [t] [i] 0 true
+asm|t|i|--map-version=0 => asm [t] [i] 1 false
+asm|t|i|--map-version=1 => none
+asm|t|i|--map-version=3 => none
+asm|t|i|--map-version=18446744073709551618 => none
+asm|t|i|--map-version= => none
+asm|t|i|--map-version=2|--map-version=2 => none
 asm|t|i|--threshold=4294967296 => none
 asm|t|t => none
 asm|t|--|t => none
-asm|t|./t => asm [t] [./t] 1
+asm|t|./t => asm [t] [./t] 1 false
 asm|t => none
 asm|t|i|--threads=1 => none
 extract|i => extract [i]
@@ -154,7 +162,8 @@ fn shown_command(alloc: Global, command: Command) -> Result<String, AllocError> 
             text,
             image,
             threshold,
-        } => format!(in alloc; "asm [{text}] [{image}] {threshold}"),
+            relative,
+        } => format!(in alloc; "asm [{text}] [{image}] {threshold} {relative}"),
         Command::Account {
             trace,
             image,
@@ -246,7 +255,7 @@ fn command_lines_say_what_the_rows_say(rt: HostRuntime) -> Result<(), Fail> {
             rows = rows.wrapping_add(1);
         }
     }
-    check_same(&rt, &rows, &106);
+    check_same(&rt, &rows, &114);
     Ok(())
 }
 

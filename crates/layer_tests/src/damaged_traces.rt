@@ -54,7 +54,7 @@ fn read_in_pieces(bytes: &[u8], size: usize) -> Result<(Header, Counts), TraceFa
 
 /// Checks a file that isn't a trace: its fault, read whole and in pieces, and the length of its
 /// longest prefix that is a trace.
-fn check_fault(
+pub(crate) fn check_fault(
     rt: &impl Abort,
     alloc: Global,
     bytes: &[u8],
@@ -71,7 +71,13 @@ fn check_fault(
 
 /// Checks a trace: its header and so many blocks and events, in pieces of each size, and that it is
 /// its longest prefix.
-fn check_trace(rt: &impl Abort, bytes: &[u8], header: Header, blocks: usize, events: usize) {
+pub(crate) fn check_trace(
+    rt: &impl Abort,
+    bytes: &[u8],
+    header: Header,
+    blocks: usize,
+    events: usize,
+) {
     let wanted = Ok((header, Counts { blocks, events }));
     let place = bytes.len();
     check_same_at(rt, &read_in_pieces(bytes, 1), &wanted, &place);
@@ -100,7 +106,7 @@ const DAMAGES: [(usize, u8, TraceFault); 22] = [
     (112, 0x11, TraceFault::Bad(112, RecFault::Kind(8))),
     (112, 0x18, TraceFault::Bad(112, RecFault::Action(4))),
     (120, 0x11, TraceFault::Extents(120)),
-    (0, 0x02, TraceFault::Version(2)),
+    (0, 0x02, TraceFault::Order(80)),
     (0, 0x04, TraceFault::Version(4)),
     (1, 0x01, TraceFault::Version(259)),
     (2, 0x00, TraceFault::Form(0)),
@@ -115,7 +121,8 @@ fn damaged_files_are_refused(rt: HostRuntime) -> Result<(), Fail> {
         if let Some(byte) = bytes.get_mut(*at) {
             *byte = *to;
         }
-        let prefix = if *at < 32 { Err(*fault) } else { Ok(32) };
+        let is_of_header = matches!(fault, TraceFault::Version(_) | TraceFault::Form(_));
+        let prefix = if is_of_header { Err(*fault) } else { Ok(32) };
         check_fault(&rt, rt.alloc(), &bytes, *fault, prefix, *at);
     }
     Ok(())

@@ -42,16 +42,28 @@ pub fn add_function(bytes: &mut Vec<u8>, start: u64, name: &[u8]) -> Result<(), 
     Ok(())
 }
 
-/// Adds a map entry.
-pub fn add_entry(
+/// Adds a map entry of a version, with these fields.
+pub fn add_entry_of(
     bytes: &mut Vec<u8>,
+    version: u8,
     sled: u64,
     function: u64,
     kind: u8,
 ) -> Result<(), AllocError> {
     put(bytes, sled, 8)?;
     put(bytes, function, 8)?;
-    put(bytes, u64::from(kind), 16)
+    put(bytes, u64::from(kind), 2)?;
+    put(bytes, u64::from(version), 14)
+}
+
+/// Adds a map entry of version 0.
+pub fn add_entry(
+    bytes: &mut Vec<u8>,
+    sled: u64,
+    function: u64,
+    kind: u8,
+) -> Result<(), AllocError> {
+    add_entry_of(bytes, 0, sled, function, kind)
 }
 
 /// The file of a code at 0x1000, with functions by their starts and names, and with map entries by

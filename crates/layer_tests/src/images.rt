@@ -1,7 +1,7 @@
 //! Calls of `xray_image`: what an image file says, and why others are refused.
 
 use crate::checks::{check_same, check_same_at};
-use crate::image_files::{add_entry, add_function, header_and_code, image_file};
+use crate::image_files::{add_entry, add_entry_of, add_function, header_and_code, image_file};
 use example_images::OUTPUTS_AN_A;
 use sled_words::{Part, part_value};
 use std::alloc::{AllocError, Global};
@@ -101,6 +101,9 @@ type Damage = (&'static [(usize, u8)], usize, ImageFault);
 /// The length of that image.
 const WHOLE: usize = 170;
 
+/// The place of its map.
+const MAP: usize = 106;
+
 /// The damaged file.
 fn damaged(alloc: Global, changes: &[(usize, u8)], length: usize) -> Result<Vec<u8>, AllocError> {
     let mut bytes = OUTPUTS_AN_A.to_vec(alloc)?;
@@ -115,7 +118,7 @@ fn damaged(alloc: Global, changes: &[(usize, u8)], length: usize) -> Result<Vec<
 }
 
 /// Each row of the table of refusals.
-const DAMAGES: [Damage; 26] = [
+const DAMAGES: [Damage; 27] = [
     (&[], 63, ImageFault::Short),
     (&[], 169, ImageFault::Short),
     (&[], 171, ImageFault::Trailing),
@@ -150,7 +153,8 @@ const DAMAGES: [Damage; 26] = [
     (&[(154, 0)], WHOLE, ImageFault::Odd(1)),
     (&[(122, 4)], WHOLE, ImageFault::Odd(0)),
     (&[(154, 3)], WHOLE, ImageFault::Odd(1)),
-    (&[(124, 2)], WHOLE, ImageFault::Odd(0)),
+    (&[(124, 3)], WHOLE, ImageFault::Odd(0)),
+    (&[(156, 3)], WHOLE, ImageFault::Odd(1)),
     (&[(146, 0x0B)], WHOLE, ImageFault::Odd(1)),
     // the entry trampoline 0x2_0000_0000
     (&[(33, 0), (34, 0), (36, 2)], WHOLE, ImageFault::Far(0)),
@@ -204,6 +208,60 @@ fn check_damages(rt: &impl Abort, alloc: Global, damages: &[Damage]) -> Result<(
 fn a_damaged_image_is_refused_by_its_first_fault(rt: HostRuntime) -> Result<(), Fail> {
     check_damages(&rt, rt.alloc(), &DAMAGES)?;
     check_damages(&rt, rt.alloc(), &TWICE_DAMAGED)
+}
+
+/// Two map entries of an entry sled at 0x1000 and an exit sled at 0x1012, both in a function at
+/// 0x1000: the two fields and the version of each. Then why their image is refused, if it is. The
+/// first entry is at 0x101000, and the second at 0x101020.
+type Mapped = ([(u64, u64, u8); 2], Option<ImageFault>);
+
+/// The first entry, as version 2 has it.
+const FIRST: (u64, u64, u8) = (0xFFFF_FFFF_FFF0_0000, 0xFFFF_FFFF_FFEF_FFF8, 2);
+
+/// The second entry, as version 2 has it.
+const SECOND: (u64, u64, u8) = (0xFFFF_FFFF_FFEF_FFF2, 0xFFFF_FFFF_FFEF_FFD8, 2);
+
+const MAPS: [Mapped; 10] = [
+    ([FIRST, SECOND], None),
+    // several versions in one map
+    ([(0x1000, 0x1000, 0), SECOND], None),
+    ([FIRST, (0x1012, 0x1000, 1)], None),
+    // fields of the other version
+    ([(0x1000, 0x1000, 2), SECOND], Some(ImageFault::MapOrder(0))),
+    (
+        [FIRST, (SECOND.0, SECOND.1, 1)],
+        Some(ImageFault::MapOrder(1)),
+    ),
+    // a sled 16 bytes below 0, which is one at 0xFFFF_FFFF_FFFF_FFF0
+    (
+        [(0xFFFF_FFFF_FFEF_EFF0, FIRST.1, 2), SECOND],
+        Some(ImageFault::MapOrder(0)),
+    ),
+    // a function whose field counts from its entry
+    ([(FIRST.0, FIRST.0, 2), SECOND], Some(ImageFault::Odd(0))),
+    // functions 8 bytes below 0, and at 2^64 - 1
+    (
+        [(FIRST.0, 0xFFFF_FFFF_FFEF_EFF0, 2), SECOND],
+        Some(ImageFault::Odd(0)),
+    ),
+    (
+        [FIRST, (SECOND.0, 0xFFFF_FFFF_FFEF_EFD7, 2)],
+        Some(ImageFault::Odd(1)),
+    ),
+    // a version above 2
+    ([FIRST, (0x1012, 0x1000, 3)], Some(ImageFault::Odd(1))),
+];
+
+#[test]
+fn addresses_of_version_2_count_from_their_fields(rt: HostRuntime) -> Result<(), Fail> {
+    for (map, fault) in &MAPS {
+        let mut bytes = Vec::from_slice(rt.alloc(), &OUTPUTS_AN_A[..MAP])?;
+        for (number, (sled, function, version)) in map.iter().enumerate() {
+            add_entry_of(&mut bytes, *version, *sled, *function, number as u8)?;
+        }
+        check_same_at(&rt, &fault_of(rt.alloc(), &bytes), fault, map);
+    }
+    Ok(())
 }
 
 /// Codes of one function without a map, and why they are refused, if they are.

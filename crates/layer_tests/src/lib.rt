@@ -58,3 +58,5 @@ mod sled_values;
 mod stack_folds;
 #[cfg(test)]
 mod trace_files;
+#[cfg(test)]
+mod traces_without_process;

@@ -267,6 +267,10 @@ fn two_threads_fetch_lawful_words_while_a_third_patches(rt: HostRuntime) -> Resu
         &mut last,
     );
     check_same_list(&rt, &last[..8], PATCHED.as_slice());
-    check_same_list(&rt, &last[8..], [0, 0, 0, 0, u64::MAX, u64::MAX, 0].as_slice());
+    check_same_list(
+        &rt,
+        &last[8..],
+        [0, 0, 0, 0, u64::MAX, u64::MAX, 0].as_slice(),
+    );
     Ok(())
 }

@@ -7,7 +7,7 @@ use Rattle.std.proofs.lemmas.List.{length-take, length-map}
 use Rattle.std.proofs.lemmas.Slice.Zip.{length-zip}
 use Rattle.xray_image.specs.declared.unit.Unit.{Unit}
 use Rattle.xray_image.specs.declared.unit.What.TheVariants as whats
-use Rattle.xray_image.specs.Container.{Function, MapEntry, Parts, code_length, function_count, entry_count, base_address, several, function_entry_at, map_entry_at, parts_of}
+use Rattle.xray_image.specs.Container.{Function, MapFields, Parts, code_length, function_count, entry_count, base_address, several, function_entry_at, entries_from, map_distance, map_fields_at, parts_of}
 use Rattle.xray_image.specs.Layout.{width_of}
 use Rattle.xray_image.specs.Units.{Piece, Instruction, JumpSled, ReturnSled, Align, piece_bytes, sleds_in, what_of, units_from, places_from}
 use Rattle.xray_image.specs.Program.{Program, IsAccepted, sled_of}
@@ -19,27 +19,27 @@ use Rattle.machine_step.proofs.Stepping.{AreInOrder}
 
 -- ---- the code's size
 
-code_of_parts : (code : List ℕ) (found : List Function × List ℕ) (entries : Option (List MapEntry × List ℕ)) (parts : Parts)
-    → option_map (λ (e : List MapEntry × List ℕ). let whole : Parts = record { code = code; functions = found.0; entries = e.0; rest = e.1 } in whole) entries ≡ Some parts
+code_of_parts : (code : List ℕ) (at : ℕ) (found : List Function × List ℕ) (entries : Option (List MapFields × List ℕ)) (parts : Parts)
+    → option_map (λ (e : List MapFields × List ℕ). let whole : Parts = record { code = code; functions = found.0; entries = entries_from at e.0; rest = e.1 } in whole) entries ≡ Some parts
     → parts.code ≡ code
-code_of_parts code found None parts is = absurd cc
-code_of_parts code found (Some e) parts is =
-    let whole : Parts = record { code = code; functions = found.0; entries = e.0; rest = e.1 } in
+code_of_parts code at found None parts is = absurd cc
+code_of_parts code at found (Some e) parts is =
+    let whole : Parts = record { code = code; functions = found.0; entries = entries_from at e.0; rest = e.1 } in
     let same : whole ≡ parts = cc in sym (ap (λ (p : Parts). p.code) same)
 
-code_of_file : (short : Bool) (code : List ℕ) (functions : Option (List Function × List ℕ)) (n : ℕ) (parts : Parts)
+code_of_file : (short : Bool) (code : List ℕ) (at : ℕ) (functions : Option (List Function × List ℕ)) (n : ℕ) (parts : Parts)
     → (if short then None else option_and_then
     (λ functions. option_map
-    (λ entries. let whole : Parts = record { code = code; functions = functions.0; entries = entries.0; rest = entries.1 } in whole)
-    (several map_entry_at n functions.1)) functions) ≡ Some parts
+    (λ entries. let whole : Parts = record { code = code; functions = functions.0; entries = entries_from at entries.0; rest = entries.1 } in whole)
+    (several map_fields_at n functions.1)) functions) ≡ Some parts
     → parts.code ≡ code
-code_of_file true code functions n parts is = absurd cc
-code_of_file false code None n parts is = absurd cc
-code_of_file false code (Some found) n parts is = code_of_parts code found (several map_entry_at n found.1) parts is
+code_of_file true code at functions n parts is = absurd cc
+code_of_file false code at None n parts is = absurd cc
+code_of_file false code at (Some found) n parts is = code_of_parts code at found (several map_fields_at n found.1) parts is
 
 code_is : (bytes : List ℕ) (parts : Parts) → parts_of bytes ≡ Some parts → parts.code ≡ take (code_length bytes) (drop 64 bytes)
 code_is bytes parts is =
-    code_of_file _ (take (code_length bytes) (drop 64 bytes)) (several function_entry_at (function_count bytes) (drop (64 + code_length bytes) bytes))
+    code_of_file _ (take (code_length bytes) (drop 64 bytes)) (base_address bytes + map_distance) (several function_entry_at (function_count bytes) (drop (64 + code_length bytes) bytes))
     (entry_count bytes) parts is
 
 -- units begin within the code

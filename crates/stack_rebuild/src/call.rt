@@ -5,10 +5,10 @@
 pub struct Call {
     /// The position of its entry among the events of its thread, from 0.
     pub entry: usize,
-    /// The id of the function.
-    pub func: u32,
     /// The counter at its entry, in cycles.
     pub tsc: u64,
+    /// The id of the function.
+    pub func: u32,
 }
 
 /// An entry, and the exit that ends its call.

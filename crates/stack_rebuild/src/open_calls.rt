@@ -66,6 +66,7 @@ impl OpenCalls {
     }
 
     /// Ends the innermost open call of a function, and all calls that were made in it.
+    #[inline]
     pub(crate) fn end_call(&mut self, func: u32) -> Result<Option<Call>, NoMemory>
         ensures { IfOk result (λ ended. MatchOption ended
             ((from_innermost func (reverse self.old) ≡ []) × (self.new ≡ self.old))
@@ -91,6 +92,7 @@ impl OpenCalls {
     }
 
     /// Ends the innermost call.
+    #[inline]
     fn end_innermost(&mut self) -> Option<Call>
         ensures { MatchOption result ((self.old ≡ []) × (self.new ≡ []))
             (λ call. self.old ≡ self.new ++ call ∷ []) }

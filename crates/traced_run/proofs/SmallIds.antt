@@ -6,7 +6,7 @@ use Rattle.std.specs.Option.{option_map}
 use Rattle.std.specs.Prelude.{option_and_then}
 use Rattle.std.proofs.lemmas.List.{length-map}
 use Rattle.std.proofs.lemmas.Option.{slice_get-map}
-use Rattle.xray_image.specs.Container.{Function, MapEntry, Parts, base_address, code_length, entry_count, function_entry_at, function_count, map_entry_at, parts_of, several}
+use Rattle.xray_image.specs.Container.{Function, MapEntry, MapFields, Parts, base_address, code_length, entries_from, entry_count, function_entry_at, function_count, map_distance, map_fields_at, parts_of, several}
 use Rattle.xray_image.specs.Units.{SledPlace, places_from}
 use Rattle.xray_image.specs.Program.{IsAccepted, Program, distinct, id_of, sled_of}
 use Rattle.xray_image.specs.declared.sled.Sled.{Sled as XraySled}
@@ -39,31 +39,41 @@ several_count X item (suc n) bytes found e = by_first (several_count X item n) (
     by_first counts None e = absurd cc
     by_first counts (Some first) e = by_others counts first (several item n first.1) refl e
 
--- the parts of a file with these functions and entries
-abbrev parts_with : List ℕ → List Function → List MapEntry × List ℕ → Parts
-parts_with bytes functions entries =
-    record { code = take (code_length bytes) (drop 64 bytes); functions = functions; entries = entries.0; rest = entries.1 }
+-- there is an entry for the fields of each
+length_from : (at : ℕ) (fields : List MapFields) → length (entries_from at fields) ≡ length fields
+length_from at [] = refl
+length_from at (first ∷ others) = ap suc (length_from (at + 32) others)
+
+-- the parts of a file with these functions and the fields of these entries
+abbrev parts_with : List ℕ → List Function → List MapFields × List ℕ → Parts
+parts_with bytes functions fields = record {
+  code = take (code_length bytes) (drop 64 bytes);
+  functions = functions;
+  entries = entries_from (base_address bytes + map_distance) fields.0;
+  rest = fields.1;
+}
 
 few_entries : (bytes : List ℕ) (parts : Parts) → parts_of bytes ≡ Some parts → length parts.entries ≡ entry_count bytes
 few_entries bytes parts e = by_length (nat_lt (length bytes) (64 + code_length bytes)) e
   where
-    by_entries : (functions : List Function × List ℕ) (entries : Option (List MapEntry × List ℕ))
-        → several map_entry_at (entry_count bytes) functions.1 ≡ entries → option_map (parts_with bytes functions.0) entries ≡ Some parts
+    by_entries : (functions : List Function × List ℕ) (entries : Option (List MapFields × List ℕ))
+        → several map_fields_at (entry_count bytes) functions.1 ≡ entries → option_map (parts_with bytes functions.0) entries ≡ Some parts
         → length parts.entries ≡ entry_count bytes
     by_entries functions None is e = absurd cc
     by_entries functions (Some entries) is e =
         let same : parts_with bytes functions.0 entries ≡ parts = cc in
-        ap (λ (p : Parts). length p.entries) (sym same) ∙ several_count MapEntry map_entry_at (entry_count bytes) functions.1 entries is
+        ap (λ (p : Parts). length p.entries) (sym same)
+        ∙ (length_from (base_address bytes + map_distance) entries.0 ∙ several_count MapFields map_fields_at (entry_count bytes) functions.1 entries is)
 
     by_functions : (functions : Option (List Function × List ℕ))
-        → option_and_then (λ functions. option_map (parts_with bytes functions.0) (several map_entry_at (entry_count bytes) functions.1)) functions
+        → option_and_then (λ functions. option_map (parts_with bytes functions.0) (several map_fields_at (entry_count bytes) functions.1)) functions
         ≡ Some parts → length parts.entries ≡ entry_count bytes
     by_functions None e = absurd cc
-    by_functions (Some functions) e = by_entries functions (several map_entry_at (entry_count bytes) functions.1) refl e
+    by_functions (Some functions) e = by_entries functions (several map_fields_at (entry_count bytes) functions.1) refl e
 
     by_length : (short : Bool)
         → (if short then None
-        else option_and_then (λ functions. option_map (parts_with bytes functions.0) (several map_entry_at (entry_count bytes) functions.1))
+        else option_and_then (λ functions. option_map (parts_with bytes functions.0) (several map_fields_at (entry_count bytes) functions.1))
         (several function_entry_at (function_count bytes) (drop (64 + code_length bytes) bytes)))
         ≡ Some parts → length parts.entries ≡ entry_count bytes
     by_length true e = absurd cc

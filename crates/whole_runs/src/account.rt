@@ -6,8 +6,8 @@ use crate::runs::{
 };
 use crate::sim::TRACED;
 use crate::trace_bytes::{
-    CPU, ENTRY, EXIT, EXTENTS_72, EXTENTS_80, HEADER, ONE_CALL, ONE_EXIT, PREAMBLE, Printed,
-    RECURSION, TWO_FUNCTIONS, assert_printed, trace_desk,
+    CPU, ENTRY, EXIT, EXTENTS_72, EXTENTS_80, HEADER, HEADER_OF_2, ONE_CALL, ONE_EXIT, PREAMBLE,
+    Printed, RECURSION, THREAD_1, TWO_FUNCTIONS, WALL_0, assert_printed, trace_desk,
 };
 use std::test::Fail;
 
@@ -113,9 +113,9 @@ fn the_longest_name_is_printed_whole(rt: HostRuntime) -> Result<(), Fail> {
 /// All of a header but its last byte.
 const CUT_HEADER: &[u8] = b"\x03\0\x01\0\x03\0\0\0\0\0\0\0\0\0\0\0\0\x40\0\0\0\0\0\0\0\0\0\0\0\0\0";
 
-/// A header of version 2, and one of type 0.
-const VERSION_2: &[u8] =
-    b"\x02\0\x01\0\x03\0\0\0\0\0\0\0\0\0\0\0\0\x40\0\0\0\0\0\0\0\0\0\0\0\0\0\0";
+/// A header of version 4, and one of type 0.
+const VERSION_4: &[u8] =
+    b"\x04\0\x01\0\x03\0\0\0\0\0\0\0\0\0\0\0\0\x40\0\0\0\0\0\0\0\0\0\0\0\0\0\0";
 
 const TYPE_0: &[u8] = b"\x03\0\0\0\x03\0\0\0\0\0\0\0\0\0\0\0\0\x40\0\0\0\0\0\0\0\0\0\0\0\0\0\0";
 
@@ -123,9 +123,9 @@ const TYPE_0: &[u8] = b"\x03\0\0\0\x03\0\0\0\0\0\0\0\0\0\0\0\0\x40\0\0\0\0\0\0\0
 type Refusal = (&'static [&'static [u8]], &'static str, u8, &'static str);
 
 /// What is refused if the image is cut. The trace is refused before it, and a bad line before both.
-const REFUSALS: [Refusal; 18] = [
+const REFUSALS: [Refusal; 20] = [
     (&[CUT_HEADER], "account t i", 2, "xray: t: trace Short 0\n"),
-    (&[VERSION_2], "account t i", 2, "xray: t: trace Version 2\n"),
+    (&[VERSION_4], "account t i", 2, "xray: t: trace Version 4\n"),
     (&[TYPE_0], "account t i", 2, "xray: t: trace Form 0\n"),
     (
         &[HEADER, b"\x0F\x50\0\0\0\0\0\0"],
@@ -156,6 +156,23 @@ const REFUSALS: [Refusal; 18] = [
         "account t i",
         2,
         "xray: t: trace Extents 32\n",
+    ),
+    (
+        &[
+            HEADER_OF_2,
+            b"\x0F\x1F\0\0\0\0\0\0\0\0\0\0\0\0\0\0",
+            THREAD_1,
+            WALL_0,
+        ],
+        "account t i",
+        2,
+        "xray: t: trace Extents 32\n",
+    ),
+    (
+        &[HEADER_OF_2, EXTENTS_72, PREAMBLE, CPU, ENTRY],
+        "account t i",
+        2,
+        "xray: t: trace Order 80\n",
     ),
     (
         &[HEADER, b"\x08\0\0\0\0\0\0\0", EXIT],

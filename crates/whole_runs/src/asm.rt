@@ -1,5 +1,5 @@
 //! `asm`, and what the other commands do with the images that it writes.
-use crate::checks::check_same_at;
+use crate::checks::{check_same, check_same_at};
 use crate::runs::{
     End, IMAGE, MOVED, STARTED, assert_held, assert_left, assert_length, assert_stopped, run_line,
     text_of_end,
@@ -206,6 +206,38 @@ fn six_texts_become_images_that_run_and_have_their_sleds(rt: HostRuntime) -> Res
         let map = text_of_map(rt.alloc(), map)?;
         assert_done(&rt, "extract i", &mut desk, &map)?;
     }
+    Ok(())
+}
+
+/// The place of the map in the image of the straight line, and the map with relative addresses.
+const RELATIVE_MAP: (usize, &[u8]) = (
+    106,
+    &[
+        0x00, 0x00, 0xF0, 0xFF, 0xFF, 0xFF, 0xFF, 0xFF, 0xF8, 0xFF, 0xEF, 0xFF, 0xFF, 0xFF, 0xFF,
+        0xFF, 0, 1, 2, 0, 0, 0, 0, 0, 0, 0, 0, 0, 0, 0, 0, 0, 0xF2, 0xFF, 0xEF, 0xFF, 0xFF, 0xFF,
+        0xFF, 0xFF, 0xD8, 0xFF, 0xEF, 0xFF, 0xFF, 0xFF, 0xFF, 0xFF, 1, 1, 2, 0, 0, 0, 0, 0, 0, 0,
+        0, 0, 0, 0, 0, 0,
+    ],
+);
+
+#[test]
+fn relative_addresses_of_a_map_are_those_of_its_sleds(rt: HostRuntime) -> Result<(), Fail> {
+    for (text, length, code, end, map) in &MADE {
+        let mut desk = text_desk(rt.alloc(), &[], text.as_bytes())?;
+        assert_done(&rt, "asm t --map-version=2 i", &mut desk, "")?;
+        assert_length(&rt, desk.get("i"), *length);
+        let file = desk.get("i").unwrap_or(OLD);
+        check_same_at(&rt, &file.get(CODE..CODE + code.len()), &Some(*code), text);
+        let end = text_of_end(rt.alloc(), end)?;
+        assert_done(&rt, "plain i", &mut desk, &end)?;
+        let map = text_of_map(rt.alloc(), map)?;
+        assert_done(&rt, "extract i", &mut desk, &map)?;
+    }
+    let (at, map) = RELATIVE_MAP;
+    let mut desk = text_desk(rt.alloc(), &[], STRAIGHT_LINE.as_bytes())?;
+    assert_done(&rt, "asm t i --map-version 2", &mut desk, "")?;
+    let file = desk.get("i").unwrap_or(OLD);
+    check_same(&rt, &file.get(at..at + map.len()), &Some(map));
     Ok(())
 }
 

@@ -4,7 +4,7 @@ use crate::runs::{
 };
 use std::test::Fail;
 
-const BAD_LINES: [&str; 54] = [
+const BAD_LINES: [&str; 57] = [
     // No words, and commands with too few or too many names, or with an output named twice.
     "",
     "sim i s",
@@ -52,6 +52,9 @@ const BAD_LINES: [&str; 54] = [
     "asm t i --threshold 4294967296",
     "asm t i --threshold -1",
     "asm t i --threshold=1 --threshold=1",
+    "asm t i --map-version=1",
+    "asm t i --map-version 3",
+    "extract i --map-version=2",
     "asm t i --threads 1",
     "plain i --threshold 1",
     // `stack` and `convert`.

@@ -33,7 +33,7 @@ const TRACES: [Damage; 19] = [
     (&[(112, 0x1E)], TRACE, "Bad 112 Action 7"),
     (&[(112, 0x18)], TRACE, "Bad 112 Action 4"),
     (&[(120, 0x11)], TRACE, "Extents 120"),
-    (&[(0, 0x02)], TRACE, "Version 2"),
+    (&[(0, 0x02)], TRACE, "Order 80"),
     (&[(0, 0x04)], TRACE, "Version 4"),
     (&[(2, 0x00)], TRACE, "Form 0"),
     // A block that is cut off is short before it is damaged.
@@ -44,7 +44,7 @@ const TRACES: [Damage; 19] = [
 /// The length of the image.
 const WHOLE: usize = 170;
 
-const IMAGES: [Damage; 13] = [
+const IMAGES: [Damage; 15] = [
     (&[], 63, "Short"),
     (&[], 169, "Short"),
     (&[], 171, "Trailing"),
@@ -62,6 +62,8 @@ const IMAGES: [Damage; 13] = [
     (&[(102, 0x20)], WHOLE, "Names 0"),
     (&[(138, 0x14)], WHOLE, "MapOrder 1"),
     (&[(154, 0x00)], WHOLE, "Odd 1"),
+    (&[(156, 0x02)], WHOLE, "MapOrder 1"),
+    (&[(156, 0x03)], WHOLE, "Odd 1"),
 ];
 
 /// The file of an image without sleds, whose only instruction jumps to the end of the code.

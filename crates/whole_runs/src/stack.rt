@@ -1,7 +1,8 @@
 //! `stack` and `convert`: their texts, their options, and a trace with calls that go too deep.
 use crate::runs::{IMAGE, assert_stopped, run_line};
 use crate::trace_bytes::{
-    CPU, ENTRY, HEADER, NESTED, ONE_CALL, PREAMBLE, Printed, RECURSION, assert_printed, trace_desk,
+    CPU, ENTRY, HEADER, NESTED, ONE_CALL, ONE_CALL_WITHOUT_PROCESS, PREAMBLE, Printed, RECURSION,
+    assert_printed, trace_desk,
 };
 use std::test::Fail;
 
@@ -16,8 +17,13 @@ const YAML_OF_ONE_CALL: &str = "---\nheader:\n  version: 3\n  type: 1\n  constan
     - { type: 0, func-id: 1, function: 'main', cpu: 0, thread: 1, process: 1, kind: function-enter, tsc: 0 }\n  \
     - { type: 0, func-id: 1, function: 'main', cpu: 0, thread: 1, process: 1, kind: function-exit, tsc: 2 }\n...\n";
 
+const YAML_WITHOUT_PROCESS: &str = "---\nheader:\n  version: 2\n  type: 1\n  constant-tsc: true\n  \
+    nonstop-tsc: true\n  cycle-frequency: 0\nrecords:\n  \
+    - { type: 0, func-id: 1, function: 'main', cpu: 0, thread: 1, process: 0, kind: function-enter, tsc: 0 }\n  \
+    - { type: 0, func-id: 1, function: 'main', cpu: 0, thread: 1, process: 0, kind: function-exit, tsc: 2 }\n...\n";
+
 /// The parts of traces, words, and what is printed.
-const PRINTED: [Printed; 6] = [
+const PRINTED: [Printed; 8] = [
     (&ONE_CALL, "stack t i", TEXT_OF_ONE_CALL),
     (
         &RECURSION,
@@ -31,6 +37,12 @@ const PRINTED: [Printed; 6] = [
     ),
     (&[HEADER], "stack --format flame t", ""),
     (&ONE_CALL, "convert t i", YAML_OF_ONE_CALL),
+    (
+        &ONE_CALL_WITHOUT_PROCESS,
+        "convert t i",
+        YAML_WITHOUT_PROCESS,
+    ),
+    (&ONE_CALL_WITHOUT_PROCESS, "stack t i", TEXT_OF_ONE_CALL),
     (&[HEADER], "convert t --format yaml", YAML_OF_NONE),
 ];
 

@@ -26,6 +26,13 @@ pub const BUFFERS_OF_16384: &[u8] = b"\0\x40\0\0\0\0\0\0\0\0\0\0\0\0\0\0";
 pub const HEADER: &[u8] =
     b"\x03\0\x01\0\x03\0\0\0\0\0\0\0\0\0\0\0\0\x40\0\0\0\0\0\0\0\0\0\0\0\0\0\0";
 
+/// The same of version 2, whose blocks name no process.
+pub const HEADER_OF_2: &[u8] =
+    b"\x02\0\x01\0\x03\0\0\0\0\0\0\0\0\0\0\0\0\x40\0\0\0\0\0\0\0\0\0\0\0\0\0\0";
+
+/// Extents of 64 bytes.
+pub const EXTENTS_64: &[u8] = b"\x0F\x40\0\0\0\0\0\0\0\0\0\0\0\0\0\0";
+
 /// Extents of 72 bytes.
 pub const EXTENTS_72: &[u8] = b"\x0F\x48\0\0\0\0\0\0\0\0\0\0\0\0\0\0";
 
@@ -56,6 +63,9 @@ pub const PREAMBLE_OF_2: &[u8] = b"\x01\x02\0\0\0\0\0\0\0\0\0\0\0\0\0\0\
 
 /// Thread 1.
 pub const THREAD_1: &[u8] = b"\x01\x01\0\0\0\0\0\0\0\0\0\0\0\0\0\0";
+
+/// The wall time 0.
+pub const WALL_0: &[u8] = b"\x09\0\0\0\0\0\0\0\0\0\0\0\0\0\0\0";
 
 /// Process 1.
 pub const PROCESS_1: &[u8] = b"\x13\x01\0\0\0\0\0\0\0\0\0\0\0\0\0\0";
@@ -92,6 +102,17 @@ pub const EXIT_AFTER_2: &[u8] = b"\x12\0\0\0\x02\0\0\0";
 
 /// A file of one block. Function 1 is called once, for 2 cycles.
 pub const ONE_CALL: [&[u8]; 6] = [HEADER, EXTENTS_80, PREAMBLE, CPU, ENTRY, EXIT_AFTER_2];
+
+/// The same in version 2.
+pub const ONE_CALL_WITHOUT_PROCESS: [&[u8]; 7] = [
+    HEADER_OF_2,
+    EXTENTS_64,
+    THREAD_1,
+    WALL_0,
+    CPU,
+    ENTRY,
+    EXIT_AFTER_2,
+];
 
 /// A file of one block, with only an exit of function 1.
 pub const ONE_EXIT: [&[u8]; 5] = [HEADER, EXTENTS_72, PREAMBLE, CPU_AT_2, EXIT];

@@ -6,8 +6,8 @@ usage: crates/whole_runs/tools/console_blocks.py [PROGRAM]
 
 In a block ```console a line that begins with `$ ` is a command. The lines after it, up to the next command, are what it prints on
 standard output and standard error. Each document has one shell, so a command finds the files and the folder that earlier commands
-left. README.md and the tour begin at the top of a copy of the examples. The manual and the pages on formats begin in a folder with
-the files of all examples. Each difference is printed with its document and line, and then the status is 1.
+left. README.md and the tour begin at the top of a copy of the examples. The manual and the pages on refusals and formats begin in a
+folder with the files of all examples. Each difference is printed with its document and line, and then the status is 1.
 """
 import argparse
 import dataclasses
@@ -19,7 +19,8 @@ import tempfile
 
 ROOT = next(folder for folder in pathlib.Path(__file__).resolve().parents if (folder / "crates.txt").is_file())
 TOURS = ["README.md", "docs/TOUR.md"]
-MANUALS = ["docs/COMMANDS.md", *sorted(f"docs/formats/{page.name}" for page in (ROOT / "docs/formats").glob("*.md"))]
+FORMATS = sorted(f"docs/formats/{page.name}" for page in (ROOT / "docs/formats").glob("*.md"))
+MANUALS = ["docs/COMMANDS.md", "docs/REFUSALS.md", *FORMATS]
 EXAMPLES = ["first-run", "asm", "live-patching", "reports"]
 # What the shell prints after each command, on a line of its own.
 MARK = "---- console_blocks: done ----"

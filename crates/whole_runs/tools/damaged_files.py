@@ -61,7 +61,7 @@ TRACED = [*RUN, "--wall=0", "--buffer-size=88", "--buffer-max=5"]
 # The commands. A word that is a kind stands for the file of that kind.
 COMMANDS = [
     ["asm", "text", "made"],
-    ["asm", "text", "made", "--threshold=0"],
+    ["asm", "text", "made", "--threshold=0", "--map-version=2"],
     ["plain", "image", *RUN],
     ["extract", "image"],
     ["sim", "image", "script", "schedule", "made", "audit", *TRACED],

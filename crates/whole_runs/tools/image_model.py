@@ -15,6 +15,11 @@ BASE_LIMIT = 0x7FFF00000000
 HEADER_LENGTH = 64
 ENTRY_LENGTH = 32
 SLED_LENGTH = 11
+# How far above the base address the sled map is, and how far behind an entry's start the field of the function is.
+MAP_DISTANCE = 0x100000
+FUNCTION_FIELD = 8
+RELATIVE_VERSION = 2
+NEWEST_VERSION = 2
 
 # The kinds of sleds in the map. A sled of the last kind is an entry that logs arguments.
 ENTRY, EXIT, TAIL, ENTRY_ARGS = range(4)
@@ -165,7 +170,7 @@ def units_of(code):
 
 @dataclasses.dataclass(frozen=True)
 class Entry:
-    """An entry of the sled map."""
+    """An entry of the sled map, with absolute addresses."""
 
     address: int
     function: int
@@ -219,7 +224,7 @@ def image_of(file):
         raise Refused("Limit Entry")
     if base % 16 != 0 or base > BASE_LIMIT:
         raise Refused("Limit Base")
-    code, table, sled_map = parts_of(file, length, functions, sleds)
+    code, table, sled_map = parts_of(file, base, length, functions, sleds)
     image = Image(base, units_of(code), table, sled_map, entry, tuple(trampolines))
     check_names(image)
     check_map(image)
@@ -227,7 +232,12 @@ def image_of(file):
     return image
 
 
-def parts_of(file, length, functions, sleds):
+def absolute(version, at, field):
+    """The address that a field at an address says."""
+    return (at + field) % (1 << 64) if version == RELATIVE_VERSION else field
+
+
+def parts_of(file, base, length, functions, sleds):
     """The code, the functions with their names, and the entries of the sled map."""
     at = HEADER_LENGTH
 
@@ -244,8 +254,11 @@ def parts_of(file, length, functions, sleds):
         start, count = struct.unpack("<QB", taken(9))
         table.append((start, taken(count)))
     sled_map = []
-    for _ in range(sleds):
+    for number in range(sleds):
         address, function, kind, always, version = struct.unpack("<QQBBB13x", taken(ENTRY_LENGTH))
+        entry_at = base + MAP_DISTANCE + ENTRY_LENGTH * number
+        address = absolute(version, entry_at, address)
+        function = absolute(version, entry_at + FUNCTION_FIELD, function)
         sled_map.append(Entry(address, function, kind, always != 0, version))
     if at < len(file):
         raise Refused("Trailing")
@@ -272,7 +285,7 @@ def check_map(image):
     for number, (entry, sled) in enumerate(zip(image.entries, image.sleds)):
         function = starts[bisect.bisect_right(starts, entry.address) - 1]
         kinds = (ENTRY, TAIL, ENTRY_ARGS) if sled.name == "entry" else (EXIT,)
-        if entry.function != function or entry.kind not in kinds or entry.version >= 2:
+        if entry.function != function or entry.kind not in kinds or entry.version > NEWEST_VERSION:
             raise Refused("Odd", number)
     for number, entry in enumerate(image.entries):
         distance = image.trampolines[entry.kind] - (entry.address + SLED_LENGTH)

@@ -46,7 +46,7 @@ class Known(enum.Enum):
     """Why an answer isn't compared."""
 
     NO_BLOCK = "LLVM reads no file without a block"
-    NO_RECORD = "LLVM reads no file with a block of exactly 48 bytes"
+    NO_RECORD = "LLVM reads no file with a block that has only its preamble"
     NO_EVENT = "LLVM's stack refuses a trace without events"
     PROCESSES = "LLVM's account and stack mix a thread's processes"
     WALL_TIMES = "LLVM orders a thread's blocks by wall times, which differ here"
@@ -79,21 +79,26 @@ class Example:
     @property
     def has_bare_block(self):
         """Whether a block has only its preamble."""
+        last = traces.PREAMBLES[self.trace.header.version][-1]
         kinds = [kind for kind, _ in self.records] + [traces.EXTENTS]
-        return any(pair == (traces.PID, traces.EXTENTS) for pair in zip(kinds, kinds[1:]))
+        return any(pair == (last, traces.EXTENTS) for pair in zip(kinds, kinds[1:]))
 
     @property
     def groups(self):
         """The blocks of each thread of each process, in the file's order."""
         groups = collections.defaultdict(list)
         for block in self.trace.blocks:
-            groups[block.pid, block.thread].append(block)
+            groups[self.process_of(block), block.thread].append(block)
         return groups
+
+    def process_of(self, block):
+        """The process of a block as LLVM has it. In version 2, whose blocks name none, it takes the thread for it."""
+        return block.thread if self.trace.header.version == 2 else block.pid
 
 
 def example_of(raw):
     trace = traces.trace_of(raw)
-    reader, records = traces.Reader(raw), []
+    reader, records = traces.Reader(raw, None), []
     while reader.at < len(raw):
         records.append(reader.record())
         reader.at += reader.length()
@@ -219,7 +224,7 @@ def convert_differences(example, llvm):
     head, came = llvm.events()
     header = example.trace.header
     expected = {
-        "version": "3", "type": "1", "constant-tsc": reports.said(header.flags & traces.CONSTANT),
+        "version": str(header.version), "type": "1", "constant-tsc": reports.said(header.flags & traces.CONSTANT),
         "nonstop-tsc": reports.said(header.flags & traces.NONSTOP), "cycle-frequency": str(header.frequency),
     }  # fmt: skip
     differ = [f"header {head}, expected {expected}"] if head != expected else []

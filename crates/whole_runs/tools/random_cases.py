@@ -115,8 +115,10 @@ def report_options(draw, command):
 
 def random_options(draw, command, threads, writes_traces):
     match command:
-        case "asm" if draw.random() < 0.7:
-            return [option(draw, "threshold", spelled(draw, draw.choice([0, 1, 2, 3, 5, LARGEST_32])))]
+        case "asm":
+            values = {"threshold": [0, 1, 2, 3, 5, LARGEST_32], "map-version": [0, 2, 2, 2, 1, 3]}
+            given = [name for name in values if draw.random() < 0.7]
+            return [option(draw, name, spelled(draw, draw.choice(values[name]))) for name in given]
         case "run":
             return trace_options(draw, threads)
         case "sim" if writes_traces:

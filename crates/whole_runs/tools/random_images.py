@@ -37,7 +37,7 @@ class Draft:
     base: int
     code: bytearray
     functions: list  # [start, name]
-    entries: list  # [address, function, kind, always, version, padding]
+    entries: list  # [address, function, kind, always, version, padding], with absolute addresses
     entry: int = 0
     trampolines: list = dataclasses.field(default_factory=list)
     magic: bytes = b"XRIM"
@@ -52,11 +52,26 @@ class Draft:
             "<IQIIII4Q", self.version % (1 << 32), self.base % (1 << 64), *counts, self.entry % (1 << 32), *addresses
         )
         named = b"".join(struct.pack("<QB", start % (1 << 64), len(name)) + name for start, name in self.functions)
-        mapped = b"".join(
-            struct.pack("<QQBBB", address % (1 << 64), function % (1 << 64), kind, always, version) + padding
-            for address, function, kind, always, version, padding in self.entries
-        )
+        mapped = b"".join(self.entry_bytes(number, *entry) for number, entry in enumerate(self.entries))
         return header + bytes(self.code) + named + mapped
+
+    def entry_at(self, number):
+        """The address of an entry of the map."""
+        return self.base + model.MAP_DISTANCE + model.ENTRY_LENGTH * number
+
+    def entry_bytes(self, number, address, function, kind, always, version, padding):
+        if version == model.RELATIVE_VERSION:
+            address -= self.entry_at(number)
+            function -= self.entry_at(number) + model.FUNCTION_FIELD
+        return struct.pack("<QQBBB", address % (1 << 64), function % (1 << 64), kind, always, version) + padding
+
+    def keep_fields(self, number, version):
+        """Gives an entry of the map another version, but not other bytes in its fields."""
+        before = self.entry_bytes(number, *self.entries[number])
+        fields, at = struct.unpack_from("<QQ", before), self.entry_at(number)
+        self.entries[number][0] = model.absolute(version, at, fields[0])
+        self.entries[number][1] = model.absolute(version, at + model.FUNCTION_FIELD, fields[1])
+        self.entries[number][4] = version
 
 
 def draft_of(file):
@@ -68,8 +83,11 @@ def draft_of(file):
         start, count = struct.unpack_from("<QB", file, at)
         draft.functions.append([start, file[at + 9 : at + 9 + count]])
         at += 9 + count
-    for _ in range(sleds):
-        draft.entries.append([*struct.unpack_from("<QQBBB", file, at), file[at + 19 : at + 32]])
+    for number in range(sleds):
+        address, function, kind, always, map_version = struct.unpack_from("<QQBBB", file, at)
+        address = model.absolute(map_version, draft.entry_at(number), address)
+        function = model.absolute(map_version, draft.entry_at(number) + model.FUNCTION_FIELD, function)
+        draft.entries.append([address, function, kind, always, map_version, file[at + 19 : at + 32]])
         at += model.ENTRY_LENGTH
     return draft
 
@@ -79,7 +97,7 @@ def assembled_draft(draw):
     while True:
         text = texts.written(draw, texts.program(draw))
         try:
-            return draft_of(texts.assembled(text, draw.choice([0, 1, 2, 4])))
+            return draft_of(texts.assembled(text, draw.choice([0, 1, 2, 4]), draw.choice([False, True])))
         except texts.Refused:
             continue
 
@@ -175,7 +193,7 @@ def units_draft(draw):
     entries = []
     for place, kind in units.sleds:
         function = max(start for start in starts if start <= place)
-        version, always = draw.choice([0, 1]), draw.choice([0, 1, 1, 2, 255])
+        version, always = draw.choice([0, 1, 2]), draw.choice([0, 1, 1, 2, 255])
         padding = draw.choice([bytes(13), draw.randbytes(13)])
         entries.append([base + place, base + function, kind, always, version, padding])
     trampolines = [base + 0x200000 + 16 * kind for kind in range(4)]
@@ -301,7 +319,7 @@ def other_entry(draw, draft):
         return
     at = draw.randrange(len(draft.entries))
     entry = draft.entries[at]
-    match draw.randrange(8):
+    match draw.randrange(9):
         case 0:
             entry[0] = near(draw, entry[0])
         case 1:
@@ -319,6 +337,8 @@ def other_entry(draw, draft):
         case 7:
             entry[5] = draw.randbytes(13)
             entry[3] = draw.randrange(256)
+        case 8:
+            draft.keep_fields(at, draw.choice([0, 1, 2, 3]))
 
 
 def other_branch(draw, draft):

@@ -103,9 +103,9 @@ class Loops:
 # ---- What is expected, and what is found
 
 
-def assemble(text, threshold):
+def assemble(text, threshold, relative=False):
     try:
-        return texts.assembled(text, threshold)
+        return texts.assembled(text, threshold, relative)
     except texts.Refused as refused:
         raise Refused(refused.refusal.value, refused.line)
 

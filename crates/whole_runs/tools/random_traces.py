@@ -5,7 +5,7 @@ import dataclasses
 import struct
 
 from trace_model import (
-    CALL_ARGUMENT, ENTRY, ENTRY_ARGS, EXIT, EXTENTS, FIELDS, FUNCTION, NEW_BUFFER, NEW_CPU, PID, TAIL_EXIT, TSC_WRAP, VERSION,
+    CALL_ARGUMENT, ENTRY, ENTRY_ARGS, EXIT, EXTENTS, FIELDS, FUNCTION, NEW_BUFFER, NEW_CPU, PID, PREAMBLES, TAIL_EXIT, TSC_WRAP,
     WALL_TIME, WORD_32, WORD_64, FLIGHT_DATA_RECORDER, HEADER_LENGTH, METADATA_LENGTH,
 )  # fmt: skip
 
@@ -80,8 +80,9 @@ class Calls:
 class Threads:
     """The threads of a trace, each with calls that continue from block to block."""
 
-    def __init__(self, draw):
+    def __init__(self, draw, version):
         self.draw = draw
+        self.preamble = PREAMBLES[version]
         self.calls = {}
 
     def block(self):
@@ -89,8 +90,8 @@ class Threads:
         thread = draw.choice([1, 1, 2, 2, 3, 16, 0, WORD_32 - 1])
         wall = draw.choice([(0, 0), (0, 0), (draw.randrange(WORD_64), draw.randrange(WORD_32))])
         pid = draw.choice([1, 1, 0, draw.randrange(WORD_32)])
-        preamble = [(NEW_BUFFER, (thread,)), (WALL_TIME, wall), (PID, (pid,))]
-        records = [Record(kind, fields, rest(draw)) for kind, fields in preamble]
+        named = {NEW_BUFFER: (thread,), WALL_TIME: wall, PID: (pid,)}
+        records = [Record(kind, named[kind], rest(draw)) for kind in self.preamble]
         calls = self.calls.setdefault(thread, Calls(draw))
         for number in range(draw.choice([0, 1, 2, 5, 20, 60])):
             records += self.bases(number == 0)
@@ -98,7 +99,7 @@ class Threads:
             delta = draw.choice([0, 1, 2, 10, draw.randrange(100), draw.randrange(100), draw.randrange(WORD_32), WORD_32 - 1])
             records.append(Record(FUNCTION, (function, action, delta)))
             records += self.arguments(action)
-        return [records + ([self.base()] if len(records) > 3 and draw.random() < 0.1 else []), 0]
+        return [records + ([self.base()] if len(records) > len(self.preamble) and draw.random() < 0.1 else []), 0]
 
     def arguments(self, action):
         """The arguments behind a function record: mostly one behind an entry that logs it."""
@@ -118,9 +119,10 @@ class Threads:
 
 
 def random_draft(draw):
-    threads = Threads(draw)
+    version = draw.choice([*PREAMBLES, 3])
+    threads = Threads(draw, version)
     flags = draw.choice([3, 3, 0, 1, 2, 0xFFFFFFFC, draw.randrange(WORD_32)])
-    header = [VERSION, FLIGHT_DATA_RECORDER, flags, draw.choice([0, 0, draw.randrange(WORD_64)]), draw.choice([88, 16_384]), 0]
+    header = [version, FLIGHT_DATA_RECORDER, flags, draw.choice([0, 0, draw.randrange(WORD_64)]), draw.choice([88, 16_384]), 0]
     header[5] = draw.choice([0, 0, draw.randrange(WORD_64)])
     return Draft(header, [threads.block() for _ in range(draw.choice([0, 1, 1, 2, 3, 6, 12]))])
 
@@ -137,7 +139,8 @@ def other_extents(draw, draft):
     if draft.blocks:
         block = draw.choice(draft.blocks)
         length = sum(len(record.raw()) for record in block[0])
-        block[1] = draw.choice([-8, -1, 1, 8, 16, 48 - length, 47 - length, -length, WORD_64 - 1 - length])
+        edges = [edge - length for edge in (32, 31, 48, 47)]
+        block[1] = draw.choice([-8, -1, 1, 8, 16, *edges, -length, WORD_64 - 1 - length])
 
 
 def odd_record(draw):

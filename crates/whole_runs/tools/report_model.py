@@ -208,7 +208,7 @@ def yaml_text(trace, image, options):
         for event in block.events
     ]
     head = [
-        "---", "header:", "  version: 3", "  type: 1", f"  constant-tsc: {said(trace.header.flags & CONSTANT)}",
+        "---", "header:", f"  version: {trace.header.version}", "  type: 1", f"  constant-tsc: {said(trace.header.flags & CONSTANT)}",
         f"  nonstop-tsc: {said(trace.header.flags & NONSTOP)}", f"  cycle-frequency: {trace.header.frequency}",
     ]  # fmt: skip
     return "".join(line + "\n" for line in [*head, *(["records:", *items] if items else ["records: []"]), "..."])

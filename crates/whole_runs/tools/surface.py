@@ -82,7 +82,7 @@ fn write_extract(image: &Image, sink: &mut S) -> Result<(), WriteFault>
 
 crate asm_text
 enum AsmFault { Syntax(u32), Register(u32), Range(u32), Repeat(u32), Limit(u32), Label(u32), NoMemory }
-fn assemble(text: &[u8], threshold: u32) -> Result<Vec<u8>, AsmFault>
+fn assemble(text: &[u8], threshold: u32, relative: bool) -> Result<Vec<u8>, AsmFault>
 
 crate sled_words
 enum Part { Head, Id, Opcode, Offset }

@@ -1,7 +1,7 @@
 """A model of traces: events and their records, segments, the buffers that threads share, trace files both ways, the audit.
 
 It is written from docs/formats and docs/COMMANDS.md alone, and shares nothing with the program or its definitions.
-A trace is read as LLVM's Flight Data Recorder files of version 3 are.
+A trace is read as LLVM's Flight Data Recorder files of versions 2 and 3 are, and written as those of version 3.
 """
 import collections
 import dataclasses
@@ -24,6 +24,10 @@ ENTRIES = (ENTRY, ENTRY_ARGS)
 # The kinds of metadata records.
 NEW_BUFFER, NEW_CPU, TSC_WRAP, WALL_TIME, CALL_ARGUMENT, EXTENTS, PID = 0, 2, 3, 4, 6, 7, 9
 FUNCTION = "function"
+# The records that blocks begin with, by the versions that are read.
+PREAMBLES = {2: (NEW_BUFFER, WALL_TIME), 3: (NEW_BUFFER, WALL_TIME, PID)}
+# The process of a block that names none.
+NO_PROCESS = 0
 # The fields of each kind, from the record's second byte on.
 FIELDS = {
     NEW_BUFFER: "<I", NEW_CPU: "<HQ", TSC_WRAP: "<Q", WALL_TIME: "<QI", CALL_ARGUMENT: "<Q", EXTENTS: "<Q", PID: "<I",
@@ -47,6 +51,7 @@ class Header:
     frequency: int
     size: int
     flags: int = CONSTANT | NONSTOP
+    version: int = VERSION
 
 
 @dataclasses.dataclass
@@ -192,10 +197,11 @@ class Buffers:
 
 
 class Reader:
-    """The records of a trace file from a place on, up to an end."""
+    """The records of a trace file from a place on, up to an end. `preamble` has the records that blocks begin with."""
 
-    def __init__(self, content):
+    def __init__(self, content, preamble):
         self.content = content
+        self.preamble = preamble
         self.at = HEADER_LENGTH
 
     def record(self):
@@ -222,12 +228,12 @@ def trace_of(content):
     if len(content) < HEADER_LENGTH:
         raise Refused("Short", 0)
     version, form, flags, frequency, size = struct.unpack_from("<HHIQQ", content)
-    if version != VERSION:
+    if version not in PREAMBLES:
         raise Refused("Version", version)
     if form != FLIGHT_DATA_RECORDER:
         raise Refused("Form", form)
-    reader = Reader(content)
-    trace = Trace(Header(frequency, size, flags % 4), [])
+    reader = Reader(content, PREAMBLES[version])
+    trace = Trace(Header(frequency, size, flags % 4, version), [])
     while reader.at < len(content):
         trace.blocks.append(block_of(reader))
     return trace
@@ -243,14 +249,16 @@ def block_of(reader):
     if kind != EXTENTS:
         raise Refused("Order", begin)
     (used,) = fields
-    if used < PREAMBLE_LENGTH:
+    if used < METADATA_LENGTH * len(reader.preamble):
         raise Refused("Extents", begin)
     if used > left - METADATA_LENGTH:
         raise Refused("Short", begin)
     reader.at += METADATA_LENGTH
     records = records_to(reader, reader.at + used)
-    (thread,), wall, (pid,) = [fields for _, fields in records[:3]]
-    return Block(thread, wall, pid, events_in(records[3:]))
+    count = len(reader.preamble)
+    named = dict(records[:count])
+    (thread,), wall, (pid,) = named[NEW_BUFFER], named[WALL_TIME], named.get(PID, (NO_PROCESS,))
+    return Block(thread, wall, pid, events_in(records[count:]))
 
 
 def records_to(reader, end):
@@ -262,8 +270,8 @@ def records_to(reader, end):
             raise Refused("Extents", reader.at)
         kind, fields = reader.record()
         number = len(records)
-        due = [(NEW_BUFFER,), (WALL_TIME,), (PID,)][number] if number < 3 else (NEW_CPU, TSC_WRAP, FUNCTION)
-        if number > 3 and takes_argument(*records[-1]):
+        due = (reader.preamble[number],) if number < len(reader.preamble) else (NEW_CPU, TSC_WRAP, FUNCTION)
+        if number > len(reader.preamble) and takes_argument(*records[-1]):
             due = (*due, CALL_ARGUMENT)
         if kind not in due:
             raise Refused("Order", reader.at)

@@ -14,6 +14,7 @@ worked_traces.py does the same with traces and the reports on them.
 import argparse
 import dataclasses
 import pathlib
+import struct
 import subprocess
 import sys
 import tempfile
@@ -34,7 +35,8 @@ def image(said):
     return texts.assembled(lines(f"base 0x1000 / {said}"), 1)
 
 
-STRAIGHT_LINE = image("fn main always / mov eax, 65 / out 1 / ret")
+STRAIGHT_TEXT = "fn main always / mov eax, 65 / out 1 / ret"
+STRAIGHT_LINE = image(STRAIGHT_TEXT)
 CALL = image("fn main always / call f / ret / fn f always / ret")
 TAIL_JUMP = image("fn a always / tailjmp b / fn b always / ret")
 
@@ -76,6 +78,29 @@ REGISTER_10 = (
 )  # fmt: skip
 PAST_A_START = CALL[: 64 + 12] + b"\x0D" + CALL[64 + 13 :]
 FAR = STRAIGHT_LINE[:32] + (0x200000000).to_bytes(8, "little") + STRAIGHT_LINE[40:]
+
+
+def mapped(*entries):
+    """The straight line with these entries in its map: a version, and the fields of the sled and of the function."""
+    return STRAIGHT_LINE[:-64] + b"".join(
+        struct.pack("<QQBBB13x", sled % (1 << 64), function % (1 << 64), kind, 1, version)
+        for kind, (version, sled, function) in enumerate(entries)
+    )
+
+
+# The entries of the straight line, which are at 0x101000 and 0x101020, in version 0 and in version 2.
+FIRST, SECOND = (0, 0x1000, 0x1000), (0, 0x1012, 0x1000)
+FIRST_2, SECOND_2 = (2, -0x100000, -0x100008), (2, -0x10000E, -0x100028)
+STRAIGHT_MAP = """---
+- { id: 1, address: 0x0000000000001000, function: 0x0000000000001000, kind: function-enter, always-instrument: true, function-name: 'main' }
+- { id: 1, address: 0x0000000000001012, function: 0x0000000000001000, kind: function-exit, always-instrument: true, function-name: 'main' }
+...
+"""  # noqa: E501
+
+
+def bad_map(line, *entries):
+    return Run(f"xray: i: image {line}", mapped(*entries), words="extract i", status=2)
+
 
 RUNS = [
     # Both sleds are patched, the handler set and the log initialized before the thread starts.
@@ -129,6 +154,26 @@ RUNS = [
     refused("i: image Code 0 Register 10", image=REGISTER_10),
     refused("i: image Target 11", image=PAST_A_START),
     refused("i: image Far 0", image=FAR),
+    # Maps of version 2, and of several versions, are those of version 0.
+    *(
+        Run(comes, file, script=TRACED, words=words)
+        for file in (STRAIGHT_LINE, mapped(FIRST_2, SECOND_2), mapped(FIRST, SECOND_2), mapped(FIRST_2, (1, *SECOND[1:])))
+        for words, comes in [("extract i", STRAIGHT_MAP), ("sim i s c t a", LETTER_STATE + "marks +2\n")]
+    ),
+    # Versions that aren't known, and fields of another version.
+    bad_map("Odd 1", FIRST, (3, *SECOND[1:])),
+    bad_map("Odd 0", (255, *FIRST[1:]), SECOND),
+    bad_map("MapOrder 1", FIRST, (3, *SECOND_2[1:])),
+    bad_map("MapOrder 0", (2, *FIRST[1:]), SECOND),
+    bad_map("MapOrder 1", FIRST_2, (0, *SECOND_2[1:])),
+    bad_map("Odd 1", FIRST_2, (2, SECOND_2[1], SECOND_2[1])),
+    # A function field that counts from the entry, and one that counts from the other entry.
+    bad_map("Odd 0", (2, -0x100000, -0x100000), SECOND_2),
+    bad_map("Odd 1", FIRST_2, (2, -0x10000E, -0x100008)),
+    # Relative addresses wrap: a sled and functions below 0, and a function at 2^64 - 1.
+    bad_map("MapOrder 0", (2, -0x101010, -0x100008), SECOND_2),
+    bad_map("Odd 0", (2, -0x100000, -0x101010), SECOND_2),
+    bad_map("Odd 1", FIRST_2, (2, -0x10000E, -0x101029)),
     # Plain runs.
     Run(LETTER_STATE, words="plain i"),
     Run(
@@ -194,6 +239,36 @@ def run_differences(name, leaves):
             yield f"{name}: {run.words}, script {run.script[:60]!r}, schedule {run.schedule!r}: {outcome}"
 
 
+# The options of `asm`, and the image of the straight line that it makes.
+ASSEMBLED = [
+    ((), STRAIGHT_LINE),
+    (("--map-version=0",), STRAIGHT_LINE),
+    (("--map-version", "2"), mapped(FIRST_2, SECOND_2)),
+]
+
+
+def model_image(options):
+    words = [b"asm", b"t", b"i", *(option.encode() for option in options)]
+    files = {"t": lines(f"base 0x1000 / {STRAIGHT_TEXT}")}
+    return model.outcome(words, model.World(files), texts.assembled).written.get("i")
+
+
+def program_image(program, options):
+    with tempfile.TemporaryDirectory(prefix="worked_runs.") as name:
+        folder = pathlib.Path(name)
+        (folder / "t").write_bytes(lines(f"base 0x1000 / {STRAIGHT_TEXT}"))
+        subprocess.run([program, "asm", "t", "i", *options], cwd=folder, capture_output=True)
+        made = folder / "i"
+        return made.read_bytes() if made.is_file() else None
+
+
+def image_differences(name, made):
+    for options, expected in ASSEMBLED:
+        came = made(options)
+        if came != expected:
+            yield f"{name}: asm {options}: {came.hex() if came else came}"
+
+
 def store_differences():
     straight = image_model.image_of(STRAIGHT_LINE)
     for script, start, expected in STORES:
@@ -225,10 +300,12 @@ def finish(differ, compared):
 def main():
     program, commands = given_words("Compares the model with results that were worked by hand.")
     differ = [*run_differences("model", lambda run: model_leaves(run, commands)), *store_differences()]
+    differ += image_differences("model", model_image)
     if program is not None:
         path = program.resolve()
         differ += run_differences(str(program), lambda run: program_leaves(path, run, commands))
-    finish(differ, f"{len(RUNS)} runs and {len(STORES)} scripts")
+        differ += image_differences(str(program), lambda options: program_image(path, options))
+    finish(differ, f"{len(RUNS)} runs, {len(STORES)} scripts and {len(ASSEMBLED)} images")
 
 
 if __name__ == "__main__":

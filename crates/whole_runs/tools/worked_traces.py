@@ -38,8 +38,12 @@ def padded(said):
     return bytes.fromhex(said).ljust(16, b"\0")
 
 
-def header(size="00 40 00 00"):
-    return bytes.fromhex(f"03 00 01 00 03 00 00 00 {'00' * 8} {size} {'00' * 12}")
+def header(size="00 40 00 00", version="03"):
+    return bytes.fromhex(f"{version} 00 01 00 03 00 00 00 {'00' * 8} {size} {'00' * 12}")
+
+
+def extents(size):
+    return padded("0F" + size.to_bytes(8, "little").hex())
 
 
 def block(*records, thread="01", pid="01"):
@@ -48,7 +52,7 @@ def block(*records, thread="01", pid="01"):
     for said in records:
         raw = bytes.fromhex(said)
         used += raw if raw[0] % 2 == 0 else padded(said)
-    return padded("0F") [:1] + len(used).to_bytes(8, "little") + bytes(7) + used
+    return extents(len(used)) + used
 
 
 def counted(action, function, delta):
@@ -128,6 +132,19 @@ STRAIGHT_TRACE = header() + block("05", "10 00 00 00 00 00 00 00", "12 00 00 00 
 YAML_HEAD = "--- / header: /   version: 3 /   type: 1 /   constant-tsc: true /   nonstop-tsc: true /   cycle-frequency: 0"
 YAML_ITEM = "  - {{ type: 0, func-id: 1, function: 'main', cpu: 0, thread: 1, process: 1, kind: function-{}, tsc: {} }}"
 STRAIGHT_YAML = f"{YAML_HEAD} / records: / {YAML_ITEM.format('enter', 0)} / {YAML_ITEM.format('exit', 2)} / ..."
+
+# The same call in a trace of version 2, whose blocks name no process.
+HEADER_2 = header(version="02")
+STRAIGHT_TRACE_2 = HEADER_2 + bytes.fromhex(f"""
+    0F 40 {'00' * 14}
+    01 01 {'00' * 14}
+    09 {'00' * 15}
+    05 {'00' * 15}
+    10 00 00 00 00 00 00 00
+    12 00 00 00 02 00 00 00
+""")
+STRAIGHT_YAML_2 = STRAIGHT_YAML.replace("version: 3", "version: 2").replace("process: 1", "process: 0")
+ACCOUNT_OF_ONE = f"{CSV_HEAD} / 1,1,2,2,2,2,2,2,0,0,main"
 
 REPLAYS = [
     replayed(
@@ -298,6 +315,7 @@ REPLAYS = [
 ]  # fmt: skip
 
 CUT = STRAIGHT_TRACE
+EMPTY_BLOCK_2 = extents(32) + STRAIGHT_TRACE_2[48:80]
 ONES = [counted(ENTERED, 1, 0)]
 RECURSION = header() + calls((ENTERED, 1, 0), (ENTERED, 1, 10), (ENTERED, 1, 10), (LEFT, 1, 10), (LEFT, 1, 15))
 # Function 1 at 0, 2 at 1 and left at 3, 3 at 3 and left at 6, 1 left at 10.
@@ -309,6 +327,40 @@ REPORTS = [
     *(
         reported(f"a trace of {size} bytes", CUT[:size], refused("account t", f"t: trace Short {0 if size < 32 else 32}"))
         for size in range(len(CUT)) if size != 32
+    ),
+    *(
+        reported(f"a trace of version 2 of {size} bytes", STRAIGHT_TRACE_2[:size],
+                 refused("convert t", f"t: trace Short {0 if size < 32 else 32}"))
+        for size in range(len(STRAIGHT_TRACE_2)) if size != 32
+    ),
+    reported(
+        "a trace of version 2 names no process",
+        STRAIGHT_TRACE_2,
+        Run("convert t i", STRAIGHT_YAML_2),
+        Run("account t i --format csv", ACCOUNT_OF_ONE),
+        Run("stack t i --format flame", "main 2"),
+    ),
+    reported(
+        "a block of version 2 that has only its preamble",
+        HEADER_2 + EMPTY_BLOCK_2,
+        Run("convert t i", f"{YAML_HEAD.replace('version: 3', 'version: 2')} / records: [] / ..."),
+        Run("account t", f"Functions with latencies: 0 / {TEXT_HEAD}"),
+    ),
+    reported(
+        "blocks of version 2 behind one that has only its preamble",
+        HEADER_2 + EMPTY_BLOCK_2 + STRAIGHT_TRACE_2[32:],
+        Run("convert t i", STRAIGHT_YAML_2),
+    ),
+    reported(
+        "an entry of version 2 has its argument",
+        HEADER_2 + extents(96) + STRAIGHT_TRACE_2[48:96] + bytes.fromhex("16 00 00 00 00 00 00 00") + padded("0D 07")
+        + padded("0D 09") + bytes.fromhex("12 00 00 00 02 00 00 00"),
+        Run("convert t i", STRAIGHT_YAML_2.replace("function-enter,", "function-enter-arg, args: [ 7 ],")),
+    ),
+    reported(
+        "a header of version 2 alone",
+        HEADER_2,
+        Run("account t", f"Functions with latencies: 0 / {TEXT_HEAD}"),
     ),
     reported("a header alone", CUT[:32], Run("account t", f"Functions with latencies: 0 / {TEXT_HEAD}")),
     reported(
@@ -423,10 +475,6 @@ REPORTS = [
 PREAMBLE = [padded("01 01"), padded("09"), padded("13 01")]
 
 
-def extents(size):
-    return padded("0F" + size.to_bytes(8, "little").hex())
-
-
 def filled(*records):
     raw = b"".join(records)
     return extents(len(raw)) + raw
@@ -435,7 +483,9 @@ def filled(*records):
 CALLED = bytes.fromhex("10 00 00 00 00 00 00 00")
 LOGGED = bytes.fromhex("16 00 00 00 00 00 00 00")
 REFUSALS = [
-    ("Version 2", bytes.fromhex("02 00") + header()[2:]),
+    ("Version 1", header(version="01")),
+    ("Version 4", header(version="04")),
+    ("Version 258", bytes.fromhex("02 01") + header()[2:]),
     ("Version 65535", bytes.fromhex("FF FF 00") + header()[3:]),
     ("Form 0", bytes.fromhex("03 00 00 00") + header()[4:]),
     ("Short 32", header() + bytes(15)),
@@ -473,6 +523,32 @@ REFUSALS = [
     ("Bad 112 Kind 5", header() + filled(*PREAMBLE, padded("05"), padded("0B"))),
     ("Short 128", STRAIGHT_TRACE + bytes(1)),
     ("Order 128", STRAIGHT_TRACE + STRAIGHT_TRACE[48:]),
+    # Traces of version 2, and each version with the blocks of the other.
+    ("Order 80", HEADER_2 + STRAIGHT_TRACE[32:]),
+    ("Order 80", header() + STRAIGHT_TRACE_2[32:]),
+    ("Form 0", bytes.fromhex("02 00 00 00") + header()[4:]),
+    ("Short 32", HEADER_2 + bytes(15)),
+    ("Bad 32 Kind 5", HEADER_2 + padded("0B")),
+    ("Order 32", HEADER_2 + PREAMBLE[0]),
+    ("Order 32", HEADER_2 + PREAMBLE[2]),
+    ("Extents 32", HEADER_2 + extents(31) + STRAIGHT_TRACE_2[48:]),
+    ("Extents 32", HEADER_2 + extents(31) + bytes(31)),
+    ("Short 32", HEADER_2 + extents(33) + bytes(32)),
+    ("Short 32", HEADER_2 + extents(2**64 - 1) + bytes(32)),
+    ("Order 48", HEADER_2 + filled(PREAMBLE[1], PREAMBLE[0])),
+    ("Order 64", HEADER_2 + filled(PREAMBLE[0], PREAMBLE[2], PREAMBLE[1])),
+    ("Order 80", HEADER_2 + filled(*PREAMBLE)),
+    ("Order 96", HEADER_2 + filled(*PREAMBLE[:2], padded("05"), PREAMBLE[2])),
+    ("Order 80", HEADER_2 + filled(*PREAMBLE[:2], extents(32))),
+    ("Order 80", HEADER_2 + filled(*PREAMBLE[:2], padded("0D"))),
+    ("Order 104", HEADER_2 + filled(*PREAMBLE[:2], padded("05"), CALLED, padded("0D"))),
+    ("NoBase 80", HEADER_2 + filled(*PREAMBLE[:2], CALLED)),
+    ("NoBase 80", HEADER_2 + filled(*PREAMBLE[:2], padded("07 01"))),
+    ("Extents 80", HEADER_2 + filled(*PREAMBLE[:2], padded("05")[:15])),
+    ("Extents 96", HEADER_2 + filled(*PREAMBLE[:2], padded("05"), CALLED[:7])),
+    ("Bad 96 Action 4", HEADER_2 + filled(*PREAMBLE[:2], padded("05"), bytes.fromhex("18 00 00 00 00 00 00 00"))),
+    ("Bad 96 Kind 8", HEADER_2 + filled(*PREAMBLE[:2], padded("05"), padded("11"))),
+    ("Short 112", STRAIGHT_TRACE_2 + bytes(1)),
 ]  # fmt: skip
 ROWS = REPLAYS + REPORTS + [
     reported(f"refused: {line}", content, *(refused(f"{report} t", f"t: trace {line}") for report in model.REPORTS))

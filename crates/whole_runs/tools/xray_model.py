@@ -13,7 +13,7 @@ import re
 
 import run_model
 import soak_model
-from image_model import Refused, image_of, sled_map_text
+from image_model import RELATIVE_VERSION, Refused, image_of, sled_map_text
 from machine_model import WORD_64, Thread, plain_text
 from replay_model import NUMBER_LIMIT, RECORDED, WAITING, commands_of, replayed, runs_text, turns_of
 from report_model import account_text, stack_text, yaml_text
@@ -45,6 +45,20 @@ class Numbers:
         if not re.fullmatch(r"\+?[0-9]+", word) or not self.least <= int(word) <= self.most:
             raise BadLine
         return int(word)
+
+
+class OneOf:
+    """The numbers that an option's value may be. Without the option it is the first."""
+
+    def __init__(self, *numbers):
+        self.numbers = numbers
+        self.default = numbers[0]
+
+    def value_of(self, word):
+        number = Numbers(0, LARGEST_64, None).value_of(word)
+        if number not in self.numbers:
+            raise BadLine
+        return number
 
 
 class Choice:
@@ -100,7 +114,7 @@ ACCOUNT_OPTIONS = {
 
 TRACE_AND_IMAGE = range(1, 3)
 FORMS = {
-    "asm": Form(range(2, 3), (1,), {"threshold": Numbers(0, NUMBER_LIMIT, 1)}),
+    "asm": Form(range(2, 3), (1,), {"threshold": Numbers(0, NUMBER_LIMIT, 1), "map-version": OneOf(0, 2)}),
     "plain": Form(range(1, 2), (), RUN_OPTIONS),
     "extract": Form(range(1, 2), (), {}),
     "sim": Form(range(5, 6), (3, 4), TRACE_OPTIONS),
@@ -299,7 +313,8 @@ def results(command, names, options, world, assemble):
     match command:
         case "asm":
             text_name, image_name = names
-            image = taken(world, text_name, "text", TEXT_LIMIT, lambda text: assemble(text, options["threshold"]))
+            relative = options["map-version"] == RELATIVE_VERSION
+            image = taken(world, text_name, "text", TEXT_LIMIT, lambda text: assemble(text, options["threshold"], relative))
             return {image_name: image}, ""
         case "plain":
             return {}, plain_texts(taken_image(world, names[0]), options)
@@ -340,7 +355,10 @@ def done(words, world, assemble, forms):
 
 
 def outcome(words, world, assemble=None, forms=FORMS):
-    """What a run of the program leaves. `assemble` makes the image of a text by a threshold, or raises `Refused`."""
+    """What a run of the program leaves. `assemble` makes the image of a text by a threshold, or raises `Refused`.
+
+    It is also given whether the addresses of the sled map are relative.
+    """
     try:
         return done(words, world, assemble, forms)
     except BadLine:

@@ -9,9 +9,10 @@ use Rattle.std.proofs.lemmas.Option.{none-some, same_Some, option_and_then_some,
 use Rattle.xray_image.specs.declared.sled.Sled.{Sled}
 use Rattle.xray_image.specs.declared.unit.Unit.{Unit}
 use Rattle.xray_image.specs.Units.{units_from, places_from}
-use Rattle.xray_image.specs.Container.{Function, MapEntry, Parts, base_address, code_length, function_count, entry_count, function_entry_at, map_entry_at, several, parts_of}
+use Rattle.xray_image.specs.Container.{Function, MapFields, Parts, base_address, code_length, function_count, entry_count, entries_from, function_entry_at, map_distance, map_fields_at, several, parts_of}
 use Rattle.xray_image.specs.Program.{Program, IsAccepted, sled_of, program_of}
 use Rattle.xray_image.specs.Layout.{AreContiguous, SledsStand}
+use Rattle.xray_image.proofs.MapEntries.{length_said}
 use Rattle.xray_image.proofs.Pieces.{OneInstruction, one_list}
 use Rattle.xray_image.proofs.Placement.{contiguous, place_named}
 
@@ -21,7 +22,7 @@ pub mapped : {A B : Type 0} (f : A → B) (o : Option A) (y : B) → option_map 
 mapped f None y e = absurd (none-some y e)
 mapped f (Some x) y e = (x, refl, same_Some _ _ e)
 
-several_count : {X : Type 0} (item : List ℕ → Option (X × List ℕ)) (n : ℕ) (bytes : List ℕ) (r : List X × List ℕ) → several item n bytes ≡ Some r → length r.0 ≡ n
+pub several_count : {X : Type 0} (item : List ℕ → Option (X × List ℕ)) (n : ℕ) (bytes : List ℕ) (r : List X × List ℕ) → several item n bytes ≡ Some r → length r.0 ≡ n
 several_count {X = X} item zero bytes r e = sym (ap (λ (x : List X × List ℕ). length x.0) (same_Some _ _ e))
 several_count {X = X} item (suc n) bytes r e =
     option_and_then_some (λ first. option_map (λ others. (first.0 ∷ others.0, others.1)) (several item n first.1)) (item bytes) r e
@@ -42,14 +43,14 @@ record Held (bytes : List ℕ) (parts : Parts) : Type 0 where
 held : (bytes : List ℕ) (parts : Parts) → parts_of bytes ≡ Some parts → Held bytes parts
 held bytes parts e =
     let following = drop (64 + code_length bytes) bytes in
-    let make : List Function × List ℕ → List MapEntry × List ℕ → Parts = λ functions entries. record { code = take (code_length bytes) (drop 64 bytes); functions = functions.0; entries = entries.0; rest = entries.1 } in
-    option_and_then_some (λ functions. option_map (make functions) (several map_entry_at (entry_count bytes) functions.1)) (several function_entry_at (function_count bytes) following) parts
+    let make : List Function × List ℕ → List MapFields × List ℕ → Parts = λ functions entries. record { code = take (code_length bytes) (drop 64 bytes); functions = functions.0; entries = entries_from (base_address bytes + map_distance) entries.0; rest = entries.1 } in
+    option_and_then_some (λ functions. option_map (make functions) (several map_fields_at (entry_count bytes) functions.1)) (several function_entry_at (function_count bytes) following) parts
     (cond_none (ltb (length bytes) (64 + code_length bytes)) _ parts e)
     (λ functions is more.
-    let m = mapped (make functions) (several map_entry_at (entry_count bytes) functions.1) parts more in
+    let m = mapped (make functions) (several map_fields_at (entry_count bytes) functions.1) parts more in
     record {
       functions = sym (ap (λ (p : Parts). length p.functions) m.2) ∙ several_count function_entry_at (function_count bytes) following functions is;
-      entries = sym (ap (λ (p : Parts). length p.entries) m.2) ∙ several_count map_entry_at (entry_count bytes) functions.1 m.0 m.1;
+      entries = sym (ap (λ (p : Parts). length p.entries) m.2) ∙ length_said (base_address bytes + map_distance) m.0.0 ∙ several_count map_fields_at (entry_count bytes) functions.1 m.0 m.1;
       code = sym (ap (λ (p : Parts). p.code) m.2);
     })
 

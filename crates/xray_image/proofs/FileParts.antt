@@ -8,16 +8,16 @@ use Rattle.xray_io.specs.Rows.{Is, Needs, NeedsPart}
 use Rattle.xray_image.specs.declared.fault.ImageFault.{ImageFault}
 use Rattle.xray_image.specs.declared.fault.ImageFault.TheVariants as faults
 use Rattle.xray_image.specs.Units.{places_from}
-use Rattle.xray_image.specs.Container.{Function, MapEntry, Parts, base_address, code_length, function_count, entry_count, function_entry_at, map_entry_at, several, parts_of}
+use Rattle.xray_image.specs.Container.{Function, MapEntry, MapFields, Parts, base_address, code_length, function_count, entry_count, entries_from, function_entry_at, map_distance, map_fields_at, several, parts_of}
 use Rattle.xray_image.specs.Program.{program_of}
 use Rattle.xray_image.specs.Table.{Verdict, NeedsUnits, ReadsProgram, ReadsParts}
 
 -- the parts with these functions, and with the entries after them
-abbrev with_entries : List ℕ → List Function → Option (List MapEntry × List ℕ) → Option Parts
-with_entries bytes functions o = option_map (λ entries. record { code = take (code_length bytes) (drop 64 bytes); functions = functions; entries = entries.0; rest = entries.1 }) o
+abbrev with_entries : List ℕ → List Function → Option (List MapFields × List ℕ) → Option Parts
+with_entries bytes functions o = option_map (λ entries. record { code = take (code_length bytes) (drop 64 bytes); functions = functions; entries = entries_from (base_address bytes + map_distance) entries.0; rest = entries.1 }) o
 
 abbrev with_functions : List ℕ → Option (List Function × List ℕ) → Option Parts
-with_functions bytes o = option_and_then (λ functions. with_entries bytes functions.0 (several map_entry_at (entry_count bytes) functions.1)) o
+with_functions bytes o = option_and_then (λ functions. with_entries bytes functions.0 (several map_fields_at (entry_count bytes) functions.1)) o
 
 -- the table from the parts on
 abbrev pub Rows : List ℕ → Option Parts → Verdict → Type 0
@@ -56,33 +56,35 @@ module _ (bytes : List ℕ) (long : 64 ≤ length bytes) where
       short_functions e = short_row (functions_are None e)
 
       module _ (functions : List Function) (rest' : List ℕ) (there : several function_entry_at f rest ≡ Some (functions, rest')) where
-        entries_are : (o : Option (List MapEntry × List ℕ)) → several map_entry_at m rest' ≡ o → parts_of bytes ≡ with_entries bytes functions o
+        entries_are : (o : Option (List MapFields × List ℕ)) → several map_fields_at m rest' ≡ o → parts_of bytes ≡ with_entries bytes functions o
         entries_are o e =
             functions_are (Some (functions, rest')) there
-            ∙ ap (with_entries bytes functions) (sym (ap (λ (k : ℕ). several map_entry_at k rest') m_is) ∙ e)
+            ∙ ap (with_entries bytes functions) (sym (ap (λ (k : ℕ). several map_fields_at k rest') m_is) ∙ e)
 
-        pub short_entries : several map_entry_at m rest' ≡ None → ReadsParts bytes (Err faults.Short)
+        pub short_entries : several map_fields_at m rest' ≡ None → ReadsParts bytes (Err faults.Short)
         short_entries e = short_row (entries_are None e)
 
-        module _ (entries : List MapEntry) (rest'' : List ℕ) (all : several map_entry_at m rest' ≡ Some (entries, rest'')) where
+        module _ (fields : List MapFields) (rest'' : List ℕ) (all : several map_fields_at m rest' ≡ Some (fields, rest'')) where
           code_with : List ℕ → Parts
-          code_with left = record { code = take (code_length bytes) (drop 64 bytes); functions = functions; entries = entries; rest = left }
+          code_with left = record { code = take (code_length bytes) (drop 64 bytes); functions = functions; entries = entries_from (base_address bytes + map_distance) fields; rest = left }
 
           parts_are : parts_of bytes ≡ Some (code_with rest'')
           unfolding code_with
-          parts_are = entries_are (Some (entries, rest'')) all
+          parts_are = entries_are (Some (fields, rest'')) all
 
           pub trailing : (rest'' ≡ [] → ⊥) → ReadsParts bytes (Err faults.Trailing)
           unfolding code_with
           trailing more = subst (λ (o : Option Parts). Rows bytes o (Err faults.Trailing)) (sym parts_are) (inl (more, refl))
 
-          pub whole : (code : List ℕ) → code ≡ take n following → rest'' ≡ [] → parts_of bytes ≡ Some (record { code = code; functions = functions; entries = entries; rest = [] })
+          pub whole : (base : ℕ) (code : List ℕ) (entries : List MapEntry) → base ≡ base_address bytes → code ≡ take n following → entries ≡ entries_from (base + map_distance) fields → rest'' ≡ []
+              → parts_of bytes ≡ Some (record { code = code; functions = functions; entries = entries; rest = [] })
           unfolding code_with
-          whole code code_is none =
-              let made : List ℕ → Option Parts = λ c. Some (record { code = c; functions = functions; entries = entries; rest = [] }) in
+          whole base code entries base_is code_is entries_is none =
+              let made : List ℕ → List MapEntry → Option Parts = λ c es. Some (record { code = c; functions = functions; entries = es; rest = [] }) in
               let same : take (code_length bytes) (drop 64 bytes) ≡ code = sym (code_is ∙ ap (λ (k : ℕ). take k following) n_is ∙ ap (take (code_length bytes)) after_is) in
+              let said : entries_from (base_address bytes + map_distance) fields ≡ entries = sym (entries_is ∙ ap (λ (k : ℕ). entries_from (k + map_distance) fields) base_is) in
               parts_are ∙ ap (λ (left : List ℕ). Some (code_with left)) none
-              ∙ ap made same
+              ∙ ap (λ (c : List ℕ). made c (entries_from (base_address bytes + map_distance) fields)) same ∙ ap (made code) said
 
 -- if a part is refused, the file is refused for the same reason
 pub refused_by : {Why : Type 0} (bytes : List ℕ) (fault : ImageFault) → (fault ≡ faults.NoMemory) ⊎ ((fault ≡ faults.Short) × Why) → (Why → ReadsParts bytes (Err faults.Short))

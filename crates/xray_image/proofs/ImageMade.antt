@@ -12,7 +12,7 @@ use Rattle.xray_image.specs.declared.header.Header.{Header}
 use Rattle.xray_image.specs.declared.image.Function.{Function as Named}
 use Rattle.xray_image.specs.declared.parts.FileParts.{FileParts}
 use Rattle.xray_image.specs.declared.parts.FunctionEntry.{FunctionEntry}
-use Rattle.xray_image.specs.declared.parts.RawMapEntry.{RawMapEntry}
+use Rattle.xray_image.specs.declared.map_entry.SledEntry.{SledEntry}
 use Rattle.xray_image.specs.declared.sled.Sled.{Sled}
 use Rattle.xray_image.specs.declared.unit.Unit.{Unit}
 use Rattle.xray_image.specs.Units.{SledPlace}
@@ -34,7 +34,7 @@ pub names_all : (base : ℕ) (units : List Unit) (functions : List Function) →
 names_all base units functions all k d lt = (all k (get_or functions k d) (slice_get-get_or functions k d lt)).name_bytes
 
 -- each sled has its line's function
-functions_of_sleds : (entries : List MapEntry) (places : List SledPlace) (lines : List RawMapEntry) → length lines ≤ length places
+functions_of_sleds : (entries : List MapEntry) (places : List SledPlace) (lines : List SledEntry) → length lines ≤ length places
     → map (λ s. s.function) (map (sled_of entries) (zip places (map entry_of lines))) ≡ map (λ e. e.function) lines
 functions_of_sleds entries [] [] le = refl
 functions_of_sleds entries [] (l ∷ ls) le = absurd (omega arith)
@@ -42,19 +42,19 @@ functions_of_sleds entries (p ∷ ps) [] le = refl
 functions_of_sleds entries (p ∷ ps) (l ∷ ls) le = ap (λ (fs : List ℕ). l.function ∷ fs) (functions_of_sleds entries ps ls (omega arith))
 
 module _ (h : Header) (p : FileParts) (u : CodeUnits) (j : IsJudged (map entry_of p.entries.items) (places_in u) (program_read h p u)) where
-  pub known : (functions : List FunctionEntry) (lines : List RawMapEntry) → functions ≡ p.functions.items → lines ≡ p.entries.items → All (λ e. Contains (map (λ f. f.start) functions) e.function) lines
+  pub known : (functions : List FunctionEntry) (lines : List SledEntry) → functions ≡ p.functions.items → lines ≡ p.entries.items → All (λ e. Contains (map (λ f. f.start) functions) e.function) lines
   known functions lines same_functions same_lines =
       subst (λ (fs : List FunctionEntry). All (λ e. Contains (map (λ f. f.start) fs) e.function) lines) (sym same_functions)
-      (subst (λ (ls : List RawMapEntry). All (λ e. Contains (map (λ f. f.start) p.functions.items) e.function) ls) (sym same_lines)
+      (subst (λ (ls : List SledEntry). All (λ e. Contains (map (λ f. f.start) p.functions.items) e.function) ls) (sym same_lines)
       (lines_known p.functions.items (places_in u) p.entries.items (in_order u.sleds.items p.entries.items j.order) j.entries_fit))
 
-  pub falling : (lines : List RawMapEntry) → lines ≡ p.entries.items → IsNonDecreasingBy (λ place. place.address) (places_in u) → IsNonDecreasing (map (λ e. e.function) lines)
+  pub falling : (lines : List SledEntry) → lines ≡ p.entries.items → IsNonDecreasingBy (λ place. place.address) (places_in u) → IsNonDecreasing (map (λ e. e.function) lines)
   falling lines same up =
-      subst (λ (ls : List RawMapEntry). IsNonDecreasing (map (λ e. e.function) ls)) (sym same)
+      subst (λ (ls : List SledEntry). IsNonDecreasing (map (λ e. e.function) ls)) (sym same)
       (lines_in_order p.functions.items (places_in u) p.entries.items (in_order u.sleds.items p.entries.items j.order) j.entries_fit (functions_ascend h.base (units_in u.units) (map function_of p.functions.items) j.functions) up)
 
   -- the functions of ids, as the image has them
-  pub numbers : (functions : List FunctionEntry) (lines : List RawMapEntry) (named : List Named) (sleds : List Sled) (ids : List ℕ) → functions ≡ p.functions.items → lines ≡ p.entries.items
+  pub numbers : (functions : List FunctionEntry) (lines : List SledEntry) (named : List Named) (sleds : List Sled) (ids : List ℕ) → functions ≡ p.functions.items → lines ≡ p.entries.items
       → map named_function named ≡ map function_of p.functions.items
       → sleds ≡ map (sled_of (map entry_of p.entries.items)) (zip (places_in u) (map entry_of p.entries.items))
       → AreNumbersOf (map (λ f. f.start) functions) (distinct [] (map (λ e. e.function) lines)) ids

@@ -9,7 +9,7 @@ use Rattle.xray_image.specs.declared.fault.ImageFault.TheVariants as faults
 use Rattle.xray_image.specs.declared.header.Header.{Header}
 use Rattle.xray_image.specs.declared.parts.FileParts.{FileParts}
 use Rattle.xray_image.specs.declared.parts.FunctionEntry.{FunctionEntry}
-use Rattle.xray_image.specs.declared.parts.RawMapEntry.{RawMapEntry}
+use Rattle.xray_image.specs.declared.map_entry.SledEntry.{SledEntry}
 use Rattle.xray_image.specs.declared.unit.Unit.{Unit}
 use Rattle.xray_image.specs.declared.unit_index.UnitIndex.{UnitIndex}
 use Rattle.xray_image.specs.Units.{SledPlace}
@@ -32,10 +32,10 @@ pub judged_reads : (entries : List MapEntry) (places : List SledPlace) (program 
 judged_reads entries places program j = inr (j.functions, inr (j.order, inr (j.entries_fit, inr (j.near, inr (j.branches, refl)))))
 
 -- the entry and the sled of each number have one address
-pub in_order : (spots : List SledSpot) (lines : List RawMapEntry) → ((i : ℕ) → HasOneAddress (map place_of spots) (map entry_of lines) i) → map (λ e. e.sled) (map entry_of lines) ≡ map (λ p. p.address) (map place_of spots)
+pub in_order : (spots : List SledSpot) (lines : List SledEntry) → ((i : ℕ) → HasOneAddress (map place_of spots) (map entry_of lines) i) → map (λ e. e.sled) (map entry_of lines) ≡ map (λ p. p.address) (map place_of spots)
 in_order spots lines all = same_items (map (λ e. e.sled) (map entry_of lines)) (map (λ p. p.address) (map place_of spots)) all
 
-pub as_many : (spots : List SledSpot) (lines : List RawMapEntry) → ((i : ℕ) → HasOneAddress (map place_of spots) (map entry_of lines) i) → length lines ≡ length spots
+pub as_many : (spots : List SledSpot) (lines : List SledEntry) → ((i : ℕ) → HasOneAddress (map place_of spots) (map entry_of lines) i) → length lines ≡ length spots
 as_many spots lines all =
     sym (length-map lines entry_of) ∙ sym (length-map (map entry_of lines) (λ e. e.sled)) ∙ ap length (in_order spots lines all)
     ∙ length-map (map place_of spots) (λ p. p.address) ∙ length-map spots place_of
@@ -72,24 +72,24 @@ module _ (h : Header) (p : FileParts) (u : CodeUnits) where
   pub ascend : Functions → (functions : List FunctionEntry) → functions ≡ p.functions.items → Ascend (map function_of functions)
   ascend all functions same = subst (λ (fs : List FunctionEntry). Ascend (map function_of fs)) (sym same) (functions_ascend h.base (units_in u.units) (map function_of p.functions.items) all)
 
-  module _ (spots : List SledSpot) (lines : List RawMapEntry) (same_spots : spots ≡ u.sleds.items) (same_lines : lines ≡ p.entries.items) where
+  module _ (spots : List SledSpot) (lines : List SledEntry) (same_spots : spots ≡ u.sleds.items) (same_lines : lines ≡ p.entries.items) where
     pub order_all : ((i : ℕ) → HasOneAddress (map place_of spots) (map entry_of lines) i) → Order
     order_all all =
         subst (λ (ss : List SledSpot). (i : ℕ) → HasOneAddress (map place_of ss) (map entry_of p.entries.items) i) same_spots
-        (subst (λ (ls : List RawMapEntry). (i : ℕ) → HasOneAddress (map place_of spots) (map entry_of ls) i) same_lines all)
+        (subst (λ (ls : List SledEntry). (i : ℕ) → HasOneAddress (map place_of spots) (map entry_of ls) i) same_lines all)
 
     pub few_entries : Order → length lines ≤ length spots
     few_entries all = omega (arith, as_many u.sleds.items p.entries.items all, ap length same_spots, ap length same_lines)
 
     pub kinds_all : Order → Entries → All (λ e. e.kind < 4) lines
     kinds_all order entries =
-        subst (λ (ls : List RawMapEntry). All (λ e. e.kind < 4) ls) (sym same_lines)
+        subst (λ (ls : List SledEntry). All (λ e. e.kind < 4) ls) (sym same_lines)
         (kinds_known p.functions.items (places_in u) p.entries.items (in_order u.sleds.items p.entries.items order) entries)
 
     pub order_row : Functions → (fault : ImageFault) → IsFirstFault (HasOneAddress (map place_of spots) (map entry_of lines)) (λ i. faults.MapOrder i) fault → Told fault
     order_row functions fault first =
         let f = subst (λ (ss : List SledSpot). IsFirstFault (HasOneAddress (map place_of ss) (map entry_of p.entries.items)) (λ i. faults.MapOrder i) fault) same_spots
-        (subst (λ (ls : List RawMapEntry). IsFirstFault (HasOneAddress (map place_of spots) (map entry_of ls)) (λ i. faults.MapOrder i) fault) same_lines first) in
+        (subst (λ (ls : List SledEntry). IsFirstFault (HasOneAddress (map place_of spots) (map entry_of ls)) (λ i. faults.MapOrder i) fault) same_lines first) in
         inr (functions, inl (f.number, f.fails, f.holds_below, ap (λ (e : ImageFault). Err e) f.is))
 
     module _ (functions : List FunctionEntry) (same_functions : functions ≡ p.functions.items) where
@@ -97,24 +97,24 @@ module _ (h : Header) (p : FileParts) (u : CodeUnits) where
       entries_all all =
           subst (λ (fs : List FunctionEntry). (i : ℕ) → FitsAt (map place_of u.sleds.items) (map entry_of p.entries.items) (IsEntryOf (map function_of fs)) i) same_functions
           (subst (λ (ss : List SledSpot). (i : ℕ) → FitsAt (map place_of ss) (map entry_of p.entries.items) (IsEntryOf (map function_of functions)) i) same_spots
-          (subst (λ (ls : List RawMapEntry). (i : ℕ) → FitsAt (map place_of spots) (map entry_of ls) (IsEntryOf (map function_of functions)) i) same_lines all))
+          (subst (λ (ls : List SledEntry). (i : ℕ) → FitsAt (map place_of spots) (map entry_of ls) (IsEntryOf (map function_of functions)) i) same_lines all))
 
       pub entries_row : Functions → Order → (fault : ImageFault) → IsFirstFault (FitsAt (map place_of spots) (map entry_of lines) (IsEntryOf (map function_of functions))) (λ i. faults.Odd i) fault → Told fault
       entries_row all order fault first =
           let f = subst (λ (fs : List FunctionEntry). IsFirstFault (FitsAt (map place_of u.sleds.items) (map entry_of p.entries.items) (IsEntryOf (map function_of fs))) (λ i. faults.Odd i) fault) same_functions
           (subst (λ (ss : List SledSpot). IsFirstFault (FitsAt (map place_of ss) (map entry_of p.entries.items) (IsEntryOf (map function_of functions))) (λ i. faults.Odd i) fault) same_spots
-          (subst (λ (ls : List RawMapEntry). IsFirstFault (FitsAt (map place_of spots) (map entry_of ls) (IsEntryOf (map function_of functions))) (λ i. faults.Odd i) fault) same_lines first)) in
+          (subst (λ (ls : List SledEntry). IsFirstFault (FitsAt (map place_of spots) (map entry_of ls) (IsEntryOf (map function_of functions))) (λ i. faults.Odd i) fault) same_lines first)) in
           inr (all, inr (order, inl (f.number, f.fails, f.holds_below, ap (λ (e : ImageFault). Err e) f.is)))
 
     pub near_all : ((i : ℕ) → FitsAt (map place_of spots) (map entry_of lines) (Reaches (trampolines_of h.trampolines)) i) → Near
     near_all all =
         subst (λ (ss : List SledSpot). (i : ℕ) → FitsAt (map place_of ss) (map entry_of p.entries.items) (Reaches (trampolines_of h.trampolines)) i) same_spots
-        (subst (λ (ls : List RawMapEntry). (i : ℕ) → FitsAt (map place_of spots) (map entry_of ls) (Reaches (trampolines_of h.trampolines)) i) same_lines all)
+        (subst (λ (ls : List SledEntry). (i : ℕ) → FitsAt (map place_of spots) (map entry_of ls) (Reaches (trampolines_of h.trampolines)) i) same_lines all)
 
     pub near_row : Functions → Order → Entries → (fault : ImageFault) → IsFirstFault (FitsAt (map place_of spots) (map entry_of lines) (Reaches (trampolines_of h.trampolines))) (λ i. faults.Far i) fault → Told fault
     near_row all order entries fault first =
         let f = subst (λ (ss : List SledSpot). IsFirstFault (FitsAt (map place_of ss) (map entry_of p.entries.items) (Reaches (trampolines_of h.trampolines))) (λ i. faults.Far i) fault) same_spots
-        (subst (λ (ls : List RawMapEntry). IsFirstFault (FitsAt (map place_of spots) (map entry_of ls) (Reaches (trampolines_of h.trampolines))) (λ i. faults.Far i) fault) same_lines first) in
+        (subst (λ (ls : List SledEntry). IsFirstFault (FitsAt (map place_of spots) (map entry_of ls) (Reaches (trampolines_of h.trampolines))) (λ i. faults.Far i) fault) same_lines first) in
         inr (all, inr (order, inr (entries, inl (f.number, f.fails, f.holds_below, ap (λ (e : ImageFault). Err e) f.is))))
 
   module _ (units : List Unit) (same : units ≡ (units_in u.units)) where

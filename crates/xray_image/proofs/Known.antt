@@ -145,9 +145,9 @@ known_kind false kind = any (cases_eq kind 0) (cases_eq kind 2) (cases_eq kind 3
 -- an entry agrees with the code, or not
 pub known_entry : (functions : List Function) (place : SledPlace) (entry : MapEntry) → Known (IsEntryOf functions place entry)
 known_entry functions place entry =
-    whole (known_option _ (Some entry.function)) (known_kind place.returns entry.kind) (known_below entry.version 2)
+    whole (known_option _ (Some entry.function)) (known_kind place.returns entry.kind) (known_below entry.version 3)
   where
-    whole : Known (LiesIn functions place.address entry.function) → Known (KindFits place.returns entry.kind) → Known (entry.version < 2)
+    whole : Known (LiesIn functions place.address entry.function) → Known (KindFits place.returns entry.kind) → Known (entry.version < 3)
         → Known (IsEntryOf functions place entry)
     whole (inl a) (inl b) (inl c) = inl (record { in_function = a; kind = b; known_version = c })
     whole (inl a) (inl b) (inr fails) = inr (λ r. fails r.known_version)

@@ -1,6 +1,7 @@
 pub mod Pieces
 pub mod Nops
 pub mod Stuck
+pub mod MapEntries
 pub mod FileParts
 pub mod HeaderRows
 pub mod Scans

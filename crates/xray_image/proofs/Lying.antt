@@ -9,7 +9,7 @@ use Rattle.std.proofs.lemmas.List.Elements.{All-get_or}
 use Rattle.std.proofs.lemmas.Option.{none-some, same_Some, slice_get-get_or}
 use Rattle.std.proofs.lemmas.Simd.{map-map}
 use Rattle.xray_image.specs.declared.parts.FunctionEntry.{FunctionEntry}
-use Rattle.xray_image.specs.declared.parts.RawMapEntry.{RawMapEntry}
+use Rattle.xray_image.specs.declared.map_entry.SledEntry.{SledEntry}
 use Rattle.xray_image.specs.Units.{Piece, Instruction, JumpSled, ReturnSled, Align, SledPlace, places_from}
 use Rattle.xray_image.specs.Container.{Function, MapEntry}
 use Rattle.xray_image.specs.Program.{KindFits, LiesIn, IsEntryOf, EachSled}
@@ -108,14 +108,14 @@ kind_below false kind (inl fits) = omega (arith, fits)
 kind_below false kind (inr (inl fits)) = omega (arith, fits)
 kind_below false kind (inr (inr fits)) = omega (arith, fits)
 
-module _ (functions : List FunctionEntry) (places : List SledPlace) (lines : List RawMapEntry)
+module _ (functions : List FunctionEntry) (places : List SledPlace) (lines : List SledEntry)
     (order : map (λ e. e.sled) (map entry_of lines) ≡ map (λ p. p.address) places)
     (each : EachSled places (map entry_of lines) (IsEntryOf (map function_of functions))) where
   -- there are as many lines as places
   count : length lines ≡ length places
   count = sym (length-map lines entry_of) ∙ sym (length-map (map entry_of lines) (λ e. e.sled)) ∙ ap length order ∙ length-map places (λ p. p.address)
 
-  lies_at : (k : ℕ) (d : RawMapEntry) (p : SledPlace) → k < length lines → LiesIn (map function_of functions) (get_or places k p).address (get_or lines k d).function
+  lies_at : (k : ℕ) (d : SledEntry) (p : SledPlace) → k < length lines → LiesIn (map function_of functions) (get_or places k p).address (get_or lines k d).function
   lies_at k d p lt =
       let line : get_or (map entry_of lines) k (entry_of d) ≡ entry_of (get_or lines k d) = get_or-map entry_of lines k d (entry_of d) lt in
       subst (λ (e : MapEntry). LiesIn (map function_of functions) (get_or places k p).address e.function) line
@@ -149,7 +149,7 @@ module _ (functions : List FunctionEntry) (places : List SledPlace) (lines : Lis
   -- the lines' functions are in the order of the functions
   pub lines_in_order : IsStrictlyIncreasing (map (λ f. f.start) (map function_of functions)) → IsNonDecreasingBy (λ p. p.address) places → IsNonDecreasing (map (λ e. e.function) lines)
   lines_in_order up places_up i j d le lt =
-      let line : RawMapEntry = record { sled = 0; function = 0; kind = 0; always = 0; version = 0 } in
+      let line : SledEntry = record { sled = 0; function = 0; kind = 0; always = 0; version = 0 } in
       let place : SledPlace = record { address = 0; shift = 0; returns = false } in
       let lt' : j < length lines = omega (arith, length-map lines (λ e. e.function)) in
       omega (

@@ -7,7 +7,7 @@ use Rattle.std.proofs.lemmas.List.Elements.{All-get_or}
 use Rattle.std.proofs.lemmas.Slice.Zip.{length-zip, get_or-zip}
 use Rattle.xray_image.specs.declared.code_units.SledSpot.{SledSpot}
 use Rattle.xray_image.specs.declared.parts.FunctionEntry.{FunctionEntry}
-use Rattle.xray_image.specs.declared.parts.RawMapEntry.{RawMapEntry}
+use Rattle.xray_image.specs.declared.map_entry.SledEntry.{SledEntry}
 use Rattle.xray_image.specs.declared.sled.Sled.{Sled}
 use Rattle.xray_image.specs.declared.sled.SledKind.{SledKind}
 use Rattle.xray_image.specs.Container.{Function}
@@ -27,7 +27,7 @@ name_at functions i within all =
 
 -- ---- sleds
 
-module _ (spots : List SledSpot) (lines : List RawMapEntry) (enough : length lines ≤ length spots) where
+module _ (spots : List SledSpot) (lines : List SledEntry) (enough : length lines ≤ length spots) where
   abbrev pub sleds : List Sled
   sleds = map (sled_of (map entry_of lines)) (zip (map place_of spots) (map entry_of lines))
 
@@ -46,23 +46,22 @@ module _ (spots : List SledSpot) (lines : List RawMapEntry) (enough : length lin
       pair e f = cc
 
   -- one more sled, made of the next spot and line
-  pub sled_more : (made made' : List Sled) (i : ℕ) (ids : List ℕ) (function : ℕ) (kind : SledKind) → made ≡ take i sleds → i < length lines → ids ≡ map (λ e. id_of (map entry_of lines) e.function) lines
-      → function ≡ (get_or lines i zero_line).function → kind ≡ kind_of (get_or lines i zero_line).kind
+  pub sled_more : (made made' : List Sled) (i : ℕ) (ids : List ℕ) (kind : SledKind) → made ≡ take i sleds → i < length lines → ids ≡ map (λ e. id_of (map entry_of lines) e.function) lines
+      → kind ≡ kind_of (get_or lines i zero_line).kind
       → made' ≡ made ++ record {
         address = (get_or spots i zero_spot).address;
-        function = function;
+        function = (get_or lines i zero_line).function;
         id = get_or ids i 0;
         kind = kind;
         always = not ((get_or lines i zero_line).always == 0);
         shift = (get_or spots i zero_spot).shift;
       } ∷ []
       → made' ≡ take (i + 1) sleds
-  sled_more made made' i ids function kind so_far within ids_are function_is kind_is pushed =
+  sled_more made made' i ids kind so_far within ids_are kind_is pushed =
       let line = get_or lines i zero_line in
       let next = sled_of (map entry_of lines) (place_of (get_or spots i zero_spot), entry_of line) in
       let id_is : get_or ids i 0 ≡ id_of (map entry_of lines) line.function = ap (λ (xs : List ℕ). get_or xs i 0) ids_are ∙ get_or-map (λ e. id_of (map entry_of lines) e.function) lines i zero_line 0 within in
       pushed
-      ∙ ap (λ (f : ℕ). made ++ record { address = (get_or spots i zero_spot).address; function = f; id = get_or ids i 0; kind = kind; always = not (line.always == 0); shift = (get_or spots i zero_spot).shift } ∷ []) function_is
       ∙ ap (λ (xs : List Sled). xs ++ record { address = (get_or spots i zero_spot).address; function = line.function; id = get_or ids i 0; kind = kind; always = not (line.always == 0); shift = (get_or spots i zero_spot).shift } ∷ []) so_far
       ∙ ap (λ (n : ℕ). take i sleds ++ record { address = (get_or spots i zero_spot).address; function = line.function; id = n; kind = kind; always = not (line.always == 0); shift = (get_or spots i zero_spot).shift } ∷ []) id_is
       ∙ ap (λ (k : SledKind). take i sleds ++ record { address = (get_or spots i zero_spot).address; function = line.function; id = id_of (map entry_of lines) line.function; kind = k; always = not (line.always == 0); shift = (get_or spots i zero_spot).shift } ∷ []) kind_is

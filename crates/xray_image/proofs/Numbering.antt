@@ -9,7 +9,7 @@ use Rattle.std.proofs.lemmas.Simd.{map-map}
 use Rattle.std.proofs.lemmas.List.Kept.{AllPairs-from_increasing}
 use Rattle.std.proofs.lemmas.Option.{slice_get-get_or, same_Some}
 use Rattle.std.proofs.Math.Seq.{take-suc}
-use Rattle.xray_image.specs.declared.parts.RawMapEntry.{RawMapEntry}
+use Rattle.xray_image.specs.declared.map_entry.SledEntry.{SledEntry}
 use Rattle.xray_image.specs.private.Views.{entry_of}
 use Rattle.xray_image.specs.Program.{distinct, id_of}
 use Rattle.xray_image.specs.private.Numbering.{AreNumbersOf, IsBefore, HasCounted}
@@ -88,11 +88,11 @@ numbers_after starts functions (suc i) x (Some y) numbers numbers' up lt is befo
     ]
 
 -- the id of an entry's function by its place among the functions of all entries
-pub id_at : (lines : List RawMapEntry) (i : ℕ) → i < length lines
+pub id_at : (lines : List SledEntry) (i : ℕ) → i < length lines
     → get_or (map (λ e. id_of (map entry_of lines) e.function) lines) i 0
     ≡ 1 + position_or_len (λ y. y == get_or (map (λ e. e.function) lines) i 0) (distinct [] (map (λ e. e.function) lines))
 id_at lines i lt =
-    let none : RawMapEntry = record { sled = 0; function = 0; kind = 0; always = 0; version = 0 } in
+    let none : SledEntry = record { sled = 0; function = 0; kind = 0; always = 0; version = 0 } in
     let mine : get_or (map (λ e. e.function) lines) i 0 ≡ (get_or lines i none).function = get_or-map (λ e. e.function) lines i none 0 lt in
     let all : map (λ e. e.function) (map entry_of lines) ≡ map (λ e. e.function) lines = map-map (λ e. e.function) entry_of lines in
     get_or-map (λ e. id_of (map entry_of lines) e.function) lines i none 0 lt

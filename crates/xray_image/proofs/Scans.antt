@@ -6,7 +6,7 @@ use Rattle.std.proofs.lemmas.Bool.{cases_lt}
 use Rattle.std.proofs.lemmas.List.{length-map, get_or_default}
 use Rattle.std.proofs.lemmas.Option.{none-some, same_Some, slice_get-map, slice_get-get_or, slice_get_within, slice_get_past}
 use Rattle.xray_image.specs.declared.code_units.SledSpot.{SledSpot}
-use Rattle.xray_image.specs.declared.parts.RawMapEntry.{RawMapEntry}
+use Rattle.xray_image.specs.declared.map_entry.SledEntry.{SledEntry}
 use Rattle.xray_image.specs.declared.fault.ImageFault.{ImageFault}
 use Rattle.xray_image.specs.Units.{SledPlace}
 use Rattle.xray_image.specs.Container.{MapEntry}
@@ -22,7 +22,7 @@ from_below C n below past i = elim (cases_lt i n) [ inl lt ↦ below i lt | inr 
 pub item_at : {X Y : Type 0} (f : X → Y) (xs : List X) (i : ℕ) (x : X) → i < length xs → x ≡ get_or xs i x → slice_get (map f xs) i ≡ Some (f x)
 item_at f xs i x within is = slice_get-map f xs i ∙ ap (option_map f) (slice_get-get_or xs i x within) ∙ ap (λ y. Some (f y)) (sym is)
 
-module _ (spots : List SledSpot) (lines : List RawMapEntry) (i : ℕ) where
+module _ (spots : List SledSpot) (lines : List SledEntry) (i : ℕ) where
   -- no number past the last has an entry
   pub fits_past : (P : SledPlace → MapEntry → Type 0) → length lines ≤ i → FitsAt (map place_of spots) (map entry_of lines) P i
   fits_past P past place entry there entry_there =
@@ -54,7 +54,7 @@ module _ (spots : List SledSpot) (lines : List RawMapEntry) (i : ℕ) where
   pub no_spot : length spots ≤ i → i < length lines → HasOneAddress (map place_of spots) (map entry_of lines) i → ⊥
   no_spot past within one = let there = line_long within in none-some there.0 (sym (spot_short past) ∙ sym one ∙ there.1)
 
-  module _ (spot : SledSpot) (line : RawMapEntry) (in_spots : i < length spots) (in_lines : i < length lines) (spot_is : spot ≡ get_or spots i spot) (line_is : line ≡ get_or lines i line) where
+  module _ (spot : SledSpot) (line : SledEntry) (in_spots : i < length spots) (in_lines : i < length lines) (spot_is : spot ≡ get_or spots i spot) (line_is : line ≡ get_or lines i line) where
     pub fits : (P : SledPlace → MapEntry → Type 0) → P (place_of spot) (entry_of line) → FitsAt (map place_of spots) (map entry_of lines) P i
     fits P p place entry there entry_there =
         subst (λ (x : SledPlace). P x entry) (same_Some _ _ (sym (item_at place_of spots i spot in_spots spot_is) ∙ there))
@@ -86,18 +86,18 @@ same_items (x ∷ xs) (y ∷ ys) same =
 abbrev pub zero_spot : SledSpot
 zero_spot = record { address = 0; shift = 0; returns = false }
 
-abbrev pub zero_line : RawMapEntry
+abbrev pub zero_line : SledEntry
 zero_line = record { sled = 0; function = 0; kind = 0; always = 0; version = 0 }
 
 -- the sled and the entry of a number, as the code reads them
 pub spot_is : (spots : List SledSpot) (i : ℕ) → i < length spots → get_or spots i zero_spot ≡ get_or spots i (get_or spots i zero_spot)
 spot_is spots i within = get_or_default spots i zero_spot (get_or spots i zero_spot) within
 
-pub line_is : (lines : List RawMapEntry) (i : ℕ) → i < length lines → get_or lines i zero_line ≡ get_or lines i (get_or lines i zero_line)
+pub line_is : (lines : List SledEntry) (i : ℕ) → i < length lines → get_or lines i zero_line ≡ get_or lines i (get_or lines i zero_line)
 line_is lines i within = get_or_default lines i zero_line (get_or lines i zero_line) within
 
 -- the same of a number that a scan has come to, by what it read there
-module _ (spots : List SledSpot) (lines : List RawMapEntry) (i : ℕ) (in_lines : i < length lines) (enough : length lines ≤ length spots) (P : SledPlace → MapEntry → Type 0) where
+module _ (spots : List SledSpot) (lines : List SledEntry) (i : ℕ) (in_lines : i < length lines) (enough : length lines ≤ length spots) (P : SledPlace → MapEntry → Type 0) where
   in_spots : i < length spots
   in_spots = omega arith
 
@@ -114,6 +114,6 @@ module _ (spots : List SledSpot) (lines : List RawMapEntry) (i : ℕ) (in_lines 
   }
 
 -- each entry fits if those below the last do
-pub fit_all : (spots : List SledSpot) (lines : List RawMapEntry) (n : ℕ) (P : SledPlace → MapEntry → Type 0) → length lines ≤ n
+pub fit_all : (spots : List SledSpot) (lines : List SledEntry) (n : ℕ) (P : SledPlace → MapEntry → Type 0) → length lines ≤ n
     → ((j : ℕ) → j < n → FitsAt (map place_of spots) (map entry_of lines) P j) → (i : ℕ) → FitsAt (map place_of spots) (map entry_of lines) P i
 fit_all spots lines n P past below = from_below (FitsAt (map place_of spots) (map entry_of lines) P) n below (λ j le. fits_past spots lines j P (omega (arith, past, le)))

@@ -12,7 +12,7 @@ use Rattle.xray_image.specs.declared.sled.SledKind.TheVariants.{Entry, Exit, Tai
 use Rattle.xray_image.specs.declared.unit.Unit.{Unit}
 use Rattle.xray_image.specs.declared.unit.What.TheVariants.{Plain}
 use Rattle.xray_image.specs.Units.{Piece, IsUnits, units_from, SledPlace, places_from}
-use Rattle.xray_image.specs.Container.{Function, MapEntry, Parts, base_address, entry_index, function_address, number8_at, parts_of, sled_address}
+use Rattle.xray_image.specs.Container.{Function, MapEntry, Parts, base_address, entry_index, number8_at, parts_of}
 use Rattle.xray_image.specs.Header.{HasHeader}
 
 -- the handlers' trampolines, by the kind of the sleds that call them
@@ -96,9 +96,9 @@ KindFits false kind = (kind ≡ 0) ⊎ (kind ≡ 2) ⊎ (kind ≡ 3)
 
 -- an entry agrees with the code about the sled at its place
 pub record IsEntryOf (functions : List Function) (place : SledPlace) (entry : MapEntry) : Type 0 where
-  pub in_function : LiesIn functions place.address (function_address entry)
+  pub in_function : LiesIn functions place.address entry.function
   pub kind : KindFits place.returns entry.kind
-  pub known_version : entry.version < 2
+  pub known_version : entry.version < 3
 
 -- a patched sled's call or jump reaches the trampoline: its 32 bits count from the sled's end
 abbrev pub Reaches : Trampolines → SledPlace → MapEntry → Type 0
@@ -118,14 +118,14 @@ distinct seen (x ∷ xs) = if list_any (λ y. y == x) seen then distinct seen xs
 
 -- function ids count from 1 over the functions of the map's entries, in the order of the map
 abbrev pub id_of : List MapEntry → ℕ → ℕ
-id_of entries function = 1 + position_or_len (λ f. f == function) (distinct [] (map function_address entries))
+id_of entries function = 1 + position_or_len (λ f. f == function) (distinct [] (map (λ e. e.function) entries))
 
 -- the sled at a place, with what its entry says
 abbrev pub sled_of : List MapEntry → SledPlace × MapEntry → Sled
 sled_of entries (place, entry) = record {
   address = place.address;
-  function = function_address entry;
-  id = id_of entries (function_address entry);
+  function = entry.function;
+  id = id_of entries entry.function;
   kind = kind_of entry.kind;
   always = not (entry.always == 0);
   shift = place.shift;
@@ -181,7 +181,7 @@ pub record IsAccepted (bytes : List ℕ) (program : Program) : Type 0 where
   pub units : IsUnits parts.code pieces
   pub even_sleds : All (λ place. place.address % 2 ≡ 0) (places_from (base_address bytes) pieces)
   pub functions : AreFunctions (base_address bytes) program.units parts.functions
-  pub map_order : map sled_address parts.entries ≡ map (λ p. p.address) (places_from (base_address bytes) pieces)
+  pub map_order : map (λ e. e.sled) parts.entries ≡ map (λ p. p.address) (places_from (base_address bytes) pieces)
   pub entries : EachSled (places_from (base_address bytes) pieces) parts.entries (IsEntryOf parts.functions)
   pub near : EachSled (places_from (base_address bytes) pieces) parts.entries (Reaches program.trampolines)
   pub branches : BranchesReach program.units

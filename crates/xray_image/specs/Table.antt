@@ -9,7 +9,7 @@ use Rattle.xray_image.specs.declared.fault.ImageFault.TheVariants as faults
 use Rattle.xray_image.specs.declared.fault.Which.TheVariants as limits
 use Rattle.xray_image.specs.declared.unit.Unit.{Unit}
 use Rattle.xray_image.specs.Units.{Piece, Instruction, JumpSled, ReturnSled, Align, IsPiece, piece_bytes, SledPlace, places_from}
-use Rattle.xray_image.specs.Container.{Function, MapEntry, magic, version, base_address, code_length, function_count, entry_count, entry_index, parts_of, sled_address}
+use Rattle.xray_image.specs.Container.{Function, MapEntry, magic, version, base_address, code_length, function_count, entry_count, entry_index, parts_of}
 use Rattle.xray_image.specs.Limits.{highest_base, most_code, most_functions, most_sleds}
 use Rattle.xray_image.specs.Program.{Program, IsFunction, IsEntryOf, Reaches, BranchReaches, addresses, program_of}
 
@@ -75,7 +75,7 @@ FunctionIsFit base units functions i =
 -- the entry and the sled of this number have one address, or neither exists
 abbrev pub HasOneAddress : List SledPlace → List MapEntry → ℕ → Type 0
 HasOneAddress places entries i =
-    slice_get (map sled_address entries) i ≡ slice_get (map (λ p. p.address) places) i
+    slice_get (map (λ e. e.sled) entries) i ≡ slice_get (map (λ p. p.address) places) i
 
 -- the sled and the entry of this number, if both exist, fit each other
 abbrev pub FitsAt : List SledPlace → List MapEntry → (SledPlace → MapEntry → Type 0) → ℕ → Type 0

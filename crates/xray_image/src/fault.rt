@@ -58,7 +58,7 @@ pub enum ImageFault {
     MapOrder(u32),
     /// The map entry of this number, from 0, doesn't fit its sled. It names another function than
     /// the one that the sled lies in, has a kind that doesn't fit the sled's first bytes, or has a
-    /// version of 2 or more.
+    /// version of 3 or more.
     #[error("entry {0} doesn't fit its sled")]
     Odd(u32),
     /// The trampoline for the sled of this map entry, from 0, is too far away. A call or jump

@@ -46,6 +46,23 @@ pub const TAIL_TRAMPOLINE_AT: usize = 48;
 /// The place in the header of the address of the trampoline of entry sleds with argument logging.
 pub const ARGS_TRAMPOLINE_AT: usize = 56;
 
+/// The length of an entry of the sled map in bytes. The layout is that of `XRaySledEntry` in
+/// compiler-rt (`xray_interface_internal.h`). The bytes after the version are padding.
+pub const MAP_ENTRY_LENGTH: u64 = 32;
+
+/// The place in a map entry of the field of the function's address. The field of the sled's address
+/// is at its start.
+pub const FUNCTION_AT: u64 = 8;
+
+/// How far above the base address the first entry of the sled map is.
+pub const MAP_DISTANCE: u64 = 0x10_0000;
+
+/// The version of map entries that has absolute addresses, as version 1 has.
+pub const ABSOLUTE_MAP_VERSION: u8 = 0;
+
+/// The version of map entries whose addresses count from the fields that hold them.
+pub const RELATIVE_MAP_VERSION: u8 = 2;
+
 /// The longest code in bytes.
 pub const CODE_LIMIT: u32 = 1_048_576;
 

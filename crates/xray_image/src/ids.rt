@@ -2,10 +2,11 @@
 
 ghost use Rattle.std.specs.Prelude.{◌≡◌, ◌<◌, ◌≤◌, ◌^◌, ◌+◌, ◌-◌, ℕ, List, [], ◌∷◌, ◌++◌, map, length, All, Contains, Some, slice_get, IfOk, OnOk};
 ghost use Rattle.std.specs.List.Sorted.{IsStrictlyIncreasing, IsNonDecreasing};
-ghost use Rattle.xray_image.specs.{Container.{function_address}, Program.{distinct, id_of}};
+ghost use Rattle.xray_image.specs.Program.{distinct, id_of};
 ghost use Rattle.xray_image.specs.private.{Numbering.{AreNumbersOf}, Views.{entry_of}};
 
-use crate::parts::{FunctionEntry, RawMapEntry};
+use crate::map_entry::SledEntry;
+use crate::parts::FunctionEntry;
 use std::alloc::{AllocError, Global};
 
 /// The number of the function that begins at an address. The functions ascend by address.
@@ -62,18 +63,18 @@ impl FunctionIds {
     pub(crate) fn new(
         alloc: Global,
         functions: &[FunctionEntry<'_>],
-        entries: &[RawMapEntry],
+        entries: &[SledEntry],
     ) -> Result<FunctionIds, AllocError>
         requires ascend { IsStrictlyIncreasing (map (λ f. f.start) functions.now) }
         requires known { All (λ e. Contains (map (λ f. f.start) functions.now)
-            (function_address (entry_of e))) entries.now }
-        requires in_order { IsNonDecreasing (map (λ e. function_address (entry_of e)) entries.now) }
+            (entry_of e).function) entries.now }
+        requires in_order { IsNonDecreasing (map (λ e. (entry_of e).function) entries.now) }
         requires few_functions { length functions.now < 2 ^ 32 }
         requires few_entries { length entries.now < 2 ^ 32 }
         ensures of_entries { IfOk result (λ ids. ids.of_entries.items
-            ≡ map (λ e. id_of (map entry_of entries.now) (function_address (entry_of e))) entries.now) }
+            ≡ map (λ e. id_of (map entry_of entries.now) (entry_of e).function) entries.now) }
         ensures functions { IfOk result (λ ids. AreNumbersOf (map (λ f. f.start) functions.now)
-            (distinct [] (map (λ e. function_address (entry_of e)) entries.now)) ids.functions.items) }
+            (distinct [] (map (λ e. (entry_of e).function) entries.now)) ids.functions.items) }
     {
         let mut ids = FunctionIds {
             of_entries: Vec::new(alloc),
@@ -81,7 +82,7 @@ impl FunctionIds {
         };
         let mut last = None;
         for entry in entries {
-            let function = entry.function_address();
+            let function = entry.function;
             let id = ids.next_id(functions, last, function)?;
             ids.of_entries.push(id)?;
             last = Some(function);

@@ -1,10 +1,10 @@
 //! The image of a traced program: the container file with its code, functions and sled map.
 //!
-//! `image/reading` reads a file: its `header`, the `parts` after it, and the units of its code
-//! (`code_units`, each by `unit_reader`). Then it checks the `functions`, the map (`sled_map`) and
-//! the `branches`, and gives `ids`. An `Image` keeps where its units begin (`unit`,
-//! `running_sums`), and finds a unit by its address (`unit_index`). `extract` prints the sled map.
-//! `format` has what readers and writers share.
+//! `image/reading` reads a file: its `header`, the `parts` after it with what the entries of the map
+//! say (`map_entry`), and the units of its code (`code_units`, each by `unit_reader`). Then it checks
+//! the `functions`, the map (`sled_map`) and the `branches`, and gives `ids`. An `Image` keeps where
+//! its units begin (`unit`, `running_sums`), and finds a unit by its address (`unit_index`).
+//! `extract` prints the sled map. `format` has what readers and writers share.
 #![tactic(auto)]
 
 mod branches;
@@ -18,6 +18,7 @@ mod header;
 mod ids;
 mod image;
 mod laws;
+mod map_entry;
 mod parts;
 mod refusal;
 mod running_sums;

@@ -2,13 +2,14 @@
 
 ghost use Rattle.std.specs.Prelude.{◌≡◌, ◌≤◌, ◌⊎◌, ℕ, List, length, map, Option, Some, None, Err, IfOk, IfErr};
 ghost use Rattle.std.specs.Option.{option_map};
-ghost use Rattle.xray_image.specs.{Container.{several, parts_of}, Table.{ReadsParts}};
+ghost use Rattle.xray_image.specs.{Container.{several, parts_of}, Header.{HasHeader}, Table.{ReadsParts}};
 ghost use Rattle.xray_image.specs.private.Views.{parts_of_view, IsHeaderOf};
 
 use crate::fault::ImageFault;
 use crate::fields::u64_at;
-use crate::format::HEADER_LENGTH;
+use crate::format::{FUNCTION_AT, HEADER_LENGTH, MAP_DISTANCE, MAP_ENTRY_LENGTH};
 use crate::header::Header;
+use crate::map_entry::{RawMapEntry, SledEntry, entries_from};
 use std::alloc::Global;
 
 /// The bytes of a function entry before its name: the start address and the name's length.
@@ -20,15 +21,8 @@ const START_AT: usize = 0;
 /// The place of the name's length in a function entry.
 const NAME_LENGTH_AT: usize = 8;
 
-/// The length of an entry of the sled map in bytes. The layout is that of `XRaySledEntry` in
-/// compiler-rt (`xray_interface_internal.h`). The bytes after the version are padding.
-const MAP_ENTRY_LENGTH: usize = 32;
-
 /// The place of the sled's address in a map entry.
 const SLED_AT: usize = 0;
-
-/// The place of the function's address in a map entry.
-const FUNCTION_AT: usize = 8;
 
 /// The place of the sled's kind in a map entry.
 const KIND_AT: usize = 16;
@@ -87,58 +81,29 @@ impl<'a> Counted<'a> for FunctionEntry<'a> {
     }
 }
 
-/// An entry of the sled map, as the file has it.
-#[derive(Clone, Copy)]
-pub(crate) struct RawMapEntry {
-    sled: u64,
-    function: u64,
-    pub(crate) kind: u8,
-    pub(crate) always: u8,
-    pub(crate) version: u8,
-}
-
 impl<'a> Counted<'a> for RawMapEntry {
-    ghost use Rattle.xray_image.specs.Container.{MapEntry, map_entry_at};
-    ghost use Rattle.xray_image.specs.private.Views.{entry_of};
+    ghost use Rattle.xray_image.specs.Container.{MapFields, map_fields_at};
+    ghost use Rattle.xray_image.specs.private.Views.{fields_of};
 
-    ghost Said = { MapEntry };
+    ghost Said = { MapFields };
 
-    ghost said = { entry_of };
+    ghost said = { fields_of };
 
-    ghost read_at = { map_entry_at };
+    ghost read_at = { map_fields_at };
 
     fn read(bytes: &'a [u8]) -> Option<(RawMapEntry, &'a [u8])> {
-        if bytes.len() < MAP_ENTRY_LENGTH {
+        if bytes.len() < MAP_ENTRY_LENGTH as usize {
             return None;
         }
         let entry = RawMapEntry {
             sled: u64_at(bytes, SLED_AT),
-            function: u64_at(bytes, FUNCTION_AT),
+            function: u64_at(bytes, FUNCTION_AT as usize),
             kind: bytes[KIND_AT],
             always: bytes[ALWAYS_AT],
             version: bytes[SLED_VERSION_AT],
         };
-        let (_, rest) = bytes.split_at(MAP_ENTRY_LENGTH);
+        let (_, rest) = bytes.split_at(MAP_ENTRY_LENGTH as usize);
         Some((entry, rest))
-    }
-}
-
-impl RawMapEntry {
-    ghost use Rattle.xray_image.specs.Container.{function_address, sled_address};
-    ghost use Rattle.xray_image.specs.private.Views.{entry_of};
-
-    /// The address of the entry's sled.
-    pub(crate) fn sled_address(&self) -> u64
-        ensures { result ≡ sled_address (entry_of self.now) }
-    {
-        self.sled
-    }
-
-    /// The address of the function that the entry says the sled lies in.
-    pub(crate) fn function_address(&self) -> u64
-        ensures { result ≡ function_address (entry_of self.now) }
-    {
-        self.function
     }
 }
 
@@ -147,7 +112,8 @@ impl RawMapEntry {
 pub(crate) struct FileParts<'a> {
     pub(crate) code: &'a [u8],
     pub(crate) functions: Vec<FunctionEntry<'a>>,
-    pub(crate) entries: Vec<RawMapEntry>,
+    /// What the entries of the sled map say.
+    pub(crate) entries: Vec<SledEntry>,
 }
 
 /// The entries of a part, as many as the header counts, and the bytes after them. Room is taken
@@ -182,7 +148,7 @@ impl<'a> FileParts<'a> {
         header: &Header,
         bytes: &'a [u8],
     ) -> Result<FileParts<'a>, ImageFault>
-        requires long { HEADER_LENGTH ≤ length bytes.now }
+        requires accepted { HasHeader bytes.now }
         requires header { IsHeaderOf bytes.now header.now }
         ensures found { IfOk result (λ parts. parts_of bytes.now ≡ Some (parts_of_view parts)) }
         ensures refused { IfErr result (λ fault. (fault ≡ ImageFault.NoMemory)
@@ -195,14 +161,14 @@ impl<'a> FileParts<'a> {
         }
         let (code, rest) = following.split_at(code_length);
         let (functions, rest) = read_entries::<FunctionEntry>(alloc, header.functions, rest)?;
-        let (entries, rest) = read_entries::<RawMapEntry>(alloc, header.entries, rest)?;
+        let (raw, rest) = read_entries::<RawMapEntry>(alloc, header.entries, rest)?;
         if !rest.is_empty() {
             return Err(ImageFault::Trailing);
         }
         Ok(FileParts {
             code,
             functions,
-            entries,
+            entries: entries_from(alloc, header.base + MAP_DISTANCE, &raw)?,
         })
     }
 }

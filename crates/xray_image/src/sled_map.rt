@@ -2,7 +2,6 @@
 
 ghost use Rattle.std.specs.Prelude.{◌≡◌, ◌<◌, ◌≤◌, ◌^◌, ◌↔◌, ◌-ℤ◌, ◌+◌, ℕ, All, pos, length, map, IsTrue, OnOk, IfOk, IfErr, FitsSigned};
 ghost use Rattle.std.specs.{List.{zip}, Int.{w32}};
-ghost use Rattle.xray_image.specs.Container.{function_address};
 ghost use Rattle.xray_image.specs.private.Judging.{Ascend};
 ghost use Rattle.xray_image.specs.Program.{KindFits, LiesIn, IsEntryOf, Reaches, kind_of, id_of, sled_of};
 ghost use Rattle.xray_image.specs.private.Reading.{IsFirstFault};
@@ -13,17 +12,17 @@ use crate::code_units::SledSpot;
 use crate::fault::ImageFault;
 use crate::format::SLED_LENGTH;
 use crate::header::Trampolines;
-use crate::parts::{FunctionEntry, RawMapEntry};
+use crate::map_entry::SledEntry;
+use crate::parts::FunctionEntry;
 use crate::sled::{Sled, SledKind};
 use std::alloc::{AllocError, Global};
 
-/// How many versions of map entries are known: 0 and 1, whose addresses are absolute. In compiler-rt
-/// those of version 2 are relative (`XRaySledEntry::address`).
-const KNOWN_VERSIONS: u8 = 2;
+/// How many versions of map entries are known: 0 to 2.
+const KNOWN_VERSIONS: u8 = 3;
 
 /// Checks that the map has one entry for each sled, in the order of the sleds. `MapOrder` gives the
 /// first number whose entry and sled don't share one address.
-pub(crate) fn check_order(spots: &[SledSpot], entries: &[RawMapEntry]) -> Result<(), ImageFault>
+pub(crate) fn check_order(spots: &[SledSpot], entries: &[SledEntry]) -> Result<(), ImageFault>
     requires spots { length spots.now < 2 ^ 32 }
     requires entries { length entries.now < 2 ^ 32 }
     ensures ordered { OnOk result ((i : ℕ)
@@ -35,7 +34,7 @@ pub(crate) fn check_order(spots: &[SledSpot], entries: &[RawMapEntry]) -> Result
         if number >= spots.len() {
             return Err(ImageFault::MapOrder(number as u32));
         }
-        if spots[number].address != entry.sled_address() {
+        if spots[number].address != entry.sled {
             return Err(ImageFault::MapOrder(number as u32));
         }
     }
@@ -67,12 +66,12 @@ fn may_have_kind(returns: bool, kind: u8) -> bool
 }
 
 /// Whether an entry agrees with the code about a sled.
-fn is_entry_of(functions: &[FunctionEntry<'_>], spot: &SledSpot, entry: &RawMapEntry) -> bool
+fn is_entry_of(functions: &[FunctionEntry<'_>], spot: &SledSpot, entry: &SledEntry) -> bool
     requires { Ascend (map function_of functions.now) }
     ensures { IsTrue result
         ↔ IsEntryOf (map function_of functions.now) (place_of spot.now) (entry_of entry.now) }
 {
-    lies_in(functions, spot.address, entry.function_address())
+    lies_in(functions, spot.address, entry.function)
         && may_have_kind(spot.returns, entry.kind)
         && entry.version < KNOWN_VERSIONS
 }
@@ -82,7 +81,7 @@ fn is_entry_of(functions: &[FunctionEntry<'_>], spot: &SledSpot, entry: &RawMapE
 pub(crate) fn check_entries(
     functions: &[FunctionEntry<'_>],
     spots: &[SledSpot],
-    entries: &[RawMapEntry],
+    entries: &[SledEntry],
 ) -> Result<(), ImageFault>
     requires few { length entries.now < 2 ^ 32 }
     requires spots { length entries.now ≤ length spots.now }
@@ -125,7 +124,7 @@ fn reaches(sled: u64, trampoline: u64) -> bool
 pub(crate) fn check_distances(
     trampolines: &Trampolines,
     spots: &[SledSpot],
-    entries: &[RawMapEntry],
+    entries: &[SledEntry],
 ) -> Result<(), ImageFault>
     requires few { length entries.now < 2 ^ 32 }
     requires spots { length entries.now ≤ length spots.now }
@@ -148,12 +147,12 @@ pub(crate) fn check_distances(
 pub(crate) fn read_sleds(
     alloc: Global,
     spots: &[SledSpot],
-    entries: &[RawMapEntry],
+    entries: &[SledEntry],
     ids: &[u32],
 ) -> Result<Vec<Sled>, AllocError>
     requires spots { length entries.now ≤ length spots.now }
     requires kinds { All (λ e. e.kind < 4) entries.now }
-    requires ids { ids.now ≡ map (λ e. id_of (map entry_of entries.now) (function_address (entry_of e))) entries.now }
+    requires ids { ids.now ≡ map (λ e. id_of (map entry_of entries.now) (entry_of e).function) entries.now }
     ensures { IfOk result (λ sleds. sleds.items
         ≡ map (sled_of (map entry_of entries.now)) (zip (map place_of spots.now) (map entry_of entries.now))) }
 {
@@ -162,7 +161,7 @@ pub(crate) fn read_sleds(
         let spot = &spots[number];
         sleds.push(Sled {
             address: spot.address,
-            function: entry.function_address(),
+            function: entry.function,
             id: ids[number],
             kind: kind_of(entry.kind),
             always: entry.always != 0,

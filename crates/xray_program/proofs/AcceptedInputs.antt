@@ -141,8 +141,8 @@ accepted_done is held (Run i s t a options) (program, plan, at, of_script) =
 accepted_done is held (Plain i bounds) (program, at) =
     accepted_take image_form is held i (plain_next bounds) program at (left_done (λ outputs text. (outputs ≡ []) × PlainPrints program bounds text))
 accepted_done is held (Extract i) (program, at) = accepted_take image_form is held i extract_next program at (λ outcome same. ap status_of same)
-accepted_done is held (Asm t i threshold) (file, at) =
-    accepted_take (text_form threshold) (decided_by (codes "text") text_limit (λ bytes. assembled bytes threshold) asm_words) held t (asm_next i) file at
+accepted_done is held (Asm t i threshold relative) (file, at) =
+    accepted_take (text_form threshold relative) (decided_by (codes "text") text_limit (λ bytes. assembled bytes threshold relative) asm_words) held t (asm_next i) file at
     (λ outcome same. ap status_of same)
 accepted_done is held (Account t i options) at =
     report_done is held t i (λ u. ⊤) (account_next options) at (λ u program so outcome same. ap status_of same)
@@ -215,8 +215,8 @@ not_7 held (Plain i bounds) =
     take_not_7 image_form held i (plain_next bounds)
     (λ p. done_not_7 (plain_next bounds p) (left_done (λ outputs text. (outputs ≡ []) × PlainPrints p bounds text)))
 not_7 held (Extract i) = take_not_7 image_form held i extract_next (λ p. done_not_7 (extract_next p) (λ outcome same. ap status_of same))
-not_7 held (Asm t i threshold) =
-    take_not_7 (text_form threshold) held t (asm_next i) (λ file. done_not_7 (asm_next i file) (λ outcome same. ap status_of same))
+not_7 held (Asm t i threshold relative) =
+    take_not_7 (text_form threshold relative) held t (asm_next i) (λ file. done_not_7 (asm_next i file) (λ outcome same. ap status_of same))
 not_7 held (Account t i options) =
     report_not_7 held t i (account_next options) (λ u program. done_not_7 (account_next options u program) (λ outcome same. ap status_of same))
 not_7 held (Stack t i format) =

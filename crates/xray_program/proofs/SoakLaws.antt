@@ -1,5 +1,5 @@
 -- `soak`: one thing comes of it, and something in any case.
-use Rattle.std.proofs.Common.{◌≡◌, ◌≤◌, ◌∙◌, ℕ, List, [], Ok, Result, refl, sym, ap, subst, arith}
+use Rattle.std.proofs.Common.{◌≡◌, ◌≤◌, ◌∙◌, ℕ, false, List, [], Ok, Result, refl, sym, ap, subst, arith}
 use Rattle.asm_text.specs.Assembling.{assembled, image_of, statements_said}
 use Rattle.asm_text.specs.Layout.{StatementLines}
 use Rattle.asm_text.specs.Programs.{program_said}
@@ -50,14 +50,14 @@ soak_plan number = written_plan (soak_program number) 4 (soak_commands number)
 pub enough : InputLaws → (number : ℕ) → 64 ≤ id_count (soak_program number)
 enough laws number = omega (arith, laws.ids number 1)
 
-pub assembled_as : (text : List ℕ) (said : StatementLines) → statements_said text ≡ Ok said → assembled text 1 ≡ Ok (image_bytes (image_of 1 said))
+pub assembled_as : (text : List ℕ) (said : StatementLines) → statements_said text ≡ Ok said → assembled text 1 false ≡ Ok (image_bytes (image_of 1 false said))
 assembled_as text said is = rw is refl
 
 pub inputs_read : InputLaws → (number : ℕ) → AreInputs number (soak_program number) (soak_plan number) (soak_turns number)
 inputs_read laws number = record {
-  image = image_bytes (image_of 1 (soak_said number));
+  image = image_bytes (image_of 1 false (soak_said number));
   assembles = assembled_as (soak_text number) (soak_said number) (laws.said number);
-  accepted = laws.assembles (soak_text number) 1 (soak_said number) (laws.said number);
+  accepted = laws.assembles (soak_text number) 1 false (soak_said number) (laws.said number);
   script_reads = laws.plan number (soak_program number) (enough laws number);
   nobody_waits = laws.waits number (soak_program number) (enough laws number);
   schedule_reads = laws.schedule number;

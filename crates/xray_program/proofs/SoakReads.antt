@@ -1,5 +1,5 @@
 -- The inputs of a number as they are read, and the summary of their replay.
-use Rattle.std.proofs.Common.{◌≡◌, ◌⊎◌, ◌↔◌, ◌∙◌, ℕ, List, length, None, Option, Some, Ok, Err, Result, inl, inr, refl, sym, ap, subst}
+use Rattle.std.proofs.Common.{◌≡◌, ◌⊎◌, ◌↔◌, ◌∙◌, ℕ, false, List, length, None, Option, Some, Ok, Err, Result, inl, inr, refl, sym, ap, subst}
 use Rattle.std.specs.Prelude.{IfErr, IfOk, Vec}
 use Rattle.std.specs.declared.alloc.Global.{Global}
 use Rattle.account_report.specs.declared.row.AccountRow.{AccountRow}
@@ -74,7 +74,7 @@ each_value wanting (Err e) answer value is either = tt
 -- ---- the text
 
 abbrev pub Made : List ℕ → Result (Vec ℕ Global) AsmFault → Type 0
-Made text answer = (answer ≡ Err asm_faults.NoMemory) ⊎ (seen answer ≡ assembled text 1)
+Made text answer = (answer ≡ Err asm_faults.NoMemory) ⊎ (seen answer ≡ assembled text 1 false)
 
 pub text_unrefused : (text : List ℕ) (said : StatementLines) (answer : Result (Vec ℕ Global) AsmFault) → statements_said text ≡ Ok said → Made text answer
     → IfErr answer (λ fault. asm_words fault ≡ None)

@@ -43,7 +43,7 @@ AreAccepted held (Run image script trace audit options) =
     × HoldsInput (script_form program options.bounds.threads) (held script) plan
 AreAccepted held (Plain image bounds) = (program : Program) × HoldsInput image_form (held image) program
 AreAccepted held (Extract image) = (program : Program) × HoldsInput image_form (held image) program
-AreAccepted held (Asm text image threshold) = (file : List ℕ) × HoldsInput (text_form threshold) (held text) file
+AreAccepted held (Asm text image threshold relative) = (file : List ℕ) × HoldsInput (text_form threshold relative) (held text) file
 AreAccepted held (Account trace image options) = HoldsReport held trace image (λ t. ⊤)
 AreAccepted held (Stack trace image format) = HoldsReport held trace image (λ t. deep_in most_open t.blocks ≡ None)
 AreAccepted held (Convert trace image) = HoldsReport held trace image (λ t. ⊤)
@@ -77,7 +77,7 @@ AcceptsInputs held (Run image script trace audit options) count =
     AcceptsInput (script_form program options.bounds.threads) held script (λ plan later. ⊤)) count
 AcceptsInputs held (Plain image bounds) count = AcceptsInput image_form held image (λ program later. ⊤) count
 AcceptsInputs held (Extract image) count = AcceptsInput image_form held image (λ program later. ⊤) count
-AcceptsInputs held (Asm text image threshold) count = AcceptsInput (text_form threshold) held text (λ file later. ⊤) count
+AcceptsInputs held (Asm text image threshold relative) count = AcceptsInput (text_form threshold relative) held text (λ file later. ⊤) count
 AcceptsInputs held (Account trace image options) count = AcceptsReport trace_form held trace image count
 AcceptsInputs held (Stack trace image format) count = AcceptsReport trace_form held trace image count
 AcceptsInputs held (Convert trace image) count = AcceptsReport trace_form held trace image count

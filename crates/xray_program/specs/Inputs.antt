@@ -1,5 +1,5 @@
 -- The kinds of input.
-use Rattle.std.specs.Prelude.{◌≡◌, Result, Ok, Err, ℕ, List, [], ◌∷◌, Option, Some, None, codes, unwrap_or}
+use Rattle.std.specs.Prelude.{◌≡◌, Result, Ok, Err, ℕ, Bool, List, [], ◌∷◌, Option, Some, None, codes, unwrap_or}
 use Rattle.command_words.specs.Limits.{trace_limit}
 use Rattle.xray_image.specs.Program.{Program, IsAccepted}
 use Rattle.xray_image.specs.declared.fault.ImageFault.{ImageFault}
@@ -62,8 +62,8 @@ form_by {X} {F} kind limit judge words = record {
 }
 
 -- the text of `asm`, which reads as the image file that it is assembled to
-abbrev pub text_form : ℕ → Form (List ℕ)
-text_form threshold = form_by (codes "text") text_limit (λ bytes. assembled bytes threshold) asm_words
+abbrev pub text_form : (threshold : ℕ) (relative : Bool) → Form (List ℕ)
+text_form threshold relative = form_by (codes "text") text_limit (λ bytes. assembled bytes threshold relative) asm_words
 
 -- the script of a run, for a program and a number of threads
 abbrev pub script_form : Program → ℕ → Form Plan

@@ -1,5 +1,5 @@
 -- `soak`: a replay over large inputs that are drawn from a number, and a summary of it.
-use Rattle.std.specs.Prelude.{◌≡◌, ℕ, List, ◌++◌, length, None, Ok, codes, decimal, sum_by}
+use Rattle.std.specs.Prelude.{◌≡◌, ℕ, false, List, ◌++◌, length, None, Ok, codes, decimal, sum_by}
 use Rattle.account_report.specs.Account.{account_of}
 use Rattle.account_report.specs.declared.row.AccountRow.{AccountRow}
 use Rattle.asm_text.specs.Assembling.{assembled}
@@ -33,11 +33,11 @@ soak_setup = record {
   frequency = 0;
 }
 
--- The inputs of a number as they are read; none of them is refused. The text is assembled, and a function of one
--- instruction line gets sleds. Its image is accepted. Nobody waits in the script.
+-- The inputs of a number as they are read; none of them is refused. The text is assembled, with absolute addresses in
+-- its map, and a function of one instruction line gets sleds. Its image is accepted. Nobody waits in the script.
 pub record AreInputs (number : ℕ) (program : Program) (plan : Plan) (turns : List Turns) : Type 0 where
   pub image : List ℕ
-  pub assembles : assembled (soak_text number) 1 ≡ Ok image
+  pub assembles : assembled (soak_text number) 1 false ≡ Ok image
   pub accepted : IsAccepted image program
   pub script_reads : plan_of program soak_setup.threads (soak_script number) ≡ Ok plan
   pub nobody_waits : waiting_line plan.lines ≡ None

@@ -19,6 +19,8 @@ pub(crate) struct Asm<'a> {
     pub(crate) image: &'a str,
     /// The least number of instruction lines with which a function gets sleds.
     pub(crate) threshold: u32,
+    /// Whether the addresses of the sled map are relative.
+    pub(crate) relative: bool,
 }
 
 impl<'a> Work<'a> for Asm<'a> {
@@ -28,7 +30,7 @@ impl<'a> Work<'a> for Asm<'a> {
 
     type Inputs = ImageFile;
 
-    ghost says = { λ a. words.Asm a.text.now a.image.now a.threshold };
+    ghost says = { λ a. words.Asm a.text.now a.image.now a.threshold a.relative };
 
     ghost yields = { λ a file outcome. outcome ≡ Done ((a.image.now, file) ∷ []) [] };
 
@@ -37,6 +39,7 @@ impl<'a> Work<'a> for Asm<'a> {
     fn take<D: Desk>(&self, alloc: Global, desk: &mut D) -> Result<ImageFile, Stop<'a>> {
         let kind = TextKind {
             threshold: self.threshold,
+            relative: self.relative,
         };
         take(alloc, desk, self.text, &kind)
     }

@@ -301,11 +301,13 @@ fn perform_other<'a, D: Desk, O: Sink>(
             text,
             image,
             threshold,
+            relative,
         } => {
             let asm = Asm {
                 text,
                 image,
                 threshold,
+                relative,
             };
             perform(alloc, &asm, desk, out)
         }

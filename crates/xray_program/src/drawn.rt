@@ -108,7 +108,7 @@ fn image_of(alloc: Global, text: &[u8]) -> Result<Image, NoMemory>
     ensures { (said : StatementLines) → statements_said text.now ≡ Ok said
         → IfOk result (λ program. program ≡ program_said 1 said) }
 {
-    let file = unrefused(assemble(alloc, text, THRESHOLD))?;
+    let file = unrefused(assemble(alloc, text, THRESHOLD, false))?;
     unrefused(read_image(alloc, &file))
 }
 

@@ -61,6 +61,8 @@ impl Kind for ImageKind {
 pub(crate) struct TextKind {
     /// The least number of instruction lines with which a function gets sleds.
     pub(crate) threshold: u32,
+    /// Whether the addresses of the sled map are relative.
+    pub(crate) relative: bool,
 }
 
 impl Kind for TextKind {
@@ -71,7 +73,7 @@ impl Kind for TextKind {
 
     type Refusal = AsmFault;
 
-    ghost form = { λ k. text_form k.threshold };
+    ghost form = { λ k. text_form k.threshold k.relative };
 
     ghost fits = { λ _ _. ⊤ };
 
@@ -84,7 +86,7 @@ impl Kind for TextKind {
     }
 
     fn judge(&self, alloc: Global, bytes: &[u8]) -> Result<ImageFile, AsmFault> {
-        match assemble(alloc, bytes, self.threshold) {
+        match assemble(alloc, bytes, self.threshold, self.relative) {
             Ok(bytes) => Ok(ImageFile { bytes }),
             Err(fault) => Err(fault),
         }

@@ -1,5 +1,5 @@
 -- The lines of a YAML document, as they are put together.
-use Rattle.std.proofs.Common.{◌≡◌, ◌⊎◌, inl, inr, ◌++◌, ◌∙◌, ◌||◌, ◌<◌, arith, ℕ, Bool, true, cond, Option, List, [], ◌∷◌, length, map, nat_lt, refl, sym, ap, append_assoc}
+use Rattle.std.proofs.Common.{◌≡◌, ◌++◌, ◌∙◌, ◌||◌, ◌<◌, arith, ℕ, Bool, true, cond, Option, List, [], ◌∷◌, length, map, nat_lt, refl, sym, ap, append_assoc}
 use Rattle.std.specs.Prelude.{codes, decimal, Ok}
 use Rattle.std.specs.List.{flat_map, list_any}
 use Rattle.std.proofs.lemmas.Bool.Decides.{nat_tests}
@@ -7,15 +7,14 @@ use Rattle.std.proofs.lemmas.List.{append-nil}
 use Rattle.std.proofs.lemmas.List.Concat.{flat_map-append}
 use Rattle.std.proofs.lemmas.List.Folds.{flat_map-map}
 use Rattle.fdr_record.specs.declared.event.Event.{Event}
-use Rattle.fdr_record.specs.declared.event.Kind.{Kind}
-use Rattle.fdr_record.specs.declared.event.Kind.TheVariants.{Entry, Exit, TailExit, EntryArgs}
 use Rattle.fdr_file.specs.declared.header.Header.{Header}
 use Rattle.fdr_file.specs.declared.trace.Block.{Block}
 use Rattle.fdr_file.specs.declared.trace.Trace.{Trace}
 use Rattle.fdr_file.specs.ThreadEvents.{ThreadEvent, block_events, thread_events}
 use Rattle.fdr_file.specs.Traces.{trace_of}
 use Rattle.xray_image.specs.Program.{Program}
-use Rattle.yaml_convert.specs.Yaml.{arg_text, event_counter, event_line, event_stamp, event_start, header_text, kind_text, records_start, records_text, truth_text, yaml_of_bytes, yaml_read, yaml_text}
+use Rattle.yaml_convert.specs.private.Stamps.{happened_text, stamp_text}
+use Rattle.yaml_convert.specs.Yaml.{arg_text, event_counter, event_end, event_line, event_start, header_text, kind_text, records_start, records_text, truth_text, yaml_of_bytes, yaml_read, yaml_text}
 
 -- ---- pieces
 
@@ -27,27 +26,30 @@ pub header_pieces : (header : Header) (version frequency : ℕ) (constant nonsto
 header_pieces header version frequency constant nonstop same_version same_constant same_nonstop same_frequency =
     rw (same_version, same_constant, same_nonstop, same_frequency) (simp append_assoc)
 
-pub start_pieces : (event : Event) (func : ℕ) → func ≡ event.func
-    → codes "  - { type: 0, func-id: " ++ (decimal func ++ (codes ", function: '" ++ [])) ≡ event_start event
-start_pieces event func same = rw same (simp append_assoc)
+-- ---- rows
 
-pub stamp_pieces : (e : ThreadEvent) (cpu thread pid : ℕ) (kind : List ℕ) → cpu ≡ e.event.cpu → thread ≡ e.thread → pid ≡ e.pid → kind ≡ kind_text e.event.kind
-    → codes "', cpu: " ++ (decimal cpu ++ (codes ", thread: " ++ (decimal thread ++ (codes ", process: " ++ (decimal pid ++ (codes ", kind: " ++ (kind ++ [])))))))
-    ≡ event_stamp e
-stamp_pieces e cpu thread pid kind same_cpu same_thread same_pid same_kind =
-    rw (same_cpu, same_thread, same_pid, same_kind, append-nil (kind_text e.event.kind)) (simp append_assoc)
+pub start_row : (event : Event) (func : ℕ) (r r1 r2 r3 : List ℕ) → func ≡ event.func → r ≡ [] → r1 ≡ codes ", function: '" ++ r → r2 ≡ decimal func ++ r1
+    → r3 ≡ codes "  - { type: 0, func-id: " ++ r2 → r3 ≡ event_start event
+start_row event func r r1 r2 r3 same e e1 e2 e3 = rw (e3, e2, e1, e, same) (simp append_assoc)
 
-pub counter_pieces : (event : Event) (tsc : ℕ) → tsc ≡ event.tsc → codes ", tsc: " ++ (decimal tsc ++ (codes " }\n" ++ [])) ≡ event_counter event
-counter_pieces event tsc same = rw same (simp append_assoc)
+pub stamp_row : (cpu thread pid c t p : ℕ) (r r1 r2 r3 r4 r5 r6 r7 : List ℕ) → c ≡ cpu → t ≡ thread → p ≡ pid → r ≡ [] → r1 ≡ codes ", kind: " ++ r
+    → r2 ≡ decimal p ++ r1 → r3 ≡ codes ", process: " ++ r2 → r4 ≡ decimal t ++ r3 → r5 ≡ codes ", thread: " ++ r4 → r6 ≡ decimal c ++ r5
+    → r7 ≡ codes "', cpu: " ++ r6 → r7 ≡ stamp_text cpu thread pid
+stamp_row cpu thread pid c t p r r1 r2 r3 r4 r5 r6 r7 same_cpu same_thread same_pid e e1 e2 e3 e4 e5 e6 e7 =
+    rw (e7, e6, e5, e4, e3, e2, e1, e, same_cpu, same_thread, same_pid) (simp append_assoc)
 
-pub arg_pieces : (kind : Kind) (arg n : ℕ) → n ≡ arg → kind ≡ EntryArgs → codes ", args: [ " ++ (decimal n ++ (codes " ]" ++ [])) ≡ arg_text kind arg
-arg_pieces kind arg n same is = rw (same, is) (simp append_assoc)
+pub happened_row : (event : Event) (r r1 r2 r3 r4 r5 : List ℕ) → r ≡ [] → r1 ≡ codes " }\n" ++ r → r2 ≡ decimal event.tsc ++ r1 → r3 ≡ codes ", tsc: " ++ r2
+    → r4 ≡ arg_text event.kind event.arg ++ r3 → r5 ≡ kind_text event.kind ++ r4 → r5 ≡ happened_text event
+happened_row event r r1 r2 r3 r4 r5 e e1 e2 e3 e4 e5 = rw (e5, e4, e3, e2, e1, e) (simp append_assoc)
 
--- an event that logs no argument has none in its line
-pub no_arg : (kind : Kind) (arg : ℕ) → (kind ≡ Entry) ⊎ (kind ≡ Exit) ⊎ (kind ≡ TailExit) → arg_text kind arg ≡ []
-no_arg kind arg (inl is) = ap (λ (k : Kind). arg_text k arg) is
-no_arg kind arg (inr (inl is)) = ap (λ (k : Kind). arg_text k arg) is
-no_arg kind arg (inr (inr is)) = ap (λ (k : Kind). arg_text k arg) is
+-- the text after a name is put together of the stamp and what happened
+pub end_whole : (e : ThreadEvent) → stamp_text e.event.cpu e.thread e.pid ++ happened_text e.event ≡ event_end e
+end_whole e =
+    let stamp = stamp_text e.event.cpu e.thread e.pid in
+    let kind = kind_text e.event.kind in
+    let arg = arg_text e.event.kind e.event.arg in
+    let counter = event_counter e.event in
+    sym (ap (λ (t : List ℕ). t ++ counter) (append_assoc stamp kind arg) ∙ append_assoc stamp (kind ++ arg) counter)
 
 -- ---- whether there is an event
 

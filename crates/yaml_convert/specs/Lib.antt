@@ -1,1 +1,2 @@
 pub mod Yaml
+pub mod private

@@ -1,6 +1,9 @@
 //! Traces as YAML.
 #![tactic(auto)]
 
+mod line;
+mod row;
+mod stamp;
 mod yaml;
 mod yaml_bytes;
 

@@ -3,11 +3,12 @@
 ghost use Rattle.std.specs.{Prelude.{◌≡◌, ⊤, length, nat_lt}, List.{flat_map, list_any}, Option.{option_map}};
 ghost use Rattle.fdr_file.specs.ThreadEvents.{block_events, thread_events};
 ghost use Rattle.xray_io.specs.{Piece.{piece_text}, Text.{AddsText}, Writes.{WritesText}};
-ghost use Rattle.yaml_convert.specs.Yaml.{arg_text, event_counter, event_end, event_line, header_text, kind_text, records_start, records_text, truth_text, yaml_text};
+ghost use Rattle.yaml_convert.specs.Yaml.{event_line, header_text, records_start, records_text, truth_text, yaml_text};
 
+use crate::line::add_event;
+use crate::stamp::Stamp;
 use fdr_file::{Block, Header, Trace};
-use fdr_record::{Event, Kind};
-use function_names::add_name;
+use fdr_record::Event;
 use xray_image::Image;
 use xray_io::{Piece, Printed, Sink, Text, WriteFault, write_text};
 
@@ -79,7 +80,7 @@ fn add_records<S: Sink>(text: &mut Text<S>, yaml: &YamlText) -> Result<(), Write
 {
     let blocks = yaml.trace.blocks.as_slice();
     text.bytes(records_line(blocks))?;
-    add_blocks(text, blocks, yaml.image)
+    add_blocks(text, &mut Stamp::new(0, 0, 0), blocks, yaml.image)
 }
 
 /// The text that the records begin with.
@@ -110,6 +111,7 @@ fn has_event(block: &Block) -> bool
 /// Adds the lines of blocks.
 fn add_blocks<S: Sink>(
     text: &mut Text<S>,
+    stamp: &mut Stamp,
     blocks: &[Block],
     image: Option<&Image>,
 ) -> Result<(), WriteFault>
@@ -118,7 +120,7 @@ fn add_blocks<S: Sink>(
         (block_events block)) blocks.now) result }
 {
     'lines: for block in blocks {
-        add_block(text, block, image)?;
+        add_block(text, stamp, block, image)?;
     }
     Ok(())
 }
@@ -126,6 +128,7 @@ fn add_blocks<S: Sink>(
 /// Adds a line for each event of a block.
 fn add_block<S: Sink>(
     text: &mut Text<S>,
+    stamp: &mut Stamp,
     block: &Block,
     image: Option<&Image>,
 ) -> Result<(), WriteFault>
@@ -135,6 +138,7 @@ fn add_block<S: Sink>(
 {
     add_events(
         text,
+        stamp,
         block.thread,
         block.pid,
         block.events.as_slice(),
@@ -145,6 +149,7 @@ fn add_block<S: Sink>(
 /// Adds the lines of events of a thread.
 fn add_events<S: Sink>(
     text: &mut Text<S>,
+    stamp: &mut Stamp,
     thread: u32,
     pid: u32,
     events: &[Event],
@@ -155,93 +160,9 @@ fn add_events<S: Sink>(
         (record { thread = thread; pid = pid; event = event })) events.now) result }
 {
     'lines: for event in events {
-        add_event(text, thread, pid, event, image)?;
+        add_event(text, stamp, thread, pid, event, image)?;
     }
     Ok(())
-}
-
-/// Adds the line of an event.
-pub(crate) fn add_event<S: Sink>(
-    text: &mut Text<S>,
-    thread: u32,
-    pid: u32,
-    event: &Event,
-    image: Option<&Image>,
-) -> Result<(), WriteFault>
-    ensures { AddsText S.written S.faults S.along text.old text.new
-        (event_line (option_map (λ image. image.now) image.entry)
-        (record { thread = thread; pid = pid; event = event.now })) result }
-{
-    text.pieces(&[
-        Piece::Bytes(b"  - { type: 0, func-id: "),
-        Piece::Number(u128::from(event.func)),
-        Piece::Bytes(b", function: '"),
-    ])?;
-    add_name(text, image, event.func)?;
-    add_end(text, thread, pid, event)
-}
-
-/// Adds the text after the name of its function.
-fn add_end<S: Sink>(
-    text: &mut Text<S>,
-    thread: u32,
-    pid: u32,
-    event: &Event,
-) -> Result<(), WriteFault>
-    ensures { AddsText S.written S.faults S.along text.old text.new
-        (event_end (record { thread = thread; pid = pid; event = event.now })) result }
-{
-    text.pieces(&[
-        Piece::Bytes(b"', cpu: "),
-        Piece::Number(u128::from(event.cpu)),
-        Piece::Bytes(b", thread: "),
-        Piece::Number(u128::from(thread)),
-        Piece::Bytes(b", process: "),
-        Piece::Number(u128::from(pid)),
-        Piece::Bytes(b", kind: "),
-        kind_word(event.kind),
-    ])?;
-    add_arg(text, event)?;
-    add_counter(text, event)
-}
-
-/// Adds the argument of an event, if it logs one.
-fn add_arg<S: Sink>(text: &mut Text<S>, event: &Event) -> Result<(), WriteFault>
-    ensures { AddsText S.written S.faults S.along text.old text.new
-        (arg_text event.now.kind event.now.arg) result }
-{
-    match event.kind {
-        Kind::Entry | Kind::Exit | Kind::TailExit => Ok(()),
-        Kind::EntryArgs => text.pieces(&[
-            Piece::Bytes(b", args: [ "),
-            Piece::Number(u128::from(event.arg)),
-            Piece::Bytes(b" ]"),
-        ]),
-    }
-}
-
-/// Adds the counter of an event, which ends its line.
-fn add_counter<S: Sink>(text: &mut Text<S>, event: &Event) -> Result<(), WriteFault>
-    ensures { AddsText S.written S.faults S.along text.old text.new
-        (event_counter event.now) result }
-{
-    text.pieces(&[
-        Piece::Bytes(b", tsc: "),
-        Piece::Number(u128::from(event.tsc)),
-        Piece::Bytes(b" }\n"),
-    ])
-}
-
-/// The word for a kind of events.
-fn kind_word(kind: Kind) -> Piece<'static>
-    ensures { piece_text result ≡ kind_text kind }
-{
-    match kind {
-        Kind::Entry => Piece::Bytes(b"function-enter"),
-        Kind::Exit => Piece::Bytes(b"function-exit"),
-        Kind::TailExit => Piece::Bytes(b"function-tail-exit"),
-        Kind::EntryArgs => Piece::Bytes(b"function-enter-arg"),
-    }
 }
 
 /// The word for a yes or no.

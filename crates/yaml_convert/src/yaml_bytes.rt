@@ -7,7 +7,9 @@ ghost use Rattle.fdr_file.specs.EventsLeft.{events_left};
 ghost use Rattle.xray_io.specs.{Text.{AddsText}, Writes.{WritesText}};
 ghost use Rattle.yaml_convert.specs.Yaml.{event_line, records_text, yaml_of_bytes, yaml_text};
 
-use crate::yaml::{add_event, add_header};
+use crate::line::add_event;
+use crate::stamp::Stamp;
+use crate::yaml::add_header;
 use fdr_file::EventCursor;
 use xray_image::Image;
 use xray_io::{Printed, Sink, Text, WriteFault, write_text};
@@ -68,8 +70,9 @@ fn add_given<S: Sink>(
         None => text.bytes(b"records: []\n"),
         Some((thread, pid, event)) => {
             text.bytes(b"records:\n")?;
-            add_event(text, thread, pid, &event, image)?;
-            add_lines(text, cursor, image)
+            let mut stamp = Stamp::new(event.cpu, thread, pid);
+            add_event(text, &mut stamp, thread, pid, &event, image)?;
+            add_lines(text, &mut stamp, cursor, image)
         }
     }
 }
@@ -77,6 +80,7 @@ fn add_given<S: Sink>(
 /// Adds the lines of these events.
 fn add_lines<S: Sink>(
     text: &mut Text<S>,
+    stamp: &mut Stamp,
     cursor: &mut EventCursor,
     image: Option<&Image>,
 ) -> Result<(), WriteFault>
@@ -85,7 +89,7 @@ fn add_lines<S: Sink>(
         (events_left cursor.old)) result }
 {
     'lines: while let Some((thread, pid, event)) = cursor.next() {
-        add_event(text, thread, pid, &event, image)?;
+        add_event(text, stamp, thread, pid, &event, image)?;
     }
     Ok(())
 }

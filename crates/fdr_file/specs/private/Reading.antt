@@ -14,7 +14,7 @@ use Rattle.fdr_file.specs.declared.header.Header.{Header}
 use Rattle.fdr_file.specs.declared.trace.Block.{Block}
 use Rattle.fdr_file.specs.declared.trace.Trace.{Trace}
 use Rattle.fdr_file.specs.declared.version.Version.{Version}
-use Rattle.fdr_file.specs.declared.version.Version.TheVariants.{Three}
+use Rattle.fdr_file.specs.declared.version.Version.TheVariants.{Two, Three}
 use Rattle.fdr_file.specs.Scanning.{step_on}
 use Rattle.fdr_file.specs.Traces.{Standing, block_in, fault_at, preamble_bytes, record_in, record_length, pid_named, size_named, standings, thread_named, wall_named}
 use Rattle.fdr_file.specs.private.Faults.{block_faults, decided}
@@ -64,8 +64,9 @@ named_on named left = do
   first ← record_on left
   named_or left.0 (named first.0) first.1
 
--- the process that a block of this version names after its thread and wall time
+-- the process that a block of this version names after its thread and wall time, or 0 if it names none
 unfoldable pub pid_on : Version → Left → Result (ℕ × Left) TraceFault
+pid_on Two left = Ok (0, left)
 pid_on Three left = named_on pid_named left
 
 unfoldable pub preamble_on : Version → Left → Result (ℕ × Wall × ℕ × Left) TraceFault

@@ -17,10 +17,11 @@ use Rattle.xray_image.specs.declared.code_units.CodeUnits.{CodeUnits}
 use Rattle.subset_decode.specs.Refusals.{Refuses}
 use Rattle.xray_image.specs.Table.{BeginsAsSled}
 use Rattle.xray_image.specs.Units.{SledPlace, Piece, Instruction, JumpSled, ReturnSled, Align}
-use Rattle.xray_image.specs.declared.parts.RawMapEntry.{RawMapEntry}
+use Rattle.xray_image.specs.declared.map_entry.RawMapEntry.{RawMapEntry}
+use Rattle.xray_image.specs.declared.map_entry.SledEntry.{SledEntry}
 use Rattle.xray_image.specs.declared.parts.FileParts.{FileParts}
 use Rattle.xray_image.specs.private.UnitTable.{units_in, IsSoundTable}
-use Rattle.xray_image.specs.Container.{Function, MapEntry, Parts, version, base_address, code_length, function_count, entry_count, entry_index, number8_at}
+use Rattle.xray_image.specs.Container.{Function, MapEntry, MapFields, Parts, version, base_address, code_length, function_count, entry_count, entry_index, number8_at}
 
 abbrev pub trampolines_of : Addresses → Trampolines
 trampolines_of t = record { entry = t.entry; exit = t.exit; tail = t.tail; args = t.args }
@@ -41,7 +42,10 @@ pub record IsHeaderOf (bytes : List ℕ) (h : Header) : Type 0 where
 abbrev pub function_of : FunctionEntry → Function
 function_of f = record { start = f.start; name = f.name.now }
 
-abbrev pub entry_of : RawMapEntry → MapEntry
+abbrev pub fields_of : RawMapEntry → MapFields
+fields_of e = record { sled = e.sled; function = e.function; kind = e.kind; always = e.always; version = e.version }
+
+abbrev pub entry_of : SledEntry → MapEntry
 entry_of e = record { sled = e.sled; function = e.function; kind = e.kind; always = e.always; version = e.version }
 
 -- the parts, with nothing after them

@@ -1,5 +1,5 @@
 -- The inputs of `soak`, and its summary.
-use Rattle.std.specs.Prelude.{◌≡◌, ◌≤◌, ℕ, List, ◌++◌, length, None, Ok, codes, decimal}
+use Rattle.std.specs.Prelude.{◌≡◌, ◌≤◌, ℕ, Bool, List, ◌++◌, length, None, Ok, codes, decimal}
 use Rattle.std.specs.List.{enumerate_from}
 use Rattle.account_report.specs.Account.{account_of}
 use Rattle.account_report.specs.declared.row.AccountRow.{AccountRow}
@@ -23,8 +23,8 @@ use Rattle.xray_program.specs.Soak.{trace_lines}
 
 -- what is assembled of a text is the image of the program that the text says
 abbrev pub Assembles : Type 0
-Assembles = (text : List ℕ) (threshold : ℕ) (said : StatementLines) → statements_said text ≡ Ok said
-    → IsAccepted (image_bytes (image_of threshold said)) (program_said threshold said)
+Assembles = (text : List ℕ) (threshold : ℕ) (relative : Bool) (said : StatementLines) → statements_said text ≡ Ok said
+    → IsAccepted (image_bytes (image_of threshold relative said)) (program_said threshold said)
 
 -- each input of a number is read as what was drawn of the number
 pub record InputLaws : Type 0 where

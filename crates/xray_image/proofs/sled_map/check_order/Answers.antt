@@ -1,4 +1,4 @@
-use Rattle.std.proofs.Common.{◌<◌, length, get_or, map, arith, refl, sym, ◌∙◌, below_more}
+use Rattle.std.proofs.Common.{◌<◌, length, get_or, map, arith, refl, below_more}
 use Rattle.xray_image.specs.Table.{HasOneAddress}
 use Rattle.xray_image.specs.private.Views.{place_of, entry_of}
 use Rattle.xray_image.proofs.Scans.{from_below, one_past, no_line, no_spot, one_address, other_address, zero_spot, zero_line, spot_is, line_is}
@@ -21,7 +21,7 @@ returns-then-spots-number-clause-refused c =
     let in_entries : i < length entries = omega arith in
     record {
       number = i;
-      fails = other_address spots entries i (get_or spots i zero_spot) (get_or entries i zero_line) in_spots in_entries (spot_is spots i in_spots) (line_is entries i in_entries) (λ same. c.if-spots-number.true (same ∙ sym c.sled_address.ensures));
+      fails = other_address spots entries i (get_or spots i zero_spot) (get_or entries i zero_line) in_spots in_entries (spot_is spots i in_spots) (line_is entries i in_entries) c.if-spots-number.true;
       holds_below = c.loop-number.invariant.0;
       is = refl;
     }
@@ -34,7 +34,7 @@ loop-number-preserved c =
     let in_spots : i < length spots = omega arith in
     let in_entries : i < length entries = omega arith in (
       below_more (HasOneAddress (map place_of spots) (map entry_of entries)) i c.loop-number.invariant.0
-          (one_address spots entries i (get_or spots i zero_spot) (get_or entries i zero_line) in_spots in_entries (spot_is spots i in_spots) (line_is entries i in_entries) (c.if-spots-number.false ∙ c.sled_address.ensures)),
+          (one_address spots entries i (get_or spots i zero_spot) (get_or entries i zero_line) in_spots in_entries (spot_is spots i in_spots) (line_is entries i in_entries) c.if-spots-number.false),
       omega arith,
     )
 

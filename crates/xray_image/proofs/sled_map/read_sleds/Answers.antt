@@ -3,8 +3,8 @@ use Rattle.xray_image.proofs.sled_map.read_sleds.Goals as goal
 
 pub loop-number-preserved : goal.loop-number-preserved
 loop-number-preserved c =
-    sled_more c.args.spots.now c.args.entries.now c.requires.spots c.loop-number.sleds.items c.push.new.self.items c.loop-number.number c.args.ids.now c.function_address.result c.kind_of.result
-    c.loop-number.invariant c.loop-number-test.true c.requires.ids c.function_address.ensures c.kind_of.ensures c.in_ok-push.ensures.items
+    sled_more c.args.spots.now c.args.entries.now c.requires.spots c.loop-number.sleds.items c.push.new.self.items c.loop-number.number c.args.ids.now c.kind_of.result
+    c.loop-number.invariant c.loop-number-test.true c.requires.ids c.kind_of.ensures c.in_ok-push.ensures.items
 
 pub returns : goal.returns
 returns c = all_sleds c.args.spots.now c.args.entries.now c.requires.spots c.loop-number.sleds.items c.loop-number.number c.loop-number.invariant c.loop-number-test.false

@@ -3,7 +3,7 @@ use Rattle.std.specs.Prelude.{All, true}
 use Rattle.std.specs.List.{zip}
 use Rattle.xray_image.specs.declared.code_units.SledSpot.{SledSpot}
 use Rattle.xray_image.specs.declared.parts.FunctionEntry.{FunctionEntry}
-use Rattle.xray_image.specs.declared.parts.RawMapEntry.{RawMapEntry}
+use Rattle.xray_image.specs.declared.map_entry.SledEntry.{SledEntry}
 use Rattle.xray_image.specs.Program.{is_name_byte, id_of, sled_of, IsAccepted}
 use Rattle.xray_image.specs.private.UnitTable.{units_in}
 use Rattle.xray_image.specs.private.Views.{entry_of, function_of, place_of}
@@ -40,14 +40,14 @@ read_sleds-requires-clause-kinds c =
 pub read_sleds-requires-clause-ids : goal.read_sleds-requires-clause-ids
 read_sleds-requires-clause-ids c =
     c.deref-6.ensures.value ∙ c.in_ok-ids.ensures.of_entries
-    ∙ ap (λ (ls : List RawMapEntry). map (λ e. id_of (map entry_of ls) e.function) ls) (c.deref-3.ensures.value ∙ sym c.deref-5.ensures.value)
+    ∙ ap (λ (ls : List SledEntry). map (λ e. id_of (map entry_of ls) e.function) ls) (c.deref-3.ensures.value ∙ sym c.deref-5.ensures.value)
 
 pub invariant_of-result : goal.invariant_of-result
 invariant_of-result c =
     let parts = c.args.parts.now in
     let sleds_are = c.in_ok-sleds.ensures
     ∙ ap (λ (ss : List SledSpot). map (sled_of (map entry_of c.deref-5.result.now)) (zip (map place_of ss) (map entry_of c.deref-5.result.now))) c.deref-4.ensures.value
-    ∙ ap (λ (ls : List RawMapEntry). map (sled_of (map entry_of ls)) (zip (map place_of c.args.code.sleds.items) (map entry_of ls))) c.deref-5.ensures.value in
+    ∙ ap (λ (ls : List SledEntry). map (sled_of (map entry_of ls)) (zip (map place_of c.args.code.sleds.items) (map entry_of ls))) c.deref-5.ensures.value in
     let named_is = c.in_ok-functions.ensures ∙ ap (map function_of) c.deref.ensures.value in
     let made = program_made c.args.header.now parts c.args.code c.index.result.now c.args.code.units.code.items c.in_ok-functions.functions.items c.in_ok-sleds.sleds.items
     c.requires.entry c.index.ensures c.requires.code named_is sleds_are in
@@ -65,6 +65,6 @@ pub returns : goal.returns
 returns c =
     let sleds_are = c.in_ok-sleds.ensures
     ∙ ap (λ (ss : List SledSpot). map (sled_of (map entry_of c.deref-5.result.now)) (zip (map place_of ss) (map entry_of c.deref-5.result.now))) c.deref-4.ensures.value
-    ∙ ap (λ (ls : List RawMapEntry). map (sled_of (map entry_of ls)) (zip (map place_of c.args.code.sleds.items) (map entry_of ls))) c.deref-5.ensures.value in
+    ∙ ap (λ (ls : List SledEntry). map (sled_of (map entry_of ls)) (zip (map place_of c.args.code.sleds.items) (map entry_of ls))) c.deref-5.ensures.value in
     program_made c.args.header.now c.args.parts.now c.args.code c.index.result.now c.args.code.units.code.items c.in_ok-functions.functions.items c.in_ok-sleds.sleds.items
     c.requires.entry c.index.ensures c.requires.code (c.in_ok-functions.ensures ∙ ap (map function_of) c.deref.ensures.value) sleds_are

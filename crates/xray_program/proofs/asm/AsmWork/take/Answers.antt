@@ -10,12 +10,12 @@ pub returns-clause-taken : goal.returns-clause-taken
 returns-clause-taken g c =
     let seen = desk_view g.D.Desk.held g.D.Desk.read_faults g.D.Desk.write_faults in
     let s = c.args.self.now in
-    only_taken (text_form s.threshold) s.text.now (λ file outcome. outcome ≡ Done ((s.image.now, file) ∷ []) []) (seen c.args.desk.now) (seen c.take.new.desk)
+    only_taken (text_form s.threshold s.relative) s.text.now (λ file outcome. outcome ≡ Done ((s.image.now, file) ∷ []) []) (seen c.args.desk.now) (seen c.take.new.desk)
     c.take.result c.take.ensures.taken
 
 pub returns-clause-calls : goal.returns-clause-calls
 returns-clause-calls g c =
     let seen = desk_view g.D.Desk.held g.D.Desk.read_faults g.D.Desk.write_faults in
     let s = c.args.self.now in
-    only_taking (text_form s.threshold) s.text.now (seen c.args.desk.now) (seen c.take.new.desk)
+    only_taking (text_form s.threshold s.relative) s.text.now (seen c.args.desk.now) (seen c.take.new.desk)
     (g.D.Desk.along c.args.desk.now c.take.new.desk) c.take.result c.take.ensures.taken c.take.ensures.calls

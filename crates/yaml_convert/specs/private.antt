@@ -1,0 +1,2 @@
+-- What the contracts of private functions cite. No promise of this crate rests on it.
+pub mod Stamps
