@@ -1,0 +1,38 @@
+-- Texts and records, by their pieces.
+use Rattle.std.proofs.Common.{◌≡◌, ℕ, ◌++◌, ◌∙◌, List, [], ◌∷◌, refl, sym, ap, append_assoc}
+use Rattle.std.specs.Prelude.{codes, decimal, replicate}
+use Rattle.byteorder.specs.Endian.{little_bytes}
+use Rattle.fdr_record.specs.declared.event.Kind.{Kind}
+use Rattle.fdr_record.specs.declared.event.Kind.TheVariants.{EntryArgs}
+use Rattle.fdr_record.specs.Records.{action_of}
+use Rattle.fdr_file.specs.declared.header.Header.{Header}
+use Rattle.fdr_file.specs.ThreadEvents.{ThreadEvent}
+use Rattle.trace_forms.specs.BasicLogs.{arg_logged, basic_header_bytes, event_bytes}
+use Rattle.trace_forms.specs.TraceEvents.{phase_text}
+use Rattle.trace_forms.specs.private.Texts.{event_end, event_start}
+
+-- ---- trace events
+
+pub end_pieces : (e : ThreadEvent) (phase : List ℕ) (pid thread tsc : ℕ) → phase ≡ phase_text e.event.kind → pid ≡ e.pid → thread ≡ e.thread → tsc ≡ e.event.tsc
+    → codes "\",\"ph\":\"" ++ (phase ++ (codes "\",\"pid\":" ++ (decimal pid ++ (codes ",\"tid\":" ++ (decimal thread ++ (codes ",\"ts\":" ++ (decimal tsc
+    ++ (codes "}" ++ []))))))))
+    ≡ event_end e
+end_pieces e phase pid thread tsc same_phase same_pid same_thread same_tsc = rw (same_phase, same_pid, same_thread, same_tsc) refl
+
+pub arg_pieces : (kind : Kind) (arg n : ℕ) → n ≡ arg → kind ≡ EntryArgs
+    → codes "{\"args\":{\"arg\":" ++ (decimal n ++ (codes "},\"cpu\":" ++ [])) ≡ event_start kind arg
+arg_pieces kind arg n same is = rw (same, is) refl
+
+-- ---- basic logs
+
+pub header_pieces : (header : Header) (version form flags frequency : List ℕ) → version ≡ little_bytes 2 3 → form ≡ little_bytes 2 0 → flags ≡ little_bytes 4 3
+    → frequency ≡ little_bytes 8 header.frequency
+    → version ++ (form ++ (flags ++ (frequency ++ (replicate 16 0 ++ [])))) ≡ basic_header_bytes header
+header_pieces header version form flags frequency same_version same_form same_flags same_frequency =
+    rw (same_version, same_form, same_flags, same_frequency) refl
+
+pub record_pieces : (e : ThreadEvent) (number logged : ℕ) (func tsc thread pid arg : List ℕ) → number ≡ action_of e.event.kind → logged ≡ arg_logged e.event.kind e.event.arg
+    → func ≡ little_bytes 4 e.event.func → tsc ≡ little_bytes 8 e.event.tsc → thread ≡ little_bytes 4 e.thread → pid ≡ little_bytes 4 e.pid → arg ≡ little_bytes 8 logged
+    → (0 ∷ 0 ∷ []) ++ ((e.event.cpu ∷ number ∷ []) ++ (func ++ (tsc ++ (thread ++ (pid ++ (arg ++ [])))))) ≡ event_bytes e
+record_pieces e number logged func tsc thread pid arg same_number same_logged same_func same_tsc same_thread same_pid same_arg =
+    rw (same_number, same_func, same_tsc, same_thread, same_pid, same_arg, same_logged) refl
