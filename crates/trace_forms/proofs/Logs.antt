@@ -3,7 +3,8 @@ use Rattle.std.proofs.Common.{◌≡◌, ℕ, ◌+◌, ◌<◌, ◌≤◌, ◌++
 use Rattle.std.specs.Prelude.{◌==◌, All, Result, nat_lt, not}
 use Rattle.std.specs.List.{flat_map}
 use Rattle.std.proofs.lemmas.Bool.{le-ltb}
-use Rattle.std.proofs.lemmas.List.{append-nil}
+use Rattle.std.proofs.Math.ListN.{drop_of_length-le}
+use Rattle.std.proofs.lemmas.List.{append-nil, drop-drop, length-drop}
 use Rattle.std.proofs.lemmas.List.Elements.{All-head, All-tail}
 use Rattle.xray_io.specs.Rows.{First, InTurn, ◌>>=◌}
 use Rattle.fdr_record.specs.declared.event.Event.{Event}
@@ -93,6 +94,26 @@ log_opened bytes header is =
 -- a header that is refused refuses the log
 pub log_refused : (bytes : List ℕ) (fault : BasicFault) → basic_header_rows bytes (Ok (basic_header bytes)) ≡ Err fault → basic_of bytes ≡ Err fault
 log_refused bytes fault is = header_refused bytes (basic_header bytes) (log_read (basic_header bytes) (read_on [] 32 (drop 32 bytes))) fault is
+
+-- a log whose next record is read
+pub log_more : (header : Header) (events : List ThreadEvent) (at : ℕ) (bytes rest : List ℕ) (x : ℕ × ℕ × Event) → at < length bytes → rest ≡ drop at bytes → record_rows at rest ≡ Ok x
+    → log_read header (read_on events at (drop at bytes)) ≡ log_read header (read_on (events ++ event_given x ∷ []) (at + 32) (drop (at + 32) bytes))
+log_more header events at bytes rest x some is read =
+    ap (log_read header)
+    (read_more events at (drop at bytes) x (omega (arith, length-drop at bytes)) (ap (record_rows at) (sym is) ∙ read)
+    ∙ ap (read_on (events ++ event_given x ∷ []) (at + 32)) (drop-drop 32 at bytes))
+
+-- a log whose next record is refused
+pub log_stops : (header : Header) (events : List ThreadEvent) (at : ℕ) (bytes rest : List ℕ) (fault : BasicFault) → at < length bytes → rest ≡ drop at bytes → record_rows at rest ≡ Err fault
+    → log_read header (read_on events at (drop at bytes)) ≡ Err fault
+log_stops header events at bytes rest fault some is refused =
+    ap (log_read header) (read_refused events at (drop at bytes) fault (omega (arith, length-drop at bytes)) (ap (record_rows at) (sym is) ∙ refused))
+
+-- a log that ends here
+pub log_ends : (header : Header) (events : List ThreadEvent) (at : ℕ) (bytes : List ℕ) → length bytes ≤ at
+    → log_read header (read_on events at (drop at bytes)) ≡ Ok (record { header = header; blocks = runs events })
+log_ends header events at bytes end =
+    ap (log_read header) (ap (read_on events at) (drop_of_length-le bytes end) ∙ read_all events at)
 
 -- ---- what is written reads back
 

@@ -1,7 +1,7 @@
 -- The runs of events: one more event at the end, and what is true of them.
 use Rattle.std.proofs.Common.{◌≡◌, ◌≢◌, ◌⊎◌, ◌∙◌, ◌++◌, ℕ, Bool, true, false, cond, List, [], ◌∷◌, map, inl, inr, refl, sym, ap, ap₂, subst, append_assoc}
 use Rattle.std.specs.Prelude.{◌==◌, ◌&&◌, ⊤, All}
-use Rattle.std.proofs.lemmas.Bool.{cases_Bool, eq-eqb, ne_eqb, true≢false}
+use Rattle.std.proofs.lemmas.Bool.{and_parts, cases_Bool, eq-eqb, eqb-true, ne_eqb, true≢false}
 use Rattle.std.proofs.lemmas.Bool.Decides.{eqb_tells}
 use Rattle.std.proofs.lemmas.List.{append-nil}
 use Rattle.std.proofs.lemmas.List.Elements.{All-cons, All-head, All-nil, All-tail}
@@ -269,3 +269,27 @@ other_run blocks t p (x ∷ xs) thread pid event events are begun other =
 pub added_some : {X : Type 0} (xs : List X) (x : X) → xs ++ x ∷ [] ≡ [] → ⊥
 added_some [] x same = cc
 added_some (y ∷ ys) x same = cc
+
+-- and it is the block of its events
+pub some_run : (thread pid : ℕ) (last : List Event) (event : Event) → last_run thread pid (last ++ event ∷ []) ≡ run_of thread pid (last ++ event ∷ []) ∷ []
+some_run thread pid [] event = refl
+some_run thread pid (x ∷ xs) event = refl
+
+-- an event of the thread and the process of the last block
+pub run_goes_on : (blocks : List Block) (t p : ℕ) (last : List Event) (thread pid : ℕ) (event : Event) (events : List ThreadEvent)
+    → (thread == t) && (pid == p) ≡ true → blocks ++ last_run t p last ≡ runs events → (last ≡ [] → events ≡ [])
+    → blocks ++ run_of t p (last ++ event ∷ []) ∷ [] ≡ runs (events ++ thread_event thread pid event ∷ [])
+run_goes_on blocks t p last thread pid event events is are begun =
+    let parts = and_parts (thread == t) (pid == p) is in
+    ap (λ (bs : List Block). blocks ++ bs) (sym (some_run t p last event))
+    ∙ (same_run blocks t p last event events are begun
+    ∙ ap₂ (λ (a b : ℕ). runs (events ++ thread_event a b event ∷ [])) (sym (eqb-true thread t parts.0)) (sym (eqb-true pid p parts.1)))
+
+-- an event of another thread or another process, after the last block ended
+pub run_begins : (before blocks : List Block) (t p : ℕ) (last ended : List Event) (thread pid : ℕ) (event : Event) (events : List ThreadEvent)
+    → (thread == t) && (pid == p) ≡ false → before ++ last_run t p last ≡ runs events → (last ≡ [] → events ≡ [])
+    → blocks ≡ before ++ last_run t p last → ended ≡ []
+    → blocks ++ run_of thread pid (ended ++ event ∷ []) ∷ [] ≡ runs (events ++ thread_event thread pid event ∷ [])
+run_begins before blocks t p last ended thread pid event events is are begun all none =
+    ap₂ (λ (bs : List Block) (es : List Event). bs ++ run_of thread pid (es ++ event ∷ []) ∷ []) all none
+    ∙ other_run before t p last thread pid event events are begun (λ same. true≢false (sym (is_true thread t pid p same.0 same.1) ∙ is))

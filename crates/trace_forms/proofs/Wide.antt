@@ -1,8 +1,8 @@
 -- CPUs that fit the byte for them.
-use Rattle.std.proofs.Common.{◌≡◌, ◌∙◌, ◌+◌, ◌<◌, ◌≤◌, ℕ, Bool, true, false, cond, List, [], ◌∷◌, Option, Some, None, inl, inr, refl, sym}
+use Rattle.std.proofs.Common.{◌≡◌, ◌∙◌, ◌+◌, ◌<◌, ◌≤◌, ℕ, Bool, true, false, cond, List, [], ◌∷◌, Option, Some, None, inl, inr, refl, sym, ap}
 use Rattle.std.specs.Prelude.{nat_lt}
 use Rattle.std.specs.List.{position_from}
-use Rattle.std.proofs.lemmas.Bool.{cases_Bool, ltb-false}
+use Rattle.std.proofs.lemmas.Bool.{cases_Bool, le-ltb, lt-ltb, ltb-false}
 use Rattle.std.proofs.lemmas.Iterator.Adapters.{position_from-zero}
 use Rattle.fdr_file.specs.ThreadEvents.{ThreadEvent}
 use Rattle.trace_forms.specs.BasicLogs.{wide_cpu}
@@ -39,3 +39,23 @@ narrow_first e events none =
       | inl wide ↦ let h = rw wide at counted in absurd cc
       | inr narrow ↦ ltb-false 255 e.event.cpu narrow
     ]
+
+-- the next of them isn't one
+pub narrow_on : (number : ℕ) (left later : List ThreadEvent) (e : ThreadEvent) → left ≡ e ∷ later → e.event.cpu ≤ 255
+    → position_from is_wide (number + 1) later ≡ position_from is_wide number left
+narrow_on number left later e is low =
+    let narrow : is_wide e ≡ false = le-ltb 255 e.event.cpu low in
+    let here : position_from is_wide number (e ∷ later) ≡ position_from is_wide (number + 1) later = rw narrow refl in
+    sym (ap (position_from is_wide number) is ∙ here)
+
+-- the next of them is one
+pub wide_here : (number : ℕ) (left later : List ThreadEvent) (e : ThreadEvent) → left ≡ e ∷ later → 255 < e.event.cpu
+    → Some number ≡ position_from is_wide number left
+wide_here number left later e is high =
+    let wide : is_wide e ≡ true = lt-ltb 255 e.event.cpu high in
+    let here : position_from is_wide number (e ∷ later) ≡ Some number = rw wide refl in
+    sym (ap (position_from is_wide number) is ∙ here)
+
+-- there are no more
+pub wide_nowhere : (number : ℕ) (left : List ThreadEvent) → left ≡ [] → None ≡ position_from is_wide number left
+wide_nowhere number left none = sym (ap (position_from is_wide number) none)

@@ -2,10 +2,10 @@
 
 ghost use Rattle.std.specs.{Prelude.{◌≡◌, ◌++◌, ℕ, [], Ok, decimal}, Option.{unwrap_or}};
 ghost use Rattle.fdr_file.specs.declared.trace.Trace.{Trace};
-ghost use Rattle.fdr_file.specs.{Prefixes.{IsReadable}, Traces.{trace_of}};
+ghost use Rattle.fdr_file.specs.{Prefixes.{IsReadable}, Traces.{record_in, trace_of}};
 ghost use Rattle.trace_words.specs.TraceWords.{trace_words};
 ghost use Rattle.xray_io.specs.{Piece.{piece_text}, Text.{AddsText}, Writes.{WritesText}};
-ghost use Rattle.trace_forms.specs.Dumps.{dump_text, fault_in as first_fault, header_line, kind_word, last_line, record_line, record_lines, record_text};
+ghost use Rattle.trace_forms.specs.Dumps.{dump_text, fault_in as first_fault, header_line, kind_word, last_line, record_line, record_lines, record_text, standing_line};
 
 use crate::records::{record_len, record_of};
 use fdr_file::{
@@ -90,12 +90,21 @@ fn add_records<S: Sink>(text: &mut Text<S>, bytes: &[u8]) -> Result<(), WriteFau
     let mut at = HEADER_BYTES;
     'lines: while at < bytes.len() {
         let rest = &bytes[at..];
-        if let Ok(rec) = record_of(rest) {
-            add_record(text, at, &rec)?;
-        }
+        add_standing(text, at, rest)?;
         at += record_len(rest);
     }
     Ok(())
+}
+
+/// Adds the line of what is at a place, if it is a record. `rest` has the bytes from there on.
+fn add_standing<S: Sink>(text: &mut Text<S>, at: usize, rest: &[u8]) -> Result<(), WriteFault>
+    ensures { AddsText S.written S.faults S.along text.old text.new
+        (standing_line (at, record_in rest.now)) result }
+{
+    match record_of(rest) {
+        Ok(rec) => add_record(text, at, &rec),
+        Err(_) => Ok(()),
+    }
 }
 
 /// Adds the line of the record at a place.

@@ -1,6 +1,6 @@
 //! Events as blocks, a block for each run of events of one thread and one process.
 
-ghost use Rattle.std.specs.Prelude.{◌≡◌, [], ◌∷◌, ◌++◌, List, IfOk, OnOk};
+ghost use Rattle.std.specs.Prelude.{◌≡◌, ◌==◌, ◌&&◌, [], ◌∷◌, ◌++◌, List, IfOk, OnOk};
 ghost use Rattle.fdr_file.specs.ThreadEvents.{ThreadEvent, event_given};
 ghost use Rattle.trace_forms.specs.Runs.{runs};
 
@@ -26,7 +26,7 @@ pub(crate) struct RunBlocks {
 }
 
 impl RunBlocks {
-    ghost use Rattle.trace_forms.specs.private.RunBlocks.{HoldsRuns, blocks_so_far};
+    ghost use Rattle.trace_forms.specs.private.RunBlocks.{HoldsRuns, TakesNext, blocks_so_far};
 
     /// No blocks.
     pub(crate) fn new(alloc: Global) -> RunBlocks
@@ -58,6 +58,27 @@ impl RunBlocks {
         Ok(())
     }
 
+    /// Whether events of this thread and this process go on with the last block.
+    fn goes_on(&self, thread: u32, pid: u32) -> bool
+        ensures { result ≡ (thread == self.now.thread) && (pid == self.now.pid) }
+    {
+        thread == self.thread && pid == self.pid
+    }
+
+    /// Makes the last block one of this thread and this process, to which the next event belongs.
+    fn turn_to(&mut self, alloc: Global, thread: u32, pid: u32) -> Result<(), AllocError>
+        ensures { OnOk result ((events : List ThreadEvent) → HoldsRuns self.old events
+            → TakesNext self.new events thread pid) }
+    {
+        if self.goes_on(thread, pid) {
+            return Ok(());
+        }
+        self.end_run(alloc)?;
+        self.thread = thread;
+        self.pid = pid;
+        Ok(())
+    }
+
     /// Adds an event after the others. It begins a block if it is of another thread or process than
     /// the last one.
     pub(crate) fn add(
@@ -70,11 +91,7 @@ impl RunBlocks {
         ensures { OnOk result ((events : List ThreadEvent) → HoldsRuns self.old events
             → HoldsRuns self.new (events ++ event_given (thread, pid, event) ∷ [])) }
     {
-        if thread != self.thread || pid != self.pid {
-            self.end_run(alloc)?;
-            self.thread = thread;
-            self.pid = pid;
-        }
+        self.turn_to(alloc, thread, pid)?;
         self.events.push(event)?;
         Ok(())
     }

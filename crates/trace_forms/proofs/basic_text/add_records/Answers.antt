@@ -1,14 +1,19 @@
-use Rattle.std.proofs.Common.{◌≡◌, ◌++◌, ◌∙◌, List, ℕ, [], ◌∷◌, None, Ok, ap, refl, subst, sym}
+use Rattle.std.proofs.Common.{◌≡◌, ◌++◌, ◌∙◌, List, ℕ, [], ◌∷◌, None, Ok, ap, arith, refl, subst, sym}
 use Rattle.std.specs.List.{flat_map}
 use Rattle.xray_io.specs.Text.{AddsText, adds_failed, adds_more, adds_nothing, adds_within}
 use Rattle.fdr_file.specs.ThreadEvents.{ThreadEvent}
 use Rattle.trace_forms.specs.BasicLogs.{event_bytes, wide_cpu}
 use Rattle.trace_forms.proofs.GivenTexts.{all_texts, one_given, one_text}
-use Rattle.trace_forms.proofs.Wide.{narrow_later}
+use Rattle.trace_forms.proofs.Wide.{narrow_first, narrow_later}
 use Rattle.trace_forms.proofs.basic_text.add_records.Goals as goal
 
 pub records-init : goal.records-init
 records-init g c = ([], refl, c.requires, adds_nothing g.met.S.Sink.along_none c.args.text.now)
+
+pub add_record-requires : goal.add_record-requires
+add_record-requires g c =
+    let e : ThreadEvent = record { thread = c.in-Some.thread; pid = c.in-Some.pid; event = c.in-Some.event } in
+    omega (arith, narrow_first e (g.E.EventSource.left c.next_event.new.self) (sym (ap wide_cpu c.in-Some.ensures) ∙ c.records.invariant.2))
 
 pub records-preserved : goal.records-preserved
 records-preserved g c =

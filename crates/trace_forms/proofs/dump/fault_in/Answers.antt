@@ -1,0 +1,14 @@
+use Rattle.std.proofs.Common.{◌∙◌, [], ◌++◌, arith, refl}
+use Rattle.fdr_file.specs.Scanning.{blocks_given}
+use Rattle.fdr_file.specs.Traces.{trace_of}
+use Rattle.trace_forms.proofs.Lines.{fault_is}
+use Rattle.trace_forms.proofs.dump.fault_in.Goals as goal
+
+pub feed-requires : goal.feed-requires
+feed-requires c = record { stands = ([], c.new-scan.ensures, tt, omega arith) }
+
+pub returns-in-Ok : goal.returns-in-Ok
+returns-in-Ok c =
+    let bytes = c.args.bytes.now in
+    c.err.ensures.value
+    ∙ fault_is c.finish.result (blocks_given bytes) (trace_of bytes) (c.finish.ensures.reads bytes (c.in-Ok.ensures.scans [] c.new-scan.ensures tt))
