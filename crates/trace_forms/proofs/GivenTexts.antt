@@ -1,5 +1,6 @@
 -- Texts of items that are given one after the other.
-use Rattle.std.proofs.Common.{◌≡◌, ◌++◌, ◌∙◌, ℕ, List, [], ◌∷◌, sym, ap, append_assoc}
+use Rattle.std.proofs.Common.{◌≡◌, ◌++◌, ◌∙◌, ℕ, List, [], ◌∷◌, sym, ap, append_assoc, arith, length, ◌+◌}
+use Rattle.std.specs.Prelude.{Option, Some, None, is_some, MatchBool, MatchOption}
 use Rattle.std.specs.List.{flat_map}
 use Rattle.std.proofs.lemmas.List.{append-nil}
 use Rattle.std.proofs.lemmas.List.Concat.{flat_map-append}
@@ -21,6 +22,12 @@ all_texts f all given left later x before is =
     ap (λ (t : List ℕ). t ++ flat_map f later) (one_text f given x)
     ∙ (sym (flat_map-append f (given ++ x ∷ []) later)
     ∙ ap (flat_map f) (sym (one_given all given left later x before is)))
+
+-- whether there was another one
+pub taken : {X Y : Type 0} (of : X → Y) (old new : List Y) (o : Option X) → MatchOption o (old ≡ []) (λ x. old ≡ of x ∷ new)
+    → MatchBool (is_some o) (length old ≡ length new + 1) (old ≡ [])
+taken of old new None none = none
+taken of old new (Some x) is = omega (arith, ap length is)
 
 -- no more of them are given
 pub none_left : {X : Type 0} (all given left : List X) → all ≡ given ++ left → left ≡ [] → given ≡ all

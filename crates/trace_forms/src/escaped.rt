@@ -1,9 +1,9 @@
 //! Names within the strings of JSON.
 
-ghost use Rattle.std.specs.{Prelude.{◌≡◌}, Option.{option_map, option_map_or}};
+ghost use Rattle.std.specs.{Prelude.{◌≡◌, ◌<◌, IfSome}, List.{list_all}, Option.{option_map, option_map_or}};
 ghost use Rattle.json.specs.Print.{escape, escape_byte, escape_letter as short_escape};
 ghost use Rattle.xray_io.specs.Text.{AddsText};
-ghost use Rattle.function_names.specs.Name.{name_text};
+ghost use Rattle.function_names.specs.Name.{name_in, name_text, number_text};
 ghost use Rattle.trace_forms.specs.private.Texts.{is_plain_byte};
 
 use function_names::add_name;
@@ -18,7 +18,8 @@ const BACKSLASH: u8 = b'\\';
 
 /// The letter of the short escape of a byte, if it has one.
 fn escape_letter(byte: u8) -> Option<u8>
-    ensures { option_map_or (λ letter. letter) result 0 ≡ short_escape byte }
+    ensures letter { option_map_or (λ letter. letter) result 0 ≡ short_escape byte }
+    ensures some { IfSome result (λ letter. 0 < letter) }
 {
     match byte {
         b'"' | BACKSLASH => Some(byte),
@@ -44,24 +45,50 @@ fn add_byte<S: Sink>(text: &mut Text<S>, byte: u8) -> Result<(), WriteFault>
 {
     match escape_letter(byte) {
         Some(letter) => text.bytes(&[BACKSLASH, letter]),
-        None if byte < SPACE => text.pieces(&[
+        None => add_other_byte(text, byte),
+    }
+}
+
+/// The same, for a byte that has no short escape.
+fn add_other_byte<S: Sink>(text: &mut Text<S>, byte: u8) -> Result<(), WriteFault>
+    requires { short_escape byte ≡ 0 }
+    ensures { AddsText S.written S.faults S.along text.old text.new (escape_byte byte) result }
+{
+    if byte < SPACE {
+        text.pieces(&[
             Piece::Bytes(b"\\u"),
             Piece::Hex {
                 number: u64::from(byte),
                 digits: 4,
             },
-        ]),
-        None => text.bytes(&[byte]),
+        ])
+    } else {
+        text.bytes(&[byte])
     }
+}
+
+/// Whether bytes may stand in a string as they are.
+fn are_plain(bytes: &[u8]) -> bool
+    ensures { result ≡ list_all is_plain_byte bytes.now }
+{
+    bytes.iter().all(|&byte| is_plain(byte))
 }
 
 /// Adds bytes as they stand between the quotation marks of a string.
 pub(crate) fn add_escaped<S: Sink>(text: &mut Text<S>, bytes: &[u8]) -> Result<(), WriteFault>
     ensures { AddsText S.written S.faults S.along text.old text.new (escape bytes.now) result }
 {
-    if bytes.iter().all(|byte| is_plain(*byte)) {
-        return text.bytes(bytes);
+    if are_plain(bytes) {
+        text.bytes(bytes)
+    } else {
+        add_each(text, bytes)
     }
+}
+
+/// The same, byte by byte.
+fn add_each<S: Sink>(text: &mut Text<S>, bytes: &[u8]) -> Result<(), WriteFault>
+    ensures { AddsText S.written S.faults S.along text.old text.new (escape bytes.now) result }
+{
     'escaping: for byte in bytes {
         add_byte(text, *byte)?;
     }
@@ -77,8 +104,31 @@ pub(crate) fn add_escaped_name<S: Sink>(
     ensures { AddsText S.written S.faults S.along text.old text.new
         (escape (name_text (option_map (λ image. image.now) image.entry) id)) result }
 {
-    match image.and_then(|image| image.name_of(id)) {
-        Some(name) => add_escaped(text, name.as_bytes()),
-        None => add_name(text, None, id),
+    match image {
+        Some(image) => add_escaped_name_in(text, image, id),
+        None => add_number(text, id),
     }
+}
+
+/// Adds the name that a function has in an image, as it stands in a string.
+fn add_escaped_name_in<S: Sink>(
+    text: &mut Text<S>,
+    image: &Image,
+    id: u32,
+) -> Result<(), WriteFault>
+    ensures { AddsText S.written S.faults S.along text.old text.new
+        (escape (name_in image.now id)) result }
+{
+    match image.name_of(id) {
+        Some(name) => add_escaped(text, name.as_bytes()),
+        None => add_number(text, id),
+    }
+}
+
+/// Adds the text for a name that isn't known. Nothing in it is escaped.
+fn add_number<S: Sink>(text: &mut Text<S>, id: u32) -> Result<(), WriteFault>
+    ensures { AddsText S.written S.faults S.along text.old text.new
+        (escape (number_text id)) result }
+{
+    add_name(text, None, id)
 }

@@ -1,10 +1,10 @@
 //! Trace events as JSON.
 
-ghost use Rattle.std.specs.{Prelude.{◌≡◌, ◌<◌, ◌↔◌, ⊤, Err, IfOk, IsTrue, length}, Option.{option_map}};
+ghost use Rattle.std.specs.{Prelude.{◌≡◌, ◌+◌, ◌<◌, ◌↔◌, [], ⊤, Err, IfOk, IfSome, IsTrue, MatchBool, length}, Option.{option_map}};
 ghost use Rattle.fdr_file.specs.ThreadEvents.{event_given, thread_events};
 ghost use Rattle.xray_io.specs.{Piece.{piece_text}, Text.{AddsText}};
 ghost use Rattle.trace_forms.specs.TraceEvents.{events_text, most_events, phase_text, trace_events_text};
-ghost use Rattle.trace_forms.specs.private.Texts.{event_end, event_json, event_start, later_json, list_json};
+ghost use Rattle.trace_forms.specs.private.Texts.{event_end, event_json, event_start, later_json, list_json, next_json};
 
 use crate::escaped::add_escaped_name;
 use crate::gathered::Gathered;
@@ -60,11 +60,19 @@ impl Printed for EventsText<'_> {
 pub fn has_too_many<E: EventSource>(events: &mut E) -> bool
     ensures { IsTrue result ↔ (most_events < length (E.left events.old)) }
 {
-    for _ in 0..MOST_EVENTS {
-        if events.next_event().is_none() {
+    'counting: for _ in 0..MOST_EVENTS {
+        if !take_event(events) {
             return false;
         }
     }
+    take_event(events)
+}
+
+/// Takes the next event from the source. Whether there was one.
+fn take_event<E: EventSource>(events: &mut E) -> bool
+    ensures { MatchBool result (length (E.left events.old) ≡ length (E.left events.new) + 1)
+        (E.left events.old ≡ []) }
+{
     events.next_event().is_some()
 }
 
@@ -86,10 +94,21 @@ pub fn event_text(
     if has_too_many(&mut TraceCursor::new(trace)) {
         return Err(EventFault::Many);
     }
+    match gather(alloc, &EventsText { trace, image }) {
+        Some(text) => Ok(text),
+        None => Err(EventFault::NoMemory),
+    }
+}
+
+/// The text of these events, if memory isn't refused.
+fn gather(alloc: Global, events: &EventsText) -> Option<Vec<u8>>
+    ensures { IfSome result (λ text. text.items
+        ≡ trace_events_text (option_map (λ image. image.now) events.now.image) events.now.trace.now) }
+{
     let mut sink = Gathered::new(alloc);
-    match write_text(&EventsText { trace, image }, &mut sink) {
-        Ok(()) => Ok(sink.into_vec()),
-        Err(WriteFault) => Err(EventFault::NoMemory),
+    match write_text(events, &mut sink) {
+        Ok(()) => Some(sink.into_vec()),
+        Err(_) => None,
     }
 }
 
@@ -116,11 +135,13 @@ fn add_list<S: Sink, E: EventSource>(
     ensures { AddsText S.written S.faults S.along text.old text.new
         (list_json (option_map (λ image. image.now) image.entry) (E.left events.old)) result }
 {
-    let Some((thread, pid, event)) = events.next_event() else {
-        return Ok(());
-    };
-    add_event(text, image, thread, pid, &event)?;
-    add_later(text, events, image)
+    match events.next_event() {
+        None => Ok(()),
+        Some((thread, pid, event)) => {
+            add_event(text, image, thread, pid, &event)?;
+            add_later(text, events, image)
+        }
+    }
 }
 
 /// Adds the objects of these events, with a comma before each.
@@ -133,10 +154,25 @@ fn add_later<S: Sink, E: EventSource>(
         (later_json (option_map (λ image. image.now) image.entry) (E.left events.old)) result }
 {
     'objects: while let Some((thread, pid, event)) = events.next_event() {
-        text.bytes(b",")?;
-        add_event(text, image, thread, pid, &event)?;
+        add_next(text, image, thread, pid, &event)?;
     }
     Ok(())
+}
+
+/// Adds the object of an event, with a comma before it.
+fn add_next<S: Sink>(
+    text: &mut Text<S>,
+    image: Option<&Image>,
+    thread: u32,
+    pid: u32,
+    event: &Event,
+) -> Result<(), WriteFault>
+    ensures { AddsText S.written S.faults S.along text.old text.new
+        (next_json (option_map (λ image. image.now) image.entry)
+        (event_given (thread, pid, event.now))) result }
+{
+    text.bytes(b",")?;
+    add_event(text, image, thread, pid, event)
 }
 
 /// Adds the object of an event.

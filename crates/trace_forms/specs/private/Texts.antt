@@ -28,9 +28,13 @@ abbrev pub event_json : Option Program → ThreadEvent → List ℕ
 event_json program e =
     event_start e.event.kind e.event.arg ++ (decimal e.event.cpu ++ (codes ",\"name\":\"" ++ (escape (name_text program e.event.func) ++ event_end e)))
 
--- events after the first, each with a comma before it
+-- an event after the first, with a comma before it
+abbrev pub next_json : Option Program → ThreadEvent → List ℕ
+next_json program e = codes "," ++ event_json program e
+
+-- events after the first
 abbrev pub later_json : Option Program → List ThreadEvent → List ℕ
-later_json program events = flat_map (λ e. codes "," ++ event_json program e) events
+later_json program events = flat_map (next_json program) events
 
 -- events, with commas between them
 abbrev pub list_json : Option Program → List ThreadEvent → List ℕ

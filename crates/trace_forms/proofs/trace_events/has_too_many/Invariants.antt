@@ -1,5 +1,5 @@
 use Rattle.std.proofs.Common.{◌≡◌, ◌+◌, length}
 use Rattle.trace_forms.proofs.trace_events.has_too_many.Given as goal
 
-abbrev pub invariant-loop : goal.invariant-loop
-invariant-loop g l = length (g.E.EventSource.left l.fn.events) ≡ l.counter + length (g.E.EventSource.left l.events)
+abbrev pub invariant-counting : goal.invariant-counting
+invariant-counting g l = length (g.E.EventSource.left l.fn.events) ≡ l.counter + length (g.E.EventSource.left l.events)
