@@ -1,11 +1,9 @@
 -- Texts and records, by their pieces.
 use Rattle.std.proofs.Common.{◌≡◌, ℕ, ◌++◌, ◌∙◌, List, [], ◌∷◌, refl, sym, ap, append_assoc}
-use Rattle.std.specs.Prelude.{codes, decimal, replicate, Option}
+use Rattle.std.specs.Prelude.{codes, decimal, replicate, Option, Some}
 use Rattle.std.proofs.lemmas.List.{append-nil}
 use Rattle.json.specs.Print.{escape}
 use Rattle.byteorder.specs.Endian.{little_bytes}
-use Rattle.fdr_record.specs.declared.event.Kind.{Kind}
-use Rattle.fdr_record.specs.declared.event.Kind.TheVariants.{EntryArgs}
 use Rattle.fdr_record.specs.Records.{action_of}
 use Rattle.fdr_file.specs.declared.header.Header.{Header}
 use Rattle.fdr_file.specs.ThreadEvents.{ThreadEvent}
@@ -13,7 +11,7 @@ use Rattle.xray_image.specs.Program.{Program}
 use Rattle.function_names.specs.Name.{name_text}
 use Rattle.trace_forms.specs.BasicLogs.{arg_logged, basic_header_bytes, event_bytes}
 use Rattle.trace_forms.specs.TraceEvents.{phase_text}
-use Rattle.trace_forms.specs.private.Texts.{event_end, event_json, event_start}
+use Rattle.trace_forms.specs.private.Texts.{arg_shown, event_end, event_json, event_start}
 
 -- ---- trace events
 
@@ -23,28 +21,27 @@ pub end_pieces : (e : ThreadEvent) (phase : List ℕ) (pid thread tsc : ℕ) →
     ≡ event_end e
 end_pieces e phase pid thread tsc same_phase same_pid same_thread same_tsc = rw (same_phase, same_pid, same_thread, same_tsc) refl
 
-pub arg_pieces : (kind : Kind) (arg n : ℕ) → n ≡ arg → kind ≡ EntryArgs
-    → codes "{\"args\":{\"arg\":" ++ (decimal n ++ (codes "},\"cpu\":" ++ [])) ≡ event_start kind arg
-arg_pieces kind arg n same is = rw (same, is) refl
+pub arg_pieces : (arg n : ℕ) → n ≡ arg → codes "{\"args\":{\"arg\":" ++ (decimal n ++ (codes "},\"cpu\":" ++ [])) ≡ event_start (Some arg)
+arg_pieces arg n same = ap (λ (m : ℕ). codes "{\"args\":{\"arg\":" ++ (decimal m ++ (codes "},\"cpu\":" ++ []))) same
 
 parts : (s d k n e : List ℕ) → (s ++ (d ++ (k ++ []))) ++ (n ++ e) ≡ s ++ (d ++ (k ++ (n ++ e)))
 parts s d k n e = simp (append_assoc, append-nil)
 
 -- an event that is put together of its parts
 pub event_parts : (program : Option Program) (e : ThreadEvent) (cpu : ℕ) → cpu ≡ e.event.cpu
-    → (event_start e.event.kind e.event.arg ++ (decimal cpu ++ (codes ",\"name\":\"" ++ []))) ++ (escape (name_text program e.event.func) ++ event_end e)
+    → (event_start (arg_shown e.event.kind e.event.arg) ++ (decimal cpu ++ (codes ",\"name\":\"" ++ []))) ++ (escape (name_text program e.event.func) ++ event_end e)
     ≡ event_json program e
 event_parts program e cpu same =
-    let start = event_start e.event.kind e.event.arg in
+    let start = event_start (arg_shown e.event.kind e.event.arg) in
     let rest = escape (name_text program e.event.func) ++ event_end e in
     ap (λ (n : ℕ). (start ++ (decimal n ++ (codes ",\"name\":\"" ++ []))) ++ rest) same
     ∙ parts start (decimal e.event.cpu) (codes ",\"name\":\"") (escape (name_text program e.event.func)) (event_end e)
 
 pub event_parts_left : (program : Option Program) (e : ThreadEvent) (cpu : ℕ) → cpu ≡ e.event.cpu
-    → ((event_start e.event.kind e.event.arg ++ (decimal cpu ++ (codes ",\"name\":\"" ++ []))) ++ escape (name_text program e.event.func)) ++ event_end e
+    → ((event_start (arg_shown e.event.kind e.event.arg) ++ (decimal cpu ++ (codes ",\"name\":\"" ++ []))) ++ escape (name_text program e.event.func)) ++ event_end e
     ≡ event_json program e
 event_parts_left program e cpu same =
-    append_assoc (event_start e.event.kind e.event.arg ++ (decimal cpu ++ (codes ",\"name\":\"" ++ []))) (escape (name_text program e.event.func)) (event_end e)
+    append_assoc (event_start (arg_shown e.event.kind e.event.arg) ++ (decimal cpu ++ (codes ",\"name\":\"" ++ []))) (escape (name_text program e.event.func)) (event_end e)
     ∙ event_parts program e cpu same
 
 -- ---- basic logs

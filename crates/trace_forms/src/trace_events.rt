@@ -4,7 +4,7 @@ ghost use Rattle.std.specs.{Prelude.{◌≡◌, ◌+◌, ◌<◌, ◌↔◌, [],
 ghost use Rattle.fdr_file.specs.ThreadEvents.{event_given, thread_events};
 ghost use Rattle.xray_io.specs.{Piece.{piece_text}, Text.{AddsText}};
 ghost use Rattle.trace_forms.specs.TraceEvents.{events_text, most_events, phase_text, trace_events_text};
-ghost use Rattle.trace_forms.specs.private.Texts.{event_end, event_json, event_start, later_json, list_json, next_json};
+ghost use Rattle.trace_forms.specs.private.Texts.{arg_shown, event_end, event_json, event_start, later_json, list_json, next_json};
 
 use crate::escaped::add_escaped_name;
 use crate::gathered::Gathered;
@@ -199,15 +199,25 @@ fn add_event<S: Sink>(
 /// Adds the object of an event up to its CPU. It begins with the argument, if the event logs one.
 fn add_start<S: Sink>(text: &mut Text<S>, event: &Event) -> Result<(), WriteFault>
     ensures { AddsText S.written S.faults S.along text.old text.new
-        (event_start event.now.kind event.now.arg) result }
+        (event_start (arg_shown event.now.kind event.now.arg)) result }
 {
-    match event.kind {
-        Kind::Entry | Kind::Exit | Kind::TailExit => text.bytes(b"{\"cpu\":"),
-        Kind::EntryArgs => text.pieces(&[
+    match arg_of(event) {
+        None => text.bytes(b"{\"cpu\":"),
+        Some(arg) => text.pieces(&[
             Piece::Bytes(b"{\"args\":{\"arg\":"),
-            Piece::Number(u128::from(event.arg)),
+            Piece::Number(u128::from(arg)),
             Piece::Bytes(b"},\"cpu\":"),
         ]),
+    }
+}
+
+/// The argument of an event, if it logs one.
+fn arg_of(event: &Event) -> Option<u64>
+    ensures { result ≡ arg_shown event.now.kind event.now.arg }
+{
+    match event.kind {
+        Kind::Entry | Kind::Exit | Kind::TailExit => None,
+        Kind::EntryArgs => Some(event.arg),
     }
 }
 

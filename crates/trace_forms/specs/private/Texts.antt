@@ -1,5 +1,5 @@
 -- The text of trace events, put together of its parts.
-use Rattle.std.specs.Prelude.{ℕ, Bool, List, [], ◌∷◌, ◌++◌, ◌==◌, ◌&&◌, not, nat_le, codes, decimal, Option}
+use Rattle.std.specs.Prelude.{ℕ, Bool, List, [], ◌∷◌, ◌++◌, ◌==◌, ◌&&◌, not, nat_le, codes, decimal, Option, Some, None}
 use Rattle.std.specs.List.{flat_map}
 use Rattle.json.specs.Print.{escape}
 use Rattle.fdr_record.specs.declared.event.Event.{Event}
@@ -10,12 +10,17 @@ use Rattle.xray_image.specs.Program.{Program}
 use Rattle.function_names.specs.Name.{name_text}
 use Rattle.trace_forms.specs.TraceEvents.{phase_text}
 
+-- the argument of an event of this kind, if it logs one
+abbrev pub arg_shown : Kind → ℕ → Option ℕ
+arg_shown Entry arg = None
+arg_shown Exit arg = None
+arg_shown TailExit arg = None
+arg_shown EntryArgs arg = Some arg
+
 -- an event up to its CPU
-abbrev pub event_start : Kind → ℕ → List ℕ
-event_start Entry arg = codes "{\"cpu\":"
-event_start Exit arg = codes "{\"cpu\":"
-event_start TailExit arg = codes "{\"cpu\":"
-event_start EntryArgs arg = codes "{\"args\":{\"arg\":" ++ (decimal arg ++ codes "},\"cpu\":")
+abbrev pub event_start : Option ℕ → List ℕ
+event_start None = codes "{\"cpu\":"
+event_start (Some arg) = codes "{\"args\":{\"arg\":" ++ (decimal arg ++ codes "},\"cpu\":")
 
 -- all that comes after its name
 abbrev pub event_end : ThreadEvent → List ℕ
@@ -26,7 +31,7 @@ event_end e =
 -- an event
 abbrev pub event_json : Option Program → ThreadEvent → List ℕ
 event_json program e =
-    event_start e.event.kind e.event.arg ++ (decimal e.event.cpu ++ (codes ",\"name\":\"" ++ (escape (name_text program e.event.func) ++ event_end e)))
+    event_start (arg_shown e.event.kind e.event.arg) ++ (decimal e.event.cpu ++ (codes ",\"name\":\"" ++ (escape (name_text program e.event.func) ++ event_end e)))
 
 -- an event after the first, with a comma before it
 abbrev pub next_json : Option Program → ThreadEvent → List ℕ
