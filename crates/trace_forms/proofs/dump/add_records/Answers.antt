@@ -1,4 +1,4 @@
-use Rattle.std.proofs.Common.{◌+◌, ◌-◌, ◌++◌, ℕ, List, [], Ok, ap, arith, drop, length, refl, subst, sym}
+use Rattle.std.proofs.Common.{◌+◌, ◌-◌, ◌++◌, ℕ, List, [], Ok, ap, arith, drop, length, refl, subst, sym, take}
 use Rattle.std.proofs.lemmas.List.{take_rest}
 use Rattle.xray_io.specs.Text.{AddsText, adds_failed, adds_more, adds_nothing, adds_within}
 use Rattle.fdr_file.specs.Traces.{record_in, record_length}
@@ -18,9 +18,10 @@ lines-smaller g c = omega (arith, c.record_len.ensures, length_some (drop c.line
 pub lines-preserved : goal.lines-preserved
 lines-preserved g c =
     let given = c.lines.invariant.0 in
-    let rest = take_rest c.args.bytes.now c.lines.at in (
-      given ++ standing_line (c.lines.at, record_in _),
-      lines_more given c.args.bytes.now _ c.lines.at _ c.lines.invariant.1 c.lines-test.true rest c.record_len.ensures,
+    let bytes = c.args.bytes.now in
+    let rest = take (length bytes - c.lines.at) (drop c.lines.at bytes) in (
+      given ++ standing_line (c.lines.at, record_in rest),
+      lines_more given bytes rest c.lines.at c.record_len.result c.lines.invariant.1 c.lines-test.true (take_rest bytes c.lines.at) c.record_len.ensures,
       adds_more g.met.S.Sink.along_both {answer = Ok tt} c.lines.invariant.2 c.in_ok-add_standing.ensures,
     )
 

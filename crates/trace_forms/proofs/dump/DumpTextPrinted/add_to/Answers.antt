@@ -1,7 +1,7 @@
-use Rattle.std.proofs.Common.{◌++◌, ◌∙◌, ℕ, List, ap, sym, refl, append_assoc, arith}
-use Rattle.xray_io.specs.Text.{adds_more, adds_stop, adds_within, adds_failed}
-use Rattle.trace_forms.specs.Dumps.{fault_in, header_line, last_line, record_lines}
-use Rattle.std.proofs.Common.{take}
+use Rattle.std.proofs.Common.{Option, arith, refl, subst, take}
+use Rattle.fdr_file.specs.declared.fault.TraceFault.{TraceFault}
+use Rattle.xray_io.specs.Text.{AddsText, adds_failed, adds_more, adds_stop, adds_within}
+use Rattle.trace_forms.specs.Dumps.{fault_in, last_line, lines_of, record_lines}
 use Rattle.trace_forms.proofs.dump.DumpTextPrinted.add_to.Goals as goal
 
 pub slice_bounds-prefix-end : goal.slice_bounds-prefix-end
@@ -15,8 +15,8 @@ returns-in_err-add_header g c = record {
   adds =
       let dump = c.args.self.now in
       let prefix = take dump.end dump.bytes.now in
-      let last = last_line dump.end (fault_in dump.bytes.now) in
-      adds_failed (adds_stop last (adds_stop (record_lines prefix) c.in_err-add_header.ensures)) c.from_residual.result c.from_residual.ensures.1;
+      adds_failed (adds_stop (last_line dump.end (fault_in dump.bytes.now)) (adds_stop (record_lines prefix) c.in_err-add_header.ensures))
+      c.from_residual.result c.from_residual.ensures.1;
 }
 
 pub returns-in_err-add_records : goal.returns-in_err-add_records
@@ -30,6 +30,8 @@ returns-in_err-add_records g c = record {
 pub returns : goal.returns
 returns g c = record {
   adds =
-      rw (← c.fault_in.ensures)
+      let dump = c.args.self.now in
+      subst (λ (fault : Option TraceFault). AddsText g.S.Sink.written g.S.Sink.faults g.S.Sink.along c.args.to.now c.add_last.new.text
+      (lines_of (take dump.end dump.bytes.now) dump.end fault) c.add_last.result) c.fault_in.ensures
       (adds_more g.met.S.Sink.along_both (adds_more g.met.S.Sink.along_both c.in_ok-add_header.ensures c.in_ok-add_records.ensures) c.add_last.ensures);
 }
