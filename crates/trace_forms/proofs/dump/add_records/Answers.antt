@@ -10,10 +10,10 @@ pub lines-init : goal.lines-init
 lines-init g c = ([], refl, adds_nothing g.met.S.Sink.along_none c.args.text.now)
 
 pub overflow_add-at : goal.overflow_add-at
-overflow_add-at g c = omega (arith, c.record_len.ensures, length_few (drop c.lines.at c.args.bytes.now), ap record_length (take_rest c.args.bytes.now c.lines.at))
+overflow_add-at g c = omega (arith, c.record_len-at.ensures, length_few (drop c.lines.at c.args.bytes.now), ap record_length (take_rest c.args.bytes.now c.lines.at))
 
 pub lines-smaller : goal.lines-smaller
-lines-smaller g c = omega (arith, c.record_len.ensures, length_some (drop c.lines.at c.args.bytes.now), ap record_length (take_rest c.args.bytes.now c.lines.at))
+lines-smaller g c = omega (arith, c.record_len-at.ensures, length_some (drop c.lines.at c.args.bytes.now), ap record_length (take_rest c.args.bytes.now c.lines.at))
 
 pub lines-preserved : goal.lines-preserved
 lines-preserved g c =
@@ -21,7 +21,7 @@ lines-preserved g c =
     let bytes = c.args.bytes.now in
     let rest = take (length bytes - c.lines.at) (drop c.lines.at bytes) in (
       given ++ standing_line (c.lines.at, record_in rest),
-      lines_more given bytes rest c.lines.at c.record_len.result c.lines.invariant.1 c.lines-test.true (take_rest bytes c.lines.at) c.record_len.ensures,
+      lines_more given bytes rest c.lines.at c.record_len-at.result c.lines.invariant.1 c.lines-test.true (take_rest bytes c.lines.at) c.record_len-at.ensures,
       adds_more g.met.S.Sink.along_both {answer = Ok tt} c.lines.invariant.2 c.in_ok-add_standing.ensures,
     )
 

@@ -9,8 +9,8 @@ feed-requires c =
     let few : length c.args.bytes.now < 2 ^ 64 = search rules in
     record { stands = ([], c.new-scan.ensures, tt, omega (arith, few)) }
 
-pub returns-in-Ok : goal.returns-in-Ok
-returns-in-Ok c =
+pub returns : goal.returns
+returns c =
     let bytes = c.args.bytes.now in
     c.err.ensures.value
     ∙ fault_is c.finish.result (blocks_given bytes) (trace_of bytes) (c.finish.ensures.reads bytes (c.in-Ok.ensures.scans [] c.new-scan.ensures tt))

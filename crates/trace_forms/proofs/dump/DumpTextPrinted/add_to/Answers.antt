@@ -1,11 +1,11 @@
-use Rattle.std.proofs.Common.{Option, arith, refl, subst, take}
+use Rattle.std.proofs.Common.{Option, arith, length-take, refl, subst, take}
 use Rattle.fdr_file.specs.declared.fault.TraceFault.{TraceFault}
 use Rattle.xray_io.specs.Text.{AddsText, adds_failed, adds_more, adds_stop, adds_within}
 use Rattle.trace_forms.specs.Dumps.{fault_in, last_line, lines_of, record_lines}
 use Rattle.trace_forms.proofs.dump.DumpTextPrinted.add_to.Goals as goal
 
 pub slice_bounds-prefix-end : goal.slice_bounds-prefix-end
-slice_bounds-prefix-end g c = omega (arith, c.requires.ready.within)
+slice_bounds-prefix-end g c = omega (arith, c.requires.ready.within, length-take c.args.self.now.end c.args.self.now.bytes.now)
 
 pub add_header-requires : goal.add_header-requires
 add_header-requires g c = c.requires.ready.reads
