@@ -1,7 +1,7 @@
 -- The compact text of trace events is put together of its parts.
 use Rattle.std.proofs.Common.{◌≡◌, ℕ, ◌++◌, ◌∙◌, true, false, List, [], ◌∷◌, map, Option, refl, sym, ap, ap₂, append_assoc}
 use Rattle.std.specs.Prelude.{codes}
-use Rattle.json.specs.Print.{escape, escape_byte}
+use Rattle.json.specs.Print.{escape_byte}
 use Rattle.fdr_record.specs.declared.event.Kind.{Kind}
 use Rattle.fdr_record.specs.declared.event.Kind.TheVariants.{Entry, Exit, TailExit, EntryArgs}
 use Rattle.fdr_file.specs.ThreadEvents.{ThreadEvent}

@@ -1,5 +1,5 @@
 -- The lines of a dump.
-use Rattle.std.proofs.Common.{◌≡◌, ℕ, ◌+◌, ◌<◌, ◌≤◌, ◌%◌, ◌++◌, ◌∙◌, List, [], ◌∷◌, length, drop, map, inl, inr, refl, sym, ap, ap₂, arith, lit<, lit≤, eqb, slice_index, append_assoc, Ok, Err}
+use Rattle.std.proofs.Common.{◌≡◌, ℕ, ◌+◌, ◌<◌, ◌≤◌, ◌%◌, ◌++◌, ◌∙◌, List, [], length, drop, map, inl, inr, sym, ap, ap₂, arith, lit<, lit≤, eqb, slice_index, append_assoc, Ok, Err}
 use Rattle.std.specs.Prelude.{codes, decimal, nat_lt, Option, Result, Some}
 use Rattle.std.specs.Result.{result_err}
 use Rattle.std.proofs.Math.ListN.{drop_of_length-le}

@@ -14,7 +14,7 @@ use Rattle.fdr_file.specs.ThreadEvents.{ThreadEvent, event_given, thread_events}
 use Rattle.fdr_file.specs.Traces.{type_in, version_in}
 use Rattle.trace_forms.specs.declared.basic.BasicFault.{BasicFault}
 use Rattle.trace_forms.specs.declared.basic.BasicFault.TheVariants as faults
-use Rattle.trace_forms.specs.BasicLogs.{EventFits, TraceFits, basic_bytes, basic_header, basic_header_bytes, basic_header_rows, basic_of, event_bytes, event_in, events_rows, log_bytes, record_length, record_rows, record_starts}
+use Rattle.trace_forms.specs.BasicLogs.{EventFits, TraceFits, basic_bytes, basic_header, basic_header_rows, basic_of, event_bytes, event_in, events_rows, log_bytes, record_length, record_rows, record_starts}
 use Rattle.trace_forms.specs.Runs.{runs}
 use Rattle.trace_forms.proofs.Places.{starts_first, starts_none}
 use Rattle.trace_forms.proofs.LogRecords.{event_again, record_reads}

@@ -1,5 +1,5 @@
 -- Texts and records, by their pieces.
-use Rattle.std.proofs.Common.{◌≡◌, ℕ, ◌++◌, ◌∙◌, List, [], ◌∷◌, refl, sym, ap, append_assoc}
+use Rattle.std.proofs.Common.{◌≡◌, ℕ, ◌++◌, ◌∙◌, List, [], ◌∷◌, refl, ap, append_assoc}
 use Rattle.std.specs.Prelude.{codes, decimal, replicate, Option, Some}
 use Rattle.std.proofs.lemmas.List.{append-nil}
 use Rattle.json.specs.Print.{escape}

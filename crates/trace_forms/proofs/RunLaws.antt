@@ -1,5 +1,5 @@
 -- The runs of events: one more event at the end, and what is true of them.
-use Rattle.std.proofs.Common.{◌≡◌, ◌≢◌, ◌⊎◌, ◌∙◌, ◌++◌, ℕ, Bool, true, false, cond, List, [], ◌∷◌, map, inl, inr, refl, sym, ap, ap₂, subst, append_assoc}
+use Rattle.std.proofs.Common.{◌≡◌, ◌≢◌, ◌∙◌, ◌++◌, ℕ, true, false, cond, List, [], ◌∷◌, map, inl, inr, refl, sym, ap, ap₂, subst, append_assoc}
 use Rattle.std.specs.Prelude.{◌==◌, ◌&&◌, ⊤, All}
 use Rattle.std.proofs.lemmas.Bool.{and_parts, cases_Bool, eq-eqb, eqb-true, ne_eqb, true≢false}
 use Rattle.std.proofs.lemmas.Bool.Decides.{eqb_tells}

@@ -1,5 +1,5 @@
 -- Basic logs: how the events of a trace are written as a header and a record for each event, and what such bytes read as.
-use Rattle.std.specs.Prelude.{◌≡◌, ◌<◌, ◌^◌, ℕ, List, [], ◌∷◌, ◌++◌, ◌==◌, not, nat_lt, length, drop, replicate, slice_index, All, Option, Some, None, Result, Ok, Err, if◌then◌else◌}
+use Rattle.std.specs.Prelude.{◌<◌, ◌^◌, ℕ, List, [], ◌∷◌, ◌++◌, ◌==◌, not, nat_lt, length, drop, replicate, slice_index, All, Option, Some, None, Result, Ok, Err, if◌then◌else◌}
 use Rattle.std.specs.List.{flat_map, position}
 use Rattle.byteorder.specs.Endian.{little_bytes, little_number}
 use Rattle.xray_io.specs.Rows.{First, InTurn, NeedsPart, ◌>>=◌}
@@ -85,13 +85,17 @@ kind_byte bytes = slice_index bytes 3
 
 -- the thread, the process and the event that the bytes of a record of this kind say
 abbrev pub event_in : Kind → List ℕ → ℕ × ℕ × Event
-event_in kind bytes = (little_number 4 (drop 16 bytes), little_number 4 (drop 20 bytes), record {
-  cpu = slice_index bytes 2;
-  func = little_number 4 (drop 4 bytes);
-  kind = kind;
-  tsc = little_number 8 (drop 8 bytes);
-  arg = arg_logged kind (little_number 8 (drop 24 bytes));
-})
+event_in kind bytes = (
+  little_number 4 (drop 16 bytes),
+  little_number 4 (drop 20 bytes),
+  record {
+    cpu = slice_index bytes 2;
+    func = little_number 4 (drop 4 bytes);
+    kind = kind;
+    tsc = little_number 8 (drop 8 bytes);
+    arg = arg_logged kind (little_number 8 (drop 24 bytes));
+  },
+)
 
 -- the record that bytes begin with, at this place of the file
 abbrev pub record_rows : ℕ → List ℕ → Result (ℕ × ℕ × Event) BasicFault

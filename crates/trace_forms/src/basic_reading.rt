@@ -14,16 +14,24 @@ use std::alloc::Global;
 
 /// The places of a header's fields.
 const TYPE_AT: usize = 2;
+
 const FLAGS_AT: usize = 4;
+
 const FREQUENCY_AT: usize = 8;
 
 /// The places of a record's fields.
 const CPU_AT: usize = 2;
+
 const KIND_AT: usize = 3;
+
 const FUNC_AT: usize = 4;
+
 const TSC_AT: usize = 8;
+
 const THREAD_AT: usize = 16;
+
 const PID_AT: usize = 20;
+
 const ARG_AT: usize = 24;
 
 /// Reads a basic log: a header, and a record for each event, up to the file's end. Each run of

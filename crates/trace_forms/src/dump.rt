@@ -8,11 +8,11 @@ ghost use Rattle.xray_io.specs.{Piece.{piece_text}, Text.{AddsText}, Writes.{Wri
 ghost use Rattle.trace_forms.specs.Dumps.{dump_text, fault_in as first_fault, header_line, kind_word, last_line, record_line, record_lines, record_text, standing_line};
 
 use crate::records::{record_len, record_of};
+use fault_words::Fault;
 use fdr_file::{
     EventCursor, KeepNothing, TraceFault, TraceScan, a_file_is_read_by_records, readable,
 };
 use fdr_record::{Kind, Rec};
-use fault_words::Fault;
 use trace_words::TraceRefusal;
 use xray_io::{Piece, Printed, Sink, Text, WriteFault, write_text};
 
@@ -124,7 +124,13 @@ fn add_fields<S: Sink>(text: &mut Text<S>, rec: &Rec) -> Result<(), WriteFault>
     match *rec {
         Rec::Extents { size } => add_field(text, b"extents ", size),
         Rec::NewBuffer { thread } => add_field(text, b"new-buffer ", u64::from(thread)),
-        Rec::WallTime { wall } => add_fields_of(text, b"wall-time ", wall.secs, b".", u64::from(wall.micros)),
+        Rec::WallTime { wall } => add_fields_of(
+            text,
+            b"wall-time ",
+            wall.secs,
+            b".",
+            u64::from(wall.micros),
+        ),
         Rec::Pid { pid } => add_field(text, b"pid ", u64::from(pid)),
         Rec::NewCpu { cpu, tsc } => add_fields_of(text, b"new-cpu ", u64::from(cpu), b" ", tsc),
         Rec::TscWrap { tsc } => add_field(text, b"tsc-wrap ", tsc),

@@ -11,7 +11,8 @@ use xray_io::{MemSink, Text, Wall};
 /// A header with a constant and nonstop counter, and with buffers of 16,384 bytes. Then the extents
 /// of a block of 80 bytes, and its records: thread 1, the wall time 0, process 1, CPU 0 with the
 /// counter 0, an entry of function 1, and its exit two cycles later.
-const TRACE: [u8; 128] = *b"\x03\0\x01\0\x03\0\0\0\0\0\0\0\0\0\0\0\0\x40\0\0\0\0\0\0\0\0\0\0\0\0\0\0\
+const TRACE: [u8; 128] =
+    *b"\x03\0\x01\0\x03\0\0\0\0\0\0\0\0\0\0\0\0\x40\0\0\0\0\0\0\0\0\0\0\0\0\0\0\
 \x0F\x50\0\0\0\0\0\0\0\0\0\0\0\0\0\0\
 \x01\x01\0\0\0\0\0\0\0\0\0\0\0\0\0\0\
 \x09\0\0\0\0\0\0\0\0\0\0\0\0\0\0\0\
@@ -42,7 +43,10 @@ const EVENTS: &str = "{\"traceEvents\":[\
 #[test]
 fn a_call_is_printed_as_trace_events(rt: HostRuntime) -> Result<(), Fail> {
     let trace = read_trace(rt.alloc(), &TRACE)?;
-    assert_eq!(rt; event_text(rt.alloc(), &trace, None)?.as_slice(), EVENTS.as_bytes());
+    assert_eq!(rt;
+        event_text(rt.alloc(), &trace, None)?.as_slice(),
+        EVENTS.as_bytes()
+    );
     Ok(())
 }
 
@@ -54,7 +58,10 @@ fn a_call_is_written_as_a_basic_log(rt: HostRuntime) -> Result<(), Fail> {
     write_basic(&trace, &mut sink)?;
     assert_eq!(rt; sink.bytes(), LOG.as_slice());
     let back = read_basic(rt.alloc(), &LOG)?;
-    assert_eq!(rt; event_text(rt.alloc(), &back, None)?.as_slice(), EVENTS.as_bytes());
+    assert_eq!(rt;
+        event_text(rt.alloc(), &back, None)?.as_slice(),
+        EVENTS.as_bytes()
+    );
     assert_eq!(rt; back.blocks.as_slice().len(), 1);
     Ok(())
 }
@@ -100,7 +107,10 @@ fn a_call_is_dumped(rt: HostRuntime) -> Result<(), Fail> {
     assert_eq!(rt; sink.bytes(), DUMP.as_bytes());
     let mut cut = MemSink::new(rt.alloc(), Vec::new(rt.alloc()));
     write_dump(&TRACE[..100], &mut cut)?;
-    assert_eq!(rt; cut.bytes(), "0 header version 3 type 1\nstop 32 Short 32\n".as_bytes());
+    assert_eq!(rt;
+        cut.bytes(),
+        "0 header version 3 type 1\nstop 32 Short 32\n".as_bytes()
+    );
     Ok(())
 }
 
@@ -163,13 +173,19 @@ fn an_argument_comes_first(rt: HostRuntime) -> Result<(), Fail> {
 #[test]
 fn an_empty_trace_has_a_text_in_each_form(rt: HostRuntime) -> Result<(), Fail> {
     let trace = read_trace(rt.alloc(), &TRACE[..32])?;
-    assert_eq!(rt; event_text(rt.alloc(), &trace, None)?.as_slice(), b"{\"traceEvents\":[]}\n".as_slice());
+    assert_eq!(rt;
+        event_text(rt.alloc(), &trace, None)?.as_slice(),
+        b"{\"traceEvents\":[]}\n".as_slice()
+    );
     let mut log = MemSink::new(rt.alloc(), Vec::new(rt.alloc()));
     write_basic(&trace, &mut log)?;
     assert_eq!(rt; log.bytes(), &LOG[..32]);
     let mut dump = MemSink::new(rt.alloc(), Vec::new(rt.alloc()));
     write_dump(&TRACE[..32], &mut dump)?;
-    assert_eq!(rt; dump.bytes(), b"0 header version 3 type 1\nend 32\n".as_slice());
+    assert_eq!(rt;
+        dump.bytes(),
+        b"0 header version 3 type 1\nend 32\n".as_slice()
+    );
     Ok(())
 }
 
@@ -181,7 +197,10 @@ fn a_trace_may_have_1048576_events(rt: HostRuntime) -> Result<(), Fail> {
     assert_eq!(rt; wide_cpu(&trace), None);
     let more = vec![in rt.alloc(); entry(255); 1_048_577]?;
     let longer = trace_of(rt.alloc(), more)?;
-    assert_eq!(rt; event_text(rt.alloc(), &longer, None).err(), Some(EventFault::Many));
+    assert_eq!(rt;
+        event_text(rt.alloc(), &longer, None).err(),
+        Some(EventFault::Many)
+    );
     Ok(())
 }
 
@@ -199,7 +218,10 @@ fn runs_of_one_thread_and_process_are_blocks(rt: HostRuntime) -> Result<(), Fail
     assert_eq!(rt; blocks.len(), 4);
     let sizes = [(1, 1, 1), (1, 2, 2), (1, 1, 1), (9, 1, 1)];
     for (block, size) in blocks.iter().zip(&sizes) {
-        assert_eq!(rt; (block.thread, block.pid, block.events.as_slice().len()), *size);
+        assert_eq!(rt;
+            (block.thread, block.pid, block.events.as_slice().len()),
+            *size
+        );
         assert_eq!(rt; block.wall, Wall { secs: 0, micros: 0 });
     }
     Ok(())
@@ -209,7 +231,10 @@ fn runs_of_one_thread_and_process_are_blocks(rt: HostRuntime) -> Result<(), Fail
 fn characters_are_escaped(rt: HostRuntime) -> Result<(), Fail> {
     let mut sink = MemSink::new(rt.alloc(), Vec::new(rt.alloc()));
     let mut text = Text::new(&mut sink);
-    add_escaped(&mut text, "a\"b\\c\u{8}\u{c}\n\r\t\0\u{1f}\u{7f}\u{e9}/".as_bytes())?;
+    add_escaped(
+        &mut text,
+        "a\"b\\c\u{8}\u{c}\n\r\t\0\u{1f}\u{7f}\u{e9}/".as_bytes(),
+    )?;
     add_escaped(&mut text, b"plain.name$1_")?;
     text.done()?;
     let wanted = "a\\\"b\\\\c\\b\\f\\n\\r\\t\\u0000\\u001f\u{7f}\u{e9}/plain.name$1_";

@@ -1,4 +1,4 @@
-use Rattle.std.proofs.Common.{◌≡◌, ◌++◌, ◌∙◌, List, ℕ, [], ◌∷◌, None, Ok, ap, arith, refl, subst, sym}
+use Rattle.std.proofs.Common.{◌++◌, ◌∙◌, List, ℕ, [], ◌∷◌, Ok, ap, arith, refl, subst, sym}
 use Rattle.std.specs.List.{flat_map}
 use Rattle.xray_io.specs.Text.{AddsText, adds_failed, adds_more, adds_nothing, adds_within}
 use Rattle.fdr_file.specs.ThreadEvents.{ThreadEvent}

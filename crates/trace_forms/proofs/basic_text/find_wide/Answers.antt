@@ -1,6 +1,5 @@
-use Rattle.std.proofs.Common.{◌∙◌, ◌+◌, ◌<◌, ◌≤◌, ap, arith, length, sym}
+use Rattle.std.proofs.Common.{◌∙◌, ap, arith, length, sym}
 use Rattle.std.proofs.lemmas.Option.{MatchOption-at_none}
-use Rattle.fdr_file.specs.ThreadEvents.{ThreadEvent}
 use Rattle.trace_forms.proofs.Wide.{narrow_on, wide_from_zero, wide_here, wide_nowhere}
 use Rattle.trace_forms.proofs.basic_text.find_wide.Goals as goal
 

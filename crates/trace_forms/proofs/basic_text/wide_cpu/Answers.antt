@@ -1,4 +1,4 @@
-use Rattle.std.proofs.Common.{◌∙◌, ◌<◌, ◌^◌, ℕ, List, ap, length, subst, sym}
+use Rattle.std.proofs.Common.{◌∙◌, ◌<◌, ◌^◌, List, ap, length, subst, sym}
 use Rattle.fdr_file.specs.ThreadEvents.{ThreadEvent}
 use Rattle.trace_forms.specs.BasicLogs.{wide_cpu}
 use Rattle.trace_forms.proofs.basic_text.wide_cpu.Goals as goal

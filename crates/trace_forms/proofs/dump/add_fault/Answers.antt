@@ -1,4 +1,4 @@
-use Rattle.std.proofs.Common.{[], ℕ, List, Option, Ok, None, ap, subst}
+use Rattle.std.proofs.Common.{[], ℕ, List, Option, Ok, subst}
 use Rattle.std.specs.Option.{unwrap_or}
 use Rattle.xray_io.specs.Text.{AddsText, adds_nothing}
 use Rattle.trace_forms.proofs.Lines.{words_of}

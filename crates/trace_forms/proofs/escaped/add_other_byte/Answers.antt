@@ -1,4 +1,4 @@
-use Rattle.std.proofs.Common.{◌≡◌, ℕ, List, subst}
+use Rattle.std.proofs.Common.{ℕ, List, subst}
 use Rattle.xray_io.specs.Text.{AddsText}
 use Rattle.trace_forms.proofs.Escapes.{control_byte, other_byte}
 use Rattle.trace_forms.proofs.escaped.add_other_byte.Goals as goal

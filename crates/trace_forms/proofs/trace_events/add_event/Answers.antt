@@ -1,4 +1,4 @@
-use Rattle.std.proofs.Common.{◌++◌, ℕ, List, sym, subst}
+use Rattle.std.proofs.Common.{◌++◌, ℕ, List, subst}
 use Rattle.std.specs.Prelude.{codes, decimal}
 use Rattle.std.specs.Option.{option_map}
 use Rattle.json.specs.Print.{escape}

@@ -1,4 +1,4 @@
-use Rattle.std.proofs.Common.{ℕ, List, Ok, ap, subst, sym}
+use Rattle.std.proofs.Common.{List, Ok, ap, subst, sym}
 use Rattle.std.specs.Option.{option_map}
 use Rattle.fdr_file.specs.ThreadEvents.{ThreadEvent}
 use Rattle.xray_io.specs.Text.{AddsText, adds_failed, adds_more, adds_nothing, adds_stop}

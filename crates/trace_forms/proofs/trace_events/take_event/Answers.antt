@@ -1,4 +1,4 @@
-use Rattle.std.proofs.Common.{Bool, ap, subst, sym}
+use Rattle.std.proofs.Common.{Bool, subst, sym}
 use Rattle.std.specs.Prelude.{◌≡◌, ◌+◌, [], MatchBool, length}
 use Rattle.fdr_file.specs.ThreadEvents.{event_given}
 use Rattle.trace_forms.proofs.GivenTexts.{taken}
