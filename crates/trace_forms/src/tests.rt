@@ -1,12 +1,16 @@
 //! One call, entered at the counter 0 and left at 2, in each form, and logs that are damaged.
 
+ghost use Rattle.std.specs.Prelude.{◌≡◌, IfOk};
+ghost use Rattle.fdr_file.specs.ThreadEvents.{thread_events};
+ghost use Rattle.trace_forms.specs.BasicLogs.{wide_cpu as first_wide};
+
 use crate::escaped::add_escaped;
 use crate::*;
-use fdr_file::{Block, Blocks, Events, Header, Trace, read_trace};
+use fdr_file::{Block, Blocks, Events, Header, Trace, read_trace, readable};
 use fdr_record::{Event, Kind};
 use std::alloc::{AllocError, Global};
 use std::test::Fail;
-use xray_io::{MemSink, Text, Wall};
+use xray_io::{MemSink, Text, Wall, WriteFault};
 
 /// A header with a constant and nonstop counter, and with buffers of 16,384 bytes. Then the extents
 /// of a block of 80 bytes, and its records: thread 1, the wall time 0, process 1, CPU 0 with the
@@ -40,6 +44,36 @@ const EVENTS: &str = "{\"traceEvents\":[\
 {\"cpu\":0,\"name\":\"#1\",\"ph\":\"B\",\"pid\":1,\"tid\":1,\"ts\":0},\
 {\"cpu\":0,\"name\":\"#1\",\"ph\":\"E\",\"pid\":1,\"tid\":1,\"ts\":2}]}\n";
 
+/// The number of the first event of a trace whose CPU is above 255, if it hasn't too many events.
+fn wide_of(trace: &Trace) -> Result<Option<u64>, EventFault>
+    ensures { IfOk result (λ wide. wide ≡ first_wide (thread_events trace.now.blocks)) }
+{
+    if has_too_many(&mut TraceCursor::new(trace)) {
+        return Err(EventFault::Many);
+    }
+    Ok(wide_cpu(trace))
+}
+
+/// The basic log of a trace, or nothing if a CPU is above 255.
+fn log_of(alloc: Global, trace: &Trace) -> Result<MemSink, Fail> {
+    let mut sink = MemSink::new(alloc, Vec::new(alloc));
+    match wide_of(trace)? {
+        None => write_basic(trace, &mut sink)?,
+        Some(_) => (),
+    }
+    Ok(sink)
+}
+
+/// The dump of a file, or nothing if its header has a fault.
+fn dump_of(alloc: Global, bytes: &[u8]) -> Result<MemSink, WriteFault> {
+    let mut sink = MemSink::new(alloc, Vec::new(alloc));
+    match readable(bytes) {
+        Ok(_end) => write_dump(bytes, &mut sink)?,
+        Err(_) => (),
+    }
+    Ok(sink)
+}
+
 #[test]
 fn a_call_is_printed_as_trace_events(rt: HostRuntime) -> Result<(), Fail> {
     let trace = read_trace(rt.alloc(), &TRACE)?;
@@ -53,10 +87,9 @@ fn a_call_is_printed_as_trace_events(rt: HostRuntime) -> Result<(), Fail> {
 #[test]
 fn a_call_is_written_as_a_basic_log(rt: HostRuntime) -> Result<(), Fail> {
     let trace = read_trace(rt.alloc(), &TRACE)?;
-    assert_eq!(rt; wide_cpu(&trace), None);
-    let mut sink = MemSink::new(rt.alloc(), Vec::new(rt.alloc()));
-    write_basic(&trace, &mut sink)?;
-    assert_eq!(rt; sink.bytes(), LOG.as_slice());
+    assert_eq!(rt; wide_of(&trace)?, None);
+    let log = log_of(rt.alloc(), &trace)?;
+    assert_eq!(rt; log.bytes(), LOG.as_slice());
     let back = read_basic(rt.alloc(), &LOG)?;
     assert_eq!(rt;
         event_text(rt.alloc(), &back, None)?.as_slice(),
@@ -102,11 +135,9 @@ fn damaged_logs_are_refused(rt: HostRuntime) -> Result<(), Fail> {
 
 #[test]
 fn a_call_is_dumped(rt: HostRuntime) -> Result<(), Fail> {
-    let mut sink = MemSink::new(rt.alloc(), Vec::new(rt.alloc()));
-    write_dump(&TRACE, &mut sink)?;
-    assert_eq!(rt; sink.bytes(), DUMP.as_bytes());
-    let mut cut = MemSink::new(rt.alloc(), Vec::new(rt.alloc()));
-    write_dump(&TRACE[..100], &mut cut)?;
+    let whole = dump_of(rt.alloc(), &TRACE)?;
+    assert_eq!(rt; whole.bytes(), DUMP.as_bytes());
+    let cut = dump_of(rt.alloc(), &TRACE[..100])?;
     assert_eq!(rt;
         cut.bytes(),
         "0 header version 3 type 1\nstop 32 Short 32\n".as_bytes()
@@ -166,7 +197,7 @@ fn an_argument_comes_first(rt: HostRuntime) -> Result<(), Fail> {
 {\"args\":{\"arg\":18446744073709551615},\"cpu\":3,\"name\":\"#2\",\"ph\":\"B\",\"pid\":9,\"tid\":7,\"ts\":18446744073709551615},\
 {\"cpu\":256,\"name\":\"#2\",\"ph\":\"E\",\"pid\":9,\"tid\":7,\"ts\":0}]}\n";
     assert_eq!(rt; text.as_slice(), wanted.as_bytes());
-    assert_eq!(rt; wide_cpu(&trace), Some(1));
+    assert_eq!(rt; wide_of(&trace)?, Some(1));
     Ok(())
 }
 
@@ -177,11 +208,9 @@ fn an_empty_trace_has_a_text_in_each_form(rt: HostRuntime) -> Result<(), Fail> {
         event_text(rt.alloc(), &trace, None)?.as_slice(),
         b"{\"traceEvents\":[]}\n".as_slice()
     );
-    let mut log = MemSink::new(rt.alloc(), Vec::new(rt.alloc()));
-    write_basic(&trace, &mut log)?;
+    let log = log_of(rt.alloc(), &trace)?;
     assert_eq!(rt; log.bytes(), &LOG[..32]);
-    let mut dump = MemSink::new(rt.alloc(), Vec::new(rt.alloc()));
-    write_dump(&TRACE[..32], &mut dump)?;
+    let dump = dump_of(rt.alloc(), &TRACE[..32])?;
     assert_eq!(rt;
         dump.bytes(),
         b"0 header version 3 type 1\nend 32\n".as_slice()
@@ -194,7 +223,7 @@ fn a_trace_may_have_1048576_events(rt: HostRuntime) -> Result<(), Fail> {
     let most = vec![in rt.alloc(); entry(255); 1_048_576]?;
     let trace = trace_of(rt.alloc(), most)?;
     assert_eq!(rt; has_too_many(&mut TraceCursor::new(&trace)), false);
-    assert_eq!(rt; wide_cpu(&trace), None);
+    assert_eq!(rt; wide_of(&trace)?, None);
     let more = vec![in rt.alloc(); entry(255); 1_048_577]?;
     let longer = trace_of(rt.alloc(), more)?;
     assert_eq!(rt;
