@@ -190,7 +190,14 @@ pub(crate) const STACK_FORMAT: OptionRow = OptionRow {
 /// The form that a trace is converted to.
 pub(crate) const CONVERT_FORMAT: OptionRow = OptionRow {
     name: "format",
-    values: Values::Listed(&["yaml"]),
+    values: Values::Listed(&["yaml", "trace-event", "basic"]),
+    default: Some(0),
+};
+
+/// The form of the trace that is converted.
+pub(crate) const INPUT: OptionRow = OptionRow {
+    name: "input",
+    values: Values::Listed(&["fdr", "basic"]),
     default: Some(0),
 };
 
@@ -294,11 +301,18 @@ pub(crate) const STACK: CommandRow = CommandRow {
     options: &[STACK_FORMAT],
 };
 
-/// `convert TRACE [IMAGE]`: prints a trace as a text in YAML.
+/// `convert TRACE [IMAGE]`: prints a trace in another form.
 pub(crate) const CONVERT: CommandRow = CommandRow {
     word: "convert",
     files: &[TRACE, NAMING_IMAGE],
-    options: &[CONVERT_FORMAT],
+    options: &[CONVERT_FORMAT, INPUT],
+};
+
+/// `fdr-dump TRACE`: prints the records of a trace.
+pub(crate) const DUMP: CommandRow = CommandRow {
+    word: "fdr-dump",
+    files: &[TRACE],
+    options: &[],
 };
 
 /// `asm TEXT IMAGE`: assembles an image.

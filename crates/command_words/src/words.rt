@@ -9,13 +9,14 @@ ghost use Rattle.command_words.specs.private.Verbs.{command_by, report_said, row
 use crate::cutting::cut_line;
 use crate::line::Line;
 use crate::report_options::{
-    AccountOptions, ReportFiles, StackFormat, account_options_in, report_files_in, stack_format_in,
+    AccountOptions, ConvertOptions, ReportFiles, StackFormat, account_options_in,
+    convert_options_in, report_files_in, stack_format_in,
 };
 use crate::rows::CommandRow;
 use crate::run_options::{Bounds, RunOptions, bounds_in, run_options_in};
 use crate::tables::{
-    ACCOUNT, ASM, CONVERT, CONVERT_FORMAT, EXTRACT, MAP_VERSION, PLAIN, RELATIVE_MAP, RUN, SEEDS,
-    SIM, SOAK, STACK, THRESHOLD,
+    ACCOUNT, ASM, CONVERT, DUMP, EXTRACT, MAP_VERSION, PLAIN, RELATIVE_MAP, RUN, SEEDS, SIM, SOAK,
+    STACK, THRESHOLD,
 };
 use std::alloc::{AllocError, Global};
 use xray_io::Wall;
@@ -93,12 +94,19 @@ pub enum Command<'a> {
         /// The form in which the stacks are printed.
         format: StackFormat,
     },
-    /// Prints a trace as a text in YAML.
+    /// Prints a trace in another form.
     Convert {
         /// The trace.
         trace: &'a str,
         /// The image that names the functions, if there is one.
         image: Option<&'a str>,
+        /// The form that it is converted to, and the form that it has.
+        options: ConvertOptions,
+    },
+    /// Prints the records of a trace.
+    Dump {
+        /// The trace.
+        trace: &'a str,
     },
     /// Replays a schedule over a large image and a script, all drawn from a number, and prints a
     /// summary.
@@ -150,6 +158,8 @@ enum Verb {
     Asm,
     /// A report on a trace.
     Report(Report),
+    /// `fdr-dump TRACE`.
+    Dump,
     /// `soak SEED`.
     Soak,
 }
@@ -186,6 +196,8 @@ impl Verb {
             Some(Verb::Report(Report::Stack))
         } else if word == CONVERT.word {
             Some(Verb::Report(Report::Convert))
+        } else if word == DUMP.word {
+            Some(Verb::Dump)
         } else if word == SOAK.word {
             Some(Verb::Soak)
         } else {
@@ -206,6 +218,7 @@ impl Verb {
             Verb::Report(Report::Account) => ACCOUNT,
             Verb::Report(Report::Stack) => STACK,
             Verb::Report(Report::Convert) => CONVERT,
+            Verb::Dump => DUMP,
             Verb::Soak => SOAK,
         }
     }
@@ -235,6 +248,10 @@ fn command_in<'a>(verb: Verb, wall: Wall, line: &Line<'a>) -> Option<Command<'a>
         Verb::Run => run_in(wall, line),
         Verb::Asm => asm_in(line),
         Verb::Report(report) => report_in(report, line),
+        Verb::Dump => match files {
+            [trace] => Some(Command::Dump { trace }),
+            _ => None,
+        },
         Verb::Soak => match files {
             [seed] => {
                 let number = SEEDS.number_of(seed)?;
@@ -317,9 +334,10 @@ fn report_in<'a>(report: Report, line: &Line<'a>) -> Option<Command<'a>>
             image,
             format: stack_format_in(line)?,
         }),
-        Report::Convert => {
-            let _yaml = CONVERT_FORMAT.number_in(line)?;
-            Some(Command::Convert { trace, image })
-        }
+        Report::Convert => Some(Command::Convert {
+            trace,
+            image,
+            options: convert_options_in(line)?,
+        }),
     }
 }
