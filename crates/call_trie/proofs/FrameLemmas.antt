@@ -1,10 +1,10 @@
 -- The frames of open calls, listed from the outermost to the innermost.
-use Rattle.std.proofs.Common.{◌≡◌, ◌≢◌, ◌+◌, ◌-◌, ◌%◌, ◌^◌, ◌++◌, ◌<◌, ◌≤◌, ◌∙◌, ℕ, zero, suc, Bool, true, false, cond, List, [], ◌∷◌, length, map, reverse, take, refl, ap, sym, subst, arith, nat_eq, get_or, set, length-append, count_by, sum_by}
-use Rattle.std.specs.Prelude.{All, replicate}
+use Rattle.std.proofs.Common.{◌≡◌, ◌≢◌, ◌+◌, ◌-◌, ◌%◌, ◌^◌, ◌++◌, ◌<◌, ◌≤◌, ◌∙◌, ℕ, zero, suc, Bool, true, false, cond, List, [], ◌∷◌, length, map, reverse, take, refl, ap, sym, subst, arith, nat_eq, get_or, set, length-append, count_by, sum_by, Option, Some, None}
+use Rattle.std.specs.Prelude.{⊤, All, MatchOption, replicate}
 use Rattle.std.proofs.Math.Seq.{get_or-append_seam, set-append_seam, take-length}
 use Rattle.std.proofs.lemmas.Bool.{eq-eqb}
 use Rattle.std.proofs.lemmas.Bool.Decides.{nat_tests}
-use Rattle.std.proofs.lemmas.List.{get_or-map, get_or-replicate, get_or-set_other, get_or-set_same, length-map, length-replicate, length-reverse, length-set, map-append, map-set, reverse-append, reverse-reverse, take_more}
+use Rattle.std.proofs.lemmas.List.{get_or-map, get_or-replicate, get_or-set_other, get_or-set_same, length-map, length-replicate, length-reverse, length-set, length-take, map-append, map-set, reverse-append, reverse-reverse, take_more}
 use Rattle.std.proofs.lemmas.List.Elements.{All-cons, All-head, All-nil, All-tail}
 use Rattle.std.proofs.lemmas.List.Sorted.{All-permutation, IsPermutation-map, IsPermutation-reverse, sum_by-IsPermutation}
 use Rattle.std.proofs.lemmas.List.Sums.{sum_by-append, sum_by-cons}
@@ -12,7 +12,7 @@ use Rattle.stack_rebuild.specs.OpenPaths.{OpenPath, innermost_path, open_from, w
 use Rattle.stack_rebuild.specs.PathSums.{path_at}
 use Rattle.call_trie.specs.declared.frames.Frame.{Frame}
 use Rattle.call_trie.specs.private.Frames.{AreCounts, AreWithin, is_like, node_in, open_in, open_path}
-use Rattle.call_trie.proofs.NodeLemmas.{path_kept}
+use Rattle.call_trie.proofs.NodeLemmas.{last_same, others_same, path_kept}
 
 -- ---- one more frame
 
@@ -56,6 +56,87 @@ pub from_other : (paths : List (List ℕ)) (frames : List Frame) (func p : ℕ) 
 from_other paths frames func p d within is =
     ap (open_from func) (open_at paths frames p d within)
     ∙ ap (λ b. cond b (open_path paths (get_or frames p d) ∷ open_in paths (take p frames)) (open_from func (open_in paths (take p frames)))) is
+
+-- ---- frames that end
+
+-- the innermost frame ended, if there was one
+abbrev pub IsCut : List Frame → List Frame → Option Frame → Type 0
+IsCut frames left r = MatchOption r ((frames ≡ []) × (left ≡ [])) (λ frame. frames ≡ left ++ frame ∷ [])
+
+-- what is left is the outermost frames, with the one at a place
+pub record AreLeft (frames left : List Frame) (place : ℕ) : Type 0 where
+  pub some : place < length left
+  pub are : left ≡ take (length left) frames
+
+pub left_all : (frames : List Frame) (place : ℕ) → place < length frames → AreLeft frames frames place
+left_all frames place within = record { some = within; are = sym (take-length frames) }
+
+-- a frame at the end of the outermost frames
+record IsLast (frames new : List Frame) (frame : Frame) : Type 0 where
+  within : length new < length frames
+  rest : new ≡ take (length new) frames
+  is : (d : Frame) → get_or frames (length new) d ≡ frame
+
+last_left : (frames left new : List Frame) (frame : Frame) → left ≡ take (length left) frames → left ≡ new ++ frame ∷ [] → IsLast frames new frame
+last_left frames left new frame are were = record {
+  within = within;
+  rest = others_same new (take (length new) frames) frame (get_or frames (length new) frame) (both frame);
+  is = λ d. sym (last_same new (take (length new) frames) frame (get_or frames (length new) d) (both d));
+}
+  where
+    size : length left ≡ length new + 1
+    size = omega (arith, ap {B = ℕ} length were, length-append new (frame ∷ []))
+
+    within : length new < length frames
+    within = omega (arith, size, ap {B = ℕ} length are, length-take (length left) frames)
+
+    both : (d : Frame) → new ++ frame ∷ [] ≡ take (length new) frames ++ get_or frames (length new) d ∷ []
+    both d = sym were ∙ (are ∙ (ap (λ (n : ℕ). take n frames) size ∙ take_more frames (length new) d within))
+
+-- one frame fewer
+pub left_fewer : (frames left new : List Frame) (r : Option Frame) (place : ℕ) → AreLeft frames left place → place + 1 < length left → IsCut left new r → AreLeft frames new place
+left_fewer frames left new None place own more cut = absurd (omega (arith, more, ap {B = ℕ} length cut.0))
+left_fewer frames left new (Some frame) place own more cut =
+    let last = last_left frames left new frame own.are cut in record {
+      some = omega (arith, more, ap {B = ℕ} length cut, length-append new (frame ∷ []));
+      are = last.rest;
+    }
+
+pub cut_fewer : (left new : List Frame) (r : Option Frame) → 0 < length left → IsCut left new r → length new < length left
+cut_fewer left new None some cut = absurd (omega (arith, some, ap {B = ℕ} length cut.0))
+cut_fewer left new (Some frame) some cut = omega (arith, ap {B = ℕ} length cut, length-append new (frame ∷ []))
+
+-- the innermost call of a function ended, and those inside it
+pub record IsEnded (func : ℕ) (frames new : List Frame) (r : Option Frame) : Type 0 where
+  pub ended : (paths : List (List ℕ)) → MatchOption r ((open_from func (open_in paths frames) ≡ []) × (new ≡ frames))
+      (λ frame. open_from func (open_in paths frames) ≡ open_path paths frame ∷ open_in paths new)
+  pub place : MatchOption r ⊤ (λ frame. (place : ℕ) × (place < length frames) × (new ≡ take place frames) × ((d : Frame) → get_or frames place d ≡ frame))
+
+-- its frame is at a place
+abbrev pub IsFrom : ℕ → List Frame → ℕ → Type 0
+IsFrom func frames place =
+    (paths : List (List ℕ)) (d : Frame) → (place < length frames) × (open_from func (open_in paths frames) ≡ open_path paths (get_or frames place d) ∷ open_in paths (take place frames))
+
+pub ended_by : (func place : ℕ) (frames left new : List Frame) (r : Option Frame) → IsFrom func frames place → AreLeft frames left place → length left ≤ place + 1
+    → IsCut left new r → IsEnded func frames new r
+ended_by func place frames left new None from own few cut = absurd (omega (arith, own.some, ap {B = ℕ} length cut.0))
+ended_by func place frames left new (Some frame) from own few cut = record {
+  ended = λ paths. (from paths frame).1
+      ∙ (ap (λ (f : Frame). open_path paths f ∷ open_in paths (take place frames)) (here frame) ∙ ap (λ (fs : List Frame). open_path paths frame ∷ open_in paths fs) (sym rest));
+  place = (place, (from [] frame).0, rest, here);
+}
+  where
+    last : IsLast frames new frame
+    last = last_left frames left new frame own.are cut
+
+    at : length new ≡ place
+    at = omega (arith, few, own.some, ap {B = ℕ} length cut, length-append new (frame ∷ []))
+
+    rest : new ≡ take place frames
+    rest = last.rest ∙ ap (λ (n : ℕ). take n frames) at
+
+    here : (d : Frame) → get_or frames place d ≡ frame
+    here d = ap (λ (n : ℕ). get_or frames n d) (sym at) ∙ last.is d
 
 -- ---- what was spent in the innermost frame
 

@@ -5,5 +5,6 @@ pub mod FrameLemmas
 pub mod Grouping
 pub mod Joining
 pub mod NodeLemmas
+pub mod Recording
 pub mod Standing
 pub mod TableLemmas

@@ -100,7 +100,7 @@ impl Frames {
             × ((d : Frame) → slice_index_or self.old place d ≡ frame)) }
     {
         let place = self.place_of(func)?;
-        'ending: while self.frames.len() > place + 1 {
+        'ending: while self.len() > place + 1 {
             self.end_innermost();
         }
         self.end_innermost()
