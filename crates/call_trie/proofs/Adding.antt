@@ -45,13 +45,18 @@ grown path n old new other p m number same at = subst (λ (ps : List (List ℕ))
           is = get_or-append old (path ∷ []) [] m at.within ∙ at.is;
         })
 
+-- the path without its last function has a lower number
+pub parent_low : (steps : List Step) (paths : List (List ℕ)) (k : ℕ) (step : Step) → Climb steps paths → IsNumberOf steps step (k + 1) → step.parent ≤ k
+parent_low steps paths k step climb own =
+    let here : (get_or steps k step).parent ≤ k = climb.lower k step (omega (arith, own.within)) in
+    let is : get_or steps k step ≡ step = ap (λ (n : ℕ). get_or steps n step) (let e : k ≡ k + 1 - 1 = omega arith in e) ∙ own.is step in
+    subst (λ (s : Step). s.parent ≤ k) is here
+
 -- the number of the path without its last function
 pub parent_number : (old now : Summed) (steps : List Step) (paths : List (List ℕ)) (tallies : List Tally) (numbers : List ℕ) (k : ℕ) (step : Step) → Climb steps paths
     → Adds old now paths tallies numbers k → IsNumberOf steps step (k + 1) → IsAt now.paths (path_at paths step.parent) (get_or numbers step.parent 0)
 parent_number old now steps paths tallies numbers k step climb adds own =
-    let here : (get_or steps k step).parent ≤ k = climb.lower k step (omega (arith, own.within)) in
-    let is : get_or steps k step ≡ step = ap (λ (n : ℕ). get_or steps n step) (let e : k ≡ k + 1 - 1 = omega arith in e) ∙ own.is step in
-    let low : step.parent ≤ k = subst (λ (s : Step). s.parent ≤ k) is here in
+    let low = parent_low steps paths k step climb own in
     adds.each step.parent (omega (arith, low, adds.count))
 
 -- the path of the next node

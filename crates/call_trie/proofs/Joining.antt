@@ -1,9 +1,11 @@
 -- The recorders of several threads: one more.
-use Rattle.std.proofs.Common.{◌≡◌, ◌++◌, ◌∙◌, List, [], ◌∷◌, refl, ap, sym, subst}
+use Rattle.std.proofs.Common.{◌≡◌, ◌++◌, ◌∙◌, ℕ, List, [], ◌∷◌, refl, ap, sym, subst}
 use Rattle.std.specs.List.{flat_map}
 use Rattle.std.proofs.lemmas.List.{append-nil}
 use Rattle.std.proofs.lemmas.List.Concat.{flat_map-append}
 use Rattle.fdr_record.specs.declared.event.Event.{Event}
+use Rattle.stack_rebuild.specs.declared.tally.Tally.{Tally}
+use Rattle.stack_rebuild.specs.PathSums.{AreSums}
 use Rattle.stack_rebuild.specs.Stacks.{Timed, timed_pairs}
 use Rattle.call_trie.specs.Merging.{AllStandFor}
 use Rattle.call_trie.specs.Tries.{StandsFor, Trie}
@@ -39,3 +41,21 @@ pairs_joined front events =
 pub no_threads : (threads : List (List Event)) → AllStandFor [] threads → threads ≡ []
 no_threads [] all = refl
 no_threads (events ∷ threads) all = absurd all
+
+-- ---- their sums
+
+pub sums_none : (paths : List (List ℕ)) (tallies : List Tally) (threads : List (List Event)) → AllStandFor [] threads → AreSums paths tallies []
+    → AreSums paths tallies (flat_map timed_pairs threads)
+sums_none paths tallies threads all sums =
+    subst (λ (ts : List (List Event)). AreSums paths tallies (flat_map timed_pairs ts)) (sym (no_threads threads all)) sums
+
+-- one more recorder was added
+pub sums_joined : (tries : List Trie) (trie : Trie) (threads : List (List Event)) → AllStandFor (tries ++ trie ∷ []) threads
+    → (paths : List (List ℕ)) (tallies : List Tally) (paths' : List (List ℕ)) (tallies' : List Tally)
+    → ((front : List (List Event)) → AllStandFor tries front → AreSums paths tallies (flat_map timed_pairs front))
+    → ((before : List Timed) (events : List Event) → AreSums paths tallies before → StandsFor trie events → AreSums paths' tallies' (before ++ timed_pairs events))
+    → AreSums paths' tallies' (flat_map timed_pairs threads)
+sums_joined tries trie threads all paths tallies paths' tallies' sums added =
+    let both = joined tries trie threads all in
+    subst (AreSums paths' tallies') (sym (ap (flat_map timed_pairs) both.is ∙ pairs_joined both.front both.events))
+    (added (flat_map timed_pairs both.front) both.events (sums both.front both.all) both.last)

@@ -1,7 +1,7 @@
 -- What the fields of a recorder are after one more event.
 use Rattle.std.proofs.Common.{◌≡◌, ◌+◌, ◌-◌, ◌^◌, ◌++◌, ◌<◌, ◌≤◌, ◌∙◌, ℕ, zero, suc, List, [], ◌∷◌, length, map, reverse, take, refl, ap, sym, subst, arith, get_or, set, length-append}
 use Rattle.std.specs.Prelude.{All}
-use Rattle.std.proofs.lemmas.List.{map-append, map-set, map-take, reverse-reverse}
+use Rattle.std.proofs.lemmas.List.{map-append, reverse-reverse, take-map}
 use Rattle.std.proofs.lemmas.List.Elements.{All-append, All-cons, All-get_or, All-head, All-nil, All-push, All-tail, All-take, All-weaker}
 use Rattle.std.proofs.lemmas.List.Sorted.{All-permutation, IsPermutation-reverse}
 use Rattle.stack_rebuild.specs.declared.tally.Tally.{Tally}
@@ -144,7 +144,7 @@ pub kept_left : (nodes nodes' : Numbered) (frames left spent : List Frame) (plac
 kept_left nodes nodes' frames left spent place own are nodes_are same =
     kept_same nodes.paths nodes'.paths spent same (record {
       frames_within = subst (All (λ node. (0 < node) × (node < length nodes.paths)))
-          (sym (nodes_are ∙ (ap (map node_in) are ∙ map-take node_in place frames)))
+          (sym (nodes_are ∙ (ap (map node_in) are ∙ sym (take-map node_in place frames))))
           (All-take (λ node. (0 < node) × (node < length nodes.paths)) place (map node_in frames) own.frames_within);
       root = own.root;
       some = own.some;
