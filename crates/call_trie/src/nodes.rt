@@ -49,7 +49,7 @@ impl Nodes {
     }
 
     /// Whether there is a node for each path that there is room for.
-    fn is_full(&self) -> bool
+    pub(crate) fn is_full(&self) -> bool
         ensures full { IsTrue result ↔ (length self.now.paths ≡ self.now.room + 1) }
         ensures few { length self.now.paths ≤ self.now.room + 1 }
     {
