@@ -11,8 +11,8 @@ const BUCKETS_PER_STEP: usize = 2;
 
 /// Odd numbers by which the parts of a step are multiplied. With them, steps are spread over buckets
 /// about as if by chance: see the numbers in this crate's README.
-const PARENT_FACTOR: u64 = 0x9E37_79B9_7F4A_7C15;
-const STEP_FACTOR: u64 = 0xD383_1C9E_B0F1_4B0B;
+const PARENT_FACTOR: u64 = 0xB3CC_92D2_C080_C6B5;
+const STEP_FACTOR: u64 = 0x5399_EAB9_6E03_949D;
 
 /// A step from one path to a longer one.
 #[derive(Clone, Copy, PartialEq, Eq)]
