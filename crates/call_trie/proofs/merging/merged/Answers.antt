@@ -1,6 +1,9 @@
 use Rattle.std.proofs.Common.{◌≡◌, ◌++◌, ◌<◌, ◌∙◌, ℕ, List, [], ◌∷◌, ap, arith, length, refl, subst, sym, take}
 use Rattle.std.specs.List.{flat_map}
 use Rattle.std.proofs.lemmas.List.{take_all, take_more}
+use Rattle.std.proofs.lemmas.List.Elements.{All-get_or}
+use Rattle.std.proofs.lemmas.Result.{IfOk-weaker}
+use Rattle.call_trie.specs.declared.state.TrieState.TheVariants.{Live}
 use Rattle.fdr_record.specs.declared.event.Event.{Event}
 use Rattle.stack_rebuild.specs.PathSums.{AreSums}
 use Rattle.stack_rebuild.specs.Stacks.{Timed, timed_pairs}
@@ -15,8 +18,14 @@ merging-init c = record {
   sums = λ threads all. sums_none c.new-sums.result.paths c.new-sums.result.tallies threads all c.new-sums.ensures;
 }
 
-pub add_to-requires : goal.add_to-requires
-add_to-requires c = ?
+pub add_to-requires-clause-live : goal.add_to-requires-clause-live
+add_to-requires-clause-live c =
+    let one = c.trie-item.result in
+    ap (λ (t : Trie). t.state) c.trie-item.is
+    ∙ All-get_or (λ (t : Trie). t.state ≡ Live) c.args.tries.now c.merging.trie-index one (omega (arith, c.merging-test.true)) c.requires
+
+pub add_to-requires-clause-root : goal.add_to-requires-clause-root
+add_to-requires-clause-root c = c.merging.invariant.root
 
 pub merging-preserved : goal.merging-preserved
 merging-preserved c =
@@ -30,4 +39,7 @@ merging-preserved c =
     }
 
 pub returns : goal.returns
-returns c = ?
+returns c =
+    IfOk-weaker c.rows_of.result _ _
+    (λ rows sums threads all. sums (flat_map timed_pairs threads)
+    (c.merging.invariant.sums threads (subst (λ (ts : List Trie). AllStandFor ts threads) (sym (take_all c.merging.trie-index c.args.tries.now (omega (arith, c.merging-test.false)))) all))) c.rows_of.ensures
