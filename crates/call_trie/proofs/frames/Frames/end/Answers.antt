@@ -17,6 +17,6 @@ ending-smaller c = cut_fewer c.ending.self c.end_innermost.new.self c.end_innerm
 
 pub returns : goal.returns
 returns c =
-    let ended = ended_by c.args.func c.in_ok-place.place c.args.self.now c.ending.self c.end_innermost.new.self c.end_innermost.result
-    c.in_ok-place.ensures c.ending.invariant (omega arith) c.end_innermost.ensures in
+    let ended = ended_by c.args.func c.in_ok-place.place c.args.self.now c.ending.self c.end_innermost-2.new.self c.end_innermost-2.result
+    c.in_ok-place.ensures c.ending.invariant (omega arith) c.end_innermost-2.ensures in
     record { ended = ended.ended; place = ended.place }

@@ -1,4 +1,4 @@
-use Rattle.std.proofs.Common.{◌≡◌, ◌+◌, ◌<◌, ◌∙◌, ℕ, List, [], ◌∷◌, ap, arith, get_or, length, refl, subst, sym}
+use Rattle.std.proofs.Common.{◌≡◌, ◌+◌, ◌++◌, ◌<◌, ◌∙◌, ℕ, List, [], ◌∷◌, ap, arith, get_or, length, refl, subst, sym}
 use Rattle.stack_rebuild.specs.declared.tally.Tally.{Tally}
 use Rattle.stack_rebuild.specs.PathSums.{AreOfPath, AreSums, path_at}
 use Rattle.stack_rebuild.specs.Stacks.{Timed}
@@ -9,8 +9,10 @@ use Rattle.call_trie.proofs.nodes.Nodes.add_to.Goals as goal
 
 pub adding-init : goal.adding-init
 adding-init c =
-    let paths : c.self.inside.paths ≡ c.args.self.now.paths = ap (λ (n : Numbered). n.paths) c.self.view_is in
-    adds_none c.args.sums.now c.args.self.now.paths c.args.self.now.tallies c.push.new.self.items c.requires ? ?
+    let paths = c.args.self.now.paths in
+    let climb : Climb c.self.inside.table.steps paths = subst (Climb c.self.inside.table.steps) (ap (λ (n : Numbered). n.paths) c.self.view_is) c.self.invariant.climb in
+    adds_none c.args.sums.now paths c.args.self.now.tallies c.push.new.self.items c.requires climb.root
+    (c.in_ok-push.ensures.items ∙ ap (λ (ns : List ℕ). ns ++ 0 ∷ []) c.in_ok-numbers.ensures.items)
 
 pub index-requires : goal.index-requires
 index-requires c =
@@ -42,7 +44,7 @@ adding-preserved c =
     let numbers = c.adding.numbers.items in
     let step = c.step-step.result in
     let n = c.in_ok-number.number in
-    let tally = c.index-2.result.now in
+    let tally = c.index-in-adding.result.now in
     let mid = c.number_of.new.self in
     let new = c.add_tally.new.self in
     let climb : Climb steps paths = subst (Climb steps) (ap (λ (n : Numbered). n.paths) c.self.view_is) c.self.invariant.climb in
@@ -51,7 +53,7 @@ adding-preserved c =
     let low = parent_low steps paths c.adding.place step climb c.step-step.ensures in
     let read : c.index.result.now ≡ get_or numbers step.parent 0 =
     c.index.ensures ∙ any_default numbers step.parent c.index.result.now 0 (omega (arith, low, c.adding.invariant.count)) in
-    let told : tally ≡ get_or tallies c.adding.place tally = c.index-2.ensures ∙ ap (λ (ts : List Tally). get_or ts c.adding.place tally) same in
+    let told : tally ≡ get_or tallies c.adding.place tally = c.index-in-adding.ensures ∙ ap (λ (ts : List Tally). get_or ts c.adding.place tally) same in
     adds_more c.args.sums.now c.adding.sums mid new steps paths tallies numbers c.push-2.new.self.items c.adding.place n c.index.result.now step tally
     climb level c.adding.invariant c.step-step.ensures read c.in_ok-number.ensures.number c.in_ok-number.ensures.sums c.add_tally.ensures.paths
     (λ pairs more so own. c.in_ok-add_tally.ensures.sums pairs more so (subst (λ (t : Tally). AreOfPath (path_at mid.paths n) t more) (sym told) own))

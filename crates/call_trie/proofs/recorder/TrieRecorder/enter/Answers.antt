@@ -10,24 +10,24 @@ node_of-requires c =
     let a = c.self.inside in
     c.innermost.ensures.within (length a.nodes.paths) c.self.invariant.some (below a.nodes.paths a.frames c.self.invariant.frames)
 
-pub invariant_of-self-2 : goal.invariant_of-self-2
-invariant_of-self-2 c =
+pub invariant_of-self-in-Some : goal.invariant_of-self-in-Some
+invariant_of-self-in-Some c =
     let a = c.self.inside in
     let i = c.self.invariant in
     let own : AreKept a.nodes.paths a.frames = record { frames_within = i.frames; root = i.root; some = i.some } in
     let kept = kept_entered a.nodes c.node_of.new.self a.frames c.begin.new.self _ c.in-Some.node c.args.func c.args.tsc own c.in-Some.ensures c.begin.ensures in
     record { frames = kept.frames_within; root = kept.root; some = kept.some }
 
-pub invariant_of-self-3 : goal.invariant_of-self-3
-invariant_of-self-3 c =
+pub invariant_of-self-in-None : goal.invariant_of-self-in-None
+invariant_of-self-in-None c =
     let a = c.self.inside in
     let i = c.self.invariant in
     let own : AreKept a.nodes.paths a.frames = record { frames_within = i.frames; root = i.root; some = i.some } in
     let kept = kept_full _ a.nodes c.node_of.new.self a.frames own c.in-None.ensures in
     record { frames = kept.frames_within; root = kept.root; some = kept.some }
 
-pub returns-then-len-eqMOST_OPEN : goal.returns-then-len-eqMOST_OPEN
-returns-then-len-eqMOST_OPEN c =
+pub returns-then-len-eq-MOST_OPEN : goal.returns-then-len-eq-MOST_OPEN
+returns-then-len-eq-MOST_OPEN c =
     let a = c.self.inside in
     entered_deep c.args.self.now a.state a.nodes a.frames c.args.func c.args.tsc c.self.view_is (omega arith)
 

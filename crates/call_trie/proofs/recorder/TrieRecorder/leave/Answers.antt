@@ -33,13 +33,7 @@ pub returns-in-Some : goal.returns-in-Some
 returns-in-Some c =
     let a = c.self.inside in
     let p = c.in-Some.ensures.place in
-    left_ended c.args.self.now a.state a.nodes c.add_pair.new.self a.frames c.end.new.self c.spend.new.self c.in-Some.ended c.args.func c.args.tsc c.wrapping_sub-duration.result c.saturating_sub-own.result
+    left_ended c.args.self.now a.state a.nodes c.add_pair.new.self a.frames c.end.new.self c.spend.new.self c.in-Some.ended c.args.func c.args.tsc _ c.saturating_sub-own.result
     c.self.view_is (node_within a.nodes.paths a.frames p.0 c.in-Some.ended c.self.invariant.frames p.1 (p.3 c.in-Some.ended))
-    (c.in-Some.ensures.ended a.nodes.paths) c.wrapping_sub-duration.ensures (omega (arith, c.saturating_sub-own.ensures, c.from.ensures))
+    (c.in-Some.ensures.ended a.nodes.paths) refl (omega (arith, c.saturating_sub-own.ensures, c.from.ensures))
     (c.spend.ensures.spent a.nodes.paths) c.add_pair.ensures
-
-pub returns-in-None : goal.returns-in-None
-returns-in-None c =
-    let a = c.self.inside in
-    let none = c.in-None.ensures.ended a.nodes.paths in
-    left_none c.args.self.now a.state a.nodes a.frames c.end.new.self c.args.func c.args.tsc c.self.view_is none.0 none.1
