@@ -54,7 +54,7 @@ adding-preserved c =
     let read : c.index.result.now ≡ get_or numbers step.parent 0 =
     c.index.ensures ∙ any_default numbers step.parent c.index.result.now 0 (omega (arith, low, c.adding.invariant.count)) in
     let told : tally ≡ get_or tallies c.adding.place tally = c.index-in-adding.ensures ∙ ap (λ (ts : List Tally). get_or ts c.adding.place tally) same in
-    adds_more c.args.sums.now c.adding.sums mid new steps paths tallies numbers c.push-2.new.self.items c.adding.place n c.index.result.now step tally
+    adds_more c.args.sums.now c.adding.sums mid new steps paths tallies numbers c.push-in-adding.new.self.items c.adding.place n c.index.result.now step tally
     climb level c.adding.invariant c.step-step.ensures read c.in_ok-number.ensures.number c.in_ok-number.ensures.sums c.add_tally.ensures.paths
     (λ pairs more so own. c.in_ok-add_tally.ensures.sums pairs more so (subst (λ (t : Tally). AreOfPath (path_at mid.paths n) t more) (sym told) own))
     c.in_ok-push-2.ensures.items
