@@ -1,5 +1,5 @@
 -- How great the numbers of a trie may be.
-use Rattle.std.proofs.Common.{◌≡◌, ◌+◌, ◌-◌, ◌*◌, ◌%◌, ◌^◌, ◌++◌, ◌<◌, ◌≤◌, ◌∙◌, ℕ, suc, Bool, true, false, cond, List, [], ◌∷◌, length, map, reverse, refl, ap, sym, subst, arith, length-append, Option, Some, None, sum_by}
+use Rattle.std.proofs.Common.{◌≡◌, ◌+◌, ◌-◌, ◌*◌, ◌^◌, ◌++◌, ◌<◌, ◌≤◌, ℕ, Bool, true, false, cond, List, [], ◌∷◌, length, map, reverse, sym, subst, arith, length-append, sum_by}
 use Rattle.std.specs.Prelude.{All}
 use Rattle.std.specs.Option.{option_to_list}
 use Rattle.std.proofs.lemmas.List.{length-map, length-reverse}
@@ -12,10 +12,10 @@ use Rattle.fdr_record.specs.declared.event.Kind.TheVariants.{Entry, Exit, TailEx
 use Rattle.stack_rebuild.specs.declared.call.Call.{Call}
 use Rattle.stack_rebuild.specs.declared.call.Pair.{Pair}
 use Rattle.stack_rebuild.specs.declared.tally.Tally.{Tally}
-use Rattle.stack_rebuild.specs.Calls.{cycles_between, from_innermost, open_calls, pair_at, pair_at_kind, pair_of_call, pairs_in, pairs_of}
-use Rattle.stack_rebuild.specs.OpenPaths.{OpenPath, open_of, open_paths}
+use Rattle.stack_rebuild.specs.Calls.{from_innermost, open_calls, pair_at, pair_at_kind, pair_of_call, pairs_in, pairs_of}
+use Rattle.stack_rebuild.specs.OpenPaths.{OpenPath, open_paths}
 use Rattle.stack_rebuild.specs.PathSums.{tally_of}
-use Rattle.stack_rebuild.specs.Stacks.{Timed, has_path, is_innermost, open_before, spent_in, timed, timed_pairs}
+use Rattle.stack_rebuild.specs.Stacks.{Timed, has_path, is_innermost, open_before, timed, timed_pairs}
 use Rattle.call_trie.specs.declared.state.TrieState.TheVariants.{Live}
 use Rattle.call_trie.specs.private.Steps.{AreRoomy, IsRoomy}
 use Rattle.call_trie.specs.Tries.{StandsFor, Trie, paths_opened}

@@ -1,16 +1,15 @@
 -- The pairs of a thread, grouped by their paths.
-use Rattle.std.proofs.Common.{◌≡◌, ◌⊎◌, ◌+◌, ◌++◌, ◌<◌, ◌≤◌, ◌∙◌, ℕ, zero, suc, Bool, true, false, cond, List, [], ◌∷◌, length, map, drop, take, refl, ap, sym, subst, arith, get_or, inl, inr, length-append, sum_by}
+use Rattle.std.proofs.Common.{◌≡◌, ◌+◌, ◌++◌, ◌<◌, ◌∙◌, ℕ, zero, suc, Bool, true, false, cond, List, [], ◌∷◌, length, take, refl, ap, sym, arith, sum_by}
 use Rattle.std.specs.Prelude.{All, filter}
 use Rattle.std.specs.List.{flat_map}
-use Rattle.std.specs.Ordering.{is_eq}
 use Rattle.std.proofs.lemmas.List.{append-nil, take_more}
 use Rattle.std.proofs.lemmas.List.Concat.{flat_map-append}
 use Rattle.std.proofs.lemmas.List.Elements.{All-cons, All-nil}
 use Rattle.std.proofs.lemmas.List.Sums.{sum_by-append, sum_by-cons}
 use Rattle.stack_rebuild.specs.declared.tally.Tally.{Tally}
 use Rattle.stack_rebuild.specs.PathSums.{AllNumbered, AreApart, AreOfPath, AreSums, path_at, tally_of}
-use Rattle.stack_rebuild.specs.Stacks.{Timed, has_path, path_cmp}
-use Rattle.call_trie.proofs.Among.{Has, has_other, has_own, same_path_from, same_tally}
+use Rattle.stack_rebuild.specs.Stacks.{Timed, has_path}
+use Rattle.call_trie.proofs.Among.{Has, has_other, has_own, same_tally}
 
 -- the pairs of a path
 abbrev pub pairs_with : List Timed → List ℕ → List Timed

@@ -1,8 +1,8 @@
 -- What the fields of a recorder are after one more event.
-use Rattle.std.proofs.Common.{◌≡◌, ◌+◌, ◌-◌, ◌^◌, ◌++◌, ◌<◌, ◌≤◌, ◌∙◌, ℕ, zero, suc, List, [], ◌∷◌, length, map, reverse, take, refl, ap, sym, subst, arith, get_or, set, length-append}
+use Rattle.std.proofs.Common.{◌≡◌, ◌-◌, ◌^◌, ◌++◌, ◌<◌, ◌≤◌, ◌∙◌, ℕ, zero, suc, List, [], ◌∷◌, length, map, reverse, take, refl, ap, sym, subst, arith, get_or, set, length-append}
 use Rattle.std.specs.Prelude.{All}
 use Rattle.std.proofs.lemmas.List.{map-append, reverse-reverse, take-map}
-use Rattle.std.proofs.lemmas.List.Elements.{All-append, All-cons, All-get_or, All-head, All-nil, All-push, All-tail, All-take, All-weaker}
+use Rattle.std.proofs.lemmas.List.Elements.{All-cons, All-head, All-nil, All-push, All-tail, All-take, All-weaker}
 use Rattle.std.proofs.lemmas.List.Sorted.{All-permutation, IsPermutation-reverse}
 use Rattle.stack_rebuild.specs.declared.tally.Tally.{Tally}
 use Rattle.stack_rebuild.specs.Calls.{cycles_between}
@@ -11,9 +11,9 @@ use Rattle.stack_rebuild.specs.PathSums.{no_tally, path_at, with_pair}
 use Rattle.stack_rebuild.specs.Stacks.{most_open}
 use Rattle.call_trie.specs.declared.frames.Frame.{Frame}
 use Rattle.call_trie.specs.declared.state.TrieState.{TrieState}
-use Rattle.call_trie.specs.declared.state.TrieState.TheVariants.{Live, Full, Deep}
+use Rattle.call_trie.specs.declared.state.TrieState.TheVariants.{Full, Deep}
 use Rattle.call_trie.specs.private.Frames.{AreWithin, node_in, open_in, open_path}
-use Rattle.call_trie.specs.private.Paths.{GetsNode, GetsNone, IsAt, IsNew, Numbered, got, had}
+use Rattle.call_trie.specs.private.Paths.{GetsNode, GetsNone, IsNew, Numbered, got, had}
 use Rattle.call_trie.specs.private.Steps.{AreRoomy, Enters, IsRoomy, Leaves, deep, ended, fresh, full, known, none}
 use Rattle.call_trie.specs.Tries.{HasSameRoom, Trie}
 use Rattle.call_trie.proofs.FrameLemmas.{open_kept, open_long, open_more}

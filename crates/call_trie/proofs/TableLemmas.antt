@@ -9,7 +9,7 @@ use Rattle.std.proofs.lemmas.List.{get_or-set_other, get_or-set_same, length-set
 use Rattle.std.proofs.Math.Nat.{mul-lt-mul_of_pos_right}
 use Rattle.std.proofs.lemmas.Nat.{div_below, mod_below, mul-lt}
 use Rattle.call_trie.specs.declared.table.Step.{Step}
-use Rattle.call_trie.specs.private.Chains.{AreChained, HasNone, IsLatest, IsNumberOf, Walks, bucket_in}
+use Rattle.call_trie.specs.private.Chains.{AreChained, HasNone, IsLatest, Walks, bucket_in}
 
 -- ---- buckets
 

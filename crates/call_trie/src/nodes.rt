@@ -86,10 +86,10 @@ impl Nodes {
         requires absent { IsNew self.old.paths (path_at self.old.paths parent ++ func ∷ []) }
         requires room { length self.old.paths ≤ self.old.room }
         ensures added { self.new ≡ record {
-              room = self.old.room;
-              paths = self.old.paths ++ (path_at self.old.paths parent ++ func ∷ []) ∷ [];
-              tallies = self.old.tallies ++ no_tally ∷ [];
-            } }
+          room = self.old.room;
+          paths = self.old.paths ++ (path_at self.old.paths parent ++ func ∷ []) ∷ [];
+          tallies = self.old.tallies ++ no_tally ∷ [];
+        } }
         ensures number { result ≡ length self.old.paths }
     {
         self.tallies.push_reserved(Tally::none());
@@ -102,9 +102,9 @@ impl Nodes {
         requires roomy { IsRoomy (slice_index_or self.old.tallies (number - 1) no_tally) }
         requires own { own ≤ duration }
         ensures { self.new ≡ record self.old {
-              tallies = slice_set self.old.tallies (number - 1) (with_pair duration own
-                (slice_index_or self.old.tallies (number - 1) no_tally));
-            } }
+          tallies = slice_set self.old.tallies (number - 1) (with_pair duration own
+              (slice_index_or self.old.tallies (number - 1) no_tally));
+        } }
     {
         let tally = &mut self.tallies[number as usize - 1];
         tally.count += 1;

@@ -12,6 +12,7 @@ const BUCKETS_PER_STEP: usize = 2;
 /// Odd numbers by which the parts of a step are multiplied. With them, steps are spread over buckets
 /// about as if by chance: see the numbers in this crate's README.
 const PARENT_FACTOR: u64 = 0xB3CC_92D2_C080_C6B5;
+
 const STEP_FACTOR: u64 = 0x5399_EAB9_6E03_949D;
 
 /// A step from one path to a longer one.

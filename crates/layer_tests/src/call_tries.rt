@@ -220,7 +220,9 @@ fn the_last_node_is_used_and_no_other(rt: HostRuntime) -> Result<(), Fail> {
 }
 
 #[test]
-fn as_many_functions_are_called_from_one_as_there_may_be_nodes(rt: HostRuntime) -> Result<(), Fail> {
+fn as_many_functions_are_called_from_one_as_there_may_be_nodes(
+    rt: HostRuntime,
+) -> Result<(), Fail> {
     let mut noted = Noted::new(rt.alloc(), MOST_NODES)?;
     for func in 0..MOST_NODES {
         noted.note(Kind::Entry, func, 0);

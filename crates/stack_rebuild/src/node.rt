@@ -169,11 +169,7 @@ pub(crate) fn add_pair(
 }
 
 /// More pairs of the path with this number.
-pub(crate) fn add_pairs(
-    nodes: &mut Vec<Node>,
-    number: usize,
-    tally: &Tally,
-) -> Result<(), NoMemory>
+pub(crate) fn add_pairs(nodes: &mut Vec<Node>, number: usize, tally: &Tally) -> Result<(), NoMemory>
     ensures steps { map step_of nodes.new.items ≡ map step_of nodes.old.items }
     ensures tallies { OnOk result (number < length nodes.old.items → map tally_in nodes.new.items
         ≡ slice_set (map tally_in nodes.old.items) number

@@ -6,7 +6,9 @@ ghost use Rattle.stack_rebuild.specs.private.PathNumbers.{path_by};
 ghost use Rattle.stack_rebuild.specs.PathSums.{AreOfPath, AreSums, HasNumber, no_tally, path_at};
 ghost use Rattle.stack_rebuild.specs.Stacks.{Timed};
 
-use crate::node::{Node, Step, add_pair, add_pairs, child_of, depth_of, link, plant, sibling_of, tally_of};
+use crate::node::{
+    Node, Step, add_pair, add_pairs, child_of, depth_of, link, plant, sibling_of, tally_of,
+};
 use crate::path_order::in_order;
 use crate::tally::Tally;
 use std::alloc::Global;

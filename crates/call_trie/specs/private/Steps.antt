@@ -5,7 +5,7 @@ use Rattle.stack_rebuild.specs.Calls.{cycles_between}
 use Rattle.stack_rebuild.specs.OpenPaths.{OpenPath, open_from, with_spent}
 use Rattle.stack_rebuild.specs.PathSums.{no_tally, with_pair}
 use Rattle.stack_rebuild.specs.Stacks.{most_open}
-use Rattle.call_trie.specs.declared.state.TrieState.TheVariants.{Live, Full, Deep}
+use Rattle.call_trie.specs.declared.state.TrieState.TheVariants.{Full, Deep}
 use Rattle.call_trie.specs.private.Paths.{IsAt, IsNew}
 use Rattle.call_trie.specs.Tries.{Trie}
 

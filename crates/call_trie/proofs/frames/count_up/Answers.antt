@@ -1,4 +1,4 @@
-use Rattle.std.proofs.Common.{◌≡◌, ◌+◌, ◌%◌, ◌<◌, ◌∙◌, ℕ, ap, arith, length, get_or, refl, set}
+use Rattle.std.proofs.Common.{◌≡◌, ◌+◌, ◌%◌, ◌<◌, ◌∙◌, ℕ, ap, arith, get_or, refl, set}
 use Rattle.std.proofs.lemmas.Nat.{mod_below}
 use Rattle.call_trie.proofs.FrameLemmas.{counts_more, like_few}
 use Rattle.call_trie.proofs.TableLemmas.{any_default}

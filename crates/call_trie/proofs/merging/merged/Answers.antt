@@ -1,12 +1,10 @@
-use Rattle.std.proofs.Common.{◌≡◌, ◌+◌, ◌++◌, ◌<◌, ◌∙◌, ℕ, List, [], ◌∷◌, ap, arith, length, refl, subst, sym, take}
+use Rattle.std.proofs.Common.{◌≡◌, ◌+◌, ◌++◌, ◌∙◌, List, [], ◌∷◌, ap, arith, subst, sym, take}
 use Rattle.std.specs.List.{flat_map}
 use Rattle.std.proofs.lemmas.List.{take_all, take_more}
 use Rattle.std.proofs.lemmas.List.Elements.{All-get_or}
 use Rattle.std.proofs.lemmas.Result.{IfOk-weaker}
 use Rattle.call_trie.specs.declared.state.TrieState.TheVariants.{Live}
-use Rattle.fdr_record.specs.declared.event.Event.{Event}
-use Rattle.stack_rebuild.specs.PathSums.{AreSums}
-use Rattle.stack_rebuild.specs.Stacks.{Timed, timed_pairs}
+use Rattle.stack_rebuild.specs.Stacks.{timed_pairs}
 use Rattle.call_trie.specs.Merging.{AllStandFor}
 use Rattle.call_trie.specs.Tries.{Trie}
 use Rattle.call_trie.proofs.Joining.{sums_joined, sums_none}

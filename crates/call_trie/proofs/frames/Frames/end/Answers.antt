@@ -1,4 +1,4 @@
-use Rattle.std.proofs.Common.{◌≡◌, ◌<◌, ℕ, [], arith, length}
+use Rattle.std.proofs.Common.{[], arith}
 use Rattle.call_trie.specs.declared.frames.Frame.{Frame}
 use Rattle.call_trie.proofs.FrameLemmas.{cut_fewer, ended_by, left_all, left_fewer}
 use Rattle.call_trie.proofs.frames.Frames.end.Goals as goal

@@ -1,4 +1,4 @@
-use Rattle.std.proofs.Common.{◌≡◌, ◌++◌, ℕ, List, [], ◌∷◌, ap, arith, length, length-append, refl, subst, sym}
+use Rattle.std.proofs.Common.{◌≡◌, ◌++◌, ℕ, List, [], ◌∷◌, ap, arith, length, length-append, refl, subst}
 use Rattle.call_trie.specs.declared.frames.Frame.{Frame}
 use Rattle.call_trie.specs.private.Frames.{AreCounts}
 use Rattle.call_trie.proofs.frames.Frames.end_innermost.Goals as goal

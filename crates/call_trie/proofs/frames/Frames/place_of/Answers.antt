@@ -1,4 +1,4 @@
-use Rattle.std.proofs.Common.{◌≡◌, ◌+◌, ◌<◌, ◌%◌, ◌++◌, ◌∙◌, ℕ, List, [], ◌∷◌, MatchOption, arith, length, refl, slice_index_or, subst, sym, take}
+use Rattle.std.proofs.Common.{◌≡◌, ◌<◌, ◌%◌, ◌∙◌, ℕ, List, [], ◌∷◌, MatchOption, arith, length, refl, slice_index_or, subst, sym, take}
 use Rattle.std.proofs.lemmas.Nat.{mod_below}
 use Rattle.stack_rebuild.specs.OpenPaths.{open_from}
 use Rattle.call_trie.specs.declared.frames.Frame.{Frame}

@@ -1,4 +1,4 @@
-use Rattle.std.proofs.Common.{◌≡◌, ◌∙◌, ℕ, ap, arith, length, sym}
+use Rattle.std.proofs.Common.{◌∙◌, ℕ, ap, arith, length, sym}
 use Rattle.std.proofs.lemmas.List.{length-map}
 use Rattle.call_trie.specs.private.Frames.{node_in}
 use Rattle.call_trie.proofs.frames.Frames.spend.Goals as goal

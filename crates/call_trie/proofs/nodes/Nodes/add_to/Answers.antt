@@ -1,7 +1,6 @@
-use Rattle.std.proofs.Common.{◌≡◌, ◌+◌, ◌++◌, ◌<◌, ◌∙◌, ℕ, List, [], ◌∷◌, ap, arith, get_or, length, refl, subst, sym}
+use Rattle.std.proofs.Common.{◌≡◌, ◌++◌, ◌∙◌, ℕ, List, [], ◌∷◌, ap, arith, get_or, length, subst, sym}
 use Rattle.stack_rebuild.specs.declared.tally.Tally.{Tally}
-use Rattle.stack_rebuild.specs.PathSums.{AreOfPath, AreSums, path_at}
-use Rattle.stack_rebuild.specs.Stacks.{Timed}
+use Rattle.stack_rebuild.specs.PathSums.{AreOfPath, path_at}
 use Rattle.call_trie.specs.private.Paths.{Climb, Numbered}
 use Rattle.call_trie.proofs.Adding.{adds_all, adds_more, adds_none, parent_low, parent_number}
 use Rattle.call_trie.proofs.TableLemmas.{any_default}

@@ -1,6 +1,5 @@
-use Rattle.std.proofs.Common.{◌∙◌, List, ap, sym}
+use Rattle.std.proofs.Common.{◌∙◌, ap}
 use Rattle.std.proofs.lemmas.Result.{on_ok_weaker}
-use Rattle.fdr_record.specs.declared.event.Event.{Event}
 use Rattle.stack_rebuild.specs.Stacks.{timed_pairs}
 use Rattle.call_trie.specs.Tries.{Trie, paths_opened}
 use Rattle.call_trie.proofs.Standing.{known_after}

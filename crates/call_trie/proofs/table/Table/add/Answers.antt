@@ -1,4 +1,4 @@
-use Rattle.std.proofs.Common.{◌≡◌, ◌+◌, ◌<◌, ◌∙◌, ℕ, [], ◌∷◌, ap, arith, length, length-append, refl, sym}
+use Rattle.std.proofs.Common.{◌≡◌, ◌+◌, ◌<◌, ◌∙◌, ℕ, [], ◌∷◌, ap, arith, length, length-append, refl}
 use Rattle.std.proofs.lemmas.List.{length-set}
 use Rattle.call_trie.specs.private.Chains.{Steps, bucket_in}
 use Rattle.call_trie.proofs.TableLemmas.{table_more}
