@@ -9,10 +9,12 @@ use std::marker::Model;
 /// How many buckets there are for each step that a table has room for.
 const BUCKETS_PER_STEP: usize = 2;
 
-/// Odd numbers by which the parts of a step are multiplied. With them, steps are spread over buckets
-/// about as if by chance: see the numbers in this crate's README.
+/// An odd number by which the number of a path is multiplied, before the function is added. With this
+/// one and the next, steps are spread over buckets about as if by chance: see the numbers in this
+/// crate's README.
 const PARENT_FACTOR: u64 = 0xB3CC_92D2_C080_C6B5;
 
+/// An odd number by which the mixture of both is multiplied.
 const STEP_FACTOR: u64 = 0x5399_EAB9_6E03_949D;
 
 /// A step from one path to a longer one.
