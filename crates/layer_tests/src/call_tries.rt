@@ -1,6 +1,6 @@
 //! Calls of `call_trie`, beside `stacks` of `stack_rebuild` over the same events.
 
-ghost use Rattle.std.specs.Prelude.{◌≡◌, ◌≤◌, List, length};
+ghost use Rattle.std.specs.Prelude.{◌≡◌, ◌≤◌, IfOk, List, length};
 ghost use Rattle.fdr_record.specs.declared.event.Event.{Event};
 ghost use Rattle.call_trie.specs.Tries.{StandsFor};
 
@@ -26,29 +26,36 @@ const MOST_EVENTS: u32 = 1_000_000;
 struct Noted {
     trie: TrieRecorder,
     count: u32,
-    ghost counted: { (events : List Event) × StandsFor trie events × (length events ≡ count) },
 }
 
 impl Noted {
     fn new(alloc: Global, nodes: u32) -> Result<Noted, NoMemory>
         requires { (1 ≤ nodes) × (nodes ≤ MOST_NODES) }
+        ensures { IfOk result (λ noted. (events : List Event) × StandsFor noted.trie events
+            × (length events ≡ noted.count)) }
     {
         let trie = TrieRecorder::new(alloc, nodes)?;
         Ok(Noted { trie, count: 0 })
     }
 
     /// Notes one more event, unless there were too many.
-    fn note(&mut self, kind: Kind, func: u32, tsc: u64) {
-        if self.count < MOST_EVENTS {
-            self.trie.note(Event {
-                tsc,
-                arg: 0,
-                func: func % IDS,
-                cpu: 0,
-                kind,
-            });
-            self.count += 1;
+    fn note(&mut self, kind: Kind, func: u32, tsc: u64)
+        requires { (events : List Event) × StandsFor self.old.trie events
+            × (length events ≡ self.old.count) }
+        ensures { (events : List Event) × StandsFor self.new.trie events
+            × (length events ≡ self.new.count) }
+    {
+        if self.count >= MOST_EVENTS {
+            return;
         }
+        self.trie.note(Event {
+            tsc,
+            arg: 0,
+            func: func % IDS,
+            cpu: 0,
+            kind,
+        });
+        self.count += 1;
     }
 
     /// Checks whether the recorder still takes events.
@@ -77,19 +84,33 @@ fn text_of_both(alloc: Global, first: Noted, second: Noted) -> Result<String, Fa
     }
 }
 
+/// Notes an event in the first recorder if it is of thread 1, or else in the second one.
+fn note_in_one(first: &mut Noted, second: &mut Noted, said: &Said)
+    requires first { (events : List Event) × StandsFor first.old.trie events
+        × (length events ≡ first.old.count) }
+    requires second { (events : List Event) × StandsFor second.old.trie events
+        × (length events ≡ second.old.count) }
+    ensures first { (events : List Event) × StandsFor first.new.trie events
+        × (length events ≡ first.new.count) }
+    ensures second { (events : List Event) × StandsFor second.new.trie events
+        × (length events ≡ second.new.count) }
+{
+    let (thread, kind, func, tsc) = *said;
+    if thread == 1 {
+        first.note(kind, func, tsc);
+    } else {
+        second.note(kind, func, tsc);
+    }
+}
+
 /// The text of the rows of events. A recorder has those of thread 1, and another one all others.
 fn merged_text(alloc: Global, nodes: u32, events: &[Said]) -> Result<String, Fail>
     requires { (1 ≤ nodes) × (nodes ≤ MOST_NODES) }
 {
     let mut first = Noted::new(alloc, nodes)?;
     let mut second = Noted::new(alloc, nodes)?;
-    for said in events {
-        let (thread, kind, func, tsc) = *said;
-        if thread == 1 {
-            first.note(kind, func, tsc);
-        } else {
-            second.note(kind, func, tsc);
-        }
+    'noting: for said in events {
+        note_in_one(&mut first, &mut second, said);
     }
     text_of_both(alloc, first, second)
 }
@@ -206,9 +227,9 @@ fn recorders_of_drawn_events_have_the_rows_of_the_trace(rt: HostRuntime) -> Resu
 #[test]
 fn the_last_node_is_used_and_no_other(rt: HostRuntime) -> Result<(), Fail> {
     let mut noted = Noted::new(rt.alloc(), 3)?;
-    for func in 1..4 {
-        noted.note(Kind::Entry, func, 0);
-    }
+    noted.note(Kind::Entry, 1, 0);
+    noted.note(Kind::Entry, 2, 0);
+    noted.note(Kind::Entry, 3, 0);
     noted.note(Kind::Exit, 3, 1);
     noted.note(Kind::Entry, 3, 2);
     noted.check(&rt, TrieState::Live);
@@ -224,7 +245,7 @@ fn as_many_functions_are_called_from_one_as_there_may_be_nodes(
     rt: HostRuntime,
 ) -> Result<(), Fail> {
     let mut noted = Noted::new(rt.alloc(), MOST_NODES)?;
-    for func in 0..MOST_NODES {
+    'noting: for func in 0..MOST_NODES {
         noted.note(Kind::Entry, func, 0);
         noted.note(Kind::Exit, func, 1);
     }
@@ -246,7 +267,7 @@ fn check_depth(
     requires { (1 ≤ nodes) × (nodes ≤ MOST_NODES) }
 {
     let mut noted = Noted::new(alloc, nodes)?;
-    for _ in 0..MOST_OPEN {
+    'noting: for _ in 0..MOST_OPEN {
         noted.note(Kind::Entry, 1, 0);
     }
     noted.check(rt, wanted);
