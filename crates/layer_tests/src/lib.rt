@@ -9,6 +9,8 @@ mod accounts;
 #[cfg(test)]
 mod assembler;
 #[cfg(test)]
+mod audits;
+#[cfg(test)]
 mod checks;
 #[cfg(test)]
 mod code_table;

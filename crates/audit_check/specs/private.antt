@@ -1,0 +1,10 @@
+-- What the contracts of private functions cite. No promise of this crate rests on it.
+pub mod Parts
+pub mod Marks
+pub mod Lines
+pub mod Turns
+pub mod Switches
+pub mod Ways
+pub mod Judging
+pub mod Blocks
+pub mod Walks
