@@ -14,6 +14,8 @@ pub mod LeastMarks
 pub mod OneVerdict
 pub mod Owning
 pub mod PassingEnds
+pub mod ReadParts
+pub mod ReadRows
 pub mod Readings
 pub mod Refusals
 pub mod RowLines
@@ -25,7 +27,7 @@ pub mod SomeRuns
 pub mod Starting
 pub mod Storing
 pub mod Switching
-pub mod TellingSetup
+pub mod TakingRuns
 pub mod TreeLoads
 pub mod TurnLemmas
 pub mod Walked

@@ -1,9 +1,8 @@
 -- An audit that is read row by row, and is refused at a row.
 use Rattle.std.proofs.Common.{◌≡◌, ◌≢◌, ℕ, ◌+◌, ◌*◌, ◌<◌, ◌≤◌, ◌^◌, List, [], ◌∷◌, ◌++◌, length, Option, Some, None, refl, sym, ap, subst, ◌∙◌, arith, inl, inr, append-nil, append_assoc, length-append}
-use Rattle.std.specs.Prelude.{All, slice_get}
+use Rattle.std.specs.Prelude.{slice_get}
 use Rattle.std.specs.List.{flat_map}
 use Rattle.std.proofs.lemmas.Grind.{flat_map-append}
-use Rattle.std.proofs.lemmas.List.Elements.{All-append, All-cons, All-nil}
 use Rattle.handler_word.specs.declared.mark.Mark.{Mark}
 use Rattle.machine_step.specs.declared.setup.Setup.{Setup}
 use Rattle.machine_step.specs.Setups.{IsSetup}
@@ -15,10 +14,8 @@ use Rattle.audit_check.specs.private.Lines.{AreFirst, HasTaken, all_rows, counts
 use Rattle.audit_check.specs.private.Parts.{HasShortCounts, format_row, setup_row}
 use Rattle.audit_check.specs.Reading.{IsRefused, whole_lines}
 use Rattle.audit_check.specs.Statements.{HasCounts, MayState, Statement, most_marks, text_of}
-use Rattle.audit_check.proofs.Refusals.{IsCountsRow, IsFormatRow, IsMarksRow, IsRecycledRow, IsSetupRow, Unlike, counted_rows, refused_counts, refused_end, refused_format, refused_marks, refused_recycled, refused_setup, text_by_rows}
+use Rattle.audit_check.proofs.Refusals.{IsCountsRow, IsFormatRow, IsMarksRow, IsRecycledRow, IsSetupRow, TellsSetup, Unlike, counted_rows, refused_counts, refused_end, refused_format, refused_marks, refused_recycled, refused_setup, text_by_rows}
 use Rattle.audit_check.proofs.RowLines.{joined_lines}
-use Rattle.audit_check.proofs.Switching.{cases_last}
-use Rattle.audit_check.proofs.TellingSetup.{tells}
 
 -- ---- rows that are taken
 
@@ -64,25 +61,25 @@ pub setup_refused : (bytes : List ℕ) (rest : List (List ℕ)) → whole_lines 
     → IsRefused bytes (length (format_row ∷ []) + 1)
 setup_refused bytes rest lines other = refused_setup bytes rest lines other
 
-pub counts_refused : (bytes : List ℕ) (setup : Setup) (threads : List ThreadAudit) → AreFirst setup threads → (thread : ℕ) → thread ≡ length threads + 1
+pub counts_refused : TellsSetup → (bytes : List ℕ) (setup : Setup) (threads : List ThreadAudit) → AreFirst setup threads → (thread : ℕ) → thread ≡ length threads + 1
     → thread ≤ setup.threads → (rest : List (List ℕ)) → whole_lines bytes ≡ first_rows setup threads ++ rest → Unlike (IsCountsRow thread) rest
     → IsRefused bytes (length (first_rows setup threads) + 1)
-counts_refused bytes setup threads are thread number within rest lines other =
+counts_refused tells bytes setup threads are thread number within rest lines other =
     refused_counts tells bytes setup threads rest are (omega (arith, number, within)) lines (subst (λ n. Unlike (IsCountsRow n) rest) number other)
 
-pub marks_refused : (bytes : List ℕ) (setup : Setup) (threads : List ThreadAudit) → AreFirst setup threads → (thread : ℕ) → thread ≡ length threads + 1
+pub marks_refused : TellsSetup → (bytes : List ℕ) (setup : Setup) (threads : List ThreadAudit) → AreFirst setup threads → (thread : ℕ) → thread ≡ length threads + 1
     → thread ≤ setup.threads → (counts : Counts) → HasShortCounts counts → (rest : List (List ℕ))
     → whole_lines bytes ≡ counted_rows setup threads thread counts ++ rest → Unlike IsMarksRow rest
     → IsRefused bytes (length (counted_rows setup threads thread counts) + 1)
-marks_refused bytes setup threads are thread number within counts short rest lines other =
+marks_refused tells bytes setup threads are thread number within counts short rest lines other =
     subst (λ n. IsRefused bytes (length (counted_rows setup threads n counts) + 1)) (sym number)
     (refused_marks tells bytes setup threads counts rest are (omega (arith, number, within)) short
     (subst (λ n. whole_lines bytes ≡ counted_rows setup threads n counts ++ rest) number lines) other)
 
-pub recycled_refused : (bytes : List ℕ) (setup : Setup) (threads : List ThreadAudit) → AreFirst setup threads → length threads ≡ setup.threads
+pub recycled_refused : TellsSetup → (bytes : List ℕ) (setup : Setup) (threads : List ThreadAudit) → AreFirst setup threads → length threads ≡ setup.threads
     → (rest : List (List ℕ)) → whole_lines bytes ≡ first_rows setup threads ++ rest → Unlike IsRecycledRow rest
     → IsRefused bytes (length (first_rows setup threads) + 1)
-recycled_refused bytes setup threads are all rest lines other = refused_recycled tells bytes setup threads rest are all lines other
+recycled_refused tells bytes setup threads are all rest lines other = refused_recycled tells bytes setup threads rest are all lines other
 
 -- a row of counts that isn't read is none
 pub no_counts : (thread : ℕ) (row : List ℕ) → ((counts : Counts) → HasShortCounts counts → row ≡ counts_row thread counts → ⊥) → IsCountsRow thread row → ⊥
@@ -91,21 +88,6 @@ no_counts thread row none (said, has, number, is) =
     (subst (λ n. row ≡ counts_row n (counts_of said)) number is)
 
 -- ---- one more thread
-
-pub more_first : (setup : Setup) (threads : List ThreadAudit) (said : ThreadAudit) → AreFirst setup threads → said.thread ≡ length threads + 1 → HasCounts said
-    → AreFirst setup (threads ++ said ∷ [])
-more_first setup threads said are number has = record {
-  setup_is = are.setup_is;
-  numbered = numbered are.numbered;
-  counts = All-append HasCounts threads (said ∷ []) are.counts (All-cons HasCounts said [] has (All-nil HasCounts));
-}
-  where
-    numbered : ((i : ℕ) (s : ThreadAudit) → slice_get threads i ≡ Some s → s.thread ≡ i + 1)
-        → (i : ℕ) (s : ThreadAudit) → slice_get (threads ++ said ∷ []) i ≡ Some s → s.thread ≡ i + 1
-    numbered old i s at = elim (cases_last threads i s said at) [
-      | inl before ↦ old i s before
-      | inr new ↦ ap (λ (t : ThreadAudit). t.thread) new.1 ∙ (number ∙ ap (λ n. n + 1) (sym new.0))
-    ]
 
 pub rows_more : (setup : Setup) (threads : List ThreadAudit) (said : ThreadAudit)
     → first_rows setup threads ++ thread_line said ∷ marks_line said.marks ∷ [] ≡ first_rows setup (threads ++ said ∷ [])
@@ -119,9 +101,9 @@ pub whole_text : (bytes : List ℕ) (statement : Statement) (rows : Rows) → Ha
 whole_text bytes statement rows has empty =
     text_by_rows bytes statement (no_rows bytes rows (all_rows statement) has empty ∙ append-nil (all_rows statement))
 
-pub end_refused : (bytes : List ℕ) (statement : Statement) (rows : Rows) → MayState statement → HasTaken bytes rows (all_rows statement) → rows.left.now ≢ []
+pub end_refused : TellsSetup → (bytes : List ℕ) (statement : Statement) (rows : Rows) → MayState statement → HasTaken bytes rows (all_rows statement) → rows.left.now ≢ []
     → IsRefused bytes (rows.number + 1)
-end_refused bytes statement rows may has some =
+end_refused tells bytes statement rows may has some =
     at_line bytes (length (all_rows statement) + 1) (rows.number + 1) (let count = has.number in omega (arith, count)) (by (whole_lines rows.left.now) refl)
   where
     by : (lines : List (List ℕ)) → whole_lines rows.left.now ≡ lines → IsRefused bytes (length (all_rows statement) + 1)

@@ -1,5 +1,5 @@
 -- The parts of the rows of an audit.
-use Rattle.std.specs.Prelude.{◌≡◌, ◌<◌, ◌≤◌, ◌+◌, ◌*◌, ◌^◌, ◌==◌, ℕ, false, Option, Some, None, if◌then◌else◌, slice_index, List, [], ◌∷◌, ◌++◌, codes, decimal}
+use Rattle.std.specs.Prelude.{◌≡◌, ◌<◌, ◌≤◌, ◌+◌, ◌*◌, ◌^◌, ◌==◌, ◌&&◌, nat_lt, length, ℕ, false, Option, Some, None, if◌then◌else◌, slice_index, List, [], ◌∷◌, ◌++◌, codes, decimal}
 use Rattle.std.specs.Char.{is_ascii_digit}
 use Rattle.xray_io.specs.declared.wall.Wall.{Wall}
 use Rattle.fdr_buffer.specs.declared.buffer.TheConstants.{LARGEST_SIZE, LEAST_SIZE, MOST_BUFFERS, TRACE_LIMIT}
@@ -16,10 +16,6 @@ abbrev pub BeginsNoDigit : List ℕ → Type 0
 BeginsNoDigit [] = Unit {0}
 BeginsNoDigit (byte ∷ bytes) = is_ascii_digit byte ≡ false
 
--- a name, and a number after it
-abbrev pub field_text : List ℕ → ℕ → List ℕ
-field_text name number = name ++ decimal number
-
 -- the first row of each audit
 abbrev pub format_row : List ℕ
 format_row = codes "xray-audit 1" ++ line_feed
@@ -33,11 +29,12 @@ buffers_part threads size max =
 abbrev pub stamps_part : (pid : ℕ) → Wall → (frequency : ℕ) → List ℕ
 stamps_part pid wall frequency =
     codes " pid=" ++ decimal pid ++ codes " wall=" ++ decimal wall.secs ++ codes "." ++ decimal wall.micros
-    ++ codes " frequency=" ++ decimal frequency ++ line_feed
+    ++ codes " frequency=" ++ decimal frequency
 
 -- the second row, which says what the run was made with
 abbrev pub setup_row : Setup → List ℕ
-setup_row setup = buffers_part setup.threads setup.size setup.max ++ limits_text setup.limits ++ stamps_part setup.pid setup.wall setup.frequency
+setup_row setup =
+    buffers_part setup.threads setup.size setup.max ++ limits_text setup.limits ++ stamps_part setup.pid setup.wall setup.frequency ++ line_feed
 
 -- ---- which setups a run may have, in parts
 
@@ -75,7 +72,7 @@ counts_part counts =
 
 -- the end of a stack whose name the bytes may begin with: the names differ at their seventh byte
 abbrev pub stack_end : List ℕ → End
-stack_end bytes = if slice_index bytes 6 == 102 then StackFull else StackEmpty
+stack_end bytes = if nat_lt 6 (length bytes) && (slice_index bytes 6 == 102) then StackFull else StackEmpty
 
 -- the end whose name the bytes may begin with, by their first byte
 abbrev pub guessed_end : List ℕ → Option End
