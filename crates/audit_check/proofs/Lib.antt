@@ -11,6 +11,7 @@ pub mod Judged
 pub mod Lawful
 pub mod LeastEnds
 pub mod LeastMarks
+pub mod OneReading
 pub mod OneVerdict
 pub mod Owning
 pub mod PassingEnds

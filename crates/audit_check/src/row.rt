@@ -19,7 +19,7 @@ const STACK_DIFFERS: usize = 6;
 const FULL: u8 = b'f';
 
 /// The bytes that end a row.
-pub(crate) const LINE_FEED: &[u8] = b"\n";
+pub(crate) const ROW_END: &[u8] = b"\n";
 
 /// What is left of a row after a word, if the row goes on with it.
 pub(crate) fn after<'a>(row: &'a [u8], word: &[u8]) -> Option<&'a [u8]>

@@ -7,7 +7,7 @@ ghost use Rattle.machine_step.specs.Setups.{AreLimits, IsSetup};
 ghost use Rattle.audit_check.specs.private.Parts.{AreBuffers, AreStamps, setup_row};
 ghost use Rattle.audit_check.specs.private.Taking.{Gives, buffers_in, cpus_in, limits_in, setup_by, setup_in, stamps_in};
 
-use crate::row::{LINE_FEED, take_field, take_short};
+use crate::row::{ROW_END, take_field, take_short};
 use fdr_buffer::{LARGEST_SIZE, LEAST_SIZE, MOST_BUFFERS, TRACE_LIMIT};
 use machine_step::{Limits, Setup};
 use sled_words::MAX_THREADS;
@@ -64,7 +64,7 @@ fn printed_setup(row: &[u8]) -> Option<Setup>
     let (buffers, row) = take_buffers(row)?;
     let (limits, row) = take_limits(row)?;
     let (stamps, row) = take_stamps(row)?;
-    if row == LINE_FEED {
+    if row == ROW_END {
         Some(setup_of(buffers, limits, stamps))
     } else {
         None

@@ -9,7 +9,7 @@ ghost use Rattle.audit_check.specs.private.Parts.{BeginsNoDigit};
 ghost use Rattle.audit_check.specs.private.Taking.{Gives, counts_in, recycled_in, said_in};
 ghost use Rattle.audit_check.specs.Statements.{most_marks};
 
-use crate::row::{LINE_FEED, after, take_end, take_field, take_run, take_short};
+use crate::row::{ROW_END, after, take_end, take_field, take_run, take_short};
 use handler_word::{Mark, Marks};
 use machine_step::End;
 use text_lines::a_written_number_is_itself;
@@ -37,7 +37,7 @@ pub(crate) fn read_counts(row: &[u8], thread: u32) -> Option<Counts>
         return None;
     }
     let (counts, row) = take_counts(row)?;
-    if row == LINE_FEED { Some(counts) } else { None }
+    if row == ROW_END { Some(counts) } else { None }
 }
 
 /// Takes the end of a thread and its counts.
@@ -72,7 +72,7 @@ pub(crate) fn read_marks(row: &[u8], marks: &mut Marks) -> Option<()>
 {
     let part = after(row, b"marks")?;
     let rest = take_marks(part, marks)?;
-    if rest == LINE_FEED { Some(()) } else { None }
+    if rest == ROW_END { Some(()) } else { None }
 }
 
 /// Takes a space and the marks, or a hyphen if there are none.
@@ -156,7 +156,7 @@ pub(crate) fn read_recycled(row: &[u8]) -> Option<u64>
     ensures { result ≡ recycled_in row.now }
 {
     let (recycled, row) = take_field(row, b"recycled ")?;
-    if row == LINE_FEED {
+    if row == ROW_END {
         Some(recycled)
     } else {
         None

@@ -1,5 +1,5 @@
 -- Reading a row from its first byte to its last, for the contracts of the reader's private functions.
-use Rattle.std.specs.Prelude.{ℕ, not, ◌==◌, ◌&&◌, nat_le, nat_lt, List, [], ◌∷◌, ◌≡◌, length, take, drop, Option, Some, None, if◌then◌else◌, slice_index, codes, decimal}
+use Rattle.std.specs.Prelude.{◌≡◌, ◌==◌, ℕ, not, nat_le, List, [], ◌∷◌, take, drop, Option, Some, None, if◌then◌else◌, codes, decimal}
 use Rattle.std.specs.Char.{is_ascii_digit}
 use Rattle.std.specs.List.{position_or_len}
 use Rattle.std.specs.Str.{bytes_eq}
