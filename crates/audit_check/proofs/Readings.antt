@@ -59,6 +59,12 @@ module _ (bytes : List ℕ) (rows : Rows) (taken : List (List ℕ)) (IsRow : Lis
       at_line bytes (length taken + 1) rows.number (let count = has.number in omega (arith, count, length-append taken (row ∷ [])))
       (refused (row ∷ whole_lines rows.left.now) (with_row bytes rows taken row has) other)
 
+  pub row_missing : (fault : AuditFault) → HasTaken bytes rows taken → (fault ≡ Form (rows.number + 1)) × (rows.left.now ≡ []) → Refuses bytes fault
+  row_missing fault has none = subst (Refuses bytes) (sym none.0) (missing has none.1)
+
+  pub row_another : (fault : AuditFault) (row : List ℕ) → fault ≡ Form rows.number → HasTaken bytes rows (taken ++ row ∷ []) → (IsRow row → ⊥) → Refuses bytes fault
+  row_another fault row is has other = subst (Refuses bytes) (sym is) (another row has other)
+
 -- ---- each row
 
 pub format_refused : (bytes : List ℕ) (rest : List (List ℕ)) → whole_lines bytes ≡ [] ++ rest → Unlike IsFormatRow rest → IsRefused bytes 1

@@ -1,0 +1,3 @@
+use Rattle.audit_check.proofs.ReadRows.{setup_tells}
+use Rattle.audit_check.proofs.Readings.{end_refused, whole_text}
+use Rattle.audit_check.proofs.reading.Rows.end.Goals as goal
