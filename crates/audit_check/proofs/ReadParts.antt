@@ -1,7 +1,8 @@
 -- The parts of a row: what is read of it is what it prints.
-use Rattle.std.proofs.Common.{◌≡◌, ◌≢◌, ◌<◌, ◌≤◌, ◌^◌, ◌==◌, ℕ, Bool, true, false, List, [], ◌∷◌, ◌++◌, length, take, drop, Option, Some, None, MatchOption, Bor, refl, sym, ap, ◌∙◌, arith, append_assoc, take-append-drop, take_at, drop_at, eq-eqb, eqb-true, le-leb}
-use Rattle.std.specs.Prelude.{decimal, if◌then◌else◌, nat_le}
+use Rattle.std.proofs.Common.{◌≡◌, ◌≢◌, ◌<◌, ◌≤◌, ◌^◌, ◌==◌, ℕ, Bool, true, false, List, [], ◌∷◌, ◌++◌, length, take, drop, Option, Some, None, MatchOption, Bor, refl, sym, ap, ◌∙◌, arith, take-append-drop, take_at, drop_at, eq-eqb, eqb-true, lt-ltb}
+use Rattle.std.specs.Prelude.{decimal, if◌then◌else◌, nat_lt}
 use Rattle.std.specs.Str.{bytes_eq}
+use Rattle.std.proofs.lemmas.Option.{same_Some}
 use Rattle.std.proofs.lemmas.Slice.Eq.{bytes_eq-Decides}
 use Rattle.text_lines.specs.Numbers.{numeral}
 use Rattle.text_lines.specs.Written.{WrittenNumbersRead}
@@ -29,27 +30,21 @@ pub chosen : {X : Type 0} (t : Bool) (x y : X) → t ≡ true → (if t then x e
 chosen true x y e = refl
 chosen false x y e = absurd cc
 
-pub none_some : {X : Type 0} {x : X} → None ≡ Some x → ⊥
-none_some e = cc
-
-pub same_some : {X : Type 0} (x y : X) → Some x ≡ Some y → x ≡ y
-same_some x y e = cc
-
 pub into : {A B : Type 0} (o : Option A) (f : A → Option B) (x : A) → o ≡ Some x → (o >>= f) ≡ f x
 into {A} {B} o f x e = ap (λ (p : Option A). p >>= f) e
 
 -- equal answers have equal values and the same rest
 pub first_same : {X Y : Type 0} (p q : X × Y) → Some p ≡ Some q → p.0 ≡ q.0
-first_same {X} {Y} p q e = ap (λ (z : X × Y). z.0) (same_some p q e)
+first_same {X} {Y} p q e = ap (λ (z : X × Y). z.0) (same_Some p q e)
 
 pub rest_same : {X Y : Type 0} (p q : X × Y) → Some p ≡ Some q → p.1 ≡ q.1
-rest_same {X} {Y} p q e = ap (λ (z : X × Y). z.1) (same_some p q e)
+rest_same {X} {Y} p q e = ap (λ (z : X × Y). z.1) (same_Some p q e)
 
 -- ---- words
 
 pub after_found : (word row rest : List ℕ) → after word row ≡ Some rest → row ≡ word ++ rest
 unfolding after
-after_found [] row rest e = same_some row rest e
+after_found [] row rest e = same_Some row rest e
 after_found (byte ∷ word) [] rest e = absurd cc
 after_found (byte ∷ word) (next ∷ row) rest e =
     let m = met (byte == next) (after word row) rest e in
@@ -81,7 +76,7 @@ unfolding printed
 printed_found word n e =
     let a = bound (numeral 10 word) (λ (number : ℕ). if bytes_eq (decimal number) word then Some number else None) n e in
     let m = met (bytes_eq (decimal a.0) word) (Some a.0) n a.2 in
-    sym ((bytes_eq-Decides (decimal a.0) word).0 m.0) ∙ ap decimal (same_some a.0 n m.1)
+    sym ((bytes_eq-Decides (decimal a.0) word).0 m.0) ∙ ap decimal (same_Some a.0 n m.1)
 
 pub number_found : (row : List ℕ) (n : ℕ) (rest : List ℕ) → number_in row ≡ Some (n, rest) → row ≡ decimal n ++ rest
 unfolding number_in
@@ -103,8 +98,8 @@ field_found name row n rest e =
 pub short_found : (name row : List ℕ) (n : ℕ) (rest : List ℕ) → short_in name row ≡ Some (n, rest) → row ≡ name ++ (decimal n ++ rest)
 unfolding short_in
 short_found name row n rest e =
-    let a = bound (field_in name row) (λ (field : ℕ × List ℕ). if nat_le field.0 4294967295 then Some field else None) (n, rest) e in
-    let m = met (nat_le a.0.0 4294967295) (Some a.0) (n, rest) a.2 in
+    let a = bound (field_in name row) (λ (field : ℕ × List ℕ). if nat_lt field.0 (2 ^ 32) then Some field else None) (n, rest) e in
+    let m = met (nat_lt a.0.0 (2 ^ 32)) (Some a.0) (n, rest) a.2 in
     field_found name row n rest (a.1 ∙ m.1)
 
 -- ---- ends
@@ -151,29 +146,29 @@ mark_of_byte : (byte : ℕ) (mark : Mark) → mark_named byte ≡ Some mark → 
 mark_of_byte byte mark e = one (byte == 46) refl e
   where
     five : (t : Bool) → byte == 97 ≡ t → (if t then Some RecordedArg else None) ≡ Some mark → byte ≡ mark_byte mark
-    five true is found = eqb-true byte 97 is ∙ ap mark_byte (same_some RecordedArg mark found)
+    five true is found = eqb-true byte 97 is ∙ ap mark_byte (same_Some RecordedArg mark found)
     five false is found = absurd cc
 
     four : (t : Bool) → byte == 43 ≡ t → (if t then Some Recorded else if byte == 97 then Some RecordedArg else None) ≡ Some mark → byte ≡ mark_byte mark
-    four true is found = eqb-true byte 43 is ∙ ap mark_byte (same_some Recorded mark found)
+    four true is found = eqb-true byte 43 is ∙ ap mark_byte (same_Some Recorded mark found)
     four false is found = five (byte == 97) refl found
 
     three : (t : Bool) → byte == 102 ≡ t
         → (if t then Some NotLogging else if byte == 43 then Some Recorded else if byte == 97 then Some RecordedArg else None) ≡ Some mark
         → byte ≡ mark_byte mark
-    three true is found = eqb-true byte 102 is ∙ ap mark_byte (same_some NotLogging mark found)
+    three true is found = eqb-true byte 102 is ∙ ap mark_byte (same_Some NotLogging mark found)
     three false is found = four (byte == 43) refl found
 
     two : (t : Bool) → byte == 110 ≡ t
         → (if t then Some NoHandler else if byte == 102 then Some NotLogging else if byte == 43 then Some Recorded
         else if byte == 97 then Some RecordedArg else None) ≡ Some mark → byte ≡ mark_byte mark
-    two true is found = eqb-true byte 110 is ∙ ap mark_byte (same_some NoHandler mark found)
+    two true is found = eqb-true byte 110 is ∙ ap mark_byte (same_Some NoHandler mark found)
     two false is found = three (byte == 102) refl found
 
     one : (t : Bool) → byte == 46 ≡ t
         → (if t then Some Skipped else if byte == 110 then Some NoHandler else if byte == 102 then Some NotLogging
         else if byte == 43 then Some Recorded else if byte == 97 then Some RecordedArg else None) ≡ Some mark → byte ≡ mark_byte mark
-    one true is found = eqb-true byte 46 is ∙ ap mark_byte (same_some Skipped mark found)
+    one true is found = eqb-true byte 46 is ∙ ap mark_byte (same_Some Skipped mark found)
     one false is found = two (byte == 110) refl found
 
 mark_found : (row : List ℕ) (mark : Mark) (rest : List ℕ) → mark_in row ≡ Some (mark, rest) → row ≡ mark_byte mark ∷ rest
@@ -239,9 +234,9 @@ module _ (reads : WrittenNumbersRead) where
   pub short_only : (name : List ℕ) (n : ℕ) (rest : List ℕ) → n < 2 ^ 32 → BeginsNoDigit rest → short_in name (name ++ (decimal n ++ rest)) ≡ Some (n, rest)
   unfolding short_in
   short_only name n rest small none =
-      into (field_in name (name ++ (decimal n ++ rest))) (λ (field : ℕ × List ℕ). if nat_le field.0 4294967295 then Some field else None) (n, rest)
+      into (field_in name (name ++ (decimal n ++ rest))) (λ (field : ℕ × List ℕ). if nat_lt field.0 (2 ^ 32) then Some field else None) (n, rest)
       (field_only name n rest (omega arith) none)
-      ∙ chosen (nat_le n 4294967295) (answer n rest) None (le-leb n 4294967295 (omega arith))
+      ∙ chosen (nat_lt n (2 ^ 32)) (answer n rest) None (lt-ltb n (2 ^ 32) small)
 
   pub run_only : (mark : Mark) (count : ℕ) (rest : List ℕ) → count < 2 ^ 32 → BeginsNoDigit rest
       → run_in (run_text (mark, count) ++ rest) ≡ Some ((mark, count), rest)

@@ -1,8 +1,9 @@
 -- Whole rows: what is read of a row is what it prints.
-use Rattle.std.proofs.Common.{◌≡◌, ◌<◌, ◌≤◌, ◌^◌, ◌==◌, ◌&&◌, ℕ, Bool, true, false, List, [], ◌∷◌, ◌++◌, length, take, drop, Option, Some, None, refl, sym, ap, subst, ◌∙◌, arith, eq-eqb, eqb-true, le-leb, leb-true}
-use Rattle.std.specs.Prelude.{codes, decimal, if◌then◌else◌, nat_le}
+use Rattle.std.proofs.Common.{◌≡◌, ◌<◌, ◌≤◌, ◌^◌, ◌==◌, ◌&&◌, ℕ, Bool, true, false, List, [], ◌∷◌, ◌++◌, length, take, drop, Option, Some, None, refl, sym, ap, subst, ◌∙◌, arith, eq-eqb, eqb-true, leb-true, lt-ltb, ltb-true}
+use Rattle.std.specs.Prelude.{codes, decimal, if◌then◌else◌, nat_le, nat_lt}
 use Rattle.std.specs.Str.{bytes_eq}
 use Rattle.std.specs.Str.Parse.{digits_value}
+use Rattle.std.proofs.lemmas.Option.{same_Some}
 use Rattle.std.proofs.lemmas.Slice.Eq.{bytes_eq-Decides}
 use Rattle.text_lines.specs.Numbers.{is_numeral, numeral}
 use Rattle.text_lines.specs.Written.{WrittenNumbersRead}
@@ -20,7 +21,7 @@ use Rattle.audit_check.specs.private.Lines.{counts_row}
 use Rattle.audit_check.specs.private.Parts.{AreBuffers, AreStamps, BeginsNoDigit, HasShortCounts, buffers_part, counts_part, setup_row, stamps_part}
 use Rattle.audit_check.specs.private.Taking.{◌>>=◌, after, buffers_in, counts_in, cpus_in, digit_count, end_in, field_in, limits_in, number_in, printed, recycled_in, said_in, setup_by, setup_in, short_in, stamps_in}
 use Rattle.audit_check.proofs.Fields.{buffers_parts, counts_parts, limits_parts, recycled_parts, said_parts, setup_parts, stamps_parts}
-use Rattle.audit_check.proofs.ReadParts.{after_found, after_only, bound, chosen, end_found, end_only, field_found, field_only, first_same, into, met, rest_same, same_some, short_found, short_only}
+use Rattle.audit_check.proofs.ReadParts.{after_found, after_only, bound, chosen, end_found, end_only, field_found, field_only, first_same, into, met, rest_same, short_found, short_only}
 
 -- ---- what is read is as small as its type
 
@@ -36,10 +37,10 @@ number_small row n rest e =
     let a = bound {B = ℕ × List ℕ} (printed word) (λ (number : ℕ). Some (number, drop (digit_count row) row)) (n, rest) e in
     let number : a.0 ≡ n = first_same {X = ℕ} {Y = List ℕ} (a.0, drop (digit_count row) row) (n, rest) a.2 in
     let b = bound (numeral 10 word) (λ (number : ℕ). if bytes_eq (decimal number) word then Some number else None) a.0 a.1 in
-    let same : b.0 ≡ a.0 = same_some b.0 a.0 (met (bytes_eq (decimal b.0) word) (Some b.0) a.0 b.2).1 in
+    let same : b.0 ≡ a.0 = same_Some b.0 a.0 (met (bytes_eq (decimal b.0) word) (Some b.0) a.0 b.2).1 in
     let fits = met (is_numeral 10 word && nat_le value 18446744073709551615) (Some value) b.0 b.1 in
     let low : value ≤ 18446744073709551615 = leb-true value 18446744073709551615 (right_of (is_numeral 10 word) (nat_le value 18446744073709551615) fits.0) in
-    let is : value ≡ b.0 = same_some value b.0 fits.1 in
+    let is : value ≡ b.0 = same_Some value b.0 fits.1 in
     omega arith
 
 pub field_small : (name row : List ℕ) (n : ℕ) (rest : List ℕ) → field_in name row ≡ Some (n, rest) → n < 2 ^ 64
@@ -49,9 +50,9 @@ field_small name row n rest e = let a = bound (after name row) number_in (n, res
 pub short_small : (name row : List ℕ) (n : ℕ) (rest : List ℕ) → short_in name row ≡ Some (n, rest) → n < 2 ^ 32
 unfolding short_in
 short_small name row n rest e =
-    let a = bound (field_in name row) (λ (field : ℕ × List ℕ). if nat_le field.0 4294967295 then Some field else None) (n, rest) e in
-    let m = met (nat_le a.0.0 4294967295) (Some a.0) (n, rest) a.2 in
-    let low : a.0.0 ≤ 4294967295 = leb-true a.0.0 4294967295 m.0 in
+    let a = bound (field_in name row) (λ (field : ℕ × List ℕ). if nat_lt field.0 (2 ^ 32) then Some field else None) (n, rest) e in
+    let m = met (nat_lt a.0.0 (2 ^ 32)) (Some a.0) (n, rest) a.2 in
+    let low : a.0.0 < 2 ^ 32 = ltb-true a.0.0 (2 ^ 32) m.0 in
     let same : a.0.0 ≡ n = first_same {X = ℕ} {Y = List ℕ} a.0 (n, rest) m.1 in
     omega arith
 
@@ -77,8 +78,8 @@ buffers_found row b rest e =
 cpus_found : (row : List ℕ) (n : ℕ) (rest : List ℕ) → cpus_in row ≡ Some (n, rest) → row ≡ codes " cpus=" ++ (decimal n ++ rest)
 unfolding cpus_in
 cpus_found row n rest e =
-    let a = bound (short_in (codes " cpus=") row) (λ (cpus : ℕ × List ℕ). if nat_le cpus.0 65535 then Some cpus else None) (n, rest) e in
-    let m = met (nat_le a.0.0 65535) (Some a.0) (n, rest) a.2 in
+    let a = bound (short_in (codes " cpus=") row) (λ (cpus : ℕ × List ℕ). if nat_lt cpus.0 (2 ^ 16) then Some cpus else None) (n, rest) e in
+    let m = met (nat_lt a.0.0 (2 ^ 16)) (Some a.0) (n, rest) a.2 in
     short_found (codes " cpus=") row n rest (a.1 ∙ m.1)
 
 limits_chain : (l : Limits) (r0 r1 r2 r3 r4 r5 r6 : List ℕ) → r0 ≡ codes " fuel=" ++ (decimal l.fuel ++ r1) → r1 ≡ codes " passings=" ++ (decimal l.passings ++ r2)
@@ -139,7 +140,7 @@ setup_found row s e =
     let m = met (bytes_eq t.0.1 line_feed) (Some (setup_by b.0.0 l.0.0 t.0.0)) s t.2 in
     setup_chain b.0.0 l.0.0 t.0.0 row b.0.1 l.0.1 t.0.1 (buffers_found row b.0.0 b.0.1 b.1) (limits_found b.0.1 l.0.0 l.0.1 l.1)
     (stamps_found l.0.1 t.0.0 t.0.1 t.1) ((bytes_eq-Decides t.0.1 line_feed).0 m.0)
-    ∙ ap setup_row (same_some (setup_by b.0.0 l.0.0 t.0.0) s m.1)
+    ∙ ap setup_row (same_Some (setup_by b.0.0 l.0.0 t.0.0) s m.1)
 
 -- a setup of a run, from its parts
 pub setup_is : (s : Setup) → AreBuffers s → AreLimits s.limits → AreStamps s → s.wall.secs < 2 ^ 64 → s.frequency < 2 ^ 64 → IsSetup s
@@ -230,14 +231,14 @@ counts_found thread row c e =
           said.text ((bytes_eq-Decides s.0.1 line_feed).0 f.0);
       short = said.short;
     } in
-    subst (λ (x : Counts). SaysCounts thread row x) (same_some s.0.0 c f.1) has
+    subst (λ (x : Counts). SaysCounts thread row x) (same_Some s.0.0 c f.1) has
 
 pub recycled_found : (row : List ℕ) (n : ℕ) → recycled_in row ≡ Some n → (row ≡ recycled_line n) × (n < 2 ^ 64)
 unfolding recycled_in
 recycled_found row n e =
     let a = bound {B = ℕ} (field_in (codes "recycled ") row) _ n e in
     let m = met (bytes_eq a.0.1 line_feed) (Some a.0.0) n a.2 in
-    let same : a.0.0 ≡ n = same_some a.0.0 n m.1 in
+    let same : a.0.0 ≡ n = same_Some a.0.0 n m.1 in
     let text : row ≡ codes "recycled " ++ (decimal a.0.0 ++ a.0.1) = field_found (codes "recycled ") row a.0.0 a.0.1 a.1 in
     let feed : a.0.1 ≡ line_feed = (bytes_eq-Decides a.0.1 line_feed).0 m.0 in (
       text
@@ -264,9 +265,9 @@ module _ (reads : WrittenNumbersRead) where
   cpus_only : (n : ℕ) (rest : List ℕ) → n ≤ 65535 → BeginsNoDigit rest → cpus_in (codes " cpus=" ++ (decimal n ++ rest)) ≡ Some (n, rest)
   unfolding cpus_in
   cpus_only n rest low none =
-      into (short_in (codes " cpus=") (codes " cpus=" ++ (decimal n ++ rest))) (λ (cpus : ℕ × List ℕ). if nat_le cpus.0 65535 then Some cpus else None) (n, rest)
+      into (short_in (codes " cpus=") (codes " cpus=" ++ (decimal n ++ rest))) (λ (cpus : ℕ × List ℕ). if nat_lt cpus.0 (2 ^ 16) then Some cpus else None) (n, rest)
       (short_only reads (codes " cpus=") n rest (omega arith) none)
-      ∙ chosen {X = Option (ℕ × List ℕ)} (nat_le n 65535) (Some (n, rest)) None (le-leb n 65535 low)
+      ∙ chosen {X = Option (ℕ × List ℕ)} (nat_lt n (2 ^ 16)) (Some (n, rest)) None (lt-ltb n (2 ^ 16) (omega arith))
 
   limits_only : (l : Limits) (rest : List ℕ) → AreLimits l → BeginsNoDigit rest → limits_in (limits_text l ++ rest) ≡ Some (l, rest)
   unfolding limits_in
@@ -354,4 +355,4 @@ module _ (reads : WrittenNumbersRead) where
 
   -- the row of a setup tells the setup
   pub setup_tells : (s t : Setup) → IsSetup s → IsSetup t → setup_row s ≡ setup_row t → s ≡ t
-  setup_tells s t is is' same = same_some s t (sym (setup_only s is) ∙ (ap setup_in same ∙ setup_only t is'))
+  setup_tells s t is is' same = same_Some s t (sym (setup_only s is) ∙ (ap setup_in same ∙ setup_only t is'))

@@ -4,6 +4,7 @@ use Rattle.std.specs.Prelude.{◌⊎◌, All, Err, slice_get}
 use Rattle.std.specs.List.{flat_map}
 use Rattle.std.proofs.lemmas.Grind.{flat_map-append}
 use Rattle.std.proofs.lemmas.List.Elements.{All-nil}
+use Rattle.std.proofs.lemmas.Option.{none-some}
 use Rattle.text_lines.specs.Written.{WrittenNumbersRead}
 use Rattle.handler_word.specs.declared.mark.Mark.{Mark}
 use Rattle.machine_step.specs.declared.setup.Setup.{Setup}
@@ -20,7 +21,6 @@ use Rattle.audit_check.specs.private.Taking.{counts_in, recycled_in}
 use Rattle.audit_check.specs.Reading.{IsRefused, ReadsAs, whole_lines}
 use Rattle.audit_check.specs.Statements.{HasCounts, MayState, Statement, most_marks, text_of}
 use Rattle.audit_check.proofs.Refusals.{IsCountsRow, IsFormatRow, IsMarksRow, IsRecycledRow, IsSetupRow, TellsSetup, Unlike, counted_rows, one_more, refused_counts, refused_end, refused_format, refused_marks, refused_recycled, refused_setup, text_by_rows}
-use Rattle.audit_check.proofs.ReadParts.{none_some}
 use Rattle.audit_check.proofs.ReadRows.{counts_only, recycled_only}
 use Rattle.audit_check.proofs.RowLines.{joined_lines}
 
@@ -96,16 +96,16 @@ recycled_refused tells bytes setup threads are all rest lines other = refused_re
 
 -- a row that isn't read isn't such a row
 pub unread_setup : (row : List ℕ) → ((setup : Setup) → IsSetup setup → row ≡ setup_row setup → None ≡ Some setup) → IsSetupRow row → ⊥
-unread_setup row only (setup, is, text) = none_some (only setup is text)
+unread_setup row only (setup, is, text) = none-some _ (only setup is text)
 
 pub unread_counts : (reads : WrittenNumbersRead) (thread : ℕ) (row : List ℕ) → thread < 2 ^ 32 → None ≡ counts_in thread row → IsCountsRow thread row → ⊥
 unread_counts reads thread row small none (said, has, number, is) =
     let text : row ≡ counts_row thread (counts_of said) = subst (λ n. row ≡ counts_row n (counts_of said)) number is in
-    none_some (none ∙ (ap (counts_in thread) text ∙ counts_only reads thread (counts_of said) small
+    none-some _ (none ∙ (ap (counts_in thread) text ∙ counts_only reads thread (counts_of said) small
     (record { passings = has.passings; recorded = has.recorded; segments = has.segments; first = has.first })))
 
 pub unread_recycled : (reads : WrittenNumbersRead) (row : List ℕ) → None ≡ recycled_in row → IsRecycledRow row → ⊥
-unread_recycled reads row none (recycled, small, is) = none_some (none ∙ (ap recycled_in is ∙ recycled_only reads recycled small))
+unread_recycled reads row none (recycled, small, is) = none-some _ (none ∙ (ap recycled_in is ∙ recycled_only reads recycled small))
 
 -- ---- one more thread
 

@@ -4,6 +4,7 @@ use Rattle.std.specs.Prelude.{codes, decimal, replicate}
 use Rattle.std.specs.List.{flat_map}
 use Rattle.std.proofs.lemmas.Grind.{flat_map-append}
 use Rattle.std.proofs.lemmas.List.{append-nil, length-replicate}
+use Rattle.std.proofs.lemmas.Option.{none-some, same_Some}
 use Rattle.text_lines.specs.Written.{WrittenNumbersRead}
 use Rattle.handler_word.specs.declared.mark.Mark.{Mark}
 use Rattle.handler_word.specs.declared.mark.Mark.TheVariants.{Skipped, NoHandler, NotLogging, Recorded, RecordedArg}
@@ -13,7 +14,7 @@ use Rattle.audit_check.specs.private.Marks.{AreRuns, GoesOn, HasRuns, TakesRun, 
 use Rattle.audit_check.specs.private.Parts.{BeginsNoDigit}
 use Rattle.audit_check.specs.private.Taking.{after, run_in}
 use Rattle.audit_check.specs.Statements.{most_marks}
-use Rattle.audit_check.proofs.ReadParts.{after_found, after_only, first_same, none_some, rest_same, run_found, run_only, same_some}
+use Rattle.audit_check.proofs.ReadParts.{after_found, after_only, first_same, rest_same, run_only}
 use Rattle.audit_check.proofs.RunTexts.{part_of_marks, part_of_runs, row_of_part, runs_are, runs_marks, some_runs}
 
 abbrev Run : Type 0
@@ -26,7 +27,7 @@ pub refused_run : (reads : WrittenNumbersRead) (row : List ℕ) (mark : Mark) (c
     → BeginsNoDigit rest → row ≡ run_text (mark, count) ++ rest → ⊥
 refused_run reads row mark count rest none few ends is =
     let some : run_in row ≡ Some ((mark, count), rest) = ap run_in is ∙ run_only reads mark count rest (omega arith) ends in
-    none_some (sym none ∙ some)
+    none-some _ (sym none ∙ some)
 
 -- what was read of it is that run
 pub record IsRun (mark found : Mark) (count number : ℕ) (rest left : List ℕ) : Type 0 where
@@ -100,7 +101,7 @@ whole_part row left marks last mark has is =
     ∙ ap (λ (l : List ℕ). l ++ left) (sym (ap marks_part has.marks_are ∙ part_of_runs has.runs has.are (some has.runs (sym has.last_is ∙ is))))
   where
     some : (runs : List Run) → last_of None runs ≡ Some mark → runs ≢ []
-    some runs named none = none_some (sym (ap (last_of None) none) ∙ named)
+    some runs named none = none-some _ (sym (ap (last_of None) none) ∙ named)
 
 -- ---- a row that is printed
 
@@ -181,7 +182,7 @@ stops left marks last runs rest on none = by on.later on.text on.marks_are on.no
     by ((mark, count) ∷ later) text marks_are none_yet =
         let tail : List ℕ = (run_text (mark, count) ++ spaced later) ++ 10 ∷ rest in
         let some : after (codes " ") left ≡ Some tail = ap (after (codes " ")) text ∙ after_only (codes " ") tail in
-        absurd (none_some (sym none ∙ some))
+        absurd (none-some _ (sym none ∙ some))
 
 -- ---- the row of marks
 
@@ -218,7 +219,7 @@ pub without_hyphen : (row : List ℕ) (all : List Mark) (rest : List ℕ) → af
     → HasSomeRuns row all rest
 without_hyphen row [] rest none text =
     let some : after (codes " -") row ≡ Some (10 ∷ rest) = ap (after (codes " -")) text ∙ after_only (codes " -") (10 ∷ rest) in
-    absurd (none_some (sym none ∙ some))
+    absurd (none-some _ (sym none ∙ some))
 without_hyphen row (mark ∷ marks) rest none text = record {
   runs = runs_of (mark ∷ marks);
   are = runs_are (mark ∷ marks);
@@ -238,10 +239,10 @@ pub marks_none : (row : List ℕ) (all : List Mark) → after (codes "marks") ro
 marks_none row all none is =
     let tail : List ℕ = marks_part all ++ line_feed in
     let some : after (codes "marks") row ≡ Some tail = ap (after (codes "marks")) (is ∙ row_of_part all) ∙ after_only (codes "marks") tail in
-    none_some (sym none ∙ some)
+    none-some _ (sym none ∙ some)
 
 pub marks_part_is : (row part : List ℕ) (all : List Mark) → after (codes "marks") row ≡ Some part → row ≡ marks_line all → part ≡ marks_part all ++ 10 ∷ []
 marks_part_is row part all word is =
     let tail : List ℕ = marks_part all ++ line_feed in
     let some : after (codes "marks") row ≡ Some tail = ap (after (codes "marks")) (is ∙ row_of_part all) ∙ after_only (codes "marks") tail in
-    same_some part tail (sym word ∙ some)
+    same_Some part tail (sym word ∙ some)

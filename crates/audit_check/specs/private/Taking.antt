@@ -1,5 +1,5 @@
 -- Reading a row from its first byte to its last, for the contracts of the reader's private functions.
-use Rattle.std.specs.Prelude.{◌≡◌, ◌==◌, ℕ, not, nat_le, List, [], ◌∷◌, take, drop, Option, Some, None, if◌then◌else◌, codes, decimal}
+use Rattle.std.specs.Prelude.{◌≡◌, ◌==◌, ◌^◌, ℕ, not, nat_lt, List, [], ◌∷◌, take, drop, Option, Some, None, if◌then◌else◌, codes, decimal}
 use Rattle.std.specs.Char.{is_ascii_digit}
 use Rattle.std.specs.List.{position_or_len}
 use Rattle.std.specs.Str.{bytes_eq}
@@ -63,7 +63,7 @@ field_in name row = do
 unfoldable pub short_in : List ℕ → List ℕ → Read ℕ
 short_in name row = do
   field ← field_in name row
-  if nat_le field.0 4294967295 then Some field else None
+  if nat_lt field.0 (2 ^ 32) then Some field else None
 
 -- ---- ends and marks
 
@@ -113,7 +113,7 @@ buffers_in row = do
 unfoldable pub cpus_in : List ℕ → Read ℕ
 cpus_in row = do
   cpus ← short_in (codes " cpus=") row
-  if nat_le cpus.0 65535 then Some cpus else None
+  if nat_lt cpus.0 (2 ^ 16) then Some cpus else None
 
 unfoldable pub limits_in : List ℕ → Read Limits
 limits_in row = do
