@@ -12,8 +12,8 @@ use Rattle.handler_word.specs.Runs.{mark_byte, run_text}
 use Rattle.machine_step.specs.declared.end.End.{End}
 use Rattle.machine_step.specs.declared.end.End.TheVariants.{BadTarget, Fuel, OutputFull, Passings, Returned, StackEmpty, StackFull}
 use Rattle.machine_step.specs.Texts.{end_text}
-use Rattle.audit_check.specs.private.Parts.{BeginsNoDigit, guessed_end}
-use Rattle.audit_check.specs.private.Taking.{◌>>=◌, Gives, after, byte_in, digit_count, end_in, field_in, mark_in, mark_named, number_in, printed, run_in, short_in}
+use Rattle.audit_check.specs.private.Parts.{BeginsNoDigit}
+use Rattle.audit_check.specs.private.Taking.{◌>>=◌, Gives, after, digit_count, end_in, field_in, guessed_end, mark_in, mark_named, number_in, printed, run_in, short_in}
 use Rattle.audit_check.proofs.Digits.{decimal_are, digits_end}
 
 -- ---- steps that may have no value

@@ -1,12 +1,9 @@
 //! The parts of a row. Each is taken from the bytes that are left of it, and given with the bytes after it.
 
-ghost use Rattle.std.specs.Prelude.{◌≡◌, ◌≤◌, decimal, length};
-ghost use Rattle.std.specs.List.{position};
+ghost use Rattle.std.specs.Prelude.{◌≡◌, ◌≤◌, decimal, length, not, position};
 ghost use Rattle.std.specs.Char.{is_ascii_digit};
-ghost use Rattle.std.specs.Prelude.{not};
 ghost use Rattle.std.specs.Str.{bytes_eq};
-ghost use Rattle.audit_check.specs.private.Parts.{guessed_end, stack_end};
-ghost use Rattle.audit_check.specs.private.Taking.{Gives, after, byte_in, digit_count, end_in, field_in, mark_in, mark_named, number_in, printed, run_in, short_in};
+ghost use Rattle.audit_check.specs.private.Taking.{Gives, after, byte_in, digit_count, end_in, field_in, guessed_end, mark_in, mark_named, number_in, printed, run_in, short_in, stack_end};
 
 use handler_word::Mark;
 use itoa::Buffer;

@@ -1,5 +1,5 @@
 -- Reading a row from its first byte to its last, for the contracts of the reader's private functions.
-use Rattle.std.specs.Prelude.{◌≡◌, ◌==◌, ◌^◌, ℕ, not, nat_lt, List, [], ◌∷◌, take, drop, Option, Some, None, if◌then◌else◌, codes, decimal}
+use Rattle.std.specs.Prelude.{◌≡◌, ◌==◌, ◌&&◌, ◌^◌, ℕ, not, nat_lt, slice_index, List, [], ◌∷◌, length, take, drop, Option, Some, None, if◌then◌else◌, codes, decimal}
 use Rattle.std.specs.Char.{is_ascii_digit}
 use Rattle.std.specs.List.{position_or_len}
 use Rattle.std.specs.Str.{bytes_eq}
@@ -7,13 +7,13 @@ use Rattle.text_lines.specs.Numbers.{numeral}
 use Rattle.handler_word.specs.declared.mark.Mark.{Mark}
 use Rattle.handler_word.specs.declared.mark.Mark.TheVariants.{Skipped, NoHandler, NotLogging, Recorded, RecordedArg}
 use Rattle.machine_step.specs.declared.end.End.{End}
+use Rattle.machine_step.specs.declared.end.End.TheVariants.{BadTarget, Fuel, OutputFull, Passings, Returned, StackEmpty, StackFull}
 use Rattle.machine_step.specs.declared.limits.Limits.{Limits}
 use Rattle.machine_step.specs.declared.setup.Setup.{Setup}
 use Rattle.machine_step.specs.Texts.{end_text, line_feed}
 use Rattle.audit_check.specs.declared.setup.Buffers.{Buffers}
 use Rattle.audit_check.specs.declared.setup.Stamps.{Stamps}
 use Rattle.audit_check.specs.declared.thread_rows.Counts.{Counts}
-use Rattle.audit_check.specs.private.Parts.{guessed_end}
 
 infixl 10 ◌>>=◌
 -- what follows a value, if there is one
@@ -67,15 +67,31 @@ short_in name row = do
 
 -- ---- ends and marks
 
+abbrev pub byte_in : List ℕ → Read ℕ
+byte_in [] = None
+byte_in (byte ∷ row) = Some (byte, row)
+
+-- the end of a stack whose name a row may begin with: the names differ at their seventh byte
+abbrev pub stack_end : List ℕ → End
+stack_end row = if nat_lt 6 (length row) && (slice_index row 6 == 102) then StackFull else StackEmpty
+
+-- the end whose name a row may begin with, by its first byte
+abbrev pub guessed_end : List ℕ → Option End
+guessed_end row = do
+  first ← byte_in row
+  if first.0 == 114 then Some Returned
+    else if first.0 == 102 then Some Fuel
+    else if first.0 == 112 then Some Passings
+    else if first.0 == 111 then Some OutputFull
+    else if first.0 == 115 then Some (stack_end row)
+    else if first.0 == 98 then Some BadTarget
+    else None
+
 unfoldable pub end_in : List ℕ → Read End
 end_in row = do
   end ← guessed_end row
   rest ← after (end_text end) row
   Some (end, rest)
-
-abbrev pub byte_in : List ℕ → Read ℕ
-byte_in [] = None
-byte_in (byte ∷ row) = Some (byte, row)
 
 -- the mark of a character
 abbrev pub mark_named : ℕ → Option Mark
