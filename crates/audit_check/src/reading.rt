@@ -1,6 +1,6 @@
 //! Reading an audit, row by row.
 
-ghost use Rattle.std.specs.Prelude.{◌≡◌, ◌≢◌, ◌⊎◌, ◌<◌, ◌≤◌, ◌+◌, ◌^◌, ◌∷◌, ◌++◌, ℕ, List, [], Ok, Err, MatchResult, IfErr, IfOk, drop, length, map, take};
+ghost use Rattle.std.specs.Prelude.{◌≡◌, ◌==◌, ◌≢◌, ◌⊎◌, ◌<◌, ◌≤◌, ◌+◌, ◌^◌, ◌∷◌, ◌++◌, ℕ, List, [], Ok, Err, MatchResult, IfErr, IfOk, drop, length, map, position, take};
 ghost use Rattle.machine_step.specs.declared.setup.Setup.{Setup};
 ghost use Rattle.machine_step.specs.{Setups.{IsSetup}, Texts.{marks_line}};
 ghost use Rattle.trace_flush.specs.Audit.{ThreadAudit, recycled_line};
@@ -239,8 +239,15 @@ fn row_length(bytes: &[u8]) -> usize
     ensures row { bytes.now ≢ [] → whole_lines bytes.now
         ≡ take result bytes.now ∷ whole_lines (drop result bytes.now) }
 {
-    match bytes.iter().position(|byte| *byte == LINE_FEED) {
+    match first_feed(bytes) {
         Some(end) => end + 1,
         None => bytes.len(),
     }
+}
+
+/// The place of the first line feed.
+fn first_feed(bytes: &[u8]) -> Option<usize>
+    ensures { result ≡ position (λ byte. byte == 10) bytes.now }
+{
+    bytes.iter().position(|byte| *byte == LINE_FEED)
 }
