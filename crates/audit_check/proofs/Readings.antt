@@ -104,6 +104,9 @@ unread_counts reads thread row small none (said, has, number, is) =
     none-some _ (none ∙ (ap (counts_in thread) text ∙ counts_only reads thread (counts_of said) small
     (record { passings = has.passings; recorded = has.recorded; segments = has.segments; first = has.first })))
 
+pub unread_marks : (row : List ℕ) → ((all : List Mark) → length all ≤ most_marks → row ≡ marks_line all → ⊥) → IsMarksRow row → ⊥
+unread_marks row only (all, few, is) = only all few is
+
 pub unread_recycled : (reads : WrittenNumbersRead) (row : List ℕ) → None ≡ recycled_in row → IsRecycledRow row → ⊥
 unread_recycled reads row none (recycled, small, is) = none-some _ (none ∙ (ap recycled_in is ∙ recycled_only reads recycled small))
 
