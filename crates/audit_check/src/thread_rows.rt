@@ -66,6 +66,7 @@ fn take_counts(row: &[u8]) -> Option<(Counts, &[u8])>
 pub(crate) fn read_marks(row: &[u8], marks: &mut Marks) -> Option<()>
     requires empty { marks.old.items ≡ [] }
     requires room { marks.old.room ≡ most_marks }
+    ensures few { OnSome result (length marks.new.items ≤ most_marks) }
     ensures found { OnSome result (row.now ≡ marks_line marks.new.items) }
     ensures only { (all : List Mark) → length all ≤ most_marks → row.now ≡ marks_line all
         → IsSome result × (marks.new.items ≡ all) }
@@ -79,6 +80,7 @@ pub(crate) fn read_marks(row: &[u8], marks: &mut Marks) -> Option<()>
 fn take_marks<'a>(row: &'a [u8], marks: &mut Marks) -> Option<&'a [u8]>
     requires empty { marks.old.items ≡ [] }
     requires room { marks.old.room ≡ most_marks }
+    ensures few { OnSome result (length marks.new.items ≤ most_marks) }
     ensures found { IfSome result (λ rest. row.now ≡ marks_part marks.new.items ++ rest.now) }
     ensures only { (all : List Mark) (rest : List ℕ) → length all ≤ most_marks → row.now ≡ marks_part all ++ 10 ∷ rest
         → MatchOption result ⊥ (λ left. (left.now ≡ 10 ∷ rest) × (marks.new.items ≡ all)) }
@@ -93,6 +95,7 @@ fn take_marks<'a>(row: &'a [u8], marks: &mut Marks) -> Option<&'a [u8]>
 fn take_runs<'a>(row: &'a [u8], marks: &mut Marks) -> Option<&'a [u8]>
     requires empty { marks.old.items ≡ [] }
     requires room { marks.old.room ≡ most_marks }
+    ensures few { OnSome result (length marks.new.items ≤ most_marks) }
     ensures found { IfSome result (λ rest. row.now ≡ marks_part marks.new.items ++ rest.now) }
     ensures only { (runs : List (Mark × ℕ)) (rest : List ℕ) → AreRuns None runs → runs ≢ []
         → length (marks_of_runs runs) ≤ most_marks → row.now ≡ spaced runs ++ 10 ∷ rest
@@ -112,6 +115,7 @@ fn take_runs<'a>(row: &'a [u8], marks: &mut Marks) -> Option<&'a [u8]>
 fn take_next<'a>(row: &'a [u8], marks: &mut Marks, before: Option<Mark>) -> Option<(Mark, &'a [u8])>
     requires { marks.old.room ≡ most_marks }
     ensures room { marks.new.room ≡ most_marks }
+    ensures few { OnSome result (length marks.new.items ≤ most_marks) }
     ensures found { IfSome result (λ x. (before ≢ Some x.0)
         × ((count : ℕ) × TakesRun row.now x.1.now marks.old.items marks.new.items x.0 count)) }
     ensures only { (mark : Mark) (count : ℕ) (rest : List ℕ) → before ≢ Some mark → 0 < count

@@ -8,6 +8,7 @@ use Rattle.audit_check.proofs.thread_rows.take_runs.Given as goal
 abbrev pub invariant-runs : goal.invariant-runs
 invariant-runs l = record {
   room : l.marks.room ≡ most_marks;
+  few : length l.marks.items ≤ most_marks;
   taken : HasRuns l.initial.left l.left l.marks.items l.before;
   printed : (runs : List (Mark × ℕ)) (rest : List ℕ) → AreRuns None runs → runs ≢ [] → length (marks_of_runs runs) ≤ most_marks
       → l.initial.left ≡ spaced runs ++ 10 ∷ rest → GoesOn l.left l.marks.items l.before runs rest;

@@ -23,8 +23,9 @@ returns-in_err-row-clause-rows c = λ bytes setup threads thread counts has are 
 pub returns-in-Some-clause-rows : goal.returns-in-Some-clause-rows
 returns-in-Some-clause-rows c = λ bytes setup threads thread counts has are short number within.
     let taken = c.in_ok-row.ensures.row bytes (counted_rows setup threads thread counts) has in (
-      ?,
-      subst (HasTaken bytes c.take-row.new.self) (append_assoc (first_rows setup threads) (counts_row thread counts ∷ []) (c.in_ok-row.row.now ∷ [])) ?,
+      c.in-Some.ensures.few,
+      subst (λ row. HasTaken bytes c.take-row.new.self (first_rows setup threads ++ counts_row thread counts ∷ row ∷ [])) c.in-Some.ensures.found
+      (subst (HasTaken bytes c.take-row.new.self) (append_assoc (first_rows setup threads) (counts_row thread counts ∷ []) (c.in_ok-row.row.now ∷ [])) taken),
     )
 
 pub returns-in-None-clause-rows : goal.returns-in-None-clause-rows
