@@ -1,6 +1,6 @@
 -- The parts of a row: what is read of it is what it prints.
-use Rattle.std.proofs.Common.{◌≡◌, ◌≢◌, ◌<◌, ◌≤◌, ◌^◌, ◌==◌, ℕ, Bool, true, false, List, [], ◌∷◌, ◌++◌, length, take, drop, Option, Some, None, MatchOption, Bor, refl, sym, ap, ◌∙◌, arith, take-append-drop, take_at, drop_at, eq-eqb, eqb-true, lt-ltb}
-use Rattle.std.specs.Prelude.{decimal, if◌then◌else◌, nat_lt}
+use Rattle.std.proofs.Common.{◌≡◌, ◌≢◌, ◌<◌, ◌≤◌, ◌^◌, ◌==◌, ◌&&◌, ℕ, Bool, true, false, List, [], ◌∷◌, ◌++◌, length, take, drop, Option, Some, None, MatchOption, Bor, refl, sym, ap, ◌∙◌, arith, take-append-drop, take_at, drop_at, eq-eqb, eqb-true, lt-ltb}
+use Rattle.std.specs.Prelude.{codes, decimal, if◌then◌else◌, nat_lt}
 use Rattle.std.specs.Str.{bytes_eq}
 use Rattle.std.proofs.lemmas.Option.{same_Some}
 use Rattle.std.proofs.lemmas.Slice.Eq.{bytes_eq-Decides}
@@ -109,8 +109,12 @@ named_end Returned rest = refl
 named_end Fuel rest = refl
 named_end Passings rest = refl
 named_end OutputFull rest = refl
-named_end StackFull rest = refl
-named_end StackEmpty rest = refl
+named_end StackFull rest =
+    ap (λ (long : Bool). Some (if long && true then StackFull else StackEmpty))
+    (lt-ltb 6 (length (codes "stack-full" ++ rest)) (omega arith))
+named_end StackEmpty rest =
+    ap (λ (long : Bool). Some (if long && false then StackFull else StackEmpty))
+    (lt-ltb 6 (length (codes "stack-empty" ++ rest)) (omega arith))
 named_end BadTarget rest = refl
 
 -- the rest after the name of an end

@@ -247,20 +247,28 @@ recycled_found row n e =
       subst (λ (k : ℕ). k < 2 ^ 64) same (field_small (codes "recycled ") row a.0.0 a.0.1 a.1),
     )
 
+-- what three fields give
+pub buffers_by : (row r1 r2 r3 : List ℕ) (threads size max : ℕ) → short_in (codes "threads=") row ≡ Some (threads, r1)
+    → short_in (codes " buffer-size=") r1 ≡ Some (size, r2) → short_in (codes " buffer-max=") r2 ≡ Some (max, r3)
+    → buffers_in row ≡ Some (record { threads = threads; size = size; max = max }, r3)
+unfolding buffers_in
+buffers_by row r1 r2 r3 threads size max e0 e1 e2 =
+    into {B = Buffers × List ℕ} (short_in (codes "threads=") row) _ (threads, r1) e0
+    ∙ (into {B = Buffers × List ℕ} (short_in (codes " buffer-size=") r1) _ (size, r2) e1
+    ∙ into {B = Buffers × List ℕ} (short_in (codes " buffer-max=") r2) _ (max, r3) e2)
+
 -- ---- rows that are printed are read
 
 module _ (reads : WrittenNumbersRead) where
   buffers_only : (b : Buffers) (rest : List ℕ) → b.threads < 2 ^ 32 → b.size < 2 ^ 32 → b.max < 2 ^ 32 → BeginsNoDigit rest
       → buffers_in (buffers_part b.threads b.size b.max ++ rest) ≡ Some (b, rest)
-  unfolding buffers_in
   buffers_only b rest threads size max none =
       let r2 : List ℕ = codes " buffer-max=" ++ (decimal b.max ++ rest) in
       let r1 : List ℕ = codes " buffer-size=" ++ (decimal b.size ++ r2) in
       let r0 : List ℕ = codes "threads=" ++ (decimal b.threads ++ r1) in
       ap buffers_in (buffers_parts b.threads b.size b.max rest)
-      ∙ (into {B = Buffers × List ℕ} (short_in (codes "threads=") r0) _ (b.threads, r1) (short_only reads (codes "threads=") b.threads r1 threads refl)
-      ∙ (into {B = Buffers × List ℕ} (short_in (codes " buffer-size=") r1) _ (b.size, r2) (short_only reads (codes " buffer-size=") b.size r2 size refl)
-      ∙ into {B = Buffers × List ℕ} (short_in (codes " buffer-max=") r2) _ (b.max, rest) (short_only reads (codes " buffer-max=") b.max rest max none)))
+      ∙ buffers_by r0 r1 r2 rest b.threads b.size b.max (short_only reads (codes "threads=") b.threads r1 threads refl)
+      (short_only reads (codes " buffer-size=") b.size r2 size refl) (short_only reads (codes " buffer-max=") b.max rest max none)
 
   cpus_only : (n : ℕ) (rest : List ℕ) → n ≤ 65535 → BeginsNoDigit rest → cpus_in (codes " cpus=" ++ (decimal n ++ rest)) ≡ Some (n, rest)
   unfolding cpus_in

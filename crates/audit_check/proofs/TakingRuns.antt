@@ -1,5 +1,5 @@
 -- The runs of a row of marks, taken one after the other.
-use Rattle.std.proofs.Common.{◌≡◌, ◌≢◌, ◌<◌, ◌≤◌, ◌+◌, ◌^◌, ℕ, zero, suc, List, [], ◌∷◌, ◌++◌, length, get_or, drop, Option, Some, None, refl, sym, ap, subst, ◌∙◌, arith, append_assoc, length-append}
+use Rattle.std.proofs.Common.{◌≡◌, ◌≢◌, ◌<◌, ◌≤◌, ◌+◌, ◌^◌, ℕ, zero, suc, Bool, true, false, List, [], ◌∷◌, ◌++◌, length, get_or, drop, Option, Some, None, is_some, refl, sym, ap, subst, ◌∙◌, arith, append_assoc, length-append}
 use Rattle.std.specs.Prelude.{codes, decimal, replicate}
 use Rattle.std.specs.List.{flat_map}
 use Rattle.std.proofs.lemmas.Grind.{flat_map-append}
@@ -94,14 +94,17 @@ shorter left run rest marks marks' mark count space takes =
     omega (arith, whole, text, length-append (decimal count) rest)
 
 -- all runs of a row
-pub whole_part : (row left : List ℕ) (marks : List Mark) (last : Option Mark) (mark : Mark) → HasRuns row left marks last → last ≡ Some mark
+pub whole_part : (row left : List ℕ) (marks : List Mark) (last : Option Mark) → HasRuns row left marks last → is_some last ≡ true
     → row ≡ marks_part marks ++ left
-whole_part row left marks last mark has is =
-    has.text
-    ∙ ap (λ (l : List ℕ). l ++ left) (sym (ap marks_part has.marks_are ∙ part_of_runs has.runs has.are (some has.runs (sym has.last_is ∙ is))))
+whole_part row left marks last has some =
+    has.text ∙ ap (λ (l : List ℕ). l ++ left) (sym (ap marks_part has.marks_are ∙ part_of_runs has.runs has.are begun))
   where
-    some : (runs : List Run) → last_of None runs ≡ Some mark → runs ≢ []
-    some runs named none = none-some _ (sym (ap (last_of None) none) ∙ named)
+    begun : has.runs ≢ []
+    begun none = let both : false ≡ true = sym (ap is_some (has.last_is ∙ ap (last_of None) none)) ∙ some in cc
+
+pub none_of : {X : Type 0} (o : Option X) → is_some o ≡ false → o ≡ None
+none_of None e = refl
+none_of (Some x) e = absurd cc
 
 -- ---- a row that is printed
 
