@@ -9,11 +9,11 @@ use Rattle.machine_step.specs.declared.end.End.TheVariants.{Returned}
 use Rattle.machine_step.specs.declared.setup.Setup.{Setup}
 use Rattle.machine_step.specs.Setups.{IsSetup}
 use Rattle.machine_step.specs.Texts.{line_feed, marks_line}
-use Rattle.trace_flush.specs.Audit.{ThreadAudit, audit_text, recycled_line, setup_lines, thread_line, thread_lines}
+use Rattle.trace_flush.specs.Audit.{ThreadAudit, limits_text, recycled_line, setup_lines, thread_line, thread_lines}
 use Rattle.handler_word.specs.declared.mark.Mark.{Mark}
 use Rattle.audit_check.specs.declared.thread_rows.Counts.{Counts}
 use Rattle.audit_check.specs.private.Lines.{AreFirst, all_rows, counts_row, first_rows, rows_of}
-use Rattle.audit_check.specs.private.Parts.{HasShortCounts, format_row, setup_row}
+use Rattle.audit_check.specs.private.Parts.{HasShortCounts, buffers_part, format_row, setup_row, stamps_part}
 use Rattle.audit_check.specs.Reading.{Begins, IsRefused, whole_lines}
 use Rattle.audit_check.specs.Statements.{HasCounts, MayState, Statement, most_marks, text_of}
 use Rattle.audit_check.proofs.RowLines.{joined_lines, lines_of_text}
@@ -21,26 +21,25 @@ use Rattle.audit_check.proofs.RowTexts.{rows_are}
 
 -- ---- the text of rows
 
-join : List (List ℕ) → List ℕ
+abbrev join : List (List ℕ) → List ℕ
 join lines = flat_map (λ line. line) lines
 
 join-append : (xs ys : List (List ℕ)) → join (xs ++ ys) ≡ join xs ++ join ys
-unfolding join
 join-append [] ys = refl
 join-append (x ∷ xs) ys = ap (λ (l : List ℕ). x ++ l) (join-append xs ys) ∙ sym (append_assoc x (join xs) (join ys))
 
 pub setup_joined : (setup : Setup) → setup_lines setup ≡ format_row ++ setup_row setup
-setup_joined setup = simp append_assoc
+setup_joined s =
+    ap (λ (l : List ℕ). format_row ++ l)
+    (sym (append_assoc (buffers_part s.threads s.size s.max ++ limits_text s.limits) (stamps_part s.pid s.wall s.frequency) line_feed))
 
 threads_joined : (threads : List ThreadAudit) → join (flat_map rows_of threads) ≡ flat_map thread_lines threads
-unfolding join
 threads_joined [] = refl
 threads_joined (said ∷ threads) =
     ap (λ (l : List ℕ). thread_line said ++ (marks_line said.marks ++ l)) (threads_joined threads)
     ∙ sym (append_assoc (thread_line said) (marks_line said.marks) (flat_map thread_lines threads))
 
 pub rows_joined : (statement : Statement) → join (all_rows statement) ≡ text_of statement
-unfolding join
 rows_joined s =
     let each : List ℕ = flat_map thread_lines s.threads in
     let last : List ℕ = recycled_line s.recycled in
@@ -50,11 +49,9 @@ rows_joined s =
     ∙ ap (λ (l : List ℕ). l ++ last) (sym (append_assoc format_row (setup_row s.setup) each) ∙ ap (λ (l : List ℕ). l ++ each) (sym (setup_joined s.setup)))))
 
 pub rows_of_text : (statement : Statement) → whole_lines (text_of statement) ≡ all_rows statement
-unfolding join
 rows_of_text statement = ap whole_lines (sym (rows_joined statement)) ∙ lines_of_text (all_rows statement) (rows_are statement)
 
 pub text_by_rows : (bytes : List ℕ) (statement : Statement) → whole_lines bytes ≡ all_rows statement → bytes ≡ text_of statement
-unfolding join
 text_by_rows bytes statement same = sym (joined_lines bytes) ∙ (ap (λ (ls : List (List ℕ)). flat_map (λ line. line) ls) same ∙ rows_joined statement)
 
 -- ---- lists of rows

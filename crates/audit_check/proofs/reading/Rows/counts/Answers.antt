@@ -18,7 +18,7 @@ pub returns-in-Some-clause-rows : goal.returns-in-Some-clause-rows
 returns-in-Some-clause-rows c = λ bytes setup threads has are number within.
     let found = counts_found c.args.thread c.in_ok-row.row.now c.in-Some.counts (sym c.in-Some.ensures) in (
       found.short,
-      subst (λ row. HasTaken bytes c.take-row.new.self (first_rows setup threads ++ row ∷ [])) found.text
+      subst (λ row. HasTaken bytes c.take.new.self (first_rows setup threads ++ row ∷ [])) found.text
       (c.in_ok-row.ensures.row bytes (first_rows setup threads) has),
     )
 
@@ -26,7 +26,7 @@ pub returns-in-None-clause-rows : goal.returns-in-None-clause-rows
 returns-in-None-clause-rows c = λ bytes setup threads has are number within.
     let reads = c.a_written_number_is_itself.ensures in
     let few = are.setup_is.few_threads in
-    row_another bytes c.take-row.new.self (first_rows setup threads) (IsCountsRow c.args.thread)
+    row_another bytes c.take.new.self (first_rows setup threads) (IsCountsRow c.args.thread)
     (counts_refused (setup_tells reads) bytes setup threads are c.args.thread number within) c.fault.result c.in_ok-row.row.now c.fault.ensures
     (c.in_ok-row.ensures.row bytes (first_rows setup threads) has)
     (unread_counts reads c.args.thread c.in_ok-row.row.now (omega (arith, few, within)) c.in-None.ensures)

@@ -15,7 +15,7 @@ returns-in_err-marks-clause-rows c = λ bytes setup threads thread counts has ar
 pub returns-in_err-row-clause-rows : goal.returns-in_err-row-clause-rows
 returns-in_err-row-clause-rows c = λ bytes setup threads thread counts has are short number within.
     let tells = setup_tells c.a_written_number_is_itself.ensures in
-    let p = err_from_is_err_and c.from_residual.result c.from_residual.ensures.1 in
+    let p = err_from_is_err_and c.from_residual-in_err-row.result c.from_residual-in_err-row.ensures.1 in
     rw (p.1, p.2)
     (row_missing bytes c.args.self.now (counted_rows setup threads thread counts) IsMarksRow
     (marks_refused tells bytes setup threads are thread number within counts short) _ has c.in_err-row.ensures.none)
@@ -24,14 +24,14 @@ pub returns-in-Some-clause-rows : goal.returns-in-Some-clause-rows
 returns-in-Some-clause-rows c = λ bytes setup threads thread counts has are short number within.
     let taken = c.in_ok-row.ensures.row bytes (counted_rows setup threads thread counts) has in (
       c.in-Some.ensures.few,
-      subst (λ row. HasTaken bytes c.take-row.new.self (first_rows setup threads ++ counts_row thread counts ∷ row ∷ [])) c.in-Some.ensures.found
-      (subst (HasTaken bytes c.take-row.new.self) (append_assoc (first_rows setup threads) (counts_row thread counts ∷ []) (c.in_ok-row.row.now ∷ [])) taken),
+      subst (λ row. HasTaken bytes c.take.new.self (first_rows setup threads ++ counts_row thread counts ∷ row ∷ [])) c.in-Some.ensures.found
+      (subst (HasTaken bytes c.take.new.self) (append_assoc (first_rows setup threads) (counts_row thread counts ∷ []) (c.in_ok-row.row.now ∷ [])) taken),
     )
 
 pub returns-in-None-clause-rows : goal.returns-in-None-clause-rows
 returns-in-None-clause-rows c = λ bytes setup threads thread counts has are short number within.
     let tells = setup_tells c.a_written_number_is_itself.ensures in
-    row_another bytes c.take-row.new.self (counted_rows setup threads thread counts) IsMarksRow
+    row_another bytes c.take.new.self (counted_rows setup threads thread counts) IsMarksRow
     (marks_refused tells bytes setup threads are thread number within counts short) c.fault.result c.in_ok-row.row.now c.fault.ensures
     (c.in_ok-row.ensures.row bytes (counted_rows setup threads thread counts) has)
     (unread_marks c.in_ok-row.row.now (λ all few is. (c.in-None.ensures.only all few is).0))

@@ -18,13 +18,13 @@ pub returns-in-Some-clause-rows : goal.returns-in-Some-clause-rows
 returns-in-Some-clause-rows c = λ bytes setup threads has are all.
     let found = recycled_found c.in_ok-row.row.now c.in-Some.recycled (sym c.in-Some.ensures) in (
       found.1,
-      subst (λ row. HasTaken bytes c.take-row.new.self (first_rows setup threads ++ row ∷ [])) found.0
+      subst (λ row. HasTaken bytes c.take.new.self (first_rows setup threads ++ row ∷ [])) found.0
       (c.in_ok-row.ensures.row bytes (first_rows setup threads) has),
     )
 
 pub returns-in-None-clause-rows : goal.returns-in-None-clause-rows
 returns-in-None-clause-rows c = λ bytes setup threads has are all.
     let reads = c.a_written_number_is_itself.ensures in
-    row_another bytes c.take-row.new.self (first_rows setup threads) IsRecycledRow (recycled_refused (setup_tells reads) bytes setup threads are all)
+    row_another bytes c.take.new.self (first_rows setup threads) IsRecycledRow (recycled_refused (setup_tells reads) bytes setup threads are all)
     c.fault.result c.in_ok-row.row.now c.fault.ensures (c.in_ok-row.ensures.row bytes (first_rows setup threads) has)
     (unread_recycled reads c.in_ok-row.row.now c.in-None.ensures)

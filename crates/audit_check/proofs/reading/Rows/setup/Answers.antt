@@ -14,10 +14,10 @@ returns-in_err-row-clause-rows c = λ bytes has.
 pub returns-in-Some-clause-rows : goal.returns-in-Some-clause-rows
 returns-in-Some-clause-rows c = λ bytes has. (
   c.in-Some.ensures.found.0,
-  subst (λ row. HasTaken bytes c.take-row.new.self (format_row ∷ row ∷ [])) c.in-Some.ensures.found.1 (c.in_ok-row.ensures.row bytes (format_row ∷ []) has),
+  subst (λ row. HasTaken bytes c.take.new.self (format_row ∷ row ∷ [])) c.in-Some.ensures.found.1 (c.in_ok-row.ensures.row bytes (format_row ∷ []) has),
 )
 
 pub returns-in-None-clause-rows : goal.returns-in-None-clause-rows
 returns-in-None-clause-rows c = λ bytes has.
-    row_another bytes c.take-row.new.self (format_row ∷ []) IsSetupRow (setup_refused bytes) c.fault.result c.in_ok-row.row.now c.fault.ensures
+    row_another bytes c.take.new.self (format_row ∷ []) IsSetupRow (setup_refused bytes) c.fault.result c.in_ok-row.row.now c.fault.ensures
     (c.in_ok-row.ensures.row bytes (format_row ∷ []) has) (unread_setup c.in_ok-row.row.now c.in-None.ensures.only)
