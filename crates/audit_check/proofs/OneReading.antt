@@ -37,12 +37,33 @@ one n ns low all = All-cons (λ m. m < 2 ^ 64) n ns low all
 
 setup_has : (s : Setup) → IsSetup s → HasSetupNumbers s
 setup_has s is =
-    let limits = is.limits_are in
-    one _ _ (let low = is.few_threads in omega (arith, low)) (one _ _ (let low = is.most in omega (arith, low)) (one _ _ (let low = is.few_buffers in omega (arith, low))
-    (one _ _ (let low = limits.fuel in omega (arith, low)) (one _ _ (let low = limits.passings in omega (arith, low)) (one _ _ limits.tick (one _ _ limits.tsc
-    (one _ _ (let low = limits.few_cpus in omega (arith, low)) (one _ _ (let low = limits.short_stay in omega (arith, low))
-    (one _ _ (let low = is.pid in omega (arith, low)) (one _ _ is.wall_is.secs (one _ _ (let low = is.wall_is.micros in omega (arith, low))
-    (one _ _ is.frequency (All-nil (λ m. m < 2 ^ 64))))))))))))))
+    let l = s.limits in
+    let are = is.limits_are in
+    let n12 : List ℕ = s.frequency ∷ [] in
+    let n11 : List ℕ = s.wall.micros ∷ n12 in
+    let n10 : List ℕ = s.wall.secs ∷ n11 in
+    let n9 : List ℕ = s.pid ∷ n10 in
+    let n8 : List ℕ = l.migrate ∷ n9 in
+    let n7 : List ℕ = l.cpus ∷ n8 in
+    let n6 : List ℕ = l.tsc ∷ n7 in
+    let n5 : List ℕ = l.tick ∷ n6 in
+    let n4 : List ℕ = l.passings ∷ n5 in
+    let n3 : List ℕ = l.fuel ∷ n4 in
+    let n2 : List ℕ = s.max ∷ n3 in
+    let n1 : List ℕ = s.size ∷ n2 in
+    one s.threads n1 (let low = is.few_threads in omega (arith, low))
+    (one s.size n2 (let low = is.most in omega (arith, low))
+    (one s.max n3 (let low = is.few_buffers in omega (arith, low))
+    (one l.fuel n4 (let low = are.fuel in omega (arith, low))
+    (one l.passings n5 (let low = are.passings in omega (arith, low))
+    (one l.tick n6 are.tick
+    (one l.tsc n7 are.tsc
+    (one l.cpus n8 (let low = are.few_cpus in omega (arith, low))
+    (one l.migrate n9 (let low = are.short_stay in omega (arith, low))
+    (one s.pid n10 (let low = is.pid in omega (arith, low))
+    (one s.wall.secs n11 is.wall_is.secs
+    (one s.wall.micros n12 (let low = is.wall_is.micros in omega (arith, low))
+    (one s.frequency [] is.frequency (All-nil (λ m. m < 2 ^ 64))))))))))))))
 
 -- ---- readings
 

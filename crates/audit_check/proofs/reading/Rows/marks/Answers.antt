@@ -1,4 +1,4 @@
-use Rattle.std.proofs.Common.{[], ◌∷◌, ◌++◌, sym, subst, append_assoc}
+use Rattle.std.proofs.Common.{◌≡◌, true, false, [], ◌∷◌, ◌++◌, sym, subst, append_assoc}
 use Rattle.std.proofs.lemmas.Result.{err_from_is_err_and}
 use Rattle.handler_word.specs.declared.mark.Mark.{Mark}
 use Rattle.machine_step.specs.Texts.{marks_line}
@@ -34,4 +34,4 @@ returns-in-None-clause-rows c = λ bytes setup threads thread counts has are sho
     row_another bytes c.take.new.self (counted_rows setup threads thread counts) IsMarksRow
     (marks_refused tells bytes setup threads are thread number within counts short) c.fault.result c.in_ok-row.row.now c.fault.ensures
     (c.in_ok-row.ensures.row bytes (counted_rows setup threads thread counts) has)
-    (unread_marks c.in_ok-row.row.now (λ all few is. (c.in-None.ensures.only all few is).0))
+    (unread_marks c.in_ok-row.row.now (λ all few is. let some : false ≡ true = (c.in-None.ensures.only all few is).0 in cc))
