@@ -242,8 +242,8 @@ recycled_found row n e =
     let text : row ≡ codes "recycled " ++ (decimal a.0.0 ++ a.0.1) = field_found (codes "recycled ") row a.0.0 a.0.1 a.1 in
     let feed : a.0.1 ≡ line_feed = (bytes_eq-Decides a.0.1 line_feed).0 m.0 in (
       text
-      ∙ (ap (λ (l : List ℕ). codes "recycled " ++ (decimal a.0.0 ++ l)) feed
-      ∙ (ap (λ (k : ℕ). codes "recycled " ++ (decimal k ++ line_feed)) same ∙ sym (recycled_parts n))),
+          ∙ (ap (λ (l : List ℕ). codes "recycled " ++ (decimal a.0.0 ++ l)) feed
+          ∙ (ap (λ (k : ℕ). codes "recycled " ++ (decimal k ++ line_feed)) same ∙ sym (recycled_parts n))),
       subst (λ (k : ℕ). k < 2 ^ 64) same (field_small (codes "recycled ") row a.0.0 a.0.1 a.1),
     )
 

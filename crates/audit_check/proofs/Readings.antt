@@ -137,7 +137,7 @@ pub entry_taken : (bytes : List ℕ) (setup : Setup) (threads : List ThreadAudit
 entry_taken bytes setup threads thread counts marks rows has are short few number = (
   subst (HasTaken bytes rows) (rows_more setup threads (said_of thread counts marks)) has,
   one_more setup threads (said_of thread counts marks) are
-  (record { passings = short.passings; recorded = short.recorded; segments = short.segments; first = short.first; marks = few }) number,
+      (record { passings = short.passings; recorded = short.recorded; segments = short.segments; first = short.first; marks = few }) number,
 )
 
 -- no threads yet

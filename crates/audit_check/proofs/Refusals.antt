@@ -245,7 +245,7 @@ all_same (x ∷ xs) (y ∷ ys) same =
 pub refused_next : (bytes : List ℕ) (taken rest : List (List ℕ)) (IsRow : List ℕ → Type 0) → whole_lines bytes ≡ taken ++ rest → Unlike IsRow rest
     → ((count : ℕ) → count ≤ length taken → Begins bytes count)
     → ((s : Statement) → MayState s → take (length taken) (all_rows s) ≡ taken
-        → (row : List ℕ) × (slice_get (all_rows s) (length taken) ≡ Some row) × IsRow row)
+    → (row : List ℕ) × (slice_get (all_rows s) (length taken) ≡ Some row) × IsRow row)
     → IsRefused bytes (length taken + 1)
 refused_next bytes taken rest IsRow lines other begins next = record {
   fails = λ b. fail rest lines other b;

@@ -147,8 +147,13 @@ next_run left run marks last runs rest on space = by on.later on.are on.text on.
           later = later;
           unlike = are.0;
           some = are.1;
-          room = omega (arith, ap length all, length-append (marks ++ replicate count mark) (marks_of_runs later), length-append marks (replicate count mark),
-              length-replicate count mark);
+          room = omega (
+            arith,
+            ap length all,
+            length-append (marks ++ replicate count mark) (marks_of_runs later),
+            length-append marks (replicate count mark),
+            length-replicate count mark,
+          );
           ends = no_digit later rest;
           text =
               ap (λ (l : List ℕ). drop 1 l) (sym front ∙ text)

@@ -13,6 +13,7 @@ use text_lines::parse_digits;
 /// The place in the names of `stack-full` and `stack-empty` at which they differ, and the byte of the
 /// first there.
 const STACK_DIFFERS: usize = 6;
+
 const FULL: u8 = b'f';
 
 /// The bytes that end a row.

@@ -28,6 +28,7 @@ const SECOND: u32 = 1_000_000;
 
 /// How many bytes of a file come before each of its buffers, and before all of them.
 const BLOCK_HEAD: u64 = 16;
+
 const FILE_HEAD: u64 = 32;
 
 /// The threads and the buffers.

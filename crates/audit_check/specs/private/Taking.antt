@@ -80,12 +80,12 @@ abbrev pub guessed_end : List ℕ → Option End
 guessed_end row = do
   first ← byte_in row
   if first.0 == 114 then Some Returned
-    else if first.0 == 102 then Some Fuel
-    else if first.0 == 112 then Some Passings
-    else if first.0 == 111 then Some OutputFull
-    else if first.0 == 115 then Some (stack_end row)
-    else if first.0 == 98 then Some BadTarget
-    else None
+      else if first.0 == 102 then Some Fuel
+      else if first.0 == 112 then Some Passings
+      else if first.0 == 111 then Some OutputFull
+      else if first.0 == 115 then Some (stack_end row)
+      else if first.0 == 98 then Some BadTarget
+      else None
 
 unfoldable pub end_in : List ℕ → Read End
 end_in row = do

@@ -12,11 +12,14 @@ returns-in_err-mark-clause-only c = λ mark count rest unlike some fits ends tex
 pub returns-then-count-len-clause-found : goal.returns-then-count-len-clause-found
 returns-then-count-len-clause-found c = (
   c.differs.ensures.0 c.if-differs.true,
-  (c.in_ok-mark.count, record {
-    some = c.if-count-gt0.true;
-    text = run_found c.args.row.now c.in_ok-mark.mark c.in_ok-mark.count c.in_ok-mark.rest.now c.in_ok-mark.ensures;
-    added = c.add_run.ensures.items;
-  }),
+  (
+    c.in_ok-mark.count,
+    record {
+      some = c.if-count-gt0.true;
+      text = run_found c.args.row.now c.in_ok-mark.mark c.in_ok-mark.count c.in_ok-mark.rest.now c.in_ok-mark.ensures;
+      added = c.add_run.ensures.items;
+    },
+  ),
 )
 
 pub returns-then-count-len-clause-only : goal.returns-then-count-len-clause-only
@@ -26,8 +29,8 @@ returns-then-count-len-clause-only c = λ mark count rest unlike some fits ends 
       s.mark_is,
       s.rest_is,
       c.add_run.ensures.items
-      ∙ (ap (λ (n : ℕ). c.args.marks.now.items ++ replicate n c.in_ok-mark.mark) s.count_is
-      ∙ ap (λ (m : Mark). c.args.marks.now.items ++ replicate count m) s.mark_is),
+          ∙ (ap (λ (n : ℕ). c.args.marks.now.items ++ replicate n c.in_ok-mark.mark) s.count_is
+          ∙ ap (λ (m : Mark). c.args.marks.now.items ++ replicate count m) s.mark_is),
     )
 
 pub returns-else-differs-clause-only : goal.returns-else-differs-clause-only

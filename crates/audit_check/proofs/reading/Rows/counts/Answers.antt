@@ -19,7 +19,7 @@ returns-in-Some-clause-rows c = λ bytes setup threads has are number within.
     let found = counts_found c.args.thread c.in_ok-row.row.now c.in-Some.counts (sym c.in-Some.ensures) in (
       found.short,
       subst (λ row. HasTaken bytes c.take.new.self (first_rows setup threads ++ row ∷ [])) found.text
-      (c.in_ok-row.ensures.row bytes (first_rows setup threads) has),
+          (c.in_ok-row.ensures.row bytes (first_rows setup threads) has),
     )
 
 pub returns-in-None-clause-rows : goal.returns-in-None-clause-rows

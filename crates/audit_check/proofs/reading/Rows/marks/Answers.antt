@@ -25,7 +25,7 @@ returns-in-Some-clause-rows c = λ bytes setup threads thread counts has are sho
     let taken = c.in_ok-row.ensures.row bytes (counted_rows setup threads thread counts) has in (
       c.in-Some.ensures.few,
       subst (λ row. HasTaken bytes c.take.new.self (first_rows setup threads ++ counts_row thread counts ∷ row ∷ [])) c.in-Some.ensures.found
-      (subst (HasTaken bytes c.take.new.self) (append_assoc (first_rows setup threads) (counts_row thread counts ∷ []) (c.in_ok-row.row.now ∷ [])) taken),
+          (subst (HasTaken bytes c.take.new.self) (append_assoc (first_rows setup threads) (counts_row thread counts ∷ []) (c.in_ok-row.row.now ∷ [])) taken),
     )
 
 pub returns-in-None-clause-rows : goal.returns-in-None-clause-rows

@@ -19,7 +19,7 @@ returns-in-Some-clause-rows c = λ bytes setup threads has are all.
     let found = recycled_found c.in_ok-row.row.now c.in-Some.recycled (sym c.in-Some.ensures) in (
       found.1,
       subst (λ row. HasTaken bytes c.take.new.self (first_rows setup threads ++ row ∷ [])) found.0
-      (c.in_ok-row.ensures.row bytes (first_rows setup threads) has),
+          (c.in_ok-row.ensures.row bytes (first_rows setup threads) has),
     )
 
 pub returns-in-None-clause-rows : goal.returns-in-None-clause-rows
