@@ -160,9 +160,5 @@ pub(crate) fn read_recycled(row: &[u8]) -> Option<u64>
     ensures { result ≡ recycled_in row.now }
 {
     let (recycled, row) = take_field(row, b"recycled ")?;
-    if row == ROW_END {
-        Some(recycled)
-    } else {
-        None
-    }
+    if row == ROW_END { Some(recycled) } else { None }
 }
