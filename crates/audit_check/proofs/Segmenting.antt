@@ -1,8 +1,10 @@
 -- The segments of a thread, one event after the other.
-use Rattle.std.proofs.Common.{◌≡◌, ℕ, zero, suc, ◌+◌, ◌-◌, ◌<◌, ◌≤◌, Bool, true, false, List, [], ◌∷◌, ◌++◌, length, drop, take, map, refl, sym, ap, subst, ◌∙◌, arith, append-nil, append_assoc, length-append, zero-add}
+use Rattle.std.proofs.Common.{◌≡◌, ℕ, zero, suc, ◌+◌, ◌-◌, ◌<◌, ◌≤◌, Bool, true, false, List, [], ◌∷◌, ◌++◌, length, drop, take, map, refl, sym, ap, subst, ◌∙◌, arith, inl, inr, append-nil, append_assoc, length-append, zero-add}
 use Rattle.std.specs.Prelude.{nat_le, if◌then◌else◌}
 use Rattle.std.specs.List.{enumerate_from, flat_map}
+use Rattle.std.proofs.lemmas.Bool.{cases_lt, le-leb, lt-leb}
 use Rattle.std.proofs.lemmas.Grind.{flat_map-append}
+use Rattle.std.proofs.lemmas.List.{drop-append-le, drop_all, map-append}
 use Rattle.std.proofs.Math.Seq.{take-append_seam}
 use Rattle.std.proofs.lemmas.List.FromFn.{length-enumerate_from}
 use Rattle.fdr_record.specs.declared.event.Event.{Event}
@@ -28,17 +30,20 @@ enumerate-append n (x ∷ xs) y =
 enumerate_more : {X : Type 0} (xs : List X) (y : X) → enumerate_from 0 (xs ++ y ∷ []) ≡ enumerate_from 0 xs ++ (length xs, y) ∷ []
 enumerate_more xs y = enumerate-append 0 xs y ∙ ap (λ (i : ℕ). enumerate_from 0 xs ++ single i y) (zero-add (length xs))
 
-drop-nil : {X : Type 0} (n : ℕ) → drop {A = X} n [] ≡ []
-drop-nil zero = refl
-drop-nil (suc n) = refl
-
 one_more : {X Y : Type 0} (f : Y → List ℕ) (g : X → Y) (n : ℕ) (xs : List X) (y : X)
     → flat_map f (map g (drop n (xs ++ y ∷ []))) ≡ flat_map f (map g (drop n xs)) ++ (if nat_le n (length xs) then f (g y) else [])
-one_more f g zero [] y = append-nil (f (g y))
-one_more f g (suc n) [] y = ap (λ l. flat_map f (map g l)) (drop-nil n)
-one_more f g zero (x ∷ xs) y =
-    ap (λ l. f (g x) ++ l) (one_more f g zero xs y) ∙ sym (append_assoc (f (g x)) (flat_map f (map g xs)) (f (g y)))
-one_more f g (suc n) (x ∷ xs) y = one_more f g n xs y
+one_more {X} f g n xs y = elim (cases_lt (length xs) n) [
+  | inl past ↦
+      ap (λ (l : List X). flat_map f (map g l)) (drop_all n (xs ++ y ∷ []) (omega (arith, past, length-append xs (y ∷ []))))
+      ∙ sym (ap (λ (l : List X). flat_map f (map g l) ++ (if nat_le n (length xs) then f (g y) else [])) (drop_all n xs (omega (arith, past)))
+      ∙ ap (λ (t : Bool). if t then f (g y) else []) (lt-leb n (length xs) past))
+  | inr within ↦
+      ap (λ (l : List X). flat_map f (map g l)) (drop-append-le n xs (y ∷ []) within)
+      ∙ (ap (flat_map f) (map-append g (drop n xs) (y ∷ []))
+      ∙ (flat_map-append f (map g (drop n xs)) (g y ∷ [])
+      ∙ ap (λ (l : List ℕ). flat_map f (map g (drop n xs)) ++ l)
+      (append-nil (f (g y)) ∙ ap (λ (t : Bool). if t then f (g y) else []) (sym (le-leb n (length xs) within)))))
+]
 
 pub kept_more : (setup : Setup) (lost thread : ℕ) (segs : List (List Event)) (last : List Event)
     → kept_bytes setup lost thread (segs ++ last ∷ [])
