@@ -56,6 +56,12 @@ short_small name row n rest e =
     let same : a.0.0 ≡ n = first_same {X = ℕ} {Y = List ℕ} a.0 (n, rest) m.1 in
     omega arith
 
+-- ---- rows of equal values
+
+-- a row that begins with the text of a value begins with that of an equal one
+with_same : {X : Type 0} (text : X → List ℕ) (row : List ℕ) (x y : X) (r s : List ℕ) → row ≡ text x ++ r → x ≡ y → r ≡ s → row ≡ text y ++ s
+with_same {X} text row x y r s is same left = is ∙ (ap (λ (z : X). text z ++ r) same ∙ ap (λ (l : List ℕ). text y ++ l) left)
+
 -- ---- the setup
 
 buffers_chain : (threads size max : ℕ) (r0 r1 r2 r3 : List ℕ) → r0 ≡ codes "threads=" ++ (decimal threads ++ r1)
@@ -71,9 +77,10 @@ buffers_found row b rest e =
     let made : Buffers = record { threads = t.0.0; size = s.0.0; max = m.0.0 } in
     let same : made ≡ b = first_same {X = Buffers} {Y = List ℕ} (made, m.0.1) (b, rest) m.2 in
     let left : m.0.1 ≡ rest = rest_same {X = Buffers} {Y = List ℕ} (made, m.0.1) (b, rest) m.2 in
-    buffers_chain t.0.0 s.0.0 m.0.0 row t.0.1 s.0.1 m.0.1 (short_found (codes "threads=") row t.0.0 t.0.1 t.1)
-    (short_found (codes " buffer-size=") t.0.1 s.0.0 s.0.1 s.1) (short_found (codes " buffer-max=") s.0.1 m.0.0 m.0.1 m.1)
-    ∙ (ap (λ (x : Buffers). buffers_part x.threads x.size x.max ++ m.0.1) same ∙ ap (λ (l : List ℕ). buffers_part b.threads b.size b.max ++ l) left)
+    with_same (λ (x : Buffers). buffers_part x.threads x.size x.max) row made b m.0.1 rest
+    (buffers_chain t.0.0 s.0.0 m.0.0 row t.0.1 s.0.1 m.0.1 (short_found (codes "threads=") row t.0.0 t.0.1 t.1)
+    (short_found (codes " buffer-size=") t.0.1 s.0.0 s.0.1 s.1) (short_found (codes " buffer-max=") s.0.1 m.0.0 m.0.1 m.1))
+    same left
 
 cpus_found : (row : List ℕ) (n : ℕ) (rest : List ℕ) → cpus_in row ≡ Some (n, rest) → row ≡ codes " cpus=" ++ (decimal n ++ rest)
 unfolding cpus_in
@@ -99,10 +106,11 @@ limits_found row l rest e =
     let made : Limits = record { fuel = f.0.0; passings = p.0.0; tick = t.0.0; tsc = s.0.0; cpus = c.0.0; migrate = m.0.0 } in
     let same : made ≡ l = first_same {X = Limits} {Y = List ℕ} (made, m.0.1) (l, rest) m.2 in
     let left : m.0.1 ≡ rest = rest_same {X = Limits} {Y = List ℕ} (made, m.0.1) (l, rest) m.2 in
-    limits_chain made row f.0.1 p.0.1 t.0.1 s.0.1 c.0.1 m.0.1 (field_found (codes " fuel=") row f.0.0 f.0.1 f.1)
+    with_same limits_text row made l m.0.1 rest
+    (limits_chain made row f.0.1 p.0.1 t.0.1 s.0.1 c.0.1 m.0.1 (field_found (codes " fuel=") row f.0.0 f.0.1 f.1)
     (short_found (codes " passings=") f.0.1 p.0.0 p.0.1 p.1) (field_found (codes " tick=") p.0.1 t.0.0 t.0.1 t.1)
-    (field_found (codes " tsc=") t.0.1 s.0.0 s.0.1 s.1) (cpus_found s.0.1 c.0.0 c.0.1 c.1) (short_found (codes " migrate=") c.0.1 m.0.0 m.0.1 m.1)
-    ∙ (ap (λ (x : Limits). limits_text x ++ m.0.1) same ∙ ap (λ (r : List ℕ). limits_text l ++ r) left)
+    (field_found (codes " tsc=") t.0.1 s.0.0 s.0.1 s.1) (cpus_found s.0.1 c.0.0 c.0.1 c.1) (short_found (codes " migrate=") c.0.1 m.0.0 m.0.1 m.1))
+    same left
 
 stamps_chain : (s : Stamps) (r0 r1 r2 r3 r4 : List ℕ) → r0 ≡ codes " pid=" ++ (decimal s.pid ++ r1) → r1 ≡ codes " wall=" ++ (decimal s.wall.secs ++ r2)
     → r2 ≡ codes "." ++ (decimal s.wall.micros ++ r3) → r3 ≡ codes " frequency=" ++ (decimal s.frequency ++ r4)
@@ -119,9 +127,10 @@ stamps_found row s rest e =
     let made : Stamps = record { pid = p.0.0; wall = record { secs = w.0.0; micros = m.0.0 }; frequency = f.0.0 } in
     let same : made ≡ s = first_same {X = Stamps} {Y = List ℕ} (made, f.0.1) (s, rest) f.2 in
     let left : f.0.1 ≡ rest = rest_same {X = Stamps} {Y = List ℕ} (made, f.0.1) (s, rest) f.2 in
-    stamps_chain made row p.0.1 w.0.1 m.0.1 f.0.1 (short_found (codes " pid=") row p.0.0 p.0.1 p.1) (field_found (codes " wall=") p.0.1 w.0.0 w.0.1 w.1)
-    (short_found (codes ".") w.0.1 m.0.0 m.0.1 m.1) (field_found (codes " frequency=") m.0.1 f.0.0 f.0.1 f.1)
-    ∙ (ap (λ (x : Stamps). stamps_part x.pid x.wall x.frequency ++ f.0.1) same ∙ ap (λ (r : List ℕ). stamps_part s.pid s.wall s.frequency ++ r) left)
+    with_same (λ (x : Stamps). stamps_part x.pid x.wall x.frequency) row made s f.0.1 rest
+    (stamps_chain made row p.0.1 w.0.1 m.0.1 f.0.1 (short_found (codes " pid=") row p.0.0 p.0.1 p.1) (field_found (codes " wall=") p.0.1 w.0.0 w.0.1 w.1)
+    (short_found (codes ".") w.0.1 m.0.0 m.0.1 m.1) (field_found (codes " frequency=") m.0.1 f.0.0 f.0.1 f.1))
+    same left
 
 setup_chain : (b : Buffers) (l : Limits) (s : Stamps) (r0 r1 r2 r3 : List ℕ) → r0 ≡ buffers_part b.threads b.size b.max ++ r1 → r1 ≡ limits_text l ++ r2
     → r2 ≡ stamps_part s.pid s.wall s.frequency ++ r3 → r3 ≡ line_feed → r0 ≡ setup_row (setup_by b l s)
@@ -247,15 +256,57 @@ recycled_found row n e =
       subst (λ (k : ℕ). k < 2 ^ 64) same (field_small (codes "recycled ") row a.0.0 a.0.1 a.1),
     )
 
--- what three fields give
-pub buffers_by : (row r1 r2 r3 : List ℕ) (threads size max : ℕ) → short_in (codes "threads=") row ≡ Some (threads, r1)
-    → short_in (codes " buffer-size=") r1 ≡ Some (size, r2) → short_in (codes " buffer-max=") r2 ≡ Some (max, r3)
-    → buffers_in row ≡ Some (record { threads = threads; size = size; max = max }, r3)
+-- ---- what the parts of a row give
+
+pub buffers_by : (row r1 r2 r3 : List ℕ) (b : Buffers) → short_in (codes "threads=") row ≡ Some (b.threads, r1)
+    → short_in (codes " buffer-size=") r1 ≡ Some (b.size, r2) → short_in (codes " buffer-max=") r2 ≡ Some (b.max, r3) → buffers_in row ≡ Some (b, r3)
 unfolding buffers_in
-buffers_by row r1 r2 r3 threads size max e0 e1 e2 =
-    into {B = Buffers × List ℕ} (short_in (codes "threads=") row) _ (threads, r1) e0
-    ∙ (into {B = Buffers × List ℕ} (short_in (codes " buffer-size=") r1) _ (size, r2) e1
-    ∙ into {B = Buffers × List ℕ} (short_in (codes " buffer-max=") r2) _ (max, r3) e2)
+buffers_by row r1 r2 r3 b e0 e1 e2 =
+    into {B = Buffers × List ℕ} (short_in (codes "threads=") row) _ (b.threads, r1) e0
+    ∙ (into {B = Buffers × List ℕ} (short_in (codes " buffer-size=") r1) _ (b.size, r2) e1
+    ∙ into {B = Buffers × List ℕ} (short_in (codes " buffer-max=") r2) _ (b.max, r3) e2)
+
+limits_by : (row r1 r2 r3 r4 r5 r6 : List ℕ) (l : Limits) → field_in (codes " fuel=") row ≡ Some (l.fuel, r1)
+    → short_in (codes " passings=") r1 ≡ Some (l.passings, r2) → field_in (codes " tick=") r2 ≡ Some (l.tick, r3)
+    → field_in (codes " tsc=") r3 ≡ Some (l.tsc, r4) → cpus_in r4 ≡ Some (l.cpus, r5) → short_in (codes " migrate=") r5 ≡ Some (l.migrate, r6)
+    → limits_in row ≡ Some (l, r6)
+unfolding limits_in
+limits_by row r1 r2 r3 r4 r5 r6 l e0 e1 e2 e3 e4 e5 =
+    into {B = Limits × List ℕ} (field_in (codes " fuel=") row) _ (l.fuel, r1) e0
+    ∙ (into {B = Limits × List ℕ} (short_in (codes " passings=") r1) _ (l.passings, r2) e1
+    ∙ (into {B = Limits × List ℕ} (field_in (codes " tick=") r2) _ (l.tick, r3) e2
+    ∙ (into {B = Limits × List ℕ} (field_in (codes " tsc=") r3) _ (l.tsc, r4) e3
+    ∙ (into {B = Limits × List ℕ} (cpus_in r4) _ (l.cpus, r5) e4
+    ∙ into {B = Limits × List ℕ} (short_in (codes " migrate=") r5) _ (l.migrate, r6) e5))))
+
+stamps_by : (row r1 r2 r3 r4 : List ℕ) (s : Stamps) → short_in (codes " pid=") row ≡ Some (s.pid, r1)
+    → field_in (codes " wall=") r1 ≡ Some (s.wall.secs, r2) → short_in (codes ".") r2 ≡ Some (s.wall.micros, r3)
+    → field_in (codes " frequency=") r3 ≡ Some (s.frequency, r4) → stamps_in row ≡ Some (s, r4)
+unfolding stamps_in
+stamps_by row r1 r2 r3 r4 s e0 e1 e2 e3 =
+    into {B = Stamps × List ℕ} (short_in (codes " pid=") row) _ (s.pid, r1) e0
+    ∙ (into {B = Stamps × List ℕ} (field_in (codes " wall=") r1) _ (s.wall.secs, r2) e1
+    ∙ (into {B = Stamps × List ℕ} (short_in (codes ".") r2) _ (s.wall.micros, r3) e2
+    ∙ into {B = Stamps × List ℕ} (field_in (codes " frequency=") r3) _ (s.frequency, r4) e3))
+
+setup_by_parts : (row r1 r2 : List ℕ) (b : Buffers) (l : Limits) (s : Stamps) → buffers_in row ≡ Some (b, r1) → limits_in r1 ≡ Some (l, r2)
+    → stamps_in r2 ≡ Some (s, line_feed) → setup_in row ≡ Some (setup_by b l s)
+unfolding setup_in
+setup_by_parts row r1 r2 b l s e0 e1 e2 =
+    into {B = Setup} (buffers_in row) _ (b, r1) e0
+    ∙ (into {B = Setup} (limits_in r1) _ (l, r2) e1 ∙ into {B = Setup} (stamps_in r2) _ (s, line_feed) e2)
+
+said_by_parts : (row r1 r2 r3 r4 r5 r6 : List ℕ) (c : Counts) → after (codes " ") row ≡ Some r1 → end_in r1 ≡ Some (c.end, r2)
+    → short_in (codes " passings ") r2 ≡ Some (c.passings, r3) → short_in (codes " recorded ") r3 ≡ Some (c.recorded, r4)
+    → short_in (codes " segments ") r4 ≡ Some (c.segments, r5) → short_in (codes " first ") r5 ≡ Some (c.first, r6) → said_in row ≡ Some (c, r6)
+unfolding said_in
+said_by_parts row r1 r2 r3 r4 r5 r6 c e0 e1 e2 e3 e4 e5 =
+    into {B = Counts × List ℕ} (after (codes " ") row) _ r1 e0
+    ∙ (into {B = Counts × List ℕ} (end_in r1) _ (c.end, r2) e1
+    ∙ (into {B = Counts × List ℕ} (short_in (codes " passings ") r2) _ (c.passings, r3) e2
+    ∙ (into {B = Counts × List ℕ} (short_in (codes " recorded ") r3) _ (c.recorded, r4) e3
+    ∙ (into {B = Counts × List ℕ} (short_in (codes " segments ") r4) _ (c.segments, r5) e4
+    ∙ into {B = Counts × List ℕ} (short_in (codes " first ") r5) _ (c.first, r6) e5))))
 
 -- ---- rows that are printed are read
 
@@ -265,10 +316,9 @@ module _ (reads : WrittenNumbersRead) where
   buffers_only b rest threads size max none =
       let r2 : List ℕ = codes " buffer-max=" ++ (decimal b.max ++ rest) in
       let r1 : List ℕ = codes " buffer-size=" ++ (decimal b.size ++ r2) in
-      let r0 : List ℕ = codes "threads=" ++ (decimal b.threads ++ r1) in
-      ap buffers_in (buffers_parts b.threads b.size b.max rest)
-      ∙ buffers_by r0 r1 r2 rest b.threads b.size b.max (short_only reads (codes "threads=") b.threads r1 threads refl)
-      (short_only reads (codes " buffer-size=") b.size r2 size refl) (short_only reads (codes " buffer-max=") b.max rest max none)
+      subst (λ (row : List ℕ). buffers_in row ≡ Some (b, rest)) (sym (buffers_parts b.threads b.size b.max rest))
+      (buffers_by (codes "threads=" ++ (decimal b.threads ++ r1)) r1 r2 rest b (short_only reads (codes "threads=") b.threads r1 threads refl)
+      (short_only reads (codes " buffer-size=") b.size r2 size refl) (short_only reads (codes " buffer-max=") b.max rest max none))
 
   cpus_only : (n : ℕ) (rest : List ℕ) → n ≤ 65535 → BeginsNoDigit rest → cpus_in (codes " cpus=" ++ (decimal n ++ rest)) ≡ Some (n, rest)
   unfolding cpus_in
@@ -278,71 +328,54 @@ module _ (reads : WrittenNumbersRead) where
       ∙ chosen {X = Option (ℕ × List ℕ)} (nat_lt n (2 ^ 16)) (Some (n, rest)) None (lt-ltb n (2 ^ 16) (omega arith))
 
   limits_only : (l : Limits) (rest : List ℕ) → AreLimits l → BeginsNoDigit rest → limits_in (limits_text l ++ rest) ≡ Some (l, rest)
-  unfolding limits_in
   limits_only l rest are none =
       let r5 : List ℕ = codes " migrate=" ++ (decimal l.migrate ++ rest) in
       let r4 : List ℕ = codes " cpus=" ++ (decimal l.cpus ++ r5) in
       let r3 : List ℕ = codes " tsc=" ++ (decimal l.tsc ++ r4) in
       let r2 : List ℕ = codes " tick=" ++ (decimal l.tick ++ r3) in
       let r1 : List ℕ = codes " passings=" ++ (decimal l.passings ++ r2) in
-      let r0 : List ℕ = codes " fuel=" ++ (decimal l.fuel ++ r1) in
-      ap limits_in (limits_parts l rest)
-      ∙ (into {B = Limits × List ℕ} (field_in (codes " fuel=") r0) _ (l.fuel, r1)
+      subst (λ (row : List ℕ). limits_in row ≡ Some (l, rest)) (sym (limits_parts l rest))
+      (limits_by (codes " fuel=" ++ (decimal l.fuel ++ r1)) r1 r2 r3 r4 r5 rest l
       (field_only reads (codes " fuel=") l.fuel r1 (let low = are.fuel in omega arith) refl)
-      ∙ (into {B = Limits × List ℕ} (short_in (codes " passings=") r1) _ (l.passings, r2)
       (short_only reads (codes " passings=") l.passings r2 (let low = are.passings in omega arith) refl)
-      ∙ (into {B = Limits × List ℕ} (field_in (codes " tick=") r2) _ (l.tick, r3) (field_only reads (codes " tick=") l.tick r3 are.tick refl)
-      ∙ (into {B = Limits × List ℕ} (field_in (codes " tsc=") r3) _ (l.tsc, r4) (field_only reads (codes " tsc=") l.tsc r4 are.tsc refl)
-      ∙ (into {B = Limits × List ℕ} (cpus_in r4) _ (l.cpus, r5) (cpus_only l.cpus r5 are.few_cpus refl)
-      ∙ into {B = Limits × List ℕ} (short_in (codes " migrate=") r5) _ (l.migrate, rest)
-      (short_only reads (codes " migrate=") l.migrate rest (let low = are.short_stay in omega arith) none))))))
+      (field_only reads (codes " tick=") l.tick r3 are.tick refl) (field_only reads (codes " tsc=") l.tsc r4 are.tsc refl)
+      (cpus_only l.cpus r5 are.few_cpus refl)
+      (short_only reads (codes " migrate=") l.migrate rest (let low = are.short_stay in omega arith) none))
 
   stamps_only : (s : Stamps) (rest : List ℕ) → s.pid < 2 ^ 32 → s.wall.secs < 2 ^ 64 → s.wall.micros < 2 ^ 32 → s.frequency < 2 ^ 64 → BeginsNoDigit rest
       → stamps_in (stamps_part s.pid s.wall s.frequency ++ rest) ≡ Some (s, rest)
-  unfolding stamps_in
   stamps_only s rest pid secs micros frequency none =
       let r3 : List ℕ = codes " frequency=" ++ (decimal s.frequency ++ rest) in
       let r2 : List ℕ = codes "." ++ (decimal s.wall.micros ++ r3) in
       let r1 : List ℕ = codes " wall=" ++ (decimal s.wall.secs ++ r2) in
-      let r0 : List ℕ = codes " pid=" ++ (decimal s.pid ++ r1) in
-      ap stamps_in (stamps_parts s.pid s.wall s.frequency rest)
-      ∙ (into {B = Stamps × List ℕ} (short_in (codes " pid=") r0) _ (s.pid, r1) (short_only reads (codes " pid=") s.pid r1 pid refl)
-      ∙ (into {B = Stamps × List ℕ} (field_in (codes " wall=") r1) _ (s.wall.secs, r2) (field_only reads (codes " wall=") s.wall.secs r2 secs refl)
-      ∙ (into {B = Stamps × List ℕ} (short_in (codes ".") r2) _ (s.wall.micros, r3) (short_only reads (codes ".") s.wall.micros r3 micros refl)
-      ∙ into {B = Stamps × List ℕ} (field_in (codes " frequency=") r3) _ (s.frequency, rest)
-      (field_only reads (codes " frequency=") s.frequency rest frequency none))))
+      subst (λ (row : List ℕ). stamps_in row ≡ Some (s, rest)) (sym (stamps_parts s.pid s.wall s.frequency rest))
+      (stamps_by (codes " pid=" ++ (decimal s.pid ++ r1)) r1 r2 r3 rest s (short_only reads (codes " pid=") s.pid r1 pid refl)
+      (field_only reads (codes " wall=") s.wall.secs r2 secs refl) (short_only reads (codes ".") s.wall.micros r3 micros refl)
+      (field_only reads (codes " frequency=") s.frequency rest frequency none))
 
   pub setup_only : (s : Setup) → IsSetup s → setup_in (setup_row s) ≡ Some s
-  unfolding setup_in
   setup_only s is =
       let buffers : Buffers = record { threads = s.threads; size = s.size; max = s.max } in
       let stamps : Stamps = record { pid = s.pid; wall = s.wall; frequency = s.frequency } in
       let r2 : List ℕ = stamps_part s.pid s.wall s.frequency ++ line_feed in
       let r1 : List ℕ = limits_text s.limits ++ r2 in
-      let r0 : List ℕ = buffers_part s.threads s.size s.max ++ r1 in
-      ap setup_in (setup_parts s)
-      ∙ (into {B = Setup} (buffers_in r0) _ (buffers, r1)
+      subst (λ (row : List ℕ). setup_in row ≡ Some s) (sym (setup_parts s))
+      (setup_by_parts (buffers_part s.threads s.size s.max ++ r1) r1 r2 buffers s.limits stamps
       (buffers_only buffers r1 (let low = is.few_threads in omega arith) (let low = is.most in omega arith) (let low = is.few_buffers in omega arith) refl)
-      ∙ (into {B = Setup} (limits_in r1) _ (s.limits, r2) (limits_only s.limits r2 is.limits_are refl)
-      ∙ into {B = Setup} (stamps_in r2) _ (stamps, line_feed)
-      (stamps_only stamps line_feed (let low = is.pid in omega arith) is.wall_is.secs (let low = is.wall_is.micros in omega arith) is.frequency refl)))
+      (limits_only s.limits r2 is.limits_are refl)
+      (stamps_only stamps line_feed (let low = is.pid in omega arith) is.wall_is.secs (let low = is.wall_is.micros in omega arith) is.frequency refl))
 
   said_only : (c : Counts) (rest : List ℕ) → HasShortCounts c → BeginsNoDigit rest → said_in (counts_part c ++ rest) ≡ Some (c, rest)
-  unfolding said_in
   said_only c rest has none =
       let r5 : List ℕ = codes " first " ++ (decimal c.first ++ rest) in
       let r4 : List ℕ = codes " segments " ++ (decimal c.segments ++ r5) in
       let r3 : List ℕ = codes " recorded " ++ (decimal c.recorded ++ r4) in
       let r2 : List ℕ = codes " passings " ++ (decimal c.passings ++ r3) in
       let r1 : List ℕ = end_text c.end ++ r2 in
-      let r0 : List ℕ = codes " " ++ r1 in
-      ap said_in (said_parts c rest)
-      ∙ (into {B = Counts × List ℕ} (after (codes " ") r0) _ r1 (after_only (codes " ") r1)
-      ∙ (into {B = Counts × List ℕ} (end_in r1) _ (c.end, r2) (end_only c.end r2)
-      ∙ (into {B = Counts × List ℕ} (short_in (codes " passings ") r2) _ (c.passings, r3) (short_only reads (codes " passings ") c.passings r3 has.passings refl)
-      ∙ (into {B = Counts × List ℕ} (short_in (codes " recorded ") r3) _ (c.recorded, r4) (short_only reads (codes " recorded ") c.recorded r4 has.recorded refl)
-      ∙ (into {B = Counts × List ℕ} (short_in (codes " segments ") r4) _ (c.segments, r5) (short_only reads (codes " segments ") c.segments r5 has.segments refl)
-      ∙ into {B = Counts × List ℕ} (short_in (codes " first ") r5) _ (c.first, rest) (short_only reads (codes " first ") c.first rest has.first none))))))
+      subst (λ (row : List ℕ). said_in row ≡ Some (c, rest)) (sym (said_parts c rest))
+      (said_by_parts (codes " " ++ r1) r1 r2 r3 r4 r5 rest c (after_only (codes " ") r1) (end_only c.end r2)
+      (short_only reads (codes " passings ") c.passings r3 has.passings refl) (short_only reads (codes " recorded ") c.recorded r4 has.recorded refl)
+      (short_only reads (codes " segments ") c.segments r5 has.segments refl) (short_only reads (codes " first ") c.first rest has.first none))
 
   pub counts_only : (thread : ℕ) (c : Counts) → thread < 2 ^ 32 → HasShortCounts c → counts_in thread (counts_row thread c) ≡ Some c
   unfolding counts_in
