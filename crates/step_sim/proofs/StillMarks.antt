@@ -116,8 +116,8 @@ no_await thread passing (End ∷ steps) are = absurd are
 
 still_bound : (program : Program) (threads thread passing : ℕ) (lines : Lines) → waiting_line lines ≡ None
     → bound_of program threads (commands_of lines) thread passing ≡ total_of program threads (commands_of lines)
-still_bound program threads thread passing lines none =
-    no_await thread passing (micros_after program threads [] (commands_of lines)) (all_store program threads [] lines none)
+still_bound program threads thread passing lines still =
+    no_await thread passing (micros_after program threads [] (commands_of lines)) (all_store program threads [] lines still)
 
 -- ---- loads
 
