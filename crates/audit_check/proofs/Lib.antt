@@ -3,6 +3,7 @@ pub mod Bounding
 pub mod Comparing
 pub mod Coursing
 pub mod Digits
+pub mod Ending
 pub mod Fields
 pub mod Firsts
 pub mod FollowWays

@@ -165,13 +165,13 @@ module _ (program : Program) (threads : ℕ) (code : ℕ → ℕ → ℕ) (bound
 
   -- ---- a passing that finds a handler of either kind, and a log that doesn't record
 
-  abbrev Arg : ℕ → ℕ → Type 0
+  abbrev pub Arg : ℕ → ℕ → Type 0
   Arg from at = Met (arg_handler_word program threads) is_set true from at
 
   abbrev Handler : ℕ → ℕ → Type 0
   Handler from at = Met (handler_word program) is_set true from at
 
-  abbrev Either : ℕ → ℕ → Type 0
+  abbrev pub Either : ℕ → ℕ → Type 0
   Either from at = FindsHandler code program threads bound from at
 
   pub first_either : (from : ℕ) → IsLeast (Arg from) (Some from) → IsLeast (Either from) (Some from)
