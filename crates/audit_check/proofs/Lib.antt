@@ -12,10 +12,12 @@ pub mod Judged
 pub mod Lawful
 pub mod LeastEnds
 pub mod LeastMarks
+pub mod Noting
 pub mod OneVerdict
 pub mod Owning
 pub mod PassingEnds
 pub mod Readings
+pub mod Recordings
 pub mod Refusals
 pub mod RowLines
 pub mod RowTexts
@@ -24,11 +26,13 @@ pub mod Running
 pub mod Segmenting
 pub mod SomeRuns
 pub mod Starting
+pub mod Stepping
 pub mod Storing
 pub mod Switching
 pub mod TellingSetup
 pub mod TreeLoads
 pub mod TurnLemmas
+pub mod Waiting
 pub mod Walked
 pub mod Walking
 pub mod WaysFollow
