@@ -5,6 +5,7 @@ pub mod Coursing
 pub mod Digits
 pub mod Ending
 pub mod Fields
+pub mod Finding
 pub mod Firsts
 pub mod FollowWays
 pub mod Found

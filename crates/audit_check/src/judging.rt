@@ -1,6 +1,6 @@
 //! The verdict on an audit and a trace.
 
-ghost use Rattle.std.specs.Prelude.{◌≡◌, ◌<◌, ◌≤◌, ◌+◌, ◌↔◌, ◌++◌, ℕ, List, [], None, IfOk, IsTrue, length};
+ghost use Rattle.std.specs.Prelude.{◌≡◌, ◌<◌, ◌≤◌, ◌+◌, ◌==◌, ◌&&◌, ◌↔◌, ◌++◌, ℕ, List, [], None, IfOk, IsTrue, is_some, length};
 ghost use Rattle.xray_image.specs.Program.{IsAccepted, Program};
 ghost use Rattle.patch_script.specs.Refusals.{commands_of};
 ghost use Rattle.machine_step.specs.declared.end.End.{End as How};
@@ -8,7 +8,7 @@ ghost use Rattle.machine_step.specs.{PlainStep.{Passing, PlainRun, State}, Setup
 ghost use Rattle.traced_run.specs.Runs.{ThreadRun};
 ghost use Rattle.audit_check.specs.private.Judging.{IsReady};
 ghost use Rattle.audit_check.specs.private.Switches.{IsCourseOf};
-ghost use Rattle.audit_check.specs.private.Walks.{HasWalked, IsFound, IsWayOf, KeepsLast, Way, first_of, mark_or_skipped, verdict_by};
+ghost use Rattle.audit_check.specs.private.Walks.{AreCounted, HasWalked, IsFound, IsWayOf, KeepsLast, Way, first_of, mark_or_skipped, verdict_by};
 ghost use Rattle.audit_check.specs.Rows.{RecycledAgrees};
 ghost use Rattle.audit_check.specs.Statements.{NamesThreads, most_marks, said_by, statement_of};
 ghost use Rattle.audit_check.specs.Verdicts.{IsJudged};
@@ -19,7 +19,7 @@ use crate::follower::Follower;
 use crate::switches::Course;
 use crate::verdict::Verdict;
 use handler_word::{Mark, Marks};
-use machine_step::{Cpu, End, Setup, Steps, Want, one_end, some_end};
+use machine_step::{Cpu, End, Setup, Steps, Want, one_end, passings_are_limited, some_end};
 use patch_script::Script;
 use std::alloc::Global;
 use traced_run::passings_fit;
@@ -147,13 +147,33 @@ impl Judge<'_> {
         );
         let segments = recording.finish(trace);
         Ok(Agreement {
-            ends: entry.end == walked.end && entry.passings == walked.passings,
-            marks: entry.marks.len() == entry.passings && follower.follows(),
-            counts: entry.recorded == entry.marks.recorded()
-                && entry.segments == segments
-                && is_kept(entry),
+            ends: ends_agree(entry, walked),
+            marks: marks_agree(entry, &follower),
+            counts: counts_agree(entry, segments),
         })
     }
+}
+
+/// Whether a thread is stated to end as it does, and to make as many passings.
+fn ends_agree(entry: &AuditEntry, walked: Walked) -> bool
+    ensures { IsTrue result ↔ (entry.now.end ≡ walked.end) × (entry.now.passings ≡ walked.passings) }
+{
+    entry.end == walked.end && entry.passings == walked.passings
+}
+
+/// Whether a thread has a mark for each passing that is stated, and the marks follow the script.
+fn marks_agree(entry: &AuditEntry, follower: &Follower) -> bool
+    ensures { result ≡ (length entry.now.marks.items == entry.now.passings) && is_some follower.now.place }
+{
+    entry.marks.len() == entry.passings && follower.follows()
+}
+
+/// Whether a thread's recorded passings and its segments are counted as they are, and it has kept its last
+/// segment.
+fn counts_agree(entry: &AuditEntry, segments: u32) -> bool
+    ensures { IsTrue result ↔ AreCounted (said_by entry.now) segments }
+{
+    entry.recorded == entry.marks.recorded() && entry.segments == segments && is_kept(entry)
 }
 
 /// Whether a thread is stated to have kept its last segment, if it has segments.
@@ -199,6 +219,7 @@ fn walk(
     one_end();
     some_end();
     passings_fit();
+    passings_are_limited();
     'passings: loop {
         match cpu.want() {
             Want::Gate(passing) => {
