@@ -2,6 +2,7 @@ pub mod Agreeing
 pub mod Bounding
 pub mod Comparing
 pub mod Coursing
+pub mod Deciding
 pub mod Digits
 pub mod Ending
 pub mod Fields
@@ -15,6 +16,7 @@ pub mod LeastEnds
 pub mod LeastMarks
 pub mod Noting
 pub mod OneVerdict
+pub mod Onward
 pub mod Owning
 pub mod PassingEnds
 pub mod Readings
