@@ -98,7 +98,7 @@ fn extents(size: u64) -> [u8; METADATA_BYTES]
 }
 
 /// The events of a thread, on their way into segments. Only the segment that is open is kept. Those that
-/// are whole were compared with the trace, but for the first ones, which are lost.
+/// are whole were compared with the trace, except the first ones, which are lost.
 #[derive(Drop)]
 pub(crate) struct Recording {
     /// The open segment. It isn't begun before the first event.
