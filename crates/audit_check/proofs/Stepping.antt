@@ -9,7 +9,7 @@ use Rattle.patch_script.specs.Micros.{hold_of, micros, total_of}
 use Rattle.patch_script.proofs.Steps.{start_within}
 use Rattle.machine_step.specs.Loads.{is_held_at}
 use Rattle.audit_check.specs.declared.follower.Follower.{Follower}
-use Rattle.audit_check.specs.private.Judging.{ArePassed, FindsBound, FindsNext, HasJudged, IsReady, SameButGuesses}
+use Rattle.audit_check.specs.private.Judging.{ArePassed, FindsBound, FindsEnd, FindsNext, HasJudged, IsReady, SameButGuesses}
 use Rattle.audit_check.specs.private.Switches.{IsCourseOf}
 use Rattle.audit_check.specs.private.Turns.{IsLeast}
 use Rattle.audit_check.specs.private.Ways.{Reaches, passing_tree}
@@ -91,3 +91,18 @@ judged_step f g h bound sled mark place waits guesses finds passes next low prog
         subst (λ (x : Follower). MatchOption x.place (place ≡ None) (λ from. IsLeast (Reaches (code_at program threads script) bound mark
         (passing_tree program threads x.thread (is_held_at x.hold x.passing) sled) from) place)) waits
         (next program threads script (same_judges program threads script f g (waited f g waits) has.judges) within)
+
+-- ---- the next place
+
+-- the passings before it can't end where they are said to
+pub next_none : (f : Follower) (sled : ℕ) (mark : Mark) (bound : ℕ) (x : Option ℕ) → f.place ≡ None → x ≡ None → FindsNext f sled mark bound x
+next_none f sled mark bound x never none = λ program threads script judges low.
+    subst (λ (o : Option ℕ). MatchOption o (x ≡ None) (λ from. IsLeast (Reaches (code_at program threads script) bound mark
+    (passing_tree program threads f.thread (is_held_at f.hold f.passing) sled) from) x)) (sym never) none
+
+pub next_found : (f : Follower) (sled : ℕ) (mark : Mark) (from bound : ℕ) (x : Option ℕ) → f.place ≡ Some from
+    → FindsEnd f (λ program threads. passing_tree program threads f.thread (is_held_at f.hold f.passing) sled) mark from bound x
+    → FindsNext f sled mark bound x
+next_found f sled mark from bound x place found = λ program threads script judges low.
+    subst (λ (o : Option ℕ). MatchOption o (x ≡ None) (λ from. IsLeast (Reaches (code_at program threads script) bound mark
+    (passing_tree program threads f.thread (is_held_at f.hold f.passing) sled) from) x)) (sym place) (found program threads script judges low)
