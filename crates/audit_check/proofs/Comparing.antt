@@ -1,7 +1,9 @@
 -- A trace that is compared with bytes.
-use Rattle.std.proofs.Common.{◌≡◌, ◌≢◌, ℕ, Bool, true, false, List, [], ◌∷◌, ◌++◌, length, refl, sym, ap, subst, ◌∙◌, append-nil, append_assoc}
+use Rattle.std.proofs.Common.{◌≡◌, ◌≢◌, ℕ, Bool, true, false, List, [], ◌∷◌, ◌++◌, length, Some, refl, sym, ap, subst, ◌∙◌, append-nil, append_assoc}
 use Rattle.std.specs.Prelude.{◌&&◌, ◌↔◌, IsTrue}
 use Rattle.std.proofs.lemmas.List.{append_cancel_left}
+use Rattle.std.proofs.lemmas.Option.{same_Some}
+use Rattle.xray_io.specs.Sink.{Adds}
 use Rattle.fdr_record.specs.declared.rec.Rec.TheVariants.{Extents}
 use Rattle.fdr_record.specs.Records.{record_bytes}
 use Rattle.fdr_buffer.specs.Filled.{Filled, used_bytes}
@@ -41,6 +43,10 @@ differs trace before bytes old new has unlike other = record {
 pub both_parts : (trace before first second : List ℕ) (t : TraceLeft) → HasCompared trace ((before ++ first) ++ second) t
     → HasCompared trace (before ++ (first ++ second)) t
 both_parts trace before first second t has = subst (λ (l : List ℕ). HasCompared trace l t) (append_assoc before first second) has
+
+-- what was written to an empty sink is all that it holds
+pub all_written : (old new text : List ℕ) → old ≡ [] → Adds (Some old) (Some new) text → new ≡ text
+all_written old new text none adds = same_Some new (old ++ text) adds.told ∙ ap (λ (l : List ℕ). l ++ text) none
 
 -- the block of a buffer
 pub block_is : (buffer : Filled) (extents bytes : List ℕ) (size : ℕ) → bytes ≡ used_bytes buffer → size ≡ length bytes → extents ≡ record_bytes (Extents size)
