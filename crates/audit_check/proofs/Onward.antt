@@ -1,5 +1,5 @@
 -- A walk, one passing further and at its end.
-use Rattle.std.proofs.Common.{◌≡◌, ℕ, ◌+◌, List, [], ◌∷◌, ◌++◌, length, take, Option, Some, None, refl, sym, ap, subst, ◌∙◌, arith, length-append}
+use Rattle.std.proofs.Common.{◌≡◌, ℕ, ◌+◌, ◌<◌, ◌≤◌, List, [], ◌∷◌, ◌++◌, length, take, Option, Some, None, refl, sym, ap, subst, ◌∙◌, arith, length-append}
 use Rattle.std.specs.Prelude.{slice_get}
 use Rattle.xray_image.specs.Program.{IsAccepted, Program}
 use Rattle.fdr_record.specs.declared.event.Event.{Event}
@@ -19,6 +19,7 @@ use Rattle.audit_check.specs.declared.follower.Follower.{Follower}
 use Rattle.audit_check.specs.private.Blocks.{HasCompared, HasNoted, kept_bytes, whole_of}
 use Rattle.audit_check.specs.private.Judging.{HasJudged}
 use Rattle.audit_check.specs.private.Walks.{HasWalked, IsWayOf, Way, first_marks, mark_or_skipped}
+use Rattle.audit_check.specs.Statements.{most_marks}
 use Rattle.audit_check.proofs.OneVerdict.{OneEnd}
 use Rattle.audit_check.proofs.Walked.{first_more, walked_none, walked_some}
 
@@ -51,6 +52,21 @@ plain_of_way way t marks passed end last is run =
     (subst (λ (l : Limits). PlainRun t.program l way.thread passed end last) (sym is.limits)
     (subst (λ (p : Program). PlainRun p way.setup.limits way.thread passed end last) (sym is.program) run))
 
+-- its image is an accepted one
+pub accepted_again : (s t : Traced) → IsSameThread s t → (bytes : List ℕ) → IsAccepted bytes s.program → IsAccepted bytes t.program
+accepted_again s t same bytes accepted = subst (IsAccepted bytes) (sym same.program) accepted
+
+-- it has one mark more
+pub one_more : (t u : Traced) (mark : Mark) → u.marks ≡ t.marks ++ mark ∷ [] → length u.marks ≡ length t.marks + 1
+one_more t u mark more = ap length more ∙ length-append t.marks (mark ∷ [])
+
+-- and still not too many
+pub still_few : (s t u : Traced) (mark : Mark) → IsSameThread s t → s.limits.passings ≤ most_marks → length t.marks < t.limits.passings
+    → u.marks ≡ t.marks ++ mark ∷ [] → length u.marks ≤ most_marks
+still_few s t u mark same limit left more =
+    let limits : t.limits.passings ≤ most_marks = subst (λ (l : Limits). l.passings ≤ most_marks) (sym same.limits) limit in
+    omega (arith, limits, left, one_more t u mark more)
+
 -- it is at a gate
 pub at_gate : (want result : Want) (passing : ℕ) → result ≡ want → result ≡ Gate passing → IsGate want
 at_gate want result passing is gate = subst IsGate (sym gate ∙ is) tt
@@ -76,7 +92,7 @@ module _ (way : Way) (passed : List Passing) (t u : Traced) (sled : ℕ) (mark :
   n = length t.marks
 
   count : length u.marks ≡ n + 1
-  count = ap length more ∙ length-append t.marks (mark ∷ [])
+  count = one_more t u mark more
 
   next_marks : t.marks ≡ first_marks n way.marks → u.marks ≡ first_marks (n + 1) way.marks
   next_marks same =
