@@ -1,7 +1,8 @@
 -- The verdict on all threads.
-use Rattle.std.proofs.Common.{◌≡◌, ℕ, ◌+◌, ◌<◌, ◌≤◌, Bool, true, false, List, [], length, map, Option, Some, None, refl, sym, ap, subst, ◌∙◌, arith, inl, inr}
-use Rattle.std.specs.Prelude.{◌↔◌, IsTrue, option_map, slice_get}
+use Rattle.std.proofs.Common.{◌≡◌, ℕ, ◌+◌, ◌-◌, ◌<◌, ◌≤◌, Bool, true, false, List, [], ◌∷◌, length, map, Option, Some, None, refl, sym, ap, subst, ◌∙◌, arith, inl, inr}
+use Rattle.std.specs.Prelude.{◌↔◌, IsTrue, option_map, slice_get, sum_by}
 use Rattle.std.proofs.lemmas.List.{length-map}
+use Rattle.std.proofs.lemmas.List.Sums.{sum_by-cons}
 use Rattle.std.proofs.lemmas.Option.{slice_get-map, slice_get_cases, slice_get_within}
 use Rattle.xray_image.specs.Program.{Program}
 use Rattle.patch_script.specs.declared.command.Command.{Command}
@@ -109,3 +110,25 @@ module _ (program : Program) (script : List Command) (audit : Audit) (names : Na
       (λ ends marks. by_trace trace (trace_bytes audit.setup runs)
       (subst (λ (l : List ℕ). HasCompared trace l t) (all_bytes program script statement trace runs audit.setup.threads are.run.count)
       (judged.compared ends marks)))
+
+-- ---- segments
+
+sum_of_said : (f : ThreadAudit → ℕ) (entries : List AuditEntry) → sum_by f (map said_by entries) ≡ sum_by (λ (e : AuditEntry). f (said_by e)) entries
+sum_of_said f [] = refl
+sum_of_said f (entry ∷ entries) =
+    sum_by-cons f (said_by entry) (map said_by entries)
+    ∙ (ap (λ n. f (said_by entry) + n) (sum_of_said f entries) ∙ sym (sum_by-cons (λ (e : AuditEntry). f (said_by e)) entry entries))
+
+-- as many segments are recycled as are lost, and as there were no spare buffers for
+pub recycled_so : (audit : Audit) (lost queued : ℕ) → lost ≡ sum_by (λ (e : AuditEntry). e.first) audit.entries.items
+    → queued ≡ sum_by (λ (e : AuditEntry). e.segments - 1) audit.entries.items
+    → ((audit.recycled ≡ lost) × (audit.recycled ≡ queued - (audit.setup.max - audit.setup.threads))) ↔ RecycledAgrees (statement_of audit)
+recycled_so audit lost queued lost_is queued_is =
+    let sum : lost ≡ sum_by (λ (s : ThreadAudit). s.first) (map said_by audit.entries.items) =
+    lost_is ∙ sym (sum_of_said (λ (s : ThreadAudit). s.first) audit.entries.items) in
+    let all : queued ≡ sum_by (λ (s : ThreadAudit). s.segments - 1) (map said_by audit.entries.items) =
+    queued_is ∙ sym (sum_of_said (λ (s : ThreadAudit). s.segments - 1) audit.entries.items) in
+    let spare : ℕ = audit.setup.max - audit.setup.threads in (
+      (λ both. record { sum = both.0 ∙ sum; queue = both.1 ∙ ap (λ n. n - spare) all }),
+      (λ agrees. (agrees.sum ∙ sym sum, agrees.queue ∙ sym (ap (λ n. n - spare) all))),
+    )

@@ -72,7 +72,8 @@ impl<'a> TraceLeft<'a> {
         ensures { (trace bytes : List ℕ) → HasCompared trace bytes self.now
             → IsTrue result ↔ (trace ≡ bytes) }
     {
-        self.same && self.left.is_empty()
+        let none_left = self.left.is_empty();
+        self.same && none_left
     }
 }
 

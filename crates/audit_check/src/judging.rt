@@ -1,6 +1,6 @@
 //! The verdict on an audit and a trace.
 
-ghost use Rattle.std.specs.Prelude.{◌≡◌, ◌<◌, ◌≤◌, ◌+◌, ◌==◌, ◌&&◌, ◌↔◌, ◌++◌, ℕ, List, [], None, IfOk, IsTrue, is_some, length};
+ghost use Rattle.std.specs.Prelude.{◌≡◌, ◌<◌, ◌≤◌, ◌+◌, ◌-◌, ◌==◌, ◌&&◌, ◌↔◌, ◌++◌, ℕ, List, [], None, IfOk, IsTrue, is_some, length, sum_by};
 ghost use Rattle.xray_image.specs.Program.{IsAccepted, Program};
 ghost use Rattle.patch_script.specs.Refusals.{commands_of};
 ghost use Rattle.machine_step.specs.declared.end.End.{End as How};
@@ -165,7 +165,8 @@ fn ends_agree(entry: &AuditEntry, walked: Walked) -> bool
 fn marks_agree(entry: &AuditEntry, follower: &Follower) -> bool
     ensures { result ≡ (length entry.now.marks.items == entry.now.passings) && is_some follower.now.place }
 {
-    entry.marks.len() == entry.passings && follower.follows()
+    let follows = follower.follows();
+    entry.marks.len() == entry.passings && follows
 }
 
 /// Whether a thread's recorded passings and its segments are counted as they are, and it has kept its last
@@ -173,7 +174,9 @@ fn marks_agree(entry: &AuditEntry, follower: &Follower) -> bool
 fn counts_agree(entry: &AuditEntry, segments: u32) -> bool
     ensures { IsTrue result ↔ AreCounted (said_by entry.now) segments }
 {
-    entry.recorded == entry.marks.recorded() && entry.segments == segments && is_kept(entry)
+    let recorded = entry.marks.recorded();
+    let kept = is_kept(entry);
+    entry.recorded == recorded && entry.segments == segments && kept
 }
 
 /// Whether a thread is stated to have kept its last segment, if it has segments.
@@ -302,22 +305,32 @@ fn first_of(before: Option<u32>, thread: u32, agrees: bool) -> Option<u32>
     if agrees { before } else { before.or(Some(thread)) }
 }
 
+/// How many segments all threads are stated to have lost.
+fn lost_segments(entries: &[AuditEntry]) -> u128
+    ensures { result ≡ sum_by (λ entry. entry.first) entries.now }
+{
+    entries.iter().map(|entry| u128::from(entry.first)).sum()
+}
+
+/// How many segments all threads are stated to have queued. A thread keeps its last one.
+fn queued_segments(entries: &[AuditEntry]) -> u128
+    ensures { result ≡ sum_by (λ entry. entry.segments - 1) entries.now }
+{
+    entries
+        .iter()
+        .map(|entry| u128::from(entry.segments.saturating_sub(1)))
+        .sum()
+}
+
 /// Whether as many segments are stated to be recycled as the threads have lost, and as their queue had
 /// no spare buffers for.
 fn recycles(audit: &Audit) -> bool
     requires { NamesThreads (statement_of audit.now) }
     ensures { IsTrue result ↔ RecycledAgrees (statement_of audit.now) }
 {
-    let lost: u64 = audit
-        .entries
-        .iter()
-        .map(|entry| u64::from(entry.first))
-        .sum();
-    let queued: u64 = audit
-        .entries
-        .iter()
-        .map(|entry| u64::from(entry.segments.saturating_sub(1)))
-        .sum();
-    let spare = u64::from(audit.setup.max - audit.setup.threads);
-    audit.recycled == lost && audit.recycled == queued.saturating_sub(spare)
+    let recycled = u128::from(audit.recycled);
+    let lost = lost_segments(&audit.entries);
+    let spare = u128::from(audit.setup.max - audit.setup.threads);
+    let unspared = queued_segments(&audit.entries).saturating_sub(spare);
+    recycled == lost && recycled == unspared
 }
