@@ -55,7 +55,7 @@ bytes_next setup runs i run at =
     let before = take i (enumerate_from 1 runs) in
     let header = header_bytes (run_header setup) in
     let buffers : flat_map (thread_buffers setup) (take (i + 1) (enumerate_from 1 runs))
-        ≡ flat_map (thread_buffers setup) before ++ thread_buffers setup (1 + i, run) =
+    ≡ flat_map (thread_buffers setup) before ++ thread_buffers setup (1 + i, run) =
     ap (λ m. flat_map (thread_buffers setup) (take m (enumerate_from 1 runs))) (add-one i) ∙ ap (flat_map (thread_buffers setup)) (take_next 1 i runs run at)
     ∙ (flat_map-append (thread_buffers setup) before ((1 + i, run) ∷ [])
     ∙ ap (λ (l : List Filled). flat_map (thread_buffers setup) before ++ l) (append-nil (thread_buffers setup (1 + i, run)))) in

@@ -133,7 +133,7 @@ module _ (setup : Setup) (thread lost : ℕ) (events : List Event) (r : Recordin
       let segs = whole_of setup.size events in
       let open_here = open_one begun in
       let Kept : ℕ → ℕ → Filled → Type 0 = λ first count buffer. HasCompared all
-          ((before ++ kept_bytes setup lost thread segs) ++ (if nat_le first count then block_bytes buffer else [])) t' in
+      ((before ++ kept_bytes setup lost thread segs) ++ (if nat_le first count then block_bytes buffer else [])) t' in
       let here : Kept r.lost r.whole r.buffer = compares all (before ++ kept_bytes setup lost thread segs) compared in
       let buffer : r.buffer ≡ buffer_of (stamp_of setup) thread (length segs, r.buffer.events) =
       open_here.buffer ∙ ap (λ n. buffer_of (stamp_of setup) thread (n, r.buffer.events)) open_here.whole in

@@ -47,7 +47,7 @@ module _ (program : Program) (threads : ℕ) (script : List Command) (f : Follow
       → f.course.now.total ≡ bound_of program threads script f.thread passing
   end_bound passing number past none =
       let all : (i : ℕ) (a : Awaited) → i < length f.course.now.awaits.items → slice_get f.course.now.awaits.items i ≡ Some a
-          → bounds_passing f.thread passing a ≡ false = λ i a low is. none i a (omega (arith, low, past)) is in
+      → bounds_passing f.thread passing a ≡ false = λ i a low is. none i a (omega (arith, low, past)) is in
       judges.course.total ∙ sym (no_bound f.thread passing 0 steps
       (subst (λ (l : List Awaited). (i : ℕ) (a : Awaited) → i < length l → slice_get l i ≡ Some a → bounds_passing f.thread passing a ≡ false) awaits_are all))
 

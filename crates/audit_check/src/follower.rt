@@ -275,8 +275,8 @@ impl<'a> Follower<'a> {
         ensures same { SameButGuesses self.old self.new }
         ensures place { FindsPlace self.old (λ program threads. release_word program self.old.thread) is_set true from bound result }
     {
-        self.course.switches.releases[self.thread as usize - 1]
-            .first(true, from, bound, &mut self.passed.release)
+        let release = &self.course.switches.releases[self.thread as usize - 1];
+        release.first(true, from, bound, &mut self.passed.release)
     }
 
     /// The first place at which the head of a sled is patched, or isn't.

@@ -138,13 +138,7 @@ impl Judge<'_> {
             None,
             self.setup.limits,
         )?;
-        let walked = walk(
-            &mut cpu,
-            &entry.marks,
-            &mut follower,
-            &mut recording,
-            trace,
-        );
+        let walked = walk(&mut cpu, &entry.marks, &mut follower, &mut recording, trace);
         let segments = recording.finish(trace);
         Ok(Agreement {
             ends: ends_agree(entry, walked),
@@ -302,7 +296,11 @@ impl FirstThreads {
 fn first_of(before: Option<u32>, thread: u32, agrees: bool) -> Option<u32>
     ensures { result ≡ first_of before thread agrees }
 {
-    if agrees { before } else { before.or(Some(thread)) }
+    if agrees {
+        before
+    } else {
+        before.or(Some(thread))
+    }
 }
 
 /// How many segments all threads are stated to have lost.

@@ -9,7 +9,8 @@ ghost use Rattle.audit_check.specs.private.Switches.{AreSwitches, IsCourseOf, Is
 use crate::turns::Turns;
 use patch_script::{Micro, Script, stores_give_the_code};
 use sled_words::{
-    LogState, MAX_THREADS, NO_HANDLER, PARTS, PATCHED_HEAD, arg_handler_word, handler_word, state_word,
+    LogState, MAX_THREADS, NO_HANDLER, PARTS, PATCHED_HEAD, arg_handler_word, handler_word,
+    state_word,
 };
 use std::alloc::{AllocError, Global};
 use xray_image::Image;

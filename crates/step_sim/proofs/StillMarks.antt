@@ -187,7 +187,6 @@ marks_follow wanted whole program lines schedule setup runs names still is j run
 
     place : ℕ
     place = is.last.moment.place
-
     decodes = decodes_whole wanted whole program script schedule setup runs names is j run found
 
     long : thread_count cast ≡ setup.threads
