@@ -25,6 +25,7 @@ use Rattle.machine_step.specs.Loads.{Load, marks_of, next_load}
 use Rattle.machine_step.specs.PlainStep.{Passing, PlainRun, State}
 use Rattle.machine_step.specs.Traced.{sleds_passed}
 use Rattle.machine_step.proofs.WantedWords.{release_wanted}
+use Rattle.traced_run.specs.Decoded.{DecodesWhole}
 use Rattle.traced_run.specs.Following.{AllMarksFollow, MarksFollowScript}
 use Rattle.traced_run.specs.Runs.{ThreadRun}
 use Rattle.step_sim.specs.declared.turns.Turns.{Turns}
@@ -187,6 +188,7 @@ marks_follow wanted whole program lines schedule setup runs names still is j run
 
     place : ℕ
     place = is.last.moment.place
+    decodes : DecodesWhole program setup.threads (j + 1) (hold_of (j + 1) script) run loads
     decodes = decodes_whole wanted whole program script schedule setup runs names is j run found
 
     long : thread_count cast ≡ setup.threads
