@@ -3,9 +3,9 @@ use Rattle.std.proofs.Common.{◌≡◌, ◌≢◌, ◌<◌, ◌≤◌, ◌+◌,
 use Rattle.std.specs.Prelude.{decimal, not}
 use Rattle.std.specs.Char.{is_ascii_digit}
 use Rattle.std.specs.Fmt.{digits, digits_onto, digit_glyph}
-use Rattle.std.specs.List.{position_or_len}
 use Rattle.std.proofs.lemmas.Bool.Decides.{nat_tests}
 use Rattle.audit_check.specs.private.Parts.{BeginsNoDigit}
+use Rattle.audit_check.specs.private.Taking.{digit_count}
 use Rattle.audit_check.proofs.RowLines.{HasNoFeed}
 
 -- each byte is a digit
@@ -50,8 +50,15 @@ not_false : (b : Bool) → b ≡ false → not b ≡ true
 not_false true e = absurd cc
 not_false false e = refl
 
-pub digits_end : (bytes rest : List ℕ) → AreDigits bytes → BeginsNoDigit rest
-    → position_or_len (λ byte. not (is_ascii_digit byte)) (bytes ++ rest) ≡ length bytes
+pub digits_end : (bytes rest : List ℕ) → AreDigits bytes → BeginsNoDigit rest → digit_count (bytes ++ rest) ≡ length bytes
 digits_end [] [] are none = refl
 digits_end [] (byte ∷ rest) are none = rw (not_false (is_ascii_digit byte) none) refl
 digits_end (byte ∷ bytes) rest are none = rw (digit_passes byte are.0 are.1) (let later = digits_end bytes rest are.2 none in omega (arith, later))
+
+pub count_within : (row : List ℕ) → digit_count row ≤ length row
+count_within [] = omega arith
+count_within (byte ∷ row) = by (not (is_ascii_digit byte)) (count_within row)
+  where
+    by : (other : Bool) → digit_count row ≤ length row → cond (not other) (1 + digit_count row) 0 ≤ suc (length row)
+    by true low = omega arith
+    by false low = omega arith

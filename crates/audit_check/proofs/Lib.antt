@@ -15,10 +15,13 @@ pub mod Lawful
 pub mod LeastEnds
 pub mod LeastMarks
 pub mod Noting
+pub mod OneReading
 pub mod OneVerdict
 pub mod Onward
 pub mod Owning
 pub mod PassingEnds
+pub mod ReadParts
+pub mod ReadRows
 pub mod Readings
 pub mod Recordings
 pub mod Refusals
@@ -32,7 +35,7 @@ pub mod Starting
 pub mod Stepping
 pub mod Storing
 pub mod Switching
-pub mod TellingSetup
+pub mod TakingRuns
 pub mod TreeLoads
 pub mod TurnLemmas
 pub mod Waiting

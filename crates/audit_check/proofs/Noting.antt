@@ -49,25 +49,24 @@ notes_arg_handler s new word value place at notes = λ program threads code last
     (turned code last place word value is_set s.arg_handler new is next
     (subst (λ n. AreTurnsOf code last n is_set s.arg_handler) (sym here) are.arg_handler) notes)
 
-pub notes_release : (s : Switches) (at : ℕ) (old new : Turns) (word value place : ℕ) → at < length s.releases.items → word ≡ s.state_word + 1 + at
-    → old ≡ get_or s.releases.items at old → Notes place (is_set value) old new
-    → Stores s word value place (record s { releases = record s.releases { items = set s.releases.items at new } })
-notes_release s at old new word value place low word_is found notes = λ program threads code last words are is next.
+pub notes_release : (s t : Switches) (at : ℕ) (old new : Turns) (word value place : ℕ) → t.releases.items ≡ set s.releases.items at new
+    → at < length s.releases.items → word ≡ s.state_word + 1 + at → old ≡ get_or s.releases.items at old → Notes place (is_set value) old new
+    → Stores s word value place (record s { releases = t.releases })
+notes_release s t at old new word value place is_set_at low word_is found notes = λ program threads code last words are is next.
     let state = words.state in
     let here : word ≡ release_word program (at + 1) = omega (arith, word_is, state) in
     let count = words.threads_are in
     let was : slice_get s.releases.items at ≡ Some old = slice_get-get_or s.releases.items at old low ∙ ap Some (sym found) in
-    stored_release program threads code last place is s words are word value next at new (omega (arith, low, count)) here
+    stored_release program threads code last place is s words are word value next t at new is_set_at (omega (arith, low, count)) here
     (turned code last place word value is_set old new is next (subst (λ n. AreTurnsOf code last n is_set old) (sym here) (are.releases at old was)) notes)
 
-pub notes_head : (s : Switches) (at : ℕ) (old new : Turns) (word value place : ℕ) → at < length s.heads.items → word ≡ 4 * at
-    → old ≡ get_or s.heads.items at old → Notes place (is_patched value) old new
-    → Stores s word value place (record s { heads = record s.heads { items = set s.heads.items at new } })
-notes_head s at old new word value place low word_is found notes = λ program threads code last words are is next.
+pub notes_head : (s t : Switches) (at : ℕ) (old new : Turns) (word value place : ℕ) → t.heads.items ≡ set s.heads.items at new → at < length s.heads.items
+    → word ≡ 4 * at → old ≡ get_or s.heads.items at old → Notes place (is_patched value) old new → Stores s word value place (record s { heads = t.heads })
+notes_head s t at old new word value place is_set_at low word_is found notes = λ program threads code last words are is next.
     let count = words.sleds in
     let here : word ≡ word_of at Head = omega (arith, word_is) in
     let was : slice_get s.heads.items at ≡ Some old = slice_get-get_or s.heads.items at old low ∙ ap Some (sym found) in
-    stored_head program threads code last place is s words are word value next at new (omega (arith, low, count)) here
+    stored_head program threads code last place is s words are word value next t at new is_set_at (omega (arith, low, count)) here
     (turned code last place word value is_patched old new is next (subst (λ n. AreTurnsOf code last n is_patched old) (sym here) (are.heads at old was)) notes)
 
 pub notes_no_head : (s : Switches) (word value place : ℕ) → word < s.handler_word → (word % 4 ≡ 0 → ⊥) → Stores s word value place s
@@ -85,26 +84,6 @@ words_same s t heads releases handler state arg_handler program threads words = 
   handler = handler ∙ words.handler;
   state = state ∙ words.state;
   arg_handler = arg_handler ∙ words.arg_handler;
-}
-
-pub words_head : (s : Switches) (at : ℕ) (new : Turns) (program : Program) (threads : ℕ) → IsOfWords program threads s
-    → IsOfWords program threads (record s { heads = record s.heads { items = set s.heads.items at new } })
-words_head s at new program threads words = record {
-  sleds = length-set s.heads.items at new ∙ words.sleds;
-  threads_are = words.threads_are;
-  handler = words.handler;
-  state = words.state;
-  arg_handler = words.arg_handler;
-}
-
-pub words_release : (s : Switches) (at : ℕ) (new : Turns) (program : Program) (threads : ℕ) → IsOfWords program threads s
-    → IsOfWords program threads (record s { releases = record s.releases { items = set s.releases.items at new } })
-words_release s at new program threads words = record {
-  sleds = words.sleds;
-  threads_are = length-set s.releases.items at new ∙ words.threads_are;
-  handler = words.handler;
-  state = words.state;
-  arg_handler = words.arg_handler;
 }
 
 -- ---- where a word is

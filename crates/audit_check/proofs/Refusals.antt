@@ -1,5 +1,5 @@
 -- Where rows stop being those of an audit.
-use Rattle.std.proofs.Common.{◌≡◌, ◌≢◌, ℕ, zero, suc, ◌+◌, ◌-◌, ◌*◌, ◌<◌, ◌≤◌, ◌^◌, List, [], ◌∷◌, ◌++◌, length, take, Some, refl, sym, ap, subst, ◌∙◌, arith, inl, inr, append_assoc, length-append, lit<}
+use Rattle.std.proofs.Common.{◌≡◌, ◌≢◌, ℕ, zero, suc, ◌+◌, ◌-◌, ◌*◌, ◌<◌, ◌≤◌, ◌^◌, List, [], ◌∷◌, ◌++◌, length, get_or, take, Some, refl, sym, ap, subst, ◌∙◌, arith, inl, inr, append_assoc, length-append, lit<}
 use Rattle.std.specs.Prelude.{◌⊎◌, All, slice_get}
 use Rattle.std.specs.List.{flat_map}
 use Rattle.std.proofs.lemmas.List.Elements.{All-append, All-cons, All-nil}
@@ -42,8 +42,12 @@ threads_joined (said ∷ threads) =
 pub rows_joined : (statement : Statement) → join (all_rows statement) ≡ text_of statement
 unfolding join
 rows_joined s =
-    join-append (first_rows s.setup s.threads) (recycled_line s.recycled ∷ [])
-    ∙ simp (setup_joined s.setup, threads_joined s.threads, append_assoc)
+    let each : List ℕ = flat_map thread_lines s.threads in
+    let last : List ℕ = recycled_line s.recycled in
+    join-append (first_rows s.setup s.threads) (last ∷ [])
+    ∙ (ap (λ (l : List ℕ). (format_row ++ (setup_row s.setup ++ l)) ++ (last ++ [])) (threads_joined s.threads)
+    ∙ (ap (λ (l : List ℕ). (format_row ++ (setup_row s.setup ++ each)) ++ l) (append-nil last)
+    ∙ ap (λ (l : List ℕ). l ++ last) (sym (append_assoc format_row (setup_row s.setup) each) ∙ ap (λ (l : List ℕ). l ++ each) (sym (setup_joined s.setup)))))
 
 pub rows_of_text : (statement : Statement) → whole_lines (text_of statement) ≡ all_rows statement
 unfolding join
@@ -228,6 +232,18 @@ abbrev pub Unlike : (List ℕ → Type 0) → List (List ℕ) → Type 0
 Unlike IsRow [] = Unit {0}
 Unlike IsRow (row ∷ more) = IsRow row → ⊥
 
+same_row : (x y : List ℕ) → Some x ≡ Some y → x ≡ y
+same_row x y e = cc
+
+all_same : (xs ys : List (List ℕ)) → take (suc (length ys)) xs ≡ take (suc (length ys)) ys → take (length ys) xs ≡ ys
+all_same [] [] same = refl
+all_same [] (y ∷ ys) same = absurd cc
+all_same (x ∷ xs) [] same = refl
+all_same (x ∷ xs) (y ∷ ys) same =
+    let first : x ≡ y = cc in
+    let more : take (suc (length ys)) xs ≡ take (suc (length ys)) ys = cc in
+    ap (λ (l : List ℕ). l ∷ take (length ys) xs) first ∙ ap (λ (ls : List (List ℕ)). y ∷ ls) (all_same xs ys more)
+
 -- Rows were taken that begin an audit. In each audit that begins with them the next row is a certain row. The next row isn't.
 pub refused_next : (bytes : List ℕ) (taken rest : List (List ℕ)) (IsRow : List ℕ → Type 0) → whole_lines bytes ≡ taken ++ rest → Unlike IsRow rest
     → ((count : ℕ) → count ≤ length taken → Begins bytes count)
@@ -239,15 +255,6 @@ refused_next bytes taken rest IsRow lines other begins next = record {
   before = λ count less. begins count (omega arith);
 }
   where
-    all_same : (xs ys : List (List ℕ)) → take (suc (length ys)) xs ≡ take (suc (length ys)) ys → take (length ys) xs ≡ ys
-    all_same [] [] same = refl
-    all_same [] (y ∷ ys) same = absurd cc
-    all_same (x ∷ xs) [] same = refl
-    all_same (x ∷ xs) (y ∷ ys) same =
-        let first : x ≡ y = cc in
-        let more : take (suc (length ys)) xs ≡ take (suc (length ys)) ys = cc in
-        ap (λ (l : List ℕ). l ∷ take (length ys) xs) first ∙ ap (λ (ls : List (List ℕ)). y ∷ ls) (all_same xs ys more)
-
     fail : (rest : List (List ℕ)) → whole_lines bytes ≡ taken ++ rest → Unlike IsRow rest → Begins bytes (length taken + 1) → ⊥
     fail [] is unlike b =
         let count : length taken + 1 ≡ suc (length taken) = omega arith in
@@ -268,11 +275,8 @@ refused_next bytes taken rest IsRow lines other begins next = record {
         ∙ ap (take (suc (length taken))) is) in
         let parts = next_same (all_rows b.statement) taken row more same in
         let found = next b.statement b.may parts.1 in
-        let equal : found.0 ≡ row = one found.0 row (sym found.1 ∙ parts.0) in
+        let equal : found.0 ≡ row = same_row found.0 row (sym found.1 ∙ parts.0) in
         unlike (subst IsRow equal found.2)
-      where
-        one : (x y : List ℕ) → Some x ≡ Some y → x ≡ y
-        one x y e = cc
 
 -- ---- row by row
 
@@ -354,7 +358,7 @@ TellsSetup = (s t : Setup) → IsSetup s → IsSetup t → setup_row s ≡ setup
 same_setup : TellsSetup → (setup : Setup) (threads : List ThreadAudit) (more : List (List ℕ)) (s : Statement) → IsSetup setup → MayState s
     → take (suc (suc (length more))) (all_rows s) ≡ format_row ∷ setup_row setup ∷ more → length s.threads ≡ setup.threads
 same_setup tells setup threads more s is may same =
-    let row : setup_row s.setup ≡ setup_row setup = cc in
+    let row : setup_row s.setup ≡ setup_row setup = ap (λ (rows : List (List ℕ)). get_or rows 1 []) same in
     may.names.count ∙ ap (λ (t : Setup). t.threads) (tells s.setup setup may.names.setup_is is row)
 
 -- the first row of the thread of a number
@@ -380,11 +384,10 @@ refused_counts tells bytes setup threads rest are low lines other =
           (item.0, all_get s.threads (length threads) item.0 may.counts item.1, may.names.numbered (length threads) item.0 item.1, refl),
         )
 
-
 -- ---- the marks of a thread
 
 -- what is said of a thread with these counts and no marks
-unmarked : ℕ → Counts → ThreadAudit
+abbrev unmarked : ℕ → Counts → ThreadAudit
 unmarked thread counts = record {
   thread = thread;
   end = counts.end;
@@ -399,7 +402,8 @@ unmarked thread counts = record {
 abbrev pub counted_rows : Setup → List ThreadAudit → ℕ → Counts → List (List ℕ)
 counted_rows setup threads thread counts = first_rows setup threads ++ counts_row thread counts ∷ []
 
-one_more : (setup : Setup) (threads : List ThreadAudit) (said : ThreadAudit) → AreFirst setup threads → HasCounts said
+-- one more thread
+pub one_more : (setup : Setup) (threads : List ThreadAudit) (said : ThreadAudit) → AreFirst setup threads → HasCounts said
     → said.thread ≡ length threads + 1 → AreFirst setup (threads ++ said ∷ [])
 one_more setup threads said are has number = record {
   setup_is = are.setup_is;
@@ -416,6 +420,30 @@ one_more setup threads said are has number = record {
         sym (ap (λ (s : ThreadAudit). s.thread) same) ∙ (number ∙ omega (arith, at))
     last i (suc j) other at there = absurd cc
 
+-- the threads with one that has these counts and no marks
+abbrev with_unmarked : List ThreadAudit → Counts → List ThreadAudit
+with_unmarked threads counts = threads ++ unmarked (length threads + 1) counts ∷ []
+
+unmarked_may : (setup : Setup) (threads : List ThreadAudit) (counts : Counts) → AreFirst setup threads → length threads < setup.threads
+    → HasShortCounts counts → MayState (completed setup (with_unmarked threads counts))
+unmarked_may setup threads counts are low short =
+    completed_may setup (with_unmarked threads counts)
+    (one_more setup threads (unmarked (length threads + 1) counts) are
+    (record { passings = short.passings; recorded = short.recorded; segments = short.segments; first = short.first; marks = omega arith }) refl)
+    (omega (arith, low, length-append threads (unmarked (length threads + 1) counts ∷ [])))
+
+unmarked_rows : (setup : Setup) (threads : List ThreadAudit) (counts : Counts) → all_rows (completed setup (with_unmarked threads counts))
+    ≡ counted_rows setup threads (length threads + 1) counts ++ marks_line [] ∷ later_rows setup (with_unmarked threads counts)
+unmarked_rows setup threads counts =
+    let said : ThreadAudit = unmarked (length threads + 1) counts in
+    let later : List (List ℕ) = later_rows setup (with_unmarked threads counts) in
+    let counted : List ℕ = counts_row (length threads + 1) counts in
+    completed_rows setup (with_unmarked threads counts)
+    ∙ (ap (λ (ls : List (List ℕ)). (format_row ∷ setup_row setup ∷ ls) ++ later) (rows-append threads (said ∷ []))
+    ∙ ap (λ (ls : List (List ℕ)). format_row ∷ setup_row setup ∷ ls)
+    (append_assoc (flat_map rows_of threads) (counted ∷ marks_line [] ∷ []) later
+    ∙ sym (append_assoc (flat_map rows_of threads) (counted ∷ []) (marks_line [] ∷ later))))
+
 abbrev pub IsMarksRow : List ℕ → Type 0
 IsMarksRow row = (marks : List Mark) × (length marks ≤ most_marks) × (row ≡ marks_line marks)
 
@@ -423,44 +451,18 @@ pub refused_marks : TellsSetup → (bytes : List ℕ) (setup : Setup) (threads :
     → AreFirst setup threads → length threads < setup.threads → HasShortCounts counts
     → whole_lines bytes ≡ counted_rows setup threads (length threads + 1) counts ++ rest → Unlike IsMarksRow rest
     → IsRefused bytes (length (counted_rows setup threads (length threads + 1) counts) + 1)
-unfolding unmarked
 refused_marks tells bytes setup threads counts rest are low short lines other =
     refused_next bytes (counted_rows setup threads (length threads + 1) counts) rest IsMarksRow lines other
-    (begins_by bytes (completed setup more) (counted_rows setup threads (length threads + 1) counts) rest
-    (marks_line [] ∷ later_rows setup more) may rows lines)
+    (begins_by bytes (completed setup (with_unmarked threads counts)) (counted_rows setup threads (length threads + 1) counts) rest
+    (marks_line [] ∷ later_rows setup (with_unmarked threads counts)) (unmarked_may setup threads counts are low short) (unmarked_rows setup threads counts) lines)
     next
   where
-    said : ThreadAudit
-    said = unmarked (length threads + 1) counts
-
-    more : List ThreadAudit
-    more = threads ++ said ∷ []
-
-    has : HasCounts said
-    unfolding said
-    has = record { passings = short.passings; recorded = short.recorded; segments = short.segments; first = short.first; marks = omega arith }
-
-    are_more : AreFirst setup more
-    unfolding said more
-    are_more = one_more setup threads said are has refl
-
-    may : MayState (completed setup more)
-    unfolding more
-    may = completed_may setup more are_more (omega (arith, length-append threads (said ∷ [])))
-
-    rows : all_rows (completed setup more) ≡ counted_rows setup threads (length threads + 1) counts ++ marks_line [] ∷ later_rows setup more
-    unfolding said more
-    rows =
-        completed_rows setup more
-        ∙ (ap (λ (ls : List (List ℕ)). (format_row ∷ setup_row setup ∷ ls) ++ later_rows setup more) (rows-append threads (said ∷ []))
-        ∙ simp append_assoc)
-
     next : (s : Statement) → MayState s → take (length (counted_rows setup threads (length threads + 1) counts)) (all_rows s)
         ≡ counted_rows setup threads (length threads + 1) counts
         → (row : List ℕ) × (slice_get (all_rows s) (length (counted_rows setup threads (length threads + 1) counts)) ≡ Some row) × IsMarksRow row
     next s may same =
         let count = same_setup tells setup threads (flat_map rows_of threads ++ counts_row (length threads + 1) counts ∷ []) s are.setup_is may same in
-        let item = some_item s.threads (length threads) (omega (arith, count)) in
+        let item = some_item s.threads (length threads) (omega (arith, low, count)) in
         let rows = thread_rows s.threads (recycled_line s.recycled ∷ []) (length threads) (2 * length threads) item.0 refl item.1 in
         let long = length-append (first_rows setup threads) (counts_row (length threads + 1) counts ∷ []) in
         let place : length (counted_rows setup threads (length threads + 1) counts) ≡ suc (suc (suc (2 * length threads))) =

@@ -1,8 +1,11 @@
 -- The lines of bytes, one after the other.
-use Rattle.std.proofs.Common.{◌≡◌, ◌≢◌, ℕ, zero, suc, ◌+◌, ◌<◌, ◌==◌, Bool, true, false, List, [], ◌∷◌, ◌++◌, length, take, drop, get_or, refl, sym, ap, ◌∙◌, arith, eq-eqb, add-one, append_assoc}
+use Rattle.std.proofs.Common.{◌≡◌, ◌≢◌, ℕ, zero, suc, ◌+◌, ◌<◌, ◌≤◌, ◌==◌, Bool, true, false, cond, List, [], ◌∷◌, ◌++◌, length, take, drop, get_or, nat_lt, Some, None, position, refl, sym, ap, subst, ◌∙◌, arith, eq-eqb, eqb-true, ltb-false, append_assoc}
 use Rattle.std.specs.Prelude.{if◌then◌else◌}
-use Rattle.std.specs.List.{flat_map}
-use Rattle.std.proofs.lemmas.Bool.{ne_eqb}
+use Rattle.std.specs.List.{flat_map, position_or_len}
+use Rattle.std.proofs.lemmas.Bool.{eqb-false, ne_eqb}
+use Rattle.std.proofs.lemmas.List.{drop_all, take_all}
+use Rattle.std.proofs.lemmas.List.Quantifiers.{position-Some}
+use Rattle.std.proofs.lemmas.List.Sums.{fails_before_first}
 use Rattle.audit_check.specs.Reading.{whole_lines, with_byte}
 
 choose : (t : Bool) (x y : List (List ℕ)) → t ≡ true → (if t then x else y) ≡ x
@@ -31,6 +34,33 @@ only_row (byte ∷ next ∷ bytes) some none =
     let unlike : byte ≢ 10 = none 0 (omega arith) in
     reject (byte == 10) _ _ (ne_eqb byte 10 unlike)
     ∙ ap (with_byte byte) (only_row (next ∷ bytes) (omega arith) (λ k less. none (suc k) (omega arith)))
+
+-- the first line ends at the first line feed, or is all of the bytes
+pub row_to : (bytes : List ℕ) (end : ℕ) → Some end ≡ position (λ byte. byte == 10) bytes
+    → whole_lines bytes ≡ take (end + 1) bytes ∷ whole_lines (drop (end + 1) bytes)
+row_to bytes end is =
+    let at = position-Some (λ byte. byte == 10) bytes end 0 (sym is) in
+    let more : suc end ≡ end + 1 = omega arith in
+    subst (λ n. whole_lines bytes ≡ take n bytes ∷ whole_lines (drop n bytes)) more
+    (first_row bytes end at.0 (eqb-true (get_or bytes end 0) 10 at.1) (λ k less. eqb-false (get_or bytes k 0) 10 (at.2 k less)))
+
+pub row_whole : (bytes : List ℕ) → None ≡ position (λ byte. byte == 10) bytes → bytes ≢ []
+    → whole_lines bytes ≡ take (length bytes) bytes ∷ whole_lines (drop (length bytes) bytes)
+row_whole [] none some = absurd (some refl)
+row_whole (byte ∷ bytes) none some =
+    let row : List ℕ = byte ∷ bytes in
+    let place : ℕ = position_or_len (λ b. b == 10) row in
+    let past = no_place (nat_lt place (length row)) place none in
+    let low : length row ≤ place = ltb-false place (length row) past in
+    let no_feed : (k : ℕ) → k < length row → get_or row k 0 ≢ 10 =
+    (λ k less. eqb-false (get_or row k 0) 10 (fails_before_first (λ b. b == 10) row k 0 (omega (arith, less, low)))) in
+    only_row row (omega arith) no_feed
+    ∙ (ap (λ (l : List ℕ). l ∷ []) (sym (take_all (length row) row (omega arith)))
+    ∙ ap (λ (l : List ℕ). take (length row) row ∷ whole_lines l) (sym (drop_all (length row) row (omega arith))))
+  where
+    no_place : (t : Bool) (place : ℕ) → None ≡ cond t (Some place) None → t ≡ false
+    no_place true place e = absurd cc
+    no_place false place e = refl
 
 -- ---- lines that are put together
 

@@ -1,5 +1,5 @@
 -- Each row of an audit is a line.
-use Rattle.std.proofs.Common.{◌≡◌, ◌≢◌, ℕ, ◌==◌, Bool, true, false, not, List, [], ◌∷◌, ◌++◌, map, refl, sym, ap, ◌∙◌, arith, append_assoc}
+use Rattle.std.proofs.Common.{◌≡◌, ◌≢◌, ℕ, ◌==◌, Bool, true, false, not, List, [], ◌∷◌, ◌++◌, map, refl, ap, arith}
 use Rattle.std.specs.Prelude.{codes, decimal, ◌&&◌}
 use Rattle.std.specs.List.{flat_map, join_with_byte}
 use Rattle.std.proofs.lemmas.Bool.{eq-eqb}
@@ -58,13 +58,6 @@ more {xs} {ys} p q = record { none = feeds-append xs ys p.none q.none }
 ended : {front : List ℕ} → NoFeed front → IsLine (front ++ line_feed)
 ended {front} p = record { body = front; none = p.none; is = refl }
 
-after_front : {front last : List ℕ} → NoFeed front → IsLine last → IsLine (front ++ last)
-after_front {front} {last} p is = record {
-  body = front ++ is.body;
-  none = feeds-append front is.body p.none is.none;
-  is = ap (λ (l : List ℕ). front ++ l) is.is ∙ sym (append_assoc front is.body (10 ∷ []));
-}
-
 format_is : IsLine format_row
 unfolding no_feed
 format_is = record { body = codes "xray-audit 1"; none = tested (codes "xray-audit 1") refl; is = refl }
@@ -80,14 +73,14 @@ limits_are l =
     more (more (more (more (more (more (more (more (more (more (more (word (codes " fuel=") refl) (num l.fuel)) (word (codes " passings=") refl)) (num l.passings))
     (word (codes " tick=") refl)) (num l.tick)) (word (codes " tsc=") refl)) (num l.tsc)) (word (codes " cpus=") refl)) (num l.cpus)) (word (codes " migrate=") refl)) (num l.migrate)
 
-stamps_are : (s : Setup) → IsLine (stamps_part s.pid s.wall s.frequency)
+stamps_are : (s : Setup) → NoFeed (stamps_part s.pid s.wall s.frequency)
 unfolding no_feed
 stamps_are s =
-    ended (more (more (more (more (more (more (more (word (codes " pid=") refl) (num s.pid)) (word (codes " wall=") refl)) (num s.wall.secs)) (word (codes ".") refl)) (num s.wall.micros))
-    (word (codes " frequency=") refl)) (num s.frequency))
+    more (more (more (more (more (more (more (word (codes " pid=") refl) (num s.pid)) (word (codes " wall=") refl)) (num s.wall.secs)) (word (codes ".") refl)) (num s.wall.micros))
+    (word (codes " frequency=") refl)) (num s.frequency)
 
 setup_is : (s : Setup) → IsLine (setup_row s)
-setup_is s = after_front (more (buffers_are s.threads s.size s.max) (limits_are s.limits)) (stamps_are s)
+setup_is s = ended (more (more (buffers_are s.threads s.size s.max) (limits_are s.limits)) (stamps_are s))
 
 end_is : (end : End) → NoFeed (end_text end)
 unfolding no_feed

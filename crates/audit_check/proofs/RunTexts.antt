@@ -7,7 +7,7 @@ use Rattle.handler_word.specs.declared.mark.Mark.{Mark}
 use Rattle.handler_word.specs.declared.mark.Mark.TheVariants.{Skipped, NoHandler, NotLogging, Recorded, RecordedArg}
 use Rattle.handler_word.specs.Runs.{mark_byte, onto_runs, run_text, runs_of, runs_text}
 use Rattle.machine_step.specs.Texts.{line_feed, marks_line}
-use Rattle.audit_check.specs.private.Marks.{AreRuns, marks_of_runs, spaced}
+use Rattle.audit_check.specs.private.Marks.{AreRuns, marks_of_runs, marks_part, spaced}
 
 abbrev Run : Type 0
 Run = Mark × ℕ
@@ -92,21 +92,21 @@ joined : (run : Run) (runs : List Run) → 32 ∷ join_with_byte 32 (map run_tex
 joined run [] = sym (append-nil (32 ∷ run_text run))
 joined run (next ∷ runs) = ap (λ (l : List ℕ). 32 ∷ run_text run ++ l) (joined next runs)
 
--- the row of runs, and that of no marks
-pub row_of_runs : (runs : List Run) → AreRuns None runs → runs ≢ [] → marks_line (marks_of_runs runs) ≡ codes "marks" ++ spaced runs ++ line_feed
-row_of_runs [] are some = absurd (some refl)
-row_of_runs (run ∷ runs) are some =
-    by (marks_of_runs (run ∷ runs)) refl
+-- marks as their row has them, and runs
+pub part_of_marks : (mark : Mark) (marks : List Mark) → marks_part (mark ∷ marks) ≡ spaced (runs_of (mark ∷ marks))
+part_of_marks mark marks = by (runs_of (mark ∷ marks)) refl
   where
-    texts : (mark : Mark) (marks : List Mark) → marks_of_runs (run ∷ runs) ≡ mark ∷ marks → 32 ∷ runs_text (mark ∷ marks) ≡ spaced (run ∷ runs)
-    texts mark marks is =
-        ap (λ (l : List Mark). 32 ∷ join_with_byte 32 (map run_text (runs_of l))) (sym is)
-        ∙ (ap (λ (l : List Run). 32 ∷ join_with_byte 32 (map run_text l)) (runs_back None (run ∷ runs) are) ∙ joined run runs)
+    by : (runs : List Run) → runs_of (mark ∷ marks) ≡ runs → 32 ∷ join_with_byte 32 (map run_text runs) ≡ spaced runs
+    by [] is = absurd (some_runs mark marks is)
+    by (run ∷ runs) is = joined run runs
 
-    by : (marks : List Mark) → marks_of_runs (run ∷ runs) ≡ marks → marks_line (marks_of_runs (run ∷ runs)) ≡ codes "marks" ++ spaced (run ∷ runs) ++ line_feed
-    by [] none = absurd (some (sym (runs_back None (run ∷ runs) are) ∙ ap runs_of none))
-    by (mark ∷ marks) is = ap marks_line is ∙ ap (λ (l : List ℕ). codes "marks" ++ l ++ line_feed) (texts mark marks is)
+pub part_of_runs : (runs : List Run) → AreRuns None runs → runs ≢ [] → marks_part (marks_of_runs runs) ≡ spaced runs
+part_of_runs runs are some = by (marks_of_runs runs) refl
+  where
+    by : (marks : List Mark) → marks_of_runs runs ≡ marks → marks_part (marks_of_runs runs) ≡ spaced runs
+    by [] none = absurd (some (sym (runs_back None runs are) ∙ ap runs_of none))
+    by (mark ∷ marks) is =
+        ap marks_part is ∙ (part_of_marks mark marks ∙ ap spaced (ap runs_of (sym is) ∙ runs_back None runs are))
 
-pub row_of_marks : (mark : Mark) (marks : List Mark) → marks_line (mark ∷ marks) ≡ codes "marks" ++ spaced (runs_of (mark ∷ marks)) ++ line_feed
-row_of_marks mark marks =
-    ap marks_line (sym (runs_marks (mark ∷ marks))) ∙ row_of_runs (runs_of (mark ∷ marks)) (runs_are (mark ∷ marks)) (some_runs mark marks)
+pub row_of_part : (marks : List Mark) → marks_line marks ≡ codes "marks" ++ (marks_part marks ++ line_feed)
+row_of_part marks = refl

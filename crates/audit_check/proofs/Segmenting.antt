@@ -1,5 +1,5 @@
 -- The segments of a thread, one event after the other.
-use Rattle.std.proofs.Common.{◌≡◌, ℕ, zero, suc, ◌+◌, ◌-◌, ◌<◌, ◌≤◌, Bool, true, false, List, [], ◌∷◌, ◌++◌, length, drop, take, map, refl, sym, ap, subst, ◌∙◌, arith, append-nil, append_assoc, length-append}
+use Rattle.std.proofs.Common.{◌≡◌, ℕ, zero, suc, ◌+◌, ◌-◌, ◌<◌, ◌≤◌, Bool, true, false, List, [], ◌∷◌, ◌++◌, length, drop, take, map, refl, sym, ap, subst, ◌∙◌, arith, append-nil, append_assoc, length-append, zero-add}
 use Rattle.std.specs.Prelude.{nat_le, if◌then◌else◌}
 use Rattle.std.specs.List.{enumerate_from, flat_map}
 use Rattle.std.proofs.lemmas.Grind.{flat_map-append}
@@ -16,11 +16,17 @@ use Rattle.audit_check.specs.private.Blocks.{IsOpen, kept_bytes, whole_of}
 
 -- ---- the bytes of one more segment
 
-enumerate-append : {X : Type 0} (n : ℕ) (xs : List X) (y : X) → enumerate_from n (xs ++ y ∷ []) ≡ enumerate_from n xs ++ (n + length xs, y) ∷ []
-enumerate-append n [] y = let same : n ≡ n + 0 = omega arith in ap (λ i. (i, y) ∷ []) same
+abbrev single : {X : Type 0} → ℕ → X → List (ℕ × X)
+single i y = (i, y) ∷ []
+
+enumerate-append : {X : Type 0} (n : ℕ) (xs : List X) (y : X) → enumerate_from n (xs ++ y ∷ []) ≡ enumerate_from n xs ++ single (n + length xs) y
+enumerate-append n [] y = let same : n ≡ n + 0 = omega arith in ap (λ (i : ℕ). single i y) same
 enumerate-append n (x ∷ xs) y =
     let count : n + 1 + length xs ≡ n + length (x ∷ xs) = omega arith in
-    ap (λ l. (n, x) ∷ l) (enumerate-append (n + 1) xs y ∙ ap (λ i. enumerate_from (n + 1) xs ++ (i, y) ∷ []) count)
+    ap (λ l. (n, x) ∷ l) (enumerate-append (n + 1) xs y ∙ ap (λ (i : ℕ). enumerate_from (n + 1) xs ++ single i y) count)
+
+enumerate_more : {X : Type 0} (xs : List X) (y : X) → enumerate_from 0 (xs ++ y ∷ []) ≡ enumerate_from 0 xs ++ (length xs, y) ∷ []
+enumerate_more xs y = enumerate-append 0 xs y ∙ ap (λ (i : ℕ). enumerate_from 0 xs ++ single i y) (zero-add (length xs))
 
 drop-nil : {X : Type 0} (n : ℕ) → drop {A = X} n [] ≡ []
 drop-nil zero = refl
@@ -39,8 +45,8 @@ pub kept_more : (setup : Setup) (lost thread : ℕ) (segs : List (List Event)) (
     ≡ kept_bytes setup lost thread segs ++ (if nat_le lost (length segs) then block_bytes (buffer_of (stamp_of setup) thread (length segs, last)) else [])
 kept_more setup lost thread segs last =
     let buffer : ℕ × List Event → Filled = buffer_of (stamp_of setup) thread in
-    ap (λ (l : List (ℕ × List Event)). flat_map block_bytes (map buffer (drop lost l))) (enumerate-append 0 segs last)
-    ∙ (one_more block_bytes buffer lost (enumerate_from 0 segs) (0 + length segs, last)
+    ap (λ (l : List (ℕ × List Event)). flat_map block_bytes (map buffer (drop lost l))) (enumerate_more segs last)
+    ∙ (one_more block_bytes buffer lost (enumerate_from 0 segs) (length segs, last)
     ∙ ap (λ n. flat_map block_bytes (map buffer (drop lost (enumerate_from 0 segs))) ++ (if nat_le lost n then block_bytes (buffer (length segs, last)) else []))
     (length-enumerate_from 0 segs))
 

@@ -70,15 +70,17 @@ module _ (program : Program) (threads : ℕ) (code : ℕ → ℕ → ℕ) (last 
     releases = other_releases (λ i low (e : release_word program (i + 1) ≡ word). omega (arith, e, here, low));
   }
 
-  pub stored_release : (at : ℕ) (new : Turns) → at < threads → word ≡ release_word program (at + 1) → AreTurnsOf code place word is_set new
-      → AreSwitches program threads code place (record s { releases = record s.releases { items = set s.releases.items at new } })
-  stored_release at new within here turned = record {
+  -- the switches with the release words of other ones, of which one has new turns
+  pub stored_release : (others : Switches) (at : ℕ) (new : Turns) → others.releases.items ≡ set s.releases.items at new → at < threads
+      → word ≡ release_word program (at + 1) → AreTurnsOf code place word is_set new
+      → AreSwitches program threads code place (record s { releases = others.releases })
+  stored_release others at new are_new within here turned = record {
     heads = other_heads (omega (arith, here));
     handler = other (handler_word program) is_set s.handler are.handler (λ (e : handler_word program ≡ word). omega (arith, e, here));
     log = other (state_word program) is_recording s.log are.log (λ (e : state_word program ≡ word). omega (arith, e, here));
     arg_handler = other (arg_handler_word program threads) is_set s.arg_handler are.arg_handler
         (λ (e : arg_handler_word program threads ≡ word). omega (arith, e, here, within));
-    releases = λ i turns found. elim (get_set s.releases.items at i turns new found) [
+    releases = λ i turns found. elim (get_set s.releases.items at i turns new (subst (λ (l : List Turns). slice_get l i ≡ Some turns) are_new found)) [
       | inl (same, new_is) ↦
           subst (λ (t : Turns). AreTurnsOf code place (release_word program (i + 1)) is_set t) (sym new_is)
           (subst (λ n. AreTurnsOf code place n is_set new) (here ∙ ap (λ n. release_word program (n + 1)) (sym same)) turned)
@@ -88,10 +90,11 @@ module _ (program : Program) (threads : ℕ) (code : ℕ → ℕ → ℕ) (last 
     ];
   }
 
-  pub stored_head : (at : ℕ) (new : Turns) → at < length program.sleds → word ≡ word_of at Head → AreTurnsOf code place word is_patched new
-      → AreSwitches program threads code place (record s { heads = record s.heads { items = set s.heads.items at new } })
-  stored_head at new within here turned = record {
-    heads = λ k turns found. elim (get_set s.heads.items at k turns new found) [
+  -- the switches with the heads of other ones, of which one has new turns
+  pub stored_head : (others : Switches) (at : ℕ) (new : Turns) → others.heads.items ≡ set s.heads.items at new → at < length program.sleds
+      → word ≡ word_of at Head → AreTurnsOf code place word is_patched new → AreSwitches program threads code place (record s { heads = others.heads })
+  stored_head others at new are_new within here turned = record {
+    heads = λ k turns found. elim (get_set s.heads.items at k turns new (subst (λ (l : List Turns). slice_get l k ≡ Some turns) are_new found)) [
       | inl (same, new_is) ↦
           subst (λ (t : Turns). AreTurnsOf code place (word_of k Head) is_patched t) (sym new_is)
           (subst (λ n. AreTurnsOf code place n is_patched new) (here ∙ ap (λ n. word_of n Head) (sym same)) turned)

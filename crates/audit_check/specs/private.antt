@@ -1,5 +1,6 @@
 -- What the contracts of private functions cite. No promise of this crate rests on it.
 pub mod Parts
+pub mod Taking
 pub mod Marks
 pub mod Lines
 pub mod Turns

@@ -1,6 +1,6 @@
 //! Reading an audit, row by row.
 
-ghost use Rattle.std.specs.Prelude.{◌≡◌, ◌≢◌, ◌⊎◌, ◌<◌, ◌≤◌, ◌+◌, ◌∷◌, ◌++◌, ℕ, List, [], Ok, Err, MatchResult, IfErr, IfOk, drop, length, map, take};
+ghost use Rattle.std.specs.Prelude.{◌≡◌, ◌==◌, ◌≢◌, ◌⊎◌, ◌<◌, ◌≤◌, ◌+◌, ◌^◌, ◌∷◌, ◌++◌, ℕ, List, [], Ok, Err, MatchResult, IfErr, IfOk, drop, length, map, position, take};
 ghost use Rattle.machine_step.specs.declared.setup.Setup.{Setup};
 ghost use Rattle.machine_step.specs.{Setups.{IsSetup}, Texts.{marks_line}};
 ghost use Rattle.trace_flush.specs.Audit.{ThreadAudit, recycled_line};
@@ -18,6 +18,7 @@ use crate::thread_rows::{Counts, MOST_MARKS, read_counts, read_marks, read_recyc
 use handler_word::Marks;
 use machine_step::Setup;
 use std::alloc::Global;
+use text_lines::a_written_number_is_itself;
 
 /// The byte that ends a row.
 const LINE_FEED: u8 = b'\n';
@@ -171,6 +172,7 @@ impl<'a> Rows<'a> {
             HasShortCounts counts × HasTaken bytes self.new (first_rows setup threads ++ counts_row thread counts ∷ []))
             (Refuses bytes) }
     {
+        a_written_number_is_itself();
         let row = self.take()?;
         match read_counts(row, thread) {
             Some(counts) => Ok(counts),
@@ -189,6 +191,7 @@ impl<'a> Rows<'a> {
             × HasTaken bytes self.new (first_rows setup threads ++ counts_row thread counts ∷ marks_line marks.items ∷ []))
             (Refuses bytes) }
     {
+        a_written_number_is_itself();
         let mut marks = Marks::new(alloc, MOST_MARKS)?;
         let row = self.take()?;
         match read_marks(row, &mut marks) {
@@ -203,9 +206,10 @@ impl<'a> Rows<'a> {
         ensures number { self.new.number ≤ 35 }
         ensures rows { (bytes : List ℕ) (setup : Setup) (threads : List ThreadAudit)
             → HasTaken bytes self.old (first_rows setup threads) → AreFirst setup threads
-            → length threads ≡ setup.threads → MatchResult result (λ recycled.
-            HasTaken bytes self.new (first_rows setup threads ++ recycled_line recycled ∷ [])) (Refuses bytes) }
+            → length threads ≡ setup.threads → MatchResult result (λ recycled. (recycled < 2 ^ 64)
+            × HasTaken bytes self.new (first_rows setup threads ++ recycled_line recycled ∷ [])) (Refuses bytes) }
     {
+        a_written_number_is_itself();
         let row = self.take()?;
         match read_recycled(row) {
             Some(recycled) => Ok(recycled),
@@ -220,6 +224,7 @@ impl<'a> Rows<'a> {
             → HasTaken bytes self.now (all_rows statement)
             → MatchResult result (λ _. bytes ≡ text_of statement) (Refuses bytes) }
     {
+        a_written_number_is_itself();
         if self.left.is_empty() {
             Ok(())
         } else {
@@ -234,8 +239,15 @@ fn row_length(bytes: &[u8]) -> usize
     ensures row { bytes.now ≢ [] → whole_lines bytes.now
         ≡ take result bytes.now ∷ whole_lines (drop result bytes.now) }
 {
-    match bytes.iter().position(|byte| *byte == LINE_FEED) {
+    match first_feed(bytes) {
         Some(end) => end + 1,
         None => bytes.len(),
     }
+}
+
+/// The place of the first line feed.
+fn first_feed(bytes: &[u8]) -> Option<usize>
+    ensures { result ≡ position (λ byte. byte == 10) bytes.now }
+{
+    bytes.iter().position(|byte| *byte == LINE_FEED)
 }

@@ -1,16 +1,17 @@
 //! The row of an audit that says what the run was made with.
 
-ghost use Rattle.std.specs.Prelude.{◌≡◌, ◌<◌, ◌↔◌, ◌^◌, ◌++◌, ℕ, List, Some, IfSome, IsTrue};
+ghost use Rattle.std.specs.Prelude.{◌≡◌, ◌<◌, ◌↔◌, ◌^◌, ◌++◌, Some, IfSome, IsTrue};
 ghost use Rattle.machine_step.specs.declared.limits.Limits.{Limits};
 ghost use Rattle.machine_step.specs.declared.setup.Setup.{Setup};
 ghost use Rattle.machine_step.specs.Setups.{AreLimits, IsSetup};
-ghost use Rattle.trace_flush.specs.Audit.{limits_text};
-ghost use Rattle.audit_check.specs.private.Parts.{AreBuffers, AreStamps, BeginsNoDigit, buffers_part, setup_row, stamps_part};
+ghost use Rattle.audit_check.specs.private.Parts.{AreBuffers, AreStamps, setup_row};
+ghost use Rattle.audit_check.specs.private.Taking.{Gives, buffers_in, cpus_in, limits_in, setup_by, setup_in, stamps_in};
 
-use crate::row::Row;
+use crate::row::{ROW_END, take_field, take_short};
 use fdr_buffer::{LARGEST_SIZE, LEAST_SIZE, MOST_BUFFERS, TRACE_LIMIT};
 use machine_step::{Limits, Setup};
 use sled_words::MAX_THREADS;
+use text_lines::a_written_number_is_itself;
 use xray_io::Wall;
 
 /// The most instructions that a thread may be limited to.
@@ -18,9 +19,6 @@ const MOST_FUEL: u64 = 1_000_000_000;
 
 /// The most passings that a thread may be limited to, and the most after which it moves.
 const MOST_PASSINGS: u32 = 1_048_576;
-
-/// The most CPUs.
-const MOST_CPUS: u16 = 65_535;
 
 /// How many process numbers there are.
 const PROCESSES: u32 = 1 << 31;
@@ -53,27 +51,29 @@ pub(crate) fn read_setup(row: &[u8]) -> Option<Setup>
     ensures found { IfSome result (λ setup. IsSetup setup × (row.now ≡ setup_row setup)) }
     ensures only { (setup : Setup) → IsSetup setup → row.now ≡ setup_row setup → result ≡ Some setup }
 {
-    let mut row = Row::new(row);
-    let buffers = take_buffers(&mut row)?;
-    let limits = take_limits(&mut row)?;
-    let stamps = take_stamps(&mut row)?;
-    if !row.is_done() {
-        return None;
+    a_written_number_is_itself();
+    let setup = printed_setup(row)?;
+    accepted(setup)
+}
+
+/// The setup that a row prints.
+#[tactic(auto, unfolding(crate::specs::private::Taking::setup_in))]
+fn printed_setup(row: &[u8]) -> Option<Setup>
+    ensures { result ≡ setup_in row.now }
+{
+    let (buffers, row) = take_buffers(row)?;
+    let (limits, row) = take_limits(row)?;
+    let (stamps, row) = take_stamps(row)?;
+    if row == ROW_END {
+        Some(setup_of(buffers, limits, stamps))
+    } else {
+        None
     }
-    accepted(setup_of(buffers, limits, stamps))
 }
 
 /// A setup of its parts.
 fn setup_of(buffers: Buffers, limits: Limits, stamps: Stamps) -> Setup
-    ensures { result ≡ record {
-      threads = buffers.threads;
-      size = buffers.size;
-      max = buffers.max;
-      limits = limits;
-      pid = stamps.pid;
-      wall = stamps.wall;
-      frequency = stamps.frequency;
-    } }
+    ensures { result ≡ setup_by buffers limits stamps }
 {
     Setup {
         threads: buffers.threads,
@@ -91,7 +91,7 @@ fn accepted(setup: Setup) -> Option<Setup>
     ensures found { IfSome result (λ accepted. (accepted ≡ setup) × IsSetup setup) }
     ensures only { IsSetup setup → result ≡ Some setup }
 {
-    if are_buffers(&setup) && are_limits(&setup.limits) && are_stamps(&setup) {
+    if are_buffers(setup) && are_limits(setup.limits) && are_stamps(setup) {
         Some(setup)
     } else {
         None
@@ -99,8 +99,8 @@ fn accepted(setup: Setup) -> Option<Setup>
 }
 
 /// Whether the threads and the buffers of a setup are those of a run.
-fn are_buffers(setup: &Setup) -> bool
-    ensures { IsTrue result ↔ AreBuffers setup.now }
+fn are_buffers(setup: Setup) -> bool
+    ensures { IsTrue result ↔ AreBuffers setup }
 {
     1 <= setup.threads
         && setup.threads <= MAX_THREADS
@@ -112,71 +112,79 @@ fn are_buffers(setup: &Setup) -> bool
 }
 
 /// Whether threads may have these limits.
-fn are_limits(limits: &Limits) -> bool
-    ensures { IsTrue result ↔ AreLimits limits.now }
+fn are_limits(limits: Limits) -> bool
+    ensures { IsTrue result ↔ AreLimits limits }
 {
     limits.fuel <= MOST_FUEL
         && limits.passings <= MOST_PASSINGS
         && 1 <= limits.cpus
-        && limits.cpus <= MOST_CPUS
         && 1 <= limits.migrate
         && limits.migrate <= MOST_PASSINGS
 }
 
 /// Whether the process and the wall time of a setup are those of a run.
-fn are_stamps(setup: &Setup) -> bool
-    ensures { IsTrue result ↔ AreStamps setup.now }
+fn are_stamps(setup: Setup) -> bool
+    ensures { IsTrue result ↔ AreStamps setup }
 {
     setup.pid < PROCESSES && setup.wall.micros < SECOND
 }
 
 /// Takes the threads and the buffers.
-fn take_buffers(row: &mut Row) -> Option<Buffers>
-    ensures found { IfSome result (λ b. row.old ≡ buffers_part b.threads b.size b.max ++ row.new) }
-    ensures only { (threads size max : ℕ) (rest : List ℕ) → threads < 2 ^ 32 → size < 2 ^ 32 → max < 2 ^ 32
-        → BeginsNoDigit rest → row.old ≡ buffers_part threads size max ++ rest
-        → (result ≡ Some (record { threads = threads; size = size; max = max })) × (row.new ≡ rest) }
+#[tactic(auto, unfolding(crate::specs::private::Taking::buffers_in))]
+fn take_buffers(row: &[u8]) -> Option<(Buffers, &[u8])>
+    ensures { Gives (λ x. (x.0, x.1.now)) result (buffers_in row.now) }
 {
-    Some(Buffers {
-        threads: row.short_field(b"threads=")?,
-        size: row.short_field(b" buffer-size=")?,
-        max: row.short_field(b" buffer-max=")?,
-    })
+    let (threads, row) = take_short(row, b"threads=")?;
+    let (size, row) = take_short(row, b" buffer-size=")?;
+    let (max, row) = take_short(row, b" buffer-max=")?;
+    Some((Buffers { threads, size, max }, row))
 }
 
 /// Takes the limits of each thread, and how its passings are stamped.
-fn take_limits(row: &mut Row) -> Option<Limits>
-    ensures found { IfSome result (λ limits. row.old ≡ limits_text limits ++ row.new) }
-    ensures only { (limits : Limits) (rest : List ℕ) → AreLimits limits → BeginsNoDigit rest
-        → row.old ≡ limits_text limits ++ rest → (result ≡ Some limits) × (row.new ≡ rest) }
+#[tactic(auto, unfolding(crate::specs::private::Taking::limits_in))]
+fn take_limits(row: &[u8]) -> Option<(Limits, &[u8])>
+    ensures { Gives (λ x. (x.0, x.1.now)) result (limits_in row.now) }
 {
-    Some(Limits {
-        fuel: row.field(b" fuel=")?,
-        passings: row.short_field(b" passings=")?,
-        tick: row.field(b" tick=")?,
-        tsc: row.field(b" tsc=")?,
-        cpus: u16::try_from(row.short_field(b" cpus=")?).ok()?,
-        migrate: row.short_field(b" migrate=")?,
-    })
+    let (fuel, row) = take_field(row, b" fuel=")?;
+    let (passings, row) = take_short(row, b" passings=")?;
+    let (tick, row) = take_field(row, b" tick=")?;
+    let (tsc, row) = take_field(row, b" tsc=")?;
+    let (cpus, row) = take_cpus(row)?;
+    let (migrate, row) = take_short(row, b" migrate=")?;
+    let limits = Limits {
+        fuel,
+        passings,
+        tick,
+        tsc,
+        cpus,
+        migrate,
+    };
+    Some((limits, row))
 }
 
-/// Takes the process, the wall time and the counter's frequency, which end the row.
-fn take_stamps(row: &mut Row) -> Option<Stamps>
-    ensures found { IfSome result (λ s. row.old ≡ stamps_part s.pid s.wall s.frequency ++ row.new) }
-    ensures only { (pid secs micros frequency : ℕ) (rest : List ℕ) → pid < 2 ^ 32 → secs < 2 ^ 64
-        → micros < 2 ^ 32 → frequency < 2 ^ 64
-        → row.old ≡ stamps_part pid (record { secs = secs; micros = micros }) frequency ++ rest
-        → (result ≡ Some (record { pid = pid; wall = record { secs = secs; micros = micros }; frequency = frequency }))
-        × (row.new ≡ rest) }
+/// Takes how many CPUs there are.
+#[tactic(auto, unfolding(crate::specs::private::Taking::cpus_in))]
+fn take_cpus(row: &[u8]) -> Option<(u16, &[u8])>
+    ensures { Gives (λ x. (x.0, x.1.now)) result (cpus_in row.now) }
 {
-    let pid = row.short_field(b" pid=")?;
-    let secs = row.field(b" wall=")?;
-    let micros = row.short_field(b".")?;
-    let frequency = row.field(b" frequency=")?;
-    row.word(b"\n")?;
-    Some(Stamps {
+    let (number, rest) = take_short(row, b" cpus=")?;
+    let cpus = u16::try_from(number).ok()?;
+    Some((cpus, rest))
+}
+
+/// Takes the process, the wall time and the counter's frequency.
+#[tactic(auto, unfolding(crate::specs::private::Taking::stamps_in))]
+fn take_stamps(row: &[u8]) -> Option<(Stamps, &[u8])>
+    ensures { Gives (λ x. (x.0, x.1.now)) result (stamps_in row.now) }
+{
+    let (pid, row) = take_short(row, b" pid=")?;
+    let (secs, row) = take_field(row, b" wall=")?;
+    let (micros, row) = take_short(row, b".")?;
+    let (frequency, row) = take_field(row, b" frequency=")?;
+    let stamps = Stamps {
         pid,
         wall: Wall { secs, micros },
         frequency,
-    })
+    };
+    Some((stamps, row))
 }

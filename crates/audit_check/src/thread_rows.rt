@@ -1,18 +1,18 @@
 //! The two rows of a thread, and the last row of an audit.
 
-ghost use Rattle.std.specs.Prelude.{◌≡◌, ◌≢◌, ◌<◌, ◌≤◌, ◌+◌, ◌^◌, ◌∷◌, ◌++◌, ℕ, List, [], Some, None, length, IfSome, IsSome, OnSome, codes, decimal, replicate};
+ghost use Rattle.std.specs.Prelude.{◌≡◌, ◌≢◌, ◌<◌, ◌≤◌, ◌+◌, ◌∷◌, ◌++◌, ℕ, List, [], None, Some, length, IfSome, MatchOption, OnSome, IsSome, IsTrue, ◌↔◌, replicate};
 ghost use Rattle.machine_step.specs.Texts.{marks_line};
 ghost use Rattle.handler_word.specs.declared.mark.Mark.{Mark};
 ghost use Rattle.handler_word.specs.Runs.{run_text};
-ghost use Rattle.trace_flush.specs.Audit.{recycled_line};
-ghost use Rattle.audit_check.specs.private.Lines.{counts_row};
-ghost use Rattle.audit_check.specs.private.Marks.{AreRuns, TakesRun, TakesRuns, marks_of_runs, spaced};
-ghost use Rattle.audit_check.specs.private.Parts.{BeginsNoDigit, HasShortCounts, counts_part};
+ghost use Rattle.audit_check.specs.private.Marks.{AreRuns, TakesRun, marks_of_runs, marks_part, spaced};
+ghost use Rattle.audit_check.specs.private.Parts.{BeginsNoDigit};
+ghost use Rattle.audit_check.specs.private.Taking.{Gives, counts_in, recycled_in, said_in};
 ghost use Rattle.audit_check.specs.Statements.{most_marks};
 
-use crate::row::Row;
+use crate::row::{ROW_END, after, take_end, take_field, take_run, take_short};
 use handler_word::{Mark, Marks};
 use machine_step::End;
+use text_lines::a_written_number_is_itself;
 
 /// The most marks of a thread.
 pub(crate) const MOST_MARKS: u32 = 1_048_576;
@@ -28,34 +28,37 @@ pub(crate) struct Counts {
 }
 
 /// What a row says of the thread of this number, if it is the first row of that thread.
+#[tactic(auto, unfolding(crate::specs::private::Taking::counts_in))]
 pub(crate) fn read_counts(row: &[u8], thread: u32) -> Option<Counts>
-    ensures found { IfSome result (λ counts. row.now ≡ counts_row thread counts) }
-    ensures only { (counts : Counts) → HasShortCounts counts → row.now ≡ counts_row thread counts
-        → result ≡ Some counts }
+    ensures { result ≡ counts_in thread row.now }
 {
-    let mut row = Row::new(row);
-    if row.short_field(b"thread ")? != thread {
+    let (number, row) = take_short(row, b"thread ")?;
+    if number != thread {
         return None;
     }
-    let counts = take_counts(&mut row)?;
-    row.word(b"\n")?;
-    if row.is_done() { Some(counts) } else { None }
+    let (counts, row) = take_counts(row)?;
+    if row == ROW_END { Some(counts) } else { None }
 }
 
 /// Takes the end of a thread and its counts.
-fn take_counts(row: &mut Row) -> Option<Counts>
-    ensures found { IfSome result (λ counts. row.old ≡ counts_part counts ++ row.new) }
-    ensures only { (counts : Counts) (rest : List ℕ) → HasShortCounts counts → BeginsNoDigit rest
-        → row.old ≡ counts_part counts ++ rest → (result ≡ Some counts) × (row.new ≡ rest) }
+#[tactic(auto, unfolding(crate::specs::private::Taking::said_in))]
+fn take_counts(row: &[u8]) -> Option<(Counts, &[u8])>
+    ensures { Gives (λ x. (x.0, x.1.now)) result (said_in row.now) }
 {
-    row.word(b" ")?;
-    Some(Counts {
-        end: row.end()?,
-        passings: row.short_field(b" passings ")?,
-        recorded: row.short_field(b" recorded ")?,
-        segments: row.short_field(b" segments ")?,
-        first: row.short_field(b" first ")?,
-    })
+    let row = after(row, b" ")?;
+    let (end, row) = take_end(row)?;
+    let (passings, row) = take_short(row, b" passings ")?;
+    let (recorded, row) = take_short(row, b" recorded ")?;
+    let (segments, row) = take_short(row, b" segments ")?;
+    let (first, row) = take_short(row, b" first ")?;
+    let counts = Counts {
+        end,
+        passings,
+        recorded,
+        segments,
+        first,
+    };
+    Some((counts, row))
 }
 
 /// Adds the marks of a row, if it is the row of the marks of a thread. They are its longest runs of
@@ -63,57 +66,81 @@ fn take_counts(row: &mut Row) -> Option<Counts>
 pub(crate) fn read_marks(row: &[u8], marks: &mut Marks) -> Option<()>
     requires empty { marks.old.items ≡ [] }
     requires room { marks.old.room ≡ most_marks }
+    ensures few { OnSome result (length marks.new.items ≤ most_marks) }
     ensures found { OnSome result (row.now ≡ marks_line marks.new.items) }
     ensures only { (all : List Mark) → length all ≤ most_marks → row.now ≡ marks_line all
         → IsSome result × (marks.new.items ≡ all) }
 {
-    let mut row = Row::new(row);
-    row.word(b"marks")?;
-    if row.word(b" -").is_none() {
-        take_runs(&mut row, marks)?;
+    let part = after(row, b"marks")?;
+    let rest = take_marks(part, marks)?;
+    if rest == ROW_END { Some(()) } else { None }
+}
+
+/// Takes a space and the marks, or a hyphen if there are none.
+fn take_marks<'a>(row: &'a [u8], marks: &mut Marks) -> Option<&'a [u8]>
+    requires empty { marks.old.items ≡ [] }
+    requires room { marks.old.room ≡ most_marks }
+    ensures few { OnSome result (length marks.new.items ≤ most_marks) }
+    ensures found { IfSome result (λ rest. row.now ≡ marks_part marks.new.items ++ rest.now) }
+    ensures only { (all : List Mark) (rest : List ℕ) → length all ≤ most_marks → row.now ≡ marks_part all ++ 10 ∷ rest
+        → MatchOption result ⊥ (λ left. (left.now ≡ 10 ∷ rest) × (marks.new.items ≡ all)) }
+{
+    match after(row, b" -") {
+        Some(rest) => Some(rest),
+        None => take_runs(row, marks),
     }
-    row.word(b"\n")?;
-    if row.is_done() { Some(()) } else { None }
 }
 
 /// Takes one run of marks or more, each with a space before it.
-fn take_runs(row: &mut Row, marks: &mut Marks) -> Option<()>
+fn take_runs<'a>(row: &'a [u8], marks: &mut Marks) -> Option<&'a [u8]>
     requires empty { marks.old.items ≡ [] }
     requires room { marks.old.room ≡ most_marks }
-    ensures room { marks.new.room ≡ most_marks }
-    ensures found { OnSome result ((runs : List (Mark × ℕ)) × TakesRuns row.old row.new marks.new.items runs) }
+    ensures few { OnSome result (length marks.new.items ≤ most_marks) }
+    ensures found { IfSome result (λ rest. row.now ≡ marks_part marks.new.items ++ rest.now) }
     ensures only { (runs : List (Mark × ℕ)) (rest : List ℕ) → AreRuns None runs → runs ≢ []
-        → length (marks_of_runs runs) ≤ most_marks → row.old ≡ spaced runs ++ 10 ∷ rest
-        → IsSome result × (row.new ≡ 10 ∷ rest) × (marks.new.items ≡ marks_of_runs runs) }
+        → length (marks_of_runs runs) ≤ most_marks → row.now ≡ spaced runs ++ 10 ∷ rest
+        → MatchOption result ⊥ (λ left. (left.now ≡ 10 ∷ rest) × (marks.new.items ≡ marks_of_runs runs)) }
 {
+    let mut left = row;
     let mut before = None;
-    'runs: while row.word(b" ").is_some() {
-        before = Some(take_run(row, marks, before)?);
+    'runs: while let Some(run) = after(left, b" ") {
+        let (mark, rest) = take_next(run, marks, before)?;
+        left = rest;
+        before = Some(mark);
     }
-    if before.is_some() { Some(()) } else { None }
+    if before.is_some() { Some(left) } else { None }
 }
 
-/// Takes a run of marks, which aren't those of the run before it. Answers its mark.
-fn take_run(row: &mut Row, marks: &mut Marks, before: Option<Mark>) -> Option<Mark>
+/// Takes a run of marks, which aren't those of the run before it. Returns its mark.
+fn take_next<'a>(row: &'a [u8], marks: &mut Marks, before: Option<Mark>) -> Option<(Mark, &'a [u8])>
     requires { marks.old.room ≡ most_marks }
     ensures room { marks.new.room ≡ most_marks }
-    ensures found { IfSome result (λ mark. (before ≢ Some mark)
-        × ((count : ℕ) × TakesRun row.old row.new marks.old.items marks.new.items mark count)) }
+    ensures few { OnSome result (length marks.new.items ≤ most_marks) }
+    ensures found { IfSome result (λ x. (before ≢ Some x.0)
+        × ((count : ℕ) × TakesRun row.now x.1.now marks.old.items marks.new.items x.0 count)) }
     ensures only { (mark : Mark) (count : ℕ) (rest : List ℕ) → before ≢ Some mark → 0 < count
         → length marks.old.items + count ≤ most_marks → BeginsNoDigit rest
-        → row.old ≡ run_text (mark, count) ++ rest
-        → (result ≡ Some mark) × (row.new ≡ rest) × (marks.new.items ≡ marks.old.items ++ replicate count mark) }
+        → row.now ≡ run_text (mark, count) ++ rest → MatchOption result ⊥ (λ x. (x.0 ≡ mark)
+        × (x.1.now ≡ rest) × (marks.new.items ≡ marks.old.items ++ replicate count mark)) }
 {
-    let mark = row.symbol()?;
-    if before == Some(mark) {
-        return None;
+    a_written_number_is_itself();
+    let (mark, count, rest) = take_run(row)?;
+    if differs(before, mark) && 0 < count && count <= MOST_MARKS - marks.len() {
+        add_run(marks, mark, count);
+        Some((mark, rest))
+    } else {
+        None
     }
-    let count = row.short_field(b"")?;
-    if count == 0 || count > MOST_MARKS - marks.len() {
-        return None;
+}
+
+/// Whether a mark isn't that of the run before.
+fn differs(before: Option<Mark>, mark: Mark) -> bool
+    ensures { IsTrue result ↔ (before ≢ Some mark) }
+{
+    match before {
+        Some(last) => last != mark,
+        None => true,
     }
-    add_run(marks, mark, count);
-    Some(mark)
 }
 
 /// Adds this many equal marks.
@@ -128,13 +155,14 @@ fn add_run(marks: &mut Marks, mark: Mark, count: u32)
 }
 
 /// How many segments were recycled, by the last row.
+#[tactic(auto, unfolding(crate::specs::private::Taking::recycled_in))]
 pub(crate) fn read_recycled(row: &[u8]) -> Option<u64>
-    ensures found { IfSome result (λ recycled. row.now ≡ recycled_line recycled) }
-    ensures only { (recycled : ℕ) → recycled < 2 ^ 64 → row.now ≡ recycled_line recycled
-        → result ≡ Some recycled }
+    ensures { result ≡ recycled_in row.now }
 {
-    let mut row = Row::new(row);
-    let recycled = row.field(b"recycled ")?;
-    row.word(b"\n")?;
-    if row.is_done() { Some(recycled) } else { None }
+    let (recycled, row) = take_field(row, b"recycled ")?;
+    if row == ROW_END {
+        Some(recycled)
+    } else {
+        None
+    }
 }

@@ -1,12 +1,10 @@
 -- The parts of the rows of an audit.
-use Rattle.std.specs.Prelude.{◌≡◌, ◌<◌, ◌≤◌, ◌+◌, ◌*◌, ◌^◌, ◌==◌, ℕ, false, Option, Some, None, if◌then◌else◌, slice_index, List, [], ◌∷◌, ◌++◌, codes, decimal}
+use Rattle.std.specs.Prelude.{◌≡◌, ◌<◌, ◌≤◌, ◌+◌, ◌*◌, ◌^◌, ℕ, false, List, [], ◌∷◌, ◌++◌, codes, decimal}
 use Rattle.std.specs.Char.{is_ascii_digit}
 use Rattle.xray_io.specs.declared.wall.Wall.{Wall}
 use Rattle.fdr_buffer.specs.declared.buffer.TheConstants.{LARGEST_SIZE, LEAST_SIZE, MOST_BUFFERS, TRACE_LIMIT}
 use Rattle.sled_words.specs.declared.words.TheConstants.{MAX_THREADS}
 use Rattle.machine_step.specs.declared.setup.Setup.{Setup}
-use Rattle.machine_step.specs.declared.end.End.{End}
-use Rattle.machine_step.specs.declared.end.End.TheVariants.{BadTarget, Fuel, OutputFull, Passings, Returned, StackEmpty, StackFull}
 use Rattle.machine_step.specs.Texts.{end_text, line_feed}
 use Rattle.trace_flush.specs.Audit.{limits_text}
 use Rattle.audit_check.specs.declared.thread_rows.Counts.{Counts}
@@ -15,10 +13,6 @@ use Rattle.audit_check.specs.declared.thread_rows.Counts.{Counts}
 abbrev pub BeginsNoDigit : List ℕ → Type 0
 BeginsNoDigit [] = Unit {0}
 BeginsNoDigit (byte ∷ bytes) = is_ascii_digit byte ≡ false
-
--- a name, and a number after it
-abbrev pub field_text : List ℕ → ℕ → List ℕ
-field_text name number = name ++ decimal number
 
 -- the first row of each audit
 abbrev pub format_row : List ℕ
@@ -33,11 +27,12 @@ buffers_part threads size max =
 abbrev pub stamps_part : (pid : ℕ) → Wall → (frequency : ℕ) → List ℕ
 stamps_part pid wall frequency =
     codes " pid=" ++ decimal pid ++ codes " wall=" ++ decimal wall.secs ++ codes "." ++ decimal wall.micros
-    ++ codes " frequency=" ++ decimal frequency ++ line_feed
+    ++ codes " frequency=" ++ decimal frequency
 
 -- the second row, which says what the run was made with
 abbrev pub setup_row : Setup → List ℕ
-setup_row setup = buffers_part setup.threads setup.size setup.max ++ limits_text setup.limits ++ stamps_part setup.pid setup.wall setup.frequency
+setup_row setup =
+    buffers_part setup.threads setup.size setup.max ++ limits_text setup.limits ++ stamps_part setup.pid setup.wall setup.frequency ++ line_feed
 
 -- ---- which setups a run may have, in parts
 
@@ -70,21 +65,3 @@ abbrev pub counts_part : Counts → List ℕ
 counts_part counts =
     codes " " ++ end_text counts.end ++ codes " passings " ++ decimal counts.passings ++ codes " recorded " ++ decimal counts.recorded
     ++ codes " segments " ++ decimal counts.segments ++ codes " first " ++ decimal counts.first
-
--- ---- guesses
-
--- the end of a stack whose name the bytes may begin with: the names differ at their seventh byte
-abbrev pub stack_end : List ℕ → End
-stack_end bytes = if slice_index bytes 6 == 102 then StackFull else StackEmpty
-
--- the end whose name the bytes may begin with, by their first byte
-abbrev pub guessed_end : List ℕ → Option End
-guessed_end [] = None
-guessed_end (byte ∷ bytes) =
-    if byte == 114 then Some Returned
-    else if byte == 102 then Some Fuel
-    else if byte == 112 then Some Passings
-    else if byte == 111 then Some OutputFull
-    else if byte == 115 then Some (stack_end (byte ∷ bytes))
-    else if byte == 98 then Some BadTarget
-    else None

@@ -10,6 +10,6 @@ abbrev pub invariant-loop-before : goal.invariant-loop-before
 invariant-loop-before l = record {
   number : l.self.number ≤ 2 + 2 * l.before;
   count : length l.entries.items ≡ l.before;
-  taken : (bytes : List ℕ) (setup : Setup) → HasTaken bytes l.initial.self (first_rows setup []) → IsSetup setup
+  taken : (bytes : List ℕ) (setup : Setup) → HasTaken bytes l.initial.self (first_rows setup []) → IsSetup setup → setup.threads ≡ l.fn.threads
       → HasTaken bytes l.self (first_rows setup (map said_by l.entries.items)) × AreFirst setup (map said_by l.entries.items);
 }

@@ -14,11 +14,11 @@ loop-place-init c =
     let own = c.args.script.now in
     let total : c.total-total.result ≡ total_of program threads script =
     c.total-total.ensures.total ∙ (ap (λ (p : Program). total_of p own.threads script) c.requires.program ∙ ap (λ n. total_of program n script) c.requires.threads) in
-    let start : c.start-start.result ≡ start_of program threads script =
-    c.start-start.ensures.start ∙ (ap (λ (p : Program). start_of p own.threads script) c.requires.program ∙ ap (λ n. start_of program n script) c.requires.threads) in
+    let start : c.start.result ≡ start_of program threads script =
+    c.start.ensures.start ∙ (ap (λ (p : Program). start_of p own.threads script) c.requires.program ∙ ap (λ n. start_of program n script) c.requires.threads) in
     record {
-      words = c.in_ok-switches.ensures.words;
-      switches = c.in_ok-switches.ensures.switches script;
+      words = c.in_ok-new.ensures.words;
+      switches = c.in_ok-new.ensures.switches script;
       awaits = refl;
       start = start;
       total = total;

@@ -16,8 +16,8 @@ store-requires c =
       is_code = subst (IsWithin step.plan) c.in-Store.is step.within;
     }
 
-pub returns-in_ok-store-clause-step : goal.returns-in_ok-store-clause-step
-returns-in_ok-store-clause-step c = λ program threads script up_to low at.
+pub returns-in_ok-store-in-Store-clause-step : goal.returns-in_ok-store-in-Store-clause-step
+returns-in_ok-store-in-Store-clause-step c = λ program threads script up_to low at.
     let word = c.in-Store.word in
     let value = c.in-Store.value in
     let place = c.args.place in
@@ -28,8 +28,8 @@ returns-in_ok-store-clause-step c = λ program threads script up_to low at.
     (next_stored (code_at program threads script) place word value (follows program threads script gives place (Store word value) is)))
     refl refl refl up_to
 
-pub returns-in_ok-push-clause-step : goal.returns-in_ok-push-clause-step
-returns-in_ok-push-clause-step c = λ program threads script up_to low at.
+pub returns-in_ok-push-in-Await-clause-step : goal.returns-in_ok-push-in-Await-clause-step
+returns-in_ok-push-in-Await-clause-step c = λ program threads script up_to low at.
     course_waits program threads script (c.stores_give_the_code.ensures.word program threads script) c.args.self.now _ c.args.place c.in-Await.thread c.in-Await.count low
     (at ∙ c.in-Await.is) refl c.in_ok-push.ensures.items refl refl up_to
 
