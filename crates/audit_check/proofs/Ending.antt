@@ -1,8 +1,11 @@
 -- The least ends of the parts of a passing, as a follower finds them.
-use Rattle.std.proofs.Common.{◌≡◌, ◌≢◌, ℕ, ◌+◌, ◌-◌, ◌==◌, ◌<◌, ◌≤◌, Bool, true, false, length, Option, Some, None, refl, sym, ap, subst, ◌∙◌, arith, inl, inr, eq-eqb}
-use Rattle.std.specs.Prelude.{◌⊎◌, slice_get}
+use Rattle.std.proofs.Common.{◌≡◌, ◌≢◌, ℕ, ◌+◌, ◌-◌, ◌==◌, ◌<◌, ◌≤◌, Bool, true, false, List, length, Option, Some, None, refl, sym, ap, subst, ◌∙◌, arith, inl, inr, eq-eqb, eqb-true}
+use Rattle.std.specs.Prelude.{◌⊎◌, nat_eq, slice_get}
+use Rattle.std.specs.Option.{option_eq}
 use Rattle.std.proofs.lemmas.Bool.{ne_eqb}
 use Rattle.xray_image.specs.declared.sled.Sled.{Sled}
+use Rattle.xray_image.specs.declared.sled.SledKind.{SledKind}
+use Rattle.xray_image.specs.declared.sled.SledKind.TheVariants.{Entry, Exit, Tail, Args}
 use Rattle.xray_image.specs.Program.{Program}
 use Rattle.handler_word.specs.declared.mark.Mark.{Mark}
 use Rattle.handler_word.specs.declared.mark.Mark.TheVariants.{Skipped, NoHandler, NotLogging, Recorded, RecordedArg}
@@ -213,22 +216,38 @@ no_patched_head f sled mark from bound x none other never =
     ends.patched_never program threads (code_at program threads script) bound sled mark from (λ e. other (sym e)) (never program threads script judges low))
 
 pub head_by_args : (f g : Follower) (sled : ℕ) (s : Sled) (mark : Mark) (from at bound : ℕ) (x : Option ℕ) → SameButGuesses f g → (mark ≡ Skipped → ⊥)
-    → slice_get f.image.now.sleds sled ≡ Some s → logs_args s.kind ≡ true → HeadOf f sled true from bound (Some at) → ByArgHandler g mark at bound x
+    → slice_get g.image.now.sleds sled ≡ Some s → logs_args s.kind ≡ true → HeadOf f sled true from bound (Some at) → ByArgHandler g mark at bound x
     → ByHead f sled mark from bound x
 head_by_args f g sled s mark from at bound x same other is kind found rest = λ program threads script judges low.
-    let there : slice_get program.sleds sled ≡ Some s = subst (λ (p : Program). slice_get p.sleds sled ≡ Some s) judges.image is in
+    let there : slice_get program.sleds sled ≡ Some s = subst (λ (p : Program). slice_get p.sleds sled ≡ Some s) (judges_again program threads script f g same judges).image is in
     ends.patched_then program threads (code_at program threads script) bound sled mark from at x (λ e. other (sym e)) (found program threads script judges low)
     (ends.by_args program threads (code_at program threads script) bound sled mark at x (ends.logs_as program sled s there ∙ kind)
     (rest program threads script (judges_again program threads script f g same judges) low))
 
 pub head_by_handler : (f g : Follower) (sled : ℕ) (s : Sled) (mark : Mark) (from at bound : ℕ) (x : Option ℕ) → SameButGuesses f g → (mark ≡ Skipped → ⊥)
-    → slice_get f.image.now.sleds sled ≡ Some s → logs_args s.kind ≡ false → HeadOf f sled true from bound (Some at) → ByHandler g mark at bound x
+    → slice_get g.image.now.sleds sled ≡ Some s → logs_args s.kind ≡ false → HeadOf f sled true from bound (Some at) → ByHandler g mark at bound x
     → ByHead f sled mark from bound x
 head_by_handler f g sled s mark from at bound x same other is kind found rest = λ program threads script judges low.
-    let there : slice_get program.sleds sled ≡ Some s = subst (λ (p : Program). slice_get p.sleds sled ≡ Some s) judges.image is in
+    let there : slice_get program.sleds sled ≡ Some s = subst (λ (p : Program). slice_get p.sleds sled ≡ Some s) (judges_again program threads script f g same judges).image is in
     ends.patched_then program threads (code_at program threads script) bound sled mark from at x (λ e. other (sym e)) (found program threads script judges low)
     (ends.by_handler program threads (code_at program threads script) bound sled mark at x (ends.logs_as program sled s there ∙ kind)
     (rest program threads script (judges_again program threads script f g same judges) low))
+
+pub no_args : (kind : SledKind) → (kind ≡ Entry) ⊎ ((kind ≡ Exit) ⊎ (kind ≡ Tail)) → logs_args kind ≡ false
+no_args kind (inl is) = ap logs_args is
+no_args kind (inr (inl is)) = ap logs_args is
+no_args kind (inr (inr is)) = ap logs_args is
+
+-- ---- a number that may be missing
+
+pub is_that : (o : Option ℕ) (y : ℕ) → option_eq nat_eq o (Some y) ≡ true → o ≡ Some y
+is_that None y e = absurd cc
+is_that (Some x) y e = ap Some (eqb-true x y e)
+
+pub is_another : (o : Option ℕ) (y : ℕ) → option_eq nat_eq o (Some y) ≡ false → o ≡ Some y → ⊥
+is_another o y e is =
+    let same : option_eq nat_eq o (Some y) ≡ true = ap (λ (p : Option ℕ). option_eq nat_eq p (Some y)) is ∙ eq-eqb y y refl in
+    absurd (let q : true ≡ false = sym same ∙ e in cc)
 
 -- ---- from the start on
 

@@ -26,6 +26,13 @@ passed_one f passing count awaited found none passed = λ i other low is. elim (
       subst (λ (a : Awaited). bounds_passing f.thread passing a ≡ false) equal none
 ]
 
+pub passed_next : (f g : Follower) (awaited : Awaited) → g ≡ record f { awaits = g.awaits } → slice_get f.course.now.awaits.items g.awaits ≡ Some awaited
+    → bounds_passing g.thread g.passing awaited ≡ false → ArePassed g f.passing g.awaits → ArePassed g f.passing (g.awaits + 1)
+passed_next f g awaited same found none passed =
+    passed_one g f.passing g.awaits awaited
+    (subst (λ (x : Follower). slice_get x.course.now.awaits.items g.awaits ≡ Some awaited) (sym same) found)
+    (subst (λ n. bounds_passing g.thread n awaited ≡ false) (ap (λ (x : Follower). x.passing) same) none) passed
+
 -- ---- the bound
 
 module _ (program : Program) (threads : ℕ) (script : List Command) (f : Follower) (judges : Judges program threads script f) where

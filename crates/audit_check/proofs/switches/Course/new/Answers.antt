@@ -1,4 +1,4 @@
-use Rattle.std.proofs.Common.{◌≡◌, ℕ, ◌<◌, ◌≤◌, refl, sym, ap, subst, ◌∙◌, arith}
+use Rattle.std.proofs.Common.{rules, ◌≡◌, ℕ, ◌<◌, ◌≤◌, refl, sym, ap, subst, ◌∙◌, arith}
 use Rattle.xray_image.specs.Program.{Program}
 use Rattle.patch_script.specs.Micros.{micro_at, start_of, total_of}
 use Rattle.patch_script.specs.Limits.{most_micros}
@@ -19,7 +19,7 @@ loop-place-init c =
     record {
       words = c.in_ok-new.ensures.words;
       switches = c.in_ok-new.ensures.switches script;
-      awaits = refl;
+      awaits = search rules;
       start = start;
       total = total;
       few = subst (λ n. n ≤ most_micros) total c.total-total.ensures.few;
