@@ -1,7 +1,8 @@
 -- The segments of a thread, one event after the other.
-use Rattle.std.proofs.Common.{◌≡◌, ℕ, zero, suc, ◌+◌, ◌-◌, ◌<◌, ◌≤◌, Bool, true, false, List, [], ◌∷◌, ◌++◌, length, drop, take, map, refl, sym, ap, subst, ◌∙◌, arith, append-nil, append_assoc, length-append, zero-add}
+use Rattle.std.proofs.Common.{◌≡◌, ℕ, zero, suc, ◌+◌, ◌-◌, ◌<◌, ◌≤◌, Bool, true, false, List, [], ◌∷◌, ◌++◌, length, drop, take, map, refl, sym, ap, subst, ◌∙◌, arith, append-nil, append_assoc, length-append, zero-add, inl, inr}
 use Rattle.std.specs.Prelude.{nat_le, if◌then◌else◌}
 use Rattle.std.specs.List.{enumerate_from, flat_map}
+use Rattle.std.proofs.lemmas.Bool.{cases_lt, le-leb, lt-leb}
 use Rattle.std.proofs.lemmas.Grind.{flat_map-append}
 use Rattle.std.proofs.Math.Seq.{take-append_seam}
 use Rattle.std.proofs.lemmas.List.FromFn.{length-enumerate_from}
@@ -32,13 +33,31 @@ drop-nil : {X : Type 0} (n : ℕ) → drop {A = X} n [] ≡ []
 drop-nil zero = refl
 drop-nil (suc n) = refl
 
+all_more : {X Y : Type 0} (f : Y → List ℕ) (g : X → Y) (xs : List X) (y : X) → flat_map f (map g (xs ++ y ∷ [])) ≡ flat_map f (map g xs) ++ f (g y)
+all_more f g [] y = append-nil (f (g y))
+all_more f g (x ∷ xs) y =
+    ap (λ (l : List ℕ). f (g x) ++ l) (all_more f g xs y) ∙ sym (append_assoc (f (g x)) (flat_map f (map g xs)) (f (g y)))
+
+choose : (b c : Bool) (l : List ℕ) → b ≡ c → (if b then l else []) ≡ (if c then l else [])
+choose b c l e = ap (λ (d : Bool). if d then l else []) e
+
+same_le : (n m : ℕ) → nat_le n m ≡ nat_le (suc n) (suc m)
+same_le n m = elim (cases_lt m n) [
+  | inl less ↦ lt-leb n m less ∙ sym (lt-leb (suc n) (suc m) (omega arith))
+  | inr more ↦ le-leb n m more ∙ sym (le-leb (suc n) (suc m) (omega arith))
+]
+
 one_more : {X Y : Type 0} (f : Y → List ℕ) (g : X → Y) (n : ℕ) (xs : List X) (y : X)
     → flat_map f (map g (drop n (xs ++ y ∷ []))) ≡ flat_map f (map g (drop n xs)) ++ (if nat_le n (length xs) then f (g y) else [])
 one_more f g zero [] y = append-nil (f (g y))
-one_more f g (suc n) [] y = ap (λ l. flat_map f (map g l)) (drop-nil n)
+one_more f g (suc n) [] y =
+    ap (λ l. flat_map f (map g l)) (drop-nil n) ∙ sym (choose (nat_le (suc n) 0) false (f (g y)) (lt-leb (suc n) 0 (omega arith)))
 one_more f g zero (x ∷ xs) y =
-    ap (λ l. f (g x) ++ l) (one_more f g zero xs y) ∙ sym (append_assoc (f (g x)) (flat_map f (map g xs)) (f (g y)))
-one_more f g (suc n) (x ∷ xs) y = one_more f g n xs y
+    all_more f g (x ∷ xs) y
+    ∙ ap (λ (l : List ℕ). flat_map f (map g (x ∷ xs)) ++ l)
+    (sym (choose (nat_le 0 (length (x ∷ xs))) true (f (g y)) (le-leb 0 (length (x ∷ xs)) (omega arith))))
+one_more f g (suc n) (x ∷ xs) y =
+    one_more f g n xs y ∙ ap (λ (b : Bool). flat_map f (map g (drop n xs)) ++ (if b then f (g y) else [])) (same_le n (length xs))
 
 pub kept_more : (setup : Setup) (lost thread : ℕ) (segs : List (List Event)) (last : List Event)
     → kept_bytes setup lost thread (segs ++ last ∷ [])

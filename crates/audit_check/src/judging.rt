@@ -217,7 +217,7 @@ fn walk(
     some_end();
     passings_fit();
     passings_are_limited();
-    'passings: loop {
+    'gates: loop {
         match cpu.want() {
             Want::Gate(passing) => {
                 let mark = mark_at(marks, passing);

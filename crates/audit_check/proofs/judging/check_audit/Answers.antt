@@ -18,11 +18,11 @@ loop-entry-init c = λ runs are.
     judged_none c.args.image.now (commands_of c.args.script.now.lines) (statement_of c.args.audit.now) c.args.trace.now runs c.none-first.result _
     c.none-first.ensures.ends c.none-first.ensures.marks c.none-first.ensures.counts c.in_ok-left.ensures
 
-pub thread-agreement-requires-clause-program : goal.thread-agreement-requires-clause-program
-thread-agreement-requires-clause-program c = c.requires.program ∙ sym c.in_ok-steps.ensures.program
+pub thread-requires-clause-program : goal.thread-requires-clause-program
+thread-requires-clause-program c = c.requires.program ∙ sym c.in_ok-steps.ensures.program
 
-pub thread-agreement-requires-clause-number : goal.thread-agreement-requires-clause-number
-thread-agreement-requires-clause-number c =
+pub thread-requires-clause-number : goal.thread-requires-clause-number
+thread-requires-clause-number c =
     let audit = c.args.audit.now in
     let i = c.loop-entry.entry-index in
     let entry = c.entry-item.result in
@@ -32,8 +32,8 @@ thread-agreement-requires-clause-number c =
     let within = entry_within audit c.requires.names i entry at in
     (omega (arith, number), omega (arith, number, within))
 
-pub thread-agreement-requires-clause-course : goal.thread-agreement-requires-clause-course
-thread-agreement-requires-clause-course c =
+pub thread-requires-clause-course : goal.thread-requires-clause-course
+thread-requires-clause-course c =
     subst (λ (p : Program). IsCourseOf p c.args.audit.now.setup.threads (commands_of c.args.script.now.lines) c.in_ok-course.course)
     (sym c.in_ok-steps.ensures.program) c.in_ok-course.ensures
 
@@ -50,7 +50,7 @@ loop-entry-preserved c = λ runs are.
     let agreement = c.in_ok-agreement.agreement in
     let new = c.note.new.self in
     let t = c.loop-entry.left in
-    let t' = c.thread-agreement.new.trace in
+    let t' = c.thread.new.trace in
     judged_entry program script audit c.requires.names trace runs are i entry agreement c.loop-entry.first new t t' at
     (subst (λ (p : Program). Finds p script audit trace entry agreement t t') c.in_ok-steps.ensures.program
     (λ earlier run plain marks lost. c.in_ok-agreement.ensures trace earlier run plain marks lost))

@@ -11,10 +11,10 @@ returns-then-begun-clause-compared c = λ setup thread lost events all before ha
     compared_last setup thread lost events c.args.self has (sym c.begun.ensures ∙ c.if-begun.true) all before c.args.trace.now c.compare.new.trace
     c.compare.ensures compared
 
-pub returns-else-begun-clause-segments : goal.returns-else-begun-clause-segments
-returns-else-begun-clause-segments c = λ setup thread lost events has.
+pub returns-clause-segments : goal.returns-clause-segments
+returns-clause-segments c = λ setup thread lost events has.
     count_none setup thread lost events c.args.self has (sym c.begun.ensures ∙ c.if-begun.false)
 
-pub returns-else-begun-clause-compared : goal.returns-else-begun-clause-compared
-returns-else-begun-clause-compared c = λ setup thread lost events all before has compared.
+pub returns-clause-compared : goal.returns-clause-compared
+returns-clause-compared c = λ setup thread lost events all before has compared.
     compared_empty setup thread lost events c.args.self has (sym c.begun.ensures ∙ c.if-begun.false) all before c.args.trace.now compared

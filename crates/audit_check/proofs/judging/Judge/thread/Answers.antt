@@ -9,8 +9,8 @@ use Rattle.audit_check.proofs.Finding.{along, found}
 use Rattle.audit_check.proofs.Onward.{plain_of_way}
 use Rattle.audit_check.proofs.judging.Judge.thread.Goals as goal
 
-pub new-follower-requires : goal.new-follower-requires
-new-follower-requires c = (c.requires.number.0, subst (λ n. c.args.entry.now.thread ≤ n) (sym c.requires.threads) c.requires.number.1)
+pub new-requires : goal.new-requires
+new-requires c = (c.requires.number.0, subst (λ n. c.args.entry.now.thread ≤ n) (sym c.requires.threads) c.requires.number.1)
 
 pub walk-walked-requires-clause-accepted : goal.walk-walked-requires-clause-accepted
 walk-walked-requires-clause-accepted c =
