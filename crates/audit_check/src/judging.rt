@@ -222,8 +222,9 @@ fn walk(
             Want::Gate(passing) => {
                 let mark = mark_at(marks, passing);
                 follower.judge(cpu.sled(), mark);
-                if let Some(event) = cpu.pass(mark) {
-                    recording.note(&event, trace);
+                match cpu.pass(mark) {
+                    Some(event) => recording.note(&event, trace),
+                    None => (),
                 }
             }
             Want::Done(end) => return Walked {

@@ -7,6 +7,7 @@ use Rattle.traced_run.specs.Runs.{ThreadRun}
 use Rattle.audit_check.specs.Rows.{AreRunsOf}
 use Rattle.audit_check.specs.Statements.{statement_of}
 use Rattle.audit_check.specs.Verdicts.{IsVerdict}
+use Rattle.audit_check.specs.declared.audit.AuditEntry.{AuditEntry}
 use Rattle.audit_check.specs.private.Switches.{IsCourseOf}
 use Rattle.audit_check.proofs.Agreeing.{Judged, judged_none}
 use Rattle.audit_check.proofs.Deciding.{Finds, entry_count, entry_number, entry_within, judged_entry, verdict_of_all}
@@ -26,8 +27,10 @@ thread-requires-clause-number c =
     let audit = c.args.audit.now in
     let i = c.loop-entry.entry-index in
     let entry = c.entry-item.result in
+    let items = c.deref-entry-items.result.now in
+    let there : slice_get items i ≡ Some entry = slice_get_read items (length items) i entry refl c.loop-entry-test.true c.entry-item.is in
     let at : slice_get audit.entries.items i ≡ Some entry =
-    slice_get_read audit.entries.items (length audit.entries.items) i entry refl c.loop-entry-test.true c.entry-item.is in
+    sym (ap (λ (l : List AuditEntry). slice_get l i) c.deref-entry-items.ensures.value) ∙ there in
     let number = entry_number audit c.requires.names i entry at in
     let within = entry_within audit c.requires.names i entry at in
     (omega (arith, number), omega (arith, number, within))
@@ -45,8 +48,10 @@ loop-entry-preserved c = λ runs are.
     let trace = c.args.trace.now in
     let i = c.loop-entry.entry-index in
     let entry = c.entry-item.result in
+    let items = c.deref-entry-items.result.now in
+    let there : slice_get items i ≡ Some entry = slice_get_read items (length items) i entry refl c.loop-entry-test.true c.entry-item.is in
     let at : slice_get audit.entries.items i ≡ Some entry =
-    slice_get_read audit.entries.items (length audit.entries.items) i entry refl c.loop-entry-test.true c.entry-item.is in
+    sym (ap (λ (l : List AuditEntry). slice_get l i) c.deref-entry-items.ensures.value) ∙ there in
     let agreement = c.in_ok-agreement.agreement in
     let new = c.note.new.self in
     let t = c.loop-entry.left in

@@ -1,4 +1,4 @@
-use Rattle.std.proofs.Common.{◌≡◌, [], Bool, ap, length, subst, sym, ◌∙◌, eq-eqb, eqb-true}
+use Rattle.std.proofs.Common.{◌≡◌, [], Bool, false, ap, length, subst, sym, ◌∙◌, eq-eqb, eqb-true}
 use Rattle.std.specs.Prelude.{◌&&◌, ◌↔◌, IsTrue}
 use Rattle.std.proofs.lemmas.List.{nil_from_length}
 use Rattle.audit_check.proofs.Comparing.{is_all}
@@ -20,4 +20,6 @@ returns-else-self c = λ trace bytes has.
     let decides : IsTrue empty.result ↔ (t.left.now ≡ []) =
     ((λ done. nil_from_length t.left.now (eqb-true (length t.left.now) 0 (sym empty.ensures ∙ done))),
     (λ is. empty.ensures ∙ eq-eqb (length t.left.now) 0 (ap length is))) in
-    subst (λ (b : Bool). IsTrue (b && empty.result) ↔ (trace ≡ bytes)) c.if-self.false (is_all trace bytes t empty.result decides has)
+    let at_false : IsTrue false ↔ (trace ≡ bytes) =
+    subst (λ (b : Bool). IsTrue (b && empty.result) ↔ (trace ≡ bytes)) c.if-self.false (is_all trace bytes t empty.result decides has) in
+    subst (λ (b : Bool). IsTrue b ↔ (trace ≡ bytes)) (sym c.if-self.false) at_false
