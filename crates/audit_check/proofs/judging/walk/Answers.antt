@@ -65,8 +65,8 @@ gates-preserved-in-Some c =
           c.note.ensures.noted c.note.ensures.compared (kept.walked way passed end last is plain none has);
     }
 
-pub gates-preserved-in-None : goal.gates-preserved-in-None
-gates-preserved-in-None c =
+pub gates-preserved : goal.gates-preserved
+gates-preserved c =
     let s = c.args.cpu.now in
     let t = c.gates.cpu in
     let u = c.pass.new.self in
