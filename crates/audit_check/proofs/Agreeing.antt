@@ -55,7 +55,7 @@ bytes_next setup runs i run at =
     let before = take i (enumerate_from 1 runs) in
     let header = header_bytes (run_header setup) in
     let buffers : flat_map (thread_buffers setup) (take (i + 1) (enumerate_from 1 runs))
-        ≡ flat_map (thread_buffers setup) before ++ thread_buffers setup (1 + i, run) =
+    ≡ flat_map (thread_buffers setup) before ++ thread_buffers setup (1 + i, run) =
     ap (λ m. flat_map (thread_buffers setup) (take m (enumerate_from 1 runs))) (add-one i) ∙ ap (flat_map (thread_buffers setup)) (take_next 1 i runs run at)
     ∙ (flat_map-append (thread_buffers setup) before ((1 + i, run) ∷ [])
     ∙ ap (λ (l : List Filled). flat_map (thread_buffers setup) before ++ l) (append-nil (thread_buffers setup (1 + i, run)))) in
@@ -66,13 +66,13 @@ bytes_next setup runs i run at =
 -- ---- the first threads
 
 module _ (program : Program) (script : List Command) (statement : Statement) (trace : List ℕ) (runs : List ThreadRun) where
-  abbrev Ends : ℕ → Type 0
+  abbrev pub Ends : ℕ → Type 0
   Ends number = EndsRow program script statement trace runs number
 
-  abbrev Marks : ℕ → Type 0
+  abbrev pub Marks : ℕ → Type 0
   Marks number = MarksRow program script statement trace runs number
 
-  abbrev Counts : ℕ → Type 0
+  abbrev pub Counts : ℕ → Type 0
   Counts number = CountsRow program script statement trace runs number
 
   -- the first threads were judged
@@ -102,7 +102,7 @@ module _ (program : Program) (script : List Command) (statement : Statement) (tr
   decides_row Agree b i said run at at' decides =
       ((λ is. row_of Agree i said run at at' (decides.0 is)), λ row. decides.1 (of_row Agree i said run at at' row))
 
-  abbrev way_of : ℕ → ThreadAudit → Way
+  abbrev pub way_of : ℕ → ThreadAudit → Way
   way_of i said = record {
     program = program;
     script = script;

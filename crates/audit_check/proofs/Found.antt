@@ -66,10 +66,10 @@ module _ (program : Program) (threads : ℕ) (script : List Command) (thread : �
   pub marks_found : IsTrue ((length said.marks == said.passings) && is_some f.place) ↔ MarksAgree program threads script thread said run
   marks_found = (
     (λ both.
-    let each : length said.marks ≡ said.passings = eqb-true (length said.marks) said.passings (left_of (length said.marks == said.passings) (is_some f.place) both) in
-    record { each = each; follow = (follows_if each).0 (right_of (length said.marks == said.passings) (is_some f.place) both) }),
+        let each : length said.marks ≡ said.passings = eqb-true (length said.marks) said.passings (left_of (length said.marks == said.passings) (is_some f.place) both) in
+        record { each = each; follow = (follows_if each).0 (right_of (length said.marks == said.passings) (is_some f.place) both) }),
     (λ agree. both_of (length said.marks == said.passings) (is_some f.place) (eq-eqb (length said.marks) said.passings agree.each)
-    ((follows_if agree.each).1 agree.follow)),
+        ((follows_if agree.each).1 agree.follow)),
   )
     where
       left_of : (a b : Bool) → IsTrue (a && b) → a ≡ true

@@ -1,5 +1,5 @@
 -- A thread whose marks are judged, before its first passing and after one more.
-use Rattle.std.proofs.Common.{◌≡◌, ℕ, ◌+◌, ◌<◌, ◌≤◌, List, [], ◌∷◌, ◌++◌, length, Option, Some, None, refl, sym, ap, subst, ◌∙◌, arith, length-append}
+use Rattle.std.proofs.Common.{◌≡◌, Bor, ℕ, ◌+◌, ◌<◌, ◌≤◌, List, [], ◌∷◌, ◌++◌, length, Option, Some, None, refl, sym, ap, subst, ◌∙◌, arith, length-append}
 use Rattle.std.specs.Prelude.{All, IfSome, MatchOption, slice_get}
 use Rattle.std.proofs.lemmas.List.Elements.{All-append, All-cons, All-nil}
 use Rattle.xray_image.specs.Program.{Program}
@@ -11,6 +11,7 @@ use Rattle.patch_script.specs.Micros.{hold_of, micros, start_of, total_of}
 use Rattle.machine_step.specs.Follows.{MarksFollow}
 use Rattle.machine_step.specs.Loads.{is_held_at}
 use Rattle.audit_check.specs.declared.follower.Follower.{Follower}
+use Rattle.audit_check.specs.declared.switches.Course.{Course}
 use Rattle.audit_check.specs.private.Judging.{ArePassed, FindsBound, HasJudged, IsReady, Judges, bounds_passing}
 use Rattle.audit_check.specs.private.Switches.{IsCourseOf}
 use Rattle.audit_check.specs.private.Turns.{IsLeast}
@@ -36,6 +37,22 @@ least_within code bound last mark tree from (Some end) low high (way, least) =
     let some = reaches_within code bound last mark tree from end low high way in
     let early = least some.0 some.1 in
     let within = some.2 in omega arith
+
+-- another follower of the same thread
+pub record Same (old new : Follower) : Type 0 where
+  pub image : new.image ≡ old.image
+  pub course : new.course ≡ old.course
+  pub thread : new.thread ≡ old.thread
+  pub hold : new.hold ≡ old.hold
+  pub heads : length new.passed.heads.items ≡ length old.passed.heads.items
+
+pub same_ready : (old new : Follower) → Same old new → IsReady old → IsReady new
+same_ready old new same ready = record {
+  passed = same.heads ∙ (ready.passed ∙ ap (λ (i : Bor Program). length i.now.sleds) (sym same.image));
+  heads = ap (λ (c : Bor Course). length c.now.switches.heads.items) same.course ∙ (ready.heads ∙ ap (λ (i : Bor Program). length i.now.sleds) (sym same.image));
+  some = subst (λ n. 0 < n) (sym same.thread) ready.some;
+  within = let low = ready.within in let count = ap (λ (c : Bor Course). length c.now.switches.releases.items) same.course in omega (arith, low, count, same.thread);
+}
 
 module _ (program : Program) (threads : ℕ) (script : List Command) where
   abbrev code : ℕ → ℕ → ℕ
@@ -67,27 +84,11 @@ module _ (program : Program) (threads : ℕ) (script : List Command) where
   EndsAt f bound sled mark place end =
       MatchOption place (end ≡ None) (λ from. IsLeast (Reaches code bound mark (passing_tree program threads f.thread (is_held_at f.hold f.passing) sled) from) end)
 
-  -- another follower of the same thread
-  pub record Same (old new : Follower) : Type 0 where
-    pub image : new.image ≡ old.image
-    pub course : new.course ≡ old.course
-    pub thread : new.thread ≡ old.thread
-    pub hold : new.hold ≡ old.hold
-    pub heads : length new.passed.heads.items ≡ length old.passed.heads.items
-
-  same_ready : (old new : Follower) → Same old new → IsReady old → IsReady new
-  same_ready old new same ready = record {
-    passed = same.heads ∙ (ready.passed ∙ ap (λ i. length i.now.sleds) (sym same.image));
-    heads = ap (λ c. length c.now.switches.heads.items) same.course ∙ (ready.heads ∙ ap (λ i. length i.now.sleds) (sym same.image));
-    some = subst (λ n. 0 < n) (sym same.thread) ready.some;
-    within = let low = ready.within in let count = ap (λ c. length c.now.switches.releases.items) same.course in omega (arith, low, count, same.thread);
-  }
-
-  same_judges : (old new : Follower) → Same old new → Judges program threads script old → Judges program threads script new
+  pub same_judges : (old new : Follower) → Same old new → Judges program threads script old → Judges program threads script new
   same_judges old new same judges = record {
     ready = same_ready old new same judges.ready;
-    image = ap (λ i. i.now) same.image ∙ judges.image;
-    course = subst (λ c. IsCourseOf program threads script c.now) (sym same.course) judges.course;
+    image = ap (λ (i : Bor Program). i.now) same.image ∙ judges.image;
+    course = subst (λ (c : Bor Course). IsCourseOf program threads script c.now) (sym same.course) judges.course;
     hold = same.hold ∙ (judges.hold ∙ ap (λ t. hold_of t script) (sym same.thread));
   }
 

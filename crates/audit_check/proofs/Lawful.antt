@@ -67,7 +67,7 @@ sum_of_all setup f g same n (run ∷ runs) =
 -- ---- counts
 
 -- as many passings are recorded as events are
-recorded_is : (passed : List Passing) (marks : List Mark) → length marks ≡ length passed → recorded_count marks ≡ length (recorded passed marks)
+pub recorded_is : (passed : List Passing) (marks : List Mark) → length marks ≡ length passed → recorded_count marks ≡ length (recorded passed marks)
 recorded_is [] [] same = refl
 recorded_is [] (mark ∷ marks) same = absurd (omega (arith, same))
 recorded_is (p ∷ passed) [] same = absurd (omega (arith, same))

@@ -80,10 +80,12 @@ module _ (code : ℕ → ℕ → ℕ) (bound : ℕ) (mark : Mark) where
     side_then wants place at None dead (met, first) never = λ end way.
         let (there, met', way') = only_side wants dead place end way in
         never end (reaches_earlier code bound mark (side wants) at there end (first there met') way')
-    side_then wants place at (Some end) dead (met, first) (way, least) =
-        (into wants place end (at, met, way), λ other way'.
-        let (there, met', way'') = only_side wants dead place other way' in
-        least other (reaches_earlier code bound mark (side wants) at there other (first there met') way''))
+    side_then wants place at (Some end) dead (met, first) (way, least) = (
+      into wants place end (at, met, way),
+      λ other way'.
+          let (there, met', way'') = only_side wants dead place other way' in
+          least other (reaches_earlier code bound mark (side wants) at there other (first there met') way''),
+    )
 
     pub side_never : (wants : Bool) (place : ℕ) → IsDead (side (not wants)) → IsLeast (At wants place) None
         → IsLeast (To (Node word recording next) place) None

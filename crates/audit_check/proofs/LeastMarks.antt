@@ -90,11 +90,13 @@ module _ (program : Program) (threads : ℕ) (code : ℕ → ℕ → ℕ) (start
       let parts = split sleds marks sled mark end all low follow in
       never end (reaches_earlier code (bound (length sleds)) mark (passing_tree program threads thread (is_held_at hold (length sleds)) sled)
       place parts.0 end (least parts.0 parts.1) parts.2)
-  least_after sleds marks sled mark place (Some end) all low (here, least) (next, first) =
-      (join sleds marks sled mark place end all low here next, λ other follow.
-      let parts = split sleds marks sled mark other all low follow in
-      first other (reaches_earlier code (bound (length sleds)) mark (passing_tree program threads thread (is_held_at hold (length sleds)) sled)
-      place parts.0 other (least parts.0 parts.1) parts.2))
+  least_after sleds marks sled mark place (Some end) all low (here, least) (next, first) = (
+    join sleds marks sled mark place end all low here next,
+    λ other follow.
+        let parts = split sleds marks sled mark other all low follow in
+        first other (reaches_earlier code (bound (length sleds)) mark (passing_tree program threads thread (is_held_at hold (length sleds)) sled)
+        place parts.0 other (least parts.0 parts.1) parts.2),
+  )
 
   pub never_after : (sleds : List ℕ) (marks : List Mark) (sled : ℕ) (mark : Mark) → Exist sleds → sled < length program.sleds
       → IsLeast (Follow sleds marks) None → IsLeast (Follow (sleds ++ sled ∷ []) (marks ++ mark ∷ [])) None

@@ -26,8 +26,11 @@ module _ (program : Program) (threads thread : ℕ) (some : 0 < thread) (within 
   handler_own = ((λ e. omega (arith, e)), λ value. either_own release (value == 0) (Leaf NoHandler) (state_tree program Recorded) tt (state_own Recorded))
 
   arg_handler_own : IsOwn release (arg_handler_tree program threads)
-  arg_handler_own = ((λ e. omega (arith, e)), λ value.
-      either_own release (value == 0) (handler_tree program) (state_tree program RecordedArg) handler_own (state_own RecordedArg))
+  arg_handler_own = (
+    (λ e. omega (arith, e)),
+    λ value.
+        either_own release (value == 0) (handler_tree program) (state_tree program RecordedArg) handler_own (state_own RecordedArg),
+  )
 
   handlers_own : (sled : ℕ) → IsOwn release (handlers_tree program threads sled)
   handlers_own sled =
@@ -37,8 +40,11 @@ module _ (program : Program) (threads thread : ℕ) (some : 0 < thread) (within 
   id_own sled low = ((λ e. omega (arith, e)), λ _. ((λ e. omega (arith, e)), λ _. ((λ e. omega (arith, e)), λ _. handlers_own sled)))
 
   head_own : (sled : ℕ) → sled < length program.sleds → IsOwn release (head_tree program threads sled)
-  head_own sled low = ((λ e. omega (arith, e)), λ value.
-      either_own release (value == patched_head) (id_tree program threads sled) (Leaf Skipped) (id_own sled low) tt)
+  head_own sled low = (
+    (λ e. omega (arith, e)),
+    λ value.
+        either_own release (value == patched_head) (id_tree program threads sled) (Leaf Skipped) (id_own sled low) tt,
+  )
 
   passing_own : (held : Bool) (sled : ℕ) → sled < length program.sleds → IsOwn release (passing_tree program threads thread held sled)
   passing_own true sled low = (refl, head_own sled low)

@@ -165,20 +165,23 @@ module _ (program : Program) (threads : ℕ) (code : ℕ → ℕ → ℕ) (bound
 
   -- ---- a passing that finds a handler of either kind, and a log that doesn't record
 
-  abbrev Arg : ℕ → ℕ → Type 0
+  abbrev pub Arg : ℕ → ℕ → Type 0
   Arg from at = Met (arg_handler_word program threads) is_set true from at
 
   abbrev Handler : ℕ → ℕ → Type 0
   Handler from at = Met (handler_word program) is_set true from at
 
-  abbrev Either : ℕ → ℕ → Type 0
+  abbrev pub Either : ℕ → ℕ → Type 0
   Either from at = FindsHandler code program threads bound from at
 
   pub first_either : (from : ℕ) → IsLeast (Arg from) (Some from) → IsLeast (Either from) (Some from)
-  first_either from (met, least) = (inl met, λ n either. elim either [
-    | inl there ↦ there.low
-    | inr (at, there, later) ↦ let low = there.low in let high = later.low in omega arith
-  ])
+  first_either from (met, least) = (
+    inl met,
+    λ n either. elim either [
+      | inl there ↦ there.low
+      | inr (at, there, later) ↦ let low = there.low in let high = later.low in omega arith
+    ],
+  )
 
   pub least_of_both : (from : ℕ) (x y : Option ℕ) → IsLeast (Arg from) x → (x ≡ Some from → ⊥) → IsLeast (Handler from) y → IsLeast (Either from) (lesser x y)
   least_of_both from x y by_arg other by_handler =
@@ -263,11 +266,14 @@ module _ (program : Program) (threads : ℕ) (code : ℕ → ℕ → ℕ) (bound
       ends.into code bound NotLogging (arg_handler_word program threads) Recorded is_set (state_tree program RecordedArg) (handler_tree program)
       (λ value. if value == 0 then handler_tree program else state_tree program RecordedArg)
       (λ value e. choose_set value (state_tree program RecordedArg) (handler_tree program) e)
-      (λ value e. choose_unset value (state_tree program RecordedArg) (handler_tree program) e) false from n
-      (there, met, ends.into code bound NotLogging (handler_word program) Recorded is_set (state_tree program Recorded) (Leaf NoHandler)
-      (λ value. if value == 0 then Leaf NoHandler else state_tree program Recorded)
-      (λ value e. choose_set value (state_tree program Recorded) (Leaf NoHandler) e)
-      (λ value e. choose_unset value (state_tree program Recorded) (Leaf NoHandler) e) true there n (at, met', off))
+      (λ value e. choose_unset value (state_tree program RecordedArg) (handler_tree program) e) false from n (
+        there,
+        met,
+        ends.into code bound NotLogging (handler_word program) Recorded is_set (state_tree program Recorded) (Leaf NoHandler)
+            (λ value. if value == 0 then Leaf NoHandler else state_tree program Recorded)
+            (λ value e. choose_set value (state_tree program Recorded) (Leaf NoHandler) e)
+            (λ value e. choose_unset value (state_tree program Recorded) (Leaf NoHandler) e) true there n (at, met', off),
+      )
 
   pub either_then : (from at : ℕ) (x : Option ℕ) → IsLeast (Either from) (Some at) → IsLeast (Met (state_word program) is_recording false at) x
       → Finds NotLogging (arg_handler_tree program threads) from x

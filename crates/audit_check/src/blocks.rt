@@ -1,16 +1,16 @@
 //! A trace, compared with the segments of runs.
 
-ghost use Rattle.std.specs.Prelude.{◌≡◌, ◌<◌, ◌≤◌, ◌+◌, ◌^◌, ◌∷◌, ◌++◌, ◌↔◌, [], true, ℕ, List, IfOk, IsTrue, if◌then◌else◌, length, nat_le};
+ghost use Rattle.std.specs.Prelude.{◌≡◌, ◌<◌, ◌≤◌, ◌+◌, ◌^◌, ◌∷◌, ◌++◌, ◌↔◌, [], ℕ, List, IfOk, IsTrue, if◌then◌else◌, length, nat_le};
 ghost use Rattle.fdr_record.specs.declared.event.Event.{Event};
 ghost use Rattle.fdr_record.specs.declared.rec.Rec.TheVariants.{Extents};
 ghost use Rattle.fdr_record.specs.{Recordable.{IsRecordable}, Records.{record_bytes}};
-ghost use Rattle.fdr_buffer.specs.declared.buffer.TheConstants.{LEAST_SIZE};
 ghost use Rattle.fdr_buffer.specs.Segments.{segments};
 ghost use Rattle.fdr_file.specs.Files.{block_bytes, header_bytes};
 ghost use Rattle.machine_step.specs.declared.setup.Setup.{Setup};
 ghost use Rattle.machine_step.specs.Setups.{IsSetup};
 ghost use Rattle.trace_flush.specs.Flush.{run_header};
-ghost use Rattle.audit_check.specs.private.Blocks.{HasCompared, HasNoted, kept_bytes, whole_of};
+ghost use Rattle.xray_io.specs.Memory.{sink_bytes};
+ghost use Rattle.audit_check.specs.private.Blocks.{HasCompared, HasNoted, begun_with, kept_bytes, whole_of};
 
 use fdr_buffer::{Buffer, a_segment_grows, one_event_fits};
 use fdr_file::write_file;
@@ -18,13 +18,13 @@ use fdr_record::{Event, METADATA_BYTES, Rec, put_rec};
 use machine_step::Setup;
 use std::alloc::Global;
 use trace_flush::trace_header;
-use xray_io::{MemSink, NoMemory, Wall};
+use xray_io::{MemSink, NoMemory, Wall, WriteFault};
 
 /// The bytes of a trace that aren't compared yet.
 #[derive(Clone, Copy)]
 pub(crate) struct TraceLeft<'a> {
     left: &'a [u8],
-    /// Whether all bytes before them were the same.
+    /// Whether all bytes before them were the same. If not, it doesn't matter which bytes are left.
     same: bool,
 }
 
@@ -37,10 +37,7 @@ impl<'a> TraceLeft<'a> {
     ) -> Result<TraceLeft<'a>, NoMemory>
         ensures { IfOk result (HasCompared trace.now (header_bytes (run_header setup.now))) }
     {
-        let mut header = MemSink::new(alloc, Vec::new(alloc));
-        if write_file(&trace_header(setup), &[], &mut header).is_err() {
-            return Err(NoMemory);
-        }
+        let header = header_of(alloc, setup)?;
         let mut trace = TraceLeft {
             left: trace,
             same: true,
@@ -55,8 +52,8 @@ impl<'a> TraceLeft<'a> {
             → HasCompared trace (before ++ bytes.now) self.new }
     {
         match self.left.strip_prefix(bytes) {
-            Some(left) if self.same => self.left = left,
-            _ => self.same = false,
+            Some(left) => self.left = left,
+            None => self.same = false,
         }
     }
 
@@ -75,7 +72,20 @@ impl<'a> TraceLeft<'a> {
         ensures { (trace bytes : List ℕ) → HasCompared trace bytes self.now
             → IsTrue result ↔ (trace ≡ bytes) }
     {
-        self.same && self.left.is_empty()
+        let none_left = self.left.is_empty();
+        self.same && none_left
+    }
+}
+
+/// The header of a trace of this setup.
+fn header_of(alloc: Global, setup: &Setup) -> Result<MemSink, NoMemory>
+    ensures { IfOk result (λ sink. sink_bytes sink ≡ header_bytes (run_header setup.now)) }
+{
+    let header = trace_header(setup);
+    let mut sink = MemSink::new(alloc, Vec::new(alloc));
+    match write_file(&header, &[], &mut sink) {
+        Ok(()) => Ok(sink),
+        Err(WriteFault) => Err(NoMemory),
     }
 }
 
@@ -89,7 +99,7 @@ fn extents(size: u64) -> [u8; METADATA_BYTES]
 }
 
 /// The events of a thread, on their way into segments. Only the segment that is open is kept. Those that
-/// are whole were compared with the trace, but for the first ones, which are lost.
+/// are whole were compared with the trace, except the first ones, which are lost.
 #[derive(Drop)]
 pub(crate) struct Recording {
     /// The open segment. It isn't begun before the first event.
@@ -140,15 +150,15 @@ impl Recording {
             trace.new }
     {
         a_segment_grows();
-        one_event_fits();
         if !self.buffer.begun() {
-            self.begin();
-        } else if !self.buffer.fits(event) {
+            self.begin(event);
+        } else if self.buffer.fits(event) {
+            self.buffer.put(event);
+        } else {
             self.compare(trace);
             self.whole += 1;
-            self.begin();
+            self.begin(event);
         }
-        self.buffer.put(event);
     }
 
     /// Ends the last segment. Answers how many there are.
@@ -169,21 +179,15 @@ impl Recording {
         }
     }
 
-    /// Begins the next segment.
-    fn begin(&mut self)
-        ensures least { LEAST_SIZE ≤ self.old.buffer.size }
-        ensures begun { self.new ≡ record self.old { buffer = record {
-          size = self.old.buffer.size;
-          begun = true;
-          thread = self.old.thread;
-          serial = self.old.whole;
-          wall = self.old.wall;
-          pid = self.old.pid;
-          events = [];
-        } } }
+    /// Begins the next segment, with an event.
+    fn begin(&mut self, event: &Event)
+        requires { IsRecordable event.now }
+        ensures { self.new ≡ begun_with self.old event.now }
     {
+        one_event_fits();
         self.buffer
             .begin(self.thread, self.whole, self.wall, self.pid);
+        self.buffer.put(event);
     }
 
     /// Compares the open segment with the trace, unless it is lost.

@@ -1,14 +1,15 @@
 //! The marks of a thread, judged one after the other.
 
-ghost use Rattle.std.specs.Prelude.{◌≡◌, ◌<◌, ◌≤◌, ◌+◌, ◌^◌, ◌∷◌, ◌++◌, [], ℕ, List, length, IfOk, is_some};
+ghost use Rattle.std.specs.Prelude.{◌≡◌, ◌<◌, ◌≤◌, ◌+◌, ◌^◌, ◌∷◌, ◌++◌, [], ℕ, true, List, length, IfOk, is_some};
 ghost use Rattle.handler_word.specs.declared.mark.Mark.{Mark};
 ghost use Rattle.patch_script.specs.declared.command.Command.{Command};
 ghost use Rattle.patch_script.specs.Refusals.{commands_of};
-ghost use Rattle.sled_words.specs.Words.{arg_handler_word, handler_word, state_word};
+ghost use Rattle.sled_words.specs.declared.part.Part.TheVariants.{Head};
+ghost use Rattle.sled_words.specs.Words.{arg_handler_word, handler_word, release_word, state_word, word_of};
 ghost use Rattle.machine_step.specs.Loads.{is_held_at};
 ghost use Rattle.xray_image.specs.Program.{Program};
-ghost use Rattle.audit_check.specs.private.Judging.{ArePassed, FindsBound, FindsEitherHandler, FindsEnd, FindsPlace, HasJudged, IsReady, SameButGuesses, bounds_passing, lesser};
-ghost use Rattle.audit_check.specs.private.Switches.{IsCourseOf, is_recording, is_set};
+ghost use Rattle.audit_check.specs.private.Judging.{ArePassed, FindsBound, FindsEitherHandler, FindsEnd, FindsNext, FindsPlace, HasJudged, IsReady, SameButGuesses, StopsAt, bounds_passing, lesser};
+ghost use Rattle.audit_check.specs.private.Switches.{IsCourseOf, is_patched, is_recording, is_set};
 ghost use Rattle.audit_check.specs.private.Ways.{arg_handler_tree, handler_tree, head_tree, passing_tree};
 
 use crate::switches::{Awaited, Course};
@@ -125,9 +126,7 @@ impl<'a> Follower<'a> {
             → HasJudged program threads script self.new (sleds ++ sled ∷ []) (marks ++ mark ∷ []) }
     {
         let bound = self.bound();
-        if let Some(place) = self.place {
-            self.place = self.end_of(sled, mark, place, bound);
-        }
+        self.place = self.next_place(sled, mark, bound);
         self.passing += 1;
     }
 
@@ -138,19 +137,43 @@ impl<'a> Follower<'a> {
         ensures passed { ArePassed self.old self.old.passing self.old.awaits
             → ArePassed self.new self.old.passing self.new.awaits }
     {
-        let awaits = &self.course.awaits;
-        'awaits: while self.awaits < awaits.len()
-            && !awaits[self.awaits].bounds(self.thread, self.passing)
-        {
-            self.awaits += 1;
-        }
-        match awaits.get(self.awaits) {
+        self.pass_awaits();
+        match self.course.awaits.get(self.awaits) {
             Some(awaited) => awaited.place,
             None => self.course.total,
         }
     }
 
-    /// The least place at which the next passing may end with its mark.
+    /// Goes on to the first await that bounds the next passing, or to the end of the awaits.
+    #[inline]
+    fn pass_awaits(&mut self)
+        ensures same { self.new ≡ record self.old { awaits = self.new.awaits } }
+        ensures passed { ArePassed self.old self.old.passing self.old.awaits
+            → ArePassed self.new self.old.passing self.new.awaits }
+        ensures stops { StopsAt self.new self.old.passing self.new.awaits }
+    {
+        let awaits = &self.course.awaits;
+        'awaits: while self.awaits < awaits.len() {
+            if awaits[self.awaits].bounds(self.thread, self.passing) {
+                return;
+            }
+            self.awaits += 1;
+        }
+    }
+
+    /// The least place at which the next passing may end with its mark, after those before it.
+    #[inline]
+    fn next_place(&mut self, sled: u32, mark: Mark, bound: u32) -> Option<u32>
+        requires ready { IsReady self.old }
+        requires sled { sled < length self.old.image.now.sleds }
+        ensures same { SameButGuesses self.old self.new }
+        ensures place { FindsNext self.old sled mark bound result }
+    {
+        let place = self.place?;
+        self.end_of(sled, mark, place, bound)
+    }
+
+    /// The least place at which the next passing may end with its mark, from a place on.
     #[inline]
     fn end_of(&mut self, sled: u32, mark: Mark, from: u32, bound: u32) -> Option<u32>
         requires ready { IsReady self.old }
@@ -159,13 +182,12 @@ impl<'a> Follower<'a> {
         ensures end { FindsEnd self.old (λ program threads. passing_tree program threads self.old.thread
             (is_held_at self.old.hold self.old.passing) sled) mark from bound result }
     {
-        let at = if self.hold == Some(self.passing) {
-            let release = &self.course.switches.releases[self.thread as usize - 1];
-            release.first(true, from, bound, &mut self.passed.release)?
+        if self.hold == Some(self.passing) {
+            let at = self.release(from, bound)?;
+            self.end_from_head(sled, mark, at, bound)
         } else {
-            from
-        };
-        self.end_from_head(sled, mark, at, bound)
+            self.end_from_head(sled, mark, from, bound)
+        }
     }
 
     /// The same from the load of the head on.
@@ -176,13 +198,11 @@ impl<'a> Follower<'a> {
         ensures same { SameButGuesses self.old self.new }
         ensures end { FindsEnd self.old (λ program threads. head_tree program threads sled) mark from bound result }
     {
-        let head = &self.course.switches.heads[sled as usize];
-        let passed = &mut self.passed.heads[sled as usize];
         if mark == Mark::Skipped {
-            return head.first(false, from, bound, passed);
+            return self.head(sled, false, from, bound);
         }
         // The other words of the sled may have any values, and are loaded at the same place.
-        let at = head.first(true, from, bound, passed)?;
+        let at = self.head(sled, true, from, bound)?;
         match self.image.sled(sled).kind {
             SledKind::Args => self.end_from_arg_handler(mark, at, bound),
             SledKind::Entry | SledKind::Exit | SledKind::Tail => self.end_from_handler(
@@ -246,6 +266,29 @@ impl<'a> Follower<'a> {
         }
         // Here no argument handler is set.
         lesser(by_argument, self.handler(true, from, bound))
+    }
+
+    /// The first place at which the thread's release word lets it go on.
+    #[inline]
+    fn release(&mut self, from: u32, bound: u32) -> Option<u32>
+        requires { IsReady self.old }
+        ensures same { SameButGuesses self.old self.new }
+        ensures place { FindsPlace self.old (λ program threads. release_word program self.old.thread) is_set true from bound result }
+    {
+        let release = &self.course.switches.releases[self.thread as usize - 1];
+        release.first(true, from, bound, &mut self.passed.release)
+    }
+
+    /// The first place at which the head of a sled is patched, or isn't.
+    #[inline]
+    fn head(&mut self, sled: u32, patched: bool, from: u32, bound: u32) -> Option<u32>
+        requires ready { IsReady self.old }
+        requires sled { sled < length self.old.image.now.sleds }
+        ensures same { SameButGuesses self.old self.new }
+        ensures place { FindsPlace self.old (λ program threads. word_of sled Head) is_patched patched from bound result }
+    {
+        let passed = &mut self.passed.heads[sled as usize];
+        self.course.switches.heads[sled as usize].first(patched, from, bound, passed)
     }
 
     /// The first place at which the handler is set, or isn't.

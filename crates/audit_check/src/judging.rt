@@ -1,6 +1,6 @@
 //! The verdict on an audit and a trace.
 
-ghost use Rattle.std.specs.Prelude.{◌≡◌, ◌<◌, ◌≤◌, ◌+◌, ◌↔◌, ◌++◌, ℕ, List, [], None, IfOk, IsTrue, length};
+ghost use Rattle.std.specs.Prelude.{◌≡◌, ◌<◌, ◌≤◌, ◌+◌, ◌-◌, ◌==◌, ◌&&◌, ◌↔◌, ◌++◌, ℕ, List, [], None, IfOk, IsTrue, is_some, length, sum_by};
 ghost use Rattle.xray_image.specs.Program.{IsAccepted, Program};
 ghost use Rattle.patch_script.specs.Refusals.{commands_of};
 ghost use Rattle.machine_step.specs.declared.end.End.{End as How};
@@ -8,7 +8,7 @@ ghost use Rattle.machine_step.specs.{PlainStep.{Passing, PlainRun, State}, Setup
 ghost use Rattle.traced_run.specs.Runs.{ThreadRun};
 ghost use Rattle.audit_check.specs.private.Judging.{IsReady};
 ghost use Rattle.audit_check.specs.private.Switches.{IsCourseOf};
-ghost use Rattle.audit_check.specs.private.Walks.{HasWalked, IsFound, IsWayOf, KeepsLast, Way, first_of, mark_or_skipped, verdict_by};
+ghost use Rattle.audit_check.specs.private.Walks.{AreCounted, HasWalked, IsFound, IsWayOf, KeepsLast, Way, first_of, mark_or_skipped, verdict_by};
 ghost use Rattle.audit_check.specs.Rows.{RecycledAgrees};
 ghost use Rattle.audit_check.specs.Statements.{NamesThreads, most_marks, said_by, statement_of};
 ghost use Rattle.audit_check.specs.Verdicts.{IsJudged};
@@ -19,7 +19,7 @@ use crate::follower::Follower;
 use crate::switches::Course;
 use crate::verdict::Verdict;
 use handler_word::{Mark, Marks};
-use machine_step::{Cpu, End, Setup, Steps, Want, one_end, some_end};
+use machine_step::{Cpu, End, Setup, Steps, Want, one_end, passings_are_limited, some_end};
 use patch_script::Script;
 use std::alloc::Global;
 use traced_run::passings_fit;
@@ -138,22 +138,39 @@ impl Judge<'_> {
             None,
             self.setup.limits,
         )?;
-        let walked = walk(
-            &mut cpu,
-            &entry.marks,
-            &mut follower,
-            &mut recording,
-            trace,
-        );
+        let walked = walk(&mut cpu, &entry.marks, &mut follower, &mut recording, trace);
         let segments = recording.finish(trace);
         Ok(Agreement {
-            ends: entry.end == walked.end && entry.passings == walked.passings,
-            marks: entry.marks.len() == entry.passings && follower.follows(),
-            counts: entry.recorded == entry.marks.recorded()
-                && entry.segments == segments
-                && is_kept(entry),
+            ends: ends_agree(entry, walked),
+            marks: marks_agree(entry, &follower),
+            counts: counts_agree(entry, segments),
         })
     }
+}
+
+/// Whether a thread is stated to end as it does, and to make as many passings.
+fn ends_agree(entry: &AuditEntry, walked: Walked) -> bool
+    ensures { IsTrue result ↔ (entry.now.end ≡ walked.end) × (entry.now.passings ≡ walked.passings) }
+{
+    entry.end == walked.end && entry.passings == walked.passings
+}
+
+/// Whether a thread has a mark for each passing that is stated, and the marks follow the script.
+fn marks_agree(entry: &AuditEntry, follower: &Follower) -> bool
+    ensures { result ≡ (length entry.now.marks.items == entry.now.passings) && is_some follower.now.place }
+{
+    let follows = follower.follows();
+    entry.marks.len() == entry.passings && follows
+}
+
+/// Whether a thread's recorded passings and its segments are counted as they are, and it has kept its last
+/// segment.
+fn counts_agree(entry: &AuditEntry, segments: u32) -> bool
+    ensures { IsTrue result ↔ AreCounted (said_by entry.now) segments }
+{
+    let recorded = entry.marks.recorded();
+    let kept = is_kept(entry);
+    entry.recorded == recorded && entry.segments == segments && kept
 }
 
 /// Whether a thread is stated to have kept its last segment, if it has segments.
@@ -199,13 +216,15 @@ fn walk(
     one_end();
     some_end();
     passings_fit();
-    'passings: loop {
+    passings_are_limited();
+    'gates: loop {
         match cpu.want() {
             Want::Gate(passing) => {
                 let mark = mark_at(marks, passing);
                 follower.judge(cpu.sled(), mark);
-                if let Some(event) = cpu.pass(mark) {
-                    recording.note(&event, trace);
+                match cpu.pass(mark) {
+                    Some(event) => recording.note(&event, trace),
+                    None => (),
                 }
             }
             Want::Done(end) => return Walked {
@@ -278,7 +297,28 @@ impl FirstThreads {
 fn first_of(before: Option<u32>, thread: u32, agrees: bool) -> Option<u32>
     ensures { result ≡ first_of before thread agrees }
 {
-    if agrees { before } else { before.or(Some(thread)) }
+    if agrees {
+        before
+    } else {
+        before.or(Some(thread))
+    }
+}
+
+/// How many segments all threads are stated to have lost.
+fn lost_segments(entries: &[AuditEntry]) -> u128
+    ensures { result ≡ sum_by (λ entry. entry.first) entries.now }
+{
+    entries.iter().map(|entry| u128::from(entry.first)).sum()
+}
+
+/// How many segments all threads are stated to have queued. A thread keeps its last one.
+fn queued_segments(entries: &[AuditEntry]) -> u128
+    ensures { result ≡ sum_by (λ entry. entry.segments - 1) entries.now }
+{
+    entries
+        .iter()
+        .map(|entry| u128::from(entry.segments.saturating_sub(1)))
+        .sum()
 }
 
 /// Whether as many segments are stated to be recycled as the threads have lost, and as their queue had
@@ -287,16 +327,9 @@ fn recycles(audit: &Audit) -> bool
     requires { NamesThreads (statement_of audit.now) }
     ensures { IsTrue result ↔ RecycledAgrees (statement_of audit.now) }
 {
-    let lost: u64 = audit
-        .entries
-        .iter()
-        .map(|entry| u64::from(entry.first))
-        .sum();
-    let queued: u64 = audit
-        .entries
-        .iter()
-        .map(|entry| u64::from(entry.segments.saturating_sub(1)))
-        .sum();
-    let spare = u64::from(audit.setup.max - audit.setup.threads);
-    audit.recycled == lost && audit.recycled == queued.saturating_sub(spare)
+    let recycled = u128::from(audit.recycled);
+    let lost = lost_segments(&audit.entries);
+    let spare = u128::from(audit.setup.max - audit.setup.threads);
+    let unspared = queued_segments(&audit.entries).saturating_sub(spare);
+    recycled == lost && recycled == unspared
 }

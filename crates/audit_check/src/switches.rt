@@ -9,7 +9,8 @@ ghost use Rattle.audit_check.specs.private.Switches.{AreSwitches, IsCourseOf, Is
 use crate::turns::Turns;
 use patch_script::{Micro, Script, stores_give_the_code};
 use sled_words::{
-    LogState, MAX_THREADS, NO_HANDLER, PARTS, PATCHED_HEAD, arg_handler_word, handler_word, state_word,
+    LogState, MAX_THREADS, NO_HANDLER, PARTS, PATCHED_HEAD, arg_handler_word, handler_word,
+    state_word,
 };
 use std::alloc::{AllocError, Global};
 use xray_image::Image;
@@ -81,7 +82,6 @@ impl Switches {
         ensures switches { IfOk result (λ switches. (script : List Command)
             → AreSwitches image.now threads (code_at image.now threads script) 0 switches) }
     {
-        stores_give_the_code();
         Ok(Switches {
             heads: all_off(alloc, image.sled_count())?,
             handler: Turns::new(alloc),
@@ -147,7 +147,6 @@ impl Course {
         requires few { threads ≤ MAX_THREADS }
         ensures { IfOk result (IsCourseOf image.now threads (commands_of script.now.lines)) }
     {
-        stores_give_the_code();
         let total = script.total();
         let mut course = Course {
             switches: Switches::new(alloc, image, threads)?,
@@ -170,6 +169,7 @@ impl Course {
             → IsOfWords program threads self.new.switches) }
         ensures step { OnOk result (TakesOne self.old micro place self.new) }
     {
+        stores_give_the_code();
         match micro {
             Micro::Store { word, value } => self.switches.store(word, value, place + 1)?,
             Micro::Await { thread, count } => self.awaits.push(Awaited {

@@ -13,8 +13,8 @@ use Rattle.patch_script.specs.declared.micro.Micro.{Micro}
 use Rattle.patch_script.specs.declared.micro.Micro.TheVariants.{Store, Await, End}
 use Rattle.patch_script.specs.Bounds.{awaits_passing, bound_of}
 use Rattle.patch_script.specs.CodeAt.{code_at}
-use Rattle.patch_script.specs.Micros.{Numbered, hold_of, micros_after, numbers, patch_sled, patches, start_of, steps_of, total_of, unpatch_sled}
-use Rattle.patch_script.specs.Plans.{is_waiting, waiting_line}
+use Rattle.patch_script.specs.Micros.{Numbered, all_sleds, hold_of, micros_after, numbers, patch_sled, patches, sleds_of, start_of, steps_of, total_of, unpatch_sled}
+use Rattle.patch_script.specs.Plans.{waiting_line}
 use Rattle.patch_script.specs.Refusals.{Lines, commands_of}
 use Rattle.handler_word.specs.declared.mark.Mark.{Mark}
 use Rattle.machine_step.specs.declared.end.End.{End as How}
@@ -25,6 +25,7 @@ use Rattle.machine_step.specs.Loads.{Load, marks_of, next_load}
 use Rattle.machine_step.specs.PlainStep.{Passing, PlainRun, State}
 use Rattle.machine_step.specs.Traced.{sleds_passed}
 use Rattle.machine_step.proofs.WantedWords.{release_wanted}
+use Rattle.traced_run.specs.Decoded.{DecodesWhole}
 use Rattle.traced_run.specs.Following.{AllMarksFollow, MarksFollowScript}
 use Rattle.traced_run.specs.Runs.{ThreadRun}
 use Rattle.step_sim.specs.declared.turns.Turns.{Turns}
@@ -32,7 +33,7 @@ use Rattle.step_sim.specs.Along.{IsAlong, NamesThread}
 use Rattle.step_sim.specs.Plays.{Plays}
 use Rattle.step_sim.specs.Replay.{Cast, first_moment, moment_rules, of_thread, thread_count}
 use Rattle.step_sim.specs.Replayed.{IsReplayOf, cast_with, passed_of, pooling_with}
-use Rattle.step_sim.proofs.Bounds.{no_holds}
+use Rattle.step_sim.proofs.Bounds.{no_holds, some_is_not_none}
 use Rattle.step_sim.proofs.EndedRuns.{of_thread_at}
 use Rattle.step_sim.proofs.PooledReplay.{last_moment}
 use Rattle.step_sim.proofs.ReplayAlong.{replay_along}
@@ -60,31 +61,52 @@ unpatches_store : (earlier : List ℕ) (sleds : List Numbered) → AreStores (ma
 unpatches_store earlier [] = tt
 unpatches_store earlier ((k, sled) ∷ sleds) = unpatches_store earlier sleds
 
+-- a command whose own steps are stores, before commands whose steps are
+goes_on : (program : Program) (threads : ℕ) (earlier : List ℕ) (command : Command) (rest : List Command)
+    → AreStores (steps_of program threads earlier command) → AreStores (micros_after program threads (earlier ++ numbers (patches program command)) rest)
+    → AreStores (micros_after program threads earlier (command ∷ rest))
+goes_on program threads earlier command rest here there =
+    stores-append (steps_of program threads earlier command) (micros_after program threads (earlier ++ numbers (patches program command)) rest) here there
+
 all_store : (program : Program) (threads : ℕ) (earlier : List ℕ) (lines : Lines) → waiting_line lines ≡ None
     → AreStores (micros_after program threads earlier (commands_of lines))
 all_store program threads earlier [] e = tt
-all_store program threads earlier ((n, command) ∷ rest) e = by command e
-  where
-    -- a command whose own steps are stores
-    goes_on : (c : Command) → AreStores (steps_of program threads earlier c) → waiting_line rest ≡ None
-        → AreStores (micros_after program threads earlier (c ∷ commands_of rest))
-    goes_on c here e = stores-append (steps_of program threads earlier c) _ here (all_store program threads (earlier ++ numbers (patches program c)) rest e)
-
-    by : (c : Command) → waiting_line ((n, c) ∷ rest) ≡ None → AreStores (micros_after program threads earlier (c ∷ commands_of rest))
-    by commands.Patch e = goes_on commands.Patch (patches_store program _) e
-    by commands.Unpatch e = goes_on commands.Unpatch (unpatches_store earlier _) e
-    by (commands.PatchFunction id) e = goes_on (commands.PatchFunction id) (patches_store program _) e
-    by (commands.UnpatchFunction id) e = goes_on (commands.UnpatchFunction id) (unpatches_store earlier _) e
-    by commands.SetHandler e = goes_on commands.SetHandler tt e
-    by commands.RemoveHandler e = goes_on commands.RemoveHandler tt e
-    by commands.SetArgHandler e = goes_on commands.SetArgHandler tt e
-    by commands.RemoveArgHandler e = goes_on commands.RemoveArgHandler tt e
-    by commands.Init e = goes_on commands.Init tt e
-    by commands.Finalize e = goes_on commands.Finalize tt e
-    by commands.Go e = goes_on commands.Go tt e
-    by (commands.Hold thread passing) e = absurd (let one : ◌≡◌ {A = Option ℕ} (Some n) None = e in cc)
-    by (commands.Release thread) e = absurd (let one : ◌≡◌ {A = Option ℕ} (Some n) None = e in cc)
-    by (commands.Await thread count) e = absurd (let one : ◌≡◌ {A = Option ℕ} (Some n) None = e in cc)
+all_store program threads earlier ((n, commands.Patch) ∷ rest) e =
+    goes_on program threads earlier commands.Patch (commands_of rest) (patches_store program (all_sleds program))
+    (all_store program threads (earlier ++ numbers (patches program commands.Patch)) rest e)
+all_store program threads earlier ((n, commands.Unpatch) ∷ rest) e =
+    goes_on program threads earlier commands.Unpatch (commands_of rest) (unpatches_store earlier (all_sleds program))
+    (all_store program threads (earlier ++ numbers (patches program commands.Unpatch)) rest e)
+all_store program threads earlier ((n, commands.PatchFunction id) ∷ rest) e =
+    goes_on program threads earlier (commands.PatchFunction id) (commands_of rest) (patches_store program (sleds_of program id))
+    (all_store program threads (earlier ++ numbers (patches program (commands.PatchFunction id))) rest e)
+all_store program threads earlier ((n, commands.UnpatchFunction id) ∷ rest) e =
+    goes_on program threads earlier (commands.UnpatchFunction id) (commands_of rest) (unpatches_store earlier (sleds_of program id))
+    (all_store program threads (earlier ++ numbers (patches program (commands.UnpatchFunction id))) rest e)
+all_store program threads earlier ((n, commands.SetHandler) ∷ rest) e =
+    goes_on program threads earlier commands.SetHandler (commands_of rest) tt
+    (all_store program threads (earlier ++ numbers (patches program commands.SetHandler)) rest e)
+all_store program threads earlier ((n, commands.RemoveHandler) ∷ rest) e =
+    goes_on program threads earlier commands.RemoveHandler (commands_of rest) tt
+    (all_store program threads (earlier ++ numbers (patches program commands.RemoveHandler)) rest e)
+all_store program threads earlier ((n, commands.SetArgHandler) ∷ rest) e =
+    goes_on program threads earlier commands.SetArgHandler (commands_of rest) tt
+    (all_store program threads (earlier ++ numbers (patches program commands.SetArgHandler)) rest e)
+all_store program threads earlier ((n, commands.RemoveArgHandler) ∷ rest) e =
+    goes_on program threads earlier commands.RemoveArgHandler (commands_of rest) tt
+    (all_store program threads (earlier ++ numbers (patches program commands.RemoveArgHandler)) rest e)
+all_store program threads earlier ((n, commands.Init) ∷ rest) e =
+    goes_on program threads earlier commands.Init (commands_of rest) tt
+    (all_store program threads (earlier ++ numbers (patches program commands.Init)) rest e)
+all_store program threads earlier ((n, commands.Finalize) ∷ rest) e =
+    goes_on program threads earlier commands.Finalize (commands_of rest) tt
+    (all_store program threads (earlier ++ numbers (patches program commands.Finalize)) rest e)
+all_store program threads earlier ((n, commands.Go) ∷ rest) e =
+    goes_on program threads earlier commands.Go (commands_of rest) tt
+    (all_store program threads (earlier ++ numbers (patches program commands.Go)) rest e)
+all_store program threads earlier ((n, commands.Hold thread passing) ∷ rest) e = absurd (some_is_not_none n e)
+all_store program threads earlier ((n, commands.Release thread) ∷ rest) e = absurd (some_is_not_none n e)
+all_store program threads earlier ((n, commands.Await thread count) ∷ rest) e = absurd (some_is_not_none n e)
 
 -- so each bound is the end of the script
 no_await : (thread passing : ℕ) (steps : List Micro) → AreStores steps → position_or_len (awaits_passing thread passing) steps ≡ length steps
@@ -95,8 +117,8 @@ no_await thread passing (End ∷ steps) are = absurd are
 
 still_bound : (program : Program) (threads thread passing : ℕ) (lines : Lines) → waiting_line lines ≡ None
     → bound_of program threads (commands_of lines) thread passing ≡ total_of program threads (commands_of lines)
-still_bound program threads thread passing lines none =
-    no_await thread passing (micros_after program threads [] (commands_of lines)) (all_store program threads [] lines none)
+still_bound program threads thread passing lines still =
+    no_await thread passing (micros_after program threads [] (commands_of lines)) (all_store program threads [] lines still)
 
 -- ---- loads
 
@@ -166,7 +188,7 @@ marks_follow wanted whole program lines schedule setup runs names still is j run
 
     place : ℕ
     place = is.last.moment.place
-
+    decodes : DecodesWhole program setup.threads (j + 1) (hold_of (j + 1) script) run loads
     decodes = decodes_whole wanted whole program script schedule setup runs names is j run found
 
     long : thread_count cast ≡ setup.threads

@@ -29,6 +29,20 @@ pub record IsOpen (setup : Setup) (thread : ℕ) (events : List Event) (r : Reco
   pub whole : r.whole ≡ length (whole_of setup.size events)
   pub buffer : r.buffer ≡ buffer_of (stamp_of setup) thread (r.whole, r.buffer.events)
 
+-- the next segment is begun, and has this event
+abbrev pub begun_with : Recording → Event → Recording
+begun_with r event = record r {
+  buffer = record {
+    size = r.buffer.size;
+    begun = true;
+    thread = r.thread;
+    serial = r.whole;
+    wall = r.wall;
+    pid = r.pid;
+    events = event ∷ [];
+  };
+}
+
 -- no segment is open, since there are no events
 pub record IsUnopened (events : List Event) (r : Recording) : Type 0 where
   pub none : events ≡ []

@@ -1,5 +1,5 @@
 -- The judging of a thread's marks, one after the other.
-use Rattle.std.specs.Prelude.{◌≡◌, ◌<◌, ◌≤◌, ◌+◌, ◌==◌, ◌&&◌, ◌⊎◌, ℕ, Bool, true, false, List, length, All, Option, Some, None, IfSome, min, nat_lt, slice_get}
+use Rattle.std.specs.Prelude.{◌≡◌, ◌<◌, ◌≤◌, ◌+◌, ◌==◌, ◌&&◌, ◌⊎◌, ℕ, Bool, true, false, List, length, All, Option, Some, None, IfSome, MatchOption, min, nat_lt, slice_get}
 use Rattle.xray_image.specs.Program.{Program}
 use Rattle.handler_word.specs.declared.mark.Mark.{Mark}
 use Rattle.sled_words.specs.Words.{arg_handler_word, handler_word}
@@ -8,11 +8,12 @@ use Rattle.patch_script.specs.Bounds.{bound_of}
 use Rattle.patch_script.specs.CodeAt.{code_at}
 use Rattle.patch_script.specs.Micros.{hold_of, start_of, total_of}
 use Rattle.machine_step.specs.Follows.{MarksFollow}
+use Rattle.machine_step.specs.Loads.{is_held_at}
 use Rattle.audit_check.specs.declared.follower.Follower.{Follower}
 use Rattle.audit_check.specs.declared.switches.Awaited.{Awaited}
 use Rattle.audit_check.specs.private.Switches.{IsCourseOf, is_set}
 use Rattle.audit_check.specs.private.Turns.{IsLeast, IsMet}
-use Rattle.audit_check.specs.private.Ways.{Tree, Reaches}
+use Rattle.audit_check.specs.private.Ways.{Tree, Reaches, passing_tree}
 
 -- it has turns for all words of its image, and its thread is one of the course's
 pub record IsReady (f : Follower) : Type 0 where
@@ -60,6 +61,13 @@ FindsEnd f tree mark from bound answer =
     (program : Program) (threads : ℕ) (script : List Command) → Judges program threads script f → bound ≤ total_of program threads script
     → IsLeast (Reaches (code_at program threads script) bound mark (tree program threads) from) answer
 
+-- the answer is the least place at which the next passing may end, if those before it may end where they are said to
+abbrev pub FindsNext : Follower → ℕ → Mark → ℕ → Option ℕ → Type 0
+FindsNext f sled mark bound answer =
+    (program : Program) (threads : ℕ) (script : List Command) → Judges program threads script f → bound ≤ total_of program threads script
+    → MatchOption f.place (answer ≡ None) (λ from. IsLeast (Reaches (code_at program threads script) bound mark
+    (passing_tree program threads f.thread (is_held_at f.hold f.passing) sled) from) answer)
+
 -- ---- bounds
 
 -- a wait bounds a passing of a thread
@@ -71,6 +79,11 @@ abbrev pub ArePassed : Follower → ℕ → ℕ → Type 0
 ArePassed f passing count =
     (i : ℕ) (awaited : Awaited) → i < count → slice_get f.course.now.awaits.items i ≡ Some awaited
     → bounds_passing f.thread passing awaited ≡ false
+
+-- the first wait after them bounds the passing, if there is one
+abbrev pub StopsAt : Follower → ℕ → ℕ → Type 0
+StopsAt f passing count =
+    (awaited : Awaited) → slice_get f.course.now.awaits.items count ≡ Some awaited → bounds_passing f.thread passing awaited ≡ true
 
 -- the answer is the bound of a passing
 abbrev pub FindsBound : Follower → ℕ → ℕ → Type 0

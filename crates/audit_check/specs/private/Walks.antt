@@ -4,6 +4,7 @@ use Rattle.xray_image.specs.Program.{Program}
 use Rattle.fdr_record.specs.declared.event.Event.{Event}
 use Rattle.handler_word.specs.declared.mark.Mark.{Mark}
 use Rattle.handler_word.specs.declared.mark.Mark.TheVariants.{Skipped}
+use Rattle.handler_word.specs.MarkList.{recorded_count}
 use Rattle.patch_script.specs.declared.command.Command.{Command}
 use Rattle.machine_step.specs.declared.end.End.{End}
 use Rattle.machine_step.specs.declared.setup.Setup.{Setup}
@@ -79,6 +80,12 @@ pub record IsFound (way : Way) (said : ThreadAudit) (run : ThreadRun) (agreement
 pub record KeepsLast (segments first : ℕ) : Type 0 where
   pub below : 0 < segments → first < segments
   pub none : segments ≡ 0 → first ≡ 0
+
+-- the counts of a thread are those of its marks and of this many segments, and it has kept the last one
+pub record AreCounted (said : ThreadAudit) (segments : ℕ) : Type 0 where
+  pub recorded : said.recorded ≡ recorded_count said.marks
+  pub segments_are : said.segments ≡ segments
+  pub last : KeepsLast said.segments said.first
 
 -- the first thread of which a row doesn't agree, after one more thread
 abbrev pub first_of : Option ℕ → ℕ → Bool → Option ℕ

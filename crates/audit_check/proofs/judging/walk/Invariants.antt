@@ -9,8 +9,8 @@ use Rattle.audit_check.specs.Statements.{most_marks}
 use Rattle.audit_check.proofs.judging.walk.Given as goal
 
 -- the passings that have marks were made
-abbrev pub invariant-passings : goal.invariant-passings
-invariant-passings l = record {
+abbrev pub invariant-gates : goal.invariant-gates
+invariant-gates l = record {
   same : IsSameThread l.initial.cpu l.cpu;
   between : IsLoad l.cpu.want → ⊥;
   ready : IsReady l.follower;
@@ -24,5 +24,5 @@ invariant-passings l = record {
       → (l.cpu.marks ≡ first_marks (length l.cpu.marks) way.marks) × HasWalked way passed (length l.cpu.marks) l.follower l.recording l.trace;
 }
 
-abbrev pub decreases-passings : goal.decreases-passings
-decreases-passings l = loads_left l.cpu
+abbrev pub decreases-gates : goal.decreases-gates
+decreases-gates l = loads_left l.cpu

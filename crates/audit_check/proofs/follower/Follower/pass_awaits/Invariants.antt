@@ -1,6 +1,6 @@
 use Rattle.std.proofs.Common.{◌≡◌, ◌≤◌, ◌-◌, length}
 use Rattle.audit_check.specs.private.Judging.{ArePassed}
-use Rattle.audit_check.proofs.follower.Follower.bound.Given as goal
+use Rattle.audit_check.proofs.follower.Follower.pass_awaits.Given as goal
 
 -- the awaits that were passed don't bound the passing
 abbrev pub invariant-awaits : goal.invariant-awaits
