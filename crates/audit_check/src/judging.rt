@@ -222,9 +222,8 @@ fn walk(
             Want::Gate(passing) => {
                 let mark = mark_at(marks, passing);
                 follower.judge(cpu.sled(), mark);
-                match cpu.pass(mark) {
-                    Some(event) => recording.note(&event, trace),
-                    None => (),
+                if let Some(event) = cpu.pass(mark) {
+                    recording.note(&event, trace);
                 }
             }
             Want::Done(end) => return Walked {

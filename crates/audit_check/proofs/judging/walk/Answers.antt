@@ -71,7 +71,7 @@ gates-preserved c =
     let t = c.gates.cpu in
     let u = c.pass.new.self in
     let kept = c.gates.invariant in
-    let made = c.in-None.ensures in
+    let made = c.in_default.ensures in
     let mark = c.mark_at-mark.result in
     record {
       same = same_thread s t u kept.same made.thread;
