@@ -1,5 +1,5 @@
 -- The segments of a thread, one event after the other.
-use Rattle.std.proofs.Common.{◌≡◌, ℕ, zero, suc, ◌+◌, ◌-◌, ◌<◌, ◌≤◌, Bool, true, false, List, [], ◌∷◌, ◌++◌, length, drop, take, map, refl, sym, ap, subst, ◌∙◌, arith, inl, inr, append-nil, append_assoc, length-append, zero-add}
+use Rattle.std.proofs.Common.{◌≡◌, ℕ, ◌+◌, ◌-◌, Bool, List, [], ◌∷◌, ◌++◌, length, drop, take, map, sym, ap, subst, ◌∙◌, arith, inl, inr, append-nil, length-append, zero-add}
 use Rattle.std.specs.Prelude.{nat_le, if◌then◌else◌}
 use Rattle.std.specs.List.{enumerate_from, flat_map}
 use Rattle.std.proofs.lemmas.Bool.{cases_lt, le-leb, lt-leb}
@@ -12,7 +12,7 @@ use Rattle.fdr_buffer.specs.Filled.{Filled}
 use Rattle.fdr_buffer.specs.Segments.{segments}
 use Rattle.fdr_file.specs.Files.{block_bytes}
 use Rattle.machine_step.specs.declared.setup.Setup.{Setup}
-use Rattle.traced_run.specs.Kept.{buffer_of, buffers_after, stamp_of}
+use Rattle.traced_run.specs.Kept.{buffer_of, stamp_of}
 use Rattle.audit_check.specs.declared.blocks.Recording.{Recording}
 use Rattle.audit_check.specs.private.Blocks.{IsOpen, kept_bytes, whole_of}
 
