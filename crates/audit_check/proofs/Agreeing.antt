@@ -1,5 +1,5 @@
 -- The rows of the first threads, one thread after the other.
-use Rattle.std.proofs.Common.{◌≡◌, ℕ, zero, suc, ◌+◌, ◌-◌, ◌<◌, ◌≤◌, Bool, List, [], ◌∷◌, ◌++◌, length, map, take, Option, Some, None, refl, sym, ap, subst, ◌∙◌, add-one, arith, append-nil, append_assoc}
+use Rattle.std.proofs.Common.{◌≡◌, ℕ, zero, suc, ◌+◌, ◌-◌, Bool, List, [], ◌∷◌, ◌++◌, length, map, take, Option, Some, None, sym, ap, subst, ◌∙◌, add-one, arith, append-nil, append_assoc}
 use Rattle.std.specs.Prelude.{◌↔◌, IsTrue, slice_get}
 use Rattle.std.specs.List.{enumerate_from, flat_map}
 use Rattle.std.proofs.lemmas.Grind.{flat_map-append}
@@ -10,7 +10,7 @@ use Rattle.fdr_buffer.specs.Filled.{Filled}
 use Rattle.fdr_file.specs.Files.{block_bytes, header_bytes}
 use Rattle.patch_script.specs.declared.command.Command.{Command}
 use Rattle.machine_step.specs.declared.setup.Setup.{Setup}
-use Rattle.traced_run.specs.Kept.{kept_buffers, segments_of, thread_buffers}
+use Rattle.traced_run.specs.Kept.{segments_of, thread_buffers}
 use Rattle.traced_run.specs.Runs.{ThreadRun}
 use Rattle.trace_flush.specs.Audit.{ThreadAudit}
 use Rattle.trace_flush.specs.Flush.{run_header, trace_bytes}
@@ -19,9 +19,9 @@ use Rattle.audit_check.specs.declared.judging.Agreement.{Agreement}
 use Rattle.audit_check.specs.declared.judging.FirstThreads.{FirstThreads}
 use Rattle.audit_check.specs.private.Blocks.{HasCompared, kept_bytes}
 use Rattle.audit_check.specs.private.Walks.{IsFirst, IsFound, Way, first_of}
-use Rattle.audit_check.specs.Rows.{AreRunsOf, CountsAgree, EndsAgree, MarksAgree}
+use Rattle.audit_check.specs.Rows.{CountsAgree, EndsAgree, MarksAgree}
 use Rattle.audit_check.specs.Statements.{Statement}
-use Rattle.audit_check.specs.Verdicts.{AllAgree, AtThread, CountsRow, EndsRow, MarksRow, RecycledRow, TraceRow}
+use Rattle.audit_check.specs.Verdicts.{AllAgree, AtThread, CountsRow, EndsRow, MarksRow}
 use Rattle.audit_check.proofs.Firsts.{fewer, first_next, last, none_yet}
 use Rattle.audit_check.proofs.Walked.{take_all}
 

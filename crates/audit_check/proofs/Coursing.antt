@@ -1,6 +1,6 @@
 -- The course of a script, one micro step after the other.
-use Rattle.std.proofs.Common.{◌≡◌, ℕ, ◌+◌, ◌<◌, ◌≤◌, List, [], ◌∷◌, ◌++◌, length, take, Some, refl, sym, ap, subst, ◌∙◌, arith, append-nil, length-take}
-use Rattle.std.specs.Prelude.{slice_get, unwrap_or}
+use Rattle.std.proofs.Common.{◌≡◌, ℕ, ◌+◌, ◌<◌, List, [], ◌∷◌, ◌++◌, length, take, sym, ap, subst, ◌∙◌, arith, append-nil, length-take}
+use Rattle.std.specs.Prelude.{unwrap_or}
 use Rattle.std.proofs.lemmas.List.{take_more}
 use Rattle.std.proofs.lemmas.Option.{unwrap_or-slice_get}
 use Rattle.xray_image.specs.Program.{Program}
@@ -8,13 +8,12 @@ use Rattle.patch_script.specs.declared.command.Command.{Command}
 use Rattle.patch_script.specs.declared.micro.Micro.{Micro}
 use Rattle.patch_script.specs.declared.micro.Micro.TheVariants.{Store, Await, End}
 use Rattle.patch_script.specs.CodeAt.{code_at, stored_in}
-use Rattle.patch_script.specs.Limits.{most_micros}
-use Rattle.patch_script.specs.Micros.{micro_at, micros, start_of, total_of}
+use Rattle.patch_script.specs.Micros.{micro_at, micros, total_of}
 use Rattle.audit_check.specs.declared.switches.Awaited.{Awaited}
 use Rattle.audit_check.specs.declared.switches.Course.{Course}
-use Rattle.audit_check.specs.private.Switches.{AreSwitches, IsCourseUpTo, IsNext, IsOfWords, awaits_from}
+use Rattle.audit_check.specs.private.Switches.{AreSwitches, IsCourseUpTo, IsOfWords, awaits_from}
 use Rattle.audit_check.proofs.Bounding.{awaits-append}
-use Rattle.audit_check.proofs.Switching.{Follows, next_stored, next_waits, stays}
+use Rattle.audit_check.proofs.Switching.{Follows, next_waits, stays}
 
 module _ (program : Program) (threads : ℕ) (script : List Command) where
   abbrev steps : List Micro

@@ -1,5 +1,5 @@
 -- The verdict on all threads.
-use Rattle.std.proofs.Common.{◌≡◌, ℕ, ◌+◌, ◌-◌, ◌<◌, ◌≤◌, Bool, true, false, List, [], ◌∷◌, length, map, Option, Some, None, refl, sym, ap, subst, ◌∙◌, arith, inl, inr}
+use Rattle.std.proofs.Common.{◌≡◌, ℕ, ◌+◌, ◌-◌, ◌<◌, ◌≤◌, Bool, List, [], ◌∷◌, length, map, Some, refl, sym, ap, subst, ◌∙◌, arith, inl, inr}
 use Rattle.std.specs.Prelude.{◌↔◌, IsTrue, option_map, slice_get, sum_by}
 use Rattle.std.proofs.lemmas.List.{length-map}
 use Rattle.std.proofs.lemmas.List.Sums.{sum_by-cons}
@@ -16,11 +16,11 @@ use Rattle.audit_check.specs.declared.blocks.TraceLeft.{TraceLeft}
 use Rattle.audit_check.specs.declared.judging.Agreement.{Agreement}
 use Rattle.audit_check.specs.declared.judging.FirstThreads.{FirstThreads}
 use Rattle.audit_check.specs.private.Blocks.{HasCompared}
-use Rattle.audit_check.specs.private.Walks.{IsFound, Way, first_of, verdict_by}
+use Rattle.audit_check.specs.private.Walks.{IsFound, first_of, verdict_by}
 use Rattle.audit_check.specs.Rows.{AreRunsOf, RecycledAgrees}
 use Rattle.audit_check.specs.Statements.{NamesThreads, Statement, said_by, statement_of}
-use Rattle.audit_check.specs.Verdicts.{AllAgree, IsVerdict}
-use Rattle.audit_check.proofs.Agreeing.{Ends, Judged, Marks, all_bytes, first_bytes, judged_next, same_at, way_of}
+use Rattle.audit_check.specs.Verdicts.{IsVerdict}
+use Rattle.audit_check.proofs.Agreeing.{Judged, all_bytes, first_bytes, judged_next, same_at, way_of}
 use Rattle.audit_check.proofs.Firsts.{verdict_is}
 
 -- ---- an entry of an audit

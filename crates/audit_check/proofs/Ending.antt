@@ -1,11 +1,11 @@
 -- The least ends of the parts of a passing, as a follower finds them.
-use Rattle.std.proofs.Common.{◌≡◌, ◌≢◌, ℕ, ◌+◌, ◌-◌, ◌==◌, ◌<◌, ◌≤◌, Bool, true, false, List, length, Option, Some, None, refl, sym, ap, subst, ◌∙◌, arith, inl, inr, eq-eqb, eqb-true}
+use Rattle.std.proofs.Common.{◌≡◌, ◌≢◌, ℕ, Bool, true, false, List, Option, Some, None, refl, sym, ap, subst, ◌∙◌, inl, inr, eq-eqb, eqb-true}
 use Rattle.std.specs.Prelude.{◌⊎◌, nat_eq, slice_get}
 use Rattle.std.specs.Option.{option_eq}
 use Rattle.std.proofs.lemmas.Bool.{ne_eqb}
 use Rattle.xray_image.specs.declared.sled.Sled.{Sled}
 use Rattle.xray_image.specs.declared.sled.SledKind.{SledKind}
-use Rattle.xray_image.specs.declared.sled.SledKind.TheVariants.{Entry, Exit, Tail, Args}
+use Rattle.xray_image.specs.declared.sled.SledKind.TheVariants.{Entry, Exit, Tail}
 use Rattle.xray_image.specs.Program.{Program}
 use Rattle.handler_word.specs.declared.mark.Mark.{Mark}
 use Rattle.handler_word.specs.declared.mark.Mark.TheVariants.{Skipped, NoHandler, NotLogging, Recorded, RecordedArg}
@@ -13,13 +13,12 @@ use Rattle.sled_words.specs.declared.part.Part.TheVariants.{Head}
 use Rattle.sled_words.specs.Words.{arg_handler_word, handler_word, release_word, state_word, word_of}
 use Rattle.patch_script.specs.declared.command.Command.{Command}
 use Rattle.patch_script.specs.CodeAt.{code_at}
-use Rattle.patch_script.specs.Micros.{total_of}
-use Rattle.machine_step.specs.Loads.{is_held_at, logs_args, sled_logs_args}
+use Rattle.machine_step.specs.Loads.{is_held_at, logs_args}
 use Rattle.audit_check.specs.declared.follower.Follower.{Follower}
 use Rattle.audit_check.specs.private.Judging.{FindsEitherHandler, FindsEnd, FindsPlace, IsReady, Judges, SameButGuesses, lesser}
 use Rattle.audit_check.specs.private.Switches.{is_patched, is_recording, is_set}
 use Rattle.audit_check.specs.private.Turns.{IsLeast}
-use Rattle.audit_check.specs.private.Ways.{Reaches, arg_handler_tree, handler_tree, head_tree, passing_tree}
+use Rattle.audit_check.specs.private.Ways.{arg_handler_tree, handler_tree, head_tree, passing_tree}
 use Rattle.audit_check.proofs.Judged.{Same, same_judges, same_ready}
 use Rattle.audit_check.proofs.LeastEnds.{held_never, held_then}
 use Rattle.audit_check.proofs.PassingEnds as ends

@@ -1,5 +1,5 @@
 -- What is found of a thread that was walked.
-use Rattle.std.proofs.Common.{◌≡◌, ℕ, zero, suc, ◌==◌, Bool, true, false, List, [], ◌∷◌, ◌++◌, drop, length, map, take, Option, refl, sym, ap, subst, ◌∙◌, append-nil}
+use Rattle.std.proofs.Common.{◌≡◌, ℕ, zero, suc, ◌==◌, Bool, true, false, List, [], ◌∷◌, ◌++◌, drop, length, map, take, refl, sym, ap, subst, ◌∙◌, append-nil}
 use Rattle.std.specs.Prelude.{◌&&◌, ◌↔◌, IsTrue, is_some}
 use Rattle.std.specs.List.{flat_map}
 use Rattle.fdr_record.specs.declared.event.Event.{Event}
@@ -12,7 +12,7 @@ use Rattle.machine_step.specs.declared.setup.Setup.{Setup}
 use Rattle.machine_step.specs.Events.{recorded}
 use Rattle.machine_step.specs.PlainStep.{Passing}
 use Rattle.machine_step.specs.Traced.{sleds_passed}
-use Rattle.traced_run.specs.Kept.{buffer_of, segment_count, segments_of, stamp_of}
+use Rattle.traced_run.specs.Kept.{buffer_of, segment_count, stamp_of}
 use Rattle.traced_run.specs.Runs.{ThreadRun, events_of}
 use Rattle.trace_flush.specs.Audit.{ThreadAudit}
 use Rattle.audit_check.specs.declared.blocks.Recording.{Recording}
@@ -22,7 +22,7 @@ use Rattle.audit_check.specs.declared.judging.Agreement.{Agreement}
 use Rattle.audit_check.specs.private.Blocks.{HasCompared, HasNoted, kept_bytes, whole_of}
 use Rattle.audit_check.specs.private.Judging.{HasJudged}
 use Rattle.audit_check.specs.private.Walks.{AreCounted, HasWalked, IsFound, Way, first_marks}
-use Rattle.audit_check.specs.Rows.{CountsAgree, EndsAgree, MarksAgree}
+use Rattle.audit_check.specs.Rows.{EndsAgree, MarksAgree}
 use Rattle.audit_check.proofs.Found.{events_are, marks_found}
 use Rattle.audit_check.proofs.Lawful.{recorded_is}
 

@@ -1,5 +1,5 @@
 -- Marks that follow a script are those of a way through its places.
-use Rattle.std.proofs.Common.{◌≡◌, ◌≢◌, ℕ, ◌+◌, ◌==◌, ◌≤◌, Bool, true, false, List, [], ◌∷◌, ◌++◌, length, Option, Some, refl, sym, ap, subst, ◌∙◌, arith, append_assoc, length-append}
+use Rattle.std.proofs.Common.{◌≡◌, ◌≢◌, ℕ, ◌+◌, ◌≤◌, Bool, true, false, List, [], ◌∷◌, ◌++◌, length, Option, Some, refl, sym, ap, subst, ◌∙◌, arith, append_assoc, length-append}
 use Rattle.std.specs.Prelude.{All, if◌then◌else◌}
 use Rattle.std.proofs.lemmas.Bool.{ne_eqb}
 use Rattle.std.proofs.lemmas.List.{append-nil}
@@ -8,7 +8,7 @@ use Rattle.xray_image.specs.Program.{Program}
 use Rattle.handler_word.specs.declared.mark.Mark.{Mark}
 use Rattle.sled_words.specs.Words.{release_word}
 use Rattle.machine_step.specs.Follows.{Follows, MarksFollow, none as no_loads, later as up_to, loaded as one_more}
-use Rattle.machine_step.specs.Loads.{Load, Reading, Wants}
+use Rattle.machine_step.specs.Loads.{Load, Reading}
 use Rattle.audit_check.specs.private.Ways.{AreOwn, IsOwn, Tree, Leaf, Node, Held, Passes, Reaches, marked, marks_in, next_in, read, trees_of, wanted}
 use Rattle.audit_check.proofs.TreeLoads.{as_many, marks_are, next_is}
 use Rattle.audit_check.proofs.Walking.{passes_earlier}

@@ -1,15 +1,12 @@
 -- What is found of a thread at the end of its plain run.
-use Rattle.std.proofs.Common.{◌≡◌, ℕ, ◌==◌, ◌≤◌, Bool, true, false, List, [], ◌++◌, length, take, Option, Some, None, refl, sym, ap, subst, ◌∙◌, arith, eqb-true, eq-eqb}
+use Rattle.std.proofs.Common.{◌≡◌, ℕ, ◌==◌, ◌≤◌, Bool, true, false, List, length, take, Option, Some, None, refl, sym, ap, subst, ◌∙◌, eqb-true, eq-eqb}
 use Rattle.std.specs.Prelude.{◌&&◌, ◌↔◌, IfSome, IsTrue, is_some}
 use Rattle.xray_image.specs.Program.{Program}
-use Rattle.fdr_record.specs.declared.event.Event.{Event}
 use Rattle.handler_word.specs.declared.mark.Mark.{Mark}
-use Rattle.handler_word.specs.MarkList.{recorded_count}
 use Rattle.patch_script.specs.declared.command.Command.{Command}
 use Rattle.patch_script.specs.Micros.{total_of}
 use Rattle.machine_step.specs.Events.{recorded}
-use Rattle.machine_step.specs.Follows.{MarksFollow, later as up_to}
-use Rattle.machine_step.specs.PlainStep.{Passing}
+use Rattle.machine_step.specs.Follows.{later as up_to}
 use Rattle.machine_step.specs.Traced.{sleds_passed}
 use Rattle.traced_run.specs.Following.{MarksFollowScript}
 use Rattle.traced_run.specs.Runs.{ThreadRun, events_of}

@@ -1,6 +1,6 @@
 -- A thread whose marks are judged, before its first passing and after one more.
 use Rattle.std.proofs.Common.{◌≡◌, Bor, ℕ, ◌+◌, ◌<◌, ◌≤◌, List, [], ◌∷◌, ◌++◌, length, Option, Some, None, refl, sym, ap, subst, ◌∙◌, arith, length-append}
-use Rattle.std.specs.Prelude.{All, IfSome, MatchOption, slice_get}
+use Rattle.std.specs.Prelude.{IfSome, MatchOption}
 use Rattle.std.proofs.lemmas.List.Elements.{All-append, All-cons, All-nil}
 use Rattle.xray_image.specs.Program.{Program}
 use Rattle.handler_word.specs.declared.mark.Mark.{Mark}
@@ -12,7 +12,7 @@ use Rattle.machine_step.specs.Follows.{MarksFollow}
 use Rattle.machine_step.specs.Loads.{is_held_at}
 use Rattle.audit_check.specs.declared.follower.Follower.{Follower}
 use Rattle.audit_check.specs.declared.switches.Course.{Course}
-use Rattle.audit_check.specs.private.Judging.{ArePassed, FindsBound, HasJudged, IsReady, Judges, bounds_passing}
+use Rattle.audit_check.specs.private.Judging.{ArePassed, FindsBound, HasJudged, IsReady, Judges}
 use Rattle.audit_check.specs.private.Switches.{IsCourseOf}
 use Rattle.audit_check.specs.private.Turns.{IsLeast}
 use Rattle.audit_check.specs.private.Ways.{Tree, Leaf, Node, Held, Reaches, passing_tree}

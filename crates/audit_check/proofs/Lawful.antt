@@ -1,5 +1,5 @@
 -- The audit and the trace of a lawful run.
-use Rattle.std.proofs.Common.{◌≡◌, ℕ, zero, suc, ◌+◌, ◌-◌, ◌*◌, ◌<◌, ◌≤◌, ◌^◌, cond, Bool, true, false, List, [], ◌∷◌, ◌++◌, length, map, Some, refl, sym, ap, subst, ◌∙◌, arith, suc-mul}
+use Rattle.std.proofs.Common.{◌≡◌, ℕ, zero, suc, ◌+◌, ◌-◌, ◌*◌, ◌<◌, ◌≤◌, cond, Bool, true, false, List, [], ◌∷◌, ◌++◌, length, map, Some, refl, sym, ap, subst, ◌∙◌, arith, suc-mul}
 use Rattle.std.specs.Prelude.{All, if◌then◌else◌, slice_get, sum_by}
 use Rattle.std.specs.List.{enumerate_from}
 use Rattle.std.proofs.lemmas.List.{length-map}
@@ -16,22 +16,20 @@ use Rattle.handler_word.specs.MarkList.{is_recorded, recorded_count}
 use Rattle.patch_script.specs.declared.command.Command.{Command}
 use Rattle.machine_step.specs.Buffers.{spare_of}
 use Rattle.machine_step.specs.declared.end.End.{End}
-use Rattle.machine_step.specs.declared.limits.Limits.{Limits}
 use Rattle.machine_step.specs.declared.setup.Setup.{Setup}
 use Rattle.machine_step.specs.Events.{recorded}
 use Rattle.machine_step.specs.PlainStep.{Passing, PlainRun, State}
 use Rattle.machine_step.specs.Setups.{IsSetup}
-use Rattle.machine_step.specs.Traced.{sleds_passed}
 use Rattle.traced_run.specs.Following.{AllMarksFollow}
 use Rattle.traced_run.specs.Kept.{segment_count}
-use Rattle.traced_run.specs.Losses.{AreLost, recycled_of}
+use Rattle.traced_run.specs.Losses.{AreLost}
 use Rattle.traced_run.specs.Runs.{IsRun, ThreadRun, events_of}
 use Rattle.traced_run.proofs.RecordedEvents.{recorded_short}
 use Rattle.trace_flush.specs.Audit.{ThreadAudit}
 use Rattle.trace_flush.specs.Flush.{trace_bytes}
-use Rattle.trace_flush.specs.Lines.{audit_of, audits_of}
+use Rattle.trace_flush.specs.Lines.{audit_of}
 use Rattle.audit_check.specs.declared.verdict.Verdict.TheVariants.{Yes}
-use Rattle.audit_check.specs.Rows.{AreRunsOf, CountsAgree, EndsAgree, MarksAgree, RecycledAgrees}
+use Rattle.audit_check.specs.Rows.{CountsAgree, EndsAgree, MarksAgree, RecycledAgrees}
 use Rattle.audit_check.specs.Statements.{HasCounts, MayState, run_statement}
 use Rattle.audit_check.specs.Verdicts.{AllAgree, AtThread, IsJudged}
 use Rattle.audit_check.proofs.Starting.{each}

@@ -1,5 +1,5 @@
 -- The least places at which the parts of a passing may end.
-use Rattle.std.proofs.Common.{◌≡◌, ◌≢◌, ℕ, ◌==◌, ◌≤◌, Bool, true, false, not, List, [], ◌∷◌, Option, Some, None, refl, sym, ap, subst, ◌∙◌, arith, inl, inr}
+use Rattle.std.proofs.Common.{◌≡◌, ◌≢◌, ℕ, ◌==◌, ◌≤◌, Bool, true, false, not, Option, Some, None, refl, sym, ap, subst, arith, inl, inr}
 use Rattle.std.specs.Prelude.{◌⊎◌, if◌then◌else◌, slice_get}
 use Rattle.std.proofs.lemmas.Bool.{not-true}
 use Rattle.xray_image.specs.declared.sled.Sled.{Sled}
@@ -13,7 +13,7 @@ use Rattle.machine_step.specs.Loads.{logs_args, sled_logs_args}
 use Rattle.audit_check.specs.private.Judging.{FindsHandler, lesser}
 use Rattle.audit_check.specs.private.Switches.{is_patched, is_recording, is_set}
 use Rattle.audit_check.specs.private.Turns.{IsLeast, IsMet}
-use Rattle.audit_check.specs.private.Ways.{Tree, Leaf, Node, Held, Reaches, arg_handler_tree, handler_tree, handlers_tree, head_tree, id_tree, offset_tree, opcode_tree, state_tree}
+use Rattle.audit_check.specs.private.Ways.{Tree, Leaf, Reaches, arg_handler_tree, handler_tree, handlers_tree, head_tree, id_tree, offset_tree, opcode_tree, state_tree}
 use Rattle.audit_check.proofs.LeastEnds as ends
 use Rattle.audit_check.proofs.Walking.{reaches_earlier}
 

@@ -1,22 +1,16 @@
 -- The switches of a script, one micro step after the other.
-use Rattle.std.proofs.Common.{◌≡◌, ◌≢◌, ℕ, zero, suc, ◌+◌, ◌*◌, ◌<◌, ◌≤◌, ◌==◌, Bool, true, false, not, List, [], ◌∷◌, ◌++◌, length, set, get_or, replicate, Some, None, refl, sym, ap, subst, ◌∙◌, arith, inl, inr, eq-eqb}
-use Rattle.std.specs.Prelude.{◌⊎◌, slice_get, slice_index, unwrap_or, if◌then◌else◌}
-use Rattle.std.specs.List.{flat_map}
+use Rattle.std.proofs.Common.{◌≡◌, ◌≢◌, ℕ, zero, suc, ◌+◌, ◌==◌, Bool, true, false, List, [], ◌∷◌, ◌++◌, length, set, Some, None, refl, sym, ap, ◌∙◌, arith, inl, inr, eq-eqb}
+use Rattle.std.specs.Prelude.{◌⊎◌, slice_get, unwrap_or, if◌then◌else◌}
 use Rattle.std.proofs.lemmas.Bool.{ne_eqb}
-use Rattle.xray_image.specs.declared.sled.Sled.{Sled}
-use Rattle.xray_image.specs.declared.sled.SledKind.{SledKind}
-use Rattle.xray_image.specs.declared.sled.SledKind.TheVariants.{Entry, Exit, Tail, Args}
 use Rattle.xray_image.specs.Program.{Program}
 use Rattle.sled_words.specs.declared.part.Part.TheVariants.{Head}
-use Rattle.sled_words.specs.Parts.{patched_head, sled_words, unpatched_head}
 use Rattle.sled_words.specs.Words.{arg_handler_word, handler_word, release_word, state_word, word_of}
 use Rattle.patch_script.specs.declared.micro.Micro.{Micro}
-use Rattle.patch_script.specs.declared.micro.Micro.TheVariants.{Store, Await, End}
+use Rattle.patch_script.specs.declared.micro.Micro.TheVariants.{Store, Await}
 use Rattle.patch_script.specs.CodeAt.{stored_in}
 use Rattle.audit_check.specs.declared.switches.Switches.{Switches}
 use Rattle.audit_check.specs.declared.turns.Turns.{Turns}
 use Rattle.audit_check.specs.private.Switches.{AreSwitches, AreTurnsOf, IsNext, StaysSame, is_patched, is_recording, is_set}
-use Rattle.audit_check.specs.private.Turns.{IsTurned}
 use Rattle.audit_check.proofs.TurnLemmas.{kept}
 
 -- ---- code one place on

@@ -1,12 +1,12 @@
 -- The trees of passings read loads as the machine does.
-use Rattle.std.proofs.Common.{◌≡◌, ℕ, suc, ◌+◌, ◌==◌, Bool, true, false, List, [], ◌∷◌, ◌++◌, length, Option, refl, sym, ap, ◌∙◌, arith}
+use Rattle.std.proofs.Common.{◌≡◌, ℕ, suc, ◌+◌, ◌==◌, Bool, true, false, List, [], ◌∷◌, ◌++◌, length, Option, refl, ap, ◌∙◌, arith}
 use Rattle.std.specs.Prelude.{if◌then◌else◌}
 use Rattle.xray_image.specs.Program.{Program}
 use Rattle.handler_word.specs.declared.mark.Mark.{Mark}
 use Rattle.handler_word.specs.declared.mark.Mark.TheVariants as marks
 use Rattle.sled_words.specs.Parts.{patched_head}
 use Rattle.machine_step.specs.Loads.{Load, Reading, Wants, Marked, from_arg_handler, from_handler, from_handlers, from_head, from_id, from_release, from_start, from_state, is_held_at, marks_from, next_from, sled_logs_args}
-use Rattle.audit_check.specs.private.Ways.{Tree, Leaf, Node, Held, arg_handler_tree, handler_tree, handlers_tree, head_tree, id_tree, marks_in, next_in, passing_tree, read, state_tree, trees_of}
+use Rattle.audit_check.specs.private.Ways.{Tree, Leaf, arg_handler_tree, handler_tree, handlers_tree, head_tree, id_tree, marks_in, next_in, passing_tree, read, state_tree, trees_of}
 
 -- ---- one passing
 

@@ -1,8 +1,6 @@
 -- Ways begin earlier and end later. The last passing of a way goes on from the others.
 use Rattle.std.proofs.Common.{◌≡◌, ℕ, suc, ◌+◌, ◌≤◌, List, [], ◌∷◌, ◌++◌, length, ap, subst, refl, arith}
-use Rattle.std.specs.Prelude.{◌↔◌, Option, Some, None}
 use Rattle.handler_word.specs.declared.mark.Mark.{Mark}
-use Rattle.audit_check.specs.private.Turns.{IsLeast}
 use Rattle.audit_check.specs.private.Ways.{Tree, Leaf, Node, Held, Reaches, Passes}
 
 module _ (code : ℕ → ℕ → ℕ) where

@@ -1,6 +1,5 @@
 -- What an audit states, and the text that states it.
 use Rattle.std.specs.Prelude.{◌≡◌, ◌<◌, ◌≤◌, ◌+◌, ◌^◌, ℕ, List, All, Some, length, map, slice_get}
-use Rattle.handler_word.specs.declared.mark.Mark.{Mark}
 use Rattle.machine_step.specs.declared.setup.Setup.{Setup}
 use Rattle.machine_step.specs.Setups.{IsSetup}
 use Rattle.traced_run.specs.Losses.{recycled_of}

@@ -1,5 +1,5 @@
 -- The judging of a thread's marks, one after the other.
-use Rattle.std.specs.Prelude.{◌≡◌, ◌<◌, ◌≤◌, ◌+◌, ◌==◌, ◌&&◌, ◌⊎◌, ℕ, Bool, true, false, List, length, All, Option, Some, None, IfSome, MatchOption, min, nat_lt, slice_get}
+use Rattle.std.specs.Prelude.{◌≡◌, ◌<◌, ◌≤◌, ◌==◌, ◌&&◌, ◌⊎◌, ℕ, Bool, true, false, List, length, All, Option, Some, None, IfSome, MatchOption, min, nat_lt, slice_get}
 use Rattle.xray_image.specs.Program.{Program}
 use Rattle.handler_word.specs.declared.mark.Mark.{Mark}
 use Rattle.sled_words.specs.Words.{arg_handler_word, handler_word}

@@ -1,12 +1,10 @@
 -- A thread that is taken through its plain run with the marks of an audit.
-use Rattle.std.specs.Prelude.{◌≡◌, ◌<◌, ◌++◌, ◌↔◌, ℕ, zero, suc, Bool, true, false, List, [], ◌∷◌, Option, Some, None, IsTrue, length, slice_get, take, unwrap_or}
+use Rattle.std.specs.Prelude.{◌≡◌, ◌<◌, ◌++◌, ◌↔◌, ℕ, zero, suc, Bool, true, false, List, [], ◌∷◌, Option, Some, None, IsTrue, slice_get, take, unwrap_or}
 use Rattle.xray_image.specs.Program.{Program}
-use Rattle.fdr_record.specs.declared.event.Event.{Event}
 use Rattle.handler_word.specs.declared.mark.Mark.{Mark}
 use Rattle.handler_word.specs.declared.mark.Mark.TheVariants.{Skipped}
 use Rattle.handler_word.specs.MarkList.{recorded_count}
 use Rattle.patch_script.specs.declared.command.Command.{Command}
-use Rattle.machine_step.specs.declared.end.End.{End}
 use Rattle.machine_step.specs.declared.setup.Setup.{Setup}
 use Rattle.machine_step.specs.Events.{recorded}
 use Rattle.machine_step.specs.PlainStep.{Passing}

@@ -1,10 +1,8 @@
-use Rattle.std.proofs.Common.{◌≡◌, ◌+◌, ◌<◌, ◌≤◌, List, Some, length, refl, sym, ap, subst, ◌∙◌, arith}
+use Rattle.std.proofs.Common.{◌≡◌, List, Some, length, refl, sym, ap, subst, ◌∙◌, arith}
 use Rattle.std.specs.Prelude.{slice_get}
 use Rattle.std.proofs.lemmas.Option.{slice_get_read}
 use Rattle.xray_image.specs.Program.{Program}
 use Rattle.patch_script.specs.Refusals.{commands_of}
-use Rattle.traced_run.specs.Runs.{ThreadRun}
-use Rattle.audit_check.specs.Rows.{AreRunsOf}
 use Rattle.audit_check.specs.Statements.{statement_of}
 use Rattle.audit_check.specs.Verdicts.{IsVerdict}
 use Rattle.audit_check.specs.declared.audit.AuditEntry.{AuditEntry}

@@ -1,4 +1,4 @@
-use Rattle.std.proofs.Common.{List, length}
+use Rattle.std.proofs.Common.{List}
 use Rattle.patch_script.specs.Refusals.{commands_of}
 use Rattle.traced_run.specs.Runs.{ThreadRun}
 use Rattle.audit_check.specs.Rows.{AreRunsOf}

@@ -1,4 +1,4 @@
-use Rattle.std.proofs.Common.{◌≡◌, ◌+◌, ◌<◌, ◌∷◌, [], Bor, List, length, length-append, ap, arith, subst, sym, ◌∙◌}
+use Rattle.std.proofs.Common.{◌≡◌, ◌+◌, ◌<◌, Bor, List, length, ap, arith, subst, sym, ◌∙◌}
 use Rattle.xray_image.specs.Program.{IsAccepted, Program}
 use Rattle.handler_word.specs.declared.mark.Mark.{Mark}
 use Rattle.traced_run.proofs.RecordedEvents.{event_recordable}

@@ -1,5 +1,4 @@
-use Rattle.std.proofs.Common.{◌≡◌, ◌≤◌, ℕ, List, [], length}
-use Rattle.xray_image.specs.Program.{IsAccepted}
+use Rattle.std.proofs.Common.{◌≡◌, ◌≤◌, List, [], length}
 use Rattle.machine_step.specs.declared.end.End.{End}
 use Rattle.machine_step.specs.PlainStep.{Passing, PlainRun, State}
 use Rattle.machine_step.specs.Traced.{IsLoad, IsSameThread, loads_left}

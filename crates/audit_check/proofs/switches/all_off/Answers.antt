@@ -1,4 +1,4 @@
-use Rattle.std.proofs.Common.{◌≡◌, ◌∷◌, [], length, ap, arith, sym, subst, length-append}
+use Rattle.std.proofs.Common.{◌∷◌, [], length, ap, arith, sym, subst, length-append}
 use Rattle.std.specs.Prelude.{All}
 use Rattle.std.proofs.lemmas.List.Elements.{All-append, All-cons, All-nil}
 use Rattle.audit_check.proofs.Starting.{IsOff}

@@ -1,5 +1,5 @@
-use Rattle.std.proofs.Common.{◌++◌, [], ℕ, Bool, List, subst, sym}
-use Rattle.std.specs.Prelude.{if◌then◌else◌, nat_le}
+use Rattle.std.proofs.Common.{◌++◌, [], Bool, subst, sym}
+use Rattle.std.specs.Prelude.{if◌then◌else◌}
 use Rattle.std.proofs.lemmas.Bool.{le-leb}
 use Rattle.fdr_file.specs.Files.{block_bytes}
 use Rattle.audit_check.specs.private.Blocks.{HasCompared}

@@ -1,4 +1,4 @@
-use Rattle.std.proofs.Common.{◌≡◌, ◌∙◌, sym}
+use Rattle.std.proofs.Common.{◌∙◌, sym}
 use Rattle.audit_check.proofs.Recordings.{compared_empty, compared_last, count_none, count_open}
 use Rattle.audit_check.proofs.blocks.Recording.finish.Goals as goal
 

@@ -1,4 +1,4 @@
-use Rattle.std.proofs.Common.{◌≡◌, ◌++◌, ◌∷◌, [], subst, sym, ◌∙◌}
+use Rattle.std.proofs.Common.{◌++◌, ◌∷◌, [], subst, sym, ◌∙◌}
 use Rattle.fdr_buffer.specs.Filled.{Filled}
 use Rattle.audit_check.specs.declared.blocks.Recording.{Recording}
 use Rattle.audit_check.specs.private.Blocks.{HasNoted}

@@ -1,5 +1,5 @@
 use Rattle.std.proofs.Common.{sym, ◌∙◌}
-use Rattle.audit_check.proofs.Ending.{free_start, held_start, is_another, is_that, never_released, ready_again}
+use Rattle.audit_check.proofs.Ending.{free_start, held_start, is_another, is_that, never_released}
 use Rattle.audit_check.proofs.follower.Follower.end_of.Goals as goal
 
 pub returns-in_ok-at-clause-end : goal.returns-in_ok-at-clause-end

@@ -1,4 +1,3 @@
-use Rattle.std.proofs.Common.{◌≡◌, None, Option, ℕ, sym, subst}
 use Rattle.audit_check.proofs.Stepping.{next_found, next_none}
 use Rattle.audit_check.proofs.follower.Follower.next_place.Goals as goal
 

@@ -1,4 +1,4 @@
-use Rattle.std.proofs.Common.{◌≡◌, ◌+◌, ◌<◌, length, ap, refl, sym, arith, ◌∙◌}
+use Rattle.std.proofs.Common.{◌+◌, ◌<◌, length, ap, refl, sym, arith, ◌∙◌}
 use Rattle.std.proofs.lemmas.Option.{slice_get_read}
 use Rattle.audit_check.specs.declared.follower.Follower.{Follower}
 use Rattle.audit_check.proofs.Waiting.{passed_next}

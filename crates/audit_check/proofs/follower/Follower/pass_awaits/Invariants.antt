@@ -1,4 +1,4 @@
-use Rattle.std.proofs.Common.{◌≡◌, ◌≤◌, ◌-◌, length}
+use Rattle.std.proofs.Common.{◌≡◌, ◌-◌, length}
 use Rattle.audit_check.specs.private.Judging.{ArePassed}
 use Rattle.audit_check.proofs.follower.Follower.pass_awaits.Given as goal
 

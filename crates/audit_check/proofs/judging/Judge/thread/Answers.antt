@@ -1,8 +1,7 @@
-use Rattle.std.proofs.Common.{◌≡◌, ◌≤◌, [], List, ℕ, length, refl, sym, ap, subst, ◌∙◌, arith}
-use Rattle.xray_image.specs.Program.{IsAccepted, Program}
+use Rattle.std.proofs.Common.{◌≤◌, length, refl, sym, ap, subst, ◌∙◌, arith}
+use Rattle.xray_image.specs.Program.{IsAccepted}
 use Rattle.patch_script.specs.Refusals.{commands_of}
 use Rattle.machine_step.specs.declared.limits.Limits.{Limits}
-use Rattle.audit_check.specs.private.Judging.{HasJudged}
 use Rattle.audit_check.specs.private.Walks.{IsWayOf, Way}
 use Rattle.audit_check.specs.Statements.{most_marks, said_by}
 use Rattle.audit_check.proofs.Finding.{along, found}

@@ -1,4 +1,4 @@
-use Rattle.std.proofs.Common.{rules, ◌≡◌, ℕ, ◌<◌, ◌≤◌, refl, sym, ap, subst, ◌∙◌, arith}
+use Rattle.std.proofs.Common.{rules, ◌≡◌, ◌<◌, ◌≤◌, sym, ap, subst, ◌∙◌, arith}
 use Rattle.xray_image.specs.Program.{Program}
 use Rattle.patch_script.specs.Micros.{micro_at, start_of, total_of}
 use Rattle.patch_script.specs.Limits.{most_micros}

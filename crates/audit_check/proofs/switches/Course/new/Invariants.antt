@@ -1,4 +1,3 @@
-use Rattle.std.proofs.Common.{◌≡◌}
 use Rattle.patch_script.specs.Refusals.{commands_of}
 use Rattle.audit_check.specs.private.Switches.{IsCourseUpTo}
 use Rattle.audit_check.proofs.switches.Course.new.Given as goal

@@ -1,7 +1,7 @@
-use Rattle.std.proofs.Common.{◌≡◌, ◌<◌, ◌≤◌, ℕ, List, Some, length, arith, refl, sym, ap, subst, ◌∙◌}
+use Rattle.std.proofs.Common.{◌≡◌, ℕ, List, Some, length, arith, refl, sym, ap, subst, ◌∙◌}
 use Rattle.std.specs.Prelude.{slice_get}
 use Rattle.std.proofs.lemmas.Option.{slice_get_read}
-use Rattle.audit_check.specs.private.Turns.{AreMade, IsLeast, IsMet, IsTurned, is_odd}
+use Rattle.audit_check.specs.private.Turns.{AreMade, IsLeast, IsMet, is_odd}
 use Rattle.audit_check.proofs.TurnLemmas.{apart_sides, at_once, at_turn, past_bound, same_sides, turn_past}
 use Rattle.audit_check.proofs.turns.Turns.first.Goals.{then-is_odd-on, else-is_odd-on+in_ok-at}
 use Rattle.audit_check.proofs.turns.Turns.first.Goals as goal

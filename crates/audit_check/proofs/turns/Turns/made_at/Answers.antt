@@ -1,4 +1,4 @@
-use Rattle.std.proofs.Common.{◌≡◌, ◌<◌, ℕ, arith, sym, ◌∙◌, get_or}
+use Rattle.std.proofs.Common.{◌≡◌, arith, ◌∙◌, get_or}
 use Rattle.std.proofs.lemmas.List.{get_or_read}
 use Rattle.std.proofs.lemmas.Option.{get_or_from_slice_get, slice_get_within}
 use Rattle.audit_check.proofs.TurnLemmas.{made_by}
