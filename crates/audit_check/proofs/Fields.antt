@@ -1,5 +1,5 @@
 -- The rows as their parts, each before the rest.
-use Rattle.std.proofs.Common.{◌≡◌, ℕ, List, [], ◌∷◌, ◌++◌, refl, sym, ap, ◌∙◌, append_assoc}
+use Rattle.std.proofs.Common.{◌≡◌, ℕ, List, ◌++◌, ◌∙◌, append_assoc}
 use Rattle.std.specs.Prelude.{codes, decimal}
 use Rattle.xray_io.specs.declared.wall.Wall.{Wall}
 use Rattle.machine_step.specs.declared.limits.Limits.{Limits}

@@ -1,6 +1,6 @@
 -- Bytes read as one statement, or are refused at one line.
-use Rattle.std.proofs.Common.{◌≡◌, ℕ, ◌+◌, ◌<◌, ◌≤◌, ◌^◌, List, [], ◌∷◌, length, get_or, take, Some, Ok, Err, Result, refl, sym, ap, ◌∙◌, arith, inl, inr}
-use Rattle.std.specs.Prelude.{All, slice_get}
+use Rattle.std.proofs.Common.{◌≡◌, ℕ, ◌+◌, ◌<◌, ◌^◌, List, [], ◌∷◌, length, get_or, take, Ok, Err, Result, sym, ap, ◌∙◌, arith, inl, inr}
+use Rattle.std.specs.Prelude.{All}
 use Rattle.std.proofs.lemmas.Bool.{cases_lt}
 use Rattle.std.proofs.lemmas.List.Elements.{All-cons, All-nil}
 use Rattle.std.proofs.lemmas.Option.{slice_get-get_or}
@@ -10,7 +10,7 @@ use Rattle.trace_flush.specs.Audit.{ThreadAudit, audit_text}
 use Rattle.trace_flush.specs.Telling.{HasNumbers, HasSetupNumbers}
 use Rattle.audit_check.specs.declared.fault.AuditFault.{AuditFault}
 use Rattle.audit_check.specs.declared.fault.AuditFault.TheVariants.{Form, NoMemory}
-use Rattle.audit_check.specs.Reading.{Begins, IsRefused, ReadsAs, whole_lines}
+use Rattle.audit_check.specs.Reading.{IsRefused, ReadsAs, whole_lines}
 use Rattle.audit_check.specs.Statements.{HasCounts, MayState, Statement, text_of}
 
 -- ---- the numbers of a statement have 64 bits

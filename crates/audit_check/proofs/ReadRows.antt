@@ -1,5 +1,5 @@
 -- Whole rows: what is read of a row is what it prints.
-use Rattle.std.proofs.Common.{◌≡◌, ◌<◌, ◌≤◌, ◌^◌, ◌==◌, ◌&&◌, ℕ, Bool, true, false, List, [], ◌∷◌, ◌++◌, length, take, drop, Option, Some, None, refl, sym, ap, subst, ◌∙◌, arith, eq-eqb, eqb-true, leb-true, lt-ltb, ltb-true}
+use Rattle.std.proofs.Common.{◌≡◌, ◌<◌, ◌≤◌, ◌^◌, ◌==◌, ◌&&◌, ℕ, Bool, true, false, List, ◌++◌, take, drop, Option, Some, None, refl, sym, ap, subst, ◌∙◌, arith, eq-eqb, eqb-true, leb-true, lt-ltb, ltb-true}
 use Rattle.std.specs.Prelude.{codes, decimal, if◌then◌else◌, nat_le, nat_lt}
 use Rattle.std.specs.Str.{bytes_eq}
 use Rattle.std.specs.Str.Parse.{digits_value}
@@ -7,8 +7,6 @@ use Rattle.std.proofs.lemmas.Option.{same_Some}
 use Rattle.std.proofs.lemmas.Slice.Eq.{bytes_eq-Decides}
 use Rattle.text_lines.specs.Numbers.{is_numeral, numeral}
 use Rattle.text_lines.specs.Written.{WrittenNumbersRead}
-use Rattle.xray_io.specs.declared.wall.Wall.{Wall}
-use Rattle.machine_step.specs.declared.end.End.{End}
 use Rattle.machine_step.specs.declared.limits.Limits.{Limits}
 use Rattle.machine_step.specs.declared.setup.Setup.{Setup}
 use Rattle.machine_step.specs.Setups.{AreLimits, IsSetup}
@@ -19,7 +17,7 @@ use Rattle.audit_check.specs.declared.setup.Stamps.{Stamps}
 use Rattle.audit_check.specs.declared.thread_rows.Counts.{Counts}
 use Rattle.audit_check.specs.private.Lines.{counts_row}
 use Rattle.audit_check.specs.private.Parts.{AreBuffers, AreStamps, BeginsNoDigit, HasShortCounts, buffers_part, counts_part, setup_row, stamps_part}
-use Rattle.audit_check.specs.private.Taking.{◌>>=◌, after, buffers_in, counts_in, cpus_in, digit_count, end_in, field_in, limits_in, number_in, printed, recycled_in, said_in, setup_by, setup_in, short_in, stamps_in}
+use Rattle.audit_check.specs.private.Taking.{after, buffers_in, counts_in, cpus_in, digit_count, end_in, field_in, limits_in, number_in, printed, recycled_in, said_in, setup_by, setup_in, short_in, stamps_in}
 use Rattle.audit_check.proofs.Fields.{buffers_parts, counts_parts, limits_parts, recycled_parts, said_parts, setup_parts, stamps_parts}
 use Rattle.audit_check.proofs.ReadParts.{after_found, after_only, bound, chosen, end_found, end_only, field_found, field_only, first_same, into, met, rest_same, short_found, short_only}
 

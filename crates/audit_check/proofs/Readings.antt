@@ -1,6 +1,6 @@
 -- An audit that is read row by row, and is refused at a row.
-use Rattle.std.proofs.Common.{◌≡◌, ◌≢◌, ℕ, ◌+◌, ◌*◌, ◌<◌, ◌≤◌, ◌^◌, List, [], ◌∷◌, ◌++◌, length, Option, Some, None, refl, sym, ap, subst, ◌∙◌, arith, inl, inr, append-nil, append_assoc, length-append}
-use Rattle.std.specs.Prelude.{◌⊎◌, All, Err, slice_get}
+use Rattle.std.proofs.Common.{◌≡◌, ◌≢◌, ℕ, ◌+◌, ◌<◌, ◌≤◌, ◌^◌, List, [], ◌∷◌, ◌++◌, length, Some, None, refl, sym, ap, subst, ◌∙◌, arith, inl, inr, append-nil, append_assoc, length-append}
+use Rattle.std.specs.Prelude.{◌⊎◌, Err}
 use Rattle.std.specs.List.{flat_map}
 use Rattle.std.proofs.lemmas.Grind.{flat_map-append}
 use Rattle.std.proofs.lemmas.List.Elements.{All-nil}
@@ -10,7 +10,7 @@ use Rattle.handler_word.specs.declared.mark.Mark.{Mark}
 use Rattle.machine_step.specs.declared.setup.Setup.{Setup}
 use Rattle.machine_step.specs.Setups.{IsSetup}
 use Rattle.machine_step.specs.Texts.{marks_line}
-use Rattle.trace_flush.specs.Audit.{ThreadAudit, recycled_line, thread_line}
+use Rattle.trace_flush.specs.Audit.{ThreadAudit, thread_line}
 use Rattle.audit_check.specs.declared.fault.AuditFault.{AuditFault}
 use Rattle.audit_check.specs.declared.fault.AuditFault.TheVariants.{Form, NoMemory}
 use Rattle.audit_check.specs.declared.reading.Rows.{Rows}

@@ -14,10 +14,9 @@ use Rattle.machine_step.specs.Texts.{end_text, line_feed, marks_line}
 use Rattle.trace_flush.specs.Audit.{ThreadAudit, limits_text, recycled_line, thread_line}
 use Rattle.audit_check.specs.private.Lines.{all_rows, first_rows, rows_of}
 use Rattle.audit_check.specs.private.Parts.{buffers_part, format_row, setup_row, stamps_part}
-use Rattle.audit_check.specs.Statements.{Statement, text_of}
+use Rattle.audit_check.specs.Statements.{Statement}
 use Rattle.audit_check.proofs.Digits.{decimal_feeds}
-use Rattle.audit_check.proofs.RowLines.{AreLines, HasNoFeed, IsLine, feeds-append, lines-append, lines_of_text}
-use Rattle.audit_check.specs.Reading.{whole_lines}
+use Rattle.audit_check.proofs.RowLines.{AreLines, HasNoFeed, IsLine, feeds-append, lines-append}
 
 -- ---- bytes without line feeds
 

@@ -1,11 +1,11 @@
 -- Marks and their longest runs.
-use Rattle.std.proofs.Common.{◌≡◌, ◌≢◌, ℕ, zero, suc, ◌+◌, ◌<◌, ◌==◌, Bool, true, false, List, [], ◌∷◌, ◌++◌, map, Option, Some, None, refl, sym, ap, ◌∙◌, add-one, arith, append-nil, eqb-true, eq-eqb}
+use Rattle.std.proofs.Common.{◌≡◌, ◌≢◌, ℕ, zero, suc, ◌+◌, ◌==◌, Bool, true, false, List, [], ◌∷◌, ◌++◌, map, Option, Some, None, refl, sym, ap, ◌∙◌, add-one, arith, append-nil, eqb-true, eq-eqb}
 use Rattle.std.specs.Prelude.{codes, if◌then◌else◌, replicate}
-use Rattle.std.specs.List.{flat_map, join_with_byte}
+use Rattle.std.specs.List.{join_with_byte}
 use Rattle.std.proofs.lemmas.Bool.{eqb-false, ne_eqb}
 use Rattle.handler_word.specs.declared.mark.Mark.{Mark}
 use Rattle.handler_word.specs.declared.mark.Mark.TheVariants.{Skipped, NoHandler, NotLogging, Recorded, RecordedArg}
-use Rattle.handler_word.specs.Runs.{mark_byte, onto_runs, run_text, runs_of, runs_text}
+use Rattle.handler_word.specs.Runs.{mark_byte, onto_runs, run_text, runs_of}
 use Rattle.machine_step.specs.Texts.{line_feed, marks_line}
 use Rattle.audit_check.specs.private.Marks.{AreRuns, marks_of_runs, marks_part, spaced}
 

@@ -1,7 +1,5 @@
-use Rattle.std.proofs.Common.{◌≡◌, true, false, [], ◌∷◌, ◌++◌, sym, subst, append_assoc}
+use Rattle.std.proofs.Common.{◌≡◌, true, false, [], ◌∷◌, ◌++◌, subst, append_assoc}
 use Rattle.std.proofs.lemmas.Result.{err_from_is_err_and}
-use Rattle.handler_word.specs.declared.mark.Mark.{Mark}
-use Rattle.machine_step.specs.Texts.{marks_line}
 use Rattle.audit_check.specs.private.Lines.{HasTaken, counts_row, first_rows}
 use Rattle.audit_check.proofs.ReadRows.{setup_tells}
 use Rattle.audit_check.proofs.Readings.{marks_refused, row_another, row_missing, unread_marks}
