@@ -13,10 +13,12 @@ use xray_image::read_image;
 const TRACED: &[u8] = b"patch\nset_handler\ninit\ngo\n";
 
 /// The rows that the audit of a run of `OUTPUTS_AN_A` begins with.
-const SETUP: &[u8] = b"xray-audit 1\nthreads=1 buffer-size=16384 buffer-max=100 fuel=10000000 passings=1048576 tick=1 tsc=0 cpus=1 migrate=1048576 pid=1 wall=0.0 frequency=0\n";
+const SETUP: &[u8] =
+    b"xray-audit 1\nthreads=1 buffer-size=16384 buffer-max=100 fuel=10000000 passings=1048576 tick=1 tsc=0 cpus=1 migrate=1048576 pid=1 wall=0.0 frequency=0\n";
 
 /// The other rows.
-const BOTH_RECORDED: &[u8] = b"thread 1 returned passings 2 recorded 2 segments 1 first 0\nmarks +2\nrecycled 0\n";
+const BOTH_RECORDED: &[u8] =
+    b"thread 1 returned passings 2 recorded 2 segments 1 first 0\nmarks +2\nrecycled 0\n";
 
 /// The trace of that run: a header, and a block of one entry and one exit.
 const TRACE: [u8; 128] = [
@@ -122,11 +124,31 @@ fn marks_follow_the_script(rt: HostRuntime) -> Result<(), Fail> {
         (b"patch\nset_handler\ninit\ngo\nunpatch\n", b"+1 .1", true),
         (b"patch\nset_handler\ninit\ngo\nunpatch\n", b".2", true),
         (b"patch\nset_handler\ninit\ngo\nunpatch\n", b".1 +1", true),
-        (b"patch\nset_handler\ninit\ngo\nunpatch\npatch\n", b".1 +1", true),
-        (b"patch\nset_handler\ninit\ngo\nawait 1 1\nunpatch\n", b".2", false),
-        (b"patch\nset_handler\ninit\ngo\nawait 1 1\nunpatch\n", b"+1 .1", true),
-        (b"patch\nset_handler\ninit\nhold 1 1\ngo\nunpatch\nrelease 1\n", b"+2", false),
-        (b"patch\nset_handler\ninit\nhold 1 1\ngo\nunpatch\nrelease 1\n", b"+1 .1", true),
+        (
+            b"patch\nset_handler\ninit\ngo\nunpatch\npatch\n",
+            b".1 +1",
+            true,
+        ),
+        (
+            b"patch\nset_handler\ninit\ngo\nawait 1 1\nunpatch\n",
+            b".2",
+            false,
+        ),
+        (
+            b"patch\nset_handler\ninit\ngo\nawait 1 1\nunpatch\n",
+            b"+1 .1",
+            true,
+        ),
+        (
+            b"patch\nset_handler\ninit\nhold 1 1\ngo\nunpatch\nrelease 1\n",
+            b"+2",
+            false,
+        ),
+        (
+            b"patch\nset_handler\ninit\nhold 1 1\ngo\nunpatch\nrelease 1\n",
+            b"+1 .1",
+            true,
+        ),
     ];
     for (script, marks, follows) in cases {
         let mut rows = Vec::from_slice(
@@ -136,7 +158,11 @@ fn marks_follow_the_script(rt: HostRuntime) -> Result<(), Fail> {
         rows.extend_from_slice(marks)?;
         rows.extend_from_slice(b"\nrecycled 0\n")?;
         let verdict = verdict_of(&rt, alloc, script, &rows, &TRACE)?;
-        let expected = if follows { Verdict::Counts(1) } else { Verdict::Marks(1) };
+        let expected = if follows {
+            Verdict::Counts(1)
+        } else {
+            Verdict::Marks(1)
+        };
         assert_eq!(rt; verdict, expected);
     }
     Ok(())
@@ -147,21 +173,66 @@ fn audits_are_refused_at_their_first_bad_line(rt: HostRuntime) -> Result<(), Fai
     let alloc = rt.alloc();
     let cases: [(&[u8], u32); 16] = [
         (b"", 3),
-        (b"thread 1 returned passings 2 recorded 2 segments 1 first 0\nmarks +2\nrecycled 0", 5),
-        (b"thread 1 returned passings 2 recorded 2 segments 1 first 0\nmarks +2\nrecycled 0\nx", 6),
-        (b"thread 1 returned passings 2 recorded 2 segments 1 first 0\nmarks +2\nrecycled 0\n\n", 6),
-        (b"thread 1 returned passings 2 recorded 2 segments 1 first 0\nmarks +2\nrecycled 00\n", 5),
-        (b"thread 1 returned passings 2 recorded 2 segments 1 first 0\nmarks +2\n", 5),
-        (b"thread 1 returned passings 2 recorded 2 segments 1 first 0\nmarks +1 +1\nrecycled 0\n", 4),
-        (b"thread 1 returned passings 2 recorded 2 segments 1 first 0\nmarks +0\nrecycled 0\n", 4),
-        (b"thread 1 returned passings 2 recorded 2 segments 1 first 0\nmarks \nrecycled 0\n", 4),
-        (b"thread 1 returned passings 2 recorded 2 segments 1 first 0\nmarks +1048577\nrecycled 0\n", 4),
-        (b"thread 1 returned passings 2 recorded 2 segments 1 first 0\nmarks +1048576 .1\nrecycled 0\n", 4),
-        (b"thread 1 returned passings 2 recorded 2 segments 1 first 0\nmarks +2 \nrecycled 0\n", 4),
-        (b"thread 2 returned passings 2 recorded 2 segments 1 first 0\nmarks +2\nrecycled 0\n", 3),
-        (b"thread 1 returned passings 4294967296 recorded 2 segments 1 first 0\nmarks +2\nrecycled 0\n", 3),
-        (b"thread 1 gone passings 2 recorded 2 segments 1 first 0\nmarks +2\nrecycled 0\n", 3),
-        (b"thread 1 returned passings 2 recorded 2 segments 1 first 0\nmarks -\nrecycled 18446744073709551616\n", 5),
+        (
+            b"thread 1 returned passings 2 recorded 2 segments 1 first 0\nmarks +2\nrecycled 0",
+            5,
+        ),
+        (
+            b"thread 1 returned passings 2 recorded 2 segments 1 first 0\nmarks +2\nrecycled 0\nx",
+            6,
+        ),
+        (
+            b"thread 1 returned passings 2 recorded 2 segments 1 first 0\nmarks +2\nrecycled 0\n\n",
+            6,
+        ),
+        (
+            b"thread 1 returned passings 2 recorded 2 segments 1 first 0\nmarks +2\nrecycled 00\n",
+            5,
+        ),
+        (
+            b"thread 1 returned passings 2 recorded 2 segments 1 first 0\nmarks +2\n",
+            5,
+        ),
+        (
+            b"thread 1 returned passings 2 recorded 2 segments 1 first 0\nmarks +1 +1\nrecycled 0\n",
+            4,
+        ),
+        (
+            b"thread 1 returned passings 2 recorded 2 segments 1 first 0\nmarks +0\nrecycled 0\n",
+            4,
+        ),
+        (
+            b"thread 1 returned passings 2 recorded 2 segments 1 first 0\nmarks \nrecycled 0\n",
+            4,
+        ),
+        (
+            b"thread 1 returned passings 2 recorded 2 segments 1 first 0\nmarks +1048577\nrecycled 0\n",
+            4,
+        ),
+        (
+            b"thread 1 returned passings 2 recorded 2 segments 1 first 0\nmarks +1048576 .1\nrecycled 0\n",
+            4,
+        ),
+        (
+            b"thread 1 returned passings 2 recorded 2 segments 1 first 0\nmarks +2 \nrecycled 0\n",
+            4,
+        ),
+        (
+            b"thread 2 returned passings 2 recorded 2 segments 1 first 0\nmarks +2\nrecycled 0\n",
+            3,
+        ),
+        (
+            b"thread 1 returned passings 4294967296 recorded 2 segments 1 first 0\nmarks +2\nrecycled 0\n",
+            3,
+        ),
+        (
+            b"thread 1 gone passings 2 recorded 2 segments 1 first 0\nmarks +2\nrecycled 0\n",
+            3,
+        ),
+        (
+            b"thread 1 returned passings 2 recorded 2 segments 1 first 0\nmarks -\nrecycled 18446744073709551616\n",
+            5,
+        ),
     ];
     for (rows, line) in cases {
         match read_audit(alloc, &audit_with(alloc, rows)?) {
