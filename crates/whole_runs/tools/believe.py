@@ -25,15 +25,15 @@ WORD = re.compile(r"[^\s(){}\[\],;\"λ]+")
 USE = re.compile(r"^use (Rattle\.[^\s]+?)(?:\.\{(.*)\})?(?: as (\S+))?$")
 INTRO = """# What has to be believed
 
-The prover checks that the program meets its contract. That the contract says what a user wants, one has to read. It is
-the record `Answered`, which the two top calls promise ([call.rt](../crates/xray_program/src/call.rt)). Here are all
-definitions of this repository that it reaches, so whoever has read them has read all of what is promised. A file comes
-before the files whose definitions it uses: one can read from the top, and stop where a name says enough.
-[MODEL.md](MODEL.md) tells the same in words.
+The prover checks that the program meets its contract. Only a reader can say whether the contract is what a user wants.
+The contract is the record `Answered`, which both top calls promise ([call.rt](../crates/xray_program/src/call.rt)).
+Below are all definitions of this repository that it reaches. Whoever has read them has read all that is promised. A
+file comes before the files whose definitions it uses. So you can read from the top, and stop where a name says enough.
+[MODEL.md](MODEL.md) says the same in words.
 
 `crates/whole_runs/tools/believe.py` makes this page from the sources, and the gate compares them. Lines are those of
 the definitions, with the comments above them. A definition in **bold** is one that the headline reaches: what `sim` and
-`run` promise of threads, marks and traces (`SimIsTraced` and `RunIsTraced`).
+`run` promise about threads, marks and traces (`SimIsTraced` and `RunIsTraced`).
 """
 
 
