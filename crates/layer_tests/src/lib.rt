@@ -9,6 +9,10 @@ mod accounts;
 #[cfg(test)]
 mod assembler;
 #[cfg(test)]
+mod audits;
+#[cfg(test)]
+mod call_tries;
+#[cfg(test)]
 mod checks;
 #[cfg(test)]
 mod code_table;

@@ -15,6 +15,8 @@ pub mod Giving
 pub mod StagesLeft
 pub mod LoadFacts
 pub mod GiveClauses
+pub mod PassFacts
+pub mod Limited
 pub mod Beginning
 pub mod Runs
 pub mod SomeEnd

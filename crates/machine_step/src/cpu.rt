@@ -1,6 +1,6 @@
 //! A traced thread.
 
-ghost use Rattle.std.specs.Prelude.{◌≡◌, ◌<◌, ◌≤◌, ◌↔◌, ◌++◌, ℕ, List, [], length, slice_index, Some, Option, IsTrue, IsSome, IfOk};
+ghost use Rattle.std.specs.Prelude.{◌≡◌, ◌<◌, ◌≤◌, ◌↔◌, ◌∷◌, ◌++◌, ℕ, List, [], length, slice_get, slice_index, Some, Option, IsTrue, IsSome, IfOk};
 ghost use Rattle.sled_words.specs.Words.{release_word, state_word};
 ghost use Rattle.machine_step.specs.declared.end.End.{End};
 ghost use Rattle.machine_step.specs.{PlainStep.{Passing, PlainRun, State}, Loads.{Load}, Setups.{AreLimits}};
@@ -16,7 +16,7 @@ use crate::stand::{Stand, pass_sled, run_to_sled};
 use crate::steps::Steps;
 use crate::want::Want;
 use fdr_record::Event;
-use handler_word::Marks;
+use handler_word::{Mark, Marks};
 use sled_words::MAX_THREADS;
 use std::alloc::Global;
 use std::marker::Model;
@@ -188,6 +188,49 @@ impl<'a> Cpu<'a> {
                 event
             }
         }
+    }
+
+    /// The number of the sled of the passing that the thread wants to be let into.
+    #[inline]
+    pub fn sled(&self) -> u32
+        requires { IsGate self.now.want }
+        ensures within { result < length self.now.program.sleds }
+        ensures left { length self.now.marks < self.now.limits.passings }
+        ensures passing { (passed : List Passing) (end : End) (last : State)
+            → PlainRun self.now.program self.now.limits self.now.thread passed end last
+            → (passing : Passing) × (slice_get passed (length self.now.marks) ≡ Some passing)
+            × (passing.sled ≡ result) }
+    {
+        match self.stand {
+            Stand::Gate { sled, .. } => sled,
+            Stand::Loading { .. } | Stand::Ended { .. } => unreachable!(),
+        }
+    }
+
+    /// Makes the passing that the thread wants to be let into, as one with this mark. The thread makes no
+    /// loads, so the mark may be any, also one that no loads could give. A caller that knows the marks of
+    /// a thread gets its events in this way. The answer is the event of the passing, if the mark records
+    /// one.
+    #[inline(always)]
+    pub fn pass(&mut self, mark: Mark) -> Option<Event>
+        requires { IsGate self.old.want }
+        ensures thread { IsSameThread self.old self.new }
+        ensures mark { self.new.marks ≡ self.old.marks ++ mark ∷ [] }
+        ensures between { IsLoad self.new.want → ⊥ }
+        ensures event { (passed : List Passing) (end : End) (last : State)
+            → PlainRun self.old.program self.old.limits self.old.thread passed end last
+            → recorded passed self.new.marks
+            ≡ recorded passed self.old.marks ++ events_in result }
+        ensures nearer { loads_left self.new < loads_left self.old }
+    {
+        let Stand::Gate { place, sled } = self.stand else {
+            unreachable!()
+        };
+        let image = self.steps.image();
+        let event = event_at(image, sled, self.thread, &self.machine, self.limits, mark);
+        self.marks.add(mark);
+        self.stand = pass_sled(&mut self.machine, self.steps, self.limits, place);
+        event
     }
 
     /// The number of the thread, from 1.

@@ -33,6 +33,12 @@ pub fn some_end()
         × PlainRun program limits thread passed end last }
 {}
 
+/// A plain run makes no more passings than its limits allow.
+pub fn passings_are_limited()
+    ensures { (program : Program) (limits : Limits) (thread : ℕ) (passed : List Passing) (end : End) (last : State)
+        → PlainRun program limits thread passed end last → length passed ≤ limits.passings }
+{}
+
 /// Before a passing of a given number a thread of an accepted image is in only one state. All ways
 /// to it have the same passings, and come to the same passing.
 pub fn one_state_before_a_passing()

@@ -32,8 +32,8 @@ pub use cpu::Cpu;
 pub use end::End;
 pub use laws::{
     a_traced_thread_ends_as_its_plain_run, allowed_loads_are_whole, one_end,
-    one_state_before_a_passing, some_end, some_marks_follow, wanted_loads_have_one_value,
-    what_follows_is_allowed,
+    one_state_before_a_passing, passings_are_limited, some_end, some_marks_follow,
+    wanted_loads_have_one_value, what_follows_is_allowed,
 };
 pub use limits::Limits;
 pub use plain_end::PlainEnd;

@@ -18,7 +18,8 @@ use Rattle.stack_rebuild.specs.Calls.{open_calls, standing_after}
 use Rattle.stack_rebuild.specs.Histories.{history_of, history_of_thread, thread_event}
 use Rattle.stack_rebuild.specs.Stacks.{Timed, gets_deep, most_open}
 use Rattle.stack_rebuild.specs.private.Folding.{Folds, IsFold, IsFollowed, IsStack, IsStackOf, Threads}
-use Rattle.stack_rebuild.specs.private.Scanning.{AreFrames, AreWithin, Follows, Keeps, Summed, timed_now}
+use Rattle.stack_rebuild.specs.private.Scanning.{AreFrames, AreWithin, Follows, Keeps, timed_now}
+use Rattle.stack_rebuild.specs.PathSums.{Summed}
 use Rattle.stack_rebuild.proofs.Deep.{deep_still, followed_down, followed_shallow, least_new, least_past, least_same}
 use Rattle.stack_rebuild.proofs.Frames.{frames_kept}
 use Rattle.stack_rebuild.proofs.Growing.{history_more, history_same, other_same, own_more, same_last, timed_more}

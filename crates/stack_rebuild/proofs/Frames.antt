@@ -17,8 +17,8 @@ use Rattle.stack_rebuild.specs.declared.tally.Tally.{Tally}
 use Rattle.stack_rebuild.specs.declared.thread_stack.Frame.{Frame}
 use Rattle.stack_rebuild.specs.Calls.{Standing, cycles_between, from_innermost, leaves, left_open, next_standing, open_after_kind, open_calls, pair_at, pair_of_call, standing_after}
 use Rattle.stack_rebuild.specs.Stacks.{Timed, path_of, spent_in}
-use Rattle.stack_rebuild.specs.private.PathNumbers.{path_at}
-use Rattle.stack_rebuild.specs.private.Scanning.{AreFrames, AreSums, Follows, IsFrame, Keeps, Opens, spending, timed_now, top_of, with_spent}
+use Rattle.stack_rebuild.specs.PathSums.{AreSums, path_at}
+use Rattle.stack_rebuild.specs.private.Scanning.{AreFrames, Follows, IsFrame, Keeps, Opens, spending, timed_now, top_of, with_spent}
 use Rattle.stack_rebuild.proofs.Nesting.{AllBefore, Nested, ended_by, nested_ended, nested_history, pair_by}
 use Rattle.stack_rebuild.proofs.Spending.{adds, made, path_of-cons, spent_at_end, spent_more, timed_new}
 

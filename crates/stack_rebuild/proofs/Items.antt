@@ -11,7 +11,7 @@ abbrev pub IsIn : {X : Type 0} → X → List X → Type 0
 IsIn x [] = ⊥
 IsIn x (y ∷ ys) = (x ≡ y) ⊎ IsIn x ys
 
-in_from_Contains : {X : Type 0} (xs : List X) (x : X) (k : ℕ) → k < length xs → get_or xs k x ≡ x → IsIn x xs
+pub in_from_Contains : {X : Type 0} (xs : List X) (x : X) (k : ℕ) → k < length xs → get_or xs k x ≡ x → IsIn x xs
 in_from_Contains [] x k within is = absurd (omega arith)
 in_from_Contains (y ∷ ys) x zero within is = inl (sym is)
 in_from_Contains (y ∷ ys) x (suc k) within is = inr (in_from_Contains ys x k (omega arith) is)

@@ -15,6 +15,8 @@ pub mod Pairing
 pub mod Results
 pub mod RowsOf
 pub mod Spending
+pub mod Stacking
 pub mod Sums
+pub mod Threads
 pub mod Trees
 pub mod Views

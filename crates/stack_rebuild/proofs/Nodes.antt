@@ -5,9 +5,9 @@ use Rattle.std.proofs.lemmas.Grind.{get_or_after_one}
 use Rattle.stack_rebuild.specs.declared.node.Node.{Node}
 use Rattle.stack_rebuild.specs.declared.node.Step.{Step}
 use Rattle.stack_rebuild.specs.declared.tally.Tally.{Tally}
-use Rattle.stack_rebuild.specs.private.PathNumbers.{AreNumbered, Numbers, path_at, path_by, paths_after}
+use Rattle.stack_rebuild.specs.private.PathNumbers.{AreNumbered, Numbers, path_by, paths_after}
+use Rattle.stack_rebuild.specs.PathSums.{no_tally, path_at}
 use Rattle.stack_rebuild.specs.private.PathTree.{paths_in, step_of, steps_in, tallies_in, tally_in}
-use Rattle.stack_rebuild.specs.private.Scanning.{no_tally}
 use Rattle.stack_rebuild.proofs.Trees.{paths_more}
 
 pub steps_long : (nodes : List Node) → length (steps_in nodes) ≡ length nodes - 1

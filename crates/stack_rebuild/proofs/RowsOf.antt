@@ -18,9 +18,8 @@ use Rattle.std.proofs.lemmas.Map.Keys.{IsDistinct-head, IsDistinct-IsPermutation
 use Rattle.stack_rebuild.specs.declared.tally.Tally.{Tally}
 use Rattle.stack_rebuild.specs.declared.stack_row.StackRow.{StackRow}
 use Rattle.stack_rebuild.specs.Ascending.{each_once}
-use Rattle.stack_rebuild.specs.private.PathNumbers.{path_at}
+use Rattle.stack_rebuild.specs.PathSums.{AllNumbered, AreSums, no_tally, path_at, tally_of}
 use Rattle.stack_rebuild.specs.private.Rows.{row_before, row_by, rows_at, rows_for}
-use Rattle.stack_rebuild.specs.private.Scanning.{AllNumbered, AreSums, no_tally, tally_of}
 use Rattle.stack_rebuild.specs.Stacks.{PathRow, Timed, has_path, path_cmp, path_row, told}
 use Rattle.stack_rebuild.proofs.Orders.{order_all, order_distinct, order_low}
 use Rattle.stack_rebuild.proofs.Ascents.{Strict, each_in, is_each_once}
@@ -56,7 +55,7 @@ append-right (x ∷ xs) ys z is = inr (append-right xs ys z is)
 -- ---- the pairs of a path
 
 -- a path that is counted is that of a pair
-counted-in : (path : List ℕ) (pairs : List Timed) → 0 < count_by (has_path path) pairs → IsIn path (paths_of_pairs pairs)
+pub counted-in : (path : List ℕ) (pairs : List Timed) → 0 < count_by (has_path path) pairs → IsIn path (paths_of_pairs pairs)
 counted-in path [] some = absurd (omega arith)
 counted-in path (pair ∷ pairs) some = by_first (has_path path pair) refl (counted-in path pairs)
   where
@@ -64,7 +63,7 @@ counted-in path (pair ∷ pairs) some = by_first (has_path path pair) refl (coun
     by_first true is later = inl (sym (has_path-same path pair is))
     by_first false is later = inr (later (omega (arith, some, sum_by-cons (λ (p : Timed). cond (has_path path p) 1 0) pair pairs, ap {B = ℕ} (λ b. cond b 1 0) is)))
 
-in-counted : (path : List ℕ) (pairs : List Timed) → IsIn path (paths_of_pairs pairs) → 0 < count_by (has_path path) pairs
+pub in-counted : (path : List ℕ) (pairs : List Timed) → IsIn path (paths_of_pairs pairs) → 0 < count_by (has_path path) pairs
 in-counted path [] is = absurd is
 in-counted path (pair ∷ pairs) (inl is) =
     let has : has_path path pair ≡ true = ap (λ (p : List ℕ). has_path p pair) is ∙ has_own pair in

@@ -3,16 +3,18 @@ use Rattle.std.proofs.Common.{◌≡◌, ◌++◌, ◌<◌, ◌∙◌, ℕ, Bool
 use Rattle.std.specs.declared.cmp.Ordering.{Ordering}
 use Rattle.std.specs.declared.cmp.Ordering.TheVariants.{Less, Equal, Greater}
 use Rattle.std.specs.Ordering.{is_eq, nat_cmp, ordering_then}
+use Rattle.std.specs.Prelude.{All}
 use Rattle.std.specs.FinMap.{nat_cmp-IsAntisymmetric, slice_cmp-IsAntisymmetric}
 use Rattle.std.proofs.Math.Seq.{get_or-append_seam}
 use Rattle.std.proofs.lemmas.Bool.{eq-eqb}
 use Rattle.std.proofs.lemmas.Bool.Decides.{nat_tests}
 use Rattle.std.proofs.lemmas.List.{length-set, get_or-set_same, get_or-set_other}
+use Rattle.std.proofs.lemmas.List.Elements.{All-head, All-tail}
 use Rattle.std.proofs.lemmas.List.Sums.{sum_by-append, sum_by-cons}
 use Rattle.stack_rebuild.specs.declared.tally.Tally.{Tally}
 use Rattle.stack_rebuild.specs.Stacks.{Timed, has_path, path_cmp}
-use Rattle.stack_rebuild.specs.private.PathNumbers.{path_at}
-use Rattle.stack_rebuild.specs.private.Scanning.{AllNumbered, AreSums, Keeps, no_tally, tally_of, with_pair}
+use Rattle.stack_rebuild.specs.PathSums.{AllNumbered, AreOfPath, AreSums, both_tallies, no_tally, path_at, tally_of, with_pair}
+use Rattle.stack_rebuild.specs.private.Scanning.{Keeps}
 use Rattle.stack_rebuild.proofs.Trees.{apart_more, each_more, path_kept}
 
 -- ---- the order of paths
@@ -161,3 +163,76 @@ sums_more paths tallies pairs pair n e old new sums low is here added = record {
         has_path-other (path_at paths k) pair (λ same. apart (sums.apart.apart k n (omega (arith, sums.level)) low (sym same ∙ is))) in
         get_or-set_other tallies n k new d apart
         ∙ (sums.each k d within ∙ sym (tally_more false pairs pair (path_at paths k) not_its))
+
+-- ---- more pairs of one path
+
+tally_append : (pairs more : List Timed) (path : List ℕ) → tally_of (pairs ++ more) path ≡ both_tallies (tally_of pairs path) (tally_of more path)
+tally_append pairs more path =
+    same_tally (tally_of (pairs ++ more) path) (both_tallies (tally_of pairs path) (tally_of more path))
+    (sum_by-append (λ (p : Timed). cond (has_path path p) 1 0) pairs more)
+    (sum_by-append (λ (p : Timed). cond (has_path path p) p.duration 0) pairs more)
+    (sum_by-append (λ (p : Timed). cond (has_path path p) p.own 0) pairs more)
+
+both_none : (t : Tally) → both_tallies t no_tally ≡ t
+both_none t = same_tally (both_tallies t no_tally) t (omega arith) (omega arith) (omega arith)
+
+abbrev AllHave : List ℕ → List Timed → Type 0
+AllHave path pairs = All (λ pair. has_path path pair ≡ true) pairs
+
+-- none of them has another path
+none_of : (path other : List ℕ) (pairs : List Timed) → AllHave path pairs → (other ≡ path → ⊥) → tally_of pairs other ≡ no_tally
+none_of path other [] all apart = refl
+none_of path other (pair ∷ pairs) all apart =
+    let P : Timed → Type 0 = λ p. has_path path p ≡ true in
+    let rest = none_of path other pairs (All-tail P pair pairs all) apart in
+    let not_its : has_path other pair ≡ false =
+    has_path-other other pair (λ is. apart (sym is ∙ has_path-same path pair (All-head P pair pairs all))) in
+    same_tally (tally_of (pair ∷ pairs) other) no_tally
+    (omega (arith, sum_by-cons (λ (p : Timed). cond (has_path other p) 1 0) pair pairs, ap {B = ℕ} (λ a. cond a 1 0) not_its, ap {B = ℕ} (λ (t : Tally). t.count) rest))
+    (omega (arith, sum_by-cons (λ (p : Timed). cond (has_path other p) p.duration 0) pair pairs, ap {B = ℕ} (λ a. cond a pair.duration 0) not_its, ap {B = ℕ} (λ (t : Tally). t.sum) rest))
+    (omega (arith, sum_by-cons (λ (p : Timed). cond (has_path other p) p.own 0) pair pairs, ap {B = ℕ} (λ a. cond a pair.own 0) not_its, ap {B = ℕ} (λ (t : Tally). t.own) rest))
+
+numbered_all : (paths : List (List ℕ)) (n : ℕ) (pairs : List Timed) → n < length paths → AllHave (path_at paths n) pairs → AllNumbered paths pairs
+numbered_all paths n [] low all = tt
+numbered_all paths n (pair ∷ pairs) low all =
+    let P : Timed → Type 0 = λ p. has_path (path_at paths n) p ≡ true in
+    ((n, low, sym (has_path-same (path_at paths n) pair (All-head P pair pairs all))), numbered_all paths n pairs low (All-tail P pair pairs all))
+
+numbered_both : (paths : List (List ℕ)) (pairs more : List Timed) → AllNumbered paths pairs → AllNumbered paths more → AllNumbered paths (pairs ++ more)
+numbered_both paths [] more all also = also
+numbered_both paths (pair ∷ pairs) more all also = (all.0, numbered_both paths pairs more all.1 also)
+
+pub sums_all : (paths : List (List ℕ)) (tallies : List Tally) (pairs more : List Timed) (n : ℕ) (tally : Tally) → AreSums paths tallies pairs
+    → n < length paths → AreOfPath (path_at paths n) tally more
+    → AreSums paths (set tallies n (both_tallies (get_or tallies n no_tally) tally)) (pairs ++ more)
+sums_all paths tallies pairs more n tally sums low own = record {
+  level = length-set tallies n new ∙ sums.level;
+  each = λ k d within. each k d (omega (arith, within, length-set tallies n new)) (nat_eq k n) refl;
+  numbered = numbered_both paths pairs more sums.numbered (numbered_all paths n more low own.all);
+  apart = sums.apart;
+  some = sums.some;
+  root = sums.root;
+}
+  where
+    new : Tally
+    new = both_tallies (get_or tallies n no_tally) tally
+
+    at_n : new ≡ tally_of (pairs ++ more) (path_at paths n)
+    at_n =
+        ap (λ (t : Tally). both_tallies t tally) (sums.each n no_tally (omega (arith, low, sums.level)))
+        ∙ (ap (both_tallies (tally_of pairs (path_at paths n))) own.tally_is ∙ sym (tally_append pairs more (path_at paths n)))
+
+    each : (k : ℕ) (d : Tally) → k < length tallies → (b : Bool) → nat_eq k n ≡ b → get_or (set tallies n new) k d ≡ tally_of (pairs ++ more) (path_at paths k)
+    each k d within true same =
+        let at : k ≡ n = let e : nat_eq k n ≡ true = same in grind (arith, nat_tests) in
+        ap (λ (m : ℕ). get_or (set tallies n new) m d) at
+        ∙ (get_or-set_same tallies n new d (omega (arith, low, sums.level))
+        ∙ (at_n ∙ ap (λ (m : ℕ). tally_of (pairs ++ more) (path_at paths m)) (sym at)))
+    each k d within false other =
+        let apart : k ≡ n → ⊥ = λ same. let e : nat_eq k n ≡ true = eq-eqb k n same in let never : true ≡ false = sym e ∙ other in (let n : ⊥ = cc in n) in
+        let none : tally_of more (path_at paths k) ≡ no_tally =
+        none_of (path_at paths n) (path_at paths k) more own.all (λ same. apart (sums.apart.apart k n (omega (arith, within, sums.level)) low same)) in
+        get_or-set_other tallies n k new d apart
+        ∙ (sums.each k d within
+        ∙ (sym (both_none (tally_of pairs (path_at paths k)))
+        ∙ (ap (both_tallies (tally_of pairs (path_at paths k))) (sym none) ∙ sym (tally_append pairs more (path_at paths k)))))

@@ -5,7 +5,8 @@ use Rattle.std.proofs.Math.Seq.{get_or-append_seam}
 use Rattle.std.proofs.lemmas.Bool.{eqb-true, eq-eqb}
 use Rattle.std.proofs.lemmas.List.{append_cancel_right, reverse-append}
 use Rattle.stack_rebuild.specs.declared.node.Step.{Step}
-use Rattle.stack_rebuild.specs.private.PathNumbers.{AreApart, AreNumbered, Climbs, HasNumber, Numbers, is_step, number_in, path_at, path_by, paths_after}
+use Rattle.stack_rebuild.specs.private.PathNumbers.{AreNumbered, Climbs, Numbers, is_step, number_in, path_by, paths_after}
+use Rattle.stack_rebuild.specs.PathSums.{AreApart, HasNumber, path_at}
 
 -- what holds at each place of a list, and for one more item, holds at each place of both
 pub each_more : {X : Type 0} (Q : ℕ → X → Type 0) (xs : List X) (x : X) → ((i : ℕ) (d : X) → i < length xs → Q i (get_or xs i d)) → Q (length xs) x

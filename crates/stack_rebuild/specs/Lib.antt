@@ -2,7 +2,9 @@ pub mod Ascending
 pub mod Calls
 pub mod FaultWords
 pub mod Histories
+pub mod OpenPaths
 pub mod PairLaws
+pub mod PathSums
 pub mod StackText
 pub mod Stacks
 pub mod private

@@ -1,6 +1,7 @@
 -- The stacks of blocks: on which paths their functions were called, and for how long.
-use Rattle.std.specs.Prelude.{◌≡◌, ◌-◌, ◌==◌, ◌||◌, Bool, false, ℕ, List, [], ◌∷◌, ◌++◌, length, map, filter, reverse, take, sum_by, count_by, nat_lt, if◌then◌else◌, Option, None, Some}
+use Rattle.std.specs.Prelude.{◌≡◌, ◌-◌, ◌==◌, ◌||◌, Bool, false, ℕ, List, [], ◌∷◌, ◌++◌, length, map, filter, reverse, take, sum_by, count_by, nat_eq, nat_lt, All, Contains, if◌then◌else◌, Option, None, Some}
 use Rattle.std.specs.declared.cmp.Ordering.{Ordering}
+use Rattle.std.specs.List.{IsDistinct, flat_map}
 use Rattle.std.specs.Ordering.{is_eq, nat_cmp}
 use Rattle.std.specs.Cmp.Lexicographic.{slice_cmp}
 use Rattle.fdr_record.specs.declared.event.Event.{Event}
@@ -44,6 +45,10 @@ pub record Timed : Type 0 where
 abbrev pub timed : List Event → Pair → Timed
 timed events pair = record { path = pair_path events pair; duration = pair.duration; own = pair.duration - spent_in events pair.entry }
 
+-- the pairs of a thread with their paths, in the order of their exits
+abbrev pub timed_pairs : List Event → List Timed
+timed_pairs events = map (timed events) (pairs_of events)
+
 -- the pairs of blocks, in the order of their exits
 abbrev pub all_timed : List Block → List Timed
 all_timed blocks = map (λ made. timed (events_of_thread made.thread blocks) made.pair) (pairs_of_blocks blocks)
@@ -79,6 +84,15 @@ rows_of_pairs pairs = map (path_row pairs) (each_once path_cmp (map (λ pair. pa
 -- the stacks of blocks
 abbrev pub stack_of : List Block → List PathRow
 stack_of blocks = rows_of_pairs (all_timed blocks)
+
+-- the stacks of threads, by the events of each
+abbrev pub stack_of_threads : List (List Event) → List PathRow
+stack_of_threads threads = rows_of_pairs (flat_map timed_pairs threads)
+
+-- these threads are those of blocks, each once; some may have no block
+pub record AreThreadsOf (blocks : List Block) (threads : List ℕ) : Type 0 where
+  pub once : IsDistinct nat_eq threads
+  pub all : All (λ block. Contains threads block.thread) blocks
 
 -- what a row says
 abbrev pub told : StackRow → PathRow

@@ -1,10 +1,12 @@
-//! Laws of the pairs of a thread's events. Each law is the contract of a function that does nothing.
+//! Laws of the pairs of a thread's events, and of stacks. Each law is the contract of a function that does nothing.
 
-ghost use Rattle.std.specs.{Prelude.{◌≡◌, ◌≢◌, ◌<◌, ◌⊎◌, ℕ, List, All}, List.{AllPairs}};
+ghost use Rattle.std.specs.{Prelude.{◌≡◌, ◌≢◌, ◌<◌, ◌⊎◌, ◌++◌, ◌∷◌, ℕ, List, [], All, map}, List.{AllPairs}};
 ghost use Rattle.fdr_record.specs.declared.event.Event.{Event};
 ghost use Rattle.fdr_file.specs.declared.trace.Block.{Block};
 ghost use Rattle.stack_rebuild.specs.{Calls.{pairs_of}, Histories.{events_of_thread, pairs_of_blocks, pairs_of_thread}};
+ghost use Rattle.stack_rebuild.specs.OpenPaths.{next_stacked, stacked_after};
 ghost use Rattle.stack_rebuild.specs.PairLaws.{EndsAnOpenCall, EndsBefore, IsInside, IsWholeCall};
+ghost use Rattle.stack_rebuild.specs.Stacks.{AreThreadsOf, stack_of, stack_of_threads};
 
 /// Each exit is in at most one pair, and so is each entry. Pairs stand in the order of their exits.
 pub fn each_exit_ends_one_call()
@@ -37,4 +39,20 @@ pub fn a_thread_makes_its_own_pairs()
     ensures { (blocks : List Block) (thread : ℕ)
         → pairs_of_thread thread (pairs_of_blocks blocks)
         ≡ pairs_of (events_of_thread thread blocks) }
+{}
+
+/// What one more event changes. An entry opens a call inside the innermost one. An exit or tail exit
+/// ends the innermost open call of its function, if there is one, and with it the calls inside that
+/// one: the pair of the call is added, and its duration is spent in the call outside it. All other
+/// open calls and all earlier pairs stay as they were.
+pub fn a_thread_goes_on()
+    ensures { (events : List Event) (e : Event)
+        → stacked_after (events ++ e ∷ []) ≡ next_stacked e (stacked_after events) }
+{}
+
+/// The stacks of blocks are those of their threads, each with its own events.
+pub fn stacks_are_of_threads()
+    ensures { (blocks : List Block) (threads : List ℕ) → AreThreadsOf blocks threads
+        → stack_of blocks
+        ≡ stack_of_threads (map (λ thread. events_of_thread thread blocks) threads) }
 {}

@@ -29,10 +29,14 @@ pub use call::{Call, Pair};
 pub use calls::ThreadCalls;
 pub use fold::{MOST_OPEN, StackFold};
 pub use laws::{
-    a_thread_makes_its_own_pairs, an_exit_ends_an_open_call, each_exit_ends_one_call,
-    each_pair_is_a_whole_call, pairs_nest_or_are_apart,
+    a_thread_goes_on, a_thread_makes_its_own_pairs, an_exit_ends_an_open_call,
+    each_exit_ends_one_call, each_pair_is_a_whole_call, pairs_nest_or_are_apart,
+    stacks_are_of_threads,
 };
 pub use matching::{pairs, thread_events};
+pub use path_sums::PathSums;
+pub use rows::rows_of;
 pub use stack_row::{StackFault, StackRow};
 pub use stack_text::{StackForm, StackText, write_stack};
 pub use stacks_of::stacks;
+pub use tally::Tally;

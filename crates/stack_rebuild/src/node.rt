@@ -2,7 +2,7 @@
 
 ghost use Rattle.std.specs.Prelude.{◌≡◌, ◌<◌, length, map, OnOk, slice_index_or, slice_set};
 ghost use Rattle.stack_rebuild.specs.private.PathTree.{child_in, depth_in, sibling_in, step_of, steps_in, tallies_in, tally_in};
-ghost use Rattle.stack_rebuild.specs.private.Scanning.{no_tally, with_pair};
+ghost use Rattle.stack_rebuild.specs.PathSums.{both_tallies, no_tally, with_pair};
 
 use crate::tally::Tally;
 use xray_io::NoMemory;
@@ -164,6 +164,19 @@ pub(crate) fn add_pair(
 {
     match nodes.get_mut(number) {
         Some(node) => node.tally.add(duration, own),
+        None => Ok(()),
+    }
+}
+
+/// More pairs of the path with this number.
+pub(crate) fn add_pairs(nodes: &mut Vec<Node>, number: usize, tally: &Tally) -> Result<(), NoMemory>
+    ensures steps { map step_of nodes.new.items ≡ map step_of nodes.old.items }
+    ensures tallies { OnOk result (number < length nodes.old.items → map tally_in nodes.new.items
+        ≡ slice_set (map tally_in nodes.old.items) number
+        (both_tallies (slice_index_or (map tally_in nodes.old.items) number no_tally) tally.now)) }
+{
+    match nodes.get_mut(number) {
+        Some(node) => node.tally.add_all(tally),
         None => Ok(()),
     }
 }

@@ -2,11 +2,13 @@
 
 ghost use Rattle.std.specs.Prelude.{◌≡◌, ◌<◌, ◌++◌, ℕ, List, [], ◌∷◌, length, IfOk, IfSome, IsTrue, IsPermutation, OnOk, slice_index_or};
 ghost use Rattle.std.specs.List.{range_with_len};
-ghost use Rattle.stack_rebuild.specs.private.PathNumbers.{HasNumber, path_at, path_by};
-ghost use Rattle.stack_rebuild.specs.private.Scanning.{AreSums, no_tally};
+ghost use Rattle.stack_rebuild.specs.private.PathNumbers.{path_by};
+ghost use Rattle.stack_rebuild.specs.PathSums.{AreOfPath, AreSums, HasNumber, no_tally, path_at};
 ghost use Rattle.stack_rebuild.specs.Stacks.{Timed};
 
-use crate::node::{Node, Step, add_pair, child_of, depth_of, link, plant, sibling_of, tally_of};
+use crate::node::{
+    Node, Step, add_pair, add_pairs, child_of, depth_of, link, plant, sibling_of, tally_of,
+};
 use crate::path_order::in_order;
 use crate::tally::Tally;
 use std::alloc::Global;
@@ -23,7 +25,7 @@ const MOST_LOOKS: usize = 4;
 /// They form a tree. A path is its last function, and the number of the path before that. The empty
 /// path is put there with the first other path, so that no memory is taken before.
 #[derive(Drop)]
-pub(crate) struct PathSums {
+pub struct PathSums {
     /// The paths, by their numbers.
     nodes: Vec<Node>,
     /// The numbers of the paths by their steps.
@@ -31,7 +33,7 @@ pub(crate) struct PathSums {
 }
 
 impl Model for PathSums {
-    ghost use Rattle.stack_rebuild.specs.private.Scanning.{Summed};
+    ghost use Rattle.stack_rebuild.specs.PathSums.{Summed};
 
     ghost Value = { Summed };
 
@@ -44,7 +46,7 @@ impl Model for PathSums {
 
 impl PathSums {
     /// Only the empty path, and no pairs.
-    pub(crate) fn new(alloc: Global) -> PathSums
+    pub fn new(alloc: Global) -> PathSums
         ensures { AreSums result.paths result.tallies [] }
     {
         PathSums {
@@ -53,8 +55,9 @@ impl PathSums {
         }
     }
 
-    /// The number of a path with one more function.
-    pub(crate) fn number_of(&mut self, parent: usize, func: u32) -> Result<usize, NoMemory>
+    /// The number of a path with one more function. `parent` is the number of the path without it.
+    /// `NoMemory` means that an allocation was refused. The sums are then as they were.
+    pub fn number_of(&mut self, parent: usize, func: u32) -> Result<usize, NoMemory>
         requires { parent < length self.old.paths }
         ensures number { IfOk result (λ n.
             HasNumber (path_at self.old.paths parent ++ func ∷ []) n self.old.paths self.new.paths) }
@@ -155,6 +158,21 @@ impl PathSums {
     {
         plant(&mut self.nodes)?;
         add_pair(&mut self.nodes, number, duration, own)
+    }
+
+    /// Adds what some pairs say of the path with this number. All of them have this path. `NoMemory`
+    /// means that an allocation was refused, or that a sum passes its type. After it no clause says
+    /// what the sums are.
+    pub fn add_tally(&mut self, number: usize, tally: &Tally) -> Result<(), NoMemory>
+        requires { number < length self.old.paths }
+        ensures paths { self.new.paths ≡ self.old.paths }
+        ensures sums { OnOk result ((pairs more : List Timed)
+            → AreSums self.old.paths self.old.tallies pairs
+            → AreOfPath (path_at self.old.paths number) tally.now more
+            → AreSums self.new.paths self.new.tallies (pairs ++ more)) }
+    {
+        plant(&mut self.nodes)?;
+        add_pairs(&mut self.nodes, number, tally)
     }
 
     /// The tally of the path with this number.

@@ -3,7 +3,7 @@
 ghost use Rattle.std.specs.Prelude.{◌≡◌, ◌<◌, ◌++◌, List, length, map, All, IfOk, OnOk};
 ghost use Rattle.std.specs.Ordering.{is_lt};
 ghost use Rattle.stack_rebuild.specs.private.Rows.{row_before, row_by, rows_at, rows_for};
-ghost use Rattle.stack_rebuild.specs.private.Scanning.{AreSums};
+ghost use Rattle.stack_rebuild.specs.PathSums.{AreSums};
 ghost use Rattle.stack_rebuild.specs.Stacks.{Timed, rows_of_pairs, told};
 
 use crate::path_sums::PathSums;
@@ -13,8 +13,9 @@ use std::alloc::Global;
 use std::cmp::Ordering;
 use xray_io::NoMemory;
 
-/// A row for each path that has a pair, in ascending order of the paths.
-pub(crate) fn rows_of(alloc: Global, mut sums: PathSums) -> Result<Vec<StackRow>, NoMemory>
+/// A row for each path that has a pair, in ascending order of the paths as lists of numbers.
+/// `NoMemory` means that an allocation was refused.
+pub fn rows_of(alloc: Global, mut sums: PathSums) -> Result<Vec<StackRow>, NoMemory>
     ensures { IfOk result (λ rows. (pairs : List Timed) → AreSums sums.paths sums.tallies pairs
         → map told rows.items ≡ rows_of_pairs pairs) }
 {

@@ -3,9 +3,9 @@
 ghost use Rattle.std.specs.Prelude.{◌≡◌, ◌<◌, ◌-◌, ◌++◌, List, [], ◌∷◌, length, reverse, take, OnOk, slice_index_or};
 ghost use Rattle.fdr_record.specs.declared.event.Event.{Event};
 ghost use Rattle.stack_rebuild.specs.Calls.{next_standing, standing_after};
-ghost use Rattle.stack_rebuild.specs.private.PathNumbers.{path_at};
+ghost use Rattle.stack_rebuild.specs.PathSums.{AreSums, path_at};
 ghost use Rattle.stack_rebuild.specs.declared.thread_stack.Frame.{Frame};
-ghost use Rattle.stack_rebuild.specs.private.Scanning.{AreSums, AreWithin, Follows, Keeps, Opens, spending, timed_now, top_of, with_spent};
+ghost use Rattle.stack_rebuild.specs.private.Scanning.{AreWithin, Follows, Keeps, Opens, spending, timed_now, top_of, with_spent};
 ghost use Rattle.stack_rebuild.specs.Stacks.{Timed};
 
 use crate::calls::ThreadCalls;

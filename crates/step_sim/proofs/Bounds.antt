@@ -27,7 +27,7 @@ use Rattle.step_sim.proofs.ReplayAlong.{first_along, no_loads, of_thread_is}
 
 -- ---- holds
 
-some_is_not_none : (n : ℕ) → Some n ≡ None → ⊥
+pub some_is_not_none : (n : ℕ) → Some n ≡ None → ⊥
 some_is_not_none n e = cc
 
 -- a script at which nothing may wait holds no thread

@@ -23,6 +23,7 @@ pub mod MoreLoads
 pub mod StockRuns
 pub mod LostRuns
 pub mod WholeRuns
+pub mod StillMarks
 pub mod Beginnings
 pub mod Simulated
 pub mod OneRun

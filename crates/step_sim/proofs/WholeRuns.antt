@@ -87,7 +87,7 @@ all_ended cast (suc n) thread before after first (mid, (count, made, ends), rest
 -- ---- runs
 
 -- the sleds of each run are those that are cast
-sleds_at : (runs : List ThreadRun) (j : ℕ) (run : ThreadRun) → slice_get runs j ≡ Some run
+pub sleds_at : (runs : List ThreadRun) (j : ℕ) (run : ThreadRun) → slice_get runs j ≡ Some run
     → slice_get (map sleds_passed (passed_of runs)) j ≡ Some (sleds_passed run.passed)
 sleds_at [] j run found = absurd (no_run j run found)
 sleds_at (r ∷ runs) zero run found = ap (λ (o : ThreadRun). Some (sleds_passed o.passed)) (some_run r run found)

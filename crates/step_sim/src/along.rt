@@ -1,12 +1,13 @@
 //! Laws of the moments of a replay. Each law is the contract of a function that does nothing.
 
-ghost use Rattle.std.specs.Prelude.{◌≡◌, ◌<◌, ℕ, List, Some, Ok, All, length};
+ghost use Rattle.std.specs.Prelude.{◌≡◌, ◌<◌, ℕ, List, None, Some, Ok, All, length};
 ghost use Rattle.xray_image.specs.Program.{Program};
 ghost use Rattle.sled_words.specs.Allowed.{IsAllowed};
 ghost use Rattle.patch_script.specs.declared.command.Command.{Command};
-ghost use Rattle.patch_script.specs.{CodeAt.{code_at}, Micros.{hold_of}};
+ghost use Rattle.patch_script.specs.{CodeAt.{code_at}, Micros.{hold_of}, Plans.{waiting_line}};
+ghost use Rattle.patch_script.specs.Refusals.{Lines, commands_of};
 ghost use Rattle.machine_step.specs.declared.setup.Setup.{Setup};
-ghost use Rattle.traced_run.specs.{Decoded.{DecodesWhole}, Runs.{EachThread, ThreadRun}};
+ghost use Rattle.traced_run.specs.{Decoded.{DecodesWhole}, Following.{AllMarksFollow}, Runs.{EachThread, ThreadRun}};
 ghost use Rattle.step_sim.specs.declared.turns.Turns.{Turns as Line};
 ghost use Rattle.step_sim.specs.Along.{IsAlong, LoadsAreWanted, NamesThread, TearsNoSled};
 ghost use Rattle.step_sim.specs.{Schedules.{schedule_of}, Plays.{Plays}};
@@ -49,6 +50,17 @@ pub fn no_replay_tears_a_sled()
         (setup : Setup) (runs : List ThreadRun) → schedule_of setup.threads text ≡ Ok schedule
         → (replay : IsReplayOf program script schedule setup runs) → EachThread runs (λ number run.
         DecodesWhole program setup.threads number (hold_of number script) run (of_thread replay.last.moment.loads number)) }
+{
+    a_replay_reads_along();
+}
+
+/// The marks that a replay leaves follow its script, if nothing waits in the script: each thread's
+/// loads are made at places that never fall, and they give its marks.
+pub fn marks_of_a_replay_follow()
+    ensures { (program : Program) (lines : Lines) (text : List ℕ) (schedule : List Line) (setup : Setup)
+        (runs : List ThreadRun) → schedule_of setup.threads text ≡ Ok schedule → waiting_line lines ≡ None
+        → IsReplayOf program (commands_of lines) schedule setup runs
+        → AllMarksFollow program setup.threads (commands_of lines) runs }
 {
     a_replay_reads_along();
 }

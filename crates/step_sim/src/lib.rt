@@ -22,7 +22,7 @@ mod thread;
 mod turns;
 mod written;
 
-pub use along::{a_replay_reads_along, no_replay_tears_a_sled};
+pub use along::{a_replay_reads_along, marks_of_a_replay_follow, no_replay_tears_a_sled};
 pub use fault::ScheduleFault;
 pub use in_one::simulate;
 pub use laws::{

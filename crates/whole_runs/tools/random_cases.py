@@ -45,6 +45,12 @@ TRACE_VALUES = {
     "pid": (0.2, [0, 1, 4711, 2_147_483_647]),
     "wall": (0.9, [0, 1, 1_700_000_000, LARGEST_64]),
 }
+PROFILE_VALUES = [name for name in TRACE_VALUES if name in ("tick", "tsc", "cpus", "migrate")]
+NODES = [1, 2, 3, 4, 5, 8, 20, 100, 4096, 262_144]
+WRONG_PROFILE_WORDS = [
+    "--nodes=0", "--nodes=262145", "--nodes=", "--nodes", "--node=1", "--format=csv", "--format=text", "--format=Flame",
+    "--buffer-size=88", "--buffer-max=16", "--frequency=1", "--pid=1", "--wall=1", "--sort=count",
+]  # fmt: skip
 WRONG_TRACE_WORDS = [
     "--buffer-size=87", "--buffer-size=1048577", "--buffer-max=0", "--buffer-max=1025", "--cpus=0", "--cpus=65536",
     "--migrate=0", "--migrate=1048577", "--pid=2147483648", "--wall=18446744073709551616", "--tick=18446744073709551616",
@@ -57,7 +63,9 @@ REPORT_VALUES = {
     "top": [0, 1, 2, 3, 10, LARGEST_32],
     "format": ["text", "csv"],
 }
-FORMATS = {"account": ["text", "csv"], "stack": ["human", "flame", "svg"], "convert": ["yaml"]}
+FORMATS = {
+    "account": ["text", "csv"], "stack": ["human", "flame", "svg"], "convert": ["yaml"], "profile": ["human", "flame"],
+}
 WRONG_REPORT_WORDS = [
     "--sort=func", "--sort", "--sort=", "--sort=Count", "--sortorder=dsc", "--sortorder=ascending", "--top=-1",
     "--top=4294967296",
@@ -101,6 +109,22 @@ def trace_options(draw, threads):
     return options
 
 
+def profile_options(draw, threads):
+    """The options of a profile, rarely with one that is refused."""
+    options = run_options(draw, threads)
+    if draw.random() < 0.6:
+        options.append(option(draw, "nodes", spelled(draw, draw.choice(NODES))))
+    if draw.random() < 0.6:
+        options.append(option(draw, "format", draw.choice(FORMATS["profile"])))
+    for name in PROFILE_VALUES:
+        share, values = TRACE_VALUES[name]
+        if draw.random() < share:
+            options.append(option(draw, name, spelled(draw, draw.choice(values))))
+    if draw.random() < 0.04:
+        options.append([draw.choice(WRONG_PROFILE_WORDS)])
+    return options
+
+
 def report_options(draw, command):
     options = [option(draw, "format", draw.choice(FORMATS[command]))] if draw.random() < 0.7 else []
     if command == "account":
@@ -121,6 +145,8 @@ def random_options(draw, command, threads, writes_traces):
             return [option(draw, name, spelled(draw, draw.choice(values[name]))) for name in given]
         case "run":
             return trace_options(draw, threads)
+        case "profile":
+            return profile_options(draw, threads)
         case "sim" if writes_traces:
             return trace_options(draw, threads)
         case "plain" | "sim":
@@ -203,7 +229,7 @@ def random_contents(draw, command, threads):
         case "sim":
             image = random_image(draw, KINDS["sim"], 0.12)
             return [image, random_script(draw, id_count(image), threads), random_schedule(draw, threads)]
-        case "run":
+        case "run" | "profile":
             image = random_image(draw, KINDS["sim"], 0.04)
             return [image, live_script(draw, id_count(image), threads)]
         case "account" | "stack" | "convert":

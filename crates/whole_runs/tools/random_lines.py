@@ -21,6 +21,7 @@ NAMES = {
     "stack": [b"t", b"i"],
     "convert": [b"t", b"i"],
     "soak": [b"1"],
+    "profile": [b"i", b"s"],
 }
 OTHER_NAMES = [b"i", b"t", b"new", b"./new", b"-", b"a=b", b"a b", b"", b"--", b"-x", b"--fuel", b"--fuel=3", b"help",
                b"missing"]  # fmt: skip

@@ -4,7 +4,7 @@
 usage: crates/whole_runs/tools/random_runs.py [PROGRAM] [--with COMMANDS] [--of COMMAND] [--lines] [--loops]
            [--runs N] [--seed N] [--jobs N]
     PROGRAM: the built program, crates/xray/out/xray if left out
-    --with: which of sim, run, account, stack, convert and soak PROGRAM has, with commas between them; all if left out.
+    --with: which of sim, run, account, stack, convert, soak and profile PROGRAM has, with commas between them; all if left out.
         Without sim, a replay has three files and writes no trace
     --of: only this command
     --lines: only random command lines, over sound files (random_lines.py)
@@ -22,7 +22,8 @@ exist. An output may exist already, and it or standard output may refuse everyth
 past it. The status, standard output, standard error, and all files at the end are compared. Each report that the
 program has is then run on a trace that the program wrote.
 
-Nobody states the order of a `run`, so the audit's marks and lost segments are taken as given. The marks of each thread
+Nobody states the order of a `run` or a `profile`. So the audit's marks and lost segments are taken as given, and the marks
+that `profile` prints. The marks of each thread
 have to follow the script, and the losses have to be possible. The trace, the rest of the audit and standard output have
 to be what follows from these marks and losses, byte by byte. If no audit could be written, TRACE has to be a trace.
 
@@ -114,7 +115,7 @@ def world_of(case, shows):
     """What a run of a case finds."""
     named = {name.decode(): content for name, content in case.files.items()}
     unwritable = frozenset(name.decode() for name in case.unwritable)
-    return model.World(named, unwritable, case.is_output_full, shows.wall, shows.threads)
+    return model.World(named, unwritable, case.is_output_full, shows.wall, shows.threads, shows.marks)
 
 
 def files_expected(case, expects):
@@ -157,19 +158,21 @@ def came(xray, folder, case):
 
 @dataclasses.dataclass(frozen=True)
 class Shows:
-    """What a run shows that nothing states: its wall time, and what its threads show."""
+    """What a run shows that nothing states: its wall time, what the audit shows of its threads, and the printed marks."""
 
     wall: tuple
     threads: list | None
+    marks: list
 
 
-def shown_in(files, begin):
-    """What the files of a run that began at this time show: the audit, or the trace if no audit could be written."""
+def shown_in(output, files, begin):
+    """What a run that began at this time shows in its output and its files: the audit, or else the trace."""
     audits = [content for content in files.values() if content.startswith(b"xray-audit 1\n")]
     walls = [wall_of(content) for content in audits or files.values()]
     end = time.time() + 1
     walls = [wall for wall in walls if begin <= wall[0] + wall[1] / 1e6 <= end]
-    return Shows(walls[0] if walls else (0, 0), run_model.shown_by(audits[0]) if audits else None)
+    shown = run_model.shown_by(audits[0]) if audits else None
+    return Shows(walls[0] if walls else (0, 0), shown, run_model.marks_shown_by(output.decode("ascii", errors="replace")))
 
 
 def wall_of(content):
@@ -241,7 +244,7 @@ def judged(xray, folder, case, forms):
     begin = int(time.time())
     comes, files = came(xray, folder, case)
     try:
-        expects = model.outcome(case.words, world_of(case, shown_in(files, begin)), assemble, forms)
+        expects = model.outcome(case.words, world_of(case, shown_in(comes.output, files, begin)), assemble, forms)
     except run_model.Unlawful as unlawful:
         return Result("unlawful", [f"the run may not show this: {unlawful}"])
     differs = outcome_differences(expects, comes)

@@ -158,18 +158,24 @@ class StackRow:
 
 
 def stacks_of(trace):
-    """The rows by their paths of function ids, in the order of these as lists."""
-    rows = collections.defaultdict(StackRow)
-    for thread in trace.threads:
-        events = trace.events_of(thread)
-        of_thread = matched(events)
-        if of_thread.depth > DEPTH_LIMIT:
+    """The rows of the threads of a trace."""
+    threads = {thread: trace.events_of(thread) for thread in trace.threads}
+    for thread, events in threads.items():
+        if matched(events).depth > DEPTH_LIMIT:
             raise Refused("Deep", thread)
+    return stack_rows(threads.values())
+
+
+def stack_rows(threads):
+    """The rows of threads, each with its events, by their paths of function ids, in the order of these as lists."""
+    rows = collections.defaultdict(StackRow)
+    for events in threads:
+        pairs = matched(events).pairs
         children = collections.Counter()
-        for pair in of_thread.pairs:
+        for pair in pairs:
             if pair.above:
                 children[pair.above[-1]] += pair.duration
-        for pair in of_thread.pairs:
+        for pair in pairs:
             path = tuple(events[at].function for at in (*pair.above, pair.entry))
             rows[path].count += 1
             rows[path].sum += pair.duration
@@ -178,11 +184,16 @@ def stacks_of(trace):
 
 
 def stack_text(trace, image, options):
+    return rows_text(stacks_of(trace), image, options, trace.header.frequency)
+
+
+def rows_text(rows, image, options, frequency=0):
+    """The text of these rows. The counter has this frequency."""
     name_of = namer(image)
     if options["format"] == "svg":
-        rows = [flame_model.PathRow(path, row.count, row.sum, row.own) for path, row in stacks_of(trace)]
-        return flame_model.flame_text(rows, lambda function: name_of(function).encode(), trace.header.frequency)
-    named = [(";".join(map(name_of, path)), row) for path, row in stacks_of(trace)]
+        rows = [flame_model.PathRow(path, row.count, row.sum, row.own) for path, row in rows]
+        return flame_model.flame_text(rows, lambda function: name_of(function).encode(), frequency)
+    named = [(";".join(map(name_of, path)), row) for path, row in rows]
     if options["format"] == "flame":
         return "".join(f"{path} {row.own}\n" for path, row in named)
     lines = [("count", "sum", "self", "stack"), *((row.count, row.sum, row.own, path) for path, row in named)]

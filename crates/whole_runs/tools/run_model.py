@@ -42,6 +42,11 @@ def shown_by(audit):
     return [Shown(marks_of(runs), lost) for runs, lost in zip(marks, firsts)]
 
 
+def marks_shown_by(states):
+    """The marks of the threads of state texts, thread 1 first."""
+    return [marks_of(line.removeprefix("marks ")) for line in states.splitlines() if line.startswith("marks ")]
+
+
 def marks_of(runs):
     """The marks of a text of runs."""
     return "".join(run[0] * int(run[1:]) for run in runs.split() if re.fullmatch(r"[.nf+a][0-9]+", run))
@@ -210,21 +215,28 @@ class Segments(Buffers):
         self.threads[thread - 1].add(event)
 
 
+def ended_by(image, commands, options, marks, record):
+    """The threads of a run at their ends, if they may have these marks. `record` is called with what they record."""
+    threads = range(1, options["threads"] + 1)
+    if len(marks) != len(threads):
+        raise Unlawful(f"the marks of {len(marks)} threads")
+    course = Course(image, commands, options["threads"])
+    ended = []
+    for number, own in zip(threads, marks):
+        thread = MarkedThread(image, number, options, course.words, record, own)
+        if len(thread.marks) != len(own):
+            raise Unlawful(f"thread {number}: {len(own)} marks of {len(thread.marks)} passings")
+        course.check(number, thread.passed, own)
+        ended.append(thread)
+    return ended
+
+
 def ran(image, commands, options, shown):
     """The threads of a run at their ends, and the segments of what they recorded, if the run may show this."""
-    threads = range(1, options["threads"] + 1)
-    if len(shown) != len(threads):
-        raise Unlawful(f"{len(shown)} threads in the audit")
-    course = Course(image, commands, options["threads"])
     segments = Segments(options["threads"], options["buffer-size"], options["buffer-max"])
-    ended = []
-    for number, one in zip(threads, shown):
-        thread = MarkedThread(image, number, options, course.words, segments.record, one.marks)
-        if len(thread.marks) != len(one.marks):
-            raise Unlawful(f"thread {number}: {len(one.marks)} marks of {len(thread.marks)} passings")
-        course.check(number, thread.passed, one.marks)
-        segments.threads[number - 1].lost = one.lost
-        ended.append(thread)
+    ended = ended_by(image, commands, options, [one.marks for one in shown], segments.record)
+    for recorded, one in zip(segments.threads, shown):
+        recorded.lost = one.lost
     counts = [len(one.segments) for one in segments.threads]
     lost = [one.lost for one in shown]
     if not may_lose(options, counts, lost):

@@ -2,7 +2,8 @@
 
 It is written from docs/formats and docs/COMMANDS.md alone, and shares nothing with the program or its definitions. It is made to
 be read, not to be fast. Other modules have its parts: images (image_model), plain runs (machine_model), scripts and replays
-(replay_model), runs beside a script (run_model), traces (trace_model), reports on them (report_model) and soaks (soak_model).
+(replay_model), runs beside a script (run_model), profiles of such runs (profile_model), traces (trace_model), reports on them
+(report_model) and soaks (soak_model).
 What `asm` makes from a text is passed in: crates/asm_text/tools/random_texts.py has a model of that. What `run` shows of its
 order is passed in too.
 worked_runs.py and worked_traces.py compare the model with results that were worked by hand.
@@ -11,12 +12,13 @@ import dataclasses
 import posixpath
 import re
 
+import profile_model
 import run_model
 import soak_model
 from image_model import RELATIVE_VERSION, Refused, image_of, sled_map_text
 from machine_model import WORD_64, Thread, plain_text
 from replay_model import NUMBER_LIMIT, RECORDED, WAITING, commands_of, replayed, runs_text, turns_of
-from report_model import account_text, stack_text, yaml_text
+from report_model import account_text, rows_text, stack_text, yaml_text
 from trace_model import AuditLine, Header, audit_text, file_bytes, trace_of
 
 IMAGE_LIMIT = 4_194_304
@@ -105,6 +107,11 @@ TRACE_OPTIONS = {
     "pid": Numbers(0, 2_147_483_647, 1),
     "wall": Numbers(0, LARGEST_64, None),
 }
+PROFILE_OPTIONS = {
+    **{option: TRACE_OPTIONS[option] for option in (*RUN_OPTIONS, "tick", "tsc", "cpus", "migrate")},
+    "nodes": Numbers(1, 262_144, 4096),
+    "format": Choice("human", "flame"),
+}
 ACCOUNT_OPTIONS = {
     "sort": Choice("funcid", "count", "min", "med", "90p", "99p", "max", "sum"),
     "sortorder": Choice("asc", "desc"),
@@ -123,9 +130,10 @@ FORMS = {
     "stack": Form(TRACE_AND_IMAGE, (), {"format": Choice("human", "flame", "svg")}),
     "convert": Form(TRACE_AND_IMAGE, (), {"format": Choice("yaml")}),
     "soak": Form(range(1, 2), (), {}, {0: Numbers(0, LARGEST_64, None)}),
+    "profile": Form(range(2, 3), (), PROFILE_OPTIONS),
 }
 # Commands that a program may lack.
-LATER = ("sim", "run", "account", "stack", "convert", "soak")
+LATER = ("sim", "run", "account", "stack", "convert", "soak", "profile")
 # `sim` of a program that writes no traces: it only prints the state texts.
 REPLAY = Form(range(3, 4), (), RUN_OPTIONS)
 
@@ -184,7 +192,7 @@ def check_buffers(threads, size, most):
 class World:
     """What a run of the program finds: the bytes of names that can be read, what can't be written, and the wall time.
 
-    For `run` it also finds what its threads show.
+    For `run` it also finds what its threads show, and for `profile` the marks of its threads.
     """
 
     files: dict
@@ -192,6 +200,7 @@ class World:
     is_output_full: bool = False
     wall: tuple = (0, 0)
     shown: list | None = None
+    marks: list | None = None
 
 
 @dataclasses.dataclass(frozen=True)
@@ -212,6 +221,15 @@ class Failed(Exception):
         self.status = status
         self.reason = reason
         self.written = written or {}
+
+
+class Fell(Exception):
+    """Something is wrong, but the text is printed."""
+
+    def __init__(self, text, trouble):
+        super().__init__(text, trouble)
+        self.text = text
+        self.trouble = trouble
 
 
 def taken(world, name, kind, limit, read):
@@ -284,8 +302,26 @@ def traced(world, options, ended, buffers):
     wall = world.wall if options["wall"] is None else (options["wall"], 0)
     trace = buffers.trace(Header(options["frequency"], options["buffer-size"]), wall, options["pid"])
     lines = [audit_line(*both) for both in zip(ended, buffers.threads)]
-    states = "".join(f"{plain_text(thread, thread.end)}marks {runs_text(thread.marks)}\n" for thread in ended)
-    return Traced(states, file_bytes(trace), audit_text(options, wall, lines).encode("ascii"))
+    return Traced(state_texts(ended), file_bytes(trace), audit_text(options, wall, lines).encode("ascii"))
+
+
+def state_texts(ended):
+    """What is printed of threads at their ends."""
+    return "".join(f"{plain_text(thread, thread.end)}marks {runs_text(thread.marks)}\n" for thread in ended)
+
+
+def profile(world, names, options):
+    """What `profile` prints, if it shows the marks of its threads."""
+    image_name, script_name = names
+    image = taken_image(world, image_name)
+    commands = taken_script(world, script_name, image, options["threads"])
+    if not world.marks:
+        return "?"
+    ended, trouble, rows = profile_model.profiled(image, commands, options, world.marks)
+    states = state_texts(ended)
+    if trouble is not None:
+        raise Fell(states, f"profile: {trouble}")
+    return states + rows_text(rows, image, options)
 
 
 def audit_line(thread, recorded):
@@ -329,6 +365,8 @@ def results(command, names, options, world, assemble):
             return dict(zip(names[2:], [comes.trace, comes.audit])), comes.states
         case "soak":
             return {}, soak_model.summary(names[0], assemble)
+        case "profile":
+            return {}, profile(world, names, options)
         case _:
             return {}, report(world, command, names, options)
 
@@ -341,7 +379,12 @@ def is_same_file(one, other):
 def done(words, world, assemble, forms):
     """What a run leaves if nothing fails."""
     command, names, options = command_of(words, forms)
-    outputs, text = results(command, names, options, world, assemble)
+    status, error = 0, b""
+    try:
+        outputs, text = results(command, names, options, world, assemble)
+    except Fell as fell:
+        outputs, text = {}, fell.text
+        status, error = 7, f"xray: {fell.trouble}\n".encode()
     used = [name for at, name in enumerate(names) if outputs and at not in forms[command].outputs]
     written = {}
     for name, content in outputs.items():
@@ -351,7 +394,7 @@ def done(words, world, assemble, forms):
         used.append(name)
     if world.is_output_full and text:
         raise Failed(4, "output: write fault", written)
-    return Outcome(0, text.encode("ascii"), b"", written)
+    return Outcome(status, text.encode("ascii"), error, written)
 
 
 def outcome(words, world, assemble=None, forms=FORMS):

@@ -11,7 +11,8 @@ use Rattle.stack_rebuild.specs.declared.thread_stack.ThreadStack.{ThreadStack}
 use Rattle.stack_rebuild.specs.Calls.{open_calls, standing_after}
 use Rattle.stack_rebuild.specs.Histories.{history_of, history_of_thread, pairs_after}
 use Rattle.stack_rebuild.specs.Stacks.{Timed, gets_deep, most_open, timed}
-use Rattle.stack_rebuild.specs.private.Scanning.{AreFrames, AreSums}
+use Rattle.stack_rebuild.specs.private.Scanning.{AreFrames}
+use Rattle.stack_rebuild.specs.PathSums.{AreSums}
 
 -- a thread is followed, unless it or a lesser one had too many calls open
 abbrev pub IsFollowed : Option ℕ → ℕ → Type 0

@@ -1,13 +1,10 @@
 -- Numbers for paths, for the contracts of private functions.
-use Rattle.std.specs.Prelude.{◌≡◌, ◌<◌, ◌≤◌, ◌+◌, ◌-◌, ◌++◌, ◌⊎◌, ◌==◌, ◌&&◌, Bool, ℕ, List, [], ◌∷◌, length, Option, Some, slice_index_or}
+use Rattle.std.specs.Prelude.{◌≡◌, ◌<◌, ◌≤◌, ◌+◌, ◌-◌, ◌++◌, ◌==◌, ◌&&◌, Bool, ℕ, List, [], ◌∷◌, length, Option, Some, slice_index_or}
 use Rattle.std.specs.HashMap.{get, HashMap}
 use Rattle.std.specs.declared.hash.FoldHasher.{FoldHasher}
 use Rattle.std.specs.declared.hash.BuildHasherDefault.{BuildHasherDefault}
 use Rattle.stack_rebuild.specs.declared.node.Step.{Step}
-
--- the path with this number
-abbrev pub path_at : List (List ℕ) → ℕ → List ℕ
-path_at paths n = slice_index_or paths n []
+use Rattle.stack_rebuild.specs.PathSums.{AreApart, path_at}
 
 -- the path of a step: that of its parent, and then its function
 abbrev pub path_by : List (List ℕ) → Step → List ℕ
@@ -17,22 +14,6 @@ path_by paths step = path_at paths step.parent ++ step.func ∷ []
 abbrev pub paths_after : List Step → List (List ℕ)
 paths_after [] = [] ∷ []
 paths_after (step ∷ before) = paths_after before ++ path_by (paths_after before) step ∷ []
-
--- no two numbers have the same path
-pub record AreApart (paths : List (List ℕ)) : Type 0 where
-  pub apart : (n m : ℕ) → n < length paths → m < length paths → path_at paths n ≡ path_at paths m → n ≡ m
-
--- a path that had no number has the next number
-pub record IsFresh (path : List ℕ) (n : ℕ) (old new : List (List ℕ)) : Type 0 where
-  pub more : new ≡ old ++ path ∷ []
-  pub last : n ≡ length old
-  pub absent : (k : ℕ) → k < length old → path_at old k ≡ path → ⊥
-
--- A path has a number. Each path that had a number still has it.
-pub record HasNumber (path : List ℕ) (n : ℕ) (old new : List (List ℕ)) : Type 0 where
-  pub is : path_at new n ≡ path
-  pub within : n < length new
-  pub grows : (new ≡ old) ⊎ IsFresh path n old new
 
 -- numbers of steps
 abbrev pub Numbers : Type 0

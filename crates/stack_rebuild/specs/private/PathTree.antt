@@ -5,7 +5,7 @@ use Rattle.stack_rebuild.specs.declared.node.Step.{Step}
 use Rattle.stack_rebuild.specs.declared.tally.Tally.{Tally}
 use Rattle.stack_rebuild.specs.declared.path_sums.PathSums.TheInside.{Inside}
 use Rattle.stack_rebuild.specs.private.PathNumbers.{AreNumbered, paths_after}
-use Rattle.stack_rebuild.specs.private.Scanning.{Summed, no_tally}
+use Rattle.stack_rebuild.specs.PathSums.{Summed, no_tally}
 
 -- the step that leads to a path
 abbrev pub step_of : Node → Step

@@ -4,8 +4,7 @@ use Rattle.std.specs.List.{flat_map}
 use Rattle.std.specs.Ordering.{is_lt}
 use Rattle.stack_rebuild.specs.declared.tally.Tally.{Tally}
 use Rattle.stack_rebuild.specs.declared.stack_row.StackRow.{StackRow}
-use Rattle.stack_rebuild.specs.private.PathNumbers.{path_at}
-use Rattle.stack_rebuild.specs.private.Scanning.{no_tally}
+use Rattle.stack_rebuild.specs.PathSums.{no_tally, path_at}
 use Rattle.stack_rebuild.specs.Stacks.{PathRow, path_cmp}
 
 -- the row of a path with a tally

@@ -1,51 +1,17 @@
 -- What is kept of paths and open calls while events are taken, for the contracts of private functions.
-use Rattle.std.specs.Prelude.{◌≡◌, ◌<◌, ◌+◌, ◌++◌, ℕ, List, [], ◌∷◌, length, map, reverse, sum_by, count_by, if◌then◌else◌, slice_index_or, All}
+use Rattle.std.specs.Prelude.{◌≡◌, ◌<◌, ◌+◌, ◌++◌, ℕ, List, [], ◌∷◌, length, map, reverse, All}
 use Rattle.std.specs.Option.{option_to_list}
 use Rattle.fdr_record.specs.declared.event.Event.{Event}
 use Rattle.stack_rebuild.specs.declared.call.Call.{Call}
 use Rattle.stack_rebuild.specs.declared.tally.Tally.{Tally}
 use Rattle.stack_rebuild.specs.declared.thread_stack.Frame.{Frame}
 use Rattle.stack_rebuild.specs.Calls.{Standing, open_calls, pair_at, standing_after}
-use Rattle.stack_rebuild.specs.Stacks.{Timed, has_path, path_of, spent_in, timed}
-use Rattle.stack_rebuild.specs.private.PathNumbers.{AreApart, path_at}
+use Rattle.stack_rebuild.specs.Stacks.{Timed, path_of, spent_in, timed}
+use Rattle.stack_rebuild.specs.PathSums.{AreSums, path_at}
 
 -- the pair that an event makes after a history of its thread, with its path
 abbrev pub timed_now : Event → List Event → List Timed
 timed_now e history = map (timed (reverse (e ∷ history))) (option_to_list (pair_at e (length history) (open_calls history)))
-
--- what pairs say of a path
-abbrev pub tally_of : List Timed → List ℕ → Tally
-tally_of pairs path = record {
-  count = count_by (has_path path) pairs;
-  sum = sum_by (λ pair. if has_path path pair then pair.duration else 0) pairs;
-  own = sum_by (λ pair. if has_path path pair then pair.own else 0) pairs;
-}
-
-abbrev pub no_tally : Tally
-no_tally = record { count = 0; sum = 0; own = 0 }
-
--- paths with their tallies, by their numbers
-pub record Summed : Type 0 where
-  pub paths : List (List ℕ)
-  pub tallies : List Tally
-
--- a tally and one more pair
-abbrev pub with_pair : ℕ → ℕ → Tally → Tally
-with_pair duration own tally = record { count = tally.count + 1; sum = tally.sum + duration; own = tally.own + own }
-
--- each pair's path has a number
-abbrev pub AllNumbered : List (List ℕ) → List Timed → Type 0
-AllNumbered paths [] = Unit {0}
-AllNumbered paths (pair ∷ pairs) = ((n : ℕ) × (n < length paths) × (path_at paths n ≡ pair.path)) × AllNumbered paths pairs
-
--- the tallies of paths, by their numbers, are what pairs say
-pub record AreSums (paths : List (List ℕ)) (tallies : List Tally) (pairs : List Timed) : Type 0 where
-  pub level : length tallies ≡ length paths
-  pub each : (n : ℕ) (d : Tally) → n < length tallies → slice_index_or tallies n d ≡ tally_of pairs (path_at paths n)
-  pub numbered : AllNumbered paths pairs
-  pub apart : AreApart paths
-  pub some : 0 < length paths
-  pub root : path_at paths 0 ≡ []
 
 -- each path that had a number still has it
 pub record Keeps (old new : List (List ℕ)) : Type 0 where

@@ -3,7 +3,7 @@ use Rattle.std.proofs.Math.Seq.{map-set_same}
 use Rattle.std.proofs.lemmas.List.{get_or-map, map-set}
 use Rattle.std.proofs.lemmas.Result.{on_ok_weaker}
 use Rattle.stack_rebuild.specs.private.PathTree.{step_of, tally_in}
-use Rattle.stack_rebuild.specs.private.Scanning.{no_tally, with_pair}
+use Rattle.stack_rebuild.specs.PathSums.{no_tally, with_pair}
 use Rattle.stack_rebuild.proofs.node.add_pair.Goals as goal
 
 pub returns-in-Some-clause-steps : goal.returns-in-Some-clause-steps

@@ -1,7 +1,7 @@
 use Rattle.std.proofs.Common.{◌<◌, ◌∙◌, ℕ, All, length, ap, subst, sym, rules}
 use Rattle.std.proofs.lemmas.Fn.{always_returns_same}
 use Rattle.stack_rebuild.specs.private.Rows.{row_before, rows_for}
-use Rattle.stack_rebuild.specs.private.Scanning.{Summed}
+use Rattle.stack_rebuild.specs.PathSums.{Summed}
 use Rattle.stack_rebuild.proofs.Orders.{order_low}
 use Rattle.stack_rebuild.proofs.RowsOf.{row_order, rows_sorted}
 use Rattle.stack_rebuild.proofs.rows.rows_of.Goals as goal

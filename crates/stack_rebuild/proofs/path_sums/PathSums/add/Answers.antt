@@ -3,9 +3,9 @@ use Rattle.std.proofs.lemmas.List.{length-map}
 use Rattle.std.proofs.lemmas.Result.{on_ok_weaker}
 use Rattle.stack_rebuild.specs.declared.node.Step.{Step}
 use Rattle.stack_rebuild.specs.declared.tally.Tally.{Tally}
-use Rattle.stack_rebuild.specs.private.PathNumbers.{path_at, paths_after}
+use Rattle.stack_rebuild.specs.private.PathNumbers.{paths_after}
+use Rattle.stack_rebuild.specs.PathSums.{AreSums, no_tally, path_at, Summed, with_pair}
 use Rattle.stack_rebuild.specs.private.PathTree.{paths_in, step_of, tallies_in, tally_in}
-use Rattle.stack_rebuild.specs.private.Scanning.{AreSums, Summed, no_tally, with_pair}
 use Rattle.stack_rebuild.specs.Stacks.{Timed}
 use Rattle.stack_rebuild.proofs.Nodes.{tallies_some}
 use Rattle.stack_rebuild.proofs.Sums.{sums_more}

@@ -6,7 +6,7 @@ use Rattle.stack_rebuild.specs.declared.node.Step.{Step}
 use Rattle.stack_rebuild.specs.declared.tally.Tally.{Tally}
 use Rattle.stack_rebuild.specs.private.PathNumbers.{AreNumbered, is_step, path_by, paths_after}
 use Rattle.stack_rebuild.specs.private.PathTree.{paths_in, step_of, steps_in, tallies_in, tally_in}
-use Rattle.stack_rebuild.specs.private.Scanning.{AreSums, Summed, no_tally}
+use Rattle.stack_rebuild.specs.PathSums.{AreSums, Summed, no_tally}
 use Rattle.stack_rebuild.proofs.Nodes.{length_steps, paths_pushed, steps_more, tallies_pushed, tallies_some}
 use Rattle.stack_rebuild.proofs.Sums.{sums_fresh}
 use Rattle.stack_rebuild.proofs.Trees.{tree_more, tree_same}

@@ -2,7 +2,7 @@ use Rattle.std.proofs.Common.{◌≡◌, ◌<◌, ◌∙◌, true, List, ap, ari
 use Rattle.std.proofs.lemmas.Bool.Decides.{nat_tests}
 use Rattle.stack_rebuild.specs.declared.node.Node.{Node}
 use Rattle.stack_rebuild.specs.private.PathTree.{step_of, steps_in}
-use Rattle.stack_rebuild.specs.private.Scanning.{Summed}
+use Rattle.stack_rebuild.specs.PathSums.{Summed}
 use Rattle.stack_rebuild.proofs.Nodes.{length_steps, step_at}
 use Rattle.stack_rebuild.proofs.Trees.{is_step-same, number_at}
 use Rattle.stack_rebuild.proofs.path_sums.PathSums.is_path_of.Goals as goal

@@ -1,6 +1,6 @@
 use Rattle.std.proofs.Common.{ap, sym}
 use Rattle.stack_rebuild.specs.private.PathTree.{steps_in}
-use Rattle.stack_rebuild.specs.private.Scanning.{Summed}
+use Rattle.stack_rebuild.specs.PathSums.{Summed}
 use Rattle.stack_rebuild.proofs.Trees.{absent_path, number_told}
 use Rattle.stack_rebuild.proofs.path_sums.PathSums.number_of_step.Goals as goal
 

@@ -1,6 +1,5 @@
 use Rattle.std.proofs.Common.{◌≡◌, ◌++◌, ◌∙◌, ℕ, List, [], reverse, ap, sym, arith}
-use Rattle.stack_rebuild.specs.private.PathNumbers.{path_at}
-use Rattle.stack_rebuild.specs.private.Scanning.{Summed}
+use Rattle.stack_rebuild.specs.PathSums.{path_at, Summed}
 use Rattle.stack_rebuild.proofs.path_sums.PathSums.path.Goals as goal
 
 pub returns : goal.returns

@@ -1,5 +1,5 @@
 use Rattle.std.proofs.Common.{◌≡◌, ◌++◌, ◌<◌, reverse, length}
-use Rattle.stack_rebuild.specs.private.PathNumbers.{path_at}
+use Rattle.stack_rebuild.specs.PathSums.{path_at}
 use Rattle.stack_rebuild.proofs.path_sums.PathSums.path.Given as goal
 
 abbrev pub invariant-climbing : goal.invariant-climbing

@@ -1,8 +1,8 @@
 use Rattle.std.proofs.Common.{◌≡◌, ◌<◌, ◌∙◌, ℕ, List, ap, arith, length, subst, sym}
 use Rattle.stack_rebuild.specs.declared.node.Step.{Step}
-use Rattle.stack_rebuild.specs.private.PathNumbers.{path_at, path_by}
+use Rattle.stack_rebuild.specs.private.PathNumbers.{path_by}
+use Rattle.stack_rebuild.specs.PathSums.{path_at, Summed}
 use Rattle.stack_rebuild.specs.private.PathTree.{paths_in, step_of}
-use Rattle.stack_rebuild.specs.private.Scanning.{Summed}
 use Rattle.stack_rebuild.proofs.Nodes.{climbs_to, steps_long}
 use Rattle.stack_rebuild.proofs.path_sums.PathSums.step_to.Goals as goal
 

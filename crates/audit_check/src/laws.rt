@@ -1,0 +1,53 @@
+//! Laws of audits and of verdicts. Each law is the contract of a function that does nothing.
+
+ghost use Rattle.std.specs.Prelude.{◌≡◌, ℕ, List, Result};
+ghost use Rattle.xray_image.specs.Program.{IsAccepted, Program};
+ghost use Rattle.patch_script.specs.declared.command.Command.{Command};
+ghost use Rattle.machine_step.specs.{Buffers.{spare_of}, Setups.{IsSetup}};
+ghost use Rattle.machine_step.specs.declared.setup.Setup.{Setup};
+ghost use Rattle.traced_run.specs.{Following.{AllMarksFollow}, Losses.{AreLost}, Runs.{IsRun, ThreadRun}};
+ghost use Rattle.trace_flush.specs.{Flush.{trace_bytes}, Lines.{audit_of_run}};
+ghost use Rattle.audit_check.specs.declared.fault.AuditFault.{AuditFault};
+ghost use Rattle.audit_check.specs.declared.verdict.Verdict.{Verdict};
+ghost use Rattle.audit_check.specs.declared.verdict.Verdict.TheVariants.{Yes};
+ghost use Rattle.audit_check.specs.Reading.{ReadsAs};
+ghost use Rattle.audit_check.specs.Statements.{MayState, Statement, run_statement, text_of};
+ghost use Rattle.audit_check.specs.Verdicts.{IsJudged};
+
+use machine_step::{one_end, passings_are_limited};
+use trace_flush::audit_tells_its_run;
+
+/// Bytes read as one statement, or are refused at one line.
+pub fn one_reading()
+    ensures { (bytes : List ℕ) (reading other : Result Statement AuditFault)
+        → ReadsAs bytes reading → ReadsAs bytes other → reading ≡ other }
+{
+    audit_tells_its_run();
+}
+
+/// There is only one verdict on a statement and a trace, for an accepted image and a script. With the
+/// contract of `check_audit` there is exactly one.
+pub fn one_verdict()
+    ensures { (bytes : List ℕ) (program : Program) (script : List Command) (statement : Statement)
+        (trace : List ℕ) (verdict other : Verdict) → IsAccepted bytes program
+        → IsJudged program script statement trace verdict → IsJudged program script statement trace other
+        → verdict ≡ other }
+{
+    one_end();
+}
+
+/// The verdict on the audit and the trace of a lawful run is `Yes` (`yes`): the marks of its threads
+/// follow the script, and as many segments are lost as the threads' queue had no spare buffers for. This
+/// is what a replay and a run on real threads promise. Its audit is read as what the run states (`read`).
+pub fn a_lawful_run_is_accepted()
+    ensures read { (program : Program) (script : List Command) (setup : Setup) (runs : List ThreadRun)
+        → IsSetup setup → IsRun program setup runs → AllMarksFollow program setup.threads script runs
+        → AreLost setup.size (spare_of setup) runs
+        → MayState (run_statement setup runs) × (audit_of_run setup runs ≡ text_of (run_statement setup runs)) }
+    ensures yes { (program : Program) (script : List Command) (setup : Setup) (runs : List ThreadRun)
+        → IsRun program setup runs → AllMarksFollow program setup.threads script runs
+        → AreLost setup.size (spare_of setup) runs
+        → IsJudged program script (run_statement setup runs) (trace_bytes setup runs) Yes }
+{
+    passings_are_limited();
+}

@@ -1,0 +1,29 @@
+//! A judge of finished runs. `read_audit` reads the audit of a run, and `check_audit` says whether the
+//! audit and a trace are those of some lawful run of an image beside a script.
+//!
+//! `row` takes the parts of a row of an audit, `setup` and `thread_rows` read the rows, and `reading` all
+//! of them. `turns` has the places at which a word changes, `switches` those of a whole script, and
+//! `follower` judges marks by them. `blocks` compares a trace, segment by segment. `judging` takes each
+//! thread through its plain run and puts the rows of the verdict together.
+#![tactic(auto)]
+
+mod audit;
+mod blocks;
+mod fault;
+mod follower;
+mod judging;
+mod laws;
+mod reading;
+mod row;
+mod setup;
+mod switches;
+mod thread_rows;
+mod turns;
+mod verdict;
+
+pub use audit::{Audit, AuditEntry};
+pub use fault::AuditFault;
+pub use judging::check_audit;
+pub use laws::{a_lawful_run_is_accepted, one_reading, one_verdict};
+pub use reading::read_audit;
+pub use verdict::Verdict;

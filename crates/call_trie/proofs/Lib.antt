@@ -1,0 +1,10 @@
+pub mod Adding
+pub mod Among
+pub mod Bounds
+pub mod FrameLemmas
+pub mod Grouping
+pub mod Joining
+pub mod NodeLemmas
+pub mod Recording
+pub mod Standing
+pub mod TableLemmas

@@ -1,0 +1,12 @@
+pub mod Flags
+pub mod Places
+pub mod RunLaws
+pub mod LogRecords
+pub mod Logs
+pub mod Escapes
+pub mod JsonTexts
+pub mod Pieces
+pub mod Lines
+pub mod Sources
+pub mod GivenTexts
+pub mod Wide

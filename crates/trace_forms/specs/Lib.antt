@@ -1,0 +1,6 @@
+pub mod TraceEvents
+pub mod Runs
+pub mod BasicLogs
+pub mod Dumps
+pub mod Sources
+pub mod private
