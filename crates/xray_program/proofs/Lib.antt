@@ -3,7 +3,9 @@ pub mod AccountLaws
 pub mod Answering
 pub mod AsmLaws
 pub mod CommandLaws
+pub mod CheckLaws
 pub mod ConvertLaws
+pub mod DumpLaws
 pub mod Endings
 pub mod ExtractLaws
 pub mod Headline
