@@ -2,7 +2,9 @@ pub mod AcceptedInputs
 pub mod AccountLaws
 pub mod Answering
 pub mod AsmLaws
+pub mod Audits
 pub mod CheckLaws
+pub mod CheckTurns
 pub mod CommandLaws
 pub mod ConvertLaws
 pub mod DumpLaws

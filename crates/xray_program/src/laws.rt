@@ -18,6 +18,7 @@ ghost use Rattle.flame_graph.specs.Laws.{LowestAddUp, NoneSticksOut};
 ghost use Rattle.stack_rebuild.specs.Stacks.{stack_of};
 
 use crate::drawn::each_input_is_read;
+use audit_check::{one_reading, some_reading};
 use fdr_file::a_trace_is_read;
 use flame_graph::{no_frame_sticks_out, stacks_can_be_drawn, the_lowest_frames_add_up};
 use machine_step::{one_end, some_end, some_marks_follow};
@@ -36,6 +37,8 @@ pub fn one_meaning()
     one_verdict();
     one_end();
     one_run();
+    one_reading();
+    audit_check::one_verdict();
 }
 
 /// If words mean an outcome that writes nothing, they mean nothing else, over a desk that reports
@@ -48,11 +51,14 @@ pub fn refusal_is_the_only_meaning()
     one_verdict();
     one_end();
     one_run();
+    one_reading();
+    audit_check::one_verdict();
 }
 
 /// Words mean something over a desk that reports every name, whatever bytes the names hold. For
 /// `run` this says that each script that is read has lawful runs: its awaits and holds leave a place
-/// for each load of each thread.
+/// for each load of each thread. For `check` it says that bytes are an audit or are refused at a line,
+/// and that there is a verdict on any audit and any trace.
 pub fn some_meaning()
     ensures { (said : Option Command) (held : List ℕ → Entry) → TellsAll held
         → ((name bytes : List ℕ) → held name ≡ Holds bytes → All (λ b. b < 256) bytes)
@@ -68,6 +74,8 @@ pub fn some_meaning()
     each_input_is_read();
     a_run_is_traced();
     a_trace_is_read();
+    some_reading();
+    audit_check::some_verdict();
 }
 
 /// The inputs of a command, whose turns come one after another, are the files that are read by its
@@ -87,6 +95,7 @@ pub fn accepted_inputs_mean_done()
         → IsAnswer (Some command) before after status → (status ≡ 0) ⊎ (status ≡ 5) }
 {
     one_verdict();
+    one_reading();
 }
 
 /// No words mean an outcome with status 7, whatever the desk holds.
