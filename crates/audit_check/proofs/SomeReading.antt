@@ -79,17 +79,17 @@ known_marks most row = some_marks most (λ marks. row ≡ marks_line marks) (λ 
 known_limits : (l : Limits) → Known (AreLimits l)
 known_limits l =
     known_as
-    (λ all. record {
-      fuel = all.0;
-      passings = all.1;
-      tick = all.2;
-      tsc = all.3;
-      some_cpu = all.4;
-      few_cpus = all.5;
-      some_stay = all.6;
-      short_stay = all.7;
+    (λ (fuel, (passings, (tick, (tsc, (some_cpu, (few_cpus, (some_stay, short_stay))))))). record {
+      fuel = fuel;
+      passings = passings;
+      tick = tick;
+      tsc = tsc;
+      some_cpu = some_cpu;
+      few_cpus = few_cpus;
+      some_stay = some_stay;
+      short_stay = short_stay;
     })
-    (λ are. (are.fuel, are.passings, are.tick, are.tsc, are.some_cpu, are.few_cpus, are.some_stay, are.short_stay))
+    (λ are. (are.fuel, (are.passings, (are.tick, (are.tsc, (are.some_cpu, (are.few_cpus, (are.some_stay, are.short_stay))))))))
     (known_both (known_most l.fuel 1000000000) (known_both (known_most l.passings 1048576) (known_both (known_below l.tick (2 ^ 64))
     (known_both (known_below l.tsc (2 ^ 64)) (known_both (known_most 1 l.cpus) (known_both (known_most l.cpus 65535)
     (known_both (known_most 1 l.migrate) (known_most l.migrate 1048576))))))))
@@ -97,32 +97,34 @@ known_limits l =
 known_setup : (s : Setup) → Known (IsSetup s)
 known_setup s =
     known_as
-    (λ all. record {
-      some_thread = all.0;
-      few_threads = all.1;
-      least = all.2;
-      most = all.3;
-      enough = all.4;
-      few_buffers = all.5;
-      room = all.6;
-      limits_are = all.7;
-      pid = all.8;
-      wall_is = record { secs = all.9; micros = all.10 };
-      frequency = all.11;
+    (λ (some_thread, (few_threads, (least, (most, (enough, (few_buffers, (room, (limits_are, (pid, (secs, (micros, frequency))))))))))). record {
+      some_thread = some_thread;
+      few_threads = few_threads;
+      least = least;
+      most = most;
+      enough = enough;
+      few_buffers = few_buffers;
+      room = room;
+      limits_are = limits_are;
+      pid = pid;
+      wall_is = record { secs = secs; micros = micros };
+      frequency = frequency;
     })
     (λ is. (
       is.some_thread,
-      is.few_threads,
-      is.least,
-      is.most,
-      is.enough,
-      is.few_buffers,
-      is.room,
-      is.limits_are,
-      is.pid,
-      is.wall_is.secs,
-      is.wall_is.micros,
-      is.frequency,
+      (
+        is.few_threads,
+        (
+          is.least,
+          (
+            is.most,
+            (
+              is.enough,
+              (is.few_buffers, (is.room, (is.limits_are, (is.pid, (is.wall_is.secs, (is.wall_is.micros, is.frequency)))))),
+            ),
+          ),
+        ),
+      ),
     ))
     (known_both (known_most 1 s.threads) (known_both (known_most s.threads MAX_THREADS) (known_both (known_most LEAST_SIZE s.size)
     (known_both (known_most s.size LARGEST_SIZE) (known_both (known_most s.threads s.max) (known_both (known_most s.max MOST_BUFFERS)
@@ -227,13 +229,13 @@ module _ (reads : WrittenNumbersRead) where
         refuse (length (first_rows setup threads) + 1) (refused_counts (setup_tells reads) bytes setup threads [] are low lines tt)
     at_counts setup threads are low later (row ∷ more) lines =
         elim (known_counts (length threads + 1) row (let few = are.setup_is.few_threads in omega (arith, low, few))) [
-      | inl (counts, says) ↦
-          at_marks setup threads counts are low says.short later more
-          (lines ∙ (ap (λ (r : List ℕ). first_rows setup threads ++ r ∷ more) says.text
-          ∙ sym (append_assoc (first_rows setup threads) (counts_row (length threads + 1) counts ∷ []) more)))
-      | inr other ↦
-          refuse (length (first_rows setup threads) + 1) (refused_counts (setup_tells reads) bytes setup threads (row ∷ more) are low lines other)
-    ]
+          | inl (counts, says) ↦
+              at_marks setup threads counts are low says.short later more
+              (lines ∙ (ap (λ (r : List ℕ). first_rows setup threads ++ r ∷ more) says.text
+              ∙ sym (append_assoc (first_rows setup threads) (counts_row (length threads + 1) counts ∷ []) more)))
+          | inr other ↦
+              refuse (length (first_rows setup threads) + 1) (refused_counts (setup_tells reads) bytes setup threads (row ∷ more) are low lines other)
+        ]
 
     -- so many threads are left
     at_threads : (left : ℕ) (setup : Setup) (threads : List ThreadAudit) → AreFirst setup threads → length threads + left ≡ setup.threads

@@ -122,7 +122,7 @@ module _ (code : ℕ → ℕ → ℕ) where
         let set : suc value ≢ 0 = λ e. cc in
         (some.0, least_same A (λ n. (suc value ≢ 0) × A n) some.0 (λ n is. (set, is)) (λ n (_, is). is) some.1)
 
-    least_tree : (tree : Tree) (place : ℕ) → SomeLeast (Reaches code bound mark tree place)
+    least_tree : (tree : Tree) (place : ℕ) → SomeLeast (λ n. Reaches code bound mark tree place n)
     least_tree (Leaf m) place = elim (known_mark m mark) [
       | inl is ↦ (Some place, ((is, omega arith), λ n (_, low). low))
       | inr other ↦ (None, λ n (is, low). other is)
@@ -130,8 +130,13 @@ module _ (code : ℕ → ℕ → ℕ) where
     least_tree (Node word recording next) place =
         from_place (λ at n. Reaches code bound mark (next (code at word)) at n) (λ at. least_tree (next (code at word)) at) place
     least_tree (Held word next) place =
-        from_place (λ at n. (code at word ≢ 0) × Reaches code bound mark next at n)
-        (λ at. if_set (code at word) (Reaches code bound mark next at) (least_tree next at)) place
+        let some = from_place (λ at n. (code at word ≢ 0) × Reaches code bound mark next at n)
+        (λ at. if_set (code at word) (λ n. Reaches code bound mark next at n) (least_tree next at)) place in (
+          some.0,
+          least_same (λ n. (at : ℕ) × (place ≤ at) × (at ≤ bound) × ((code at word ≢ 0) × Reaches code bound mark next at n))
+              (λ n. Reaches code bound mark (Held word next) place n) some.0 (λ n (at, low, high, (set, way)). (at, low, high, set, way))
+              (λ n (at, low, high, set, way). (at, low, high, (set, way))) some.1,
+        )
 
   module _ (bound : ℕ → ℕ) where
     least_way : (number : ℕ) (trees : List Tree) (marks : List Mark) (place : ℕ) → SomeLeast (Passes code bound number trees marks place)
@@ -147,18 +152,20 @@ module _ (code : ℕ → ℕ → ℕ) where
         Here : ℕ → Type 0
         Here n = Reaches code (bound number) mark tree place n
 
-        then : (first : ℕ) → IsLeast Here (Some first) → SomeLeast (Later first) → SomeLeast (λ n. (at : ℕ) × Here at × Later at n)
-        then first here (None, never) =
+        goes : (first : ℕ) → IsLeast Here (Some first) → SomeLeast (Later first) → SomeLeast (λ n. (at : ℕ) × Here at × Later at n)
+        goes first here (None, never) =
             (None, λ n (at, way, rest). never n (passes_earlier code bound (number + 1) trees marks first at n (here.1 at way) rest))
-        then first here (Some end, found) = (
+        goes first here (Some end, found) = (
           Some end,
-          ((first, here.0, found.0),
-              (λ n (at, way, rest). found.1 n (passes_earlier code bound (number + 1) trees marks first at n (here.1 at way) rest))),
+          (
+            (first, here.0, found.0),
+            (λ n (at, way, rest). found.1 n (passes_earlier code bound (number + 1) trees marks first at n (here.1 at way) rest)),
+          ),
         )
 
         on : SomeLeast Here → ((from : ℕ) → SomeLeast (Later from)) → SomeLeast (λ n. (at : ℕ) × Here at × Later at n)
         on (None, never) again = (None, λ n (at, way, rest). never at way)
-        on (Some first, here) again = then first here (again first)
+        on (Some first, here) again = goes first here (again first)
 
     passes_later : (number : ℕ) (trees : List Tree) (marks : List Mark) (place end late : ℕ) → end ≤ late
         → Passes code bound number trees marks place end → Passes code bound number trees marks place late
@@ -218,8 +225,8 @@ known_if (inr a) b = inl (λ is. absurd (a is))
 
 known_counts : (size : ℕ) (said : ThreadAudit) (run : ThreadRun) → Known (CountsAgree size said run)
 known_counts size said run =
-    known_as (λ all. record { recorded = all.0; segments = all.1; below = all.2; none = all.3 })
-    (λ agree. (agree.recorded, agree.segments, agree.below, agree.none))
+    known_as (λ (recorded, (segments, (below, none))). record { recorded = recorded; segments = segments; below = below; none = none })
+    (λ agree. (agree.recorded, (agree.segments, (agree.below, agree.none))))
     (known_both (known_equal said.recorded (length (events_of run))) (known_both (known_equal said.segments (segment_count size run))
     (known_both (known_if (known_below 0 said.segments) (known_below said.first said.segments))
     (known_if (known_equal said.segments 0) (known_equal said.first 0)))))

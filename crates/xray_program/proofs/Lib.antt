@@ -5,6 +5,7 @@ pub mod AsmLaws
 pub mod Audits
 pub mod CheckLaws
 pub mod CheckTurns
+pub mod CheckYes
 pub mod CommandLaws
 pub mod ConvertLaws
 pub mod DumpLaws

@@ -51,4 +51,5 @@ pub use drawn::soak_inputs;
 pub use laws::{
     accepted_inputs_mean_done, inputs_follow_the_rows, no_words_mean_7, one_meaning,
     pictures_add_up, refusal_is_the_only_meaning, reports_take_a_run, some_meaning,
+    what_is_left_is_accepted,
 };
