@@ -31,7 +31,7 @@ use Rattle.audit_check.specs.Verdicts.{AtThread, IsJudged}
 use Rattle.audit_check.proofs.Agreeing.{of_row, row_of}
 use Rattle.audit_check.proofs.Firsts.{first_next, none_yet, verdict_is}
 use Rattle.audit_check.proofs.FollowWays.{marks_pass}
-use Rattle.audit_check.proofs.Known.{Known, known_as, known_below, known_both, known_bytes, known_equal, known_most, known_test}
+use Rattle.audit_check.proofs.Known.{Known, known_as, known_below, known_both, known_bytes, known_equal, known_test}
 use Rattle.audit_check.proofs.LeastEnds.{least_either, least_same}
 use Rattle.audit_check.proofs.Owning.{trees_own}
 use Rattle.audit_check.proofs.Refusals.{some_item}
