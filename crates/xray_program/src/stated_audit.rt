@@ -1,4 +1,6 @@
 //! What an audit states.
+ghost use Rattle.std.specs.Prelude.{◌≡◌};
+
 use audit_check::Audit;
 use std::marker::Model;
 
@@ -14,4 +16,13 @@ impl Model for StatedAudit {
     ghost Value = { Statement };
 
     ghost view = { λ s. statement_of s.audit };
+}
+
+impl StatedAudit {
+    /// For how many threads it states something.
+    pub(crate) fn threads(&self) -> u32
+        ensures { result ≡ self.now.setup.threads }
+    {
+        self.audit.setup.threads
+    }
 }
