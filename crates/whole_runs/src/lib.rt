@@ -11,6 +11,8 @@ mod asm;
 #[cfg(test)]
 mod bad_lines;
 #[cfg(test)]
+mod check;
+#[cfg(test)]
 mod checks;
 #[cfg(test)]
 mod damaged;

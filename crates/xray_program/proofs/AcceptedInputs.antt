@@ -1,13 +1,14 @@
 -- If each input of a command is accepted, all is done; and no outcome has status 7.
 use Rattle.std.proofs.Common.{◌≡◌, ◌≢◌, ◌⊎◌, ◌∙◌, ℕ, List, [], length, Option, Some, None, option_map, ◌∷◌, inl, inr, refl, sym, ap, subst, arith, codes}
 use Rattle.std.specs.Prelude.{⊤}
+use Rattle.audit_check.specs.Statements.{Statement}
 use Rattle.fdr_file.specs.declared.trace.Trace.{Trace}
 use Rattle.fdr_file.specs.Traces.{trace_of}
 use Rattle.command_words.specs.Limits.{trace_limit}
 use Rattle.command_words.specs.declared.report_options.AccountOptions.{AccountOptions}
 use Rattle.command_words.specs.declared.report_options.StackFormat.{StackFormat}
 use Rattle.command_words.specs.declared.run_options.Bounds.{Bounds}
-use Rattle.command_words.specs.Words.{Command, Sim, Run, Plain, Extract, Asm, Account, Stack, Convert, Soak}
+use Rattle.command_words.specs.Words.{Command, Sim, Run, Plain, Extract, Asm, Account, Stack, Convert, Dump, Check, Soak}
 use Rattle.machine_step.specs.declared.setup.Setup.{Setup}
 use Rattle.asm_text.specs.Assembling.{assembled}
 use Rattle.asm_text.specs.FaultWords.{asm_words}
@@ -26,8 +27,9 @@ use Rattle.xray_io.specs.Desk.{Entry, Absent, Holds}
 use Rattle.xray_io.specs.World.{World}
 use Rattle.xray_program.specs.Accepted.{AreAccepted, CountsNoFault, HoldsImage, HoldsInput, HoldsReport}
 use Rattle.xray_program.specs.Answers.{IsAnswer}
+use Rattle.xray_program.specs.Check.{Judges}
 use Rattle.xray_program.specs.Commands.{Means}
-use Rattle.xray_program.specs.Inputs.{image_form, schedule_form, schedule_limit, script_form, script_limit, text_form, text_limit, trace_form}
+use Rattle.xray_program.specs.Inputs.{audit_form, image_form, schedule_form, schedule_limit, script_form, script_limit, text_form, text_limit, trace_form, unread_trace_form}
 use Rattle.xray_program.specs.Outcomes.{Outcome, Done, status_of}
 use Rattle.xray_program.specs.Account.{account_report}
 use Rattle.xray_program.specs.Plain.{PlainPrints}
@@ -39,7 +41,7 @@ use Rattle.xray_program.specs.Soak.{IsSummary}
 use Rattle.xray_program.specs.Stack.{StacksCome, stacks_text}
 use Rattle.xray_program.specs.Taking.{Form, Leaves, Prints, RefuseIf, Sound, Take, TakeMaybe}
 use Rattle.xray_program.specs.Traced.{Traces}
-use Rattle.xray_program.proofs.Meanings.{IsDecided, decided_by}
+use Rattle.xray_program.proofs.Meanings.{IsDecided, any_decided, decided_by}
 
 -- ---- all is done
 
@@ -121,8 +123,24 @@ stack_next format t program outcome = outcome ≡ Done [] (stacks_text format pr
 abbrev convert_next : Trace → Option Program → Outcome → Type 0
 convert_next t program outcome = outcome ≡ Done [] (yaml_text program t)
 
-accepted_done : IsDecided image_form → (held : List ℕ → Entry) (command : Command) → AreAccepted held command → IsDone (Means (Some command) held)
-accepted_done is held (Sim i s c t a options) (program, plan, turns, at, of_script, of_schedule, still) =
+-- what is printed is done
+judged_done : (program : Program) (plan : Plan) (statement : Statement) (bytes : List ℕ) → IsDone (Judges program plan statement bytes)
+judged_done program plan statement bytes outcome judges = ap status_of judges.outcome_is
+
+-- what follows the inputs of `check`, one after another
+abbrev check_trace : (List ℕ → Entry) → (t : List ℕ) → Program → Statement → Plan → Outcome → Type 0
+check_trace held t program statement plan = Take unread_trace_form Sound held t (λ bytes. Judges program plan statement bytes)
+
+abbrev check_script : (List ℕ → Entry) → (s t : List ℕ) → Program → Statement → Outcome → Type 0
+check_script held s t program statement =
+    Take (script_form program statement.setup.threads) Sound held s (λ plan. check_trace held t program statement plan)
+
+abbrev check_audit : (List ℕ → Entry) → (s t a : List ℕ) → Program → Outcome → Type 0
+check_audit held s t a program = Take audit_form Sound held a (λ statement. check_script held s t program statement)
+
+accepted_done : IsDecided image_form → IsDecided audit_form → (held : List ℕ → Entry) (command : Command) → AreAccepted held command
+    → IsDone (Means (Some command) held)
+accepted_done is audits held (Sim i s c t a options) (program, plan, turns, at, of_script, of_schedule, still) =
     let setup = setup_of options in
     accepted_take image_form is held i
     (λ p. Take (script_form p setup.threads) Sound held s (λ l. Take (schedule_form setup.threads) Sound held c (Replays s t a setup p l))) program at
@@ -132,34 +150,42 @@ accepted_done is held (Sim i s c t a options) (program, plan, turns, at, of_scri
     (Replays s t a setup program plan) turns of_schedule
     (unrefused waits_words (waiting_line plan.lines) s (codes "script") (sim_next s t a setup program plan turns) still
     (left_done (Traces (Replayed program plan turns setup) program setup t a)))))
-accepted_done is held (Run i s t a options) (program, plan, at, of_script) =
+accepted_done is audits held (Run i s t a options) (program, plan, at, of_script) =
     let setup = setup_of options in
     accepted_take image_form is held i (λ p. Take (script_form p setup.threads) Sound held s (λ l. run_next t a setup p l)) program at
     (accepted_take (script_form program setup.threads) (decided_by (codes "script") script_limit (plan_of program setup.threads) script_words) held s
     (λ l. run_next t a setup program l) plan of_script (left_done (Traces (FollowsPlan setup program plan) program setup t a)))
-accepted_done is held (Plain i bounds) (program, at) =
+accepted_done is audits held (Plain i bounds) (program, at) =
     accepted_take image_form is held i (plain_next bounds) program at (left_done (λ outputs text. (outputs ≡ []) × PlainPrints program bounds text))
-accepted_done is held (Extract i) (program, at) = accepted_take image_form is held i extract_next program at (λ outcome same. ap status_of same)
-accepted_done is held (Asm t i threshold relative) (file, at) =
+accepted_done is audits held (Extract i) (program, at) = accepted_take image_form is held i extract_next program at (λ outcome same. ap status_of same)
+accepted_done is audits held (Asm t i threshold relative) (file, at) =
     accepted_take (text_form threshold relative) (decided_by (codes "text") text_limit (λ bytes. assembled bytes threshold relative) asm_words) held t (asm_next i) file at
     (λ outcome same. ap status_of same)
-accepted_done is held (Account t i options) at =
+accepted_done is audits held (Account t i options) at =
     report_done is held t i (λ u. ⊤) (account_next options) at (λ u program so outcome same. ap status_of same)
-accepted_done is held (Stack t i format) at =
+accepted_done is audits held (Stack t i format) at =
     report_done is held t i (λ u. deep_in most_open u.blocks ≡ None) (λ u program. StacksCome t format u program) at
     (λ u program shallow. unrefused deep_words (deep_in most_open u.blocks) t (codes "trace") (stack_next format u program) shallow
     (λ outcome same. ap status_of same))
-accepted_done is held (Convert t i) at = report_done is held t i (λ u. ⊤) convert_next at (λ u program so outcome same. ap status_of same)
-accepted_done is held (Soak number) at = left_done (λ outputs text. (outputs ≡ []) × IsSummary number text)
+accepted_done is audits held (Convert t i) at = report_done is held t i (λ u. ⊤) convert_next at (λ u program so outcome same. ap status_of same)
+accepted_done is audits held (Check i s t a) (program, statement, plan, bytes, at, of_audit, of_script, of_trace) =
+    let threads : ℕ = statement.setup.threads in
+    accepted_take image_form is held i (check_audit held s t a) program at
+    (accepted_take audit_form audits held a (check_script held s t program) statement of_audit
+    (accepted_take (script_form program threads) (decided_by (codes "script") script_limit (plan_of program threads) script_words) held s
+    (check_trace held t program statement) plan of_script
+    (accepted_take unread_trace_form (any_decided (codes "trace") trace_limit) held t (λ b. Judges program plan statement b) bytes of_trace
+    (judged_done program plan statement bytes))))
+accepted_done is audits held (Soak number) at = left_done (λ outputs text. (outputs ≡ []) × IsSummary number text)
 
-pub done_or_memory : IsDecided image_form → (command : Command) (before after : World) (status : ℕ) → AreAccepted before.desk.held command
+pub done_or_memory : IsDecided image_form → IsDecided audit_form → (command : Command) (before after : World) (status : ℕ) → AreAccepted before.desk.held command
     → CountsNoFault before after → IsAnswer (Some command) before after status → (status ≡ 0) ⊎ (status ≡ 5)
-done_or_memory is command before after status accepted calm (inl (outcome, meant, same)) =
-    inl (sym same ∙ accepted_done is before.desk.held command accepted outcome meant)
-done_or_memory is command before after status accepted calm (inr (inl memory)) = inr memory
-done_or_memory is command before after status accepted calm (inr (inr (inl (three, rose)))) = absurd (calm.reads rose)
-done_or_memory is command before after status accepted calm (inr (inr (inr (four, inl rose)))) = absurd (calm.writes rose)
-done_or_memory is command before after status accepted calm (inr (inr (inr (four, inr rose)))) = absurd (calm.out rose)
+done_or_memory is audits command before after status accepted calm (inl (outcome, meant, same)) =
+    inl (sym same ∙ accepted_done is audits before.desk.held command accepted outcome meant)
+done_or_memory is audits command before after status accepted calm (inr (inl memory)) = inr memory
+done_or_memory is audits command before after status accepted calm (inr (inr (inl (three, rose)))) = absurd (calm.reads rose)
+done_or_memory is audits command before after status accepted calm (inr (inr (inr (four, inl rose)))) = absurd (calm.writes rose)
+done_or_memory is audits command before after status accepted calm (inr (inr (inr (four, inr rose)))) = absurd (calm.out rose)
 
 -- ---- none has status 7
 
@@ -224,6 +250,12 @@ not_7 held (Stack t i format) =
     (done_not_7 (stack_next format u program) (λ outcome same. ap status_of same)))
 not_7 held (Convert t i) =
     report_not_7 held t i convert_next (λ u program. done_not_7 (convert_next u program) (λ outcome same. ap status_of same))
+not_7 held (Check i s t a) =
+    take_not_7 image_form held i (check_audit held s t a)
+    (λ program. take_not_7 audit_form held a (check_script held s t program)
+    (λ statement. take_not_7 (script_form program statement.setup.threads) held s (check_trace held t program statement)
+    (λ plan. take_not_7 unread_trace_form held t (λ bytes. Judges program plan statement bytes)
+    (λ bytes. done_not_7 (Judges program plan statement bytes) (judged_done program plan statement bytes)))))
 not_7 held (Soak number) =
     done_not_7 (λ outcome. Means (Some (Soak number)) held outcome) (left_done (λ outputs text. (outputs ≡ []) × IsSummary number text))
 

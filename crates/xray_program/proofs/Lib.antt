@@ -2,8 +2,13 @@ pub mod AcceptedInputs
 pub mod AccountLaws
 pub mod Answering
 pub mod AsmLaws
+pub mod Audits
+pub mod CheckLaws
+pub mod CheckTurns
+pub mod CheckYes
 pub mod CommandLaws
 pub mod ConvertLaws
+pub mod DumpLaws
 pub mod Endings
 pub mod ExtractLaws
 pub mod Headline

@@ -1,13 +1,13 @@
-//! The bytes of an image file.
+//! The bytes of a file.
 use std::marker::Model;
 
-/// The bytes of an image file. In contracts they are a list.
+/// The bytes of a file. In contracts they are a list.
 #[derive(Drop)]
-pub(crate) struct ImageFile {
+pub(crate) struct FileBytes {
     pub(crate) bytes: Vec<u8>,
 }
 
-impl Model for ImageFile {
+impl Model for FileBytes {
     ghost use Rattle.std.specs.Prelude.{ℕ, List};
 
     ghost Value = { List ℕ };
