@@ -3,6 +3,7 @@ pub mod CallLaws
 pub mod Drawn
 pub mod Ends
 pub mod Further
+pub mod Logs
 pub mod Meant
 pub mod ReportTakes
 pub mod RunInputs
