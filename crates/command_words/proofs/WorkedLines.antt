@@ -78,7 +78,8 @@ made_named = refl
 replay : says (codes "sim" ∷ codes "s" ∷ codes "s" ∷ codes "c" ∷ codes "--fuel=9" ∷ codes "t" ∷ codes "a" ∷ [])
     ≡ Some (Sim (codes "s") (codes "s") (codes "c") (codes "t") (codes "a") (record {
       bounds = record { threads = 1; fuel = 9; passings = 1048576 };
-      stamps = record { tick = 1; tsc = 0; frequency = 0; cpus = 1; migrate = 1048576 };
+      stamps = record { tick = 1; tsc = 0; cpus = 1; migrate = 1048576 };
+      frequency = 0;
       buffers = record { size = 16384; max = 100 };
       pid = 1;
       wall = noon;
