@@ -19,6 +19,8 @@ mod faults;
 #[cfg(test)]
 mod faults_in_turn;
 #[cfg(test)]
+mod forms;
+#[cfg(test)]
 mod gate_calls;
 #[cfg(test)]
 mod gates;

@@ -49,11 +49,7 @@ impl<'a> Work<'a> for Convert<'a> {
 
     ghost fits = { λ _ inputs. (trace : Trace) × LogMeans inputs.log trace };
 
-    fn take<D: Desk>(
-        &self,
-        alloc: Global,
-        desk: &mut D,
-    ) -> Result<ReportInputs<Log>, Stop<'a>> {
+    fn take<D: Desk>(&self, alloc: Global, desk: &mut D) -> Result<ReportInputs<Log>, Stop<'a>> {
         let kind = LogKind {
             form: self.options.input,
         };
@@ -149,10 +145,7 @@ fn wide_of(number: Option<u64>) -> Option<Words<'static>>
     ensures { option_map words_text result ≡ option_map cpu_words number }
 {
     match number {
-        Some(number) => Some(Words::two(
-            Piece::Bytes(b"Cpu "),
-            Piece::Number(u128::from(number)),
-        )),
+        Some(number) => Some(Words::two(Piece::Bytes(b"Cpu "), Piece::Number(u128::from(number)))),
         None => None,
     }
 }
