@@ -3,9 +3,8 @@ use Rattle.std.proofs.Common.{◌≡◌, ◌≢◌, ◌⊎◌, ◌∙◌, ℕ, L
 use Rattle.std.specs.Prelude.{⊤}
 use Rattle.audit_check.specs.Statements.{Statement}
 use Rattle.fdr_file.specs.declared.trace.Trace.{Trace}
-use Rattle.fdr_file.specs.Traces.{trace_of}
-use Rattle.command_words.specs.Limits.{trace_limit}
 use Rattle.command_words.specs.declared.report_options.AccountOptions.{AccountOptions}
+use Rattle.command_words.specs.declared.report_options.ConvertFormat.{ConvertFormat}
 use Rattle.command_words.specs.declared.report_options.StackFormat.{StackFormat}
 use Rattle.command_words.specs.declared.run_options.Bounds.{Bounds}
 use Rattle.command_words.specs.Words.{Command, Sim, Run, Plain, Extract, Asm, Account, Stack, Convert, Dump, Check, Soak}
@@ -19,19 +18,19 @@ use Rattle.stack_rebuild.specs.Stacks.{deep_in, most_open, stack_of}
 use Rattle.step_sim.specs.FaultWords.{schedule_words, waits_words}
 use Rattle.step_sim.specs.Schedules.{schedule_of}
 use Rattle.step_sim.specs.declared.turns.Turns.{Turns}
-use Rattle.trace_words.specs.TraceWords.{trace_words}
 use Rattle.xray_image.specs.Extract.{extract_text}
 use Rattle.xray_image.specs.Program.{Program}
-use Rattle.yaml_convert.specs.Yaml.{yaml_text}
+use Rattle.trace_forms.specs.Dumps.{dump_text}
 use Rattle.xray_io.specs.Desk.{Entry, Absent, Holds}
 use Rattle.xray_io.specs.World.{World}
 use Rattle.xray_program.specs.Accepted.{AreAccepted, CountsNoFault, HoldsImage, HoldsInput, HoldsReport}
 use Rattle.xray_program.specs.Answers.{IsAnswer}
 use Rattle.xray_program.specs.Check.{Judges}
 use Rattle.xray_program.specs.Commands.{Means}
-use Rattle.xray_program.specs.Inputs.{audit_form, image_form, schedule_form, schedule_limit, script_form, script_limit, text_form, text_limit, trace_form, unread_trace_form}
+use Rattle.xray_program.specs.Inputs.{Readable, audit_form, image_form, readable_form, schedule_form, schedule_limit, script_form, script_limit, text_form, text_limit, trace_form, unread_trace_form}
 use Rattle.xray_program.specs.Outcomes.{Outcome, Done, status_of}
 use Rattle.xray_program.specs.Account.{account_report}
+use Rattle.xray_program.specs.Convert.{ConvertsTo, converted, log_form, no_text_for}
 use Rattle.xray_program.specs.Plain.{PlainPrints}
 use Rattle.xray_program.specs.Reports.{TakeReport}
 use Rattle.xray_program.specs.Run.{FollowsPlan}
@@ -41,7 +40,11 @@ use Rattle.xray_program.specs.Soak.{IsSummary}
 use Rattle.xray_program.specs.Stack.{StacksCome, stacks_text}
 use Rattle.xray_program.specs.Taking.{Form, Leaves, Prints, RefuseIf, Sound, Take, TakeMaybe}
 use Rattle.xray_program.specs.Traced.{Traces}
+use Rattle.xray_program.proofs.ConvertLaws.{converts_done}
+use Rattle.xray_program.proofs.DumpLaws.{readable_decided}
+use Rattle.xray_program.proofs.LogForms.{log_decided}
 use Rattle.xray_program.proofs.Meanings.{IsDecided, any_decided, decided_by}
+use Rattle.xray_program.proofs.Reports.{trace_decided}
 
 -- ---- all is done
 
@@ -89,11 +92,11 @@ unrefused {L} words (Some refusal) name kind next none done = absurd (never refu
     never l e = cc
 
 -- a report whose inputs are accepted
-report_done : IsDecided image_form → (held : List ℕ → Entry) (trace : List ℕ) (image : Option (List ℕ)) (Is : Trace → Type 0)
-    (next : Trace → Option Program → Outcome → Type 0) → HoldsReport held trace image Is
-    → ((t : Trace) (program : Option Program) → Is t → IsDone (next t program)) → IsDone (TakeReport trace_form Sound held trace image next)
-report_done is held trace image Is next (t, program, at, of_image, so) done =
-    accepted_take trace_form (decided_by (codes "trace") trace_limit trace_of trace_words) held trace
+report_done : (form : Form Trace) → IsDecided form → IsDecided image_form → (held : List ℕ → Entry) (trace : List ℕ) (image : Option (List ℕ))
+    (Is : Trace → Type 0) (next : Trace → Option Program → Outcome → Type 0) → HoldsReport form held trace image Is
+    → ((t : Trace) (program : Option Program) → Is t → IsDone (next t program)) → IsDone (TakeReport form Sound held trace image next)
+report_done form of_trace is held trace image Is next (t, program, at, of_image, so) done =
+    accepted_take form of_trace held trace
     (λ u. TakeMaybe image_form Sound held image (λ p. next u p)) t at
     (accepted_maybe is held image (λ p. next t p) program of_image (done t program so))
 
@@ -120,8 +123,11 @@ account_next options t program outcome = outcome ≡ Done [] (account_report opt
 abbrev stack_next : StackFormat → Trace → Option Program → Outcome → Type 0
 stack_next format t program outcome = outcome ≡ Done [] (stacks_text format program t)
 
-abbrev convert_next : Trace → Option Program → Outcome → Type 0
-convert_next t program outcome = outcome ≡ Done [] (yaml_text program t)
+abbrev convert_next : ConvertFormat → Trace → Option Program → Outcome → Type 0
+convert_next format t program outcome = outcome ≡ Done [] (converted format program t)
+
+abbrev dump_next : Readable → Outcome → Type 0
+dump_next t outcome = outcome ≡ Done [] (dump_text t.bytes t.len)
 
 -- what is printed is done
 judged_done : (program : Program) (plan : Plan) (statement : Statement) (bytes : List ℕ) → IsDone (Judges program plan statement bytes)
@@ -162,12 +168,16 @@ accepted_done is audits held (Asm t i threshold relative) (file, at) =
     accepted_take (text_form threshold relative) (decided_by (codes "text") text_limit (λ bytes. assembled bytes threshold relative) asm_words) held t (asm_next i) file at
     (λ outcome same. ap status_of same)
 accepted_done is audits held (Account t i options) at =
-    report_done is held t i (λ u. ⊤) (account_next options) at (λ u program so outcome same. ap status_of same)
+    report_done trace_form trace_decided is held t i (λ u. ⊤) (account_next options) at (λ u program so outcome same. ap status_of same)
 accepted_done is audits held (Stack t i format) at =
-    report_done is held t i (λ u. deep_in most_open u.blocks ≡ None) (λ u program. StacksCome t format u program) at
+    report_done trace_form trace_decided is held t i (λ u. deep_in most_open u.blocks ≡ None) (λ u program. StacksCome t format u program) at
     (λ u program shallow. unrefused deep_words (deep_in most_open u.blocks) t (codes "trace") (stack_next format u program) shallow
     (λ outcome same. ap status_of same))
-accepted_done is audits held (Convert t i) at = report_done is held t i (λ u. ⊤) convert_next at (λ u program so outcome same. ap status_of same)
+accepted_done is audits held (Convert t i options) at =
+    report_done (log_form options.input) (log_decided options.input) is held t i (λ u. no_text_for options.format u ≡ None)
+    (ConvertsTo t options.format) at
+    (λ u program none outcome comes. ap status_of (converts_done t options.format u program outcome none comes))
+accepted_done is audits held (Dump t) (file, at) = accepted_take readable_form readable_decided held t dump_next file at (λ outcome same. ap status_of same)
 accepted_done is audits held (Check i s t a) (program, statement, plan, bytes, at, of_audit, of_script, of_trace) =
     let threads : ℕ = statement.setup.threads in
     accepted_take image_form is held i (check_audit held s t a) program at
@@ -216,10 +226,10 @@ refused_not_7 : (reason : Option (List ℕ)) (name kind : List ℕ) (next : Outc
 refused_not_7 None name kind next later outcome is = later outcome is
 refused_not_7 (Some refusal) name kind next later outcome is = other_status outcome _ 2 is refl (λ e. omega arith)
 
-report_not_7 : (held : List ℕ → Entry) (trace : List ℕ) (image : Option (List ℕ)) (next : Trace → Option Program → Outcome → Type 0)
-    → ((t : Trace) (program : Option Program) → IsNot7 (next t program)) → IsNot7 (TakeReport trace_form Sound held trace image next)
-report_not_7 held trace image next later =
-    take_not_7 trace_form held trace (λ t. TakeMaybe image_form Sound held image (λ p. next t p))
+report_not_7 : (form : Form Trace) (held : List ℕ → Entry) (trace : List ℕ) (image : Option (List ℕ)) (next : Trace → Option Program → Outcome → Type 0)
+    → ((t : Trace) (program : Option Program) → IsNot7 (next t program)) → IsNot7 (TakeReport form Sound held trace image next)
+report_not_7 form held trace image next later =
+    take_not_7 form held trace (λ t. TakeMaybe image_form Sound held image (λ p. next t p))
     (λ t. maybe_not_7 held image (λ p. next t p) (later t))
 
 not_7 : (held : List ℕ → Entry) (command : Command) → IsNot7 (Means (Some command) held)
@@ -243,13 +253,16 @@ not_7 held (Extract i) = take_not_7 image_form held i extract_next (λ p. done_n
 not_7 held (Asm t i threshold relative) =
     take_not_7 (text_form threshold relative) held t (asm_next i) (λ file. done_not_7 (asm_next i file) (λ outcome same. ap status_of same))
 not_7 held (Account t i options) =
-    report_not_7 held t i (account_next options) (λ u program. done_not_7 (account_next options u program) (λ outcome same. ap status_of same))
+    report_not_7 trace_form held t i (account_next options) (λ u program. done_not_7 (account_next options u program) (λ outcome same. ap status_of same))
 not_7 held (Stack t i format) =
-    report_not_7 held t i (λ u program. StacksCome t format u program)
+    report_not_7 trace_form held t i (λ u program. StacksCome t format u program)
     (λ u program. refused_not_7 (option_map deep_words (deep_in most_open u.blocks)) t (codes "trace") (stack_next format u program)
     (done_not_7 (stack_next format u program) (λ outcome same. ap status_of same)))
-not_7 held (Convert t i) =
-    report_not_7 held t i convert_next (λ u program. done_not_7 (convert_next u program) (λ outcome same. ap status_of same))
+not_7 held (Convert t i options) =
+    report_not_7 (log_form options.input) held t i (ConvertsTo t options.format)
+    (λ u program. refused_not_7 (no_text_for options.format u) t (codes "trace") (convert_next options.format u program)
+    (done_not_7 (convert_next options.format u program) (λ outcome same. ap status_of same)))
+not_7 held (Dump t) = take_not_7 readable_form held t dump_next (λ file. done_not_7 (dump_next file) (λ outcome same. ap status_of same))
 not_7 held (Check i s t a) =
     take_not_7 image_form held i (check_audit held s t a)
     (λ program. take_not_7 audit_form held a (check_script held s t program)

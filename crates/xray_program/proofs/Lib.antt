@@ -14,6 +14,7 @@ pub mod ExtractLaws
 pub mod Headline
 pub mod Images
 pub mod Judging
+pub mod LogForms
 pub mod Meanings
 pub mod Ordering
 pub mod Outputting

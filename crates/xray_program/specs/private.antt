@@ -4,6 +4,7 @@ pub mod CheckInputs
 pub mod Drawn
 pub mod Ends
 pub mod Further
+pub mod Logs
 pub mod Meant
 pub mod ReportTakes
 pub mod RunInputs
