@@ -36,8 +36,9 @@ use Rattle.thread_run.specs.declared.worker.Worker.{Worker}
 use Rattle.thread_run.specs.Following.{given}
 use Rattle.thread_run.specs.Recordings.{HasSameOwner, Recording, StandsFor, segments_begun, segments_in}
 use Rattle.thread_run.specs.Runs.{HasRunAlong, HaveRunBeside}
-use Rattle.thread_run.specs.private.Pooled.{AreWorkersOfRun, IsGoingAt, IsWorkerOfRun, lost_beside}
+use Rattle.thread_run.specs.private.Pooled.{AreWorkersOfRun, IsWorkerOfRun, lost_beside}
 use Rattle.thread_run.specs.Workers.{HasEnded, HasRunOut, HaveRun, IsGoing, cpu_of, loads_of, recorder_of, seat_of}
+use Rattle.thread_run.proofs.Each.{there_is}
 use Rattle.thread_run.proofs.Notes.{begun_are}
 use Rattle.thread_run.proofs.Order.{HoldEvents, IsBetween, all_between, in_order}
 use Rattle.thread_run.proofs.Pooled.{AreHands, HandIs, KeepsLast, hand_is, hands_of, in_hand_of, keeps_last, of_all, row_is}
@@ -129,50 +130,6 @@ run_of_worker plan pool used buffers number worker is ended pooled =
         none = λ no. keeps.none (omega (arith, no, segs_count));
       },
     )
-
--- ---- workers that have run
-
-pub run_out : (plan : Plan) (pool : PoolIs) (number : ℕ) (old new : Worker Recording) → IsWorkerOfRun plan pool number old
-    → HasRunOut StandsFor HasSameOwner old new → IsWorkerOfRun plan pool number new × HasEnded StandsFor new
-run_out plan pool number old new is has =
-    let same = has.same in (
-      record {
-        table = ap script_of same.table ∙ is.table;
-        thread = same.thread.thread ∙ is.thread;
-        limits = same.thread.limits ∙ is.limits;
-        pass = record { same_pool = same.recorder.pool ∙ is.pass.same_pool; same_setup = same.recorder.setup ∙ is.pass.same_setup };
-        owner = same.recorder.thread ∙ is.owner;
-      },
-      has.ended,
-    )
-
--- there is an item at each place
-pub there_is : {X : Type 0} (xs : List X) (i : ℕ) → i < length xs → (x : X) × (slice_get xs i ≡ Some x)
-there_is [] i within = absurd (omega (arith, within))
-there_is (x ∷ xs) zero within = (x, refl)
-there_is (x ∷ xs) (suc i) within = there_is xs i (omega (arith, within))
-
-pub all_run_out : (plan : Plan) (pool : PoolIs) (old new : List (Worker Recording)) → AreWorkersOfRun plan pool (IsGoing StandsFor) old
-    → HaveRun StandsFor HasSameOwner old new → AreWorkersOfRun plan pool (HasEnded StandsFor) new
-all_run_out plan pool old new are has i worker here =
-    let within : i < length old = omega (arith, slice_get_within new i worker here, has.count) in
-    let was = there_is old i within in
-    run_out plan pool (i + 1) was.0 worker (are i was.0 was.1).0 (has.each i was.0 worker was.1 here)
-
--- the seats of workers of a table that have run are the table's
-pub own_seats : (plan : Plan) (pool : PoolIs) (table : CodeTable) (old new : List (Worker Recording)) → AreWorkersOfRun plan pool (IsGoingAt table) old
-    → HaveRun StandsFor HasSameOwner old new → All (IsWorkerOf table) (map (λ (w : Worker Recording). seat_of w) new)
-own_seats plan pool table old new are has k other within =
-    let seats : List WorkSeat = map (λ (w : Worker Recording). seat_of w) new in
-    let inside : k < length new = omega (arith, within, length-map new (λ (w : Worker Recording). seat_of w)) in
-    let one = there_is new k inside in
-    let was = there_is old k (omega (arith, inside, has.count)) in
-    let ran = has.each k was.0 one.0 was.1 one.1 in
-    let at : slice_get seats k ≡ Some (seat_of one.0) =
-    slice_get-map (λ (w : Worker Recording). seat_of w) new k ∙ ap (option_map (λ (w : Worker Recording). seat_of w)) one.1 in
-    let found : get_or seats k other ≡ seat_of one.0 = get_or_from_slice_get seats k (seat_of one.0) other at in
-    subst (IsWorkerOf table) (sym found)
-    (subst (λ (t : CodeTable). IsWorkerOf t (seat_of one.0)) (ran.same.table ∙ (are k was.0 was.1).1.1) ran.ended.at.own)
 
 -- ---- lists
 
@@ -422,58 +379,7 @@ left_so hold plan pool workers left threads are count is =
       };
     }
 
--- ---- workers that are made one after another
-
-push_cases : {X : Type 0} (xs : List X) (x : X) (i : ℕ) (y : X) → slice_get (xs ++ x ∷ []) i ≡ Some y
-    → (slice_get xs i ≡ Some y) ⊎ ((i ≡ length xs) × (x ≡ y))
-push_cases [] x zero y e = inr (refl, cc)
-push_cases [] x (suc zero) y e = absurd cc
-push_cases [] x (suc (suc i)) y e = absurd cc
-push_cases (z ∷ xs) x zero y e = inl e
-push_cases (z ∷ xs) x (suc i) y e = elim (push_cases xs x i y e) [
-  | inl here ↦ inl here
-  | inr last ↦ inr (ap suc last.0, last.1)
-]
-
-pub no_workers : (plan : Plan) (pool : PoolIs) (Is : Worker Recording → Type 0) (workers : List (Worker Recording)) → workers ≡ []
-    → AreWorkersOfRun plan pool Is workers
-no_workers plan pool Is workers none i worker found =
-    absurd (no_worker i worker (ap (λ (ws : List (Worker Recording)). slice_get ws i) (sym none) ∙ found))
-  where
-    no_worker : (i : ℕ) (worker : Worker Recording) → slice_get [] i ≡ Some worker → ⊥
-    no_worker zero worker e = cc
-    no_worker (suc i) worker e = cc
-
-pub one_worker : (plan : Plan) (pool : PoolIs) (Is : Worker Recording → Type 0) (old new : List (Worker Recording)) (worker : Worker Recording)
-    (count : ℕ) → length old ≡ count → AreWorkersOfRun plan pool Is old → IsWorkerOfRun plan pool (count + 1) worker → Is worker
-    → new ≡ old ++ worker ∷ [] → AreWorkersOfRun plan pool Is new
-one_worker plan pool Is old new worker count many are is good more i other found =
-    elim (push_cases old worker i other (ap (λ (ws : List (Worker Recording)). slice_get ws i) (sym more) ∙ found)) [
-      | inl here ↦ are i other here
-      | inr (at, same) ↦
-          let place : count + 1 ≡ i + 1 = omega (arith, many, at) in
-          (subst (λ (k : ℕ). IsWorkerOfRun plan pool k other) place (subst (IsWorkerOfRun plan pool (count + 1)) same is), subst Is same good)
-    ]
-
--- ---- what was written back of a slice
-
-take_own : {X : Type 0} (xs ys : List X) → take (length xs) (xs ++ ys) ≡ xs
-take_own [] ys = refl
-take_own (x ∷ xs) ys = ap (λ zs. x ∷ zs) (take_own xs ys)
-
-pub written_back : {X : Type 0} (len : ℕ) (old new : List X) → len ≡ length new → take len (new ++ drop (length new) old) ≡ new
-written_back len old new e = ap (λ (k : ℕ). take k (new ++ drop (length new) old)) e ∙ take_own new (drop (length new) old)
-
-pub all_are : (plan : Plan) (pool : PoolIs) (Is : Worker Recording → Type 0) (workers : List (Worker Recording))
-    → AreWorkersOfRun plan pool Is workers → All Is workers
-all_are plan pool Is workers are k d within = (are k (get_or workers k d) (slice_get-get_or workers k d within)).1
-
--- ---- what is gathered of one worker after another
-
-pub map_more : {X Y : Type 0} (f : X → Y) (xs : List X) (x : X) (items new : List Y) (value : Y) → items ≡ map f xs → new ≡ items ++ value ∷ []
-    → value ≡ f x → new ≡ map f (xs ++ x ∷ [])
-map_more f xs x items new value so more is =
-    more ∙ ap (λ ys. ys ++ value ∷ []) so ∙ ap (λ y. map f xs ++ y ∷ []) is ∙ sym (map-append f xs (x ∷ []))
+-- ---- what is lost of one thread after another
 
 lost_push : (bs : List Filled) (n : ℕ) (counts : List ℕ) (count : ℕ)
     → lost_beside bs n (counts ++ count ∷ []) ≡ lost_beside bs n counts ++ (count - count_by (λ (b : Filled). b.thread == n + length counts) bs) ∷ []
