@@ -237,7 +237,7 @@ fn shown_options(alloc: Global, options: RunOptions) -> Result<String, AllocErro
     let bounds = shown_bounds(alloc, options.bounds)?;
     let Buffers { size, max } = options.buffers;
     let stamps = options.stamps;
-    let (tick, tsc, frequency) = (stamps.tick, stamps.tsc, stamps.frequency);
+    let (tick, tsc, frequency) = (stamps.tick, stamps.tsc, options.frequency);
     let (cpus, migrate, pid) = (stamps.cpus, stamps.migrate, options.pid);
     let Wall { secs, micros } = options.wall;
     format!(in alloc;

@@ -27,7 +27,7 @@ options_make_a_setup options its = record {
   };
   pid = omega (arith, its.pid);
   wall_is = its.wall;
-  frequency = its.stamps.counter.2;
+  frequency = its.frequency;
 }
 
 pub soak_is_setup : IsSetup soak_setup

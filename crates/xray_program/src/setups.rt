@@ -11,7 +11,6 @@ use machine_step::{Limits, Setup};
 const UNSTAMPED: Stamps = Stamps {
     tick: 0,
     tsc: 0,
-    frequency: 0,
     cpus: 1,
     migrate: 1,
 };
@@ -50,6 +49,6 @@ pub(crate) fn setup_of(options: RunOptions) -> Setup
         limits: limits_of(options.bounds, options.stamps),
         pid: options.pid,
         wall: options.wall,
-        frequency: options.stamps.frequency,
+        frequency: options.frequency,
     }
 }
