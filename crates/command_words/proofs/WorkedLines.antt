@@ -2,7 +2,9 @@
 use Rattle.std.proofs.Common.{◌≡◌, ℕ, true, false, List, [], ◌∷◌, Option, Some, None, refl}
 use Rattle.std.specs.Prelude.{codes, option_map}
 use Rattle.xray_io.specs.declared.wall.Wall.{Wall}
-use Rattle.command_words.specs.Words.{Command, Sim, Plain, Extract, Asm, Soak, outputs_of, reading}
+use Rattle.command_words.specs.declared.report_options.ConvertFormat.TheVariants as formats
+use Rattle.command_words.specs.declared.report_options.InputForm.TheVariants as inputs
+use Rattle.command_words.specs.Words.{Command, Sim, Plain, Extract, Asm, Convert, Dump, Soak, outputs_of, reading}
 
 -- a wall time that is passed in
 noon : Wall
@@ -89,6 +91,21 @@ over_script = refl
 
 one_output : says (codes "sim" ∷ codes "i" ∷ codes "s" ∷ codes "c" ∷ codes "t" ∷ codes "t" ∷ []) ≡ None
 one_output = refl
+
+-- a trace is converted to YAML unless another form is named, and it is a trace file unless it is said to be a log
+to_yaml : says (codes "convert" ∷ codes "t" ∷ [])
+    ≡ Some (Convert (codes "t") None (record { format = formats.Yaml; input = inputs.Fdr }))
+to_yaml = refl
+
+from_a_log : says (codes "convert" ∷ codes "--input=basic" ∷ codes "t" ∷ codes "i" ∷ codes "--format" ∷ codes "trace-event" ∷ [])
+    ≡ Some (Convert (codes "t") (Some (codes "i")) (record { format = formats.TraceEvents; input = inputs.Basic }))
+from_a_log = refl
+
+no_such_form : says (codes "convert" ∷ codes "t" ∷ codes "--format=trace_event" ∷ []) ≡ None
+no_such_form = refl
+
+dumped : says (codes "fdr-dump" ∷ codes "t" ∷ []) ≡ Some (Dump (codes "t"))
+dumped = refl
 
 -- a number that stands in the place of a file: any of 64 bits
 seed : says (codes "soak" ∷ codes "+01" ∷ []) ≡ Some (Soak 1)

@@ -98,7 +98,15 @@ stack_format_option =
 
 -- the form that a trace is converted to
 abbrev pub convert_format_option : OptionRow
-convert_format_option = record { name = codes "format"; values = Listed (codes "yaml" ∷ []); default = Some 0 }
+convert_format_option = record {
+  name = codes "format";
+  values = Listed (codes "yaml" ∷ codes "trace-event" ∷ codes "basic" ∷ []);
+  default = Some 0;
+}
+
+-- the form of the trace that is converted
+abbrev pub input_option : OptionRow
+input_option = record { name = codes "input"; values = Listed (codes "fdr" ∷ codes "basic" ∷ []); default = Some 0 }
 
 -- ---- the commands
 
@@ -165,7 +173,18 @@ abbrev pub stack_row : CommandRow
 stack_row = record { word = codes "stack"; files = report_files; options = stack_format_option ∷ [] }
 
 abbrev pub convert_row : CommandRow
-convert_row = record { word = codes "convert"; files = report_files; options = convert_format_option ∷ [] }
+convert_row = record { word = codes "convert"; files = report_files; options = convert_format_option ∷ input_option ∷ [] }
+
+abbrev pub dump_row : CommandRow
+dump_row = record { word = codes "fdr-dump"; files = record { label = codes "trace"; role = Input } ∷ []; options = [] }
+
+abbrev pub check_row : CommandRow
+check_row = record {
+  word = codes "check";
+  files = record { label = codes "image"; role = Input } ∷ record { label = codes "script"; role = Input }
+      ∷ record { label = codes "trace"; role = Input } ∷ record { label = codes "audit"; role = Input } ∷ [];
+  options = [];
+}
 
 -- ---- the number that inputs are drawn from
 

@@ -7,13 +7,14 @@ use Rattle.command_words.specs.Items.{items_of}
 use Rattle.command_words.specs.Limits.{trace_limit}
 use Rattle.command_words.specs.Lines.{Line, line_of, number_in, value_in}
 use Rattle.command_words.specs.Numbers.{number_of}
-use Rattle.command_words.specs.Reports.{account_options_in, choice_in, report_files_in, stack_formats}
-use Rattle.command_words.specs.Tables.{account_row, asm_row, convert_row, extract_row, plain_row, run_row, sim_row}
+use Rattle.command_words.specs.Reports.{account_options_in, choice_in, convert_options_in, report_files_in, stack_formats}
+use Rattle.command_words.specs.Tables.{account_row, asm_row, check_row, convert_row, dump_row, extract_row, plain_row, run_row, sim_row}
 use Rattle.command_words.specs.Tables.{seeds, soak_row, stack_row}
-use Rattle.command_words.specs.Tables.{convert_format_option, map_version_option, relative_map, stack_format_option}
+use Rattle.command_words.specs.Tables.{map_version_option, relative_map, stack_format_option}
 use Rattle.command_words.specs.Tables.{threads_option, fuel_option, passings_option, buffer_size_option, buffer_max_option, threshold_option}
 use Rattle.command_words.specs.Tables.{tick_option, tsc_option, frequency_option, cpus_option, migrate_option, pid_option, wall_option}
 use Rattle.command_words.specs.declared.report_options.AccountOptions.{AccountOptions}
+use Rattle.command_words.specs.declared.report_options.ConvertOptions.{ConvertOptions}
 use Rattle.command_words.specs.declared.report_options.StackFormat.{StackFormat}
 use Rattle.command_words.specs.declared.run_options.Bounds.{Bounds}
 use Rattle.command_words.specs.declared.run_options.Buffers.{Buffers}
@@ -28,7 +29,9 @@ pub data Command : Type 0 where
   Asm : (text image : List ℕ) → (threshold : ℕ) → (relative : Bool) → Command
   Account : (trace : List ℕ) → (image : Option (List ℕ)) → (options : AccountOptions) → Command
   Stack : (trace : List ℕ) → (image : Option (List ℕ)) → (format : StackFormat) → Command
-  Convert : (trace : List ℕ) → (image : Option (List ℕ)) → Command
+  Convert : (trace : List ℕ) → (image : Option (List ℕ)) → (options : ConvertOptions) → Command
+  Dump : (trace : List ℕ) → Command
+  Check : (image script trace audit : List ℕ) → Command
   Soak : (number : ℕ) → Command
 
 -- ---- the options of the commands that run threads
@@ -135,9 +138,22 @@ account_in line = report_by Account line.files (account_options_in line)
 abbrev pub stack_in : Line → Option Command
 stack_in line = report_by Stack line.files (choice_in stack_format_option stack_formats line)
 
--- a trace is converted only to YAML
 abbrev pub convert_in : Line → Option Command
-convert_in line = report_by (λ trace image yaml. Convert trace image) line.files (number_in convert_format_option line)
+convert_in line = report_by Convert line.files (convert_options_in line)
+
+abbrev pub dump_in : Line → Option Command
+dump_in line = of_files line.files
+  where
+    of_files : List (List ℕ) → Option Command
+    of_files (trace ∷ []) = Some (Dump trace)
+    of_files _ = None
+
+abbrev pub check_in : Line → Option Command
+check_in line = of_files line.files
+  where
+    of_files : List (List ℕ) → Option Command
+    of_files (image ∷ script ∷ trace ∷ audit ∷ []) = Some (Check image script trace audit)
+    of_files _ = None
 
 abbrev pub soak_in : Line → Option Command
 soak_in line = of_files line.files
@@ -159,6 +175,8 @@ reading wall (word ∷ words) =
     else if bytes_eq word account_row.word then option_and_then account_in (line_of account_row items)
     else if bytes_eq word stack_row.word then option_and_then stack_in (line_of stack_row items)
     else if bytes_eq word convert_row.word then option_and_then convert_in (line_of convert_row items)
+    else if bytes_eq word dump_row.word then option_and_then dump_in (line_of dump_row items)
+    else if bytes_eq word check_row.word then option_and_then check_in (line_of check_row items)
     else if bytes_eq word soak_row.word then option_and_then soak_in (line_of soak_row items)
     else None
 
@@ -173,5 +191,7 @@ outputs_of (Extract image) = []
 outputs_of (Asm text image threshold relative) = image ∷ []
 outputs_of (Account trace image options) = []
 outputs_of (Stack trace image format) = []
-outputs_of (Convert trace image) = []
+outputs_of (Convert trace image options) = []
+outputs_of (Dump trace) = []
+outputs_of (Check image script trace audit) = []
 outputs_of (Soak number) = []
