@@ -2,8 +2,10 @@ pub mod AcceptedInputs
 pub mod AccountLaws
 pub mod Answering
 pub mod AsmLaws
+pub mod CheckLaws
 pub mod CommandLaws
 pub mod ConvertLaws
+pub mod DumpLaws
 pub mod Endings
 pub mod ExtractLaws
 pub mod Headline

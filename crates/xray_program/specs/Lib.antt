@@ -14,6 +14,8 @@ pub mod Account
 pub mod Soak
 pub mod Stack
 pub mod Convert
+pub mod Dump
+pub mod Check
 pub mod Commands
 pub mod Accepted
 pub mod Answers

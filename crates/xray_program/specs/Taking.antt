@@ -11,6 +11,10 @@ pub record Form (X : Type 0) : Type 1 where
   pub Reads : List ℕ → X → Type 0
   pub Refuses : List ℕ → List ℕ → Type 0
 
+-- a kind of input that is never refused: any bytes are its value
+abbrev pub any_bytes : (kind : List ℕ) → (limit : ℕ) → Form (List ℕ)
+any_bytes kind limit = record { kind = kind; limit = limit; Reads = λ bytes value. value ≡ bytes; Refuses = λ _ _. ⊥ }
+
 -- How inputs are taken: no read of a name that the desk holds fails; or any read may fail; or each input is accepted,
 -- so no turn fails.
 pub data DeskReads : Type 0 where

@@ -11,7 +11,9 @@ ghost use Rattle.xray_program.specs.private.Works.{Ends, IsOther, SaidHasRanges}
 
 use crate::account::Account;
 use crate::asm::Asm;
+use crate::check::Check;
 use crate::convert::Convert;
+use crate::dump::Dump;
 use crate::extract::Extract;
 use crate::plain::Plain;
 use crate::run::perform_run;
@@ -311,6 +313,21 @@ fn perform_other<'a, D: Desk, O: Sink>(
             };
             perform(alloc, &asm, desk, out)
         }
+        Command::Dump { trace } => perform(alloc, &Dump { trace }, desk, out),
+        Command::Check {
+            image,
+            script,
+            trace,
+            audit,
+        } => {
+            let check = Check {
+                image,
+                script,
+                trace,
+                audit,
+            };
+            perform(alloc, &check, desk, out)
+        }
         Command::Soak { number } => perform(alloc, &Soak { number }, desk, out),
         report => perform_report(alloc, report, desk, out),
     }
@@ -354,8 +371,17 @@ fn perform_report<'a, D: Desk, O: Sink>(
             };
             perform(alloc, &stack, desk, out)
         }
-        Command::Convert { trace, image } => {
-            perform(alloc, &Convert { trace, image }, desk, out)
+        Command::Convert {
+            trace,
+            image,
+            options,
+        } => {
+            let convert = Convert {
+                trace,
+                image,
+                options,
+            };
+            perform(alloc, &convert, desk, out)
         }
         _ => unreachable!(),
     }

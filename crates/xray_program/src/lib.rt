@@ -1,7 +1,7 @@
 //! The top call: all that the program does, from the words of its command line to what it writes.
 //!
 //! The words are read first, together with the wall time (`command_words`). A command is one module
-//! (`sim`, `run`, `plain`, `extract`, `asm`, `account`, `stack`, `convert`, `soak`), which implements
+//! (`sim`, `run`, `plain`, `extract`, `asm`, `account`, `stack`, `convert`, `dump`, `check`, `soak`), which implements
 //! `Work`. It takes its inputs in their order (`inputs_of`, `input`). Each is read, measured and
 //! judged before the next is opened, so the first that fails decides. Then it does its work, and
 //! writes its outputs and its text (`delivery`). What is written of traced threads is in `traced`.
@@ -18,9 +18,11 @@ mod account;
 mod account_options;
 mod asm;
 mod call;
+mod check;
 mod convert;
 mod delivery;
 mod drawn;
+mod dump;
 mod extract;
 mod image_file;
 mod input;
