@@ -28,6 +28,13 @@ there_is (x ∷ xs) (suc i) within = there_is xs i (omega (arith, within))
 pub same_item : {X : Type 0} (x y : X) → ◌≡◌ {A = Option X} (Some x) (Some y) → x ≡ y
 same_item x y e = cc
 
+pub same_found : {X : Type 0} (xs : List X) (i : ℕ) (x y : X) → slice_get xs i ≡ Some x → slice_get xs i ≡ Some y → x ≡ y
+same_found xs i x y here there = same_item x y (sym here ∙ there)
+
+pub no_item : {X : Type 0} (i : ℕ) (x : X) → slice_get [] i ≡ Some x → ⊥
+no_item zero x e = cc
+no_item (suc i) x e = cc
+
 -- this holds of each item, with its place
 abbrev pub EachAt : {X : Type 0} → (ℕ → X → Type 0) → List X → Type 0
 EachAt {X} P xs = (i : ℕ) (x : X) → slice_get xs i ≡ Some x → P i x

@@ -1,5 +1,5 @@
 -- What is gathered of workers that have ended, and drained of their pool, is what a run leaves.
-use Rattle.std.proofs.Common.{◌≡◌, ℕ, ◌+◌, ◌<◌, List, [], ◌∷◌, ◌++◌, Some, refl, sym, subst, ap, ◌∙◌, arith, append_assoc, get_or, length, length-append, map}
+use Rattle.std.proofs.Common.{◌≡◌, ℕ, ◌+◌, ◌<◌, List, [], ◌∷◌, ◌++◌, Some, sym, subst, ap, ◌∙◌, arith, append_assoc, get_or, length, length-append, map}
 use Rattle.std.specs.Prelude.{option_map, slice_get}
 use Rattle.std.proofs.Math.Seq.{get_or-append_seam}
 use Rattle.std.proofs.lemmas.List.{length-map}
@@ -20,10 +20,10 @@ use Rattle.sled_rule.specs.Seats.{work_view}
 use Rattle.thread_run.specs.declared.whole.Gathered.{Gathered}
 use Rattle.thread_run.specs.declared.worker.Worker.{Worker}
 use Rattle.thread_run.specs.Each.{HaveChanged}
-use Rattle.thread_run.specs.Recorded.{AreWorkersAt}
 use Rattle.thread_run.specs.Recordings.{HasSameOwner, Recording, StandsFor, segments_begun}
 use Rattle.thread_run.specs.private.Rooms.{HaveRunPooled}
 use Rattle.thread_run.specs.Runs.{HaveRunBeside}
+use Rattle.thread_run.specs.private.Starting.{AreWorkersAt}
 use Rattle.thread_run.specs.private.Pooled.{AreNewRecorders, AreWorkersOfRun, lost_beside}
 use Rattle.thread_run.specs.Workers.{HasEnded, cpu_of, recorder_of, seat_of}
 use Rattle.thread_run.proofs.Each.{there_is}

@@ -1,14 +1,12 @@
 -- What workers leave is what runs leave.
-use Rattle.std.proofs.Common.{◌≡◌, ℕ, zero, suc, ◌+◌, ◌-◌, ◌<◌, ◌==◌, inl, inr, List, [], ◌∷◌, ◌++◌, Option, Some, refl, sym, subst, ap, ◌∙◌, arith, append_assoc, drop, get_or, length, length-append, map, take}
-use Rattle.std.specs.Prelude.{◌⊎◌, All, filter, option_map, slice_get, sum_by}
-use mathlib.Core.List.{map-append}
+use Rattle.std.proofs.Common.{◌≡◌, ℕ, zero, suc, ◌+◌, ◌-◌, ◌<◌, ◌==◌, List, [], ◌∷◌, ◌++◌, Option, Some, refl, sym, subst, ap, ◌∙◌, arith, append_assoc, get_or, length, length-append, map, take}
+use Rattle.std.specs.Prelude.{All, filter, option_map, slice_get, sum_by}
 use Rattle.std.proofs.lemmas.List.{length-map, length-take-le, take_more}
 use Rattle.std.proofs.lemmas.List.Elements.{All-cons, All-nil}
 use Rattle.std.proofs.lemmas.List.Sums.{length-filter, sum_by-cons}
-use Rattle.std.proofs.lemmas.Option.{get_or_from_slice_get, slice_get-get_or, slice_get-map, slice_get_within}
+use Rattle.std.proofs.lemmas.Option.{slice_get-map, slice_get_within}
 use Rattle.std.specs.List.{AllByRecursion, count_by}
-use Rattle.xray_image.specs.Program.{Program}
-use Rattle.patch_script.specs.Micros.{hold_of, total_of}
+use Rattle.patch_script.specs.Micros.{hold_of}
 use Rattle.patch_script.specs.Plans.{Plan}
 use Rattle.patch_script.specs.Refusals.{commands_of}
 use Rattle.fdr_record.specs.declared.event.Event.{Event}
@@ -17,30 +15,26 @@ use Rattle.fdr_buffer.specs.Segments.{segments}
 use Rattle.buffer_queue.specs.Left.{IsLeft, absent_from, of_thread, sealed_in_all}
 use Rattle.machine_step.specs.Buffers.{spare_of}
 use Rattle.buffer_queue.specs.Passes.{PoolIs}
-use Rattle.machine_step.specs.declared.limits.Limits.{Limits}
 use Rattle.machine_step.specs.declared.setup.Setup.{Setup}
 use Rattle.machine_step.specs.Events.{recorded}
-use Rattle.machine_step.specs.Follows.{later}
 use Rattle.machine_step.specs.PlainStep.{PlainRun}
 use Rattle.machine_step.specs.Traced.{IsThreadOf, Traced, sleds_passed}
-use Rattle.sled_rule.specs.declared.seats.WorkSeat.{WorkSeat}
-use Rattle.sled_rule.specs.declared.table.CodeTable.{CodeTable}
 use Rattle.sled_rule.specs.declared.views.WorkView.{WorkView}
-use Rattle.sled_rule.specs.Seats.{IsWorkerOf, script_of, work_view}
-use Rattle.traced_run.specs.Following.{LoadsFollow, MarksFollowScript}
+use Rattle.sled_rule.specs.Seats.{work_view}
+use Rattle.traced_run.specs.Following.{MarksFollowScript}
 use Rattle.traced_run.specs.Kept.{buffers_after, segment_count, stamp_of, thread_buffers}
 use Rattle.traced_run.specs.Left.{HasRun}
 use Rattle.traced_run.specs.Losses.{AreLost, recycled_of}
 use Rattle.traced_run.specs.Runs.{ThreadRun}
 use Rattle.thread_run.specs.declared.worker.Worker.{Worker}
-use Rattle.thread_run.specs.Following.{given}
-use Rattle.thread_run.specs.Recordings.{HasSameOwner, Recording, StandsFor, segments_begun, segments_in}
+use Rattle.thread_run.specs.Recordings.{Recording, StandsFor, segments_begun, segments_in}
 use Rattle.thread_run.specs.Runs.{HasRunAlong, HaveRunBeside}
 use Rattle.thread_run.specs.private.Pooled.{AreWorkersOfRun, IsWorkerOfRun, lost_beside}
-use Rattle.thread_run.specs.Workers.{HasEnded, HasRunOut, HaveRun, IsGoing, cpu_of, loads_of, recorder_of, seat_of}
+use Rattle.thread_run.specs.Workers.{HasEnded, cpu_of, recorder_of, seat_of}
 use Rattle.thread_run.proofs.Each.{there_is}
 use Rattle.thread_run.proofs.Notes.{begun_are}
 use Rattle.thread_run.proofs.Order.{HoldEvents, IsBetween, all_between, in_order}
+use Rattle.thread_run.proofs.Started.{IsRunOf, run_of}
 use Rattle.thread_run.proofs.Pooled.{AreHands, HandIs, KeepsLast, hand_is, hands_of, in_hand_of, keeps_last, of_all, row_is}
 
 -- ---- the run of a worker that has ended
@@ -74,7 +68,6 @@ run_of_worker plan pool used buffers number worker is ended pooled =
     let r : Recording = recorder_of worker in
     let setup : Setup = pool.setup in
     let at = ended.at in
-    let ends = ended.plain in
     let events : List Event = recorded at.passed t.marks in
     let keeps : KeepsLast r (segments_in r events) pooled.gone (of_thread number used) =
     keeps_last r events at.recorded_are pooled.gone (of_thread number used) pooled.last in
@@ -87,19 +80,16 @@ run_of_worker plan pool used buffers number worker is ended pooled =
       marks = t.marks;
       lost = length pooled.gone;
     } in
+    let its : IsRunOf StandsFor plan setup.limits number worker run =
+    run_of StandsFor plan setup.limits number (length pooled.gone) worker (record { table = is.table; thread = is.thread; limits_are = is.limits }) ended in
     let count : segments_begun r ≡ length (segments setup.size events) = begun_are r events at.recorded_are ∙ ap length segs_are in
     let all_count : length (of_thread number buffers) ≡ length (of_thread number used ++ in_hand_of r) = ap length pooled.all in
     let segs_count : length (segments_in r events) ≡ length (segments setup.size events) = ap length segs_are in
     let Kept : Setup → ℕ → List (List Event) → List Filled = λ s thread segs. buffers_after (stamp_of s) (length pooled.gone) thread segs in (
       run,
       record {
-        plain =
-            subst (λ (q : Program). PlainRun q setup.limits number at.passed ended.end ended.last) (at.thread.program ∙ ap (λ (p : Plan). p.program) is.table)
-            (subst (λ (l : Limits). PlainRun t.program l number at.passed ended.end ended.last) is.limits
-            (subst (λ (k : ℕ). PlainRun t.program t.limits k at.passed ended.end ended.last) is.thread ends.run));
-        follow =
-            subst (λ (k : ℕ). MarksFollowScript plan.program plan.threads (commands_of plan.lines) k (sleds_passed at.passed) t.marks) is.thread
-            (subst (λ (p : Plan). MarksFollowScript p.program p.threads (commands_of p.lines) t.thread (sleds_passed at.passed) t.marks) is.table ended.marks);
+        plain = its.plain;
+        follow = its.follow;
         thread = record {
           program_is = at.thread.program ∙ ap (λ (p : Plan). p.program) is.table;
           thread_is = is.thread;
@@ -109,16 +99,8 @@ run_of_worker plan pool used buffers number worker is ended pooled =
               ∙ ap (λ (k : ℕ). hold_of k (commands_of plan.lines)) is.thread;
           limits_are = is.limits;
         };
-        along = record {
-          owner = at.seat ∙ is.thread;
-          ended = ended.count;
-          follow =
-              subst (λ (k : ℕ). LoadsFollow plan.program plan.threads (commands_of plan.lines) k (sleds_passed at.passed) (given (loads_of worker)) (total_of plan.program plan.threads (commands_of plan.lines))) is.thread
-              (subst (λ (p : Plan). LoadsFollow p.program p.threads (commands_of p.lines) t.thread (sleds_passed at.passed) (given (loads_of worker)) (total_of p.program p.threads (commands_of p.lines))) is.table
-              (later (given (loads_of worker)) _ _ at.within at.along.all.follow));
-          ends = ends;
-        };
-        has = record { thread = is.thread; loads = given (loads_of worker); ends = ends; marks = refl };
+        along = its.along;
+        has = its.has;
         segments = count;
         lost_is = omega (arith, count, segs_count, all_count, keeps.count, length-filter (λ (b : Filled). b.thread == number) buffers);
         buffers_are =

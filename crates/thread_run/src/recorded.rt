@@ -2,12 +2,12 @@
 
 ghost use Rattle.std.specs.Prelude.{◌≡◌, ◌≤◌, ◌+◌, ◌-◌, ◌++◌, [], ◌∷◌, All, List, IfOk, OnErr, OnOk, length, map, vec_capacity, vec_len};
 ghost use Rattle.machine_step.specs.Setups.{AreLimits};
-ghost use Rattle.sled_rule.specs.{Plans.{start_in}, Seats.{patch_view, script_of, IsPatcherOf, IsWorkerOf}};
+ghost use Rattle.sled_rule.specs.{Plans.{start_in}, Seats.{patch_view, script_of, work_view, IsPatcherOf, IsWorkerOf}};
 ghost use Rattle.thread_run.specs.Recorded.{HaveRecorded, IsAtStart};
 ghost use Rattle.thread_run.specs.Runs.{HasPatched};
 ghost use Rattle.thread_run.specs.Workers.{recorder_of};
 ghost use Rattle.thread_run.specs.private.Rooms.{IsGathered, IsRoom};
-ghost use Rattle.thread_run.specs.private.Starting.{AreStarted};
+ghost use Rattle.thread_run.specs.private.Starting.{AreStarted, HaveWorked};
 
 use crate::running::run_threads;
 use crate::thread::new_cpu;
@@ -60,6 +60,38 @@ pub fn run_recorded<'s, T: Threads + Wait + Sync, R: Recorder + Send + Drop, G: 
     ensures unmoved { OnErr result ((patch_view patcher.new).place ≡ start_in (script_of table.now)) }
     ensures seats { IfOk result (λ end. All (IsWorkerOf table.now) end.seats.items) }
     ensures recorded { IfOk result (λ end. HaveRecorded R.stands R.follows (script_of table.now) limits
+        recorders.entry.items end.cpus.items (map work_view end.seats.items) end.recorders.items) }
+{
+    let end = run_workers(
+        rt, alloc, steps, table, patcher, limits, recorders, gate,
+    )?;
+    Ok(end)
+}
+
+/// Runs a worker for each recorder, and the rest of the script beside them, as `run_recorded` does.
+/// Its contract says more: what the threads leave is what such workers have.
+pub(crate) fn run_workers<'s, T: Threads + Wait + Sync, R: Recorder + Send + Drop, G: Gate + Sync>(
+    rt: &T,
+    alloc: Global,
+    steps: &'s Steps<'s>,
+    table: &CodeTable,
+    patcher: &mut PatchSeat,
+    limits: Limits,
+    recorders: Vec<R>,
+    gate: &G,
+) -> Result<RecordedEnd<'s, R>, NoMemory>
+    requires own { IsPatcherOf table.now patcher.old }
+    requires starts { IsAtStart (script_of table.now) (patch_view patcher.old) }
+    requires program { (script_of table.now).program ≡ steps.now }
+    requires threads { (script_of table.now).threads ≡ length recorders.items }
+    requires few { length recorders.items ≤ MAX_THREADS }
+    requires limits { AreLimits limits }
+    requires no_events { All (λ recorder. R.stands recorder []) recorders.items }
+    ensures own { IsPatcherOf table.now patcher.new }
+    ensures script { OnOk result (HasPatched (script_of table.now) (patch_view patcher.new)) }
+    ensures unmoved { OnErr result ((patch_view patcher.new).place ≡ start_in (script_of table.now)) }
+    ensures seats { IfOk result (λ end. All (IsWorkerOf table.now) end.seats.items) }
+    ensures worked { IfOk result (λ end. HaveWorked R.stands R.follows (script_of table.now) limits
         recorders.entry.items end.cpus.items end.seats.items end.recorders.items) }
 {
     let room = room_for(alloc, recorders.len())?;

@@ -11,7 +11,7 @@ ghost use Rattle.thread_run.specs.Runs.{HasPatched, HaveRunBeside};
 ghost use Rattle.thread_run.specs.private.Pooled.{lost_beside, AreNewRecorders};
 ghost use Rattle.thread_run.specs.private.Rooms.{AreParts, HaveRunPooled, IsPoolRoom};
 
-use crate::recorded::{RecordedEnd, run_recorded};
+use crate::recorded::{RecordedEnd, run_workers};
 use crate::recorder::FdrRecorder;
 use buffer_queue::{Pool, PoolPass};
 use fdr_buffer::Buffer;
@@ -123,7 +123,7 @@ fn run_pooled<'s, 'p, T: Threads + Wait + Sync, G: Gate + Sync>(
 {
     let room = room_for(alloc, setup.threads)?;
     let recorders = new_recorders(rt, alloc, pool, hands, setup)?;
-    let end = run_recorded(
+    let end = run_workers(
         rt,
         alloc,
         steps,

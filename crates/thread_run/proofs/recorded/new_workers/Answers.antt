@@ -1,10 +1,9 @@
-use Rattle.std.proofs.Common.{◌≡◌, ℕ, ◌+◌, arith, ap, ◌∙◌, length, length-append, ◌∷◌, [], sym}
+use Rattle.std.proofs.Common.{ℕ, ◌+◌, arith, ap, ◌∙◌, length, length-append, ◌∷◌, [], sym}
 use Rattle.machine_step.specs.Traced.{Traced}
 use Rattle.sled_rule.specs.declared.views.PatchView.{PatchView}
 use Rattle.sled_rule.specs.Seats.{script_of}
-use Rattle.thread_run.specs.Recorded.{IsWorkerAt}
 use Rattle.thread_run.specs.Workers.{recorder_of}
-use Rattle.thread_run.specs.private.Starting.{IsGoingAt}
+use Rattle.thread_run.specs.private.Starting.{IsGoingAt, IsWorkerAt}
 use Rattle.thread_run.proofs.Each.{map_more, next_is, one_more, one_taken}
 use Rattle.thread_run.proofs.recorded.new_workers.Goals as goal
 

@@ -1,4 +1,4 @@
-use Rattle.std.proofs.Common.{◌≡◌, ℕ, ◌+◌, arith, ap, ◌∙◌, length, length-append, ◌∷◌, []}
+use Rattle.std.proofs.Common.{◌≡◌, ◌+◌, arith, ap, ◌∙◌, length, length-append, ◌∷◌, []}
 use Rattle.fdr_buffer.specs.Filled.{Filled}
 use Rattle.buffer_queue.specs.Passes.{PassIs, new_hand, new_pass}
 use Rattle.thread_run.specs.private.Pooled.{IsNewRecorder}

@@ -1,18 +1,18 @@
-use Rattle.std.proofs.Common.{◌≡◌, ap, map, subst, sym, ◌∙◌}
+use Rattle.std.proofs.Common.{◌≡◌, ap, subst, sym, ◌∙◌}
 use Rattle.std.specs.Prelude.{[]}
 use Rattle.machine_step.specs.declared.limits.Limits.{Limits}
 use Rattle.machine_step.specs.declared.setup.Setup.{Setup}
 use Rattle.sled_rule.specs.Seats.{script_of}
-use Rattle.thread_run.specs.Recordings.{Recording, StandsFor}
-use Rattle.thread_run.specs.Recorded.{AreWorkersAt}
+use Rattle.thread_run.specs.Recordings.{StandsFor}
+use Rattle.thread_run.specs.private.Starting.{AreWorkersAt}
 use Rattle.thread_run.specs.Workers.{HasEnded}
 use Rattle.thread_run.specs.private.Rooms.{AreParts}
 use Rattle.thread_run.proofs.Each.{all_of}
 use Rattle.thread_run.proofs.Gathered.{run_with_pool}
 use Rattle.thread_run.proofs.whole.run_pooled.Goals as goal
 
-pub run_recorded-requires-clause-no_events : goal.run_recorded-requires-clause-no_events
-run_recorded-requires-clause-no_events g c =
+pub run_workers-requires-clause-no_events : goal.run_workers-requires-clause-no_events
+run_workers-requires-clause-no_events g c =
     all_of (λ r. StandsFor r []) c.in_ok-recorders.recorders.items (λ i r found. (c.in_ok-recorders.ensures.recorders i r found).no_events)
 
 pub returns-clause-run : goal.returns-clause-run
@@ -20,7 +20,7 @@ returns-clause-run g c =
     let plan = script_of c.args.table.now in
     let pool = c.args.pool.now in
     let recorders = c.in_ok-recorders.recorders.items in
-    let has = c.in_ok-end.ensures.recorded in
+    let has = c.in_ok-end.ensures.worked in
     let limits : c.args.setup.now.limits ≡ pool.setup.limits = ap (λ (s : Setup). s.limits) (sym c.requires.pool) in
     record {
       workers = has.workers;
