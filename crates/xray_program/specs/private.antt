@@ -2,10 +2,11 @@
 pub mod CallLaws
 pub mod Drawn
 pub mod Ends
-pub mod Further
 pub mod Meant
+pub mod Profiled
 pub mod ReportTakes
 pub mod RunInputs
+pub mod ScriptTakes
 pub mod SimInputs
 pub mod Stops
 pub mod Takes
