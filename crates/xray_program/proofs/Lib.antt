@@ -21,13 +21,15 @@ pub mod Outputting
 pub mod PlainLaws
 pub mod PlainThreads
 pub mod Reports
+pub mod ProfileLaws
+pub mod Profiling
 pub mod RunExists
 pub mod RunLaws
 pub mod RunLoads
 pub mod RunSetups
-pub mod RunTurns
 pub mod RunWritten
 pub mod Saying
+pub mod Scripts
 pub mod SimLaws
 pub mod SimTurns
 pub mod SoakLaws
