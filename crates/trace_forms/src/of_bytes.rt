@@ -7,7 +7,7 @@ ghost use Rattle.trace_forms.specs.BasicLogs.{wide_cpu as first_wide};
 
 use crate::basic_text::{add_log, find_wide};
 use crate::trace_events::add_events;
-use fdr_file::{EventCursor, a_file_is_read_by_records};
+use fdr_file::EventCursor;
 use xray_image::Image;
 use xray_io::{Printed, Sink, Text, WriteFault};
 
@@ -70,6 +70,5 @@ pub fn wide_cpu_of_bytes(bytes: &[u8]) -> Option<u64>
     ensures { (trace : Trace) → trace_of bytes.now ≡ Ok trace
         → result ≡ first_wide (thread_events trace.blocks) }
 {
-    a_file_is_read_by_records();
     find_wide(&mut EventCursor::new(bytes))
 }

@@ -1,5 +1,6 @@
 -- `fdr-dump`: one thing comes of it, and something in any case.
 use Rattle.std.proofs.Common.{◌≡◌, ◌≢◌, ◌⊎◌, ◌<◌, ◌≤◌, ◌+◌, ◌∙◌, ℕ, zero, suc, List, [], length, take, Result, Ok, Err, inl, inr, ap, arith, le_refl, refl, subst, sym}
+use Rattle.std.specs.Prelude.{IfOk}
 use Rattle.std.proofs.Math.Seq.{take-length}
 use Rattle.std.proofs.lemmas.Bool.{cases_lt}
 use Rattle.fdr_file.specs.declared.fault.TraceFault.{TraceFault}
@@ -9,11 +10,14 @@ use Rattle.fdr_file.specs.Traces.{trace_of}
 use Rattle.trace_forms.specs.Dumps.{dump_text}
 use Rattle.trace_words.specs.TraceWords.{trace_words}
 use Rattle.xray_io.specs.Desk.{Entry}
+use Rattle.xray_io.specs.World.{DeskView}
 use Rattle.xray_program.specs.Commands.{TellsAll}
 use Rattle.xray_program.specs.Dump.{DumpComes}
 use Rattle.xray_program.specs.Inputs.{Readable, ReadsNowhere, readable_form, refused_for}
 use Rattle.xray_program.specs.Outcomes.{Outcome, Done}
 use Rattle.xray_program.specs.Taking.{Sound}
+use Rattle.xray_program.specs.declared.stop.Stop.{Stop}
+use Rattle.xray_program.specs.private.Takes.{IsTaken}
 use Rattle.xray_program.proofs.Meanings.{AnyOutcome, HoldsBytes, IsAlone, IsDecided, IsJudged, SomeOutcome, some_take, take_alone}
 
 -- ---- the longest prefix
@@ -93,9 +97,15 @@ readable_judged bytes all = by_end (longest_of bytes (length bytes) (le_refl (le
     by_end (inl (end, is)) = inl (record { bytes = bytes; len = end }, (refl, is))
     by_end (inr nowhere) = by_answer nowhere (trace_of bytes) refl
 
+-- a file that was taken has a longest prefix that is a trace
+pub file_fits : (name : List ℕ) (before after : DeskView) (result : Result Readable Stop) → IsTaken readable_form name before after result
+    → IfOk result (λ t. IsReadable t.bytes t.len)
+file_fits name before after (Ok t) taken = subst (λ (bytes : List ℕ). IsReadable bytes t.len) (sym taken.reads.0) taken.reads.1
+file_fits name before after (Err stop) taken = tt
+
 -- ---- the command
 
-abbrev dumped : Readable → Outcome → Type 0
+abbrev pub dumped : Readable → Outcome → Type 0
 dumped t outcome = outcome ≡ Done [] (dump_text t.bytes t.len)
 
 pub dump_alone : (held : List ℕ → Entry) (trace : List ℕ) → TellsAll held → IsAlone AnyOutcome (DumpComes Sound held trace)

@@ -9,7 +9,7 @@ find_wide-requires c =
     let bytes = c.args.bytes.now in
     let trace = c.requires.0 in
     let short : length bytes < 2 ^ 64 = search rules in
-    let few = few_events bytes trace (c.a_file_is_read_by_records.ensures.given bytes trace c.requires.1) in
+    let few = few_events bytes trace c.requires.1 in
     subst (λ (es : List ThreadEvent). length es < 2 ^ 64) (sym (c.new.ensures.events trace c.requires.1)) (omega (arith, few, short))
 
 pub returns : goal.returns
