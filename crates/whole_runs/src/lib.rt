@@ -11,6 +11,8 @@ mod asm;
 #[cfg(test)]
 mod bad_lines;
 #[cfg(test)]
+mod check;
+#[cfg(test)]
 mod checks;
 #[cfg(test)]
 mod damaged;
@@ -18,6 +20,8 @@ mod damaged;
 mod faults;
 #[cfg(test)]
 mod faults_in_turn;
+#[cfg(test)]
+mod forms;
 #[cfg(test)]
 mod gate_calls;
 #[cfg(test)]

@@ -13,7 +13,8 @@ use Rattle.xray_program.specs.Taking.{Sound}
 use Rattle.command_words.specs.Words.{Command, Sim, Run, Plain, Extract, Asm, Account, Stack, Convert, Dump, Check, Profile, Soak, reading}
 use Rattle.xray_program.proofs.AccountLaws.{account_alone, account_some}
 use Rattle.xray_program.proofs.AsmLaws.{asm_alone, asm_some}
-use Rattle.xray_program.proofs.CheckLaws.{check_alone, check_some}
+use Rattle.xray_program.proofs.Audits.{OneReading, SomeReading}
+use Rattle.xray_program.proofs.CheckLaws.{OneJudgement, SomeJudgement, check_alone, check_some}
 use Rattle.xray_program.proofs.ConvertLaws.{convert_alone, convert_some}
 use Rattle.xray_program.proofs.DumpLaws.{dump_alone, dump_some}
 use Rattle.xray_program.proofs.ExtractLaws.{extract_alone, extract_some}
@@ -33,6 +34,8 @@ pub record Laws : Type 0 where
   pub accepts : Accepts
   pub end : OneEnd
   pub run : OneRun
+  pub audit : OneReading
+  pub judged : OneJudgement
 
 pub record Existence : Type 0 where
   pub verdict : SomeVerdict
@@ -43,6 +46,8 @@ pub record Existence : Type 0 where
   pub marks : SomeMarks
   pub losses : SomeLosses
   pub drawn : DrawnLaws
+  pub audit : SomeReading
+  pub judged : SomeJudgement
 
 -- ---- a line for each command
 
@@ -88,7 +93,7 @@ command_some laws held told holds (Account t i options) = account_some (image_ju
 command_some laws held told holds (Stack t i format) = stack_some (image_judged laws.verdict laws.accepts) held t i format told holds
 command_some laws held told holds (Convert t i options) = convert_some (image_judged laws.verdict laws.accepts) held t i options told holds
 command_some laws held told holds (Dump t) = dump_some held t told holds
-command_some laws held told holds (Check i s t a) = check_some (image_judged laws.verdict laws.accepts) held i s t a told holds
+command_some laws held told holds (Check i s t a) = check_some (image_judged laws.verdict laws.accepts) laws.audit laws.judged held i s t a told holds
 command_some laws held told holds (Profile i s options) =
     profile_some (image_judged laws.verdict laws.accepts) (some_runs laws.end laws.lets laws.marks laws.losses) held i s options told holds
 command_some laws held told holds (Soak number) = soak_some laws.run laws.drawn number

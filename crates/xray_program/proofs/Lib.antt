@@ -2,7 +2,10 @@ pub mod AcceptedInputs
 pub mod AccountLaws
 pub mod Answering
 pub mod AsmLaws
+pub mod Audits
 pub mod CheckLaws
+pub mod CheckTurns
+pub mod CheckYes
 pub mod CommandLaws
 pub mod ConvertLaws
 pub mod DumpLaws
@@ -11,6 +14,7 @@ pub mod ExtractLaws
 pub mod Headline
 pub mod Images
 pub mod Judging
+pub mod LogForms
 pub mod Meanings
 pub mod Ordering
 pub mod Outputting

@@ -1,7 +1,9 @@
 -- What the contracts of private functions cite. No promise of this crate rests on it.
 pub mod CallLaws
+pub mod CheckInputs
 pub mod Drawn
 pub mod Ends
+pub mod Logs
 pub mod Meant
 pub mod Profiled
 pub mod ReportTakes

@@ -19,17 +19,20 @@ mod account_options;
 mod asm;
 mod call;
 mod check;
+mod check_inputs;
 mod convert;
 mod delivery;
 mod drawn;
 mod dump;
 mod extract;
-mod image_file;
+mod file_bytes;
 mod input;
 mod inputs;
 mod laws;
+mod log;
 mod plain;
 mod profile;
+mod readable_file;
 mod report_inputs;
 mod run;
 mod run_inputs;
@@ -39,6 +42,7 @@ mod sim;
 mod sim_inputs;
 mod soak;
 mod stack;
+mod stated_audit;
 mod stop;
 mod stream;
 mod summary;
@@ -51,4 +55,5 @@ pub use drawn::soak_inputs;
 pub use laws::{
     accepted_inputs_mean_done, inputs_follow_the_rows, one_meaning, only_profiles_mean_7,
     pictures_add_up, refusal_is_the_only_meaning, reports_take_a_run, some_meaning,
+    what_is_left_is_accepted,
 };
