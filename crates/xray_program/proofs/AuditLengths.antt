@@ -86,8 +86,14 @@ setup_short s is =
     (field t2 (codes ".") s.wall.micros 72
     (field t1 (codes " wall=") s.wall.secs 36 (first (codes " pid=") s.pid (omega arith) (omega (arith, pid))) (omega arith) is.wall_is.secs)
     (omega arith) (omega (arith, micros))) (omega arith) is.frequency) (omega arith) in
-    omega (arith, head, limits, stamps, length-append (buffers_text s ++ limits_text s.limits) (stamps_text s),
-    length-append (buffers_text s) (limits_text s.limits))
+    omega (
+      arith,
+      head,
+      limits,
+      stamps,
+      length-append (buffers_text s ++ limits_text s.limits) (stamps_text s),
+      length-append (buffers_text s) (limits_text s.limits),
+    )
 
 -- ---- a thread
 
@@ -181,6 +187,13 @@ statement_short s may =
     lines_short _ (omega (arith, number, low, count, few)) (may.counts i d low)) in
     let last : length (recycled_line s.recycled) ≤ 52 =
     word (codes "recycled " ++ decimal s.recycled) line_feed 36 (first (codes "recycled ") s.recycled (omega arith) may.recycled) (omega arith) in
-    omega (arith, setup, threads, last, few, count,
-    length-append (setup_lines s.setup ++ flat_map thread_lines s.threads) (recycled_line s.recycled),
-    length-append (setup_lines s.setup) (flat_map thread_lines s.threads))
+    omega (
+      arith,
+      setup,
+      threads,
+      last,
+      few,
+      count,
+      length-append (setup_lines s.setup ++ flat_map thread_lines s.threads) (recycled_line s.recycled),
+      length-append (setup_lines s.setup) (flat_map thread_lines s.threads),
+    )
