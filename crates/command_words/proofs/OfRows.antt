@@ -10,9 +10,10 @@ use Rattle.command_words.specs.Numbers.{number_of}
 use Rattle.command_words.specs.Reports.{account_options_in, choice_in, convert_options_in, stack_formats}
 use Rattle.command_words.specs.Rows.{CommandRow}
 use Rattle.command_words.specs.Tables.{account_row, asm_row, check_row, convert_row, dump_row, extract_row, plain_row, run_row, sim_row}
-use Rattle.command_words.specs.Tables.{map_version_option, relative_map, seeds, soak_row, stack_format_option, stack_row, threshold_option}
-use Rattle.command_words.specs.Words.{Command, Sim, Run, Plain, Extract, Asm, Account, Stack, Convert, Dump, Check, Soak}
-use Rattle.command_words.specs.Words.{account_in, asm_in, bounds_in, check_in, convert_in, dump_in, extract_in, plain_in, report_by, run_in, run_options_in, sim_in, soak_in, stack_in}
+use Rattle.command_words.specs.Tables.{map_version_option, profile_row, relative_map, seeds, soak_row, stack_format_option, stack_row, threshold_option}
+use Rattle.command_words.specs.Words.{Command, Sim, Run, Plain, Extract, Asm, Account, Stack, Convert, Dump, Check, Profile, Soak}
+use Rattle.command_words.specs.Words.{account_in, asm_in, bounds_in, check_in, convert_in, dump_in, extract_in, plain_in, profile_in, profile_options_in, report_by, run_in, run_options_in, sim_in, soak_in, stack_in}
+use Rattle.command_words.specs.declared.profile_options.ProfileOptions.{ProfileOptions}
 use Rattle.command_words.specs.declared.run_options.Bounds.{Bounds}
 use Rattle.command_words.specs.declared.run_options.RunOptions.{RunOptions}
 use Rattle.command_words.proofs.Texts.{equal_texts}
@@ -140,6 +141,18 @@ check_of line command says = go line.files refl
     go (a ∷ b ∷ c ∷ []) e = absurd (never command (rw e at says))
     go (a ∷ b ∷ c ∷ d ∷ g ∷ names) e = absurd (never command (rw e at says))
 
+profile_of : (line : Line) (command : Command) → profile_in line ≡ Some command → IsOf profile_row line.files command
+profile_of line command says = go line.files (profile_options_in line) refl refl
+  where
+    go : (names : List (List ℕ)) (options : Option ProfileOptions) → line.files ≡ names → profile_options_in line ≡ options → IsOf profile_row line.files command
+    go (image ∷ script ∷ []) (Some options) e f =
+        let is : Profile image script options ≡ command = same _ _ (rw (e, f) at says) in
+        rw (sym is, e) (record { row_is = refl; names_are = refl })
+    go (image ∷ script ∷ []) None e f = absurd (never command (rw (e, f) at says))
+    go [] options e f = absurd (never command (rw e at says))
+    go (a ∷ []) options e f = absurd (never command (rw e at says))
+    go (a ∷ b ∷ c ∷ names) options e f = absurd (never command (rw e at says))
+
 soak_of : (line : Line) (command : Command) → soak_in line ≡ Some command → IsOf soak_row line.files command
 soak_of line command says = go line.files refl
   where
@@ -198,5 +211,6 @@ of_their_rows wall word words command says =
     (branch word words command convert_row _ _ (of_line convert_in convert_row items command (λ line. convert_of line command))
     (branch word words command dump_row _ _ (of_line dump_in dump_row items command (λ line. dump_of line command))
     (branch word words command check_row _ _ (of_line check_in check_row items command (λ line. check_of line command))
+    (branch word words command profile_row _ _ (of_line profile_in profile_row items command (λ line. profile_of line command))
     (branch word words command soak_row _ _ (of_line soak_in soak_row items command (λ line. soak_of line command))
-    (λ no. absurd (never command no)))))))))))) says
+    (λ no. absurd (never command no))))))))))))) says

@@ -1,7 +1,7 @@
 -- The one table of options and the one of commands.
 use Rattle.std.specs.Prelude.{ℕ, List, [], ◌∷◌, Some, None, codes}
 use Rattle.fdr_buffer.specs.declared.buffer.TheConstants.{LARGEST_SIZE, LEAST_SIZE, MOST_BUFFERS}
-use Rattle.command_words.specs.Limits.{most_cpus, most_fuel, most_passings, most_pid, most_stay, most_threads}
+use Rattle.command_words.specs.Limits.{most_cpus, most_fuel, most_nodes, most_passings, most_pid, most_stay, most_threads}
 use Rattle.command_words.specs.Numbers.{Values, Number, OneOf, Listed}
 use Rattle.command_words.specs.Rows.{CommandRow, FileRow, OptionRow}
 use Rattle.command_words.specs.declared.rows.Role.TheVariants.{Input, OptionalInput, Output}
@@ -108,6 +108,10 @@ convert_format_option = record {
 abbrev pub input_option : OptionRow
 input_option = record { name = codes "input"; values = Listed (codes "fdr" ∷ codes "basic" ∷ []); default = Some 0 }
 
+-- the most nodes of a thread's call trie
+abbrev pub nodes_option : OptionRow
+nodes_option = record { name = codes "nodes"; values = Number 1 most_nodes; default = Some 4096 }
+
 -- ---- the commands
 
 -- the options of a plain run
@@ -118,6 +122,11 @@ bounds_options = threads_option ∷ fuel_option ∷ passings_option ∷ []
 abbrev pub run_options : List OptionRow
 run_options = threads_option ∷ fuel_option ∷ passings_option ∷ buffer_size_option ∷ buffer_max_option
     ∷ tick_option ∷ tsc_option ∷ frequency_option ∷ cpus_option ∷ migrate_option ∷ pid_option ∷ wall_option ∷ []
+
+-- the options of a profile
+abbrev pub profile_options : List OptionRow
+profile_options = threads_option ∷ fuel_option ∷ passings_option ∷ tick_option ∷ tsc_option ∷ cpus_option
+    ∷ migrate_option ∷ nodes_option ∷ stack_format_option ∷ []
 
 abbrev pub asm_row : CommandRow
 asm_row = record {
@@ -184,6 +193,13 @@ check_row = record {
   files = record { label = codes "image"; role = Input } ∷ record { label = codes "script"; role = Input }
       ∷ record { label = codes "trace"; role = Input } ∷ record { label = codes "audit"; role = Input } ∷ [];
   options = [];
+}
+
+abbrev pub profile_row : CommandRow
+profile_row = record {
+  word = codes "profile";
+  files = record { label = codes "image"; role = Input } ∷ record { label = codes "script"; role = Input } ∷ [];
+  options = profile_options;
 }
 
 -- ---- the number that inputs are drawn from

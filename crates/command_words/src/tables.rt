@@ -201,6 +201,16 @@ pub(crate) const INPUT: OptionRow = OptionRow {
     default: Some(0),
 };
 
+/// The most nodes of a thread's call trie.
+pub(crate) const NODES: OptionRow = OptionRow {
+    name: "nodes",
+    values: Values::Number {
+        least: 1,
+        most: 262_144,
+    },
+    default: Some(4_096),
+};
+
 /// The options of a plain run.
 const BOUNDS_OPTIONS: &[OptionRow] = &[THREADS, FUEL, PASSINGS];
 
@@ -218,6 +228,19 @@ const RUN_OPTIONS: &[OptionRow] = &[
     MIGRATE,
     PID,
     WALL,
+];
+
+/// The options of a profile.
+const PROFILE_OPTIONS: &[OptionRow] = &[
+    THREADS,
+    FUEL,
+    PASSINGS,
+    TICK,
+    TSC,
+    CPUS,
+    MIGRATE,
+    NODES,
+    STACK_FORMAT,
 ];
 
 /// An image that is read.
@@ -327,6 +350,14 @@ pub(crate) const CHECK: CommandRow = CommandRow {
     word: "check",
     files: &[IMAGE, SCRIPT, TRACE, AUDIT],
     options: &[],
+};
+
+/// `profile IMAGE SCRIPT`: runs threads over an image while a script patches it, and prints how often each stack
+/// occurred, and for how long.
+pub(crate) const PROFILE: CommandRow = CommandRow {
+    word: "profile",
+    files: &[IMAGE, SCRIPT],
+    options: PROFILE_OPTIONS,
 };
 
 /// `asm TEXT IMAGE`: assembles an image.

@@ -2,12 +2,13 @@
 ghost use Rattle.std.specs.Prelude.{◌≡◌, IfOk, IfSome, option_map, true};
 ghost use Rattle.fdr_buffer.specs.Times.{IsTime};
 ghost use Rattle.command_words.specs.{Items.{texts}, Lines.{outputs_differ}, Ranges.{HasRanges}};
-ghost use Rattle.command_words.specs.{Tables.{run_row, sim_row}, Views.{command_view}, Words.{asm_in, check_in, reading, run_in, sim_in}};
+ghost use Rattle.command_words.specs.{Tables.{run_row, sim_row}, Views.{command_view}, Words.{asm_in, check_in, profile_in, reading, run_in, sim_in}};
 ghost use Rattle.command_words.specs.private.CodeViews.{line_view, row_view};
 ghost use Rattle.command_words.specs.private.Verbs.{command_by, report_said, row_by, verb_of};
 
 use crate::cutting::cut_line;
 use crate::line::Line;
+use crate::profile_options::{ProfileOptions, profile_options_in};
 use crate::report_options::{
     AccountOptions, ConvertOptions, ReportFiles, StackFormat, account_options_in,
     convert_options_in, report_files_in, stack_format_in,
@@ -15,8 +16,8 @@ use crate::report_options::{
 use crate::rows::CommandRow;
 use crate::run_options::{Bounds, RunOptions, bounds_in, run_options_in};
 use crate::tables::{
-    ACCOUNT, ASM, CHECK, CONVERT, DUMP, EXTRACT, MAP_VERSION, PLAIN, RELATIVE_MAP, RUN, SEEDS, SIM,
-    SOAK, STACK, THRESHOLD,
+    ACCOUNT, ASM, CHECK, CONVERT, DUMP, EXTRACT, MAP_VERSION, PLAIN, PROFILE, RELATIVE_MAP, RUN,
+    SEEDS, SIM, SOAK, STACK, THRESHOLD,
 };
 use std::alloc::{AllocError, Global};
 use xray_io::Wall;
@@ -119,6 +120,16 @@ pub enum Command<'a> {
         /// The audit, which is read.
         audit: &'a str,
     },
+    /// Runs threads over an image while a script patches it, and prints how often each stack
+    /// occurred, and for how long.
+    Profile {
+        /// The image file.
+        image: &'a str,
+        /// The script of the patcher.
+        script: &'a str,
+        /// What the run is made with, and how the stacks are printed.
+        options: ProfileOptions,
+    },
     /// Replays a schedule over a large image and a script, all drawn from a number, and prints a
     /// summary.
     Soak {
@@ -173,6 +184,8 @@ enum Verb {
     Dump,
     /// `check IMAGE SCRIPT TRACE AUDIT`.
     Check,
+    /// `profile IMAGE SCRIPT`.
+    Profile,
     /// `soak SEED`.
     Soak,
 }
@@ -213,6 +226,8 @@ impl Verb {
             Some(Verb::Dump)
         } else if word == CHECK.word {
             Some(Verb::Check)
+        } else if word == PROFILE.word {
+            Some(Verb::Profile)
         } else if word == SOAK.word {
             Some(Verb::Soak)
         } else {
@@ -235,6 +250,7 @@ impl Verb {
             Verb::Report(Report::Convert) => CONVERT,
             Verb::Dump => DUMP,
             Verb::Check => CHECK,
+            Verb::Profile => PROFILE,
             Verb::Soak => SOAK,
         }
     }
@@ -269,6 +285,7 @@ fn command_in<'a>(verb: Verb, wall: Wall, line: &Line<'a>) -> Option<Command<'a>
             _ => None,
         },
         Verb::Check => check_in(line),
+        Verb::Profile => profile_in(line),
         Verb::Soak => match files {
             [seed] => {
                 let number = SEEDS.number_of(seed)?;
@@ -345,6 +362,21 @@ fn check_in<'a>(line: &Line<'a>) -> Option<Command<'a>>
             script,
             trace,
             audit,
+        }),
+        _ => None,
+    }
+}
+
+/// The profile that a line asks for. `None` if it lacks a file, or if a value isn't allowed.
+fn profile_in<'a>(line: &Line<'a>) -> Option<Command<'a>>
+    ensures reads { option_map command_view result ≡ profile_in (line_view line.now) }
+    ensures ranges { IfSome (option_map command_view result) HasRanges }
+{
+    match line.files.as_slice() {
+        [image, script] => Some(Command::Profile {
+            image,
+            script,
+            options: profile_options_in(line)?,
         }),
         _ => None,
     }

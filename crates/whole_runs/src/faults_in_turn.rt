@@ -5,7 +5,7 @@
 //! the desk or of out follows the one that failed. If err fails, only its line is lost.
 use crate::checks::{check_same, check_same_at};
 use crate::runs::{IMAGE, Run, assert_held, assert_no_fault, run_line, status_of};
-use crate::trace_bytes::{ONE_CALL, RECURSION, file};
+use crate::trace_bytes::{LOG_OF_ONE_CALL, ONE_CALL, RECURSION, file};
 use std::alloc::Global;
 use std::process::Abort;
 use std::sync::Wait;
@@ -47,7 +47,7 @@ const A: Input = (
 );
 
 /// The commands. Another command is another row.
-const COMMANDS: [Command; 11] = [
+const COMMANDS: [Command; 14] = [
     Command {
         words: "asm x o",
         inputs: &[X],
@@ -96,6 +96,21 @@ const COMMANDS: [Command; 11] = [
     Command {
         words: "check i s t a",
         inputs: &[I, A, S, ("t", &ONE_CALL)],
+        outputs: &[],
+    },
+    Command {
+        words: "convert t i --format trace-event",
+        inputs: &[("t", &ONE_CALL), I],
+        outputs: &[],
+    },
+    Command {
+        words: "convert t i --input basic",
+        inputs: &[("t", &LOG_OF_ONE_CALL), I],
+        outputs: &[],
+    },
+    Command {
+        words: "fdr-dump t",
+        inputs: &[("t", &ONE_CALL)],
         outputs: &[],
     },
     Command {

@@ -21,6 +21,8 @@ mod faults;
 #[cfg(test)]
 mod faults_in_turn;
 #[cfg(test)]
+mod forms;
+#[cfg(test)]
 mod gate_calls;
 #[cfg(test)]
 mod gates;

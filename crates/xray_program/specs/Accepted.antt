@@ -12,7 +12,7 @@ use Rattle.xray_io.specs.World.{World}
 use Rattle.xray_program.specs.Convert.{log_form, no_text_for}
 use Rattle.xray_program.specs.Inputs.{Readable, audit_form, image_form, readable_form, schedule_form, script_form, text_form, trace_form, unread_trace_form}
 use Rattle.xray_program.specs.Taking.{Form, IsAcceptedAs}
-use Rattle.command_words.specs.Words.{Command, Sim, Run, Plain, Extract, Asm, Account, Stack, Convert, Dump, Check, Soak}
+use Rattle.command_words.specs.Words.{Command, Sim, Run, Plain, Extract, Asm, Account, Stack, Convert, Dump, Check, Profile, Soak}
 
 -- the desk reports that a name holds bytes of this kind, within its limit, which read as this value
 pub record HoldsInput {X : Type 0} (form : Form X) (entry : Entry) (value : X) : Type 0 where
@@ -28,6 +28,11 @@ HoldsImage held None (Some program) = ⊥
 HoldsImage held (Some name) None = ⊥
 HoldsImage held (Some name) (Some program) = HoldsInput image_form (held name) program
 
+-- the inputs are an image, and a script for it and for this many threads
+abbrev pub HoldsScript : (List ℕ → Entry) → (image script : List ℕ) → (threads : ℕ) → Type 0
+HoldsScript held image script threads =
+    (program : Program) × (plan : Plan) × HoldsInput image_form (held image) program × HoldsInput (script_form program threads) (held script) plan
+
 -- the inputs of a report are a trace in this form, of which this holds, and an image
 abbrev pub HoldsReport : Form Trace → (List ℕ → Entry) → (trace : List ℕ) → (image : Option (List ℕ)) → (Trace → Type 0) → Type 0
 HoldsReport form held trace image Is =
@@ -41,9 +46,7 @@ AreAccepted held (Sim image script schedule trace audit options) =
     (program : Program) × (plan : Plan) × (turns : List Turns) × HoldsInput image_form (held image) program
     × HoldsInput (script_form program options.bounds.threads) (held script) plan
     × HoldsInput (schedule_form options.bounds.threads) (held schedule) turns × (waiting_line plan.lines ≡ None)
-AreAccepted held (Run image script trace audit options) =
-    (program : Program) × (plan : Plan) × HoldsInput image_form (held image) program
-    × HoldsInput (script_form program options.bounds.threads) (held script) plan
+AreAccepted held (Run image script trace audit options) = HoldsScript held image script options.bounds.threads
 AreAccepted held (Plain image bounds) = (program : Program) × HoldsInput image_form (held image) program
 AreAccepted held (Extract image) = (program : Program) × HoldsInput image_form (held image) program
 AreAccepted held (Asm text image threshold relative) = (file : List ℕ) × HoldsInput (text_form threshold relative) (held text) file
@@ -56,6 +59,7 @@ AreAccepted held (Check image script trace audit) =
     (program : Program) × (statement : Statement) × (plan : Plan) × (bytes : List ℕ) × HoldsInput image_form (held image) program
     × HoldsInput audit_form (held audit) statement × HoldsInput (script_form program statement.setup.threads) (held script) plan
     × HoldsInput unread_trace_form (held trace) bytes
+AreAccepted held (Profile image script options) = HoldsScript held image script options.bounds.threads
 AreAccepted held (Soak number) = ⊤
 
 -- ---- the first inputs, in the order in which they are taken
@@ -75,15 +79,19 @@ AcceptsImage held (Some name) count = AcceptsInput image_form held name (λ prog
 abbrev pub AcceptsReport : {X : Type 0} → Form X → (List ℕ → Entry) → (log : List ℕ) → (image : Option (List ℕ)) → (count : ℕ) → Type 0
 AcceptsReport form held log image count = AcceptsInput form held log (λ value later. AcceptsImage held image later) count
 
+-- and of an image and a script
+abbrev pub AcceptsScript : (List ℕ → Entry) → (image script : List ℕ) → (threads count : ℕ) → Type 0
+AcceptsScript held image script threads count =
+    AcceptsInput image_form held image (λ program.
+    AcceptsInput (script_form program threads) held script (λ plan later. ⊤)) count
+
 -- the first inputs of a command are accepted, as many as `count` says
 abbrev pub AcceptsInputs : (List ℕ → Entry) → Command → (count : ℕ) → Type 0
 AcceptsInputs held (Sim image script schedule trace audit options) count =
     AcceptsInput image_form held image (λ program.
     AcceptsInput (script_form program options.bounds.threads) held script (λ plan.
     AcceptsInput (schedule_form options.bounds.threads) held schedule (λ turns later. ⊤))) count
-AcceptsInputs held (Run image script trace audit options) count =
-    AcceptsInput image_form held image (λ program.
-    AcceptsInput (script_form program options.bounds.threads) held script (λ plan later. ⊤)) count
+AcceptsInputs held (Run image script trace audit options) count = AcceptsScript held image script options.bounds.threads count
 AcceptsInputs held (Plain image bounds) count = AcceptsInput image_form held image (λ program later. ⊤) count
 AcceptsInputs held (Extract image) count = AcceptsInput image_form held image (λ program later. ⊤) count
 AcceptsInputs held (Asm text image threshold relative) count = AcceptsInput (text_form threshold relative) held text (λ file later. ⊤) count
@@ -96,6 +104,7 @@ AcceptsInputs held (Check image script trace audit) count =
     AcceptsInput audit_form held audit (λ statement.
     AcceptsInput (script_form program statement.setup.threads) held script (λ plan.
     AcceptsInput unread_trace_form held trace (λ bytes later. ⊤)))) count
+AcceptsInputs held (Profile image script options) count = AcceptsScript held image script options.bounds.threads count
 AcceptsInputs held (Soak number) count = ⊤
 
 -- no fault of the desk or of out is counted in a call

@@ -6,7 +6,7 @@ use Rattle.command_words.specs.declared.report_options.ConvertOptions.{ConvertOp
 use Rattle.command_words.specs.declared.report_options.InputForm.{InputForm}
 use Rattle.command_words.specs.declared.report_options.InputForm.TheVariants as inputs
 use Rattle.fdr_file.specs.declared.trace.Trace.{Trace}
-use Rattle.fdr_file.specs.ThreadEvents.{thread_events}
+use Rattle.fdr_file.specs.ThreadEvents.{ThreadEvent, thread_events}
 use Rattle.trace_forms.specs.BasicLogs.{basic_bytes, wide_cpu}
 use Rattle.trace_forms.specs.TraceEvents.{most_events, trace_events_text}
 use Rattle.xray_image.specs.Program.{Program}
@@ -22,9 +22,9 @@ abbrev pub log_form : InputForm → Form Trace
 log_form inputs.Fdr = trace_form
 log_form inputs.Basic = basic_form
 
--- a trace has too many events for the text of trace events
-abbrev pub too_many : Trace → Option (List ℕ)
-too_many t = if nat_lt most_events (length (thread_events t.blocks)) then Some (codes "Many") else None
+-- events are too many for the text of trace events
+abbrev pub too_many : List ThreadEvent → Option (List ℕ)
+too_many events = if nat_lt most_events (length events) then Some (codes "Many") else None
 
 -- this event, counted from 0, has a CPU that the record of a basic log has no room for
 abbrev pub cpu_words : ℕ → List ℕ
@@ -33,7 +33,7 @@ cpu_words event = codes "Cpu " ++ decimal event
 -- why a trace isn't converted to a form, if it isn't
 abbrev pub no_text_for : ConvertFormat → Trace → Option (List ℕ)
 no_text_for formats.Yaml t = None
-no_text_for formats.TraceEvents t = too_many t
+no_text_for formats.TraceEvents t = too_many (thread_events t.blocks)
 no_text_for formats.Basic t = option_map cpu_words (wide_cpu (thread_events t.blocks))
 
 -- a trace in a form; a program names its functions, if there is one

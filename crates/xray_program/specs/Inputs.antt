@@ -1,5 +1,5 @@
 -- The kinds of input.
-use Rattle.std.specs.Prelude.{◌≡◌, ◌++◌, Result, Ok, Err, ℕ, Bool, List, [], ◌∷◌, Option, Some, None, codes, decimal, unwrap_or}
+use Rattle.std.specs.Prelude.{◌≡◌, ◌≤◌, Result, Ok, Err, ℕ, Bool, List, [], ◌∷◌, Option, Some, None, codes, length, take, unwrap_or}
 use Rattle.command_words.specs.Limits.{trace_limit}
 use Rattle.xray_image.specs.Program.{Program, IsAccepted}
 use Rattle.xray_image.specs.declared.fault.ImageFault.{ImageFault}
@@ -14,12 +14,11 @@ use Rattle.step_sim.specs.FaultWords.{schedule_words}
 use Rattle.step_sim.specs.Schedules.{schedule_of}
 use Rattle.fdr_file.specs.declared.fault.TraceFault.{TraceFault}
 use Rattle.fdr_file.specs.declared.trace.Trace.{Trace}
-use Rattle.fdr_file.specs.Prefixes.{IsHeaderFault, IsReadable}
+use Rattle.fdr_file.specs.Prefixes.{IsReadable, ReadsAsTrace}
 use Rattle.fdr_file.specs.Traces.{trace_of}
 use Rattle.trace_words.specs.TraceWords.{trace_words}
-use Rattle.trace_forms.specs.declared.basic.BasicFault.{BasicFault}
-use Rattle.trace_forms.specs.declared.basic.BasicFault.TheVariants as basic
 use Rattle.trace_forms.specs.BasicLogs.{basic_of}
+use Rattle.trace_forms.specs.FaultWords.{basic_words}
 use Rattle.audit_check.specs.declared.fault.AuditFault.{AuditFault}
 use Rattle.audit_check.specs.Reading.{ReadsAs}
 use Rattle.audit_check.specs.Statements.{Statement}
@@ -93,15 +92,6 @@ trace_form = form_by (codes "trace") trace_limit trace_of trace_words
 abbrev pub unread_trace_form : Form (List ℕ)
 unread_trace_form = any_bytes (codes "trace") trace_limit
 
--- the words for why bytes aren't a basic log; there are none if memory ran out, since nothing is refused then
-abbrev pub basic_words : BasicFault → Option (List ℕ)
-basic_words (basic.Short place) = Some (codes "Short " ++ decimal place)
-basic_words (basic.Version version) = Some (codes "Version " ++ decimal version)
-basic_words (basic.Form form) = Some (codes "Form " ++ decimal form)
-basic_words (basic.Tag place tag) = Some (codes "Tag " ++ decimal place ++ codes " " ++ decimal tag)
-basic_words (basic.Kind place kind) = Some (codes "Kind " ++ decimal place ++ codes " " ++ decimal kind)
-basic_words basic.NoMemory = None
-
 -- a basic log, which reads as a trace
 abbrev pub basic_form : Form Trace
 basic_form = form_by (codes "trace") trace_limit basic_of basic_words
@@ -111,13 +101,17 @@ pub record Readable : Type 0 where
   pub bytes : List ℕ
   pub len : ℕ
 
--- A file that begins with a trace. It is refused for a fault of its header.
+-- no prefix of the bytes is a trace
+abbrev pub ReadsNowhere : List ℕ → Type 0
+ReadsNowhere bytes = (len : ℕ) → len ≤ length bytes → ReadsAsTrace (take len bytes) → ⊥
+
+-- A file of which some prefix is a trace. If none is, it is refused for its first fault.
 abbrev pub readable_form : Form Readable
 readable_form = record {
   kind = codes "trace";
   limit = trace_limit;
   Reads = λ bytes t. (t.bytes ≡ bytes) × IsReadable bytes t.len;
-  Refuses = λ bytes refusal. (fault : TraceFault) × IsHeaderFault fault × (trace_of bytes ≡ Err fault) × (refusal ≡ refused_for (trace_words fault));
+  Refuses = λ bytes refusal. (fault : TraceFault) × ReadsNowhere bytes × (trace_of bytes ≡ Err fault) × (refusal ≡ refused_for (trace_words fault));
 }
 
 -- the audit of a run

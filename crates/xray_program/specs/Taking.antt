@@ -1,7 +1,7 @@
 -- Inputs in their turn: what comes of them, one inside the other, in the order in which they are taken.
 use Rattle.std.specs.Prelude.{◌≡◌, ◌⊎◌, ◌<◌, ◌≤◌, ℕ, List, [], length, Option, Some, None, ⊤}
 use Rattle.xray_io.specs.Desk.{Entry, Untold, Absent, Holds}
-use Rattle.xray_program.specs.Outcomes.{Outcome, Unread, TooLong, Refused, Done}
+use Rattle.xray_program.specs.Outcomes.{Outcome, Unread, TooLong, Refused, Done, Fell}
 
 -- A kind of input: its name in a line on err, the most bytes that it may have, what its bytes read as, and why they are
 -- refused, in the words of the line.
@@ -80,3 +80,8 @@ Leaves Are outcome = (outputs : List (List ℕ × List ℕ)) × (text : List ℕ
 -- all is done, with no outputs, and a text of which this holds
 abbrev pub Prints : (List ℕ → Type 0) → Outcome → Type 0
 Prints Is = Leaves (λ outputs text. (outputs ≡ []) × Is text)
+
+-- outputs and a text are left; all is well, unless something is found to be wrong
+abbrev pub ended_by : List (List ℕ × List ℕ) → (text : List ℕ) → (trouble : Option (List ℕ)) → Outcome
+ended_by outputs text None = Done outputs text
+ended_by outputs text (Some trouble) = Fell outputs text trouble

@@ -3,10 +3,12 @@ pub mod CallLaws
 pub mod CheckInputs
 pub mod Drawn
 pub mod Ends
-pub mod Further
+pub mod Logs
 pub mod Meant
+pub mod Profiled
 pub mod ReportTakes
 pub mod RunInputs
+pub mod ScriptTakes
 pub mod SimInputs
 pub mod Stops
 pub mod Takes

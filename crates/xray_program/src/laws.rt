@@ -10,7 +10,7 @@ ghost use Rattle.xray_image.specs.Program.{IsAccepted, Program};
 ghost use Rattle.xray_io.specs.Desk.{Entry, Holds};
 ghost use Rattle.xray_io.specs.World.{World};
 ghost use Rattle.xray_program.specs.{Accepted.{AreAccepted, CountsNoFault}, Answers.{IsAnswer}};
-ghost use Rattle.xray_program.specs.Commands.{IsDecided, Means, TellsAll, inputs_of};
+ghost use Rattle.xray_program.specs.Commands.{IsDecided, IsProfile, Means, TellsAll, inputs_of};
 ghost use Rattle.xray_program.specs.Outcomes.{Done, Outcome, status_of, written_by};
 ghost use Rattle.machine_step.specs.Setups.{IsSetup};
 ghost use Rattle.xray_program.specs.Traced.{IsReported};
@@ -60,9 +60,9 @@ pub fn refusal_is_the_only_meaning()
 }
 
 /// Words mean something over a desk that reports every name, whatever bytes the names hold. For
-/// `run` this says that each script that is read has lawful runs: its awaits and holds leave a place
-/// for each load of each thread. For `check` it says that bytes are an audit or are refused at a line,
-/// and that there is a verdict on any audit and any trace.
+/// `run` and `profile` this says that each script that is read has lawful runs: its awaits and holds
+/// leave a place for each load of each thread. For `check` it says that bytes are an audit or are
+/// refused at a line, and that there is a verdict on any audit and any trace.
 pub fn some_meaning()
     ensures { (said : Option Command) (held : List ℕ → Entry) → TellsAll held
         → ((name bytes : List ℕ) → held name ≡ Holds bytes → All (λ b. b < 256) bytes)
@@ -91,21 +91,23 @@ pub fn inputs_follow_the_rows()
 
 /// If words say a command, each of its inputs is held, within its limit and accepted, nothing else is
 /// wrong with them (`AreAccepted`), and no fault is counted, then the status is 0, unless memory runs
-/// out. For `run` this is about a call that returns. `IsAnswer` is the field `complete` of the contract
-/// of a call.
+/// out, or the recorder of a `profile` stops. For `run` and `profile` this is about a call that
+/// returns. `IsAnswer` is the field `complete` of the contract of a call.
 pub fn accepted_inputs_mean_done()
     ensures { (command : Command) (before after : World) (status : ℕ)
         → AreAccepted before.desk.held command → CountsNoFault before after
-        → IsAnswer (Some command) before after status → (status ≡ 0) ⊎ (status ≡ 5) }
+        → IsAnswer (Some command) before after status
+        → (status ≡ 0) ⊎ (status ≡ 5) ⊎ ((status ≡ 7) × IsProfile command) }
 {
     one_verdict();
     one_reading();
 }
 
-/// No words mean an outcome with status 7, whatever the desk holds.
-pub fn no_words_mean_7()
+/// Only the words of a `profile` mean an outcome with status 7, whatever the desk holds.
+pub fn only_profiles_mean_7()
     ensures { (said : Option Command) (held : List ℕ → Entry) (outcome : Outcome)
-        → Means said held outcome → status_of outcome ≢ 7 }
+        → Means said held outcome → status_of outcome ≡ 7
+        → (command : Command) × (said ≡ Some command) × IsProfile command }
 {}
 
 /// The reports take the trace of a run that its setup allows (`IsSetup`): its bytes are the trace of the
