@@ -60,9 +60,9 @@ pub own_seats : {R : Type 0} (stands : R → List Event → Type 0) (follows : R
 own_seats {R} stands follows table limits old new are has =
     all_of (IsWorkerOf table) (map (λ (w : Worker R). seat_of w) new) (λ i seat found.
     let one = of_item (λ (w : Worker R). seat_of w) new i seat found in
-    let was = there_is old i (omega (arith, slice_get_within new i one.0 one.1.0, has.count)) in
-    let ran = has.each i was.0 one.0 was.1 one.1.0 in
-    subst (IsWorkerOf table) one.1.1
+    let was = there_is old i (omega (arith, slice_get_within new i one.0 one.1, has.count)) in
+    let ran = has.each i was.0 one.0 was.1 one.1 in
+    subst (IsWorkerOf table) one.2
     (subst (λ (t : CodeTable). IsWorkerOf t (seat_of one.0)) (ran.same.table ∙ (are i was.0 was.1).1.1) ran.ended.at.own))
 
 -- their recorders follow those that they began with
@@ -73,8 +73,8 @@ recorders_follow {R} stands follows old new has = record {
   each = λ i before after here there.
       let was = of_item (λ (w : Worker R). recorder_of w) old i before here in
       let one = of_item (λ (w : Worker R). recorder_of w) new i after there in
-      subst (λ (r : R). follows r after) was.1.1
-      (subst (follows (recorder_of was.0)) one.1.1 (has.each i was.0 one.0 was.1.0 one.1.0).same.recorder);
+      subst (λ (r : R). follows r after) was.2
+      (subst (follows (recorder_of was.0)) one.2 (has.each i was.0 one.0 was.1 one.1).same.recorder);
 }
 
 -- ---- the runs of workers that have ended
@@ -184,8 +184,8 @@ have_recorded {R} stands follows plan limits old cpus seats new have =
     → (worker : Worker R) × (slice_get workers i ≡ Some worker) × (work_view (seat_of worker) ≡ seat) =
     (λ i seat found.
     let one = of_item (λ s. work_view s) seats i seat found in
-    let his = of_item (λ (w : Worker R). seat_of w) workers i one.0 (subst (λ (ss : List WorkSeat). slice_get ss i ≡ Some one.0) have.seats_are one.1.0) in
-    (his.0, his.1.0, ap (λ s. work_view s) his.1.1 ∙ one.1.1)) in
+    let his = of_item (λ (w : Worker R). seat_of w) workers i one.0 (subst (λ (ss : List WorkSeat). slice_get ss i ≡ Some one.0) have.seats_are one.1) in
+    (his.0, his.1, ap (λ s. work_view s) his.2 ∙ one.2)) in
     record {
       runs = runs;
       count = count ∙ have.count;
@@ -194,20 +194,20 @@ have_recorded {R} stands follows plan limits old cpus seats new have =
       cpus_count = ap length have.cpus_are ∙ length-map workers (λ (w : Worker R). cpu_of w) ∙ sym count;
       cpus_are = λ i run t there found.
           let one = cpu_at i t found in
-          subst (HasRun (i + 1) run) one.1.1 (at i one.0 run one.1.0 there).has;
+          subst (HasRun (i + 1) run) one.2 (at i one.0 run one.1 there).has;
       seats_count =
           length-map seats (λ s. work_view s) ∙ ap length have.seats_are ∙ length-map workers (λ (w : Worker R). seat_of w) ∙ sym count;
       along = λ i run t seat there found here.
           let one = cpu_at i t found in
           let his = seat_at i seat here in
-          let same : his.0 ≡ one.0 = same_found workers i his.0 one.0 his.1.0 one.1.0 in
-          let seat_is : work_view (seat_of one.0) ≡ seat = ap (λ (w : Worker R). work_view (seat_of w)) (sym same) ∙ his.1.1 in
-          subst (λ (u : Traced). HasRunAlong plan.program plan.threads (commands_of plan.lines) (i + 1) run u seat) one.1.1
+          let same : his.0 ≡ one.0 = same_found workers i his.0 one.0 his.1 one.1 in
+          let seat_is : work_view (seat_of one.0) ≡ seat = ap (λ (w : Worker R). work_view (seat_of w)) (sym same) ∙ his.2 in
+          subst (λ (u : Traced). HasRunAlong plan.program plan.threads (commands_of plan.lines) (i + 1) run u seat) one.2
           (subst (HasRunAlong plan.program plan.threads (commands_of plan.lines) (i + 1) run (cpu_of one.0)) seat_is
-          (at i one.0 run one.1.0 there).along);
+          (at i one.0 run one.1 there).along);
       recorded = λ i run recorder there found.
           let one = of_item (λ (w : Worker R). recorder_of w) workers i recorder
           (subst (λ (rs : List R). slice_get rs i ≡ Some recorder) have.recorders_are found) in
-          subst (λ (r : R). stands r (events_of run)) one.1.1 (at i one.0 run one.1.0 there).recorded;
+          subst (λ (r : R). stands r (events_of run)) one.2 (at i one.0 run one.1 there).recorded;
       followed = have.followed;
     }

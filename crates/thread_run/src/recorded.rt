@@ -60,11 +60,9 @@ pub fn run_recorded<'s, T: Threads + Wait + Sync, R: Recorder + Send + Drop, G: 
     ensures unmoved { OnErr result ((patch_view patcher.new).place ≡ start_in (script_of table.now)) }
     ensures seats { IfOk result (λ end. All (IsWorkerOf table.now) end.seats.items) }
     ensures recorded { IfOk result (λ end. HaveRecorded R.stands R.follows (script_of table.now) limits
-        recorders.entry.items end.cpus.items (map work_view end.seats.items) end.recorders.items) }
+        recorders.items end.cpus.items (map work_view end.seats.items) end.recorders.items) }
 {
-    let end = run_workers(
-        rt, alloc, steps, table, patcher, limits, recorders, gate,
-    )?;
+    let end = run_workers(rt, alloc, steps, table, patcher, limits, recorders, gate)?;
     Ok(end)
 }
 
@@ -92,7 +90,7 @@ pub(crate) fn run_workers<'s, T: Threads + Wait + Sync, R: Recorder + Send + Dro
     ensures unmoved { OnErr result ((patch_view patcher.new).place ≡ start_in (script_of table.now)) }
     ensures seats { IfOk result (λ end. All (IsWorkerOf table.now) end.seats.items) }
     ensures worked { IfOk result (λ end. HaveWorked R.stands R.follows (script_of table.now) limits
-        recorders.entry.items end.cpus.items end.seats.items end.recorders.items) }
+        recorders.items end.cpus.items end.seats.items end.recorders.items) }
 {
     let room = room_for(alloc, recorders.len())?;
     let mut workers = new_workers(alloc, steps, table, patcher, limits, recorders)?;
@@ -122,7 +120,7 @@ fn new_workers<'s, 't, R: Recorder + Drop>(
     ensures none_met { (patch_view patcher.new).met ≡ [] }
     ensures workers { IfOk result (λ workers. AreStarted R.stands table.now limits workers.items) }
     ensures recorders { IfOk result (λ workers.
-        map (λ worker. recorder_of worker) workers.items ≡ recorders.entry.items) }
+        map (λ worker. recorder_of worker) workers.items ≡ recorders.items) }
 {
     let threads = recorders.len() as u32;
     let mut workers = Vec::with_capacity(alloc, recorders.len())?;

@@ -29,6 +29,7 @@ use Rattle.xray_program.specs.Run.{FollowsPlan, RunComes}
 use Rattle.xray_program.specs.Sim.{Replayed, SimComes}
 use Rattle.xray_program.specs.Taking.{Form, IsAcceptedAs, Leaves, MayHold, RefuseIf, Sound, Take}
 use Rattle.xray_program.specs.Traced.{Traces, written_of}
+use Rattle.xray_program.proofs.AuditLengths.{statement_short}
 
 -- what the crates below say
 pub record YesLaws : Type 0 where
@@ -107,10 +108,12 @@ module _ (laws : YesLaws) (held : List ℕ → Entry) (i s t a : List ℕ) (setu
   pub judged_yes : (program : Program) (plan : Plan) (runs : List ThreadRun) → IsAcceptedAs image_form (held i) program
       → IsAcceptedAs (script_form program setup.threads) (held s) plan → IsRun program setup runs
       → AllMarksFollow program setup.threads (commands_of plan.lines) runs → AreLost setup.size (spare_of setup) runs
-      → held t ≡ Holds (trace_bytes setup runs) → held a ≡ Holds (audit_of_run setup runs) → length (audit_of_run setup runs) ≤ audit_limit
+      → held t ≡ Holds (trace_bytes setup runs) → held a ≡ Holds (audit_of_run setup runs)
       → CheckComes Sound held i s t a (Done [] (verdict_text Yes))
-  judged_yes program plan runs image script run follow lost trace audit few =
+  judged_yes program plan runs image script run follow lost trace audit =
       let read = laws.read program (commands_of plan.lines) setup runs is_setup run follow lost in
+      let few : length (audit_of_run setup runs) ≤ audit_limit =
+      subst (λ (b : List ℕ). length b ≤ audit_limit) (sym read.1) (statement_short (run_statement setup runs) read.0) in
       let judges : Judges program plan (run_statement setup runs) (trace_bytes setup runs) (Done [] (verdict_text Yes)) =
       record { verdict = Yes; judged = laws.yes program (commands_of plan.lines) setup runs run follow lost; outcome_is = refl } in
       again image_form held i _ program (Done [] (verdict_text Yes)) image
@@ -122,8 +125,7 @@ module _ (laws : YesLaws) (held : List ℕ → Entry) (i s t a : List ℕ) (setu
 -- ---- of a command
 
 module _ (laws : YesLaws) (held after : List ℕ → Entry) (i s t a : List ℕ) (setup : Setup) (is_setup : IsSetup setup) (trace audit text : List ℕ)
-    (image_held : after i ≡ held i) (script_held : after s ≡ held s) (trace_held : after t ≡ Holds trace) (audit_held : after a ≡ Holds audit)
-    (few : length audit ≤ audit_limit) where
+    (image_held : after i ≡ held i) (script_held : after s ≡ held s) (trace_held : after t ≡ Holds trace) (audit_held : after a ≡ Holds audit) where
   abbrev left : List (List ℕ × List ℕ)
   left = (t, trace) ∷ (a, audit) ∷ []
 
@@ -135,7 +137,7 @@ module _ (laws : YesLaws) (held after : List ℕ → Entry) (i s t a : List ℕ)
       let same = outputs_same t a trace audit (trace_bytes setup runs) (audit_of_run setup runs) is in
       judged_yes laws after i s t a setup is_setup program plan runs (subst (λ (e : Entry). IsAcceptedAs image_form e program) (sym image_held) image)
       (subst (λ (e : Entry). IsAcceptedAs (script_form program setup.threads) e plan) (sym script_held) script) run follow lost
-      (trace_held ∙ ap Holds same.0) (audit_held ∙ ap Holds same.1) (subst (λ (b : List ℕ). length b ≤ audit_limit) same.1 few)
+      (trace_held ∙ ap Holds same.0) (audit_held ∙ ap Holds same.1)
 
   pub yes_of_run : RunComes Sound held i s t a setup (Done left text) → CheckComes Sound after i s t a (Done [] (verdict_text Yes))
   yes_of_run comes =

@@ -31,15 +31,13 @@ loop-recorder-preserved g c =
       none_met = ap (λ (p : PatchView). p.met) started.view ∙ kept.none_met;
       count = omega (arith, ap length more, length-append old (worker ∷ []), kept.count);
       workers = one_more (λ i w. IsWorkerAt (script_of c.args.table.now) c.args.limits (i + 1) w × IsGoingAt g.R.Recorder.stands c.args.table.now w)
-          old c.push.new.self.items worker c.loop-recorder.number kept.count kept.workers
-          (
+          old c.push.new.self.items worker c.loop-recorder.number kept.count kept.workers (
             record {
               table = ap script_of started.table;
               thread = ap (λ (t : Traced). t.thread) started.cpu ∙ c.in_ok-cpu.ensures.number;
               limits_are = ap (λ (t : Traced). t.limits) started.cpu ∙ c.in_ok-cpu.ensures.limits;
             },
-            started.going,
-            started.table,
+            (started.going, started.table),
           )
           more;
       recorders = sym (map_more (λ w. recorder_of w) old worker c.push.new.self.items yielded one (sym kept.recorders) started.recorder more);

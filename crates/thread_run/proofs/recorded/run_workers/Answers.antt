@@ -1,5 +1,6 @@
-use Rattle.std.proofs.Common.{◌≡◌, ap, arith, length, length-map, map, subst, sym, ◌∙◌}
+use Rattle.std.proofs.Common.{◌≡◌, ap, arith, length, map, subst, sym, ◌∙◌}
 use Rattle.std.specs.Prelude.{All}
+use Rattle.std.proofs.lemmas.List.{length-map}
 use Rattle.sled_rule.specs.Seats.{IsWorkerOf}
 use Rattle.thread_run.specs.Each.{HaveChanged}
 use Rattle.thread_run.specs.private.Rooms.{IsGathered}

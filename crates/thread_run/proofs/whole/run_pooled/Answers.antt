@@ -3,7 +3,8 @@ use Rattle.std.specs.Prelude.{[]}
 use Rattle.machine_step.specs.declared.limits.Limits.{Limits}
 use Rattle.machine_step.specs.declared.setup.Setup.{Setup}
 use Rattle.sled_rule.specs.Seats.{script_of}
-use Rattle.thread_run.specs.Recordings.{StandsFor}
+use Rattle.thread_run.specs.Each.{HaveChanged}
+use Rattle.thread_run.specs.Recordings.{HasSameOwner, StandsFor}
 use Rattle.thread_run.specs.private.Starting.{AreWorkersAt}
 use Rattle.thread_run.specs.Workers.{HasEnded}
 use Rattle.thread_run.specs.private.Rooms.{AreParts}
@@ -12,7 +13,7 @@ use Rattle.thread_run.proofs.Gathered.{run_with_pool}
 use Rattle.thread_run.proofs.whole.run_pooled.Goals as goal
 
 pub run_workers-requires-clause-no_events : goal.run_workers-requires-clause-no_events
-run_workers-requires-clause-no_events g c =
+run_workers-requires-clause-no_events g c κs within =
     all_of (λ r. StandsFor r []) c.in_ok-recorders.recorders.items (λ i r found. (c.in_ok-recorders.ensures.recorders i r found).no_events)
 
 pub returns-clause-run : goal.returns-clause-run
@@ -26,8 +27,9 @@ returns-clause-run g c =
       workers = has.workers;
       count = has.count ∙ c.in_ok-recorders.ensures.count ∙ ap (λ (s : Setup). s.threads) (sym c.requires.pool);
       ended = run_with_pool plan pool recorders has.workers c.in_ok-recorders.ensures.recorders has.count
-          (subst (λ (l : Limits). AreWorkersAt plan l (HasEnded StandsFor) has.workers) limits has.ended) has.followed;
+          (subst (λ (l : Limits). AreWorkersAt plan l (HasEnded StandsFor) has.workers) limits has.ended)
+          (subst (HaveChanged HasSameOwner recorders) has.recorders_are has.followed);
       cpus = has.cpus_are;
       seats = has.seats_are;
-      parts = subst (λ rs. AreParts rs c.take_apart.result) has.recorders_are c.take_apart.ensures;
+      parts = subst (λ rs. AreParts rs c.take_apart-parts.result) has.recorders_are c.take_apart-parts.ensures;
     }
