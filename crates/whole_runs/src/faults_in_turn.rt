@@ -47,7 +47,7 @@ const A: Input = (
 );
 
 /// The commands. Another command is another row.
-const COMMANDS: [Command; 14] = [
+const COMMANDS: [Command; 15] = [
     Command {
         words: "asm x o",
         inputs: &[X],
@@ -72,6 +72,11 @@ const COMMANDS: [Command; 14] = [
         words: "run i s t a --wall 0",
         inputs: &[I, S],
         outputs: &["t", "a"],
+    },
+    Command {
+        words: "profile i s",
+        inputs: &[I, S],
+        outputs: &[],
     },
     Command {
         words: "account t",

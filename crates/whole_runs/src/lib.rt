@@ -31,6 +31,8 @@ mod pieces;
 #[cfg(test)]
 mod plain;
 #[cfg(test)]
+mod profile;
+#[cfg(test)]
 mod run;
 #[cfg(test)]
 mod runs;
