@@ -112,7 +112,7 @@ fn run_profiled<'s, T: Threads + Wait + Sync, G: Gate + Sync>(
     requires threads { script.threads ≡ options.bounds.threads }
     requires options { AreProfileOptions options }
     ensures profiled { IfOk result (λ end.
-        HaveProfiled options steps.now script.entry end.cpus.items end.recorders.items) }
+        HaveProfiled options steps.now script end.cpus.items end.recorders.items) }
 {
     let threads = options.bounds.threads;
     let (table, mut seat) = CodeTable::new(alloc, steps.image(), script, threads)?;
