@@ -57,7 +57,10 @@ returns-in-Some-clause-finishes g c =
     let is : text ≡ _ = ap (λ (ts : List Traced). flat_map thread_text ts) c.deref-2.ensures.value ∙ threads_printed have.runs c.in_ok-end.end.cpus.items have.count have.cpus_are in
     let wrong : Some trouble ≡ trouble_of 1 (map (λ (t : Trie). t.state) c.deref.result.now) = c.trouble_of.ensures in
     finishes (comes_of s c.args.inputs) [] text (Some trouble) (seen c.args.desk.now) (seen c.deliver_states.new.desk) (got c.args.out.now)
-    (got c.deliver_states.new.out) (g.D.Desk.along c.args.desk.now c.deliver_states.new.desk) c.deliver_states.result
-    (have.runs, have.are, profile_fell s.options program have.runs text trouble is
-    (wrong ∙ ap (λ (ts : List Trie). trouble_of 1 (map (λ (t : Trie). t.state) ts)) c.deref.ensures.value ∙ ap (trouble_of 1) have.states))
+    (got c.deliver_states.new.out) (g.D.Desk.along c.args.desk.now c.deliver_states.new.desk) c.deliver_states.result (
+      have.runs,
+      have.are,
+      profile_fell s.options program have.runs text trouble is
+          (wrong ∙ ap (λ (ts : List Trie). trouble_of 1 (map (λ (t : Trie). t.state) ts)) c.deref.ensures.value ∙ ap (trouble_of 1) have.states),
+    )
     c.deliver_states.ensures.delivers

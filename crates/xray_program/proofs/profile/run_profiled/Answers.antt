@@ -8,6 +8,6 @@ returns g c = record {
   profiled =
       let end = c.in_ok-end.end in
       profiled c.args.options c.args.steps.now c.args.script c.profile_limits-limits.result c.in_ok-recorders.recorders.items end.cpus.items
-    (map (λ s. work_view s) end.seats.items) end.recorders.items c.requires.program c.requires.threads c.profile_limits-limits.ensures.options
-    c.in_ok-recorders.ensures.count c.in_ok-recorders.ensures.room c.in_ok-end.ensures.recorded;
+      (map (λ s. work_view s) end.seats.items) end.recorders.items c.requires.program c.requires.threads c.profile_limits-limits.ensures.options
+      c.in_ok-recorders.ensures.count c.in_ok-recorders.ensures.room c.in_ok-end.ensures.recorded;
 }
