@@ -41,9 +41,12 @@ returns-in_err-rows-in-None-clause-finishes g c =
     ((refl, refl), record { calls = []; way = g.met.D.Desk.along_none c.args.desk.now; are = refl })
 
 pub deliver_states-requires : goal.deliver_states-requires
-deliver_states-requires g c =
-    let have = c.in_ok-end.ensures.profiled in
-    subst (All (λ t. IsDone t.want)) (sym c.deref-in-Some.ensures.value) (threads_ended have.runs c.in_ok-end.end.cpus.items have.count have.cpus_are)
+deliver_states-requires g c = record {
+  done =
+      let have = c.in_ok-end.ensures.profiled in
+      subst (All (λ t. IsDone t.want)) (sym c.deref-in-Some.ensures.value)
+      (threads_ended have.runs c.in_ok-end.end.cpus.items have.count have.cpus_are);
+}
 
 pub returns-in-Some-clause-finishes : goal.returns-in-Some-clause-finishes
 returns-in-Some-clause-finishes g c =
@@ -57,7 +60,8 @@ returns-in-Some-clause-finishes g c =
     let trouble = words_text c.in-Some.trouble in
     let text = flat_map thread_text c.deref-in-Some.result.now in
     let is : text ≡ _ = ap (λ (ts : List Traced). flat_map thread_text ts) c.deref-in-Some.ensures.value ∙ threads_printed have.runs c.in_ok-end.end.cpus.items have.count have.cpus_are in
-    let wrong : Some trouble ≡ trouble_of 1 (map (λ (t : Trie). t.state) c.deref.result.now) = c.trouble_of.ensures in
+    let wrong : Some trouble ≡ trouble_of 1 (map (λ (t : Trie). t.state) c.deref.result.now) =
+    ap (option_map words_text) (sym c.in-Some.is) ∙ c.trouble_of.ensures in
     finishes (comes_of s c.args.inputs) [] text (Some trouble) (seen c.args.desk.now) (seen c.deliver_states.new.desk) (got c.args.out.now)
     (got c.deliver_states.new.out) (g.D.Desk.along c.args.desk.now c.deliver_states.new.desk) c.deliver_states.result
     (have.runs, have.are, profile_fell s.options program have.runs text trouble is
@@ -66,23 +70,24 @@ returns-in-Some-clause-finishes g c =
 
 pub merged-requires : goal.merged-requires
 merged-requires g c =
-    let none : None ≡ trouble_of 1 (map (λ (t : Trie). t.state) c.deref.result.now) = c.trouble_of.ensures in
+    let none : None ≡ trouble_of 1 (map (λ (t : Trie). t.state) c.deref.result.now) =
+    ap (option_map words_text) (sym c.in-None.is) ∙ c.trouble_of.ensures in
     all_live 1 c.deref-in-None.result.now
     (ap (λ (ts : List Trie). trouble_of 1 (map (λ (t : Trie). t.state) ts)) (c.deref-in-None.ensures.value ∙ sym c.deref.ensures.value) ∙ sym none)
 
 pub deliver_report-requires-clause-done : goal.deliver_report-requires-clause-done
 deliver_report-requires-clause-done g c =
     let have = c.in_ok-end.ensures.profiled in
-    subst (All (λ t. IsDone t.want)) (sym c.deref-2-in-None.ensures.value) (threads_ended have.runs c.in_ok-end.end.cpus.items have.count have.cpus_are)
+    subst (All (λ t. IsDone t.want)) (sym c.deref-in-None-2.ensures.value) (threads_ended have.runs c.in_ok-end.end.cpus.items have.count have.cpus_are)
 
 pub deliver_report-requires-clause-rows : goal.deliver_report-requires-clause-rows
 deliver_report-requires-clause-rows g c =
     let have = c.in_ok-end.ensures.profiled in
     let threads = map events_of have.runs in
     let stand = subst (λ (ts : List Trie). AllStandFor ts threads) (sym c.deref-in-None.ensures.value) have.stand in
-    let rows : map told c.deref-3-in-None.result.now ≡ stack_of_threads threads =
-    ap (map told) c.deref-3-in-None.ensures.value ∙ c.in_ok-rows-in-None.ensures threads stand in
-    subst AreStacks (sym rows) (c.stacks_of_threads_can_be_drawn-in-None.ensures threads)
+    let rows : map told c.deref-in-None-3.result.now ≡ stack_of_threads threads =
+    ap (map told) c.deref-in-None-3.ensures.value ∙ c.in_ok-rows-in-None.ensures threads stand in
+    subst AreStacks (sym rows) (c.stacks_of_threads_can_be_drawn.ensures threads)
 
 pub returns-clause-finishes : goal.returns-clause-finishes
 returns-clause-finishes g c =
@@ -95,18 +100,19 @@ returns-clause-finishes g c =
     subst (λ (p : Program). HaveProfiled s.options p c.args.inputs.script cpus c.in_ok-end.end.recorders.items) c.in_ok-steps.ensures.program
     c.in_ok-end.ensures.profiled in
     let threads = map events_of have.runs in
-    let states = flat_map thread_text c.deref-2-in-None.result.now in
+    let states = flat_map thread_text c.deref-in-None-2.result.now in
     let printed : states ≡ state_texts 1 have.runs =
-    ap (λ (ts : List Traced). flat_map thread_text ts) c.deref-2-in-None.ensures.value ∙ threads_printed have.runs cpus have.count have.cpus_are in
+    ap (λ (ts : List Traced). flat_map thread_text ts) c.deref-in-None-2.ensures.value ∙ threads_printed have.runs cpus have.count have.cpus_are in
     let stand = subst (λ (ts : List Trie). AllStandFor ts threads) (sym c.deref-in-None.ensures.value) have.stand in
-    let rows : map told c.deref-3-in-None.result.now ≡ stack_of_threads threads =
-    ap (map told) c.deref-3-in-None.ensures.value ∙ c.in_ok-rows-in-None.ensures threads stand in
+    let rows : map told c.deref-in-None-3.result.now ≡ stack_of_threads threads =
+    ap (map told) c.deref-in-None-3.ensures.value ∙ c.in_ok-rows-in-None.ensures threads stand in
     let shown : List PathRow → List ℕ = λ rs. rows_text s.options.format 0 (Some program) rs in
-    let text = states ++ shown (map told c.deref-3-in-None.result.now) in
+    let text = states ++ shown (map told c.deref-in-None-3.result.now) in
     let is : text ≡ state_texts 1 have.runs ++ shown (stack_of_threads threads) =
-    ap (λ (t : List ℕ). t ++ shown (map told c.deref-3-in-None.result.now)) printed
+    ap (λ (t : List ℕ). t ++ shown (map told c.deref-in-None-3.result.now)) printed
     ∙ ap (λ (rs : List PathRow). state_texts 1 have.runs ++ shown rs) rows in
-    let none : None ≡ trouble_of 1 (map (λ (t : Trie). t.state) c.deref.result.now) = c.trouble_of.ensures in
+    let none : None ≡ trouble_of 1 (map (λ (t : Trie). t.state) c.deref.result.now) =
+    ap (option_map words_text) (sym c.in-None.is) ∙ c.trouble_of.ensures in
     finishes (comes_of s c.args.inputs) [] text None (seen c.args.desk.now) (seen c.deliver_report.new.desk) (got c.args.out.now)
     (got c.deliver_report.new.out) (g.D.Desk.along c.args.desk.now c.deliver_report.new.desk) c.deliver_report.result
     (have.runs, have.are, profile_done s.options program have.runs text is
