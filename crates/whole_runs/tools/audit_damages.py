@@ -289,7 +289,7 @@ def later_event(draw, block):
     at = draw.randrange(len(events)) if events else 0
     if not events:
         raise Unfit
-    events[at] = dataclasses.replace(events[at], counter=(events[at].counter + 1) % (1 << 64))
+    events[at] = dataclasses.replace(events[at], tsc=(events[at].tsc + 1) % (1 << 64))
     return dataclasses.replace(block, events=events)
 
 

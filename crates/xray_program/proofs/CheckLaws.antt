@@ -31,14 +31,14 @@ SomeJudgement =
     → IsAccepted bytes program → MayState statement → (verdict : Verdict) × IsJudged program script statement trace verdict
 
 -- what comes of a script, of an audit, and of an image
-abbrev AfterScript : (List ℕ → Entry) → (t : List ℕ) → Program → Statement → Plan → Outcome → Type 0
+abbrev pub AfterScript : (List ℕ → Entry) → (t : List ℕ) → Program → Statement → Plan → Outcome → Type 0
 AfterScript held t program statement plan = Take unread_trace_form Sound held t (λ bytes. Judges program plan statement bytes)
 
-abbrev AfterAudit : (List ℕ → Entry) → (s t : List ℕ) → Program → Statement → Outcome → Type 0
+abbrev pub AfterAudit : (List ℕ → Entry) → (s t : List ℕ) → Program → Statement → Outcome → Type 0
 AfterAudit held s t program statement =
     Take (script_form program statement.setup.threads) Sound held s (λ plan. AfterScript held t program statement plan)
 
-abbrev AfterImage : (List ℕ → Entry) → (s t a : List ℕ) → Program → Outcome → Type 0
+abbrev pub AfterImage : (List ℕ → Entry) → (s t a : List ℕ) → Program → Outcome → Type 0
 AfterImage held s t a program = Take audit_form Sound held a (λ statement. AfterAudit held s t program statement)
 
 -- ---- one thing

@@ -1,7 +1,7 @@
 -- What `sim` and `run` leave is accepted by `check`.
 use Rattle.std.proofs.Common.{◌≡◌, ◌≤◌, ◌∙◌, ℕ, List, [], ◌∷◌, length, Option, Some, None, Ok, option_map, inl, inr, refl, sym, ap, subst, arith, codes}
 use Rattle.audit_check.specs.declared.verdict.Verdict.TheVariants.{Yes}
-use Rattle.audit_check.specs.Statements.{MayState, run_statement, text_of}
+use Rattle.audit_check.specs.Statements.{MayState, Statement, run_statement, text_of}
 use Rattle.audit_check.specs.Texts.{verdict_text}
 use Rattle.audit_check.specs.Verdicts.{IsJudged}
 use Rattle.command_words.specs.Limits.{trace_limit}
@@ -23,12 +23,14 @@ use Rattle.traced_run.specs.Runs.{IsRun, ThreadRun}
 use Rattle.xray_image.specs.Program.{IsAccepted, Program}
 use Rattle.xray_io.specs.Desk.{Entry, Holds}
 use Rattle.xray_program.specs.Check.{CheckComes, Judges}
-use Rattle.xray_program.specs.Inputs.{audit_limit, image_form, schedule_form, script_form}
+use Rattle.xray_program.specs.Inputs.{audit_form, audit_limit, image_form, schedule_form, script_form, unread_trace_form}
 use Rattle.xray_program.specs.Outcomes.{Outcome, Done, Refused, TooLong, Unread}
-use Rattle.xray_program.specs.Run.{FollowsPlan, RunComes}
-use Rattle.xray_program.specs.Sim.{Replayed, SimComes}
+use Rattle.xray_program.specs.Run.{FollowsPlan, RunComes, RunsBeside}
+use Rattle.xray_program.specs.Sim.{Replayed, Replays, SimComes}
 use Rattle.xray_program.specs.Taking.{Form, IsAcceptedAs, Leaves, MayHold, RefuseIf, Sound, Take}
 use Rattle.xray_program.specs.Traced.{Traces, written_of}
+use Rattle.xray_program.proofs.AuditLengths.{statement_short}
+use Rattle.xray_program.proofs.CheckLaws.{AfterAudit, AfterImage, AfterScript}
 
 -- what the crates below say
 pub record YesLaws : Type 0 where
@@ -97,8 +99,9 @@ holding form entry bytes value held within reads = record {
 -- the outputs are what they are called
 outputs_same : (t a x y p q : List ℕ) → ◌≡◌ {A = List (List ℕ × List ℕ)} ((t, x) ∷ (a, y) ∷ []) ((t, p) ∷ (a, q) ∷ []) → (x ≡ p) × (y ≡ q)
 outputs_same t a x y p q e =
-    let first : x ≡ p = cc in
-    let second : y ≡ q = cc in (first, second)
+    let one : ◌≡◌ {A = List ℕ × List ℕ} (t, x) (t, p) = cc in
+    let two : ◌≡◌ {A = List ℕ × List ℕ} (a, y) (a, q) = cc in
+    (ap (λ (o : List ℕ × List ℕ). o.1) one, ap (λ (o : List ℕ × List ℕ). o.1) two)
 
 -- ---- lawful runs
 
@@ -107,23 +110,27 @@ module _ (laws : YesLaws) (held : List ℕ → Entry) (i s t a : List ℕ) (setu
   pub judged_yes : (program : Program) (plan : Plan) (runs : List ThreadRun) → IsAcceptedAs image_form (held i) program
       → IsAcceptedAs (script_form program setup.threads) (held s) plan → IsRun program setup runs
       → AllMarksFollow program setup.threads (commands_of plan.lines) runs → AreLost setup.size (spare_of setup) runs
-      → held t ≡ Holds (trace_bytes setup runs) → held a ≡ Holds (audit_of_run setup runs) → length (audit_of_run setup runs) ≤ audit_limit
+      → held t ≡ Holds (trace_bytes setup runs) → held a ≡ Holds (audit_of_run setup runs)
       → CheckComes Sound held i s t a (Done [] (verdict_text Yes))
-  judged_yes program plan runs image script run follow lost trace audit few =
+  judged_yes program plan runs image script run follow lost trace audit =
       let read = laws.read program (commands_of plan.lines) setup runs is_setup run follow lost in
+      let few : length (audit_of_run setup runs) ≤ audit_limit =
+      subst (λ (b : List ℕ). length b ≤ audit_limit) (sym read.1) (statement_short (run_statement setup runs) read.0) in
       let judges : Judges program plan (run_statement setup runs) (trace_bytes setup runs) (Done [] (verdict_text Yes)) =
       record { verdict = Yes; judged = laws.yes program (commands_of plan.lines) setup runs run follow lost; outcome_is = refl } in
-      again image_form held i _ program (Done [] (verdict_text Yes)) image
-      (again _ held a _ (run_statement setup runs) (Done [] (verdict_text Yes)) (holding _ (held a) (audit_of_run setup runs) (run_statement setup runs) audit few read)
-      (again _ held s _ plan (Done [] (verdict_text Yes)) script
-      (again _ held t _ (trace_bytes setup runs) (Done [] (verdict_text Yes))
-      (holding _ (held t) (trace_bytes setup runs) (trace_bytes setup runs) trace (laws.short image.bytes program setup runs image.reads is_setup run lost) refl) judges)))
+      let yes : Outcome = Done [] (verdict_text Yes) in
+      let statement : Statement = run_statement setup runs in
+      again image_form held i (AfterImage held s t a) program yes image
+      (again audit_form held a (AfterAudit held s t program) statement yes (holding audit_form (held a) (audit_of_run setup runs) statement audit few read)
+      (again (script_form program setup.threads) held s (AfterScript held t program statement) plan yes script
+      (again unread_trace_form held t (λ bytes. Judges program plan statement bytes) (trace_bytes setup runs) yes
+      (holding unread_trace_form (held t) (trace_bytes setup runs) (trace_bytes setup runs) trace
+      (laws.short image.bytes program setup runs image.reads is_setup run lost) refl) judges)))
 
 -- ---- of a command
 
 module _ (laws : YesLaws) (held after : List ℕ → Entry) (i s t a : List ℕ) (setup : Setup) (is_setup : IsSetup setup) (trace audit text : List ℕ)
-    (image_held : after i ≡ held i) (script_held : after s ≡ held s) (trace_held : after t ≡ Holds trace) (audit_held : after a ≡ Holds audit)
-    (few : length audit ≤ audit_limit) where
+    (image_held : after i ≡ held i) (script_held : after s ≡ held s) (trace_held : after t ≡ Holds trace) (audit_held : after a ≡ Holds audit) where
   abbrev left : List (List ℕ × List ℕ)
   left = (t, trace) ∷ (a, audit) ∷ []
 
@@ -135,28 +142,46 @@ module _ (laws : YesLaws) (held after : List ℕ → Entry) (i s t a : List ℕ)
       let same = outputs_same t a trace audit (trace_bytes setup runs) (audit_of_run setup runs) is in
       judged_yes laws after i s t a setup is_setup program plan runs (subst (λ (e : Entry). IsAcceptedAs image_form e program) (sym image_held) image)
       (subst (λ (e : Entry). IsAcceptedAs (script_form program setup.threads) e plan) (sym script_held) script) run follow lost
-      (trace_held ∙ ap Holds same.0) (audit_held ∙ ap Holds same.1) (subst (λ (b : List ℕ). length b ≤ audit_limit) same.1 few)
+      (trace_held ∙ ap Holds same.0) (audit_held ∙ ap Holds same.1)
 
   pub yes_of_run : RunComes Sound held i s t a setup (Done left text) → CheckComes Sound after i s t a (Done [] (verdict_text Yes))
   yes_of_run comes =
-      let (program, image, rest) = taken image_form held i _ left text comes in
-      let (plan, script, (outputs, own, traces, is)) = taken (script_form program setup.threads) held s _ left text rest in
+      let one = taken image_form held i
+      (λ program. Take (script_form program setup.threads) Sound held s (λ plan. RunsBeside t a setup program plan)) left text comes in
+      let program : Program = one.0 in
+      let image = one.1 in
+      let two = taken (script_form program setup.threads) held s (λ plan. RunsBeside t a setup program plan) left text one.2 in
+      let plan : Plan = two.0 in
+      let script = two.1 in
+      let traces : Traces (FollowsPlan setup program plan) program setup t a two.2.0 two.2.1 = two.2.2 in
       yes_of_runs program plan traces.runs image script traces.run traces.lawful.follow traces.lawful.losses
-      (same_outputs left outputs text own is ∙ traces.outputs_are)
+      (same_outputs left two.2.0 text two.2.1 two.2.3 ∙ traces.outputs_are)
     where
       same_outputs : (x y : List (List ℕ × List ℕ)) (u v : List ℕ) → Done x u ≡ Done y v → x ≡ y
       same_outputs x y u v e = cc
 
   pub yes_of_sim : ReplayLaws → (c : List ℕ) → SimComes Sound held i s c t a setup (Done left text) → CheckComes Sound after i s t a (Done [] (verdict_text Yes))
   yes_of_sim replays c comes =
-      let (program, image, rest) = taken image_form held i _ left text comes in
-      let (plan, script, later) = taken (script_form program setup.threads) held s _ left text rest in
-      let (turns, schedule, last) = taken (schedule_form setup.threads) held c _ left text later in
-      let (still, (outputs, own, traces, is)) = unrefused (waiting_line plan.lines) s (codes "script") _ left text last in
+      let one = taken image_form held i
+      (λ program. Take (script_form program setup.threads) Sound held s
+      (λ plan. Take (schedule_form setup.threads) Sound held c (λ turns. Replays s t a setup program plan turns))) left text comes in
+      let program : Program = one.0 in
+      let image = one.1 in
+      let two = taken (script_form program setup.threads) held s
+      (λ plan. Take (schedule_form setup.threads) Sound held c (λ turns. Replays s t a setup program plan turns)) left text one.2 in
+      let plan : Plan = two.0 in
+      let script = two.1 in
+      let three = taken (schedule_form setup.threads) held c (λ turns. Replays s t a setup program plan turns) left text two.2 in
+      let turns : List Turns = three.0 in
+      let schedule = three.1 in
+      let four = unrefused (waiting_line plan.lines) s (codes "script") (Leaves (Traces (Replayed program plan turns setup) program setup t a)) left text
+      three.2 in
+      let still = four.0 in
+      let traces : Traces (Replayed program plan turns setup) program setup t a four.1.0 four.1.1 = four.1.2 in
       yes_of_runs program plan traces.runs image script traces.run
       (replays.follow program plan.lines schedule.bytes turns setup traces.runs schedule.reads still traces.lawful)
       (replays.few program (commands_of plan.lines) schedule.bytes turns setup traces.runs schedule.reads traces.lawful)
-      (same_outputs left outputs text own is ∙ traces.outputs_are)
+      (same_outputs left four.1.0 text four.1.1 four.1.3 ∙ traces.outputs_are)
     where
       same_outputs : (x y : List (List ℕ × List ℕ)) (u v : List ℕ) → Done x u ≡ Done y v → x ≡ y
       same_outputs x y u v e = cc

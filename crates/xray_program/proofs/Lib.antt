@@ -2,6 +2,7 @@ pub mod AcceptedInputs
 pub mod AccountLaws
 pub mod Answering
 pub mod AsmLaws
+pub mod AuditLengths
 pub mod Audits
 pub mod CheckLaws
 pub mod CheckTurns

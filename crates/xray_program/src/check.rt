@@ -40,9 +40,10 @@ impl<'a> Work<'a> for Check<'a> {
     fn take<D: Desk>(&self, alloc: Global, desk: &mut D) -> Result<CheckInputs, Stop<'a>> {
         let image = take(alloc, desk, self.image, &ImageKind)?;
         let audit = take(alloc, desk, self.audit, &AuditKind)?;
+        let threads = audit.threads();
         let kind = ScriptKind {
             image: &image,
-            threads: audit.audit.setup.threads,
+            threads,
         };
         let script = take(alloc, desk, self.script, &kind)?;
         let trace = take_bytes(alloc, desk, self.trace, TRACE_LIMIT)?;
@@ -61,8 +62,8 @@ impl<'a> Work<'a> for Check<'a> {
         desk: &mut D,
         out: &mut O,
     ) -> Result<(), Stop<'a>> {
-        let audit = &inputs.audit.audit;
-        let trace = &inputs.trace.bytes;
+        let audit = inputs.audit.audit();
+        let trace = inputs.trace.bytes();
         let verdict = check_audit(alloc, &inputs.image, &inputs.script, audit, trace)?;
         deliver(desk, out, &NoOutputs, &verdict, None)
     }

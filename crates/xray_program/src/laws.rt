@@ -1,5 +1,5 @@
 //! Laws of what the program means. Each law is the contract of a function that does nothing.
-ghost use Rattle.std.specs.Prelude.{◌≡◌, ◌≢◌, ◌<◌, ◌≤◌, ◌⊎◌, ◌∷◌, [], ℕ, List, Option, None, Some, All, IsPermutation, length, map};
+ghost use Rattle.std.specs.Prelude.{◌≡◌, ◌≢◌, ◌<◌, ◌⊎◌, ◌∷◌, [], ℕ, List, Option, None, Some, All, IsPermutation, map};
 ghost use Rattle.audit_check.specs.Texts.{verdict_text};
 ghost use Rattle.audit_check.specs.declared.verdict.Verdict.TheVariants.{Yes};
 ghost use Rattle.command_words.specs.Files.{inputs_in, names_of, row_of};
@@ -17,7 +17,6 @@ ghost use Rattle.xray_program.specs.Traced.{IsReported};
 ghost use Rattle.command_words.specs.Ranges.{AreRunOptions};
 ghost use Rattle.command_words.specs.Words.{Check, Command, Run, Sim};
 ghost use Rattle.command_words.specs.declared.run_options.RunOptions.{RunOptions};
-ghost use Rattle.xray_program.specs.Inputs.{audit_limit};
 ghost use Rattle.fdr_file.specs.declared.trace.Trace.{Trace};
 ghost use Rattle.flame_graph.specs.Laws.{LowestAddUp, NoneSticksOut};
 ghost use Rattle.stack_rebuild.specs.Stacks.{stack_of};
@@ -125,17 +124,16 @@ pub fn reports_take_a_run()
 }
 
 /// What `sim` and `run` leave is accepted. If a desk holds the trace and the audit that one of them means
-/// to leave, beside the same image and the same script, then `check` of these four means `yes`. The audit
-/// has to be within its limit.
+/// to leave, beside the same image and the same script, then `check` of these four means `yes`.
 pub fn what_is_left_is_accepted()
     ensures sim { (held after : List ℕ → Entry) (i s c t a : List ℕ) (options : RunOptions) (trace audit text : List ℕ)
         → AreRunOptions options → Means (Some (Sim i s c t a options)) held (Done ((t, trace) ∷ (a, audit) ∷ []) text)
         → after i ≡ held i → after s ≡ held s → after t ≡ Holds trace → after a ≡ Holds audit
-        → length audit ≤ audit_limit → Means (Some (Check i s t a)) after (Done [] (verdict_text Yes)) }
+        → Means (Some (Check i s t a)) after (Done [] (verdict_text Yes)) }
     ensures run { (held after : List ℕ → Entry) (i s t a : List ℕ) (options : RunOptions) (trace audit text : List ℕ)
         → AreRunOptions options → Means (Some (Run i s t a options)) held (Done ((t, trace) ∷ (a, audit) ∷ []) text)
         → after i ≡ held i → after s ≡ held s → after t ≡ Holds trace → after a ≡ Holds audit
-        → length audit ≤ audit_limit → Means (Some (Check i s t a)) after (Done [] (verdict_text Yes)) }
+        → Means (Some (Check i s t a)) after (Done [] (verdict_text Yes)) }
 {
     a_lawful_run_is_accepted();
     a_trace_is_short();

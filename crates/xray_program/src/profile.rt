@@ -164,9 +164,7 @@ fn run_profiled<'s, T: Threads + Wait + Sync, G: Gate + Sync>(
     run_prefix(&table, &mut seat);
     let recorders = new_recorders(alloc, threads, options.nodes)?;
     let limits = profile_limits(options);
-    let end = run_recorded(
-        rt, alloc, steps, &table, &mut seat, limits, recorders, gate,
-    )?;
+    let end = run_recorded(rt, alloc, steps, &table, &mut seat, limits, recorders, gate)?;
     Ok(end)
 }
 

@@ -63,9 +63,12 @@ returns-in-Some-clause-finishes g c =
     let wrong : Some trouble ≡ trouble_of 1 (map (λ (t : Trie). t.state) c.deref.result.now) =
     ap (option_map words_text) (sym c.in-Some.is) ∙ c.trouble_of.ensures in
     finishes (comes_of s c.args.inputs) [] text (Some trouble) (seen c.args.desk.now) (seen c.deliver_states.new.desk) (got c.args.out.now)
-    (got c.deliver_states.new.out) (g.D.Desk.along c.args.desk.now c.deliver_states.new.desk) c.deliver_states.result
-    (have.runs, have.are, profile_fell s.options program have.runs text trouble is
-    (wrong ∙ ap (λ (ts : List Trie). trouble_of 1 (map (λ (t : Trie). t.state) ts)) c.deref.ensures.value ∙ ap (trouble_of 1) have.states))
+    (got c.deliver_states.new.out) (g.D.Desk.along c.args.desk.now c.deliver_states.new.desk) c.deliver_states.result (
+      have.runs,
+      have.are,
+      profile_fell s.options program have.runs text trouble is
+          (wrong ∙ ap (λ (ts : List Trie). trouble_of 1 (map (λ (t : Trie). t.state) ts)) c.deref.ensures.value ∙ ap (trouble_of 1) have.states),
+    )
     c.deliver_states.ensures.delivers
 
 pub merged-requires : goal.merged-requires
