@@ -99,7 +99,7 @@ pub recorders_few : (options : ProfileOptions) (program : Program) (plan : Plan)
 recorders_few options program plan cpus tries have ranges =
     let threads = map events_of have.runs in
     let count = sym (length-map tries (λ (trie : Trie). trie.state)) ∙ ap length have.states ∙ length-map threads (state_after options.nodes)
-        ∙ length-map have.runs events_of ∙ have.are.count in
+    ∙ length-map have.runs events_of ∙ have.are.count in
     omega (arith, count, ranges.bounds.threads.1)
 
 -- ---- what went wrong

@@ -114,7 +114,10 @@ returns-clause-finishes g c =
     ∙ ap (λ (rs : List PathRow). state_texts 1 have.runs ++ shown rs) rows in
     let none : None ≡ trouble_of 1 (map (λ (t : Trie). t.state) c.deref.result.now) = ap (option_map words_text) (sym c.in-None.is) ∙ c.trouble_of.ensures in
     finishes (comes_of s c.args.inputs) [] text None (seen c.args.desk.now) (seen c.deliver_report.new.desk) (got c.args.out.now)
-    (got c.deliver_report.new.out) (g.D.Desk.along c.args.desk.now c.deliver_report.new.desk) c.deliver_report.result
-    (have.runs, have.are, profile_done s.options program have.runs text is
-    (none ∙ ap (λ (ts : List Trie). trouble_of 1 (map (λ (t : Trie). t.state) ts)) c.deref.ensures.value ∙ ap (trouble_of 1) have.states))
+    (got c.deliver_report.new.out) (g.D.Desk.along c.args.desk.now c.deliver_report.new.desk) c.deliver_report.result (
+      have.runs,
+      have.are,
+      profile_done s.options program have.runs text is
+          (none ∙ ap (λ (ts : List Trie). trouble_of 1 (map (λ (t : Trie). t.state) ts)) c.deref.ensures.value ∙ ap (trouble_of 1) have.states),
+    )
     c.deliver_report.ensures.delivers
