@@ -72,6 +72,10 @@ COMMANDS = [
     ["stack", "trace", "--format=flame"],
     ["stack", "trace", "--format=svg"],
     ["convert", "trace", "image"],
+    ["convert", "trace", "--format=trace-event"],
+    ["convert", "trace", "--format=basic"],
+    ["convert", "trace", "--input=basic"],
+    ["fdr-dump", "trace"],
     ["check", "image", "script", "trace", "audit"],
 ]
 LIMITS = {

@@ -3,7 +3,7 @@
 
 usage: crates/whole_runs/tools/further_forms.py [PROGRAM] [--traces N] [--seed N] [--llvm-xray NAME]
     PROGRAM: the built program, crates/xray/out/xray if left out
-    --traces: how many random traces, 1000 if left out
+    --traces: how many random traces, 1700 if left out, of which more than 1000 have trace events
     --seed: the seed of everything random, 1 if left out
     --llvm-xray: LLVM's program, llvm-xray-14 if left out; without it only the others are compared
 
@@ -175,7 +175,7 @@ def check_basic(draw, program, log, llvm_xray, counted):
 def arguments():
     parser = argparse.ArgumentParser(description="Compares the further forms of traces with a model, with json and with llvm-xray.")
     parser.add_argument("program", nargs="?", type=pathlib.Path, default=ROOT / "crates/xray/out/xray", metavar="PROGRAM")
-    parser.add_argument("--traces", type=int, default=1000, metavar="N")
+    parser.add_argument("--traces", type=int, default=1700, metavar="N")
     parser.add_argument("--seed", type=int, default=1, metavar="N")
     parser.add_argument("--llvm-xray", default="llvm-xray-14", metavar="NAME")
     return parser.parse_args()

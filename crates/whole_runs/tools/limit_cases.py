@@ -1,5 +1,6 @@
 """Runs of `xray` at a limit, or one past it: of images, scripts, schedules, traces, audits, options and what threads make."""
 import check_model
+import forms_model
 import image_model
 import machine_model
 import replay_model
@@ -186,14 +187,25 @@ def full_trace_file(past):
     return Case([b"account", b"t"], {b"t": header.ljust(model.TRACE_LIMIT + past, b"\1")})
 
 
-def open_calls(count):
+def open_calls(count, more=0):
+    """Threads 1 and 0, with one call less than this and with this many, and more in thread 0."""
     event = trace_model.Event(0, 1, trace_model.ENTRY, 5)
-    blocks = [trace_model.Block(thread, (0, 0), 1, [event] * (count - thread)) for thread in (1, 0)]
+    blocks = [trace_model.Block(thread, (0, 0), 1, [event] * (count - thread + (more if thread == 0 else 0))) for thread in (1, 0)]
     return trace_model.file_bytes(trace_model.Trace(trace_model.Header(0, 88), blocks))
 
 
 def deepest_calls(past):
     return Case([b"stack", b"t", b"--format=flame"], {b"t": open_calls(4096 + past)})
+
+
+def most_trace_events(past):
+    return Case([b"convert", b"t", b"--format=trace-event"], {b"t": open_calls(forms_model.MOST_EVENTS // 2, 1 + past)})
+
+
+def last_basic_cpu(past):
+    event = trace_model.Event(forms_model.MOST_BYTE + past, 1, trace_model.ENTRY, 5)
+    trace = trace_model.Trace(trace_model.Header(0, 88), [trace_model.Block(1, (0, 0), 1, [event])])
+    return Case([b"convert", b"t", b"--format=basic"], {b"t": trace_model.file_bytes(trace)})
 
 
 def most_rows(past):
@@ -246,7 +258,7 @@ LIMITS = [
 ]  # fmt: skip
 TRACE_LIMITS = [
     least_buffer_size, largest_buffer_size, largest_trace, a_buffer_each, full_buffer_list, latest_wall, last_counter, last_cpu,
-    last_pid, full_trace_file, deepest_calls, most_rows, largest_seed,
+    last_pid, full_trace_file, deepest_calls, most_rows, most_trace_events, last_basic_cpu, largest_seed,
 ]  # fmt: skip
 CHECK_LIMITS = [full_audit, full_mark_list, full_mark_runs, largest_count, largest_recycled_count]
 

@@ -4,9 +4,11 @@ import dataclasses
 import image_model
 import xray_model
 from audit_damages import DAMAGES, Left, Unfit
+from forms_model import basic_bytes
 from random_images import assembled_draft, calling_draft, random_image, texts, units_draft
 from random_scripts import live_script, random_schedule, random_script
-from random_traces import random_trace
+from random_traces import other_file, random_trace
+from trace_model import trace_of
 
 
 @dataclasses.dataclass
@@ -66,7 +68,7 @@ REPORT_VALUES = {
     "format": ["text", "csv"],
 }
 FORMATS = {
-    "account": ["text", "csv"], "stack": ["human", "flame", "svg"], "convert": ["yaml"], "profile": ["human", "flame"],
+    "account": ["text", "csv"], "stack": ["human", "flame", "svg"], "convert": ["yaml", "trace-event", "basic"], "profile": ["human", "flame"],
 }
 WRONG_REPORT_WORDS = [
     "--sort=func", "--sort", "--sort=", "--sort=Count", "--sortorder=dsc", "--sortorder=ascending", "--top=-1",
@@ -134,6 +136,8 @@ def report_options(draw, command):
             if draw.random() < 0.5:
                 value = draw.choice(REPORT_VALUES[name])
                 options.append(option(draw, name, spelled(draw, value) if name == "top" else value))
+    if command == "convert" and draw.random() < 0.4:
+        options.append(option(draw, "input", draw.choice(["fdr", "basic", "basic"])))
     if draw.random() < 0.04:
         options.append([draw.choice(WRONG_REPORT_WORDS)])
     return options
@@ -223,6 +227,16 @@ def id_count(file):
         return 1
 
 
+def random_log(draw):
+    """The basic log of a random trace, perhaps damaged, or the trace if it has none."""
+    content = random_trace(draw, damaged_share=0)
+    try:
+        log = basic_bytes(trace_of(content))
+    except image_model.Refused:
+        return content
+    return other_file(draw, log) if draw.random() < 0.5 else log
+
+
 def random_contents(draw, command, threads):
     """The bytes of a command's inputs, in order."""
     match command:
@@ -238,7 +252,9 @@ def random_contents(draw, command, threads):
             return check_contents(draw, threads)
         case "account" | "stack" | "convert":
             images = [random_image(draw, KINDS["names"], 0.2)] if draw.random() < 0.4 else []
-            return [random_trace(draw), *images]
+            return [random_log(draw) if command == "convert" and draw.random() < 0.3 else random_trace(draw), *images]
+        case "fdr-dump":
+            return [random_trace(draw)]
     return [random_image(draw, KINDS[command], 0.6)]
 
 

@@ -20,6 +20,7 @@ NAMES = {
     "account": [b"t", b"i"],
     "stack": [b"t", b"i"],
     "convert": [b"t", b"i"],
+    "fdr-dump": [b"t"],
     "check": [b"i", b"s", b"t", b"a"],
     "soak": [b"1"],
     "profile": [b"i", b"s"],
@@ -49,6 +50,8 @@ def value(draw, values):
         return draw.choice(WRONG)
     if isinstance(values, model.Choice):
         return draw.choice(values.words).encode()
+    if isinstance(values, model.OneOf):
+        return random_cases.spelled(draw, draw.choice([*values.numbers, max(values.numbers) + 1])).encode()
     inside = [values.least, values.most, values.default or 0, draw.randint(values.least, min(values.most, 2000))]
     number = draw.choice([values.least - 1, values.most + 1]) if draw.random() < 0.03 else draw.choice(inside)
     return random_cases.spelled(draw, max(number, 0)).encode()

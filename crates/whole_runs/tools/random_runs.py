@@ -273,7 +273,7 @@ def judged(xray, folder, case, forms):
         refused, checks = checked(xray, folder, case, forms, trace, audit)
         differs += refused
         recycled = int(audit.split()[-1])
-    printed = [line.split() for line in expects.output.decode().splitlines()]
+    printed = [line.split() for line in expects.output.decode("ascii", errors="replace").splitlines()]
     ends = [words[2] for words in printed if words[:1] == ["thread"]]
     marks = [(run[0], int(run[1:])) for words in printed if words[:1] == ["marks"] for run in words[1:] if run != "-"]
     return Result(answer_of(expects), differs, ends, marks, reports, checks, recycled)

@@ -133,6 +133,18 @@ YAML_HEAD = "--- / header: /   version: 3 /   type: 1 /   constant-tsc: true /  
 YAML_ITEM = "  - {{ type: 0, func-id: 1, function: 'main', cpu: 0, thread: 1, process: 1, kind: function-{}, tsc: {} }}"
 STRAIGHT_YAML = f"{YAML_HEAD} / records: / {YAML_ITEM.format('enter', 0)} / {YAML_ITEM.format('exit', 2)} / ..."
 
+EVENTS_OF_ONE = (
+    '{"traceEvents":[{"cpu":0,"name":"main","ph":"B","pid":1,"tid":1,"ts":0},'
+    '{"cpu":0,"name":"main","ph":"E","pid":1,"tid":1,"ts":2}]}'
+)
+
+# The same call in a basic log.
+STRAIGHT_LOG = bytes.fromhex(f"""
+    03 00 00 00 03 00 00 00 {'00' * 24}
+    00 00 00 00 01 00 00 00 00 00 00 00 00 00 00 00 01 00 00 00 01 00 00 00 {'00' * 8}
+    00 00 00 01 01 00 00 00 02 00 00 00 00 00 00 00 01 00 00 00 01 00 00 00 {'00' * 8}
+""")
+
 # The same call in a trace of version 2, whose blocks name no process.
 HEADER_2 = header(version="02")
 STRAIGHT_TRACE_2 = HEADER_2 + bytes.fromhex(f"""
@@ -333,6 +345,22 @@ REPORTS = [
                  refused("convert t", f"t: trace Short {0 if size < 32 else 32}"))
         for size in range(len(STRAIGHT_TRACE_2)) if size != 32
     ),
+    reported(
+        "one call in further forms",
+        STRAIGHT_TRACE,
+        Run("convert t i --format trace-event", EVENTS_OF_ONE),
+        Run("fdr-dump t", "0 header version 3 type 1 / 32 extents 80 / 48 new-buffer 1 / 64 wall-time 0.0 / 80 pid 1 / "
+            "96 new-cpu 0 0 / 112 function enter 1 delta 0 / 120 function exit 1 delta 2 / end 128"),
+    ),
+    reported(
+        "a basic log",
+        STRAIGHT_LOG,
+        Run("convert t i --input basic", STRAIGHT_YAML),
+        Run("convert t i --input basic --format trace-event", EVENTS_OF_ONE),
+        refused("convert t", "t: trace Form 0"),
+    ),
+    reported("a basic log that is cut", STRAIGHT_LOG[:95], refused("convert t --input basic", "t: trace Short 64")),
+    reported("a dump of 100 bytes", STRAIGHT_TRACE[:100], Run("fdr-dump t", "0 header version 3 type 1 / stop 32 Short 32")),
     reported(
         "a trace of version 2 names no process",
         STRAIGHT_TRACE_2,

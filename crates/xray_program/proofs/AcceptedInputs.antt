@@ -15,7 +15,7 @@ use Rattle.asm_text.specs.FaultWords.{asm_words}
 use Rattle.patch_script.specs.FaultWords.{script_words}
 use Rattle.patch_script.specs.Plans.{Plan, plan_of, waiting_line}
 use Rattle.stack_rebuild.specs.FaultWords.{deep_words}
-use Rattle.stack_rebuild.specs.Stacks.{deep_in, most_open, stack_of}
+use Rattle.stack_rebuild.specs.Stacks.{deep_in, most_open}
 use Rattle.step_sim.specs.FaultWords.{schedule_words, waits_words}
 use Rattle.step_sim.specs.Schedules.{schedule_of}
 use Rattle.step_sim.specs.declared.turns.Turns.{Turns}

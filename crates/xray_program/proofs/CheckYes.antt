@@ -1,5 +1,5 @@
 -- What `sim` and `run` leave is accepted by `check`.
-use Rattle.std.proofs.Common.{◌≡◌, ◌≤◌, ◌∙◌, ℕ, List, [], ◌∷◌, length, Option, Some, None, Ok, option_map, inl, inr, refl, sym, ap, subst, arith, codes}
+use Rattle.std.proofs.Common.{◌≡◌, ◌≤◌, ◌∙◌, ℕ, List, [], ◌∷◌, length, Option, Some, None, Ok, option_map, inl, inr, refl, sym, ap, subst, codes}
 use Rattle.audit_check.specs.declared.verdict.Verdict.TheVariants.{Yes}
 use Rattle.audit_check.specs.Statements.{MayState, Statement, run_statement, text_of}
 use Rattle.audit_check.specs.Texts.{verdict_text}
@@ -9,7 +9,7 @@ use Rattle.machine_step.specs.Buffers.{spare_of}
 use Rattle.machine_step.specs.declared.setup.Setup.{Setup}
 use Rattle.machine_step.specs.Setups.{IsSetup}
 use Rattle.patch_script.specs.declared.command.Command.{Command}
-use Rattle.patch_script.specs.Plans.{Plan, plan_of, waiting_line}
+use Rattle.patch_script.specs.Plans.{Plan, waiting_line}
 use Rattle.patch_script.specs.Refusals.{Lines, commands_of}
 use Rattle.step_sim.specs.declared.turns.Turns.{Turns}
 use Rattle.step_sim.specs.FaultWords.{waits_words}

@@ -1,6 +1,6 @@
 -- What words mean: only one thing if they are decided, a refusal and nothing else, and something in any case. Each
 -- command has a line.
-use Rattle.std.proofs.Common.{◌≡◌, ◌∙◌, ℕ, List, [], ◌∷◌, map, Option, Some, None, true, arith, codes, refl, subst, sym}
+use Rattle.std.proofs.Common.{◌≡◌, ◌∙◌, ℕ, List, [], ◌∷◌, map, Option, Some, None, true, codes, refl, sym}
 use Rattle.std.specs.Prelude.{IsPermutation}
 use Rattle.std.proofs.lemmas.List.Sorted.{IsPermutation-cons, IsPermutation-refl, IsPermutation-to_front}
 use Rattle.command_words.specs.Files.{AreOfTheirRows, inputs_in, names_of, row_of}

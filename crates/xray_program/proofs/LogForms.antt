@@ -1,5 +1,5 @@
 -- The forms of a log: a trace, or a basic log.
-use Rattle.std.proofs.Common.{◌≡◌, ℕ, List, codes, refl}
+use Rattle.std.proofs.Common.{◌≡◌, codes, refl}
 use Rattle.command_words.specs.Limits.{trace_limit}
 use Rattle.command_words.specs.declared.report_options.InputForm.{InputForm}
 use Rattle.command_words.specs.declared.report_options.InputForm.TheVariants.{Fdr, Basic}

@@ -3,12 +3,12 @@ use Rattle.std.proofs.Common.{◌≡◌, ℕ, List, Option, Some, None, refl, co
 use Rattle.command_words.specs.declared.profile_options.ProfileOptions.{ProfileOptions}
 use Rattle.machine_step.specs.declared.setup.Setup.{Setup}
 use Rattle.patch_script.specs.FaultWords.{script_words}
-use Rattle.patch_script.specs.Plans.{Plan, plan_of}
+use Rattle.patch_script.specs.Plans.{plan_of}
 use Rattle.xray_image.specs.Program.{Program}
 use Rattle.xray_io.specs.Desk.{Entry}
 use Rattle.xray_program.specs.Commands.{TellsAll}
 use Rattle.xray_program.specs.Inputs.{image_form, script_form, script_limit}
-use Rattle.xray_program.specs.Outcomes.{Outcome, written_by}
+use Rattle.xray_program.specs.Outcomes.{Outcome}
 use Rattle.xray_program.specs.Profile.{ProfileComes, Profiles, profile_of}
 use Rattle.xray_program.specs.Setups.{limits_of}
 use Rattle.xray_program.specs.Taking.{Sound, Take, ended_by}

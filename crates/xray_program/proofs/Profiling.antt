@@ -1,13 +1,15 @@
 -- What threads leave that were profiled, and what comes of it.
-use Rattle.std.proofs.Common.{◌≡◌, ◌<◌, ◌+◌, ◌++◌, ◌∙◌, ℕ, zero, suc, List, [], ◌∷◌, Option, Some, None, drop, get_or, length, map, refl, sym, ap, arith, subst}
-use Rattle.std.specs.Prelude.{All, slice_get}
-use Rattle.std.proofs.lemmas.List.{append-nil, drop_more}
+use Rattle.std.proofs.Common.{◌≡◌, ◌<◌, ◌+◌, ◌++◌, ◌∙◌, ℕ, zero, suc, List, [], ◌∷◌, Option, Some, None, length, map, refl, sym, ap, arith, subst}
+use Rattle.std.specs.Prelude.{◌≤◌, All, slice_get}
+use Rattle.std.proofs.lemmas.List.{append-nil, length-map}
 use Rattle.std.proofs.lemmas.List.Elements.{All-cons, All-nil}
 use Rattle.std.proofs.lemmas.Option.{get_or_from_slice_get, slice_get_within}
 use Rattle.call_trie.specs.Merging.{AllStandFor}
 use Rattle.call_trie.specs.Tries.{HasSameRoom, StandsFor, Trie, state_after}
 use Rattle.call_trie.specs.declared.state.TrieState.{TrieState}
 use Rattle.call_trie.specs.declared.state.TrieState.TheVariants.{Live, Full, Deep}
+use Rattle.command_words.specs.Limits.{most_threads}
+use Rattle.command_words.specs.Ranges.{AreProfileOptions}
 use Rattle.command_words.specs.declared.profile_options.ProfileOptions.{ProfileOptions}
 use Rattle.machine_step.specs.declared.limits.Limits.{Limits}
 use Rattle.machine_step.specs.PlainStep.{PlainRun}
@@ -23,7 +25,7 @@ use Rattle.traced_run.specs.Following.{MarksFollowScript}
 use Rattle.traced_run.specs.Runs.{ThreadRun, events_of}
 use Rattle.xray_image.specs.Program.{Program}
 use Rattle.xray_program.specs.Outcomes.{Outcome, Done, Fell}
-use Rattle.xray_program.specs.Profile.{first_trouble, profile_of, report_unless, trouble_in, trouble_of}
+use Rattle.xray_program.specs.Profile.{profile_of, report_unless, trouble_of}
 use Rattle.xray_program.specs.private.Profiled.{HaveProfiled}
 use Rattle.xray_program.specs.Setups.{limits_of}
 use Rattle.xray_program.specs.Stack.{rows_text}
@@ -90,6 +92,15 @@ profiled options program plan limits old cpus seats new same_program same_thread
       stand = all_stand have.runs new news have.recorded;
       states = states_are options.nodes have.runs new news have.recorded (same_rooms options.nodes old new have.followed rooms);
     }
+
+-- there are as many recorders as threads
+pub recorders_few : (options : ProfileOptions) (program : Program) (plan : Plan) (cpus : List Traced) (tries : List Trie)
+    → HaveProfiled options program plan cpus tries → AreProfileOptions options → length tries ≤ most_threads
+recorders_few options program plan cpus tries have ranges =
+    let threads = map events_of have.runs in
+    let count = sym (length-map tries (λ (trie : Trie). trie.state)) ∙ ap length have.states ∙ length-map threads (state_after options.nodes)
+    ∙ length-map have.runs events_of ∙ have.are.count in
+    omega (arith, count, ranges.bounds.threads.1)
 
 -- ---- what went wrong
 

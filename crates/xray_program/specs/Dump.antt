@@ -2,7 +2,7 @@
 use Rattle.std.specs.Prelude.{◌≡◌, ℕ, List, []}
 use Rattle.trace_forms.specs.Dumps.{dump_text}
 use Rattle.xray_io.specs.Desk.{Entry}
-use Rattle.xray_program.specs.Inputs.{Readable, readable_form}
+use Rattle.xray_program.specs.Inputs.{readable_form}
 use Rattle.xray_program.specs.Outcomes.{Outcome, Done}
 use Rattle.xray_program.specs.Taking.{DeskReads, Take}
 

@@ -158,6 +158,7 @@ fn run_profiled<'s, T: Threads + Wait + Sync, G: Gate + Sync>(
     requires options { AreProfileOptions options }
     ensures profiled { IfOk result (λ end.
         HaveProfiled options steps.now script end.cpus.items end.recorders.items) }
+    ensures few { IfOk result (λ end. length end.recorders.items ≤ MAX_THREADS) }
 {
     let threads = options.bounds.threads;
     let (table, mut seat) = CodeTable::new(alloc, steps.image(), script, threads)?;

@@ -1,9 +1,7 @@
-use Rattle.std.proofs.Common.{◌≡◌, ◌++◌, ◌∙◌, ℕ, List, [], None, Option, Some, map, option_map, ap, refl, subst, sym}
+use Rattle.std.proofs.Common.{◌≡◌, ◌++◌, ◌∙◌, ℕ, List, [], None, Some, length, map, option_map, ap, arith, refl, subst, sym}
 use Rattle.std.specs.List.{All, flat_map}
 use Rattle.call_trie.specs.Merging.{AllStandFor}
 use Rattle.call_trie.specs.Tries.{Trie}
-use Rattle.call_trie.specs.declared.state.TrieState.{TrieState}
-use Rattle.call_trie.specs.declared.state.TrieState.TheVariants.{Live}
 use Rattle.fault_words.specs.Words.{words_text}
 use Rattle.flame_graph.specs.Frames.{AreStacks}
 use Rattle.machine_step.specs.EndedText.{thread_text}
@@ -40,13 +38,15 @@ returns-in_err-rows-in-None-clause-finishes g c =
     (sink_view g.O.Sink.written g.O.Sink.faults c.args.out.now) (g.D.Desk.along c.args.desk.now c.args.desk.now) stops.NoMemory c.from_residual-in_err-rows-in-None.result c.from_residual-in_err-rows-in-None.ensures.1
     ((refl, refl), record { calls = []; way = g.met.D.Desk.along_none c.args.desk.now; are = refl })
 
+pub trouble_of-requires : goal.trouble_of-requires
+trouble_of-requires g c = omega (arith, ap length c.deref.ensures.value, c.in_ok-end.ensures.few)
+
 pub deliver_states-requires : goal.deliver_states-requires
-deliver_states-requires g c = record {
-  done =
-      let have = c.in_ok-end.ensures.profiled in
-      subst (All (λ t. IsDone t.want)) (sym c.deref-in-Some.ensures.value)
-      (threads_ended have.runs c.in_ok-end.end.cpus.items have.count have.cpus_are);
-}
+deliver_states-requires g c =
+    let have = c.in_ok-end.ensures.profiled in
+    record {
+      done = subst (All (λ t. IsDone t.want)) (sym c.deref-in-Some.ensures.value) (threads_ended have.runs c.in_ok-end.end.cpus.items have.count have.cpus_are);
+    }
 
 pub returns-in-Some-clause-finishes : goal.returns-in-Some-clause-finishes
 returns-in-Some-clause-finishes g c =
@@ -60,8 +60,7 @@ returns-in-Some-clause-finishes g c =
     let trouble = words_text c.in-Some.trouble in
     let text = flat_map thread_text c.deref-in-Some.result.now in
     let is : text ≡ _ = ap (λ (ts : List Traced). flat_map thread_text ts) c.deref-in-Some.ensures.value ∙ threads_printed have.runs c.in_ok-end.end.cpus.items have.count have.cpus_are in
-    let wrong : Some trouble ≡ trouble_of 1 (map (λ (t : Trie). t.state) c.deref.result.now) =
-    ap (option_map words_text) (sym c.in-Some.is) ∙ c.trouble_of.ensures in
+    let wrong : Some trouble ≡ trouble_of 1 (map (λ (t : Trie). t.state) c.deref.result.now) = ap (option_map words_text) (sym c.in-Some.is) ∙ c.trouble_of.ensures in
     finishes (comes_of s c.args.inputs) [] text (Some trouble) (seen c.args.desk.now) (seen c.deliver_states.new.desk) (got c.args.out.now)
     (got c.deliver_states.new.out) (g.D.Desk.along c.args.desk.now c.deliver_states.new.desk) c.deliver_states.result (
       have.runs,
@@ -73,8 +72,7 @@ returns-in-Some-clause-finishes g c =
 
 pub merged-requires : goal.merged-requires
 merged-requires g c =
-    let none : None ≡ trouble_of 1 (map (λ (t : Trie). t.state) c.deref.result.now) =
-    ap (option_map words_text) (sym c.in-None.is) ∙ c.trouble_of.ensures in
+    let none : None ≡ trouble_of 1 (map (λ (t : Trie). t.state) c.deref.result.now) = ap (option_map words_text) (sym c.in-None.is) ∙ c.trouble_of.ensures in
     all_live 1 c.deref-in-None.result.now
     (ap (λ (ts : List Trie). trouble_of 1 (map (λ (t : Trie). t.state) ts)) (c.deref-in-None.ensures.value ∙ sym c.deref.ensures.value) ∙ sym none)
 
@@ -114,10 +112,12 @@ returns-clause-finishes g c =
     let is : text ≡ state_texts 1 have.runs ++ shown (stack_of_threads threads) =
     ap (λ (t : List ℕ). t ++ shown (map told c.deref-in-None-3.result.now)) printed
     ∙ ap (λ (rs : List PathRow). state_texts 1 have.runs ++ shown rs) rows in
-    let none : None ≡ trouble_of 1 (map (λ (t : Trie). t.state) c.deref.result.now) =
-    ap (option_map words_text) (sym c.in-None.is) ∙ c.trouble_of.ensures in
+    let none : None ≡ trouble_of 1 (map (λ (t : Trie). t.state) c.deref.result.now) = ap (option_map words_text) (sym c.in-None.is) ∙ c.trouble_of.ensures in
     finishes (comes_of s c.args.inputs) [] text None (seen c.args.desk.now) (seen c.deliver_report.new.desk) (got c.args.out.now)
-    (got c.deliver_report.new.out) (g.D.Desk.along c.args.desk.now c.deliver_report.new.desk) c.deliver_report.result
-    (have.runs, have.are, profile_done s.options program have.runs text is
-    (none ∙ ap (λ (ts : List Trie). trouble_of 1 (map (λ (t : Trie). t.state) ts)) c.deref.ensures.value ∙ ap (trouble_of 1) have.states))
+    (got c.deliver_report.new.out) (g.D.Desk.along c.args.desk.now c.deliver_report.new.desk) c.deliver_report.result (
+      have.runs,
+      have.are,
+      profile_done s.options program have.runs text is
+          (none ∙ ap (λ (ts : List Trie). trouble_of 1 (map (λ (t : Trie). t.state) ts)) c.deref.ensures.value ∙ ap (trouble_of 1) have.states),
+    )
     c.deliver_report.ensures.delivers

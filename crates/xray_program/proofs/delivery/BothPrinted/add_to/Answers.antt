@@ -1,5 +1,4 @@
-use Rattle.std.proofs.Common.{refl}
-use Rattle.xray_io.specs.Text.{adds_failed, adds_more, adds_stop}
+use Rattle.xray_io.specs.Text.{adds_more}
 use Rattle.xray_program.proofs.delivery.BothPrinted.add_to.Goals as goal
 
 pub returns : goal.returns

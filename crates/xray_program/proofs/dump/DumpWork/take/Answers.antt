@@ -1,8 +1,5 @@
-use Rattle.std.proofs.Common.{◌≡◌, []}
-use Rattle.trace_forms.specs.Dumps.{dump_text}
 use Rattle.xray_io.specs.World.{desk_view}
-use Rattle.xray_program.specs.Inputs.{Readable, readable_form}
-use Rattle.xray_program.specs.Outcomes.{Done}
+use Rattle.xray_program.specs.Inputs.{readable_form}
 use Rattle.xray_program.proofs.DumpLaws.{dumped, file_fits}
 use Rattle.xray_program.proofs.Ordering.{only_taking}
 use Rattle.xray_program.proofs.Turns.{only_taken, taken_as}
