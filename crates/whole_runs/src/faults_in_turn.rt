@@ -74,7 +74,7 @@ const COMMANDS: [Command; 15] = [
         outputs: &["t", "a"],
     },
     Command {
-        words: "profile i s",
+        words: "profile i s --nodes 1",
         inputs: &[I, S],
         outputs: &[],
     },
