@@ -1,13 +1,15 @@
 //! What `xray run` does, in ordinary Rust: `run IMAGE SCRIPT TRACE THREADS PASSINGS SIZE MAX TICK TSC CPUS
-//! MIGRATE`.
+//! MIGRATE`. If TRACE is `--profile`, it does what `xray profile` does.
 //!
 //! It reads an image and a script without judging them. Each thread has a core of its own if there
 //! is one, loads the words of the sleds that it passes, and records entries and exits in a ring of
 //! buffers of its own, MAX / THREADS of SIZE bytes. The patcher stores the words beside them. All
 //! loads and stores are `SeqCst`. The progress words have cache lines of their own. At the end the
-//! last buffers of each thread are written to TRACE, and the threads' ends and marks are printed.
+//! last buffers of each thread are written to TRACE, and the threads' ends and marks are printed. A
+//! profile has a call trie for each thread in place of the ring, and writes no file. It prints a line
+//! for each path, with the functions' ids in place of their names.
 
-use std::collections::VecDeque;
+use std::collections::{BTreeMap, HashMap, VecDeque};
 use std::env;
 use std::fmt::Write;
 use std::fs;
@@ -265,6 +267,11 @@ struct Event {
     tsc: u64,
 }
 
+/// What takes the events of a thread.
+trait Recorder: Send {
+    fn note(&mut self, event: Event);
+}
+
 /// The records of one thread. One buffer is in its hand, which it fills. If an event has no room
 /// there, the oldest of the sealed ones is used again.
 struct Ring {
@@ -287,23 +294,6 @@ impl Ring {
             thread,
             segments: 0,
             last: None,
-        }
-    }
-
-    fn note(&mut self, event: Event) {
-        let base = match self.last {
-            Some((cpu, tsc)) if cpu == event.cpu && event.tsc >= tsc => {
-                u32::try_from(event.tsc - tsc).map_err(|_| TSC_WRAP)
-            }
-            Some((cpu, _)) if cpu == event.cpu => Err(TSC_WRAP),
-            _ => Err(NEW_CPU),
-        };
-        let needed = if base.is_ok() { 8 } else { 24 };
-        if self.segments == 0 || self.hand.len() + needed > self.size {
-            self.begin();
-            self.put(event, Err(NEW_CPU));
-        } else {
-            self.put(event, base);
         }
     }
 
@@ -353,9 +343,143 @@ impl Ring {
     }
 }
 
+impl Recorder for Ring {
+    fn note(&mut self, event: Event) {
+        let base = match self.last {
+            Some((cpu, tsc)) if cpu == event.cpu && event.tsc >= tsc => {
+                u32::try_from(event.tsc - tsc).map_err(|_| TSC_WRAP)
+            }
+            Some((cpu, _)) if cpu == event.cpu => Err(TSC_WRAP),
+            _ => Err(NEW_CPU),
+        };
+        let needed = if base.is_ok() { 8 } else { 24 };
+        if self.segments == 0 || self.hand.len() + needed > self.size {
+            self.begin();
+            self.put(event, Err(NEW_CPU));
+        } else {
+            self.put(event, base);
+        }
+    }
+}
+
+/// A path on which functions were called: the path without its last function, that function, and
+/// what is counted of the calls on it.
+struct Node {
+    parent: u32,
+    id: u32,
+    count: u64,
+    own: u128,
+}
+
+/// An open call.
+struct Call {
+    node: u32,
+    id: u32,
+    tsc: u64,
+    /// The time that was spent in the calls that were made directly in it.
+    spent: u64,
+}
+
+/// The call trie of one thread.
+struct Trie {
+    /// The nodes by their parents and their functions. The root has number 0.
+    children: HashMap<(u32, u32), u32>,
+    nodes: Vec<Node>,
+    open: Vec<Call>,
+}
+
+impl Trie {
+    fn new() -> Trie {
+        let root = Node {
+            parent: 0,
+            id: 0,
+            count: 0,
+            own: 0,
+        };
+        Trie {
+            children: HashMap::new(),
+            nodes: vec![root],
+            open: Vec::new(),
+        }
+    }
+
+    fn enter(&mut self, event: Event) {
+        let (parent, id) = (self.open.last().map_or(0, |call| call.node), event.id);
+        let nodes = &mut self.nodes;
+        let node = *self.children.entry((parent, id)).or_insert_with(|| {
+            nodes.push(Node {
+                parent,
+                id,
+                count: 0,
+                own: 0,
+            });
+            nodes.len() as u32 - 1
+        });
+        self.open.push(Call {
+            node,
+            id,
+            tsc: event.tsc,
+            spent: 0,
+        });
+    }
+
+    fn leave(&mut self, event: Event) {
+        let Some(at) = self.open.iter().rposition(|call| call.id == event.id) else {
+            return;
+        };
+        let call = &self.open[at];
+        let duration = event.tsc.wrapping_sub(call.tsc);
+        let node = &mut self.nodes[call.node as usize];
+        node.count += 1;
+        node.own += u128::from(duration.saturating_sub(call.spent));
+        self.open.truncate(at);
+        if let Some(caller) = self.open.last_mut() {
+            caller.spent += duration;
+        }
+    }
+
+    fn path(&self, mut node: u32) -> Vec<u32> {
+        let mut path = Vec::new();
+        while node != 0 {
+            path.push(self.nodes[node as usize].id);
+            node = self.nodes[node as usize].parent;
+        }
+        path.reverse();
+        path
+    }
+}
+
+impl Recorder for Trie {
+    fn note(&mut self, event: Event) {
+        if event.is_exit {
+            self.leave(event);
+        } else {
+            self.enter(event);
+        }
+    }
+}
+
+/// A line for each path that has a pair, over all tries.
+fn stacks<'t>(tries: impl Iterator<Item = &'t Trie>) -> String {
+    let mut rows: BTreeMap<Vec<u32>, u128> = BTreeMap::new();
+    for trie in tries {
+        for (number, node) in trie.nodes.iter().enumerate() {
+            if node.count > 0 {
+                *rows.entry(trie.path(number as u32)).or_default() += node.own;
+            }
+        }
+    }
+    let mut text = String::new();
+    for (path, own) in rows {
+        let names: Vec<String> = path.iter().map(|id| format!("#{id}")).collect();
+        writeln!(text, "{} {own}", names.join(";")).unwrap();
+    }
+    text
+}
+
 /// A thread of the machine, in cache lines of its own.
 #[repr(align(64))]
-struct Machine<'i> {
+struct Machine<'i, R> {
     image: &'i Image,
     table: &'i Table,
     number: usize,
@@ -367,12 +491,18 @@ struct Machine<'i> {
     instructions: u64,
     passings: u32,
     marks: Vec<u8>,
-    ring: Ring,
+    recorder: R,
 }
 
-impl<'i> Machine<'i> {
-    fn new(image: &'i Image, table: &'i Table, stamps: Stamps, passings: u32, ring: Ring) -> Self {
-        let number = ring.thread as usize;
+impl<'i, R: Recorder> Machine<'i, R> {
+    fn new(
+        image: &'i Image,
+        table: &'i Table,
+        stamps: Stamps,
+        passings: u32,
+        number: usize,
+        recorder: R,
+    ) -> Self {
         let mut registers = [0; 8];
         registers[RDI] = number as u64;
         Machine {
@@ -386,7 +516,7 @@ impl<'i> Machine<'i> {
             instructions: 0,
             passings,
             marks: Vec::with_capacity(passings as usize),
-            ring,
+            recorder,
         }
     }
 
@@ -474,7 +604,7 @@ impl<'i> Machine<'i> {
         let mark = self.mark(sled);
         if mark == b'+' {
             let event = self.event(sled);
-            self.ring.note(event);
+            self.recorder.note(event);
         }
         self.marks.push(mark);
         self.table.progress[self.number - 1]
@@ -533,18 +663,63 @@ impl<'i> Machine<'i> {
 }
 
 /// The bytes of the trace file.
-fn trace(size: usize, machines: &[Machine]) -> Vec<u8> {
+fn trace(size: usize, rings: &[Ring]) -> Vec<u8> {
     let mut bytes = vec![3, 0, 1, 0, 3, 0, 0, 0];
     bytes.extend_from_slice(&[0; 8]);
     bytes.extend_from_slice(&(size as u64).to_le_bytes());
     bytes.extend_from_slice(&[0; 8]);
-    for buffer in machines.iter().flat_map(|machine| machine.ring.kept()) {
+    for buffer in rings.iter().flat_map(Ring::kept) {
         bytes.push(0x0F);
         bytes.extend_from_slice(&(buffer.len() as u64).to_le_bytes());
         bytes.extend_from_slice(&[0; 7]);
         bytes.extend_from_slice(buffer);
     }
     bytes
+}
+
+/// What threads are run with.
+struct Run<'r> {
+    image: &'r Image,
+    script: &'r str,
+    threads: usize,
+    passings: u32,
+    stamps: Stamps,
+}
+
+impl Run<'_> {
+    /// Runs the threads beside the script. What they print, and their recorders.
+    fn threads<R: Recorder>(&self, recorder: impl Fn(usize) -> R) -> (String, Vec<R>) {
+        let mut lines = self.script.lines();
+        let table = Table::new(self.image, self.threads);
+        table.patch(self.image, &mut lines);
+        let machine = |number| {
+            Machine::new(
+                self.image,
+                &table,
+                self.stamps,
+                self.passings,
+                number,
+                recorder(number),
+            )
+        };
+        let mut machines: Vec<Machine<R>> = (1..=self.threads).map(machine).collect();
+        let texts: Vec<String> = thread::scope(|scope| {
+            let running: Vec<_> = machines
+                .iter_mut()
+                .map(|machine| scope.spawn(|| machine.finish()))
+                .collect();
+            table.patch(self.image, &mut lines);
+            running
+                .into_iter()
+                .map(|thread| thread.join().unwrap())
+                .collect()
+        });
+        let recorders = machines
+            .into_iter()
+            .map(|machine| machine.recorder)
+            .collect();
+        (texts.concat(), recorders)
+    }
 }
 
 fn main() {
@@ -564,24 +739,19 @@ fn main() {
     };
     let image = read_image(&fs::read(&words[1]).unwrap());
     let script = fs::read_to_string(&words[2]).unwrap();
-    let mut lines = script.lines();
-    let table = Table::new(&image, threads);
-    table.patch(&image, &mut lines);
-    let ring = |number| Ring::new(number as u32, size, max / threads);
-    let mut machines: Vec<Machine> = (1..=threads)
-        .map(|number| Machine::new(&image, &table, stamps, passings as u32, ring(number)))
-        .collect();
-    let texts: Vec<String> = thread::scope(|scope| {
-        let running: Vec<_> = machines
-            .iter_mut()
-            .map(|machine| scope.spawn(|| machine.finish()))
-            .collect();
-        table.patch(&image, &mut lines);
-        running
-            .into_iter()
-            .map(|thread| thread.join().unwrap())
-            .collect()
-    });
-    fs::write(&words[3], trace(size, &machines)).unwrap();
-    print!("{}", texts.concat());
+    let run = Run {
+        image: &image,
+        script: &script,
+        threads,
+        passings: passings as u32,
+        stamps,
+    };
+    if words[3] == "--profile" {
+        let (texts, tries) = run.threads(|_| Trie::new());
+        print!("{texts}{}", stacks(tries.iter()));
+    } else {
+        let (texts, rings) = run.threads(|number| Ring::new(number as u32, size, max / threads));
+        fs::write(&words[3], trace(size, &rings)).unwrap();
+        print!("{texts}");
+    }
 }
