@@ -317,7 +317,8 @@ def judged(xray, folder, streams, words, files, most):
     length = sum(len(files.get(word, b"")) for word in words)
     taken = run(xray, folder, streams, words, space_of(most.memory, length))
     left = {path.name: path.read_bytes() for path in folder.iterdir()}
-    shown = shown_in({name.encode(): content for name, content in left.items() if name not in files}, 0)
+    written = {name.encode(): content for name, content in left.items() if name not in files}
+    shown = shown_in(taken.outcome.output, written, 0)
     try:
         world = model.World(files, wall=(0, 0), shown=shown.threads)
         expects = model.outcome([word.encode() for word in words], world, assemble)
