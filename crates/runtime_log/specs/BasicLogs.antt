@@ -1,29 +1,24 @@
 -- Logs of the basic mode: a record for each passing, and behind an entry that logs its argument another record with the
 -- argument.
-use Rattle.std.specs.Prelude.{ℕ, ◌+◌, ◌^◌, ◌==◌, ◌&&◌, not, Bool, false, List, [], ◌∷◌, ◌++◌, length, drop, map, take, nat_lt, slice_index, Option, Some, None, Result, Ok, Err, if◌then◌else◌}
-use Rattle.std.specs.List.{filter_map}
+use Rattle.std.specs.Prelude.{ℕ, ◌^◌, ◌==◌, ◌&&◌, not, Bool, true, false, List, [], ◌∷◌, ◌++◌, length, drop, take, nat_lt, slice_index, Option, Some, None, Result, Ok, Err, if◌then◌else◌}
 use Rattle.std.specs.Option.{option_map_or}
 use Rattle.byteorder.specs.Endian.{little_number}
-use Rattle.xray_io.specs.Rows.{First, InTurn, NeedsPart, ◌>>=◌}
-use Rattle.xray_io.specs.declared.wall.Wall.{Wall}
+use Rattle.xray_io.specs.Rows.{First, NeedsPart, ◌>>=◌}
 use Rattle.fdr_record.specs.declared.event.Event.{Event}
 use Rattle.fdr_record.specs.declared.event.Kind.{Kind}
 use Rattle.fdr_record.specs.declared.event.Kind.TheVariants.{Entry, Exit, TailExit, EntryArgs}
 use Rattle.fdr_file.specs.Places.{starts}
-use Rattle.fdr_file.specs.ThreadEvents.{ThreadEvent}
 use Rattle.fdr_file.specs.Traces.{logs_arg}
+use Rattle.fdr_file.specs.declared.fault.TraceFault.TheVariants as traces
+use Rattle.runtime_log.specs.declared.basic.BasicRec.{BasicRec}
+use Rattle.runtime_log.specs.declared.basic.BasicRec.TheVariants.{Passed, Argument}
+use Rattle.runtime_log.specs.declared.basic.Owner.{Owner}
 use Rattle.runtime_log.specs.declared.fault.LogFault.{LogFault}
 use Rattle.runtime_log.specs.declared.fault.LogFault.TheVariants as faults
-use Rattle.fdr_file.specs.declared.fault.TraceFault.TheVariants as traces
 
 -- the length of a record, of either kind, in bytes
 abbrev pub basic_length : ℕ
 basic_length = 32
-
--- what a record says: a passing; or the argument of the entry of a function by a thread
-pub data BasicRec : Type 0 where
-  Passed : ThreadEvent → BasicRec
-  Argument : (func thread pid value : ℕ) → BasicRec
 
 -- ---- one record
 
@@ -43,48 +38,32 @@ abbrev pub func_in : List ℕ → ℕ
 func_in bytes = little_number 4 (drop 4 bytes)
 
 -- the passing that a record of this kind says
-abbrev pub passing_in : Kind → List ℕ → ThreadEvent
-passing_in kind bytes = record {
-  thread = little_number 4 (drop 16 bytes);
-  pid = little_number 4 (drop 20 bytes);
-  event = record {
-    cpu = slice_index bytes 2;
-    func = func_in bytes;
-    kind = kind;
-    tsc = little_number 8 (drop 8 bytes);
-    arg = if logs_arg kind then little_number 8 (drop 24 bytes) else 0;
-  };
-}
+abbrev pub passing_in : Kind → List ℕ → BasicRec
+passing_in kind bytes =
+    let owner : Owner = record { thread = little_number 4 (drop 16 bytes); pid = little_number 4 (drop 20 bytes) } in
+    let event : Event = record {
+      cpu = slice_index bytes 2;
+      func = func_in bytes;
+      kind = kind;
+      tsc = little_number 8 (drop 8 bytes);
+      arg = if logs_arg kind then little_number 8 (drop 24 bytes) else 0;
+    } in
+    Passed owner event
 
 -- the argument that a record says
 abbrev pub argument_in : List ℕ → BasicRec
 argument_in bytes =
-    Argument (func_in bytes) (little_number 4 (drop 8 bytes)) (little_number 4 (drop 12 bytes)) (little_number 8 (drop 16 bytes))
+    let owner : Owner = record { thread = little_number 4 (drop 8 bytes); pid = little_number 4 (drop 12 bytes) } in
+    Argument owner (func_in bytes) (little_number 8 (drop 16 bytes))
 
--- ---- one after the other, the last of the records before one listed first
-
--- it is the argument of this passing
-abbrev pub is_argument_of : ThreadEvent → (func thread pid : ℕ) → Bool
-is_argument_of e func thread pid = logs_arg e.event.kind && e.event.func == func && e.thread == thread && e.pid == pid
-
--- an argument may stand behind these records: behind the entry that it is of, or behind another argument of it
-abbrev pub takes_argument : List BasicRec → (func thread pid : ℕ) → Bool
-takes_argument [] func thread pid = false
-takes_argument (Passed e ∷ before) func thread pid = is_argument_of e func thread pid
-takes_argument (Argument f t p value ∷ before) func thread pid = f == func && t == thread && p == pid
-
--- the record may stand behind these
-abbrev pub may_follow : List BasicRec → BasicRec → Bool
-may_follow before (Passed e) = true
-may_follow before (Argument func thread pid value) = takes_argument before func thread pid
-
--- a record with this tag, at a place
+-- the passing at a place
 abbrev pub passing_rows : ℕ → List ℕ → Result BasicRec LogFault
 passing_rows at bytes =
     NeedsPart (kind_numbered (kind_byte bytes)) (Err (faults.Kind at (kind_byte bytes))) λ kind.
     First (not (nat_lt (func_in bytes) (2 ^ 28))) (Err (faults.Function at (func_in bytes)))
-    (Ok (Passed (passing_in kind bytes)))
+    (Ok (passing_in kind bytes))
 
+-- the record at a place, by its tag
 abbrev pub tagged_rows : ℕ → List ℕ → Result BasicRec LogFault
 tagged_rows at bytes =
     First (nat_lt (length bytes) basic_length) (Err (faults.Trace (traces.Short at)))
@@ -92,25 +71,80 @@ tagged_rows at bytes =
     (First (tag_in bytes == 1) (Ok (argument_in bytes))
     (Err (faults.Tag at (tag_in bytes)))))
 
-abbrev pub standing_rows : List BasicRec → ℕ → BasicRec → Result (List BasicRec) LogFault
-standing_rows before at r = First (not (may_follow before r)) (Err (faults.Trace (traces.Order at))) (Ok (r ∷ before))
+-- ---- what may stand behind what
 
-abbrev pub basic_rows : List BasicRec → ℕ × List ℕ → Result (List BasicRec) LogFault
-basic_rows before (at, bytes) = tagged_rows at bytes >>= λ r. standing_rows before at r
+-- the thread and the process of a record
+abbrev pub owner_of : BasicRec → Owner
+owner_of (Passed owner event) = owner
+owner_of (Argument owner func value) = owner
 
--- each place after the header where a record begins, with the bytes from there on
-abbrev pub basic_starts : List ℕ → List (ℕ × List ℕ)
-basic_starts bytes = starts (λ rest. basic_length) 0 32 (drop 32 bytes)
+abbrev pub same_owner : Owner → Owner → Bool
+same_owner one other = (one.thread == other.thread) && (one.pid == other.pid)
+
+-- An argument of this owner's call of a function may stand behind the record: behind the entry that it is of, or behind
+-- another argument of it.
+abbrev pub takes_argument : BasicRec → Owner → (function : ℕ) → Bool
+takes_argument (Passed owner event) of function = logs_arg event.kind && (event.func == function) && same_owner owner of
+takes_argument (Argument owner func value) of function = (func == function) && same_owner owner of
+
+-- the record may stand behind this one
+abbrev pub may_follow : Option BasicRec → BasicRec → Bool
+may_follow before (Passed owner event) = true
+may_follow before (Argument owner func value) = option_map_or (λ r. takes_argument r owner func) before false
+
+-- ---- runs of records
+
+-- Records of one thread and one process, one behind the other: the place of the first, their bytes, and what they say.
+pub record BasicRun : Type 0 where
+  pub place : ℕ
+  pub content : List ℕ
+  pub owner : Owner
+  pub records : List BasicRec
+
+-- a run of one record
+abbrev pub single_run : ℕ × List ℕ → BasicRec → BasicRun
+single_run (at, bytes) r = record { place = at; content = take basic_length bytes; owner = owner_of r; records = r ∷ [] }
+
+-- a run that goes on with a record
+abbrev pub longer_run : BasicRun → ℕ × List ℕ → BasicRec → BasicRun
+longer_run run (at, bytes) r = record run { content = run.content ++ take basic_length bytes; records = run.records ++ r ∷ [] }
+
+-- Runs, and a record after them. It goes on with the last of them if it is of the same thread and process, and otherwise
+-- begins one.
+abbrev pub runs_with : List BasicRun → ℕ × List ℕ → BasicRec → List BasicRun
+runs_with [] start r = single_run start r ∷ []
+runs_with (run ∷ []) start r =
+    if same_owner run.owner (owner_of r) then longer_run run start r ∷ [] else run ∷ single_run start r ∷ []
+runs_with (run ∷ other ∷ runs) start r = run ∷ runs_with (other ∷ runs) start r
+
+-- the records so far: their runs, and the last of them
+pub record BasicSoFar : Type 0 where
+  pub runs : List BasicRun
+  pub last : Option BasicRec
+
+abbrev pub no_records : BasicSoFar
+no_records = record { runs = []; last = None }
+
+-- the same, with the record at a place
+abbrev pub basic_rows : BasicSoFar → ℕ × List ℕ → Result BasicSoFar LogFault
+basic_rows so (at, bytes) =
+    tagged_rows at (take basic_length bytes) >>= λ r.
+    First (not (may_follow so.last r)) (Err (faults.Trace (traces.Order at)))
+    (Ok (record { runs = runs_with so.runs (at, bytes) r; last = Some r }))
+
+-- each place where a record begins, with the bytes from there on
+abbrev pub basic_places : ℕ → List ℕ → List (ℕ × List ℕ)
+basic_places at bytes = starts (λ rest. basic_length) 0 at bytes
 
 -- ---- the events of records, in order
 
 -- the passing, with the argument that the record behind it says, if it does
-abbrev pub with_argument : ThreadEvent → List BasicRec → Event
-with_argument e [] = e.event
-with_argument e (Passed other ∷ later) = e.event
-with_argument e (Argument func thread pid value ∷ later) = record e.event { arg = value }
+abbrev pub with_argument : Event → List BasicRec → Event
+with_argument event [] = event
+with_argument event (Passed owner other ∷ later) = event
+with_argument event (Argument owner func value ∷ later) = record event { arg = value }
 
 abbrev pub basic_events : List BasicRec → List Event
 basic_events [] = []
-basic_events (Passed e ∷ later) = with_argument e later ∷ basic_events later
-basic_events (Argument func thread pid value ∷ later) = basic_events later
+basic_events (Passed owner event ∷ later) = with_argument event later ∷ basic_events later
+basic_events (Argument owner func value ∷ later) = basic_events later

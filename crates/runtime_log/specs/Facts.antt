@@ -1,36 +1,30 @@
 -- What `import` prints: what was taken of a log, and what was left out.
-use Rattle.std.specs.Prelude.{ℕ, ◌-◌, ◌==◌, ◌||◌, Bool, true, false, List, [], ◌∷◌, ◌++◌, length, map, filter, sum, codes, count_by, nat_lt, min, max, replicate, Option, Some, None, option_map, if◌then◌else◌}
-use Rattle.std.specs.List.{flat_map, list_any}
+use Rattle.std.specs.Prelude.{ℕ, ◌+◌, ◌-◌, ◌==◌, ◌&&◌, List, [], ◌∷◌, ◌++◌, length, map, sum, codes, count_by, nat_lt, min, max, replicate, Option, Some, None, if◌then◌else◌}
 use Rattle.std.specs.Option.{option_map_or}
 use Rattle.xray_io.specs.Piece.{right_aligned}
-use Rattle.fdr_record.specs.declared.event.Event.{Event}
-use Rattle.fdr_file.specs.declared.trace.Block.{Block}
+use Rattle.fdr_file.specs.ThreadEvents.{ThreadEvent, thread_events}
 use Rattle.fdr_file.specs.Traces.{logs_arg}
 use Rattle.runtime_log.specs.declared.facts.Facts.{Facts}
 use Rattle.runtime_log.specs.Logs.{LogBlock}
 use Rattle.runtime_log.specs.Taken.{undoubled}
 
--- the events of blocks, in order
-abbrev pub taken_events : List LogBlock → List Event
-taken_events blocks = flat_map (λ b. b.block.events) blocks
+-- how many numbers these are, if equal ones stand side by side
+abbrev pub different : List ℕ → ℕ
+different [] = 0
+different (n ∷ []) = 1
+different (n ∷ next ∷ ns) = (if n == next then 0 else 1) + different (next ∷ ns)
 
--- the threads of blocks, each once
-abbrev pub threads_in : List LogBlock → List ℕ
-threads_in [] = []
-threads_in (b ∷ blocks) =
-    let others = threads_in blocks in if list_any (λ thread. thread == b.block.thread) others then others else b.block.thread ∷ others
+-- the thread of an event, if its counter is lower than that of the event before it, which is of the same thread
+abbrev pub fall : ThreadEvent → ThreadEvent → List ℕ
+fall e next = if (e.thread == next.thread) && nat_lt next.event.tsc e.event.tsc then next.thread ∷ [] else []
 
--- the events of a thread
-abbrev pub thread_events_of : List LogBlock → (thread : ℕ) → List Event
-thread_events_of blocks thread = taken_events (filter (λ b. b.block.thread == thread) blocks)
+-- the threads of all such events
+abbrev pub falls : List ThreadEvent → List ℕ
+falls [] = []
+falls (e ∷ []) = []
+falls (e ∷ next ∷ events) = fall e next ++ falls (next ∷ events)
 
--- some event has a lower counter than the one before it
-abbrev pub goes_back : List Event → Bool
-goes_back [] = false
-goes_back (event ∷ []) = false
-goes_back (event ∷ next ∷ events) = nat_lt next.tsc event.tsc || goes_back (next ∷ events)
-
--- the least counter of events, and the greatest, if there are any
+-- the least of numbers, and the greatest, if there are any
 abbrev pub least_of : List ℕ → Option ℕ
 least_of [] = None
 least_of (n ∷ ns) = Some (option_map_or (min n) (least_of ns) n)
@@ -39,22 +33,26 @@ abbrev pub greatest_of : List ℕ → Option ℕ
 greatest_of [] = None
 greatest_of (n ∷ ns) = Some (option_map_or (max n) (greatest_of ns) n)
 
--- the facts of the blocks of a log, of which these are taken
+-- the events of blocks, in order
+abbrev pub taken_events : List LogBlock → List ThreadEvent
+taken_events taken = thread_events (map (λ b. b.block) taken)
+
+-- The facts of the blocks of a log, of which these are taken. They are in the order of their threads.
 abbrev pub facts_of : (blocks taken : List LogBlock) → Facts
 facts_of blocks taken =
     let events = taken_events taken in
-    let counters = map (λ event. event.tsc) events in record {
+    let counters = map (λ e. e.event.tsc) events in record {
       blocks = length taken;
-      threads = length (threads_in taken);
+      threads = different (map (λ e. e.thread) events);
       events = length events;
-      arguments = count_by (λ event. logs_arg event.kind) events;
+      arguments = count_by (λ e. logs_arg e.event.kind) events;
       custom = sum (map (λ b. b.custom) blocks);
       typed = sum (map (λ b. b.typed) blocks);
       doubled = length blocks - length (undoubled blocks);
       empty = count_by (λ b. length b.block.events == 0) (undoubled blocks);
       first = least_of counters;
       last = greatest_of counters;
-      back = count_by (λ thread. goes_back (thread_events_of taken thread)) (threads_in taken);
+      back = different (falls events);
     }
 
 -- ---- as they are printed

@@ -1,22 +1,28 @@
 -- What the bytes of a log of LLVM's runtime say.
-use Rattle.std.specs.Prelude.{ℕ, ◌+◌, ◌==◌, ◌&&◌, not, Bool, true, false, List, [], ◌∷◌, ◌++◌, length, take, drop, map, reverse, nat_lt, count_by, Option, Some, None, Result, Ok, Err, if◌then◌else◌}
-use Rattle.std.specs.Option.{option_map_or}
+use Rattle.std.specs.Prelude.{ℕ, ◌+◌, ◌==◌, not, List, [], ◌∷◌, ◌++◌, length, take, drop, map, nat_lt, option_to_list, Option, Some, None, Result, Ok, Err}
 use Rattle.xray_io.specs.Rows.{First, InTurn, NeedsPart, ◌>>=◌}
 use Rattle.xray_io.specs.declared.wall.Wall.{Wall}
 use Rattle.fdr_record.specs.declared.fault.RecFault.{RecFault}
 use Rattle.fdr_record.specs.declared.rec.Rec.{Rec}
+use Rattle.fdr_record.specs.Records.{metadata_length}
 use Rattle.fdr_file.specs.declared.fault.TraceFault.{TraceFault}
 use Rattle.fdr_file.specs.declared.fault.TraceFault.TheVariants as traces
 use Rattle.fdr_file.specs.declared.header.Header.{Header}
+use Rattle.fdr_file.specs.declared.stage.Inside.TheVariants.{Opened}
+use Rattle.fdr_file.specs.declared.stage.Stage.{Stage}
+use Rattle.fdr_file.specs.declared.stage.Stage.TheVariants.{Due, Within, Faulty}
+use Rattle.fdr_file.specs.declared.stage.Told.{Told}
+use Rattle.fdr_file.specs.declared.stage.Told.TheVariants.{Nothing, Begun, Noted}
 use Rattle.fdr_file.specs.declared.trace.Block.{Block}
 use Rattle.fdr_file.specs.Places.{starts}
-use Rattle.fdr_file.specs.Traces.{block_length, block_of, block_starts, extents_in, header_in, preamble_bytes, record_rows, size_named, type_in, version_in}
+use Rattle.fdr_file.specs.Scanning.{block_span, empty_block, stage_judged}
+use Rattle.fdr_file.specs.Traces.{block_starts, header_in, preamble_bytes, size_named, type_in, version_in}
 use Rattle.runtime_log.specs.declared.fault.LogFault.{LogFault}
 use Rattle.runtime_log.specs.declared.fault.LogFault.TheVariants as faults
 use Rattle.runtime_log.specs.declared.own_event.OwnKind.{OwnKind}
 use Rattle.runtime_log.specs.declared.own_event.OwnKind.TheVariants.{Custom, Typed}
 use Rattle.runtime_log.specs.declared.version.LogVersion.{LogVersion}
-use Rattle.runtime_log.specs.BasicLogs.{BasicRec, Passed, Argument, basic_events, basic_length, basic_rows, basic_starts}
+use Rattle.runtime_log.specs.BasicLogs.{BasicRun, basic_events, basic_places, basic_rows, no_records}
 use Rattle.runtime_log.specs.OwnEvents.{log_record_in, log_record_length, own_kind}
 use Rattle.runtime_log.specs.Versions.{log_version_of, trace_version}
 
@@ -36,52 +42,100 @@ pub record Log : Type 0 where
 
 -- ---- a block of the Flight Data Recorder mode
 
--- each place of a block where a record begins, with the bytes from there to the block's end
-abbrev pub log_places : LogVersion → ℕ × List ℕ → List (ℕ × List ℕ)
-log_places version (at, bytes) = starts (log_record_length version) 0 (at + 16) (take (extents_in bytes) (drop 16 bytes))
+-- where the reading of a block stands, and what its records so far have said: the block, and how many events of the
+-- program's own there were, of each kind
+pub record BlockSoFar : Type 0 where
+  pub stage : Stage
+  pub block : Block
+  pub custom : ℕ
+  pub typed : ℕ
 
--- what is at a place of a block, after the records before it, the last of them first: the record ends within the block,
--- and is one that a trace may have there
-abbrev pub log_record_rows : LogVersion → List Rec → ℕ × List ℕ → Result (List Rec) TraceFault
-log_record_rows version before (at, bytes) =
+-- before its first record
+abbrev pub block_opened : ℕ → ℕ → BlockSoFar
+block_opened at size = record {
+  stage = Within (block_span at size) Opened;
+  block = empty_block 0 (record { secs = 0; micros = 0 }) 0;
+  custom = 0;
+  typed = 0;
+}
+
+-- a block, with what a record says
+abbrev pub block_with : Told → Block → Block
+block_with Nothing block = block
+block_with (Begun thread wall pid) block = record block { thread = thread; wall = wall; pid = pid }
+block_with (Noted entry event) block = record block { events = block.events ++ (option_to_list entry ++ option_to_list event) }
+
+-- 1 for an event of the program's own of this kind, and 0 for another record
+abbrev pub one_custom : Option OwnKind → ℕ
+one_custom None = 0
+one_custom (Some Custom) = 1
+one_custom (Some Typed) = 0
+
+abbrev pub one_typed : Option OwnKind → ℕ
+one_typed None = 0
+one_typed (Some Custom) = 0
+one_typed (Some Typed) = 1
+
+-- a stage that is no fault, with what was said
+abbrev pub unless_faulty : Stage × Told → Result (Stage × Told) TraceFault
+unless_faulty (Due, told) = Ok (Due, told)
+unless_faulty (Within span inside, told) = Ok (Within span inside, told)
+unless_faulty (Faulty span fault, told) = Err fault
+
+-- What is at a place of a block: the record ends within the block, and is one that a trace may have there. It leads to a
+-- stage, and says something of the block.
+abbrev pub log_record_rows : LogVersion → Stage → ℕ × List ℕ → Result (Stage × Told) TraceFault
+log_record_rows version stage (at, bytes) =
     First (nat_lt (length bytes) (log_record_length version bytes)) (Err (traces.Extents at))
-    (record_rows (trace_version version) before (at, log_record_in version before bytes))
+    (unless_faulty (stage_judged (trace_version version) stage at (log_record_length version bytes) (log_record_in version stage bytes)))
 
--- how many events of the program's own begin at these places
-abbrev pub is_custom : Option OwnKind → Bool
-is_custom (Some Custom) = true
-is_custom (Some Typed) = false
-is_custom None = false
+-- the same, after what the records before it said
+abbrev pub said_rows : LogVersion → BlockSoFar → ℕ × List ℕ → Result BlockSoFar TraceFault
+said_rows version so (at, bytes) =
+    log_record_rows version so.stage (at, bytes) >>= λ said. Ok (record {
+      stage = said.0;
+      block = block_with said.1 so.block;
+      custom = so.custom + one_custom (own_kind version bytes);
+      typed = so.typed + one_typed (own_kind version bytes);
+    })
 
-abbrev pub is_typed : Option OwnKind → Bool
-is_typed (Some Custom) = false
-is_typed (Some Typed) = true
-is_typed None = false
+-- what a block has after its extents, which begin at a place and name this many bytes
+abbrev pub block_content : ℕ → List ℕ → List ℕ
+block_content size bytes = take size (drop metadata_length bytes)
 
--- the block that begins at a place, with these records, the last of them first
-abbrev pub block_said : LogVersion → ℕ × List ℕ → List Rec → LogBlock
-block_said version (at, bytes) before =
-    let kinds = map (λ place. own_kind version place.1) (log_places version (at, bytes)) in record {
-      place = at;
-      content = take (extents_in bytes) (drop 16 bytes);
-      block = block_of (reverse before);
-      custom = count_by is_custom kinds;
-      typed = count_by is_typed kinds;
-    }
+-- each place of a block's content where a record begins, with the bytes from there to the block's end
+abbrev pub log_places : LogVersion → ℕ → List ℕ → List (ℕ × List ℕ)
+log_places version at bytes = starts (log_record_length version) 0 at bytes
 
--- the block that begins at a place: its first record, the number of bytes that it names, and its records
-abbrev pub log_extents_rows : LogVersion → ℕ × List ℕ → Result Rec RecFault → Result LogBlock TraceFault
-log_extents_rows version (at, bytes) (Ok r) =
+-- how many bytes the block that begins at a place has after its extents, by its first record
+abbrev pub sized_rows : LogVersion → ℕ × List ℕ → Result Rec RecFault → Result ℕ TraceFault
+sized_rows version (at, bytes) (Ok r) =
     NeedsPart (size_named r) (Err (traces.Order at)) λ size.
     First (nat_lt size (preamble_bytes (trace_version version))) (Err (traces.Extents at))
-    (First (nat_lt (length bytes) (16 + size)) (Err (traces.Short at))
-    (InTurn (log_record_rows version) [] (log_places version (at, bytes)) >>= λ before. Ok (block_said version (at, bytes) before)))
-log_extents_rows version (at, bytes) (Err fault) = Err (traces.Bad at fault)
+    (First (nat_lt (length bytes) (metadata_length + size)) (Err (traces.Short at)) (Ok size))
+sized_rows version (at, bytes) (Err fault) = Err (traces.Bad at fault)
 
+abbrev pub block_size_rows : LogVersion → ℕ × List ℕ → Result ℕ TraceFault
+block_size_rows version (at, bytes) =
+    First (nat_lt (length bytes) metadata_length) (Err (traces.Short at))
+    (sized_rows version (at, bytes) (log_record_in version Due bytes))
+
+-- the records of a block of this size, in turn
+abbrev pub content_rows : LogVersion → ℕ → ℕ → List ℕ → Result BlockSoFar TraceFault
+content_rows version at size bytes =
+    InTurn (said_rows version) (block_opened at size) (log_places version (at + metadata_length) (block_content size bytes))
+
+-- the block of a log that begins at a place, with what its records said
+abbrev pub block_said : ℕ → List ℕ → BlockSoFar → LogBlock
+block_said at content so = record { place = at; content = content; block = so.block; custom = so.custom; typed = so.typed }
+
+abbrev pub log_block_in : LogVersion → ℕ × List ℕ → Result LogBlock TraceFault
+log_block_in version (at, bytes) =
+    block_size_rows version (at, bytes) >>= λ size. content_rows version at size bytes >>= λ so. Ok (block_said at (block_content size bytes) so)
+
+-- the same, after the blocks before it
 abbrev pub log_block_rows : LogVersion → List LogBlock → ℕ × List ℕ → Result (List LogBlock) TraceFault
-log_block_rows version before (at, bytes) =
-    First (nat_lt (length bytes) 16) (Err (traces.Short at))
-    (log_extents_rows version (at, bytes) (log_record_in version [] bytes) >>= λ block. Ok (before ++ block ∷ []))
+log_block_rows version before start = log_block_in version start >>= λ b. Ok (before ++ b ∷ [])
 
 -- the blocks of a log of this version
 abbrev pub recorder_blocks : LogVersion → List ℕ → Result (List LogBlock) TraceFault
@@ -89,53 +143,19 @@ recorder_blocks version bytes = InTurn (log_block_rows version) [] (block_starts
 
 -- ---- the blocks of the basic mode
 
--- Records of one thread and one process, one behind the other: the place of the first, their bytes, and what they say.
-pub record BasicRun : Type 0 where
-  pub place : ℕ
-  pub content : List ℕ
-  pub thread : ℕ
-  pub pid : ℕ
-  pub records : List BasicRec
-
--- the thread and the process of a record
-abbrev pub thread_of : BasicRec → ℕ
-thread_of (Passed e) = e.thread
-thread_of (Argument func thread pid value) = thread
-
-abbrev pub pid_of : BasicRec → ℕ
-pid_of (Passed e) = e.pid
-pid_of (Argument func thread pid value) = pid
-
--- a run of one record, and a record before the runs of those after it
-abbrev pub single_run : ℕ × List ℕ → BasicRec → BasicRun
-single_run (at, bytes) r =
-    record { place = at; content = take basic_length bytes; thread = thread_of r; pid = pid_of r; records = r ∷ [] }
-
-abbrev pub joined_runs : ℕ × List ℕ → BasicRec → List BasicRun → List BasicRun
-joined_runs start r [] = single_run start r ∷ []
-joined_runs (at, bytes) r (run ∷ runs) =
-    if run.thread == thread_of r && run.pid == pid_of r
-    then record run { place = at; content = take basic_length bytes ++ run.content; records = r ∷ run.records } ∷ runs
-    else single_run (at, bytes) r ∷ run ∷ runs
-
--- the runs of records, each of which is as long as it can be
-abbrev pub basic_runs : List (ℕ × List ℕ) → List BasicRec → List BasicRun
-basic_runs (start ∷ starts) (r ∷ records) = joined_runs start r (basic_runs starts records)
-basic_runs _ _ = []
-
 -- a run is a block, which was begun at the wall time 0
 abbrev pub run_block : BasicRun → LogBlock
 run_block run = record {
   place = run.place;
   content = run.content;
-  block = record { thread = run.thread; wall = record { secs = 0; micros = 0 }; pid = run.pid; events = basic_events run.records };
+  block = record { thread = run.owner.thread; wall = record { secs = 0; micros = 0 }; pid = run.owner.pid; events = basic_events run.records };
   custom = 0;
   typed = 0;
 }
 
 abbrev pub basic_blocks : List ℕ → Result (List LogBlock) LogFault
 basic_blocks bytes =
-    InTurn basic_rows [] (basic_starts bytes) >>= λ before. Ok (map run_block (basic_runs (basic_starts bytes) (reverse before)))
+    InTurn basic_rows no_records (basic_places 32 (drop 32 bytes)) >>= λ so. Ok (map run_block so.runs)
 
 -- ---- a log
 

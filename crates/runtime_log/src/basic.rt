@@ -1,9 +1,9 @@
 //! The records of the basic mode.
-ghost use Rattle.std.specs.Prelude.{◌≡◌, ◌≤◌, ◌+◌, ◌++◌, [], ◌∷◌, OnOk, None, drop, length, option_map, option_to_list};
+ghost use Rattle.std.specs.Prelude.{◌≡◌, ◌≤◌, ◌<◌, ◌+◌, [], ◌∷◌, MatchOption, OnOk, drop, length};
 ghost use Rattle.byteorder.specs.Endian.{little_number};
 ghost use Rattle.fdr_file.specs.Traces.{logs_arg};
-ghost use Rattle.runtime_log.specs.BasicLogs.{argument_in, basic_events, kind_numbered, may_follow, passing_rows, tagged_rows, takes_argument};
-ghost use Rattle.runtime_log.specs.private.Records.{basic_view, before_view, owner_in, read_view, recs_in};
+ghost use Rattle.runtime_log.specs.BasicLogs.{argument_in, basic_events, kind_numbered, may_follow, owner_of, passing_rows, same_owner, tagged_rows, takes_argument, with_argument};
+ghost use Rattle.runtime_log.specs.private.Records.{records_in};
 
 use crate::fault::LogFault;
 use byteorder::{ByteOrder, LittleEndian};
@@ -46,14 +46,16 @@ const VALUE_AT: usize = 16;
 
 /// Whose record it is.
 #[derive(Clone, Copy, Debug, PartialEq, Eq)]
-pub(crate) struct Owner {
-    pub(crate) thread: u32,
-    pub(crate) pid: u32,
+pub struct Owner {
+    /// The thread's id.
+    pub thread: u32,
+    /// The process.
+    pub pid: u32,
 }
 
 /// What a record says.
 #[derive(Clone, Copy, Debug, PartialEq, Eq)]
-pub(crate) enum BasicRec {
+pub enum BasicRec {
     /// A passing.
     Passed {
         /// Whose.
@@ -75,12 +77,19 @@ pub(crate) enum BasicRec {
 impl BasicRec {
     /// Whose record it is.
     pub(crate) fn owner(&self) -> Owner
-        ensures { result ≡ owner_in self.now }
+        ensures { result ≡ owner_of self.now }
     {
         match *self {
             BasicRec::Passed { owner, .. } | BasicRec::Argument { owner, .. } => owner,
         }
     }
+}
+
+/// Whether a thread and a process are those of another owner.
+pub(crate) fn same_owner(one: Owner, other: Owner) -> bool
+    ensures { result ≡ same_owner one other }
+{
+    one.thread == other.thread && one.pid == other.pid
 }
 
 /// The number in the four bytes at a place, lowest byte first.
@@ -125,7 +134,7 @@ fn logs_arg(kind: Kind) -> bool
 /// The passing that a record says, which is at this place of the log.
 fn passing_in(place: u64, bytes: &[u8]) -> Result<BasicRec, LogFault>
     requires { 32 ≤ length bytes.now }
-    ensures { read_view result ≡ passing_rows place bytes.now }
+    ensures { result ≡ passing_rows place bytes.now }
 {
     let number = bytes[KIND_AT];
     let Some(kind) = kind_of(number) else {
@@ -156,7 +165,7 @@ fn passing_in(place: u64, bytes: &[u8]) -> Result<BasicRec, LogFault>
 /// The argument that a record says.
 fn argument_in(bytes: &[u8]) -> BasicRec
     requires { 32 ≤ length bytes.now }
-    ensures { basic_view result ≡ argument_in bytes.now }
+    ensures { result ≡ argument_in bytes.now }
 {
     BasicRec::Argument {
         owner: Owner {
@@ -170,7 +179,7 @@ fn argument_in(bytes: &[u8]) -> BasicRec
 
 /// The record that bytes begin with, at this place of the log.
 pub(crate) fn record_in(place: u64, bytes: &[u8]) -> Result<BasicRec, LogFault>
-    ensures reads { read_view result ≡ tagged_rows place bytes.now }
+    ensures reads { result ≡ tagged_rows place bytes.now }
     ensures whole { OnOk result (32 ≤ length bytes.now) }
 {
     if bytes.len() < RECORD_BYTES {
@@ -184,22 +193,22 @@ pub(crate) fn record_in(place: u64, bytes: &[u8]) -> Result<BasicRec, LogFault>
 }
 
 /// Whether an argument of this owner's call of a function may stand behind a record.
-fn takes_argument(before: &BasicRec, of: Owner, function: u32) -> bool
-    ensures { result ≡ takes_argument (basic_view before.now ∷ []) function of.thread of.pid }
+fn takes_argument(before: BasicRec, of: Owner, function: u32) -> bool
+    ensures { result ≡ takes_argument before of function }
 {
-    match *before {
+    match before {
         BasicRec::Passed { owner, event } => {
-            logs_arg(event.kind) && event.func == function && owner == of
+            logs_arg(event.kind) && event.func == function && same_owner(owner, of)
         }
-        BasicRec::Argument { owner, func, .. } => func == function && owner == of,
+        BasicRec::Argument { owner, func, .. } => func == function && same_owner(owner, of),
     }
 }
 
 /// Whether a record may stand behind another one.
-pub(crate) fn may_follow(before: Option<&BasicRec>, rec: &BasicRec) -> bool
-    ensures { result ≡ may_follow (before_view (option_map (λ b. b.now) before.entry)) (basic_view rec.now) }
+pub(crate) fn may_follow(before: Option<BasicRec>, rec: BasicRec) -> bool
+    ensures { result ≡ may_follow before rec }
 {
-    match *rec {
+    match rec {
         BasicRec::Passed { .. } => true,
         BasicRec::Argument { owner, func, .. } => match before {
             Some(before) => takes_argument(before, owner, func),
@@ -224,38 +233,51 @@ impl<'a> BasicEvents<'a> {
     }
 
     /// The next record, if there is one.
-    fn next_record(&mut self) -> Option<BasicRec>
-        ensures gives { recs_in self.old.bytes.now
-            ≡ option_to_list (option_map basic_view result) ++ recs_in self.new.bytes.now }
-        ensures ends { result ≡ None → recs_in self.old.bytes.now ≡ [] }
+    fn peek(&self) -> Option<BasicRec>
+        ensures { MatchOption result (records_in self.now.bytes.now ≡ []) (λ rec. (32 ≤ length self.now.bytes.now)
+            × (records_in self.now.bytes.now ≡ rec ∷ records_in (drop 32 self.now.bytes.now))) }
     {
-        match record_in(0, self.bytes) {
-            Ok(rec) => {
-                self.bytes = &self.bytes[RECORD_BYTES..];
-                Some(rec)
-            }
+        if self.bytes.len() < RECORD_BYTES {
+            return None;
+        }
+        match record_in(0, &self.bytes[..RECORD_BYTES]) {
+            Ok(rec) => Some(rec),
             Err(_) => None,
         }
     }
 
-    /// The argument that the next record says, if it says one.
-    fn argument(&self) -> Option<u64> {
-        match record_in(0, self.bytes) {
-            Ok(BasicRec::Argument { value, .. }) => Some(value),
-            _ => None,
+    /// The same, and goes past it.
+    fn next_record(&mut self) -> Option<BasicRec>
+        ensures { MatchOption result (records_in self.old.bytes.now ≡ []) (λ rec.
+            (records_in self.old.bytes.now ≡ rec ∷ records_in self.new.bytes.now)
+            × (length self.new.bytes.now < length self.old.bytes.now)) }
+    {
+        let rec = self.peek()?;
+        self.bytes = &self.bytes[RECORD_BYTES..];
+        Some(rec)
+    }
+
+    /// An event, with the argument that the next record says, if it says one.
+    fn argued(&self, event: Event) -> Event
+        ensures { result ≡ with_argument event (records_in self.now.bytes.now) }
+    {
+        match self.peek() {
+            Some(BasicRec::Argument { value, .. }) => Event {
+                arg: value,
+                ..event
+            },
+            Some(BasicRec::Passed { .. }) | None => event,
         }
     }
 
     /// The next event.
     pub(crate) fn next(&mut self) -> Option<Event>
-        ensures gives { basic_events (recs_in self.old.bytes.now)
-            ≡ option_to_list result ++ basic_events (recs_in self.new.bytes.now) }
-        ensures ends { result ≡ None → basic_events (recs_in self.old.bytes.now) ≡ [] }
+        ensures { MatchOption result (basic_events (records_in self.old.bytes.now) ≡ []) (λ event.
+            basic_events (records_in self.old.bytes.now) ≡ event ∷ basic_events (records_in self.new.bytes.now)) }
     {
-        'passing: while let Some(rec) = self.next_record() {
+        'records: while let Some(rec) = self.next_record() {
             if let BasicRec::Passed { event, .. } = rec {
-                let arg = self.argument().unwrap_or(event.arg);
-                return Some(Event { arg, ..event });
+                return Some(self.argued(event));
             }
         }
         None

@@ -1,7 +1,6 @@
 //! Events that a program logs itself.
-ghost use Rattle.std.specs.Prelude.{◌≡◌, ◌≤◌, length};
-ghost use Rattle.runtime_log.specs.OwnEvents.{own_delta, own_kind, own_size};
-ghost use Rattle.runtime_log.specs.private.Walks.{own_length};
+ghost use Rattle.std.specs.Prelude.{◌≡◌, ◌≤◌, IfSome, length};
+ghost use Rattle.runtime_log.specs.OwnEvents.{first_kind, own_delta, own_kind, own_size};
 
 use crate::version::LogVersion;
 use byteorder::{ByteOrder, LittleEndian};
@@ -28,19 +27,30 @@ pub enum OwnKind {
     Typed,
 }
 
-/// The kind of event of the program's own that bytes begin with, if they begin with one.
-pub(crate) fn own_kind(version: LogVersion, bytes: &[u8]) -> Option<OwnKind>
-    ensures { result ≡ own_kind version bytes.now }
+/// The kind of event of the program's own whose record begins with a byte, if it is one.
+fn first_kind(version: LogVersion, first: u8) -> Option<OwnKind>
+    ensures { result ≡ first_kind version first }
 {
-    match bytes {
-        [] => None,
-        [CUSTOM, ..] => Some(OwnKind::Custom),
-        [TYPED, ..] => match version {
+    match first {
+        CUSTOM => Some(OwnKind::Custom),
+        TYPED => match version {
             LogVersion::Five => Some(OwnKind::Typed),
             LogVersion::Two | LogVersion::Three | LogVersion::Four => None,
         },
-        [_, ..] => None,
+        _ => None,
     }
+}
+
+/// The kind of event of the program's own whose record bytes begin with, if they begin with a whole
+/// one.
+pub(crate) fn own_kind(version: LogVersion, bytes: &[u8]) -> Option<OwnKind>
+    ensures kind { result ≡ own_kind version bytes.now }
+    ensures whole { IfSome result (λ _. 16 ≤ length bytes.now) }
+{
+    if bytes.len() < METADATA_BYTES {
+        return None;
+    }
+    first_kind(version, bytes[0])
 }
 
 /// How many bytes of the program's own stand behind the record that bytes begin with.
@@ -59,17 +69,5 @@ pub(crate) fn own_delta(version: LogVersion, bytes: &[u8]) -> u32
     match version {
         LogVersion::Two | LogVersion::Three | LogVersion::Four => 0,
         LogVersion::Five => LittleEndian::read_u32(&bytes[DELTA_AT..]),
-    }
-}
-
-/// The length of an event's record and of the bytes behind it. If the record isn't whole, that of a
-/// record.
-pub(crate) fn own_len(bytes: &[u8]) -> usize
-    ensures { result ≡ own_length bytes.now }
-{
-    if bytes.len() < METADATA_BYTES {
-        METADATA_BYTES
-    } else {
-        METADATA_BYTES + own_size(bytes) as usize
     }
 }

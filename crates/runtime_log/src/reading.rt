@@ -1,34 +1,31 @@
 //! All blocks of a log, in the order of the file.
-ghost use Rattle.std.specs.Prelude.{◌≡◌, ◌⊎◌, ◌<◌, ◌≤◌, ◌+◌, ◌^◌, [], ◌∷◌, List, Ok, Err, IfErr, IfOk, OnOk, drop, length, option_map, if◌then◌else◌};
-ghost use Rattle.std.specs.Option.{option_or};
+ghost use Rattle.std.specs.Prelude.{◌≡◌, ◌⊎◌, ◌<◌, ◌≤◌, ◌+◌, ◌++◌, ◌^◌, ℕ, [], List, Ok, Err, IfErr, IfOk, OnOk, drop, length, option_to_list, take};
+ghost use Rattle.xray_io.specs.Rows.{InTurn};
 ghost use Rattle.fdr_file.specs.declared.fault.TraceFault.TheVariants.{NoMemory as NoRoom};
+ghost use Rattle.fdr_file.specs.declared.trace.Block.{Block as TheBlock};
+ghost use Rattle.fdr_file.specs.Scanning.{empty_block};
+ghost use Rattle.fdr_record.specs.declared.event.Event.{Event as TheEvent};
 ghost use Rattle.runtime_log.specs.declared.fault.LogFault.TheVariants.{Trace};
-ghost use Rattle.runtime_log.specs.Logs.{LogBlock as SaidBlock, is_custom, is_typed, log_block_rows};
-ghost use Rattle.runtime_log.specs.private.{Choices.{IsAt}, Headers.{header_for, mode_of}, Readings.{AreRead, blocks_said}};
+ghost use Rattle.runtime_log.specs.Logs.{BlockSoFar, LogBlock as SaidBlock, block_with, log_block_in, log_places, one_custom, one_typed, said_rows};
+ghost use Rattle.runtime_log.specs.BasicLogs.{BasicRun, runs_with, single_run, tagged_rows};
+ghost use Rattle.runtime_log.specs.private.Choices.{IsAt, Shows, counter_first};
+ghost use Rattle.runtime_log.specs.private.Headers.{header_for, mode_of};
+ghost use Rattle.runtime_log.specs.private.Readings.{AreRead, AreRuns, BelongsAt, HasRead, IsRun, RecordsRead, blocks_said};
 
-use crate::basic::{BasicRec, RECORD_BYTES, may_follow, record_in};
+use crate::basic::{BasicRec, Owner, RECORD_BYTES, may_follow, record_in, same_owner};
 use crate::blocks::{LogBlock, LogBlocks, Mode};
 use crate::fault::LogFault;
 use crate::own_event::OwnKind;
 use crate::version::LogVersion;
 use crate::walk::BlockWalk;
 use byteorder::{ByteOrder, LittleEndian};
-use fdr_file::{Header, Told, TraceFault, VERSION};
+use fdr_file::{HEADER_BYTES, Header, Told, TraceFault, VERSION, header_fields};
 use fdr_record::Event;
 use std::alloc::Global;
 use xray_io::{NoMemory, Wall};
 
-/// The length of a header in bytes.
-const HEADER_BYTES: usize = 32;
-
-/// The places of a header's fields.
+/// The place of the type in a header.
 const TYPE_AT: usize = 2;
-
-const FLAGS_AT: usize = 4;
-
-const FREQUENCY_AT: usize = 8;
-
-const SIZE_AT: usize = 16;
 
 /// The types of logs.
 const BASIC: u16 = 0;
@@ -37,11 +34,6 @@ const RECORDER: u16 = 1;
 
 /// The version of basic logs.
 const BASIC_VERSION: u16 = 3;
-
-/// The flag that the counter runs at a constant frequency, and the flag that it never stops.
-const CONSTANT: u32 = 1;
-
-const NONSTOP: u32 = 2;
 
 /// The mode of a log, or why its header isn't that of one.
 pub(crate) fn read_mode(bytes: &[u8]) -> Result<Mode, TraceFault>
@@ -73,22 +65,22 @@ pub(crate) fn trace_header(bytes: &[u8], mode: Mode) -> Header
     requires { 32 ≤ length bytes.now }
     ensures { result ≡ header_for mode bytes.now }
 {
-    let flags = LittleEndian::read_u32(&bytes[FLAGS_AT..]);
+    let fields = header_fields(bytes);
+    let size = match mode {
+        Mode::Recorder(_) => fields.size,
+        Mode::Basic => 0,
+    };
     Header {
         version: VERSION,
-        constant: flags & CONSTANT != 0,
-        nonstop: flags & NONSTOP != 0,
-        frequency: LittleEndian::read_u64(&bytes[FREQUENCY_AT..]),
-        size: match mode {
-            Mode::Recorder(_) => LittleEndian::read_u64(&bytes[SIZE_AT..]),
-            Mode::Basic => 0,
-        },
+        size,
+        ..fields
     }
 }
 
 /// The first of these, if there are any: a counter, and those of two events.
 fn earlier(first: Option<u64>, entry: Option<Event>, event: Option<Event>) -> Option<u64>
-    ensures { result ≡ option_or first (option_map (λ e. e.tsc) (option_or entry event)) }
+    ensures { (events : List TheEvent) → first ≡ counter_first events
+        → result ≡ counter_first (events ++ (option_to_list entry ++ option_to_list event)) }
 {
     if first.is_some() {
         return first;
@@ -100,9 +92,87 @@ fn earlier(first: Option<u64>, entry: Option<Event>, event: Option<Event>) -> Op
     }
 }
 
+/// The record of a basic log that begins at a place.
+fn basic_record(bytes: &[u8], at: usize) -> Result<BasicRec, LogFault>
+    requires { at ≤ length bytes.now }
+    ensures reads { result ≡ tagged_rows at (take 32 (drop at bytes.now)) }
+    ensures whole { OnOk result (at + 32 ≤ length bytes.now) }
+{
+    let end = bytes.len().min(at + RECORD_BYTES);
+    record_in(at as u64, &bytes[at..end])
+}
+
+/// A block of one record of a basic log, which is at a place.
+fn single_record(at: usize, rec: BasicRec) -> LogBlock
+    requires few { at + 32 < 2 ^ 64 }
+    ensures run { (bytes : List ℕ) → BelongsAt bytes at rec → IsRun bytes result (single_run (at, drop at bytes) rec) }
+    ensures place { (result.begin ≡ at) × (result.end ≡ at + 32) }
+{
+    let owner = rec.owner();
+    let first = match rec {
+        BasicRec::Passed { event, .. } => Some(event.tsc),
+        BasicRec::Argument { .. } => None,
+    };
+    LogBlock {
+        begin: at,
+        end: at + RECORD_BYTES,
+        thread: owner.thread,
+        pid: owner.pid,
+        wall: Wall { secs: 0, micros: 0 },
+        first,
+    }
+}
+
+/// A block that begins at a place, before any record.
+fn opened(at: usize) -> LogBlock
+    ensures begin { result.begin ≡ at }
+    ensures shows { Shows result (empty_block 0 (record { secs = 0; micros = 0 }) 0) }
+{
+    LogBlock {
+        begin: at,
+        end: at,
+        thread: 0,
+        pid: 0,
+        wall: Wall { secs: 0, micros: 0 },
+        first: None,
+    }
+}
+
+impl LogBlock {
+    /// The thread and the process.
+    fn owner(&self) -> Owner
+        ensures { (result.thread ≡ self.now.thread) × (result.pid ≡ self.now.pid) }
+    {
+        Owner {
+            thread: self.thread,
+            pid: self.pid,
+        }
+    }
+
+    /// Takes what a record says of the block.
+    fn hear(&mut self, told: Told)
+        ensures shows { (b : TheBlock) → Shows self.old b → Shows self.new (block_with told b) }
+        ensures places { (self.new.begin ≡ self.old.begin) × (self.new.end ≡ self.old.end) }
+    {
+        match told {
+            Told::Nothing => (),
+            Told::Begun { thread, wall, pid } => {
+                self.thread = thread;
+                self.wall = wall;
+                self.pid = pid;
+            }
+            Told::Noted { entry, event } => {
+                self.first = earlier(self.first, entry, event);
+            }
+        }
+    }
+}
+
 impl LogBlocks {
     /// No block.
-    fn new(alloc: Global, mode: Mode) -> LogBlocks {
+    fn new(alloc: Global, mode: Mode) -> LogBlocks
+        ensures { (result.mode ≡ mode) × (result.blocks.items ≡ []) × (result.custom ≡ 0) × (result.typed ≡ 0) }
+    {
         LogBlocks {
             mode,
             blocks: Vec::new(alloc),
@@ -114,15 +184,42 @@ impl LogBlocks {
     /// Counts an event of the program's own, if it is one. A log has fewer than 2^32.
     fn count(&mut self, own: Option<OwnKind>)
         requires few { (self.old.custom < 2 ^ 32) × (self.old.typed < 2 ^ 32) }
-        ensures custom { self.new.custom ≡ self.old.custom + (if is_custom own then 1 else 0) }
-        ensures typed { self.new.typed ≡ self.old.typed + (if is_typed own then 1 else 0) }
-        ensures rest { (self.new.blocks ≡ self.old.blocks) × (self.new.mode ≡ self.old.mode) }
+        ensures custom { self.new.custom ≡ self.old.custom + one_custom own }
+        ensures typed { self.new.typed ≡ self.old.typed + one_typed own }
+        ensures others { (self.new.blocks ≡ self.old.blocks) × (self.new.mode ≡ self.old.mode) }
     {
         match own {
             Some(OwnKind::Custom) => self.custom += 1,
             Some(OwnKind::Typed) => self.typed += 1,
             None => (),
         }
+    }
+
+    /// Takes the records of a block that are left.
+    fn read_records(
+        &mut self,
+        mut walk: BlockWalk,
+        mut block: LogBlock,
+    ) -> Result<LogBlock, TraceFault>
+        requires few { walk.at + length walk.rest.now < 2 ^ 32 }
+        requires counts { (self.old.custom ≤ walk.at) × (self.old.typed ≤ walk.at) }
+        ensures reads { (so : BlockSoFar) → walk.stage ≡ so.stage → Shows block so.block
+            → IfOk result (λ placed. RecordsRead self.old self.new so placed
+            (InTurn (said_rows walk.version) so (log_places walk.version walk.at walk.rest.now))) }
+        ensures refuses { (so : BlockSoFar) → walk.stage ≡ so.stage → IfErr result (λ fault.
+            InTurn (said_rows walk.version) so (log_places walk.version walk.at walk.rest.now) ≡ Err fault) }
+        ensures counts { (self.new.custom ≤ walk.at + length walk.rest.now)
+            × (self.new.typed ≤ walk.at + length walk.rest.now) }
+        ensures begin { IfOk result (λ placed. (placed.begin ≡ block.begin) × (placed.end ≡ walk.at + length walk.rest.now)) }
+        ensures others { (self.new.blocks ≡ self.old.blocks) × (self.new.mode ≡ self.old.mode) }
+    {
+        'records: while walk.left() > 0 {
+            let (told, own) = walk.step()?;
+            self.count(own);
+            block.hear(told);
+        }
+        block.end = walk.at() as usize;
+        Ok(block)
     }
 
     /// The block that begins at a place of a log of the Flight Data Recorder mode.
@@ -135,46 +232,25 @@ impl LogBlocks {
         requires few { length bytes.now < 2 ^ 32 }
         requires within { at ≤ length bytes.now }
         requires counts { (self.old.custom ≤ at) × (self.old.typed ≤ at) }
-        ensures counts { IfOk result (λ block. (self.new.custom ≤ block.end) × (self.new.typed ≤ block.end)) }
-        ensures reads { IfOk result (λ block. (b : SaidBlock)
-            × (log_block_rows version [] (at, drop at bytes.now) ≡ Ok (b ∷ []))
-            × IsAt bytes.now self.old.mode block b
+        ensures reads { IfOk result (λ placed. (b : SaidBlock) × (log_block_in version (at, drop at bytes.now) ≡ Ok b)
+            × IsAt bytes.now (Mode.Recorder version) placed b
             × (self.new.custom ≡ self.old.custom + b.custom) × (self.new.typed ≡ self.old.typed + b.typed)) }
-        ensures refuses { IfErr result (λ fault. log_block_rows version [] (at, drop at bytes.now) ≡ Err fault) }
-        ensures further { IfOk result (λ block. (at < block.end) × (block.end ≤ length bytes.now)) }
-        ensures blocks { (self.new.blocks ≡ self.old.blocks) × (self.new.mode ≡ self.old.mode) }
+        ensures refuses { IfErr result (λ fault. log_block_in version (at, drop at bytes.now) ≡ Err fault) }
+        ensures counts { IfOk result (λ placed. (self.new.custom ≤ placed.end) × (self.new.typed ≤ placed.end)) }
+        ensures further { IfOk result (λ placed. at < placed.end) }
+        ensures others { (self.new.blocks ≡ self.old.blocks) × (self.new.mode ≡ self.old.mode) }
     {
-        let mut walk = BlockWalk::open(version, bytes, at)?;
-        let mut block = LogBlock {
-            begin: at,
-            end: at,
-            thread: 0,
-            pid: 0,
-            wall: Wall { secs: 0, micros: 0 },
-            first: None,
-        };
-        'records: while !walk.is_done() {
-            let (told, own) = walk.step()?;
-            self.count(own);
-            match told {
-                Told::Nothing => (),
-                Told::Begun { thread, wall, pid } => {
-                    block.thread = thread;
-                    block.wall = wall;
-                    block.pid = pid;
-                }
-                Told::Noted { entry, event } => {
-                    block.first = earlier(block.first, entry, event);
-                }
-            }
-        }
-        block.end = walk.at();
-        Ok(block)
+        let walk = BlockWalk::open(version, at as u64, &bytes[at..])?;
+        self.read_records(walk, opened(at))
     }
 
     /// The blocks of a log of the Flight Data Recorder mode.
     fn read_recorder(&mut self, version: LogVersion, bytes: &[u8]) -> Result<(), LogFault>
-        requires few { length bytes.now < 2 ^ 32 }
+        requires few { (32 ≤ length bytes.now) × (length bytes.now < 2 ^ 32) }
+        requires none { (self.old.blocks.items ≡ []) × (self.old.custom ≡ 0) × (self.old.typed ≡ 0) }
+        requires mode { self.old.mode ≡ Mode.Recorder version }
+        ensures { HasRead bytes.now self.new result }
+        ensures mode { self.new.mode ≡ self.old.mode }
     {
         let mut at = HEADER_BYTES;
         'blocks: while at < bytes.len() {
@@ -190,43 +266,42 @@ impl LogBlocks {
 
     /// Takes a record of a basic log, which is at this place. It goes on with the last block if it is
     /// of the same thread and process.
-    fn add_record(&mut self, at: usize, rec: &BasicRec) -> Result<(), NoMemory> {
-        let owner = rec.owner();
-        let end = at + RECORD_BYTES;
+    fn add_record(&mut self, at: usize, rec: BasicRec) -> Result<(), NoMemory>
+        requires few { at + 32 < 2 ^ 64 }
+        ensures adds { (bytes : List ℕ) (runs : List BasicRun) → AreRuns bytes 32 at runs self.old.blocks.items
+            → BelongsAt bytes at rec → OnOk result (AreRuns bytes 32 (at + 32)
+            (runs_with runs (at, drop at bytes) rec) self.new.blocks.items) }
+        ensures others { (self.new.custom ≡ self.old.custom) × (self.new.typed ≡ self.old.typed)
+            × (self.new.mode ≡ self.old.mode) }
+    {
+        let single = single_record(at, rec);
         if let Some(last) = self.blocks.last_mut() {
-            if last.thread == owner.thread && last.pid == owner.pid {
-                last.end = end;
+            if same_owner(last.owner(), rec.owner()) {
+                last.end = single.end;
+                last.first = last.first.or(single.first);
                 return Ok(());
             }
         }
-        let first = match rec {
-            BasicRec::Passed { event, .. } => Some(event.tsc),
-            BasicRec::Argument { .. } => None,
-        };
-        self.blocks.push(LogBlock {
-            begin: at,
-            end,
-            thread: owner.thread,
-            pid: owner.pid,
-            wall: Wall { secs: 0, micros: 0 },
-            first,
-        })?;
+        self.blocks.push(single)?;
         Ok(())
     }
 
     /// The blocks of a basic log.
     fn read_basic(&mut self, bytes: &[u8]) -> Result<(), LogFault>
-        requires few { length bytes.now < 2 ^ 32 }
+        requires few { (32 ≤ length bytes.now) × (length bytes.now < 2 ^ 32) }
+        requires none { (self.old.blocks.items ≡ []) × (self.old.custom ≡ 0) × (self.old.typed ≡ 0) }
+        requires mode { self.old.mode ≡ Mode.Basic }
+        ensures { HasRead bytes.now self.new result }
+        ensures mode { self.new.mode ≡ self.old.mode }
     {
         let mut at = HEADER_BYTES;
         let mut before = None;
         'records: while at < bytes.len() {
-            let place = at as u64;
-            let rec = record_in(place, &bytes[at..])?;
-            if !may_follow(before.as_ref(), &rec) {
-                return Err(LogFault::Trace(TraceFault::Order(place)));
+            let rec = basic_record(bytes, at)?;
+            if !may_follow(before, rec) {
+                return Err(LogFault::Trace(TraceFault::Order(at as u64)));
             }
-            self.add_record(at, &rec)?;
+            self.add_record(at, rec)?;
             before = Some(rec);
             at += RECORD_BYTES;
         }
@@ -235,8 +310,7 @@ impl LogBlocks {
 
     /// All blocks of a log of this mode.
     pub(crate) fn read(alloc: Global, bytes: &[u8], mode: Mode) -> Result<LogBlocks, LogFault>
-        requires few { length bytes.now < 2 ^ 32 }
-        requires mode { mode_of bytes.now ≡ Ok mode }
+        requires few { (32 ≤ length bytes.now) × (length bytes.now < 2 ^ 32) }
         ensures mode { IfOk result (λ blocks. blocks.mode ≡ mode) }
         ensures reads { IfOk result (λ blocks. (said : List SaidBlock) × (blocks_said mode bytes.now ≡ Ok said)
             × AreRead bytes.now said blocks) }

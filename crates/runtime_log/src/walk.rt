@@ -1,11 +1,12 @@
 //! The records of a block of the Flight Data Recorder mode.
-ghost use Rattle.std.specs.Prelude.{◌≡◌, ◌<◌, ◌≤◌, ◌+◌, ◌^◌, IfOk, OnOk, drop, false, length};
-ghost use Rattle.runtime_log.specs.OwnEvents.{own_kind};
-ghost use Rattle.runtime_log.specs.private.Walks.{GoesOn, StepsTo, counter_behind, found_length, found_record, is_due, log_judged};
+ghost use Rattle.std.specs.Prelude.{◌≡◌, ◌<◌, ◌≤◌, ◌+◌, ◌^◌, IfOk, OnOk, drop, length};
+ghost use Rattle.runtime_log.specs.Logs.{block_size_rows, log_record_rows};
+ghost use Rattle.runtime_log.specs.OwnEvents.{counter_inside, counter_so_far, log_record_in, log_record_length, own_kind};
+ghost use Rattle.runtime_log.specs.private.Walks.{OpensTo, StepsTo};
 
-use crate::own_event::{OwnKind, own_delta, own_kind, own_len};
+use crate::own_event::{OwnKind, own_delta, own_kind, own_size};
 use crate::version::LogVersion;
-use fdr_file::{Stage, Told, TraceFault, judge, record_len, record_of, within_events};
+use fdr_file::{Inside, Span, Stage, Told, TraceFault, judge, record_len, record_of};
 use fdr_record::{METADATA_BYTES, Rec, RecFault};
 
 /// A way through the records of a block, from one to the next. A record of the program's own stands
@@ -13,10 +14,10 @@ use fdr_record::{METADATA_BYTES, Rec, RecFault};
 #[derive(Clone, Copy)]
 pub(crate) struct BlockWalk<'a> {
     version: LogVersion,
-    /// The log.
-    bytes: &'a [u8],
+    /// The bytes of the block from the next record on.
+    rest: &'a [u8],
     /// The place of the next record.
-    at: usize,
+    at: u64,
     stage: Stage,
 }
 
@@ -29,128 +30,141 @@ struct Found {
     own: Option<OwnKind>,
 }
 
+/// The counter of the last record, if a CPU was named; otherwise 0.
+fn counter_inside(inside: Inside) -> u64
+    ensures { result ≡ counter_inside inside }
+{
+    match inside {
+        Inside::Opened | Inside::Thread { .. } | Inside::Wall { .. } => 0,
+        Inside::Events { base } => match base {
+            Some(base) => base.tsc,
+            None => 0,
+        },
+    }
+}
+
+/// The same, where the reading of a block stands.
+fn counter_so_far(stage: Stage) -> u64
+    ensures { result ≡ counter_so_far stage }
+{
+    match stage {
+        Stage::Within { inside, .. } => counter_inside(inside),
+        Stage::Due | Stage::Faulty { .. } => 0,
+    }
+}
+
 /// What bytes begin with, at this stage.
 fn found_in(version: LogVersion, stage: Stage, bytes: &[u8]) -> Found
     requires { 0 < length bytes.now }
-    ensures len { result.len ≡ found_length version bytes.now }
-    ensures rec { result.rec ≡ found_record version stage bytes.now }
+    ensures len { result.len ≡ log_record_length version bytes.now }
+    ensures some { 0 < result.len }
+    ensures rec { result.rec ≡ log_record_in version stage bytes.now }
     ensures own { result.own ≡ own_kind version bytes.now }
 {
-    match own_kind(version, bytes) {
-        None => Found {
+    let own = own_kind(version, bytes);
+    if own.is_none() {
+        return Found {
             len: record_len(bytes),
             rec: record_of(bytes),
-            own: None,
-        },
-        own => {
-            let len = own_len(bytes);
-            let tsc = counter_behind(version, stage, bytes);
-            Found {
-                len,
-                rec: Ok(Rec::TscWrap { tsc }),
-                own,
-            }
-        }
+            own,
+        };
+    }
+    let delta = u64::from(own_delta(version, bytes));
+    let tsc = counter_so_far(stage).wrapping_add(delta);
+    Found {
+        len: METADATA_BYTES + own_size(bytes) as usize,
+        rec: Ok(Rec::TscWrap { tsc }),
+        own,
     }
 }
 
-/// The counter at an event of the program's own, which bytes begin with. It is 0 if the record isn't
-/// whole.
-fn counter_behind(version: LogVersion, stage: Stage, bytes: &[u8]) -> u64
-    ensures { result ≡ counter_behind version stage bytes.now }
+/// How many bytes the block at a place has after its extents, which these bytes begin with.
+fn block_size(version: LogVersion, at: u64, bytes: &[u8]) -> Result<usize, TraceFault>
+    requires { length bytes.now < 2 ^ 32 }
+    ensures size { result ≡ block_size_rows version (at, bytes.now) }
+    ensures whole { OnOk result (16 ≤ length bytes.now) }
+    ensures fits { IfOk result (λ size. 16 + size ≤ length bytes.now) }
 {
     if bytes.len() < METADATA_BYTES {
-        return 0;
+        return Err(TraceFault::Short(at));
     }
-    let before = match within_events(stage) {
-        Some((_, base)) => base.tsc,
-        None => 0,
+    let rec = match found_in(version, Stage::Due, bytes).rec {
+        Ok(rec) => rec,
+        Err(fault) => return Err(TraceFault::Bad(at, fault)),
     };
-    before.wrapping_add(u64::from(own_delta(version, bytes)))
+    let Rec::Extents { size } = rec else {
+        return Err(TraceFault::Order(at));
+    };
+    if size < version.as_trace().preamble_bytes() {
+        return Err(TraceFault::Extents(at));
+    }
+    if ((bytes.len() - METADATA_BYTES) as u64) < size {
+        return Err(TraceFault::Short(at));
+    }
+    Ok(size as usize)
 }
 
 impl<'a> BlockWalk<'a> {
-    /// Before the preamble of the block that begins at a place of a log.
+    /// Before the first record of the block at a place, whose extents these bytes begin with.
     pub(crate) fn open(
         version: LogVersion,
+        at: u64,
         bytes: &'a [u8],
-        at: usize,
     ) -> Result<BlockWalk<'a>, TraceFault>
-        requires few { length bytes.entry.now < 2 ^ 32 }
-        requires within { at ≤ length bytes.entry.now }
-        ensures whole { IfOk result (λ walk. GoesOn walk × (at < walk.at)) }
-        ensures bytes { IfOk result (λ walk. (walk.bytes.now ≡ bytes.entry.now) × (walk.version ≡ version)) }
+        requires few { at + length bytes.entry.now < 2 ^ 32 }
+        ensures { OpensTo version at bytes.entry.now result }
     {
-        let place = at as u64;
-        let rest = &bytes[at..];
-        if rest.len() < METADATA_BYTES {
-            return Err(TraceFault::Short(place));
-        }
-        let found = found_in(version, Stage::Due, rest);
-        let (stage, _) = judge(
-            version.as_trace(),
-            Stage::Due,
-            place,
-            METADATA_BYTES,
-            found.rec,
-        );
-        match stage {
-            Stage::Within { span, .. } => {
-                if (bytes.len() as u128) < span.end {
-                    return Err(TraceFault::Short(place));
-                }
-                Ok(BlockWalk {
-                    version,
-                    bytes,
-                    at: at + METADATA_BYTES,
-                    stage,
-                })
-            }
-            Stage::Faulty { fault, .. } => Err(fault),
-            Stage::Due => unreachable!(),
-        }
+        let size = block_size(version, at, bytes)?;
+        let end = u128::from(at) + (METADATA_BYTES + size) as u128;
+        let span = Span { begin: at, end };
+        Ok(BlockWalk {
+            version,
+            rest: &bytes[METADATA_BYTES..METADATA_BYTES + size],
+            at: at + METADATA_BYTES as u64,
+            stage: Stage::Within {
+                span,
+                inside: Inside::Opened,
+            },
+        })
     }
 
     /// The place of the next record, or that after the block.
-    pub(crate) fn at(&self) -> usize
+    pub(crate) fn at(&self) -> u64
         ensures { result ≡ self.now.at }
     {
         self.at
     }
 
-    /// Whether all records were passed.
-    pub(crate) fn is_done(&self) -> bool
-        ensures { result ≡ is_due self.now.stage }
+    /// How many bytes of the block are left.
+    pub(crate) fn left(&self) -> usize
+        ensures { result ≡ length self.now.rest.now }
     {
-        matches!(self.stage, Stage::Due)
+        self.rest.len()
     }
 
     /// Goes past the next record. Returns what it says, and its kind if it is an event of the
     /// program's own.
     pub(crate) fn step(&mut self) -> Result<(Told, Option<OwnKind>), TraceFault>
-        requires on { GoesOn self.old }
-        requires left { is_due self.old.stage ≡ false }
-        ensures steps { let rest = drop self.old.at self.old.bytes.now in
-            StepsTo (log_judged self.old.version self.old.stage self.old.at rest) self.new.stage result }
-        ensures own { IfOk result (λ x. x.1 ≡ own_kind self.old.version (drop self.old.at self.old.bytes.now)) }
-        ensures next { OnOk result (self.new.at
-            ≡ self.old.at + found_length self.old.version (drop self.old.at self.old.bytes.now)) }
-        ensures on { GoesOn self.new }
-        ensures further { OnOk result (self.old.at < self.new.at) }
-        ensures bytes { (self.new.bytes ≡ self.old.bytes) × (self.new.version ≡ self.old.version) }
+        requires few { self.old.at + length self.old.rest.now < 2 ^ 32 }
+        requires left { 0 < length self.old.rest.now }
+        ensures { StepsTo self.old self.new result }
     {
-        let found = found_in(self.version, self.stage, &self.bytes[self.at..]);
+        let found = found_in(self.version, self.stage, self.rest);
+        if self.rest.len() < found.len {
+            return Err(TraceFault::Extents(self.at));
+        }
         let (stage, told) = judge(
             self.version.as_trace(),
             self.stage,
-            self.at as u64,
+            self.at,
             found.len,
             found.rec,
         );
         if let Stage::Faulty { fault, .. } = stage {
             return Err(fault);
         }
-        self.at += found.len;
+        self.rest = &self.rest[found.len..];
+        self.at += found.len as u64;
         self.stage = stage;
         Ok((told, found.own))
     }

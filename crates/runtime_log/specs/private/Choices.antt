@@ -1,15 +1,16 @@
 -- Blocks by their places, and what they are of a log.
-use Rattle.std.specs.Prelude.{◌≡◌, ◌≤◌, ℕ, ◌+◌, ◌-◌, ◌==◌, ⊤, ⊥, List, [], ◌∷◌, length, take, drop, count_by, Option, Some, None, Ok, AllPairs}
+use Rattle.std.specs.Prelude.{◌≡◌, ◌≤◌, ℕ, ◌+◌, ◌-◌, ◌==◌, ⊤, ⊥, List, [], ◌∷◌, length, take, drop, count_by, Option, Some, None, Ok}
 use Rattle.std.specs.Option.{option_map_or}
 use Rattle.fdr_record.specs.declared.event.Event.{Event}
+use Rattle.fdr_file.specs.declared.trace.Block.{Block}
 use Rattle.runtime_log.specs.declared.blocks.LogBlock.{LogBlock as Placed}
 use Rattle.runtime_log.specs.declared.blocks.Mode.{Mode}
 use Rattle.runtime_log.specs.declared.blocks.Mode.TheVariants.{Recorder, Basic}
 use Rattle.runtime_log.specs.declared.taken.LeftOut.{LeftOut}
 use Rattle.runtime_log.specs.BasicLogs.{basic_events}
-use Rattle.runtime_log.specs.Logs.{LogBlock, log_block_rows}
+use Rattle.runtime_log.specs.Logs.{LogBlock, log_block_in}
 use Rattle.runtime_log.specs.Taken.{undoubled}
-use Rattle.runtime_log.specs.private.Records.{recs_in}
+use Rattle.runtime_log.specs.private.Records.{records_in}
 
 -- the length of what stands before the bytes of a block
 abbrev pub head_length : Mode → ℕ
@@ -31,10 +32,17 @@ abbrev pub counter_first : List Event → Option ℕ
 counter_first [] = None
 counter_first (event ∷ events) = Some event.tsc
 
+-- what is known of a block without its events is what it says
+pub record Shows (placed : Placed) (block : Block) : Type 0 where
+  pub thread : placed.thread ≡ block.thread
+  pub pid : placed.pid ≡ block.pid
+  pub wall : placed.wall ≡ block.wall
+  pub first : placed.first ≡ counter_first block.events
+
 -- a log of this mode says this block, at its place
 abbrev pub IsSaid : List ℕ → Mode → LogBlock → Type 0
-IsSaid bytes (Recorder version) b = log_block_rows version [] (b.place, drop b.place bytes) ≡ Ok (b ∷ [])
-IsSaid bytes Basic b = b.block.events ≡ basic_events (recs_in b.content)
+IsSaid bytes (Recorder version) b = log_block_in version (b.place, drop b.place bytes) ≡ Ok b
+IsSaid bytes Basic b = b.block.events ≡ basic_events (records_in b.content)
 
 -- the block of a log that is at these places of its bytes
 pub record IsAt (bytes : List ℕ) (mode : Mode) (placed : Placed) (b : LogBlock) : Type 0 where
@@ -42,10 +50,7 @@ pub record IsAt (bytes : List ℕ) (mode : Mode) (placed : Placed) (b : LogBlock
   pub within : LiesWithin bytes mode placed
   pub place : placed.begin ≡ b.place
   pub content : content_at bytes mode placed ≡ b.content
-  pub thread : placed.thread ≡ b.block.thread
-  pub pid : placed.pid ≡ b.block.pid
-  pub wall : placed.wall ≡ b.block.wall
-  pub first : placed.first ≡ counter_first b.block.events
+  pub shows : Shows placed b.block
 
 -- so are these, one for one
 abbrev pub AreAt : List ℕ → Mode → List Placed → List LogBlock → Type 0
@@ -53,9 +58,10 @@ AreAt bytes mode [] [] = ⊤
 AreAt bytes mode (placed ∷ places) (b ∷ blocks) = IsAt bytes mode placed b × AreAt bytes mode places blocks
 AreAt bytes mode _ _ = ⊥
 
--- the blocks of a log stand one behind the other
-abbrev pub AreInFileOrder : List LogBlock → Type 0
-AreInFileOrder blocks = AllPairs (λ b later. 1 + b.place ≤ later.place) blocks
+-- blocks in the order of the file, from a place on, and up to another one
+abbrev pub AreInFileOrder : ℕ → ℕ → List LogBlock → Type 0
+AreInFileOrder from to [] = from ≤ to
+AreInFileOrder from to (b ∷ blocks) = (from ≤ b.place) × AreInFileOrder (1 + b.place) to blocks
 
 -- Where a block stands in the order of time. One without events comes before those with events.
 abbrev pub time_key : Placed → List ℕ

@@ -1,11 +1,17 @@
 -- The blocks of a log, as they are read.
-use Rattle.std.specs.Prelude.{◌≡◌, ℕ, List, map, sum, Result}
+use Rattle.std.specs.Prelude.{◌≡◌, ◌≤◌, ◌⊎◌, ⊤, ⊥, ℕ, ◌+◌, ◌*◌, List, [], ◌∷◌, length, drop, map, sum, take, Option, Some, None, Result, Ok, Err, Unit}
+use Rattle.fdr_file.specs.declared.fault.TraceFault.TheVariants.{NoMemory}
+use Rattle.runtime_log.specs.declared.basic.BasicRec.{BasicRec}
+use Rattle.runtime_log.specs.declared.blocks.LogBlock.{LogBlock as Placed}
 use Rattle.runtime_log.specs.declared.blocks.LogBlocks.{LogBlocks}
 use Rattle.runtime_log.specs.declared.blocks.Mode.{Mode}
 use Rattle.runtime_log.specs.declared.blocks.Mode.TheVariants.{Recorder, Basic}
 use Rattle.runtime_log.specs.declared.fault.LogFault.{LogFault}
-use Rattle.runtime_log.specs.Logs.{LogBlock, as_log, basic_blocks, recorder_blocks}
-use Rattle.runtime_log.specs.private.Choices.{AreAt, AreInFileOrder}
+use Rattle.runtime_log.specs.declared.fault.LogFault.TheVariants.{Trace}
+use Rattle.runtime_log.specs.BasicLogs.{BasicRun, basic_length, tagged_rows}
+use Rattle.runtime_log.specs.Logs.{BlockSoFar, LogBlock, as_log, basic_blocks, recorder_blocks, run_block}
+use Rattle.runtime_log.specs.private.Choices.{AreAt, AreInFileOrder, IsAt, Shows}
+use Rattle.runtime_log.specs.private.Records.{records_in}
 
 -- the blocks of a log of this mode
 abbrev pub blocks_said : Mode → List ℕ → Result (List LogBlock) LogFault
@@ -15,6 +21,42 @@ blocks_said Basic bytes = basic_blocks bytes
 -- these are the blocks that a log says, by their places, and how many events of the program's own they have
 pub record AreRead (bytes : List ℕ) (said : List LogBlock) (blocks : LogBlocks) : Type 0 where
   pub places : AreAt bytes blocks.mode blocks.blocks.items said
-  pub order : AreInFileOrder said
+  pub order : AreInFileOrder 0 (length bytes) said
   pub custom : blocks.custom ≡ sum (map (λ b. b.custom) said)
   pub typed : blocks.typed ≡ sum (map (λ b. b.typed) said)
+
+-- what comes of reading all of them
+abbrev pub HasRead : List ℕ → LogBlocks → Result Unit LogFault → Type 0
+HasRead bytes blocks (Ok _) = (said : List LogBlock) × (blocks_said blocks.mode bytes ≡ Ok said) × AreRead bytes said blocks
+HasRead bytes blocks (Err fault) = (fault ≡ Trace NoMemory) ⊎ (blocks_said blocks.mode bytes ≡ Err fault)
+
+-- ---- the Flight Data Recorder mode
+
+-- the records of a block that were left, after the blocks before it
+pub record RecordsRead (old new : LogBlocks) (so : BlockSoFar) (placed : Placed) (read : Result BlockSoFar TraceFault) : Type 0 where
+  pub all : BlockSoFar
+  pub reads : read ≡ Ok all
+  pub shows : Shows placed all.block
+  pub custom : new.custom + so.custom ≡ old.custom + all.custom
+  pub typed : new.typed + so.typed ≡ old.typed + all.typed
+
+-- ---- the basic mode
+
+-- a record of a log is at a place, and is whole
+pub record BelongsAt (bytes : List ℕ) (at : ℕ) (rec : BasicRec) : Type 0 where
+  pub whole : at + basic_length ≤ length bytes
+  pub reads : tagged_rows at (take basic_length (drop at bytes)) ≡ Ok rec
+
+-- a block is a run of records
+pub record IsRun (bytes : List ℕ) (placed : Placed) (run : BasicRun) : Type 0 where
+  pub at : IsAt bytes Basic placed (run_block run)
+  pub records : records_in run.content ≡ run.records
+  pub whole : length run.content ≡ basic_length * length run.records
+
+-- The blocks are these runs. They stand one behind the other from a place on, and the last of them ends at another one.
+abbrev pub AreRuns : List ℕ → ℕ → ℕ → List BasicRun → List Placed → Type 0
+AreRuns bytes from to [] [] = from ≤ to
+AreRuns bytes from to (run ∷ []) (placed ∷ []) = IsRun bytes placed run × (from ≤ run.place) × (placed.end ≡ to)
+AreRuns bytes from to (run ∷ other ∷ runs) (placed ∷ second ∷ places) =
+    IsRun bytes placed run × (from ≤ run.place) × AreRuns bytes (1 + run.place) to (other ∷ runs) (second ∷ places)
+AreRuns bytes from to _ _ = ⊥

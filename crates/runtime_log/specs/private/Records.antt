@@ -1,37 +1,19 @@
--- The records of the basic mode, as they are read.
-use Rattle.std.specs.Prelude.{ℕ, List, [], ◌∷◌, Option, Some, None, Result, Ok, Err}
-use Rattle.std.specs.List.{flat_map}
-use Rattle.fdr_file.specs.Places.{starts}
-use Rattle.fdr_file.specs.ThreadEvents.{ThreadEvent}
-use Rattle.runtime_log.specs.declared.basic.BasicRec.{BasicRec as CodeRec}
-use Rattle.runtime_log.specs.declared.basic.BasicRec.TheVariants as code
-use Rattle.runtime_log.specs.declared.basic.Owner.{Owner}
+-- The records of a run of the basic mode, as they are read again.
+use Rattle.std.specs.Prelude.{ℕ, zero, suc, ◌/◌, List, [], ◌∷◌, length, drop, take, Result, Ok, Err}
+use Rattle.runtime_log.specs.declared.basic.BasicRec.{BasicRec}
 use Rattle.runtime_log.specs.declared.fault.LogFault.{LogFault}
-use Rattle.runtime_log.specs.BasicLogs.{BasicRec, Passed, Argument, basic_length, tagged_rows}
+use Rattle.runtime_log.specs.BasicLogs.{basic_length, tagged_rows}
 
--- the record of the definitions
-abbrev pub basic_view : CodeRec → BasicRec
-basic_view (code.Passed owner event) = Passed (record { thread = owner.thread; pid = owner.pid; event = event })
-basic_view (code.Argument owner func value) = Argument func owner.thread owner.pid value
+-- a record that was read, and those after it; none after a fault
+abbrev pub record_before : Result BasicRec LogFault → List BasicRec → List BasicRec
+record_before (Ok rec) records = rec ∷ records
+record_before (Err fault) records = []
 
--- what was read
-abbrev pub read_view : Result CodeRec LogFault → Result BasicRec LogFault
-read_view (Ok rec) = Ok (basic_view rec)
-read_view (Err fault) = Err fault
+-- so many records of bytes, from the first on
+abbrev pub records_read : ℕ → List ℕ → List BasicRec
+records_read zero bytes = []
+records_read (suc n) bytes = record_before (tagged_rows 0 (take basic_length bytes)) (records_read n (drop basic_length bytes))
 
--- the records before one, by the last of them
-abbrev pub before_view : Option CodeRec → List BasicRec
-before_view None = []
-before_view (Some rec) = basic_view rec ∷ []
-
-abbrev pub owner_in : CodeRec → Owner
-owner_in (code.Passed owner event) = owner
-owner_in (code.Argument owner func value) = owner
-
--- the records of bytes, from the first to the last
-abbrev pub rec_of : Result BasicRec LogFault → List BasicRec
-rec_of (Ok rec) = rec ∷ []
-rec_of (Err fault) = []
-
-abbrev pub recs_in : List ℕ → List BasicRec
-recs_in bytes = flat_map (λ place. rec_of (tagged_rows place.0 place.1)) (starts (λ rest. basic_length) 0 0 bytes)
+-- all of them
+abbrev pub records_in : List ℕ → List BasicRec
+records_in bytes = records_read (length bytes / basic_length) bytes
