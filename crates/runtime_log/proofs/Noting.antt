@@ -49,7 +49,8 @@ falls_more (f ∷ next ∷ events) e =
 -- how many threads those are whose counter falls, and the last of them
 pub back_more : (ns : List ℕ) (fell : Bool) (n : ℕ) → different (ns ++ cond fell (n ∷ []) []) ≡ different ns + cond fell (unless_one (is_number (last_number ns) n)) 0
 back_more ns true n = different_more ns n
-back_more ns false n = ap different (append-nil ns) ∙ omega arith
+back_more ns false n =
+    let none : different ns ≡ different ns + 0 = omega arith in ap different (append-nil ns) ∙ none
 
 pub fallen_more : (ns : List ℕ) (fell : Bool) (n : ℕ) → last_number (ns ++ cond fell (n ∷ []) []) ≡ cond fell (Some n) (last_number ns)
 fallen_more ns true n = last_number_more ns n

@@ -3,5 +3,7 @@ pub mod Walks
 pub mod Records
 pub mod Headers
 pub mod Choices
-pub mod Packings
 pub mod Readings
+pub mod Coming
+pub mod Notes
+pub mod Packings

@@ -1,7 +1,8 @@
 //! The blocks of a log, by their places.
-ghost use Rattle.std.specs.Prelude.{◌≡◌, ◌<◌, ◌++◌, ◌^◌, None, [], length, option_to_list};
+ghost use Rattle.std.specs.Prelude.{◌≡◌, ◌<◌, ◌+◌, ◌++◌, ◌^◌, All, None, [], length, option_to_list};
+ghost use Rattle.fdr_record.specs.Recordable.{IsRecordable};
 ghost use Rattle.runtime_log.specs.Logs.{LogBlock as SaidBlock};
-ghost use Rattle.runtime_log.specs.private.{Choices.{IsAt, LiesWithin, head_length}, Packings.{MayGive, events_to_come}, Walks.{GoesOn, walk_events}};
+ghost use Rattle.runtime_log.specs.private.{Choices.{IsAt, LiesWithin, head_length}, Coming.{MayGive, events_to_come}, Walks.{walk_events}};
 
 use crate::basic::BasicEvents;
 use crate::version::LogVersion;
@@ -76,23 +77,24 @@ pub(crate) enum BlockEvents<'a> {
 
 /// The next event of a block's records, and the one after it if it is known.
 fn next_told(walk: &mut BlockWalk) -> (Option<Event>, Option<Event>)
-    requires on { GoesOn walk.old }
-    ensures on { GoesOn walk.new }
+    requires few { walk.old.at + length walk.old.rest.now < 2 ^ 32 }
+    ensures few { walk.new.at + length walk.new.rest.now < 2 ^ 32 }
     ensures gives { walk_events walk.old
         ≡ option_to_list result.0 ++ (option_to_list result.1 ++ walk_events walk.new) }
     ensures ends { result.0 ≡ None → walk_events walk.old ≡ [] }
 {
-    'records: while !walk.is_done() {
+    'records: while walk.left() > 0 {
         match walk.step() {
-            Ok((Told::Noted { entry, event }, _)) => {
-                if entry.is_some() {
-                    return (entry, event);
-                }
-                if event.is_some() {
-                    return (event, None);
+            Ok((told, _)) => {
+                if let Told::Noted { entry, event } = told {
+                    if entry.is_some() {
+                        return (entry, event);
+                    }
+                    if event.is_some() {
+                        return (event, None);
+                    }
                 }
             }
-            Ok(_) => (),
             Err(_) => return (None, None),
         }
     }
@@ -102,19 +104,24 @@ fn next_told(walk: &mut BlockWalk) -> (Option<Event>, Option<Event>)
 impl<'a> BlockEvents<'a> {
     /// All events of a block.
     pub(crate) fn of(bytes: &'a [u8], mode: Mode, block: &LogBlock) -> BlockEvents<'a>
-        requires few { length bytes.entry.now < 2 ^ 32 }
+        requires few { length bytes.entry.now < 2 ^ 30 }
         requires within { LiesWithin bytes.entry.now mode block.now }
         ensures may { MayGive result }
-        ensures all { (b : SaidBlock) → IsAt bytes.entry.now mode block.now b → events_to_come result ≡ b.block.events }
+        ensures all { (b : SaidBlock) → IsAt bytes.entry.now mode block.now b
+            → events_to_come result ≡ b.block.events }
+        ensures recordable { All IsRecordable (events_to_come result) }
+        ensures few { length (events_to_come result) < 2 ^ 31 }
     {
         match mode {
-            Mode::Recorder(version) => match BlockWalk::open(version, bytes, block.begin) {
-                Ok(walk) => BlockEvents::Recorder {
-                    walk,
-                    pending: None,
-                },
-                Err(_) => BlockEvents::Done,
-            },
+            Mode::Recorder(version) => {
+                match BlockWalk::open(version, block.begin as u64, &bytes[block.begin..]) {
+                    Ok(walk) => BlockEvents::Recorder {
+                        walk,
+                        pending: None,
+                    },
+                    Err(_) => BlockEvents::Done,
+                }
+            }
             Mode::Basic => BlockEvents::Basic(BasicEvents::new(&bytes[block.begin..block.end])),
         }
     }

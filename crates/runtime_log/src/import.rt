@@ -1,17 +1,23 @@
 //! Logs as traces.
-ghost use Rattle.std.specs.Prelude.{◌≡◌, ◌⊎◌, ◌<◌, ◌^◌, Err, IfErr, IfOk, length};
-ghost use Rattle.fdr_file.specs.declared.fault.TraceFault.TheVariants.{NoMemory};
+ghost use Rattle.std.specs.Prelude.{◌≡◌, ◌≢◌, ◌⊎◌, ◌<◌, ◌^◌, All, List, [], Err, IfErr, IfOk, length};
+ghost use Rattle.fdr_buffer.specs.declared.buffer.TheConstants.{LARGEST_SIZE};
+ghost use Rattle.fdr_file.specs.declared.fault.TraceFault.TheVariants.{NoMemory as NoRoom};
+ghost use Rattle.fdr_file.specs.declared.header.Header.{Header as TheHeader};
 ghost use Rattle.runtime_log.specs.declared.fault.LogFault.TheVariants.{Trace};
-ghost use Rattle.runtime_log.specs.{Imports.{IsImport}, Logs.{logged}};
+ghost use Rattle.runtime_log.specs.Facts.{facts_of};
+ghost use Rattle.runtime_log.specs.Imports.{IsImport, trace_file, trace_taken};
+ghost use Rattle.runtime_log.specs.Logs.{LogBlock as SaidBlock, logged};
+ghost use Rattle.runtime_log.specs.private.{Choices.{AreAt, LiesWithin}, Notes.{AreFew}, Packings.{HasPacked}};
 
-use crate::blocks::{BlockEvents, LogBlocks};
+use crate::blocks::{BlockEvents, LogBlock, LogBlocks, Mode};
 use crate::facts::Facts;
 use crate::fault::LogFault;
-use crate::packing::Packing;
+use crate::packing::{Packing, log_facts};
 use crate::reading::{read_mode, trace_header};
 use crate::taken::take_blocks;
 use std::alloc::Global;
 use std::marker::Model;
+use xray_io::NoMemory;
 
 /// A log, as the file of a trace, and what is said of the import.
 #[derive(Drop)]
@@ -45,7 +51,28 @@ impl ImportedLog {
     }
 }
 
-/// Makes a trace of a log that LLVM's runtime wrote. The log has fewer than 2^32 bytes.
+/// The file and the facts of blocks, one after the other.
+fn pack_blocks(
+    mut packing: Packing,
+    bytes: &[u8],
+    mode: Mode,
+    blocks: &[LogBlock],
+) -> Result<(Vec<u8>, Facts), NoMemory>
+    requires few { (length bytes.now < 2 ^ 30) × (length blocks.now < 2 ^ 30) }
+    requires within { All (LiesWithin bytes.now mode) blocks.now }
+    requires none { (packing.notes.facts.events ≡ 0) × (packing.notes.facts.blocks ≡ 0)
+        × AreFew packing.notes.facts × (packing.buffer.size ≡ LARGEST_SIZE) }
+    ensures { (header : TheHeader) (said taken : List SaidBlock) → HasPacked header said [] packing
+        → AreAt bytes.now mode blocks.now taken → All (λ b. b.block.events ≢ []) taken
+        → IfOk result (λ made. (made.0.items ≡ trace_file (trace_taken header taken)) × (made.1 ≡ facts_of said taken)) }
+{
+    'blocks: for block in blocks {
+        packing.add(block, BlockEvents::of(bytes, mode, block))?;
+    }
+    Ok(packing.finish())
+}
+
+/// Makes a trace of a log that LLVM's runtime wrote. The log has fewer than 2^30 bytes.
 ///
 /// A log of the Flight Data Recorder mode is of version 2 to 5, and a basic log of version 3. The
 /// trace is of version 3. It has the flags and the frequency of the log, and the size of a buffer that
@@ -58,9 +85,9 @@ impl ImportedLog {
 /// Bytes that aren't a log are refused by their first fault; see `LogFault`. `NoMemory` may come in
 /// place of any answer.
 pub fn import_log(alloc: Global, bytes: &[u8]) -> Result<ImportedLog, LogFault>
-    requires few { length bytes.now < 2 ^ 32 }
+    requires few { length bytes.now < 2 ^ 30 }
     ensures imports { IfOk result (λ made. IsImport bytes.now made.0 made.1) }
-    ensures refuses { IfErr result (λ fault. (fault ≡ Trace NoMemory) ⊎ (logged bytes.now ≡ Err fault)) }
+    ensures refuses { IfErr result (λ fault. (fault ≡ Trace NoRoom) ⊎ (logged bytes.now ≡ Err fault)) }
 {
     let mode = match read_mode(bytes) {
         Ok(mode) => mode,
@@ -69,10 +96,8 @@ pub fn import_log(alloc: Global, bytes: &[u8]) -> Result<ImportedLog, LogFault>
     let mut blocks = LogBlocks::read(alloc, bytes, mode)?;
     let left = take_blocks(bytes, mode, &mut blocks.blocks);
     let header = trace_header(bytes, mode);
-    let mut packing = Packing::new(alloc, &header, bytes.len(), &blocks, left)?;
-    'blocks: for block in blocks.blocks.iter() {
-        packing.add(block, BlockEvents::of(bytes, mode, block))?;
-    }
-    let Packing { file, facts, .. } = packing;
+    let facts = log_facts(blocks.custom, blocks.typed, left);
+    let packing = Packing::new(alloc, &header, bytes.len(), facts)?;
+    let (file, facts) = pack_blocks(packing, bytes, mode, &blocks.blocks)?;
     Ok(ImportedLog { file, facts })
 }

@@ -6,8 +6,8 @@
 //! `version` and `own_event` have what differs from one version to the next. `walk` goes through the
 //! records of a block of the Flight Data Recorder mode, over the step of `fdr_file`. `basic` reads the
 //! records of the basic mode. `reading` makes a list of all blocks, `taken` chooses and orders those
-//! that are taken, `packing` writes their events as blocks of a trace, and `facts` is what is said of
-//! all this.
+//! that are taken, `packing` writes their events as blocks of a trace, `notes` takes what they say, and
+//! `facts` is what is said of all this.
 #![tactic(auto)]
 
 mod basic;
@@ -16,6 +16,7 @@ mod facts;
 mod fault;
 mod import;
 mod laws;
+mod notes;
 mod own_event;
 mod packing;
 mod reading;

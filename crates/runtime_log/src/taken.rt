@@ -1,6 +1,6 @@
 //! The blocks that are taken, in their order.
 ghost use Rattle.std.specs.{Cmp.Lexicographic.{slice_cmp}, Ordering.{nat_cmp}};
-ghost use Rattle.std.specs.Prelude.{◌≡◌, List};
+ghost use Rattle.std.specs.Prelude.{◌≡◌, All, List, length};
 ghost use Rattle.runtime_log.specs.{Logs.{LogBlock as SaidBlock}, Taken.{AreTaken}};
 ghost use Rattle.runtime_log.specs.private.Choices.{AreAt, AreInFileOrder, AreLeftOut, LiesWithin, content_at, time_key};
 
@@ -46,18 +46,20 @@ fn by_bytes(one: &[u8], other: &[u8]) -> Ordering
 
 /// Leaves out doubled blocks and blocks without events, and puts the others in their order.
 ///
-/// Blocks with the same bytes have the same thread, wall time and first counter. So they are beside
-/// each other once blocks are ordered by these, and then by their bytes.
+/// Blocks with the same bytes are beside each other once blocks are ordered by their bytes.
 pub(crate) fn take_blocks(bytes: &[u8], mode: Mode, blocks: &mut Vec<LogBlock>) -> LeftOut
-    ensures takes { (said : List SaidBlock) → AreAt bytes.now mode blocks.old.items said → AreInFileOrder said
+    requires within { All (LiesWithin bytes.now mode) blocks.old.items }
+    ensures takes { (said : List SaidBlock) → AreAt bytes.now mode blocks.old.items said
+        → AreInFileOrder 0 (length bytes.now) said
         → (taken : List SaidBlock) × AreTaken said taken × AreAt bytes.now mode blocks.new.items taken
         × AreLeftOut said result }
+    ensures within { All (LiesWithin bytes.now mode) blocks.new.items }
 {
     let all = blocks.len() as u64;
     blocks.sort_unstable_by(|one, other| {
-        by_time(one, other)
-            .then_with(|| by_bytes(content(bytes, mode, one), content(bytes, mode, other)))
-            .then(one.begin.cmp(&other.begin))
+        by_bytes(content(bytes, mode, one), content(bytes, mode, other)).then(
+            one.begin.cmp(&other.begin),
+        )
     });
     blocks.dedup_by(|one, before| content(bytes, mode, one) == content(bytes, mode, before));
     let once = blocks.len() as u64;

@@ -98,7 +98,7 @@ fn block_size(version: LogVersion, at: u64, bytes: &[u8]) -> Result<usize, Trace
     if size < version.as_trace().preamble_bytes() {
         return Err(TraceFault::Extents(at));
     }
-    if ((bytes.len() - METADATA_BYTES) as u64) < size {
+    if (bytes.len() as u128) < METADATA_BYTES as u128 + u128::from(size) {
         return Err(TraceFault::Short(at));
     }
     Ok(size as usize)
@@ -115,11 +115,12 @@ impl<'a> BlockWalk<'a> {
         ensures { OpensTo version at bytes.entry.now result }
     {
         let size = block_size(version, at, bytes)?;
+        let content = &bytes[METADATA_BYTES..];
         let end = u128::from(at) + (METADATA_BYTES + size) as u128;
         let span = Span { begin: at, end };
         Ok(BlockWalk {
             version,
-            rest: &bytes[METADATA_BYTES..METADATA_BYTES + size],
+            rest: &content[..size],
             at: at + METADATA_BYTES as u64,
             stage: Stage::Within {
                 span,

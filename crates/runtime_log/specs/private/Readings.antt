@@ -1,5 +1,6 @@
 -- The blocks of a log, as they are read.
 use Rattle.std.specs.Prelude.{◌≡◌, ◌≤◌, ◌⊎◌, ⊤, ⊥, ℕ, ◌+◌, ◌*◌, List, [], ◌∷◌, length, drop, map, sum, take, Option, Some, None, Result, Ok, Err, Unit}
+use Rattle.fdr_file.specs.declared.fault.TraceFault.{TraceFault}
 use Rattle.fdr_file.specs.declared.fault.TraceFault.TheVariants.{NoMemory}
 use Rattle.runtime_log.specs.declared.basic.BasicRec.{BasicRec}
 use Rattle.runtime_log.specs.declared.blocks.LogBlock.{LogBlock as Placed}
@@ -7,9 +8,14 @@ use Rattle.runtime_log.specs.declared.blocks.LogBlocks.{LogBlocks}
 use Rattle.runtime_log.specs.declared.blocks.Mode.{Mode}
 use Rattle.runtime_log.specs.declared.blocks.Mode.TheVariants.{Recorder, Basic}
 use Rattle.runtime_log.specs.declared.fault.LogFault.{LogFault}
+use Rattle.runtime_log.specs.declared.version.LogVersion.{LogVersion}
+use Rattle.runtime_log.specs.declared.walk.BlockWalk.{BlockWalk}
+use Rattle.fdr_file.specs.Places.{starts}
+use Rattle.fdr_file.specs.Traces.{block_length}
 use Rattle.runtime_log.specs.declared.fault.LogFault.TheVariants.{Trace}
-use Rattle.runtime_log.specs.BasicLogs.{BasicRun, basic_length, tagged_rows}
-use Rattle.runtime_log.specs.Logs.{BlockSoFar, LogBlock, as_log, basic_blocks, recorder_blocks, run_block}
+use Rattle.runtime_log.specs.BasicLogs.{BasicRun, basic_length, basic_places, basic_rows, no_records, tagged_rows}
+use Rattle.runtime_log.specs.Logs.{BlockSoFar, LogBlock, as_log, basic_blocks, log_block_rows, log_places, recorder_blocks, run_block, said_rows}
+use Rattle.xray_io.specs.Rows.{InTurn}
 use Rattle.runtime_log.specs.private.Choices.{AreAt, AreInFileOrder, IsAt, Shows}
 use Rattle.runtime_log.specs.private.Records.{records_in}
 
@@ -40,6 +46,25 @@ pub record RecordsRead (old new : LogBlocks) (so : BlockSoFar) (placed : Placed)
   pub custom : new.custom + so.custom ≡ old.custom + all.custom
   pub typed : new.typed + so.typed ≡ old.typed + all.typed
 
+-- Some records of a block were read: what the records say is what those that are left say, after those. The walk, the block
+-- and the counts stand where these lead to.
+pub record ReadsOn (so : BlockSoFar) (old : LogBlocks) (first : BlockWalk) (new : LogBlocks) (walk : BlockWalk) : Type 0 where
+  pub now : BlockSoFar
+  pub on : InTurn (said_rows first.version) so (log_places first.version first.at first.rest.now)
+      ≡ InTurn (said_rows first.version) now (log_places first.version walk.at walk.rest.now)
+  pub stage : walk.stage ≡ now.stage
+  pub custom : new.custom + so.custom ≡ old.custom + now.custom
+  pub typed : new.typed + so.typed ≡ old.typed + now.typed
+
+-- the blocks up to a place were read
+pub record BlocksRead (version : LogVersion) (bytes : List ℕ) (at : ℕ) (blocks : LogBlocks) : Type 0 where
+  pub said : List LogBlock
+  pub on : recorder_blocks version bytes ≡ InTurn (log_block_rows version) said (starts block_length 0 at (drop at bytes))
+  pub places : AreAt bytes (Recorder version) blocks.blocks.items said
+  pub order : AreInFileOrder 0 at said
+  pub custom : blocks.custom ≡ sum (map (λ b. b.custom) said)
+  pub typed : blocks.typed ≡ sum (map (λ b. b.typed) said)
+
 -- ---- the basic mode
 
 -- a record of a log is at a place, and is whole
@@ -60,3 +85,10 @@ AreRuns bytes from to (run ∷ []) (placed ∷ []) = IsRun bytes placed run × (
 AreRuns bytes from to (run ∷ other ∷ runs) (placed ∷ second ∷ places) =
     IsRun bytes placed run × (from ≤ run.place) × AreRuns bytes (1 + run.place) to (other ∷ runs) (second ∷ places)
 AreRuns bytes from to _ _ = ⊥
+
+-- the records up to a place were read; `last` is the last of them
+pub record RunsRead (bytes : List ℕ) (at : ℕ) (last : Option BasicRec) (blocks : LogBlocks) : Type 0 where
+  pub runs : List BasicRun
+  pub on : InTurn basic_rows no_records (basic_places 32 (drop 32 bytes))
+      ≡ InTurn basic_rows (record { runs = runs; last = last }) (basic_places at (drop at bytes))
+  pub places : AreRuns bytes 32 at runs blocks.blocks.items

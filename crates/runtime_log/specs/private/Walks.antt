@@ -38,7 +38,7 @@ abbrev pub StepsTo : (old new : BlockWalk) → Result (Told × Option OwnKind) T
 StepsTo old new (Ok x) =
     (log_record_rows old.version old.stage (old.at, old.rest.now) ≡ Ok (new.stage, x.0))
     × (x.1 ≡ own_kind old.version old.rest.now) × IsPast old new
-StepsTo old new (Err fault) = log_record_rows old.version old.stage (old.at, old.rest.now) ≡ Err fault
+StepsTo old new (Err fault) = (log_record_rows old.version old.stage (old.at, old.rest.now) ≡ Err fault) × (new ≡ old)
 
 -- ---- what a walk has still to say
 
