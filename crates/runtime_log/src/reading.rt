@@ -4,7 +4,6 @@ ghost use Rattle.xray_io.specs.Rows.{InTurn};
 ghost use Rattle.fdr_file.specs.declared.fault.TraceFault.TheVariants.{NoMemory as NoRoom};
 ghost use Rattle.fdr_file.specs.declared.trace.Block.{Block as TheBlock};
 ghost use Rattle.fdr_file.specs.Scanning.{empty_block};
-ghost use Rattle.fdr_record.specs.declared.event.Event.{Event as TheEvent};
 ghost use Rattle.runtime_log.specs.declared.fault.LogFault.TheVariants.{Trace};
 ghost use Rattle.runtime_log.specs.Logs.{BlockSoFar, LogBlock as SaidBlock, block_with, log_block_in, log_places, one_custom, one_typed, said_rows};
 ghost use Rattle.runtime_log.specs.BasicLogs.{BasicRun, runs_with, single_run, tagged_rows};
@@ -77,14 +76,10 @@ pub(crate) fn trace_header(bytes: &[u8], mode: Mode) -> Header
     }
 }
 
-/// The first of these, if there are any: a counter, and those of two events.
-fn earlier(first: Option<u64>, entry: Option<Event>, event: Option<Event>) -> Option<u64>
-    ensures { (events : List TheEvent) → first ≡ counter_first events
-        → result ≡ counter_first (events ++ (option_to_list entry ++ option_to_list event)) }
+/// The counter of the first of two events, if there are any.
+fn first_counter(entry: Option<Event>, event: Option<Event>) -> Option<u64>
+    ensures { result ≡ counter_first (option_to_list entry ++ option_to_list event) }
 {
-    if first.is_some() {
-        return first;
-    }
     match (entry, event) {
         (Some(entry), _) => Some(entry.tsc),
         (None, Some(event)) => Some(event.tsc),
@@ -162,7 +157,7 @@ impl LogBlock {
                 self.pid = pid;
             }
             Told::Noted { entry, event } => {
-                self.first = earlier(self.first, entry, event);
+                self.first = self.first.or(first_counter(entry, event));
             }
         }
     }
@@ -196,21 +191,18 @@ impl LogBlocks {
     }
 
     /// Takes the records of a block that are left.
-    fn read_records(
-        &mut self,
-        mut walk: BlockWalk,
-        mut block: LogBlock,
-    ) -> Result<LogBlock, TraceFault>
+    fn read_records(&mut self, mut walk: BlockWalk, block: &mut LogBlock) -> Result<(), TraceFault>
         requires few { walk.at + length walk.rest.now < 2 ^ 32 }
         requires counts { (self.old.custom ≤ walk.at) × (self.old.typed ≤ walk.at) }
-        ensures reads { (so : BlockSoFar) → walk.stage ≡ so.stage → Shows block so.block
-            → IfOk result (λ placed. RecordsRead self.old self.new so placed
+        ensures reads { (so : BlockSoFar) → walk.stage ≡ so.stage → Shows block.old so.block
+            → OnOk result (RecordsRead self.old self.new so block.new
             (InTurn (said_rows walk.version) so (log_places walk.version walk.at walk.rest.now))) }
         ensures refuses { (so : BlockSoFar) → walk.stage ≡ so.stage → IfErr result (λ fault.
             InTurn (said_rows walk.version) so (log_places walk.version walk.at walk.rest.now) ≡ Err fault) }
-        ensures counts { (self.new.custom ≤ walk.at + length walk.rest.now)
-            × (self.new.typed ≤ walk.at + length walk.rest.now) }
-        ensures begin { IfOk result (λ placed. (placed.begin ≡ block.begin) × (placed.end ≡ walk.at + length walk.rest.now)) }
+        ensures counts { OnOk result ((self.new.custom ≤ walk.at + length walk.rest.now)
+            × (self.new.typed ≤ walk.at + length walk.rest.now)) }
+        ensures places { OnOk result ((block.new.begin ≡ block.old.begin)
+            × (block.new.end ≡ walk.at + length walk.rest.now)) }
         ensures others { (self.new.blocks ≡ self.old.blocks) × (self.new.mode ≡ self.old.mode) }
     {
         'records: while walk.left() > 0 {
@@ -219,7 +211,7 @@ impl LogBlocks {
             block.hear(told);
         }
         block.end = walk.at() as usize;
-        Ok(block)
+        Ok(())
     }
 
     /// The block that begins at a place of a log of the Flight Data Recorder mode.
@@ -237,11 +229,12 @@ impl LogBlocks {
             × (self.new.custom ≡ self.old.custom + b.custom) × (self.new.typed ≡ self.old.typed + b.typed)) }
         ensures refuses { IfErr result (λ fault. log_block_in version (at, drop at bytes.now) ≡ Err fault) }
         ensures counts { IfOk result (λ placed. (self.new.custom ≤ placed.end) × (self.new.typed ≤ placed.end)) }
-        ensures further { IfOk result (λ placed. at < placed.end) }
         ensures others { (self.new.blocks ≡ self.old.blocks) × (self.new.mode ≡ self.old.mode) }
     {
         let walk = BlockWalk::open(version, at as u64, &bytes[at..])?;
-        self.read_records(walk, opened(at))
+        let mut block = opened(at);
+        self.read_records(walk, &mut block)?;
+        Ok(block)
     }
 
     /// The blocks of a log of the Flight Data Recorder mode.

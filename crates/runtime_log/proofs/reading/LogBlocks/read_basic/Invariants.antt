@@ -8,7 +8,7 @@ invariant-records l = record {
   within : l.at ≤ length l.bytes;
   reads : RunsRead l.bytes l.at l.before l.self;
   counts : (l.self.custom ≡ 0) × (l.self.typed ≡ 0);
-  mode : l.self.mode ≡ l.initial.self.mode;
+  mode : l.self.mode ≡ l.fn.self.mode;
 }
 
 abbrev pub decreases-records : goal.decreases-records

@@ -14,7 +14,7 @@ invariant-blocks l = record {
   within : l.at ≤ length l.bytes;
   reads : BlocksRead l.version l.bytes l.at l.self;
   counts : (l.self.custom ≤ l.at) × (l.self.typed ≤ l.at);
-  mode : l.self.mode ≡ l.initial.self.mode;
+  mode : l.self.mode ≡ l.fn.self.mode;
 }
 
 abbrev pub decreases-blocks : goal.decreases-blocks

@@ -10,10 +10,10 @@ invariant-records l = record {
   end : l.walk.at + length l.walk.rest.now ≡ l.initial.walk.at + length l.initial.walk.rest.now;
   version : l.walk.version ≡ l.initial.walk.version;
   counts : (l.self.custom ≤ l.walk.at) × (l.self.typed ≤ l.walk.at);
-  reads : (so : BlockSoFar) → l.initial.walk.stage ≡ so.stage → ReadsOn so l.initial.self l.initial.walk l.self l.walk;
-  shows : (so : BlockSoFar) (stage : l.initial.walk.stage ≡ so.stage) → Shows l.initial.block so.block → Shows l.block (reads so stage).now.block;
-  begin : l.block.begin ≡ l.initial.block.begin;
-  others : (l.self.blocks ≡ l.initial.self.blocks) × (l.self.mode ≡ l.initial.self.mode);
+  reads : (so : BlockSoFar) → l.initial.walk.stage ≡ so.stage → ReadsOn so l.fn.self l.initial.walk l.self l.walk;
+  shows : (so : BlockSoFar) (stage : l.initial.walk.stage ≡ so.stage) → Shows l.fn.block so.block → Shows l.block (reads so stage).now.block;
+  begin : l.block.begin ≡ l.fn.block.begin;
+  others : (l.self.blocks ≡ l.fn.self.blocks) × (l.self.mode ≡ l.fn.self.mode);
 }
 
 abbrev pub decreases-records : goal.decreases-records
