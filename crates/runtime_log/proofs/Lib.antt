@@ -1,3 +1,5 @@
 pub mod Noting
 pub mod Walking
 pub mod Reading
+pub mod Coming
+pub mod Blocks

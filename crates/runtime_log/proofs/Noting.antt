@@ -1,11 +1,15 @@
 -- Events, and one more event after them.
 use Rattle.std.proofs.Common.{◌≡◌, ℕ, ◌+◌, Bool, true, false, cond, eqb, ltb, List, [], ◌∷◌, ◌++◌, length, map, Option, Some, None, refl, sym, ap, ◌∙◌, append_assoc, append-nil, arith}
-use Rattle.std.specs.Prelude.{◌&&◌, count_by, min, max}
+use Rattle.std.specs.Prelude.{◌&&◌, min, max}
+use Rattle.std.proofs.lemmas.List.{length-append, map-append}
+use Rattle.std.proofs.lemmas.List.Sums.{sum_by_push}
 use Rattle.std.specs.Option.{option_map_or}
 use Rattle.fdr_file.specs.ThreadEvents.{ThreadEvent}
+use Rattle.fdr_file.specs.Traces.{logs_arg}
 use Rattle.runtime_log.specs.declared.notes.LastEvent.{LastEvent}
+use Rattle.runtime_log.specs.declared.notes.Notes.{Notes}
 use Rattle.runtime_log.specs.Facts.{different, fall, falls, greatest_of, least_of}
-use Rattle.runtime_log.specs.private.Notes.{does_fall, is_number, is_of, last_event, last_number}
+use Rattle.runtime_log.specs.private.Notes.{HasNoted, NotesCounter, does_fall, is_number, is_of, last_event, last_number}
 
 -- 1, unless a test holds
 abbrev unless_one : Bool → ℕ
@@ -71,3 +75,44 @@ greatest_more (m ∷ ns) n = ap (λ (o : Option ℕ). let x : Option ℕ = Some 
     by_greatest : (o : Option ℕ) → Some (max m (option_map_or (λ k. max k n) o n)) ≡ Some (max (option_map_or (max m) o m) n)
     by_greatest None = refl
     by_greatest (Some k) = let e : max m (max k n) ≡ max (max m k) n = omega arith in ap (λ (x : ℕ). let y : Option ℕ = Some x in y) e
+
+-- ---- one more event
+
+-- notes with one more event, and so many arguments more
+abbrev pub counting : Notes → ℕ → Notes
+counting old n = record old { facts = record old.facts { events = old.facts.events + 1; arguments = old.facts.arguments + n } }
+
+pub noted_more : (events : List ThreadEvent) (e : ThreadEvent) (old new : Notes) (n : ℕ) → HasNoted events old → n ≡ cond (logs_arg e.event.kind) 1 0
+    → NotesCounter (counting old n) e.thread e.event.tsc new → HasNoted (events ++ e ∷ []) new
+noted_more events e old new n has args noted =
+    let threads : List ℕ = map (λ (x : ThreadEvent). x.thread) events in
+    let counters : List ℕ = map (λ (x : ThreadEvent). x.event.tsc) events in
+    let is_same : is_of old.last e.thread ≡ is_number (last_number threads) e.thread = ap (λ (o : Option LastEvent). is_of o e.thread) has.ends ∙ sym (last_thread events e.thread) in
+    let fell : does_fall old.last e.thread e.event.tsc ≡ does_fall (last_event events) e.thread e.event.tsc = ap (λ (o : Option LastEvent). does_fall o e.thread e.event.tsc) has.ends in
+    let again : is_number old.fallen e.thread ≡ is_number (last_number (falls events)) e.thread = ap (λ (o : Option ℕ). is_number o e.thread) has.fallen in
+    let down = does_fall (last_event events) e.thread e.event.tsc in
+    record {
+      count = omega (arith, noted.events, has.count, length-append events (e ∷ []));
+      arguments = omega (arith, noted.arguments, has.arguments, args, sum_by_push (λ (x : ThreadEvent). cond (logs_arg x.event.kind) 1 0) events e);
+      threads =
+          noted.threads ∙ ap (λ (k : ℕ). k + unless_one (is_of old.last e.thread)) has.threads
+          ∙ ap (λ (b : Bool). different threads + unless_one b) is_same
+          ∙ sym (ap different (map-append (λ (x : ThreadEvent). x.thread) events (e ∷ [])) ∙ different_more threads e.thread);
+      first =
+          noted.first ∙ ap (λ (o : Option ℕ). let x : Option ℕ = Some (option_map_or (λ m. min m e.event.tsc) o e.event.tsc) in x) has.first
+          ∙ sym (ap least_of (map-append (λ (x : ThreadEvent). x.event.tsc) events (e ∷ [])) ∙ least_more counters e.event.tsc);
+      last =
+          noted.last ∙ ap (λ (o : Option ℕ). let x : Option ℕ = Some (option_map_or (λ m. max m e.event.tsc) o e.event.tsc) in x) has.last
+          ∙ sym (ap greatest_of (map-append (λ (x : ThreadEvent). x.event.tsc) events (e ∷ [])) ∙ greatest_more counters e.event.tsc);
+      back =
+          noted.back ∙ ap (λ (k : ℕ). k + cond (does_fall old.last e.thread e.event.tsc) (unless_one (is_number old.fallen e.thread)) 0) has.back
+          ∙ ap (λ (b : Bool). different (falls events) + cond b (unless_one (is_number old.fallen e.thread)) 0) fell
+          ∙ ap (λ (b : Bool). different (falls events) + cond down (unless_one b) 0) again
+          ∙ sym (ap different (falls_more events e) ∙ back_more (falls events) down e.thread);
+      ends = noted.ends ∙ sym (last_event_more events e);
+      fallen =
+          noted.fallen
+          ∙ ap (λ (b : Bool). let x : Option ℕ = cond b (Some e.thread) old.fallen in x) fell
+          ∙ ap (λ (o : Option ℕ). let x : Option ℕ = cond down (Some e.thread) o in x) has.fallen
+          ∙ sym (ap last_number (falls_more events e) ∙ fallen_more (falls events) down e.thread);
+    }

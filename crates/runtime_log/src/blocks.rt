@@ -2,7 +2,7 @@
 ghost use Rattle.std.specs.Prelude.{◌≡◌, ◌<◌, ◌+◌, ◌++◌, ◌^◌, All, None, [], length, option_to_list};
 ghost use Rattle.fdr_record.specs.Recordable.{IsRecordable};
 ghost use Rattle.runtime_log.specs.Logs.{LogBlock as SaidBlock};
-ghost use Rattle.runtime_log.specs.private.{Choices.{IsAt, LiesWithin, head_length}, Coming.{MayGive, events_to_come}, Walks.{walk_events}};
+ghost use Rattle.runtime_log.specs.private.{Choices.{IsAt, LiesWithin, head_length}, Coming.{MayGive, events_to_come}, Walks.{settled, walk_events}};
 
 use crate::basic::BasicEvents;
 use crate::version::LogVersion;
@@ -75,6 +75,23 @@ pub(crate) enum BlockEvents<'a> {
     Done,
 }
 
+/// The first event that a record settles, and the one after it.
+fn settled(told: Told) -> (Option<Event>, Option<Event>)
+    ensures events { settled told ≡ option_to_list result.0 ++ option_to_list result.1 }
+    ensures none { result.0 ≡ None → result.1 ≡ None }
+{
+    match told {
+        Told::Nothing | Told::Begun { .. } => (None, None),
+        Told::Noted { entry, event } => {
+            if entry.is_some() {
+                (entry, event)
+            } else {
+                (event, None)
+            }
+        }
+    }
+}
+
 /// The next event of a block's records, and the one after it if it is known.
 fn next_told(walk: &mut BlockWalk) -> (Option<Event>, Option<Event>)
     requires few { walk.old.at + length walk.old.rest.now < 2 ^ 32 }
@@ -84,18 +101,13 @@ fn next_told(walk: &mut BlockWalk) -> (Option<Event>, Option<Event>)
     ensures ends { result.0 ≡ None → walk_events walk.old ≡ [] }
 {
     'records: while walk.left() > 0 {
-        match walk.step() {
-            Ok((told, _)) => {
-                if let Told::Noted { entry, event } = told {
-                    if entry.is_some() {
-                        return (entry, event);
-                    }
-                    if event.is_some() {
-                        return (event, None);
-                    }
-                }
-            }
+        let told = match walk.step() {
+            Ok((told, _)) => told,
             Err(_) => return (None, None),
+        };
+        let (first, later) = settled(told);
+        if first.is_some() {
+            return (first, later);
         }
     }
     (None, None)

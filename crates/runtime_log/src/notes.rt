@@ -1,5 +1,5 @@
 //! What the events that are taken say, one after the other.
-ghost use Rattle.std.specs.Prelude.{◌≡◌, ◌≤◌, ◌<◌, ◌+◌, ◌++◌, ◌^◌, [], ◌∷◌, List, None, min, max};
+ghost use Rattle.std.specs.Prelude.{◌≡◌, ◌≤◌, ◌<◌, ◌+◌, ◌++◌, ◌^◌, [], ◌∷◌, List, None, if◌then◌else◌, min, max};
 ghost use Rattle.std.specs.Option.{option_map_or};
 ghost use Rattle.fdr_file.specs.ThreadEvents.{ThreadEvent};
 ghost use Rattle.fdr_file.specs.Traces.{logs_arg};
@@ -46,13 +46,13 @@ fn greatest(last: Option<u64>, tsc: u64) -> u64
     }
 }
 
-/// Whether an event logs an argument.
-fn logs_arg(kind: Kind) -> bool
-    ensures { result ≡ logs_arg kind }
+/// How many arguments an event of this kind logs.
+fn arguments_of(kind: Kind) -> u64
+    ensures { result ≡ (if logs_arg kind then 1 else 0) }
 {
     match kind {
-        Kind::Entry | Kind::Exit | Kind::TailExit => false,
-        Kind::EntryArgs => true,
+        Kind::Entry | Kind::Exit | Kind::TailExit => 0,
+        Kind::EntryArgs => 1,
     }
 }
 
@@ -131,10 +131,8 @@ impl Notes {
             → e.thread ≡ thread → e.event ≡ event.now → HasNoted (events ++ e ∷ []) self.new }
         ensures log { SameLog self.old.facts self.new.facts }
     {
-        self.note_counter(thread, event.tsc);
         self.facts.events += 1;
-        if logs_arg(event.kind) {
-            self.facts.arguments += 1;
-        }
+        self.facts.arguments += arguments_of(event.kind);
+        self.note_counter(thread, event.tsc);
     }
 }

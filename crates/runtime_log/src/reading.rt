@@ -4,6 +4,7 @@ ghost use Rattle.xray_io.specs.Rows.{InTurn};
 ghost use Rattle.fdr_file.specs.declared.fault.TraceFault.TheVariants.{NoMemory as NoRoom};
 ghost use Rattle.fdr_file.specs.declared.trace.Block.{Block as TheBlock};
 ghost use Rattle.fdr_file.specs.Scanning.{empty_block};
+ghost use Rattle.fdr_file.specs.Traces.{block_length};
 ghost use Rattle.runtime_log.specs.declared.fault.LogFault.TheVariants.{Trace};
 ghost use Rattle.runtime_log.specs.Logs.{BlockSoFar, LogBlock as SaidBlock, block_with, log_block_in, log_places, one_custom, one_typed, said_rows};
 ghost use Rattle.runtime_log.specs.BasicLogs.{BasicRun, runs_with, single_run, tagged_rows};
@@ -229,6 +230,7 @@ impl LogBlocks {
             × (self.new.custom ≡ self.old.custom + b.custom) × (self.new.typed ≡ self.old.typed + b.typed)) }
         ensures refuses { IfErr result (λ fault. log_block_in version (at, drop at bytes.now) ≡ Err fault) }
         ensures counts { IfOk result (λ placed. (self.new.custom ≤ placed.end) × (self.new.typed ≤ placed.end)) }
+        ensures places { IfOk result (λ placed. (placed.begin ≡ at) × (placed.end ≡ at + block_length (drop at bytes.now))) }
         ensures others { (self.new.blocks ≡ self.old.blocks) × (self.new.mode ≡ self.old.mode) }
     {
         let walk = BlockWalk::open(version, at as u64, &bytes[at..])?;

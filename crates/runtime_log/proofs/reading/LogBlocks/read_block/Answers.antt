@@ -2,6 +2,7 @@ use Rattle.std.proofs.Common.{◌≡◌, ℕ, ◌+◌, length, drop, sym, ap, �
 use Rattle.std.proofs.lemmas.List.{length-drop, length-take-le}
 use Rattle.std.proofs.lemmas.Result.{err_from_is_err_and}
 use Rattle.runtime_log.specs.Logs.{block_content, block_opened, block_said}
+use Rattle.runtime_log.proofs.Blocks.{block_sized}
 use Rattle.runtime_log.proofs.Reading.{block_at, block_is, block_stops, block_unsized, opened_rows}
 use Rattle.runtime_log.proofs.reading.LogBlocks.read_block.Goals as goal
 
@@ -31,4 +32,13 @@ returns-clause-reads c =
           (c.in_ok-read_records.ensures.places.0 ∙ c.opened-block.ensures.begin) end r.shows,
       omega (arith, r.custom),
       omega (arith, r.typed),
+    )
+
+pub returns-clause-places : goal.returns-clause-places
+returns-clause-places c =
+    let o = c.in_ok-walk.ensures in
+    let rest = drop c.args.at c.args.bytes.now in
+    let long : length (block_content o.0 rest) ≡ o.0 = length-take-le o.0 (drop 16 rest) (omega (arith, length-drop 16 rest, o.2)) in (
+      c.in_ok-read_records.ensures.places.0 ∙ c.opened-block.ensures.begin,
+      omega (arith, c.in_ok-read_records.ensures.places.1, o.3.at_is, ap length o.3.rest, long, block_sized c.args.version c.args.at rest o.0 o.1),
     )
