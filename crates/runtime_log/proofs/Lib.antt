@@ -3,3 +3,4 @@ pub mod Walking
 pub mod Reading
 pub mod Coming
 pub mod Blocks
+pub mod Packing

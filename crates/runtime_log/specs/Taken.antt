@@ -1,20 +1,24 @@
 -- Which blocks of a log are taken, and in which order.
-use Rattle.std.specs.Prelude.{◌≡◌, ℕ, Bool, List, [], ◌∷◌, nat_lt, filter, length, if◌then◌else◌, AllPairs, IsPermutation, IsTrue}
+use Rattle.std.specs.Prelude.{ℕ, Bool, List, [], ◌∷◌, nat_lt, filter, length, if◌then◌else◌, IsPermutation}
 use Rattle.std.specs.List.{list_any}
+use Rattle.std.specs.List.Sorted.{IsSortedBy}
 use Rattle.std.specs.Cmp.Lexicographic.{slice_cmp}
 use Rattle.std.specs.Ordering.{is_lt, nat_cmp}
 use Rattle.std.specs.Str.{bytes_eq}
 use Rattle.fdr_record.specs.declared.event.Event.{Event}
-use Rattle.fdr_file.specs.declared.trace.Block.{Block}
 use Rattle.runtime_log.specs.Logs.{LogBlock}
 
 -- ---- which
+
+-- these bytes are among others
+abbrev pub is_among : List (List ℕ) → List ℕ → Bool
+is_among contents content = list_any (bytes_eq content) contents
 
 -- the blocks whose bytes aren't those of a block before them, and not these either
 abbrev pub first_ones : (before : List (List ℕ)) → List LogBlock → List LogBlock
 first_ones before [] = []
 first_ones before (b ∷ blocks) =
-    if list_any (bytes_eq b.content) before then first_ones before blocks else b ∷ first_ones (b.content ∷ before) blocks
+    let others = first_ones (b.content ∷ before) blocks in if is_among before b.content then others else b ∷ others
 
 -- a log that is flushed while threads run may have one block twice; only the first of them is looked at
 abbrev pub undoubled : List LogBlock → List LogBlock
@@ -43,7 +47,8 @@ order_key b =
 abbrev pub comes_before : LogBlock → LogBlock → Bool
 comes_before b other = is_lt (slice_cmp nat_cmp (order_key b) (order_key other))
 
--- These are the blocks that are taken of a log, in their order.
+-- These are the blocks that are taken of a log, in their order. No two blocks of a log have the same place, so there is
+-- only one such order.
 pub record AreTaken (blocks taken : List LogBlock) : Type 0 where
   pub all : IsPermutation (chosen blocks) taken
-  pub sorted : AllPairs (λ b later. IsTrue (comes_before b later)) taken
+  pub sorted : IsSortedBy comes_before taken

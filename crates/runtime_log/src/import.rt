@@ -93,11 +93,11 @@ pub fn import_log(alloc: Global, bytes: &[u8]) -> Result<ImportedLog, LogFault>
         Ok(mode) => mode,
         Err(fault) => return Err(LogFault::Trace(fault)),
     };
-    let mut blocks = LogBlocks::read(alloc, bytes, mode)?;
-    let left = take_blocks(bytes, mode, &mut blocks.blocks);
+    let blocks = LogBlocks::read(alloc, bytes, mode)?;
+    let (taken, left) = take_blocks(alloc, bytes, mode, &blocks.blocks)?;
     let header = trace_header(bytes, mode);
     let facts = log_facts(blocks.custom, blocks.typed, left);
     let packing = Packing::new(alloc, &header, bytes.len(), facts)?;
-    let (file, facts) = pack_blocks(packing, bytes, mode, &blocks.blocks)?;
+    let (file, facts) = pack_blocks(packing, bytes, mode, &taken)?;
     Ok(ImportedLog { file, facts })
 }

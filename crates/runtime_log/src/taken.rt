@@ -1,11 +1,16 @@
 //! The blocks that are taken, in their order.
 ghost use Rattle.std.specs.{Cmp.Lexicographic.{slice_cmp}, Ordering.{nat_cmp}};
-ghost use Rattle.std.specs.Prelude.{◌≡◌, All, List, length};
-ghost use Rattle.runtime_log.specs.{Logs.{LogBlock as SaidBlock}, Taken.{AreTaken}};
-ghost use Rattle.runtime_log.specs.private.Choices.{AreAt, AreInFileOrder, AreLeftOut, LiesWithin, content_at, time_key};
+ghost use Rattle.std.specs.Prelude.{◌≡◌, ◌||◌, ℕ, All, IfOk, List, OnOk, length, map, not};
+ghost use Rattle.std.specs.{Option.{unwrap_or}, Str.{bytes_eq}};
+ghost use Rattle.runtime_log.specs.Logs.{LogBlock as SaidBlock};
+ghost use Rattle.runtime_log.specs.Taken.{AreTaken, is_among, undoubled};
+ghost use Rattle.runtime_log.specs.private.Choices.{AreAt, AreLeftOut, LiesWithin, content_at, time_key};
 
 use crate::blocks::{LogBlock, Mode};
+use std::alloc::Global;
 use std::cmp::Ordering;
+use std::collections::BTreeSet;
+use xray_io::NoMemory;
 
 /// How many blocks were left out.
 #[derive(Clone, Copy, Debug, PartialEq, Eq)]
@@ -16,7 +21,54 @@ pub(crate) struct LeftOut {
     pub(crate) empty: u64,
 }
 
-/// Which of two blocks comes first, by its thread, its wall time and its first counter.
+/// The bytes of a block, without its extents.
+fn content<'a>(bytes: &'a [u8], mode: Mode, block: &LogBlock) -> &'a [u8]
+    requires { LiesWithin bytes.entry.now mode block.now }
+    ensures { result.now ≡ content_at bytes.entry.now mode block.now }
+{
+    let begin = block.begin + mode.head_bytes();
+    &bytes[begin..block.end]
+}
+
+/// Adds the bytes of a block to those of the blocks before it. Returns whether they are none of
+/// these.
+fn add_content<'a>(seen: &mut BTreeSet<&'a [u8]>, content: &'a [u8]) -> Result<bool, NoMemory>
+    ensures own { IfOk result (λ own. own ≡ not (is_among (map (λ k. k.now) seen.old.keys) content.now)) }
+    ensures seen { OnOk result ((other : List ℕ) → is_among (map (λ k. k.now) seen.new.keys) other
+        ≡ (bytes_eq other content.now || is_among (map (λ k. k.now) seen.old.keys) other)) }
+{
+    Ok(seen.insert(content)?)
+}
+
+/// The blocks whose bytes aren't those of a block before them.
+fn first_ones(
+    alloc: Global,
+    bytes: &[u8],
+    mode: Mode,
+    blocks: &[LogBlock],
+) -> Result<Vec<LogBlock>, NoMemory>
+    requires within { All (LiesWithin bytes.now mode) blocks.now }
+    ensures { (said : List SaidBlock) → AreAt bytes.now mode blocks.now said
+        → IfOk result (λ kept. AreAt bytes.now mode kept.items (undoubled said)) }
+{
+    let mut seen = BTreeSet::new(alloc);
+    let mut kept = Vec::new(alloc);
+    'blocks: for block in blocks {
+        if add_content(&mut seen, content(bytes, mode, block))? {
+            kept.push(*block)?;
+        }
+    }
+    Ok(kept)
+}
+
+/// The counter of a block's first event, or 0 if it has no events.
+fn counter(block: &LogBlock) -> u64
+    ensures { result ≡ unwrap_or block.now.first 0 }
+{
+    block.first.unwrap_or(0)
+}
+
+/// Which of two blocks comes first, by its thread, its wall time, its first counter and its place.
 fn by_time(one: &LogBlock, other: &LogBlock) -> Ordering
     ensures { result ≡ slice_cmp nat_cmp (time_key one.now) (time_key other.now) }
 {
@@ -24,50 +76,29 @@ fn by_time(one: &LogBlock, other: &LogBlock) -> Ordering
         .cmp(&other.thread)
         .then(one.wall.secs.cmp(&other.wall.secs))
         .then(one.wall.micros.cmp(&other.wall.micros))
-        .then(one.first.cmp(&other.first))
-}
-
-/// The bytes of a block, without its extents.
-fn content<'a>(bytes: &'a [u8], mode: Mode, block: &LogBlock) -> &'a [u8]
-    ensures { LiesWithin bytes.entry.now mode block.now → result.now ≡ content_at bytes.entry.now mode block.now }
-{
-    match bytes.get(block.begin + mode.head_bytes()..block.end) {
-        Some(content) => content,
-        None => &[],
-    }
-}
-
-/// Which of some bytes come first, by the first byte that differs.
-fn by_bytes(one: &[u8], other: &[u8]) -> Ordering
-    ensures { result ≡ slice_cmp nat_cmp one.now other.now }
-{
-    one.iter().cmp(other.iter())
+        .then(counter(one).cmp(&counter(other)))
+        .then(one.begin.cmp(&other.begin))
 }
 
 /// Leaves out doubled blocks and blocks without events, and puts the others in their order.
-///
-/// Blocks with the same bytes are beside each other once blocks are ordered by their bytes.
-pub(crate) fn take_blocks(bytes: &[u8], mode: Mode, blocks: &mut Vec<LogBlock>) -> LeftOut
-    requires within { All (LiesWithin bytes.now mode) blocks.old.items }
-    ensures takes { (said : List SaidBlock) → AreAt bytes.now mode blocks.old.items said
-        → AreInFileOrder 0 (length bytes.now) said
-        → (taken : List SaidBlock) × AreTaken said taken × AreAt bytes.now mode blocks.new.items taken
-        × AreLeftOut said result }
-    ensures within { All (LiesWithin bytes.now mode) blocks.new.items }
+pub(crate) fn take_blocks(
+    alloc: Global,
+    bytes: &[u8],
+    mode: Mode,
+    blocks: &[LogBlock],
+) -> Result<(Vec<LogBlock>, LeftOut), NoMemory>
+    requires within { All (LiesWithin bytes.now mode) blocks.now }
+    ensures { (said : List SaidBlock) → AreAt bytes.now mode blocks.now said → IfOk result (λ made.
+        (taken : List SaidBlock) × AreTaken said taken × AreAt bytes.now mode made.0.items taken
+        × AreLeftOut said made.1) }
 {
-    let all = blocks.len() as u64;
-    blocks.sort_unstable_by(|one, other| {
-        by_bytes(content(bytes, mode, one), content(bytes, mode, other)).then(
-            one.begin.cmp(&other.begin),
-        )
-    });
-    blocks.dedup_by(|one, before| content(bytes, mode, one) == content(bytes, mode, before));
-    let once = blocks.len() as u64;
-    blocks.retain(|block| block.first.is_some());
-    let taken = blocks.len() as u64;
-    blocks.sort_unstable_by(|one, other| by_time(one, other).then(one.begin.cmp(&other.begin)));
-    LeftOut {
-        doubled: all - once,
-        empty: once - taken,
-    }
+    let mut taken = first_ones(alloc, bytes, mode, blocks)?;
+    let once = taken.len();
+    taken.retain(|block| block.first.is_some());
+    taken.sort_unstable_by(by_time);
+    let left = LeftOut {
+        doubled: (blocks.len() - once) as u64,
+        empty: (once - taken.len()) as u64,
+    };
+    Ok((taken, left))
 }

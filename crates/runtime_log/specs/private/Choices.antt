@@ -1,6 +1,6 @@
 -- Blocks by their places, and what they are of a log.
 use Rattle.std.specs.Prelude.{◌≡◌, ◌≤◌, ℕ, ◌+◌, ◌-◌, ◌==◌, ⊤, ⊥, List, [], ◌∷◌, length, take, drop, count_by, Option, Some, None, Ok}
-use Rattle.std.specs.Option.{option_map_or}
+use Rattle.std.specs.Option.{unwrap_or}
 use Rattle.fdr_record.specs.declared.event.Event.{Event}
 use Rattle.fdr_file.specs.declared.trace.Block.{Block}
 use Rattle.runtime_log.specs.declared.blocks.LogBlock.{LogBlock as Placed}
@@ -63,9 +63,10 @@ abbrev pub AreInFileOrder : ℕ → ℕ → List LogBlock → Type 0
 AreInFileOrder from to [] = from ≤ to
 AreInFileOrder from to (b ∷ blocks) = (from ≤ b.place) × AreInFileOrder (1 + b.place) to blocks
 
--- Where a block stands in the order of time. One without events comes before those with events.
+-- where a block stands in the order of time
 abbrev pub time_key : Placed → List ℕ
-time_key placed = placed.thread ∷ placed.wall.secs ∷ placed.wall.micros ∷ option_map_or (λ n. 1 + n) placed.first 0 ∷ []
+time_key placed =
+    placed.thread ∷ placed.wall.secs ∷ placed.wall.micros ∷ unwrap_or placed.first 0 ∷ placed.begin ∷ []
 
 -- how many of the blocks of a log aren't taken
 pub record AreLeftOut (blocks : List LogBlock) (left : LeftOut) : Type 0 where
