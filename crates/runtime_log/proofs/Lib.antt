@@ -4,3 +4,4 @@ pub mod Reading
 pub mod Coming
 pub mod Blocks
 pub mod Packing
+pub mod Recordable

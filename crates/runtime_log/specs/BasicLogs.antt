@@ -138,11 +138,11 @@ basic_places at bytes = starts (λ rest. basic_length) 0 at bytes
 
 -- ---- the events of records, in order
 
--- the passing, with the argument that the record behind it says, if it does
+-- the event of a passing that logs its argument, with the argument that the record behind it says, if it does
 abbrev pub with_argument : Event → List BasicRec → Event
 with_argument event [] = event
 with_argument event (Passed owner other ∷ later) = event
-with_argument event (Argument owner func value ∷ later) = record event { arg = value }
+with_argument event (Argument owner func value ∷ later) = if logs_arg event.kind then record event { arg = value } else event
 
 abbrev pub basic_events : List BasicRec → List Event
 basic_events [] = []

@@ -262,11 +262,11 @@ impl<'a> BasicEvents<'a> {
         ensures { result ≡ with_argument event (records_in self.now.bytes.now) }
     {
         match self.peek() {
-            Some(BasicRec::Argument { value, .. }) => Event {
+            Some(BasicRec::Argument { value, .. }) if logs_arg(event.kind) => Event {
                 arg: value,
                 ..event
             },
-            Some(BasicRec::Passed { .. }) | None => event,
+            Some(_) | None => event,
         }
     }
 
