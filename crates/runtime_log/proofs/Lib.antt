@@ -5,3 +5,5 @@ pub mod Coming
 pub mod Blocks
 pub mod Packing
 pub mod Recordable
+pub mod Contents
+pub mod Taking

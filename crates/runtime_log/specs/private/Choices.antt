@@ -1,5 +1,5 @@
 -- Blocks by their places, and what they are of a log.
-use Rattle.std.specs.Prelude.{◌≡◌, ◌≤◌, ℕ, ◌+◌, ◌-◌, ◌==◌, ⊤, ⊥, List, [], ◌∷◌, length, take, drop, count_by, Option, Some, None, Ok}
+use Rattle.std.specs.Prelude.{◌≡◌, ◌≤◌, ℕ, ◌+◌, ◌-◌, ◌==◌, ⊤, ⊥, List, [], ◌∷◌, ◌++◌, length, take, drop, count_by, Option, Some, None, Ok}
 use Rattle.std.specs.Option.{unwrap_or}
 use Rattle.fdr_record.specs.declared.event.Event.{Event}
 use Rattle.fdr_file.specs.declared.trace.Block.{Block}
@@ -9,7 +9,7 @@ use Rattle.runtime_log.specs.declared.blocks.Mode.TheVariants.{Recorder, Basic}
 use Rattle.runtime_log.specs.declared.taken.LeftOut.{LeftOut}
 use Rattle.runtime_log.specs.BasicLogs.{basic_events}
 use Rattle.runtime_log.specs.Logs.{LogBlock, log_block_in}
-use Rattle.runtime_log.specs.Taken.{undoubled}
+use Rattle.runtime_log.specs.Taken.{first_ones, is_among, undoubled}
 use Rattle.runtime_log.specs.private.Records.{records_in}
 
 -- the length of what stands before the bytes of a block
@@ -39,10 +39,16 @@ pub record Shows (placed : Placed) (block : Block) : Type 0 where
   pub wall : placed.wall ≡ block.wall
   pub first : placed.first ≡ counter_first block.events
 
+-- a block of a basic log: its records say its events, and no events of the program's own
+pub record IsBasic (b : LogBlock) : Type 0 where
+  pub events : b.block.events ≡ basic_events (records_in b.content)
+  pub custom : b.custom ≡ 0
+  pub typed : b.typed ≡ 0
+
 -- a log of this mode says this block, at its place
 abbrev pub IsSaid : List ℕ → Mode → LogBlock → Type 0
 IsSaid bytes (Recorder version) b = log_block_in version (b.place, drop b.place bytes) ≡ Ok b
-IsSaid bytes Basic b = b.block.events ≡ basic_events (records_in b.content)
+IsSaid bytes Basic b = IsBasic b
 
 -- the block of a log that is at these places of its bytes
 pub record IsAt (bytes : List ℕ) (mode : Mode) (placed : Placed) (b : LogBlock) : Type 0 where
@@ -72,3 +78,12 @@ time_key placed =
 pub record AreLeftOut (blocks : List LogBlock) (left : LeftOut) : Type 0 where
   pub doubled : left.doubled ≡ length blocks - length (undoubled blocks)
   pub empty : left.empty ≡ count_by (λ b. length b.block.events == 0) (undoubled blocks)
+
+-- Of the first blocks of a log, those were kept whose bytes aren't those of a block before them. The bytes of all of them
+-- were seen.
+pub record KeepsFirst (bytes : List ℕ) (mode : Mode) (said : List LogBlock) (count : ℕ) (kept : List Placed) (seen : List (List ℕ)) : Type 0 where
+  pub done : List LogBlock
+  pub before : List (List ℕ)
+  pub at : AreAt bytes mode kept done
+  pub parts : undoubled said ≡ done ++ first_ones before (drop count said)
+  pub among : (content : List ℕ) → is_among seen content ≡ is_among before content
