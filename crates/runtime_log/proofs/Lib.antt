@@ -7,3 +7,4 @@ pub mod Packing
 pub mod Recordable
 pub mod Contents
 pub mod Taking
+pub mod Runs

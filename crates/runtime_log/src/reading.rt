@@ -88,14 +88,15 @@ fn first_counter(entry: Option<Event>, event: Option<Event>) -> Option<u64>
     }
 }
 
-/// The record of a basic log that begins at a place.
-fn basic_record(bytes: &[u8], at: usize) -> Result<BasicRec, LogFault>
-    requires { at ≤ length bytes.now }
-    ensures reads { result ≡ tagged_rows at (take 32 (drop at bytes.now)) }
-    ensures whole { OnOk result (at + 32 ≤ length bytes.now) }
+/// The bytes of the record that bytes of a basic log begin with, or all of them if it isn't whole.
+fn record_bytes(rest: &[u8]) -> &[u8]
+    ensures { result.now ≡ take 32 rest.entry.now }
 {
-    let end = bytes.len().min(at + RECORD_BYTES);
-    record_in(at as u64, &bytes[at..end])
+    if rest.len() < RECORD_BYTES {
+        rest
+    } else {
+        &rest[..RECORD_BYTES]
+    }
 }
 
 /// A block of one record of a basic log, which is at a place.
@@ -292,7 +293,7 @@ impl LogBlocks {
         let mut at = HEADER_BYTES;
         let mut before = None;
         'records: while at < bytes.len() {
-            let rec = basic_record(bytes, at)?;
+            let rec = record_in(at as u64, record_bytes(&bytes[at..]))?;
             if !may_follow(before, rec) {
                 return Err(LogFault::Trace(TraceFault::Order(at as u64)));
             }
