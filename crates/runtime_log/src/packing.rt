@@ -75,7 +75,7 @@ impl Packing {
     ) -> Result<Packing, NoMemory>
         requires version { header.now.version ≡ 3 }
         requires none { NoEvents facts }
-        ensures { (said : List SaidBlock) → SaysOfLog said facts
+        ensures packs { (said : List SaidBlock) → SaysOfLog said facts
             → IfOk result (λ packing. HasPacked header.now said [] packing) }
         ensures none { IfOk result (λ packing. (packing.notes.facts.events ≡ 0)
             × (packing.notes.facts.blocks ≡ 0) × AreFew packing.notes.facts
@@ -92,7 +92,8 @@ impl Packing {
 
     /// The file and the facts.
     pub(crate) fn finish(self) -> (Vec<u8>, Facts)
-        ensures { (result.0.items ≡ self.file.items) × (result.1 ≡ self.notes.facts) }
+        ensures file { result.0.items ≡ self.file.items }
+        ensures facts { result.1 ≡ self.notes.facts }
     {
         (self.file, self.notes.facts)
     }
@@ -150,7 +151,7 @@ impl Packing {
         requires room { self.old.notes.facts.events + length (events_to_come events) < 2 ^ 63 }
         requires few { (self.old.notes.facts.blocks < 2 ^ 32) × AreFew self.old.notes.facts }
         requires size { self.old.buffer.size ≡ LARGEST_SIZE }
-        ensures { (header : TheHeader) (said taken : List SaidBlock) (b : SaidBlock)
+        ensures packs { (header : TheHeader) (said taken : List SaidBlock) (b : SaidBlock)
             → HasPacked header said taken self.old → Shows block.now b.block
             → b.block.events ≢ [] → events_to_come events ≡ b.block.events
             → OnOk result (HasPacked header said (taken ++ b ∷ []) self.new) }

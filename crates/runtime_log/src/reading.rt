@@ -245,7 +245,7 @@ impl LogBlocks {
         requires few { (32 ≤ length bytes.now) × (length bytes.now < 2 ^ 32) }
         requires none { (self.old.blocks.items ≡ []) × (self.old.custom ≡ 0) × (self.old.typed ≡ 0) }
         requires mode { self.old.mode ≡ Mode.Recorder version }
-        ensures { HasRead bytes.now self.new result }
+        ensures reads { HasRead bytes.now self.new result }
         ensures mode { self.new.mode ≡ self.old.mode }
     {
         let mut at = HEADER_BYTES;
@@ -287,7 +287,7 @@ impl LogBlocks {
         requires few { (32 ≤ length bytes.now) × (length bytes.now < 2 ^ 32) }
         requires none { (self.old.blocks.items ≡ []) × (self.old.custom ≡ 0) × (self.old.typed ≡ 0) }
         requires mode { self.old.mode ≡ Mode.Basic }
-        ensures { HasRead bytes.now self.new result }
+        ensures reads { HasRead bytes.now self.new result }
         ensures mode { self.new.mode ≡ self.old.mode }
     {
         let mut at = HEADER_BYTES;
