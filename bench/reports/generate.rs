@@ -1,13 +1,13 @@
-//! Writes a trace of 60 MiB for the bench of reports: `generate TRACE THREADS SEED DEEPEST`.
+//! Writes a trace for the bench of reports: `generate TRACE THREADS SEED DEEPEST BLOCKS`.
 //!
-//! The file has 3,836 full blocks of 16,384 bytes, thread by thread: 7,825,440 events. Each thread
+//! The file has so many full blocks of 16,384 bytes, thread by thread, and 2,040 events in each: with
+//! 3,836 blocks 60 MiB and 7,825,440 events. Each thread
 //! goes up and down a graph of calls among 50 functions, at most DEEPEST deep, and each exit ends the
 //! innermost call. Each function calls three others, so calls that are at most 6 deep have at most
 //! 1,092 paths. Wall times rise from block to block, in both seconds and microseconds, so LLVM's
 //! reader keeps the blocks in their order. All threads begin at the same counter, since LLVM's
 //! account takes no event below the first one.
 
-const BLOCKS: u32 = 3836;
 const BUFFER_LENGTH: usize = 16_384;
 const HEADER_LENGTH: usize = 32;
 const METADATA_LENGTH: usize = 16;
@@ -125,11 +125,12 @@ fn header() -> Vec<u8> {
 
 fn main() {
     let words: Vec<String> = std::env::args().collect();
-    let [_, path, threads, seed, deepest] = &words[..] else {
-        panic!("generate TRACE THREADS SEED DEEPEST");
+    let [_, path, threads, seed, deepest, blocks] = &words[..] else {
+        panic!("generate TRACE THREADS SEED DEEPEST BLOCKS");
     };
     let threads: u32 = threads.parse().expect("a number of threads");
     let deepest: usize = deepest.parse().expect("a number of open calls");
+    let blocks: u32 = blocks.parse().expect("a number of blocks");
     let mut draw = Draw(seed.parse().expect("a seed"));
     let mut file = header();
     for number in 1..=threads {
@@ -140,7 +141,7 @@ fn main() {
             counter: FIRST_COUNTER,
             blocks: 0,
         };
-        for _ in 0..BLOCKS / threads {
+        for _ in 0..blocks / threads {
             block(&mut file, &mut thread, &mut draw);
         }
     }

@@ -83,7 +83,7 @@ module _ (program : Program) (script : List Command) (statement : Statement) (tr
     pub compared : AllAgree threads Ends → AllAgree threads Marks → HasCompared trace (first_bytes statement.setup runs threads) t
 
   -- what agrees of a thread is its row
-  row_of : (Agree : ThreadAudit → ThreadRun → Type 0) (i : ℕ) (said : ThreadAudit) (run : ThreadRun) → slice_get statement.threads i ≡ Some said
+  pub row_of : (Agree : ThreadAudit → ThreadRun → Type 0) (i : ℕ) (said : ThreadAudit) (run : ThreadRun) → slice_get statement.threads i ≡ Some said
       → slice_get runs i ≡ Some run → Agree said run → AtThread statement runs Agree (i + 1)
   row_of Agree i said run at at' agree said' run' there there' =
       let place : i + 1 - 1 ≡ i = omega arith in
@@ -91,7 +91,7 @@ module _ (program : Program) (script : List Command) (statement : Statement) (tr
       let same' : run ≡ run' = same_Some run run' (sym at' ∙ (sym (ap (slice_get runs) place) ∙ there')) in
       subst (λ (r : ThreadRun). Agree said' r) same' (subst (λ (s : ThreadAudit). Agree s run) same agree)
 
-  of_row : (Agree : ThreadAudit → ThreadRun → Type 0) (i : ℕ) (said : ThreadAudit) (run : ThreadRun) → slice_get statement.threads i ≡ Some said
+  pub of_row : (Agree : ThreadAudit → ThreadRun → Type 0) (i : ℕ) (said : ThreadAudit) (run : ThreadRun) → slice_get statement.threads i ≡ Some said
       → slice_get runs i ≡ Some run → AtThread statement runs Agree (i + 1) → Agree said run
   of_row Agree i said run at at' row =
       let place : i + 1 - 1 ≡ i = omega arith in

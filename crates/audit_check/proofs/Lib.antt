@@ -11,6 +11,7 @@ pub mod Firsts
 pub mod FollowWays
 pub mod Found
 pub mod Judged
+pub mod Known
 pub mod Lawful
 pub mod LeastEnds
 pub mod LeastMarks
@@ -30,7 +31,9 @@ pub mod RowTexts
 pub mod RunTexts
 pub mod Running
 pub mod Segmenting
+pub mod SomeReading
 pub mod SomeRuns
+pub mod SomeVerdict
 pub mod Starting
 pub mod Stepping
 pub mod Storing

@@ -217,7 +217,7 @@ last_row (x ∷ threads) row i at =
 all_get : (xs : List ThreadAudit) (i : ℕ) (x : ThreadAudit) → All HasCounts xs → slice_get xs i ≡ Some x → HasCounts x
 all_get xs i x all is = subst HasCounts (get_or_from_slice_get xs i x x is) (all i x (slice_get_within xs i x is))
 
-some_item : {X : Type 0} (xs : List X) (i : ℕ) → i < length xs → (x : X) × (slice_get xs i ≡ Some x)
+pub some_item : {X : Type 0} (xs : List X) (i : ℕ) → i < length xs → (x : X) × (slice_get xs i ≡ Some x)
 some_item [] i low = absurd (omega arith)
 some_item (x ∷ xs) zero low = (x, refl)
 some_item (x ∷ xs) (suc i) low = some_item xs i (omega arith)

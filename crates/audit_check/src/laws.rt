@@ -14,7 +14,8 @@ ghost use Rattle.audit_check.specs.Reading.{ReadsAs};
 ghost use Rattle.audit_check.specs.Statements.{MayState, Statement, run_statement, text_of};
 ghost use Rattle.audit_check.specs.Verdicts.{IsJudged};
 
-use machine_step::{one_end, passings_are_limited};
+use machine_step::{one_end, passings_are_limited, some_end};
+use text_lines::a_written_number_is_itself;
 use trace_flush::audit_tells_its_run;
 
 /// Bytes read as one statement, or are refused at one line.
@@ -25,8 +26,15 @@ pub fn one_reading()
     audit_tells_its_run();
 }
 
-/// There is only one verdict on a statement and a trace, for an accepted image and a script. With the
-/// contract of `check_audit` there is exactly one.
+/// Any bytes read as a statement, or are refused at a line. With `one_reading` there is exactly one
+/// reading of them.
+pub fn some_reading()
+    ensures { (bytes : List ℕ) → (reading : Result Statement AuditFault) × ReadsAs bytes reading }
+{
+    a_written_number_is_itself();
+}
+
+/// There is only one verdict on a statement and a trace, for an accepted image and a script.
 pub fn one_verdict()
     ensures { (bytes : List ℕ) (program : Program) (script : List Command) (statement : Statement)
         (trace : List ℕ) (verdict other : Verdict) → IsAccepted bytes program
@@ -34,6 +42,16 @@ pub fn one_verdict()
         → verdict ≡ other }
 {
     one_end();
+}
+
+/// There is a verdict on any statement that an audit may make and any trace, for an accepted image and
+/// any script.
+pub fn some_verdict()
+    ensures { (bytes : List ℕ) (program : Program) (script : List Command) (statement : Statement)
+        (trace : List ℕ) → IsAccepted bytes program → MayState statement
+        → (verdict : Verdict) × IsJudged program script statement trace verdict }
+{
+    some_end();
 }
 
 /// The verdict on the audit and the trace of a lawful run is `Yes` (`yes`): the marks of its threads

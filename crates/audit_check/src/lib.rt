@@ -24,6 +24,6 @@ mod verdict;
 pub use audit::{Audit, AuditEntry};
 pub use fault::AuditFault;
 pub use judging::check_audit;
-pub use laws::{a_lawful_run_is_accepted, one_reading, one_verdict};
+pub use laws::{a_lawful_run_is_accepted, one_reading, one_verdict, some_reading, some_verdict};
 pub use reading::read_audit;
 pub use verdict::Verdict;

@@ -7,12 +7,13 @@ use Rattle.command_words.specs.Files.{AreOfTheirRows, IsOfItsRow, OutputsAreOfTh
 use Rattle.command_words.specs.Items.{Item, files_of, items_of}
 use Rattle.command_words.specs.Lines.{Line, is_cut, line_by, line_of, number_in, outputs_differ}
 use Rattle.command_words.specs.Numbers.{number_of}
-use Rattle.command_words.specs.Reports.{account_options_in, choice_in, stack_formats}
+use Rattle.command_words.specs.Reports.{account_options_in, choice_in, convert_options_in, stack_formats}
 use Rattle.command_words.specs.Rows.{CommandRow}
-use Rattle.command_words.specs.Tables.{account_row, asm_row, convert_row, extract_row, plain_row, run_row, sim_row}
-use Rattle.command_words.specs.Tables.{convert_format_option, map_version_option, relative_map, seeds, soak_row, stack_format_option, stack_row, threshold_option}
-use Rattle.command_words.specs.Words.{Command, Sim, Run, Plain, Extract, Asm, Account, Stack, Convert, Soak}
-use Rattle.command_words.specs.Words.{account_in, asm_in, bounds_in, convert_in, extract_in, plain_in, report_by, run_in, run_options_in, sim_in, soak_in, stack_in}
+use Rattle.command_words.specs.Tables.{account_row, asm_row, check_row, convert_row, dump_row, extract_row, plain_row, run_row, sim_row}
+use Rattle.command_words.specs.Tables.{map_version_option, profile_row, relative_map, seeds, soak_row, stack_format_option, stack_row, threshold_option}
+use Rattle.command_words.specs.Words.{Command, Sim, Run, Plain, Extract, Asm, Account, Stack, Convert, Dump, Check, Profile, Soak}
+use Rattle.command_words.specs.Words.{account_in, asm_in, bounds_in, check_in, convert_in, dump_in, extract_in, plain_in, profile_in, profile_options_in, report_by, run_in, run_options_in, sim_in, soak_in, stack_in}
+use Rattle.command_words.specs.declared.profile_options.ProfileOptions.{ProfileOptions}
 use Rattle.command_words.specs.declared.run_options.Bounds.{Bounds}
 use Rattle.command_words.specs.declared.run_options.RunOptions.{RunOptions}
 use Rattle.command_words.proofs.Texts.{equal_texts}
@@ -114,8 +115,43 @@ stack_of line command says = report_of stack_row Stack line.files (choice_in sta
     (λ trace format. record { row_is = refl; names_are = refl }) (λ trace image format. record { row_is = refl; names_are = refl }) says
 
 convert_of : (line : Line) (command : Command) → convert_in line ≡ Some command → IsOf convert_row line.files command
-convert_of line command says = report_of convert_row (λ trace image yaml. Convert trace image) line.files (number_in convert_format_option line) command
-    (λ trace yaml. record { row_is = refl; names_are = refl }) (λ trace image yaml. record { row_is = refl; names_are = refl }) says
+convert_of line command says = report_of convert_row Convert line.files (convert_options_in line) command
+    (λ trace options. record { row_is = refl; names_are = refl }) (λ trace image options. record { row_is = refl; names_are = refl }) says
+
+dump_of : (line : Line) (command : Command) → dump_in line ≡ Some command → IsOf dump_row line.files command
+dump_of line command says = go line.files refl
+  where
+    go : (names : List (List ℕ)) → line.files ≡ names → IsOf dump_row line.files command
+    go (trace ∷ []) e =
+        let is : Dump trace ≡ command = same _ _ (rw e at says) in
+        rw (sym is, e) (record { row_is = refl; names_are = refl })
+    go [] e = absurd (never command (rw e at says))
+    go (a ∷ b ∷ names) e = absurd (never command (rw e at says))
+
+check_of : (line : Line) (command : Command) → check_in line ≡ Some command → IsOf check_row line.files command
+check_of line command says = go line.files refl
+  where
+    go : (names : List (List ℕ)) → line.files ≡ names → IsOf check_row line.files command
+    go (image ∷ script ∷ trace ∷ audit ∷ []) e =
+        let is : Check image script trace audit ≡ command = same _ _ (rw e at says) in
+        rw (sym is, e) (record { row_is = refl; names_are = refl })
+    go [] e = absurd (never command (rw e at says))
+    go (a ∷ []) e = absurd (never command (rw e at says))
+    go (a ∷ b ∷ []) e = absurd (never command (rw e at says))
+    go (a ∷ b ∷ c ∷ []) e = absurd (never command (rw e at says))
+    go (a ∷ b ∷ c ∷ d ∷ g ∷ names) e = absurd (never command (rw e at says))
+
+profile_of : (line : Line) (command : Command) → profile_in line ≡ Some command → IsOf profile_row line.files command
+profile_of line command says = go line.files (profile_options_in line) refl refl
+  where
+    go : (names : List (List ℕ)) (options : Option ProfileOptions) → line.files ≡ names → profile_options_in line ≡ options → IsOf profile_row line.files command
+    go (image ∷ script ∷ []) (Some options) e f =
+        let is : Profile image script options ≡ command = same _ _ (rw (e, f) at says) in
+        rw (sym is, e) (record { row_is = refl; names_are = refl })
+    go (image ∷ script ∷ []) None e f = absurd (never command (rw (e, f) at says))
+    go [] options e f = absurd (never command (rw e at says))
+    go (a ∷ []) options e f = absurd (never command (rw e at says))
+    go (a ∷ b ∷ c ∷ names) options e f = absurd (never command (rw e at says))
 
 soak_of : (line : Line) (command : Command) → soak_in line ≡ Some command → IsOf soak_row line.files command
 soak_of line command says = go line.files refl
@@ -173,5 +209,8 @@ of_their_rows wall word words command says =
     (branch word words command account_row _ _ (of_line account_in account_row items command (λ line. account_of line command))
     (branch word words command stack_row _ _ (of_line stack_in stack_row items command (λ line. stack_of line command))
     (branch word words command convert_row _ _ (of_line convert_in convert_row items command (λ line. convert_of line command))
+    (branch word words command dump_row _ _ (of_line dump_in dump_row items command (λ line. dump_of line command))
+    (branch word words command check_row _ _ (of_line check_in check_row items command (λ line. check_of line command))
+    (branch word words command profile_row _ _ (of_line profile_in profile_row items command (λ line. profile_of line command))
     (branch word words command soak_row _ _ (of_line soak_in soak_row items command (λ line. soak_of line command))
-    (λ no. absurd (never command no)))))))))) says
+    (λ no. absurd (never command no))))))))))))) says

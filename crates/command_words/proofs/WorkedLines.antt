@@ -2,7 +2,10 @@
 use Rattle.std.proofs.Common.{◌≡◌, ℕ, true, false, List, [], ◌∷◌, Option, Some, None, refl}
 use Rattle.std.specs.Prelude.{codes, option_map}
 use Rattle.xray_io.specs.declared.wall.Wall.{Wall}
-use Rattle.command_words.specs.Words.{Command, Sim, Plain, Extract, Asm, Soak, outputs_of, reading}
+use Rattle.command_words.specs.declared.report_options.ConvertFormat.TheVariants as formats
+use Rattle.command_words.specs.declared.report_options.InputForm.TheVariants as inputs
+use Rattle.command_words.specs.declared.report_options.StackFormat.TheVariants as stacks
+use Rattle.command_words.specs.Words.{Command, Sim, Plain, Extract, Asm, Convert, Dump, Check, Profile, Soak, outputs_of, reading}
 
 -- a wall time that is passed in
 noon : Wall
@@ -76,7 +79,8 @@ made_named = refl
 replay : says (codes "sim" ∷ codes "s" ∷ codes "s" ∷ codes "c" ∷ codes "--fuel=9" ∷ codes "t" ∷ codes "a" ∷ [])
     ≡ Some (Sim (codes "s") (codes "s") (codes "c") (codes "t") (codes "a") (record {
       bounds = record { threads = 1; fuel = 9; passings = 1048576 };
-      stamps = record { tick = 1; tsc = 0; frequency = 0; cpus = 1; migrate = 1048576 };
+      stamps = record { tick = 1; tsc = 0; cpus = 1; migrate = 1048576 };
+      frequency = 0;
       buffers = record { size = 16384; max = 100 };
       pid = 1;
       wall = noon;
@@ -89,6 +93,45 @@ over_script = refl
 
 one_output : says (codes "sim" ∷ codes "i" ∷ codes "s" ∷ codes "c" ∷ codes "t" ∷ codes "t" ∷ []) ≡ None
 one_output = refl
+
+-- a trace is converted to YAML unless another form is named, and it is a trace file unless it is said to be a log
+to_yaml : says (codes "convert" ∷ codes "t" ∷ [])
+    ≡ Some (Convert (codes "t") None (record { format = formats.Yaml; input = inputs.Fdr }))
+to_yaml = refl
+
+from_a_log : says (codes "convert" ∷ codes "--input=basic" ∷ codes "t" ∷ codes "i" ∷ codes "--format" ∷ codes "trace-event" ∷ [])
+    ≡ Some (Convert (codes "t") (Some (codes "i")) (record { format = formats.TraceEvents; input = inputs.Basic }))
+from_a_log = refl
+
+no_such_form : says (codes "convert" ∷ codes "t" ∷ codes "--format=trace_event" ∷ []) ≡ None
+no_such_form = refl
+
+dumped : says (codes "fdr-dump" ∷ codes "t" ∷ []) ≡ Some (Dump (codes "t"))
+dumped = refl
+
+-- all four files of a check are inputs, so they may have one name
+checked : says (codes "check" ∷ codes "i" ∷ codes "s" ∷ codes "t" ∷ codes "t" ∷ [])
+    ≡ Some (Check (codes "i") (codes "s") (codes "t") (codes "t"))
+checked = refl
+
+check_makes_nothing : option_map outputs_of (says (codes "check" ∷ codes "i" ∷ codes "s" ∷ codes "t" ∷ codes "a" ∷ [])) ≡ Some []
+check_makes_nothing = refl
+
+-- a profile takes those options of a run that say how threads run and how their passings are stamped
+profiled : says (codes "profile" ∷ codes "i" ∷ codes "--nodes=1" ∷ codes "s" ∷ codes "--format" ∷ codes "flame" ∷ codes "--cpus=2" ∷ [])
+    ≡ Some (Profile (codes "i") (codes "s") (record {
+      bounds = record { threads = 1; fuel = 10000000; passings = 1048576 };
+      stamps = record { tick = 1; tsc = 0; cpus = 2; migrate = 1048576 };
+      nodes = 1;
+      format = stacks.Flame;
+    }))
+profiled = refl
+
+no_frequency : says (codes "profile" ∷ codes "i" ∷ codes "s" ∷ codes "--frequency=1" ∷ []) ≡ None
+no_frequency = refl
+
+no_node : says (codes "profile" ∷ codes "i" ∷ codes "s" ∷ codes "--nodes=0" ∷ []) ≡ None
+no_node = refl
 
 -- a number that stands in the place of a file: any of 64 bits
 seed : says (codes "soak" ∷ codes "+01" ∷ []) ≡ Some (Soak 1)

@@ -4,9 +4,9 @@ use Rattle.xray_io.specs.declared.wall.Wall.{Wall}
 use Rattle.command_words.specs.Items.{files_of, items_of}
 use Rattle.command_words.specs.Lines.{outputs_in}
 use Rattle.command_words.specs.Rows.{CommandRow, FileRow, is_output, names_file}
-use Rattle.command_words.specs.Tables.{account_row, asm_row, convert_row, extract_row, plain_row, run_row, sim_row}
-use Rattle.command_words.specs.Tables.{soak_row, stack_row}
-use Rattle.command_words.specs.Words.{Command, Sim, Run, Plain, Extract, Asm, Account, Stack, Convert, Soak, outputs_of, reading}
+use Rattle.command_words.specs.Tables.{account_row, asm_row, check_row, convert_row, dump_row, extract_row, plain_row, run_row, sim_row}
+use Rattle.command_words.specs.Tables.{profile_row, soak_row, stack_row}
+use Rattle.command_words.specs.Words.{Command, Sim, Run, Plain, Extract, Asm, Account, Stack, Convert, Dump, Check, Profile, Soak, outputs_of, reading}
 
 -- ---- a line for each command
 
@@ -19,7 +19,10 @@ row_of (Extract image) = extract_row
 row_of (Asm text image threshold relative) = asm_row
 row_of (Account trace image options) = account_row
 row_of (Stack trace image format) = stack_row
-row_of (Convert trace image) = convert_row
+row_of (Convert trace image options) = convert_row
+row_of (Dump trace) = dump_row
+row_of (Check image script trace audit) = check_row
+row_of (Profile image script options) = profile_row
 row_of (Soak number) = soak_row
 
 -- a trace, and an image if one is named
@@ -36,7 +39,10 @@ names_of (Extract image) = image ∷ []
 names_of (Asm text image threshold relative) = text ∷ image ∷ []
 names_of (Account trace image options) = report_names trace image
 names_of (Stack trace image format) = report_names trace image
-names_of (Convert trace image) = report_names trace image
+names_of (Convert trace image options) = report_names trace image
+names_of (Dump trace) = trace ∷ []
+names_of (Check image script trace audit) = image ∷ script ∷ trace ∷ audit ∷ []
+names_of (Profile image script options) = image ∷ script ∷ []
 names_of (Soak number) = []
 
 -- ---- by the roles of the row

@@ -22,6 +22,10 @@ most_cpus = 65535
 abbrev pub most_stay : ℕ
 most_stay = 1048576
 
+-- the most nodes of a thread's call trie
+abbrev pub most_nodes : ℕ
+most_nodes = 262144
+
 -- the highest number of a process
 abbrev pub most_pid : ℕ
 most_pid = 2147483647

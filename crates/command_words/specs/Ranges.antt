@@ -3,12 +3,13 @@
 use Rattle.std.specs.Prelude.{◌≢◌, ◌+◌, ◌*◌, ◌≤◌, ◌<◌, ◌^◌, ℕ, IfSome}
 use Rattle.fdr_buffer.specs.declared.buffer.TheConstants.{LARGEST_SIZE, LEAST_SIZE, MOST_BUFFERS}
 use Rattle.fdr_buffer.specs.Times.{IsTime}
+use Rattle.command_words.specs.declared.profile_options.ProfileOptions.{ProfileOptions}
 use Rattle.command_words.specs.declared.run_options.Bounds.{Bounds}
 use Rattle.command_words.specs.declared.run_options.Buffers.{Buffers}
 use Rattle.command_words.specs.declared.run_options.RunOptions.{RunOptions}
 use Rattle.command_words.specs.declared.run_options.Stamps.{Stamps}
-use Rattle.command_words.specs.Limits.{most_cpus, most_fuel, most_passings, most_pid, most_stay, most_threads, trace_limit}
-use Rattle.command_words.specs.Words.{Command, Sim, Run, Plain, Extract, Asm, Account, Stack, Convert, Soak}
+use Rattle.command_words.specs.Limits.{most_cpus, most_fuel, most_nodes, most_passings, most_pid, most_stay, most_threads, trace_limit}
+use Rattle.command_words.specs.Words.{Command, Sim, Run, Plain, Extract, Asm, Account, Stack, Convert, Dump, Check, Profile, Soak}
 
 -- there may be this many threads: at least one, and at most `most_threads`
 abbrev pub IsThreadCount : ℕ → Type 0
@@ -22,7 +23,7 @@ pub record AreBounds (bounds : Bounds) : Type 0 where
 
 -- passings may be stamped in this way
 pub record AreStamps (stamps : Stamps) : Type 0 where
-  pub counter : (stamps.tick < 2 ^ 64) × (stamps.tsc < 2 ^ 64) × (stamps.frequency < 2 ^ 64)
+  pub counter : (stamps.tick < 2 ^ 64) × (stamps.tsc < 2 ^ 64)
   pub cpus : (1 ≤ stamps.cpus) × (stamps.cpus ≤ most_cpus)
   pub migrate : (1 ≤ stamps.migrate) × (stamps.migrate ≤ most_stay)
 
@@ -36,11 +37,18 @@ pub record AreBuffers (buffers : Buffers) : Type 0 where
 pub record AreRunOptions (options : RunOptions) : Type 0 where
   pub bounds : AreBounds options.bounds
   pub stamps : AreStamps options.stamps
+  pub frequency : options.frequency < 2 ^ 64
   pub buffers : AreBuffers options.buffers
   pub enough : options.bounds.threads ≤ options.buffers.max
   pub room : options.buffers.max * (options.buffers.size + 16) + 32 ≤ trace_limit
   pub pid : options.pid ≤ most_pid
   pub wall : IsTime options.wall
+
+-- a profile may have these options
+pub record AreProfileOptions (options : ProfileOptions) : Type 0 where
+  pub bounds : AreBounds options.bounds
+  pub stamps : AreStamps options.stamps
+  pub nodes : (1 ≤ options.nodes) × (options.nodes ≤ most_nodes)
 
 -- all that a command holds is in its range, and no two outputs have the same name
 abbrev pub HasRanges : Command → Type 0
@@ -51,5 +59,8 @@ HasRanges (Extract image) = Unit {0}
 HasRanges (Asm text image threshold relative) = threshold ≤ 4294967295
 HasRanges (Account trace image options) = IfSome options.top (λ top. top ≤ 4294967295)
 HasRanges (Stack trace image format) = Unit {0}
-HasRanges (Convert trace image) = Unit {0}
+HasRanges (Convert trace image options) = Unit {0}
+HasRanges (Dump trace) = Unit {0}
+HasRanges (Check image script trace audit) = Unit {0}
+HasRanges (Profile image script options) = AreProfileOptions options
 HasRanges (Soak number) = number < 2 ^ 64

@@ -4,10 +4,15 @@ use Rattle.std.specs.Option.{option_map_or}
 use Rattle.command_words.specs.Lines.{Line, number_in, value_in}
 use Rattle.command_words.specs.Numbers.{number_of}
 use Rattle.command_words.specs.Rows.{OptionRow}
-use Rattle.command_words.specs.Tables.{account_format_option, sort_option, sort_order_option, top_option}
+use Rattle.command_words.specs.Tables.{account_format_option, convert_format_option, input_option, sort_option, sort_order_option, top_option}
 use Rattle.command_words.specs.declared.report_options.AccountFormat.{AccountFormat}
 use Rattle.command_words.specs.declared.report_options.AccountFormat.TheVariants.{Text, Csv}
 use Rattle.command_words.specs.declared.report_options.AccountOptions.{AccountOptions}
+use Rattle.command_words.specs.declared.report_options.ConvertFormat.{ConvertFormat}
+use Rattle.command_words.specs.declared.report_options.ConvertFormat.TheVariants as converted
+use Rattle.command_words.specs.declared.report_options.ConvertOptions.{ConvertOptions}
+use Rattle.command_words.specs.declared.report_options.InputForm.{InputForm}
+use Rattle.command_words.specs.declared.report_options.InputForm.TheVariants as inputs
 use Rattle.command_words.specs.declared.report_options.SortColumn.{SortColumn}
 use Rattle.command_words.specs.declared.report_options.SortColumn.TheVariants.{FuncId, Count, Min, Med}
 use Rattle.command_words.specs.declared.report_options.SortColumn.TheVariants.{P90, P99, Max, Sum}
@@ -39,6 +44,22 @@ account_formats = Text ∷ Csv ∷ []
 -- the formats of stacks
 abbrev pub stack_formats : List StackFormat
 stack_formats = Human ∷ Flame ∷ Svg ∷ []
+
+-- the forms that a trace is converted to, and the forms that it may have
+abbrev pub convert_formats : List ConvertFormat
+convert_formats = converted.Yaml ∷ converted.TraceEvents ∷ converted.Basic ∷ []
+
+abbrev pub input_forms : List InputForm
+input_forms = inputs.Fdr ∷ inputs.Basic ∷ []
+
+-- all options of a conversion
+abbrev pub convert_options_in : Line → Option ConvertOptions
+convert_options_in line =
+    of_parts (choice_in convert_format_option convert_formats line) (choice_in input_option input_forms line)
+  where
+    of_parts : Option ConvertFormat → Option InputForm → Option ConvertOptions
+    of_parts (Some format) (Some input) = Some (record { format = format; input = input })
+    of_parts _ _ = None
 
 -- the most rows that are printed: the number that is given, or none for all rows
 abbrev pub top_in : Line → Option (Option ℕ)

@@ -1,7 +1,7 @@
 -- The one table of options and the one of commands.
 use Rattle.std.specs.Prelude.{ℕ, List, [], ◌∷◌, Some, None, codes}
 use Rattle.fdr_buffer.specs.declared.buffer.TheConstants.{LARGEST_SIZE, LEAST_SIZE, MOST_BUFFERS}
-use Rattle.command_words.specs.Limits.{most_cpus, most_fuel, most_passings, most_pid, most_stay, most_threads}
+use Rattle.command_words.specs.Limits.{most_cpus, most_fuel, most_nodes, most_passings, most_pid, most_stay, most_threads}
 use Rattle.command_words.specs.Numbers.{Values, Number, OneOf, Listed}
 use Rattle.command_words.specs.Rows.{CommandRow, FileRow, OptionRow}
 use Rattle.command_words.specs.declared.rows.Role.TheVariants.{Input, OptionalInput, Output}
@@ -98,7 +98,19 @@ stack_format_option =
 
 -- the form that a trace is converted to
 abbrev pub convert_format_option : OptionRow
-convert_format_option = record { name = codes "format"; values = Listed (codes "yaml" ∷ []); default = Some 0 }
+convert_format_option = record {
+  name = codes "format";
+  values = Listed (codes "yaml" ∷ codes "trace-event" ∷ codes "basic" ∷ []);
+  default = Some 0;
+}
+
+-- the form of the trace that is converted
+abbrev pub input_option : OptionRow
+input_option = record { name = codes "input"; values = Listed (codes "fdr" ∷ codes "basic" ∷ []); default = Some 0 }
+
+-- the most nodes of a thread's call trie
+abbrev pub nodes_option : OptionRow
+nodes_option = record { name = codes "nodes"; values = Number 1 most_nodes; default = Some 4096 }
 
 -- ---- the commands
 
@@ -110,6 +122,11 @@ bounds_options = threads_option ∷ fuel_option ∷ passings_option ∷ []
 abbrev pub run_options : List OptionRow
 run_options = threads_option ∷ fuel_option ∷ passings_option ∷ buffer_size_option ∷ buffer_max_option
     ∷ tick_option ∷ tsc_option ∷ frequency_option ∷ cpus_option ∷ migrate_option ∷ pid_option ∷ wall_option ∷ []
+
+-- the options of a profile
+abbrev pub profile_options : List OptionRow
+profile_options = threads_option ∷ fuel_option ∷ passings_option ∷ tick_option ∷ tsc_option ∷ cpus_option
+    ∷ migrate_option ∷ nodes_option ∷ stack_format_option ∷ []
 
 abbrev pub asm_row : CommandRow
 asm_row = record {
@@ -165,7 +182,25 @@ abbrev pub stack_row : CommandRow
 stack_row = record { word = codes "stack"; files = report_files; options = stack_format_option ∷ [] }
 
 abbrev pub convert_row : CommandRow
-convert_row = record { word = codes "convert"; files = report_files; options = convert_format_option ∷ [] }
+convert_row = record { word = codes "convert"; files = report_files; options = convert_format_option ∷ input_option ∷ [] }
+
+abbrev pub dump_row : CommandRow
+dump_row = record { word = codes "fdr-dump"; files = record { label = codes "trace"; role = Input } ∷ []; options = [] }
+
+abbrev pub check_row : CommandRow
+check_row = record {
+  word = codes "check";
+  files = record { label = codes "image"; role = Input } ∷ record { label = codes "script"; role = Input }
+      ∷ record { label = codes "trace"; role = Input } ∷ record { label = codes "audit"; role = Input } ∷ [];
+  options = [];
+}
+
+abbrev pub profile_row : CommandRow
+profile_row = record {
+  word = codes "profile";
+  files = record { label = codes "image"; role = Input } ∷ record { label = codes "script"; role = Input } ∷ [];
+  options = profile_options;
+}
 
 -- ---- the number that inputs are drawn from
 

@@ -2,7 +2,7 @@
 use Rattle.std.specs.Prelude.{option_map}
 use Rattle.command_words.specs.declared.words.Command as command
 use Rattle.command_words.specs.declared.words.Command.TheVariants as command_of
-use Rattle.command_words.specs.Words.{Command, Sim, Run, Plain, Extract, Asm, Account, Stack, Convert, Soak}
+use Rattle.command_words.specs.Words.{Command, Sim, Run, Plain, Extract, Asm, Account, Stack, Convert, Dump, Check, Profile, Soak}
 
 abbrev pub command_view : command.Command → Command
 command_view (command_of.Sim image script schedule trace audit options) =
@@ -13,5 +13,8 @@ command_view (command_of.Extract image) = Extract image.now
 command_view (command_of.Asm text image threshold relative) = Asm text.now image.now threshold relative
 command_view (command_of.Account trace image options) = Account trace.now (option_map (λ i. i.now) image) options
 command_view (command_of.Stack trace image format) = Stack trace.now (option_map (λ i. i.now) image) format
-command_view (command_of.Convert trace image) = Convert trace.now (option_map (λ i. i.now) image)
+command_view (command_of.Convert trace image options) = Convert trace.now (option_map (λ i. i.now) image) options
+command_view (command_of.Dump trace) = Dump trace.now
+command_view (command_of.Check image script trace audit) = Check image.now script.now trace.now audit.now
+command_view (command_of.Profile image script options) = Profile image.now script.now options
 command_view (command_of.Soak number) = Soak number

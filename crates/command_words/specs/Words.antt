@@ -7,13 +7,15 @@ use Rattle.command_words.specs.Items.{items_of}
 use Rattle.command_words.specs.Limits.{trace_limit}
 use Rattle.command_words.specs.Lines.{Line, line_of, number_in, value_in}
 use Rattle.command_words.specs.Numbers.{number_of}
-use Rattle.command_words.specs.Reports.{account_options_in, choice_in, report_files_in, stack_formats}
-use Rattle.command_words.specs.Tables.{account_row, asm_row, convert_row, extract_row, plain_row, run_row, sim_row}
-use Rattle.command_words.specs.Tables.{seeds, soak_row, stack_row}
-use Rattle.command_words.specs.Tables.{convert_format_option, map_version_option, relative_map, stack_format_option}
+use Rattle.command_words.specs.Reports.{account_options_in, choice_in, convert_options_in, report_files_in, stack_formats}
+use Rattle.command_words.specs.Tables.{account_row, asm_row, check_row, convert_row, dump_row, extract_row, plain_row, run_row, sim_row}
+use Rattle.command_words.specs.Tables.{profile_row, seeds, soak_row, stack_row}
+use Rattle.command_words.specs.Tables.{map_version_option, nodes_option, relative_map, stack_format_option}
 use Rattle.command_words.specs.Tables.{threads_option, fuel_option, passings_option, buffer_size_option, buffer_max_option, threshold_option}
 use Rattle.command_words.specs.Tables.{tick_option, tsc_option, frequency_option, cpus_option, migrate_option, pid_option, wall_option}
+use Rattle.command_words.specs.declared.profile_options.ProfileOptions.{ProfileOptions}
 use Rattle.command_words.specs.declared.report_options.AccountOptions.{AccountOptions}
+use Rattle.command_words.specs.declared.report_options.ConvertOptions.{ConvertOptions}
 use Rattle.command_words.specs.declared.report_options.StackFormat.{StackFormat}
 use Rattle.command_words.specs.declared.run_options.Bounds.{Bounds}
 use Rattle.command_words.specs.declared.run_options.Buffers.{Buffers}
@@ -28,7 +30,10 @@ pub data Command : Type 0 where
   Asm : (text image : List ℕ) → (threshold : ℕ) → (relative : Bool) → Command
   Account : (trace : List ℕ) → (image : Option (List ℕ)) → (options : AccountOptions) → Command
   Stack : (trace : List ℕ) → (image : Option (List ℕ)) → (format : StackFormat) → Command
-  Convert : (trace : List ℕ) → (image : Option (List ℕ)) → Command
+  Convert : (trace : List ℕ) → (image : Option (List ℕ)) → (options : ConvertOptions) → Command
+  Dump : (trace : List ℕ) → Command
+  Check : (image script trace audit : List ℕ) → Command
+  Profile : (image script : List ℕ) → (options : ProfileOptions) → Command
   Soak : (number : ℕ) → Command
 
 -- ---- the options of the commands that run threads
@@ -43,13 +48,13 @@ bounds_in line = of_numbers (number_in threads_option line) (number_in fuel_opti
 
 -- how passings are stamped
 abbrev pub stamps_in : Line → Option Stamps
-stamps_in line = of_numbers (number_in tick_option line) (number_in tsc_option line) (number_in frequency_option line)
-    (number_in cpus_option line) (number_in migrate_option line)
+stamps_in line = of_numbers (number_in tick_option line) (number_in tsc_option line) (number_in cpus_option line)
+    (number_in migrate_option line)
   where
-    of_numbers : Option ℕ → Option ℕ → Option ℕ → Option ℕ → Option ℕ → Option Stamps
-    of_numbers (Some tick) (Some tsc) (Some frequency) (Some cpus) (Some migrate) =
-        Some (record { tick = tick; tsc = tsc; frequency = frequency; cpus = cpus; migrate = migrate })
-    of_numbers _ _ _ _ _ = None
+    of_numbers : Option ℕ → Option ℕ → Option ℕ → Option ℕ → Option Stamps
+    of_numbers (Some tick) (Some tsc) (Some cpus) (Some migrate) =
+        Some (record { tick = tick; tsc = tsc; cpus = cpus; migrate = migrate })
+    of_numbers _ _ _ _ = None
 
 -- the buffers
 abbrev pub buffers_in : Line → Option Buffers
@@ -73,15 +78,33 @@ have_room options = nat_le options.bounds.threads options.buffers.max
 
 -- all options of a run
 abbrev pub run_options_in : Wall → Line → Option RunOptions
-run_options_in wall line = of_parts (bounds_in line) (stamps_in line) (buffers_in line) (number_in pid_option line) (wall_in wall line)
+run_options_in wall line = of_parts (bounds_in line) (stamps_in line) (number_in frequency_option line) (buffers_in line)
+    (number_in pid_option line) (wall_in wall line)
   where
     checked : RunOptions → Option RunOptions
     checked options = if have_room options then Some options else None
 
-    of_parts : Option Bounds → Option Stamps → Option Buffers → Option ℕ → Option Wall → Option RunOptions
-    of_parts (Some bounds) (Some stamps) (Some buffers) (Some pid) (Some wall) =
-        checked (record { bounds = bounds; stamps = stamps; buffers = buffers; pid = pid; wall = wall })
-    of_parts _ _ _ _ _ = None
+    of_parts : Option Bounds → Option Stamps → Option ℕ → Option Buffers → Option ℕ → Option Wall → Option RunOptions
+    of_parts (Some bounds) (Some stamps) (Some frequency) (Some buffers) (Some pid) (Some wall) =
+        checked (record {
+          bounds = bounds;
+          stamps = stamps;
+          frequency = frequency;
+          buffers = buffers;
+          pid = pid;
+          wall = wall;
+        })
+    of_parts _ _ _ _ _ _ = None
+
+-- all options of a profile
+abbrev pub profile_options_in : Line → Option ProfileOptions
+profile_options_in line = of_parts (bounds_in line) (stamps_in line) (number_in nodes_option line)
+    (choice_in stack_format_option stack_formats line)
+  where
+    of_parts : Option Bounds → Option Stamps → Option ℕ → Option StackFormat → Option ProfileOptions
+    of_parts (Some bounds) (Some stamps) (Some nodes) (Some format) =
+        Some (record { bounds = bounds; stamps = stamps; nodes = nodes; format = format })
+    of_parts _ _ _ _ = None
 
 -- ---- the commands
 
@@ -135,9 +158,29 @@ account_in line = report_by Account line.files (account_options_in line)
 abbrev pub stack_in : Line → Option Command
 stack_in line = report_by Stack line.files (choice_in stack_format_option stack_formats line)
 
--- a trace is converted only to YAML
 abbrev pub convert_in : Line → Option Command
-convert_in line = report_by (λ trace image yaml. Convert trace image) line.files (number_in convert_format_option line)
+convert_in line = report_by Convert line.files (convert_options_in line)
+
+abbrev pub dump_in : Line → Option Command
+dump_in line = of_files line.files
+  where
+    of_files : List (List ℕ) → Option Command
+    of_files (trace ∷ []) = Some (Dump trace)
+    of_files _ = None
+
+abbrev pub check_in : Line → Option Command
+check_in line = of_files line.files
+  where
+    of_files : List (List ℕ) → Option Command
+    of_files (image ∷ script ∷ trace ∷ audit ∷ []) = Some (Check image script trace audit)
+    of_files _ = None
+
+abbrev pub profile_in : Line → Option Command
+profile_in line = of_parts line.files (profile_options_in line)
+  where
+    of_parts : List (List ℕ) → Option ProfileOptions → Option Command
+    of_parts (image ∷ script ∷ []) (Some options) = Some (Profile image script options)
+    of_parts _ _ = None
 
 abbrev pub soak_in : Line → Option Command
 soak_in line = of_files line.files
@@ -159,6 +202,9 @@ reading wall (word ∷ words) =
     else if bytes_eq word account_row.word then option_and_then account_in (line_of account_row items)
     else if bytes_eq word stack_row.word then option_and_then stack_in (line_of stack_row items)
     else if bytes_eq word convert_row.word then option_and_then convert_in (line_of convert_row items)
+    else if bytes_eq word dump_row.word then option_and_then dump_in (line_of dump_row items)
+    else if bytes_eq word check_row.word then option_and_then check_in (line_of check_row items)
+    else if bytes_eq word profile_row.word then option_and_then profile_in (line_of profile_row items)
     else if bytes_eq word soak_row.word then option_and_then soak_in (line_of soak_row items)
     else None
 
@@ -173,5 +219,8 @@ outputs_of (Extract image) = []
 outputs_of (Asm text image threshold relative) = image ∷ []
 outputs_of (Account trace image options) = []
 outputs_of (Stack trace image format) = []
-outputs_of (Convert trace image) = []
+outputs_of (Convert trace image options) = []
+outputs_of (Dump trace) = []
+outputs_of (Check image script trace audit) = []
+outputs_of (Profile image script options) = []
 outputs_of (Soak number) = []

@@ -5,7 +5,7 @@
 //! (`rows`). By the row of a command, `clap` cuts the words after it into file names and options
 //! (`cutting`). That gives a line (`line`): the names in order, and a value for each option that is
 //! given. The numbers, listed words, defaults and rules of options are read from the line
-//! (`run_options`, `report_options`, `words`).
+//! (`run_options`, `profile_options`, `report_options`, `words`).
 //!
 //! The meaning of words is one definition: `reading` of `specs/Words.antt`. `read_words` answers
 //! exactly that. For another command, add a row to the tables and a case to `Command` and `Verb`.
@@ -14,6 +14,7 @@
 mod cutting;
 mod laws;
 mod line;
+mod profile_options;
 mod report_options;
 mod rows;
 mod run_options;
@@ -22,6 +23,10 @@ mod words;
 
 pub use fdr_buffer::TRACE_LIMIT;
 pub use laws::commands_follow_their_rows;
-pub use report_options::{AccountFormat, AccountOptions, SortColumn, SortOrder, StackFormat};
+pub use profile_options::ProfileOptions;
+pub use report_options::{
+    AccountFormat, AccountOptions, ConvertFormat, ConvertOptions, InputForm, SortColumn, SortOrder,
+    StackFormat,
+};
 pub use run_options::{Bounds, Buffers, RunOptions, Stamps};
 pub use words::{Command, read_words};

@@ -1,13 +1,13 @@
 //! The files and options of the commands that report on a trace.
 ghost use Rattle.std.specs.Prelude.{◌≡◌, ◌≤◌, IfSome, option_map};
-ghost use Rattle.command_words.specs.Reports.{account_formats, choice_in, columns, orders, stack_formats};
-ghost use Rattle.command_words.specs.Reports.{account_options_in, report_files_in, top_in};
+ghost use Rattle.command_words.specs.Reports.{account_formats, choice_in, columns, convert_formats, input_forms, orders, stack_formats};
+ghost use Rattle.command_words.specs.Reports.{account_options_in, convert_options_in, report_files_in, top_in};
 ghost use Rattle.command_words.specs.Tables.{account_format_option, sort_option, sort_order_option};
-ghost use Rattle.command_words.specs.Tables.{stack_format_option};
+ghost use Rattle.command_words.specs.Tables.{convert_format_option, input_option, stack_format_option};
 ghost use Rattle.command_words.specs.private.CodeViews.{files_view, line_view};
 
 use crate::line::Line;
-use crate::tables::{ACCOUNT_FORMAT, SORT, SORT_ORDER, STACK_FORMAT, TOP};
+use crate::tables::{ACCOUNT_FORMAT, CONVERT_FORMAT, INPUT, SORT, SORT_ORDER, STACK_FORMAT, TOP};
 
 /// The files of a report.
 #[derive(Clone, Copy)]
@@ -79,6 +79,35 @@ pub struct AccountOptions {
     pub top: Option<u32>,
     /// The form in which the account is printed.
     pub format: AccountFormat,
+}
+
+/// The form that a trace is converted to.
+#[derive(Clone, Copy, Debug, PartialEq, Eq)]
+pub enum ConvertFormat {
+    /// A YAML document.
+    Yaml,
+    /// Trace events in JSON, for viewers.
+    TraceEvents,
+    /// A basic log.
+    Basic,
+}
+
+/// The form of a trace that is read.
+#[derive(Clone, Copy, Debug, PartialEq, Eq)]
+pub enum InputForm {
+    /// A trace file of the Flight Data Recorder mode.
+    Fdr,
+    /// A basic log.
+    Basic,
+}
+
+/// The options of a conversion.
+#[derive(Clone, Copy, Debug, PartialEq, Eq)]
+pub struct ConvertOptions {
+    /// The form that the trace is converted to.
+    pub format: ConvertFormat,
+    /// The form that the trace has.
+    pub input: InputForm,
 }
 
 /// The files of a report. `None` unless there are one or two.
@@ -171,4 +200,34 @@ pub(crate) fn account_options_in(line: &Line<'_>) -> Option<AccountOptions>
         top,
         format,
     })
+}
+
+/// The form that a line asks for. `None` if its word isn't a form.
+fn convert_format_in(line: &Line<'_>) -> Option<ConvertFormat>
+    ensures { result ≡ choice_in convert_format_option convert_formats (line_view line.now) }
+{
+    match CONVERT_FORMAT.number_in(line)? {
+        0 => Some(ConvertFormat::Yaml),
+        1 => Some(ConvertFormat::TraceEvents),
+        _ => Some(ConvertFormat::Basic),
+    }
+}
+
+/// The form of the input that a line names. `None` if its word isn't a form.
+fn input_form_in(line: &Line<'_>) -> Option<InputForm>
+    ensures { result ≡ choice_in input_option input_forms (line_view line.now) }
+{
+    match INPUT.number_in(line)? {
+        0 => Some(InputForm::Fdr),
+        _ => Some(InputForm::Basic),
+    }
+}
+
+/// The options of a conversion. `None` if a value isn't allowed.
+pub(crate) fn convert_options_in(line: &Line<'_>) -> Option<ConvertOptions>
+    ensures { result ≡ convert_options_in (line_view line.now) }
+{
+    let format = convert_format_in(line)?;
+    let input = input_form_in(line)?;
+    Some(ConvertOptions { format, input })
 }

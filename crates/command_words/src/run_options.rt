@@ -31,16 +31,13 @@ pub struct Bounds {
     pub passings: u32,
 }
 
-/// How the passings of a run are stamped.
+/// How the passings of threads are stamped.
 #[derive(Clone, Copy, Debug, PartialEq, Eq)]
 pub struct Stamps {
     /// By how many cycles each instruction advances the counter (TSC).
     pub tick: u64,
     /// The counter at the start, in cycles.
     pub tsc: u64,
-    /// The frequency of the counter in cycles per second, as the trace's header says it. 0 means
-    /// that it isn't known.
-    pub frequency: u64,
     /// How many CPUs a thread moves between, at least 1.
     pub cpus: u16,
     /// How many passings a thread makes before it moves to the next CPU, from 1 to 1,048,576.
@@ -63,6 +60,9 @@ pub struct RunOptions {
     pub bounds: Bounds,
     /// How passings are stamped.
     pub stamps: Stamps,
+    /// The frequency of the counter in cycles per second, as the trace's header says it. 0 means
+    /// that it isn't known.
+    pub frequency: u64,
     /// The buffers of events. All of them fit a trace file of 67,108,864 bytes.
     pub buffers: Buffers,
     /// The number of the process, below 2^31.
@@ -97,14 +97,13 @@ pub(crate) fn bounds_in(line: &Line<'_>) -> Option<Bounds>
 }
 
 /// How passings are stamped. `None` if a value isn't allowed.
-fn stamps_in(line: &Line<'_>) -> Option<Stamps>
+pub(crate) fn stamps_in(line: &Line<'_>) -> Option<Stamps>
     ensures reads { result ≡ stamps_in (line_view line.now) }
     ensures ranges { IfSome result AreStamps }
 {
     Some(Stamps {
         tick: TICK.number_in(line)?,
         tsc: TSC.number_in(line)?,
-        frequency: FREQUENCY.number_in(line)?,
         cpus: CPUS.number_in(line)? as u16,
         migrate: MIGRATE.number_in(line)? as u32,
     })
@@ -146,12 +145,14 @@ pub(crate) fn run_options_in(wall: Wall, line: &Line<'_>) -> Option<RunOptions>
 {
     let bounds = bounds_in(line)?;
     let stamps = stamps_in(line)?;
+    let frequency = FREQUENCY.number_in(line)?;
     let buffers = buffers_in(line)?;
     let pid = PID.number_in(line)?;
     let wall = wall_in(wall, line)?;
     let options = RunOptions {
         bounds,
         stamps,
+        frequency,
         buffers,
         pid: pid as u32,
         wall,

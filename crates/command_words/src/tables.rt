@@ -190,8 +190,25 @@ pub(crate) const STACK_FORMAT: OptionRow = OptionRow {
 /// The form that a trace is converted to.
 pub(crate) const CONVERT_FORMAT: OptionRow = OptionRow {
     name: "format",
-    values: Values::Listed(&["yaml"]),
+    values: Values::Listed(&["yaml", "trace-event", "basic"]),
     default: Some(0),
+};
+
+/// The form of the trace that is converted.
+pub(crate) const INPUT: OptionRow = OptionRow {
+    name: "input",
+    values: Values::Listed(&["fdr", "basic"]),
+    default: Some(0),
+};
+
+/// The most nodes of a thread's call trie.
+pub(crate) const NODES: OptionRow = OptionRow {
+    name: "nodes",
+    values: Values::Number {
+        least: 1,
+        most: 262_144,
+    },
+    default: Some(4_096),
 };
 
 /// The options of a plain run.
@@ -211,6 +228,19 @@ const RUN_OPTIONS: &[OptionRow] = &[
     MIGRATE,
     PID,
     WALL,
+];
+
+/// The options of a profile.
+const PROFILE_OPTIONS: &[OptionRow] = &[
+    THREADS,
+    FUEL,
+    PASSINGS,
+    TICK,
+    TSC,
+    CPUS,
+    MIGRATE,
+    NODES,
+    STACK_FORMAT,
 ];
 
 /// An image that is read.
@@ -249,10 +279,16 @@ const MADE_TRACE: FileRow = FileRow {
     role: Role::Output,
 };
 
-/// An audit, which is written.
-const AUDIT: FileRow = FileRow {
+/// An audit that is written.
+const MADE_AUDIT: FileRow = FileRow {
     label: "audit",
     role: Role::Output,
+};
+
+/// An audit that is read.
+const AUDIT: FileRow = FileRow {
+    label: "audit",
+    role: Role::Input,
 };
 
 /// A trace that is read.
@@ -294,11 +330,34 @@ pub(crate) const STACK: CommandRow = CommandRow {
     options: &[STACK_FORMAT],
 };
 
-/// `convert TRACE [IMAGE]`: prints a trace as a text in YAML.
+/// `convert TRACE [IMAGE]`: prints a trace in another form.
 pub(crate) const CONVERT: CommandRow = CommandRow {
     word: "convert",
     files: &[TRACE, NAMING_IMAGE],
-    options: &[CONVERT_FORMAT],
+    options: &[CONVERT_FORMAT, INPUT],
+};
+
+/// `fdr-dump TRACE`: prints the records of a trace.
+pub(crate) const DUMP: CommandRow = CommandRow {
+    word: "fdr-dump",
+    files: &[TRACE],
+    options: &[],
+};
+
+/// `check IMAGE SCRIPT TRACE AUDIT`: says whether a trace and an audit can be those of a run of this image and
+/// this script.
+pub(crate) const CHECK: CommandRow = CommandRow {
+    word: "check",
+    files: &[IMAGE, SCRIPT, TRACE, AUDIT],
+    options: &[],
+};
+
+/// `profile IMAGE SCRIPT`: runs threads over an image while a script patches it, and prints how often each stack
+/// occurred, and for how long.
+pub(crate) const PROFILE: CommandRow = CommandRow {
+    word: "profile",
+    files: &[IMAGE, SCRIPT],
+    options: PROFILE_OPTIONS,
 };
 
 /// `asm TEXT IMAGE`: assembles an image.
@@ -326,7 +385,7 @@ pub(crate) const EXTRACT: CommandRow = CommandRow {
 /// trace and the audit of the run.
 pub(crate) const SIM: CommandRow = CommandRow {
     word: "sim",
-    files: &[IMAGE, SCRIPT, SCHEDULE, MADE_TRACE, AUDIT],
+    files: &[IMAGE, SCRIPT, SCHEDULE, MADE_TRACE, MADE_AUDIT],
     options: RUN_OPTIONS,
 };
 
@@ -334,7 +393,7 @@ pub(crate) const SIM: CommandRow = CommandRow {
 /// and the audit of the run.
 pub(crate) const RUN: CommandRow = CommandRow {
     word: "run",
-    files: &[IMAGE, SCRIPT, MADE_TRACE, AUDIT],
+    files: &[IMAGE, SCRIPT, MADE_TRACE, MADE_AUDIT],
     options: RUN_OPTIONS,
 };
 

@@ -2,20 +2,22 @@
 ghost use Rattle.std.specs.Prelude.{◌≡◌, IfOk, IfSome, option_map, true};
 ghost use Rattle.fdr_buffer.specs.Times.{IsTime};
 ghost use Rattle.command_words.specs.{Items.{texts}, Lines.{outputs_differ}, Ranges.{HasRanges}};
-ghost use Rattle.command_words.specs.{Tables.{run_row, sim_row}, Views.{command_view}, Words.{asm_in, reading, run_in, sim_in}};
+ghost use Rattle.command_words.specs.{Tables.{run_row, sim_row}, Views.{command_view}, Words.{asm_in, check_in, profile_in, reading, run_in, sim_in}};
 ghost use Rattle.command_words.specs.private.CodeViews.{line_view, row_view};
 ghost use Rattle.command_words.specs.private.Verbs.{command_by, report_said, row_by, verb_of};
 
 use crate::cutting::cut_line;
 use crate::line::Line;
+use crate::profile_options::{ProfileOptions, profile_options_in};
 use crate::report_options::{
-    AccountOptions, ReportFiles, StackFormat, account_options_in, report_files_in, stack_format_in,
+    AccountOptions, ConvertOptions, ReportFiles, StackFormat, account_options_in,
+    convert_options_in, report_files_in, stack_format_in,
 };
 use crate::rows::CommandRow;
 use crate::run_options::{Bounds, RunOptions, bounds_in, run_options_in};
 use crate::tables::{
-    ACCOUNT, ASM, CONVERT, CONVERT_FORMAT, EXTRACT, MAP_VERSION, PLAIN, RELATIVE_MAP, RUN, SEEDS,
-    SIM, SOAK, STACK, THRESHOLD,
+    ACCOUNT, ASM, CHECK, CONVERT, DUMP, EXTRACT, MAP_VERSION, PLAIN, PROFILE, RELATIVE_MAP, RUN,
+    SEEDS, SIM, SOAK, STACK, THRESHOLD,
 };
 use std::alloc::{AllocError, Global};
 use xray_io::Wall;
@@ -93,12 +95,40 @@ pub enum Command<'a> {
         /// The form in which the stacks are printed.
         format: StackFormat,
     },
-    /// Prints a trace as a text in YAML.
+    /// Prints a trace in another form.
     Convert {
         /// The trace.
         trace: &'a str,
         /// The image that names the functions, if there is one.
         image: Option<&'a str>,
+        /// The form that it is converted to, and the form that it has.
+        options: ConvertOptions,
+    },
+    /// Prints the records of a trace.
+    Dump {
+        /// The trace.
+        trace: &'a str,
+    },
+    /// Says whether a trace and an audit can be those of a run of this image and this script.
+    Check {
+        /// The image file.
+        image: &'a str,
+        /// The script of the patcher.
+        script: &'a str,
+        /// The trace, which is read.
+        trace: &'a str,
+        /// The audit, which is read.
+        audit: &'a str,
+    },
+    /// Runs threads over an image while a script patches it, and prints how often each stack
+    /// occurred, and for how long.
+    Profile {
+        /// The image file.
+        image: &'a str,
+        /// The script of the patcher.
+        script: &'a str,
+        /// What the run is made with, and how the stacks are printed.
+        options: ProfileOptions,
     },
     /// Replays a schedule over a large image and a script, all drawn from a number, and prints a
     /// summary.
@@ -150,6 +180,12 @@ enum Verb {
     Asm,
     /// A report on a trace.
     Report(Report),
+    /// `fdr-dump TRACE`.
+    Dump,
+    /// `check IMAGE SCRIPT TRACE AUDIT`.
+    Check,
+    /// `profile IMAGE SCRIPT`.
+    Profile,
     /// `soak SEED`.
     Soak,
 }
@@ -186,6 +222,12 @@ impl Verb {
             Some(Verb::Report(Report::Stack))
         } else if word == CONVERT.word {
             Some(Verb::Report(Report::Convert))
+        } else if word == DUMP.word {
+            Some(Verb::Dump)
+        } else if word == CHECK.word {
+            Some(Verb::Check)
+        } else if word == PROFILE.word {
+            Some(Verb::Profile)
         } else if word == SOAK.word {
             Some(Verb::Soak)
         } else {
@@ -206,6 +248,9 @@ impl Verb {
             Verb::Report(Report::Account) => ACCOUNT,
             Verb::Report(Report::Stack) => STACK,
             Verb::Report(Report::Convert) => CONVERT,
+            Verb::Dump => DUMP,
+            Verb::Check => CHECK,
+            Verb::Profile => PROFILE,
             Verb::Soak => SOAK,
         }
     }
@@ -235,6 +280,12 @@ fn command_in<'a>(verb: Verb, wall: Wall, line: &Line<'a>) -> Option<Command<'a>
         Verb::Run => run_in(wall, line),
         Verb::Asm => asm_in(line),
         Verb::Report(report) => report_in(report, line),
+        Verb::Dump => match files {
+            [trace] => Some(Command::Dump { trace }),
+            _ => None,
+        },
+        Verb::Check => check_in(line),
+        Verb::Profile => profile_in(line),
         Verb::Soak => match files {
             [seed] => {
                 let number = SEEDS.number_of(seed)?;
@@ -300,6 +351,37 @@ fn run_in<'a>(wall: Wall, line: &Line<'a>) -> Option<Command<'a>>
     }
 }
 
+/// The judgement that a line asks for. `None` if it lacks a file.
+fn check_in<'a>(line: &Line<'a>) -> Option<Command<'a>>
+    ensures reads { option_map command_view result ≡ check_in (line_view line.now) }
+    ensures ranges { IfSome (option_map command_view result) HasRanges }
+{
+    match line.files.as_slice() {
+        [image, script, trace, audit] => Some(Command::Check {
+            image,
+            script,
+            trace,
+            audit,
+        }),
+        _ => None,
+    }
+}
+
+/// The profile that a line asks for. `None` if it lacks a file, or if a value isn't allowed.
+fn profile_in<'a>(line: &Line<'a>) -> Option<Command<'a>>
+    ensures reads { option_map command_view result ≡ profile_in (line_view line.now) }
+    ensures ranges { IfSome (option_map command_view result) HasRanges }
+{
+    match line.files.as_slice() {
+        [image, script] => Some(Command::Profile {
+            image,
+            script,
+            options: profile_options_in(line)?,
+        }),
+        _ => None,
+    }
+}
+
 /// The report that a line asks for. `None` if it lacks the trace, or if a value isn't allowed.
 fn report_in<'a>(report: Report, line: &Line<'a>) -> Option<Command<'a>>
     ensures reads { option_map command_view result ≡ report_said report (line_view line.now) }
@@ -317,9 +399,10 @@ fn report_in<'a>(report: Report, line: &Line<'a>) -> Option<Command<'a>>
             image,
             format: stack_format_in(line)?,
         }),
-        Report::Convert => {
-            let _yaml = CONVERT_FORMAT.number_in(line)?;
-            Some(Command::Convert { trace, image })
-        }
+        Report::Convert => Some(Command::Convert {
+            trace,
+            image,
+            options: convert_options_in(line)?,
+        }),
     }
 }

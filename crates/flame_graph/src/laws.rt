@@ -2,13 +2,19 @@
 
 ghost use Rattle.std.specs.Prelude.{List};
 ghost use Rattle.fdr_file.specs.declared.trace.Block.{Block};
-ghost use Rattle.stack_rebuild.specs.Stacks.{PathRow, stack_of};
+ghost use Rattle.fdr_record.specs.declared.event.Event.{Event};
+ghost use Rattle.stack_rebuild.specs.Stacks.{PathRow, stack_of, stack_of_threads};
 ghost use Rattle.flame_graph.specs.{Frames.{AreStacks}, Laws.{LowestAddUp, NoneSticksOut}};
 
 /// The stacks of blocks are in ascending order of their paths, each path once and with a function.
 /// So a flame graph can be drawn of them.
 pub fn stacks_can_be_drawn()
     ensures { (blocks : List Block) → AreStacks (stack_of blocks) }
+{}
+
+/// So it is of the stacks of threads, by the events of each.
+pub fn stacks_of_threads_can_be_drawn()
+    ensures { (threads : List (List Event)) → AreStacks (stack_of_threads threads) }
 {}
 
 /// No frame sticks out of the frame of its caller, or, if it has none, out of the whole. This is true

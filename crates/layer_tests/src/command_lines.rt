@@ -121,9 +121,27 @@ stack|t => stack [t] None Human
 stack|t|i|--format=flame => stack [t] Some(\"i\") Flame
 stack|--format|svg|t => stack [t] None Svg
 stack|t|--format=yaml => none
-convert|t => convert [t] None
-convert|t|i|--format|yaml => convert [t] Some(\"i\")
+convert|t => convert [t] None Yaml Fdr
+convert|t|i|--format|yaml => convert [t] Some(\"i\") Yaml Fdr
+convert|t|--format=trace-event|--input=fdr => convert [t] None TraceEvents Fdr
+convert|--input=basic|t|--format|basic => convert [t] None Basic Basic
 convert|t|--format=human => none
+convert|t|--input=yaml => none
+fdr-dump|t => dump [t]
+fdr-dump|t|i => none
+fdr-dump|t|--input=fdr => none
+check|i|s|t|a => check [i] [s] [t] [a]
+check|i|i|i|i => check [i] [i] [i] [i]
+check|i|s|t => none
+check|i|s|t|a|--threads=1 => none
+profile|i|s => profile [i] [s] 1 10000000 1048576 1 0 1 1048576 4096 Human
+profile|i|s|--threads=2|--fuel=3|--passings=4|--tick=5|--tsc=6|--cpus=7|--migrate=8|--nodes=262144|--format=svg \
+=> profile [i] [s] 2 3 4 5 6 7 8 262144 Svg
+profile|i|s|--nodes=0 => none
+profile|i|s|--nodes=262145 => none
+profile|i|s|--frequency=1 => none
+profile|i|s|--pid=1 => none
+profile|i => none
 soak => none
 soak|x => none
 soak|1 => soak 1
@@ -178,7 +196,29 @@ fn shown_command(alloc: Global, command: Command) -> Result<String, AllocError> 
             image,
             format,
         } => format!(in alloc; "stack [{trace}] {image:?} {format:?}"),
-        Command::Convert { trace, image } => format!(in alloc; "convert [{trace}] {image:?}"),
+        Command::Convert {
+            trace,
+            image,
+            options,
+        } => {
+            let ConvertOptions { format, input } = options;
+            format!(in alloc; "convert [{trace}] {image:?} {format:?} {input:?}")
+        }
+        Command::Dump { trace } => format!(in alloc; "dump [{trace}]"),
+        Command::Check {
+            image,
+            script,
+            trace,
+            audit,
+        } => format!(in alloc; "check [{image}] [{script}] [{trace}] [{audit}]"),
+        Command::Profile {
+            image,
+            script,
+            options,
+        } => {
+            let options = shown_profile(alloc, options)?;
+            format!(in alloc; "profile [{image}] [{script}] {options}")
+        }
         Command::Soak { number } => format!(in alloc; "soak {number}"),
         Command::Run {
             image,
@@ -214,7 +254,20 @@ fn shown_account(alloc: Global, options: AccountOptions) -> Result<String, Alloc
     )
 }
 
-/// A command that runs an image beside a script: its word, its files, and its options.
+/// The numbers of a profile's options in the order of the table, and how it is printed.
+fn shown_profile(alloc: Global, options: ProfileOptions) -> Result<String, AllocError> {
+    let bounds = shown_bounds(alloc, options.bounds)?;
+    let Stamps {
+        tick,
+        tsc,
+        cpus,
+        migrate,
+    } = options.stamps;
+    let (nodes, format) = (options.nodes, options.format);
+    format!(in alloc; "{bounds} {tick} {tsc} {cpus} {migrate} {nodes} {format:?}")
+}
+
+/// A command that writes a trace and an audit: its word, its files, and its options.
 fn shown_run(
     alloc: Global,
     word: &str,
@@ -237,7 +290,7 @@ fn shown_options(alloc: Global, options: RunOptions) -> Result<String, AllocErro
     let bounds = shown_bounds(alloc, options.bounds)?;
     let Buffers { size, max } = options.buffers;
     let stamps = options.stamps;
-    let (tick, tsc, frequency) = (stamps.tick, stamps.tsc, stamps.frequency);
+    let (tick, tsc, frequency) = (stamps.tick, stamps.tsc, options.frequency);
     let (cpus, migrate, pid) = (stamps.cpus, stamps.migrate, options.pid);
     let Wall { secs, micros } = options.wall;
     format!(in alloc;
@@ -256,7 +309,7 @@ fn command_lines_say_what_the_rows_say(rt: HostRuntime) -> Result<(), Fail> {
             rows = rows.wrapping_add(1);
         }
     }
-    check_same(&rt, &rows, &115);
+    check_same(&rt, &rows, &132);
     Ok(())
 }
 

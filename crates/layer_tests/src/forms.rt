@@ -1,16 +1,20 @@
-//! One call, entered at the counter 0 and left at 2, in each form, and logs that are damaged.
+//! Calls of `trace_forms`: one call, entered at the counter 0 and left at 2, in each form; basic logs
+//! that are cut or damaged; and what a basic log has no place for.
 
 ghost use Rattle.std.specs.Prelude.{◌≡◌, IfOk};
 ghost use Rattle.fdr_file.specs.ThreadEvents.{thread_events};
 ghost use Rattle.trace_forms.specs.BasicLogs.{wide_cpu as first_wide};
 
-use crate::escaped::add_escaped;
-use crate::*;
+use crate::checks::{check_same, check_same_at, check_same_list, check_same_text};
+use example_images::OUTPUTS_AN_A;
 use fdr_file::{Block, Blocks, Events, Header, Trace, read_trace, readable};
 use fdr_record::{Event, Kind};
 use std::alloc::{AllocError, Global};
+use std::process::Abort;
 use std::test::Fail;
-use xray_io::{MemSink, Text, Wall, WriteFault};
+use trace_forms::*;
+use xray_image::{Image, read_image};
+use xray_io::{MemSink, Wall};
 
 /// A header with a constant and nonstop counter, and with buffers of 16,384 bytes. Then the extents
 /// of a block of 80 bytes, and its records: thread 1, the wall time 0, process 1, CPU 0 with the
@@ -30,7 +34,27 @@ const LOG: [u8; 96] = *b"\x03\0\0\0\x03\0\0\0\0\0\0\0\0\0\0\0\0\0\0\0\0\0\0\0\0\
 \0\0\0\0\x01\0\0\0\0\0\0\0\0\0\0\0\x01\0\0\0\x01\0\0\0\0\0\0\0\0\0\0\0\
 \0\0\0\x01\x01\0\0\0\x02\0\0\0\0\0\0\0\x01\0\0\0\x01\0\0\0\0\0\0\0\0\0\0\0";
 
-const DUMP: &str = "0 header version 3 type 1\n\
+/// Some first bytes of the trace, and how many. Their trace events, and how many bytes of the log
+/// are theirs.
+const FORMS: [(usize, &str, usize); 2] = [
+    (32, "{\"traceEvents\":[]}\n", 32),
+    (
+        128,
+        "{\"traceEvents\":[\
+{\"cpu\":0,\"name\":\"#1\",\"ph\":\"B\",\"pid\":1,\"tid\":1,\"ts\":0},\
+{\"cpu\":0,\"name\":\"#1\",\"ph\":\"E\",\"pid\":1,\"tid\":1,\"ts\":2}]}\n",
+        96,
+    ),
+];
+
+/// How many first bytes of the trace are dumped, and their dump.
+const DUMPS: [(usize, &str); 4] = [
+    (31, ""),
+    (32, "0 header version 3 type 1\nend 32\n"),
+    (100, "0 header version 3 type 1\nstop 32 Short 32\n"),
+    (
+        128,
+        "0 header version 3 type 1\n\
 32 extents 80\n\
 48 new-buffer 1\n\
 64 wall-time 0.0\n\
@@ -38,11 +62,29 @@ const DUMP: &str = "0 header version 3 type 1\n\
 96 new-cpu 0 0\n\
 112 function enter 1 delta 0\n\
 120 function exit 1 delta 2\n\
-end 128\n";
+end 128\n",
+    ),
+];
 
-const EVENTS: &str = "{\"traceEvents\":[\
-{\"cpu\":0,\"name\":\"#1\",\"ph\":\"B\",\"pid\":1,\"tid\":1,\"ts\":0},\
-{\"cpu\":0,\"name\":\"#1\",\"ph\":\"E\",\"pid\":1,\"tid\":1,\"ts\":2}]}\n";
+/// How many first bytes of the log are read, and why they are refused, if they are.
+const CUTS: [(usize, Option<BasicFault>); 6] = [
+    (0, Some(BasicFault::Short(0))),
+    (31, Some(BasicFault::Short(0))),
+    (33, Some(BasicFault::Short(32))),
+    (63, Some(BasicFault::Short(32))),
+    (64, None),
+    (95, Some(BasicFault::Short(64))),
+];
+
+/// A byte of the log, what it is changed to, and the fault.
+const DAMAGES: [(usize, u8, BasicFault); 6] = [
+    (0, 2, BasicFault::Version(2)),
+    (2, 1, BasicFault::Form(1)),
+    (32, 1, BasicFault::Tag(32, 1)),
+    (65, 1, BasicFault::Tag(64, 256)),
+    (67, 4, BasicFault::Kind(64, 4)),
+    (35, 255, BasicFault::Kind(32, 255)),
+];
 
 /// The number of the first event of a trace whose CPU is above 255, if it hasn't too many events.
 fn wide_of(trace: &Trace) -> Result<Option<u64>, EventFault>
@@ -65,7 +107,7 @@ fn log_of(alloc: Global, trace: &Trace) -> Result<MemSink, Fail> {
 }
 
 /// The dump of a file, or nothing if its header has a fault.
-fn dump_of(alloc: Global, bytes: &[u8]) -> Result<MemSink, WriteFault> {
+fn dump_of(alloc: Global, bytes: &[u8]) -> Result<MemSink, Fail> {
     let mut sink = MemSink::new(alloc, Vec::new(alloc));
     match readable(bytes) {
         Ok(_end) => write_dump(bytes, &mut sink)?,
@@ -74,74 +116,111 @@ fn dump_of(alloc: Global, bytes: &[u8]) -> Result<MemSink, WriteFault> {
     Ok(sink)
 }
 
+/// Checks the trace events of a trace.
+fn check_events(
+    rt: &impl Abort,
+    alloc: Global,
+    trace: &Trace,
+    image: Option<&Image>,
+    wanted: &str,
+) -> Result<(), Fail> {
+    let text = event_text(alloc, trace, image)?;
+    check_same_text(rt, std::str::from_utf8(text.as_slice())?, wanted);
+    Ok(())
+}
+
+/// Checks the trace events of a file and its basic log, and that the log has these trace events too.
+fn check_forms(
+    rt: &impl Abort,
+    alloc: Global,
+    bytes: &[u8],
+    events: &str,
+    wanted: &[u8],
+) -> Result<(), Fail> {
+    let trace = read_trace(alloc, bytes)?;
+    check_events(rt, alloc, &trace, None, events)?;
+    let log = log_of(alloc, &trace)?;
+    check_same_list(rt, log.bytes(), wanted);
+    check_events(rt, alloc, &read_basic(alloc, log.bytes())?, None, events)
+}
+
 #[test]
-fn a_call_is_printed_as_trace_events(rt: HostRuntime) -> Result<(), Fail> {
-    let trace = read_trace(rt.alloc(), &TRACE)?;
-    assert_eq!(rt;
-        event_text(rt.alloc(), &trace, None)?.as_slice(),
-        EVENTS.as_bytes()
-    );
+fn a_trace_has_each_form(rt: HostRuntime) -> Result<(), Fail> {
+    for (read, events, written) in &FORMS {
+        let bytes = TRACE.get(..*read).ok_or("bytes")?;
+        let log = LOG.get(..*written).ok_or("log")?;
+        check_forms(&rt, rt.alloc(), bytes, events, log)?;
+    }
     Ok(())
 }
 
 #[test]
-fn a_call_is_written_as_a_basic_log(rt: HostRuntime) -> Result<(), Fail> {
-    let trace = read_trace(rt.alloc(), &TRACE)?;
-    assert_eq!(rt; wide_of(&trace)?, None);
-    let log = log_of(rt.alloc(), &trace)?;
-    assert_eq!(rt; log.bytes(), LOG.as_slice());
-    let back = read_basic(rt.alloc(), &LOG)?;
-    assert_eq!(rt;
-        event_text(rt.alloc(), &back, None)?.as_slice(),
-        EVENTS.as_bytes()
-    );
-    assert_eq!(rt; back.blocks.as_slice().len(), 1);
+fn a_file_is_dumped(rt: HostRuntime) -> Result<(), Fail> {
+    for (read, text) in &DUMPS {
+        let dump = dump_of(rt.alloc(), TRACE.get(..*read).ok_or("bytes")?)?;
+        check_same_text(&rt, std::str::from_utf8(dump.bytes())?, text);
+    }
     Ok(())
 }
 
 #[test]
 fn a_log_that_is_cut_is_short(rt: HostRuntime) -> Result<(), Fail> {
-    for len in 0..96 {
-        let read = read_basic(rt.alloc(), &LOG[..len]);
-        if len >= 32 && len % 32 == 0 {
-            assert_eq!(rt; read.is_ok(), true);
-        } else {
-            let place = if len < 32 { 0 } else { len - len % 32 };
-            assert_eq!(rt; read.err(), Some(BasicFault::Short(place as u64)));
-        }
+    for (read, fault) in &CUTS {
+        let log = read_basic(rt.alloc(), LOG.get(..*read).ok_or("bytes")?);
+        check_same_at(&rt, &log.err(), fault, read);
     }
     Ok(())
+}
+
+/// A log with one byte changed.
+fn changed(alloc: Global, log: &[u8], place: usize, to: u8) -> Result<Vec<u8>, AllocError> {
+    let mut bytes = log.to_vec(alloc)?;
+    if let Some(byte) = bytes.get_mut(place) {
+        *byte = to;
+    }
+    Ok(bytes)
 }
 
 #[test]
 fn damaged_logs_are_refused(rt: HostRuntime) -> Result<(), Fail> {
-    let damages = [
-        (0, 2, BasicFault::Version(2)),
-        (2, 1, BasicFault::Form(1)),
-        (32, 1, BasicFault::Tag(32, 1)),
-        (65, 1, BasicFault::Tag(64, 256)),
-        (67, 4, BasicFault::Kind(64, 4)),
-        (35, 255, BasicFault::Kind(32, 255)),
-    ];
-    for (at, to, fault) in &damages {
-        let mut bytes = LOG;
-        if let Some(byte) = bytes.get_mut(*at) {
-            *byte = *to;
-        }
-        assert_eq!(rt; read_basic(rt.alloc(), &bytes).err(), Some(*fault));
+    for (place, to, fault) in &DAMAGES {
+        let log = changed(rt.alloc(), &LOG, *place, *to)?;
+        check_same_at(
+            &rt,
+            &read_basic(rt.alloc(), &log).err(),
+            &Some(*fault),
+            place,
+        );
     }
     Ok(())
 }
 
+/// The threads and processes of the records of a log.
+const OWNERS: [(u8, u8); 5] = [(1, 1), (1, 2), (1, 2), (1, 1), (9, 1)];
+
+/// The threads and processes of its blocks, and how many events each has.
+const RUNS: [(u32, u32, usize); 4] = [(1, 1, 1), (1, 2, 2), (1, 1, 1), (9, 1, 1)];
+
+/// Adds a record of an entry of function 1.
+fn add_record(log: &mut Vec<u8>, thread: u8, pid: u8) -> Result<(), AllocError> {
+    log.extend_from_slice(b"\0\0\0\0\x01\0\0\0\0\0\0\0\0\0\0\0")?;
+    log.extend_from_slice(&[thread, 0, 0, 0, pid, 0, 0, 0])?;
+    log.extend_from_slice(&[0; 8])?;
+    Ok(())
+}
+
 #[test]
-fn a_call_is_dumped(rt: HostRuntime) -> Result<(), Fail> {
-    let whole = dump_of(rt.alloc(), &TRACE)?;
-    assert_eq!(rt; whole.bytes(), DUMP.as_bytes());
-    let cut = dump_of(rt.alloc(), &TRACE[..100])?;
-    assert_eq!(rt;
-        cut.bytes(),
-        "0 header version 3 type 1\nstop 32 Short 32\n".as_bytes()
-    );
+fn runs_of_one_thread_and_process_are_blocks(rt: HostRuntime) -> Result<(), Fail> {
+    let mut log = LOG.get(..32).ok_or("header")?.to_vec(rt.alloc())?;
+    for (thread, pid) in &OWNERS {
+        add_record(&mut log, *thread, *pid)?;
+    }
+    let trace = read_basic(rt.alloc(), &log)?;
+    check_same(&rt, &trace.blocks.as_slice().len(), &RUNS.len());
+    for (block, run) in trace.blocks.as_slice().iter().zip(&RUNS) {
+        let events = block.events.as_slice();
+        check_same(&rt, &(block.thread, block.pid, events.len()), run);
+    }
     Ok(())
 }
 
@@ -153,13 +232,31 @@ const HEADER: Header = Header {
     size: 16_384,
 };
 
-/// A trace with these events of thread 7 and process 9.
-fn trace_of(alloc: Global, events: Vec<Event>) -> Result<Trace, AllocError> {
+/// An entry that logs its argument.
+const LOGGED: Event = Event {
+    tsc: 18_446_744_073_709_551_615,
+    arg: 18_446_744_073_709_551_615,
+    func: 1,
+    cpu: 255,
+    kind: Kind::EntryArgs,
+};
+
+/// A tail exit at a CPU that a basic log has no place for.
+const WIDE: Event = Event {
+    tsc: 0,
+    arg: 0,
+    func: 2,
+    cpu: 256,
+    kind: Kind::TailExit,
+};
+
+/// A trace with these two events.
+fn wide_trace(alloc: Global) -> Result<Trace, AllocError> {
     let block = Block {
         thread: 7,
         wall: Wall { secs: 5, micros: 6 },
         pid: 9,
-        events: Events::new(events),
+        events: Events::new([LOGGED, WIDE].to_vec(alloc)?),
     };
     let mut blocks = Vec::new(alloc);
     blocks.push(block)?;
@@ -169,104 +266,18 @@ fn trace_of(alloc: Global, events: Vec<Event>) -> Result<Trace, AllocError> {
     })
 }
 
-fn entry(cpu: u16) -> Event {
-    Event {
-        tsc: 18_446_744_073_709_551_615,
-        arg: 0,
-        func: 2,
-        cpu,
-        kind: Kind::Entry,
-    }
-}
-
 #[test]
-fn an_argument_comes_first(rt: HostRuntime) -> Result<(), Fail> {
-    let logged = Event {
-        kind: Kind::EntryArgs,
-        arg: 18_446_744_073_709_551_615,
-        ..entry(3)
-    };
-    let left = Event {
-        kind: Kind::TailExit,
-        tsc: 0,
-        ..entry(256)
-    };
-    let trace = trace_of(rt.alloc(), [logged, left].to_vec(rt.alloc())?)?;
-    let text = event_text(rt.alloc(), &trace, None)?;
+fn an_argument_and_a_name_are_printed(rt: HostRuntime) -> Result<(), Fail> {
+    let trace = wide_trace(rt.alloc())?;
+    let image = read_image(rt.alloc(), &OUTPUTS_AN_A)?;
     let wanted = "{\"traceEvents\":[\
-{\"args\":{\"arg\":18446744073709551615},\"cpu\":3,\"name\":\"#2\",\"ph\":\"B\",\"pid\":9,\"tid\":7,\"ts\":18446744073709551615},\
+{\"args\":{\"arg\":18446744073709551615},\"cpu\":255,\"name\":\"main\",\"ph\":\"B\",\"pid\":9,\"tid\":7,\"ts\":18446744073709551615},\
 {\"cpu\":256,\"name\":\"#2\",\"ph\":\"E\",\"pid\":9,\"tid\":7,\"ts\":0}]}\n";
-    assert_eq!(rt; text.as_slice(), wanted.as_bytes());
-    assert_eq!(rt; wide_of(&trace)?, Some(1));
-    Ok(())
+    check_events(&rt, rt.alloc(), &trace, Some(&image), wanted)
 }
 
 #[test]
-fn an_empty_trace_has_a_text_in_each_form(rt: HostRuntime) -> Result<(), Fail> {
-    let trace = read_trace(rt.alloc(), &TRACE[..32])?;
-    assert_eq!(rt;
-        event_text(rt.alloc(), &trace, None)?.as_slice(),
-        b"{\"traceEvents\":[]}\n".as_slice()
-    );
-    let log = log_of(rt.alloc(), &trace)?;
-    assert_eq!(rt; log.bytes(), &LOG[..32]);
-    let dump = dump_of(rt.alloc(), &TRACE[..32])?;
-    assert_eq!(rt;
-        dump.bytes(),
-        b"0 header version 3 type 1\nend 32\n".as_slice()
-    );
-    Ok(())
-}
-
-#[test]
-fn a_trace_may_have_1048576_events(rt: HostRuntime) -> Result<(), Fail> {
-    let most = vec![in rt.alloc(); entry(255); 1_048_576]?;
-    let trace = trace_of(rt.alloc(), most)?;
-    assert_eq!(rt; has_too_many(&mut TraceCursor::new(&trace)), false);
-    assert_eq!(rt; wide_of(&trace)?, None);
-    let more = vec![in rt.alloc(); entry(255); 1_048_577]?;
-    let longer = trace_of(rt.alloc(), more)?;
-    assert_eq!(rt;
-        event_text(rt.alloc(), &longer, None).err(),
-        Some(EventFault::Many)
-    );
-    Ok(())
-}
-
-#[test]
-fn runs_of_one_thread_and_process_are_blocks(rt: HostRuntime) -> Result<(), Fail> {
-    let mut log = [0; 192];
-    log[..96].copy_from_slice(&LOG);
-    log[96..160].copy_from_slice(&LOG[32..]);
-    log[160..].copy_from_slice(&LOG[64..]);
-    log[64 + 20] = 2;
-    log[96 + 20] = 2;
-    log[160 + 16] = 9;
-    let trace = read_basic(rt.alloc(), &log)?;
-    let blocks = trace.blocks.as_slice();
-    assert_eq!(rt; blocks.len(), 4);
-    let sizes = [(1, 1, 1), (1, 2, 2), (1, 1, 1), (9, 1, 1)];
-    for (block, size) in blocks.iter().zip(&sizes) {
-        assert_eq!(rt;
-            (block.thread, block.pid, block.events.as_slice().len()),
-            *size
-        );
-        assert_eq!(rt; block.wall, Wall { secs: 0, micros: 0 });
-    }
-    Ok(())
-}
-
-#[test]
-fn characters_are_escaped(rt: HostRuntime) -> Result<(), Fail> {
-    let mut sink = MemSink::new(rt.alloc(), Vec::new(rt.alloc()));
-    let mut text = Text::new(&mut sink);
-    add_escaped(
-        &mut text,
-        "a\"b\\c\u{8}\u{c}\n\r\t\0\u{1f}\u{7f}\u{e9}/".as_bytes(),
-    )?;
-    add_escaped(&mut text, b"plain.name$1_")?;
-    text.done()?;
-    let wanted = "a\\\"b\\\\c\\b\\f\\n\\r\\t\\u0000\\u001f\u{7f}\u{e9}/plain.name$1_";
-    assert_eq!(rt; sink.bytes(), wanted.as_bytes());
+fn a_wide_cpu_is_found(rt: HostRuntime) -> Result<(), Fail> {
+    check_same(&rt, &wide_of(&wide_trace(rt.alloc())?)?, &Some(1));
     Ok(())
 }

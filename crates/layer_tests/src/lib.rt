@@ -33,6 +33,8 @@ mod fault_texts;
 #[cfg(test)]
 mod fed_traces;
 #[cfg(test)]
+mod forms;
+#[cfg(test)]
 mod image_files;
 #[cfg(test)]
 mod images;

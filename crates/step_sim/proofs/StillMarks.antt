@@ -188,6 +188,7 @@ marks_follow wanted whole program lines schedule setup runs names still is j run
 
     place : ℕ
     place = is.last.moment.place
+
     decodes : DecodesWhole program setup.threads (j + 1) (hold_of (j + 1) script) run loads
     decodes = decodes_whole wanted whole program script schedule setup runs names is j run found
 

@@ -8,4 +8,5 @@ pub mod Notes
 pub mod Pooled
 pub mod Order
 pub mod RunLemmas
+pub mod Started
 pub mod Gathered

@@ -1,14 +1,12 @@
 -- What workers leave is what runs leave.
-use Rattle.std.proofs.Common.{◌≡◌, ℕ, zero, suc, ◌+◌, ◌-◌, ◌<◌, ◌==◌, inl, inr, List, [], ◌∷◌, ◌++◌, Option, Some, refl, sym, subst, ap, ◌∙◌, arith, append_assoc, drop, get_or, length, length-append, map, take}
-use Rattle.std.specs.Prelude.{◌⊎◌, All, filter, option_map, slice_get, sum_by}
-use mathlib.Core.List.{map-append}
+use Rattle.std.proofs.Common.{◌≡◌, ℕ, zero, suc, ◌+◌, ◌-◌, ◌<◌, ◌==◌, List, [], ◌∷◌, ◌++◌, Option, Some, refl, sym, subst, ap, ◌∙◌, arith, append_assoc, get_or, length, length-append, map, take}
+use Rattle.std.specs.Prelude.{All, filter, option_map, slice_get, sum_by}
 use Rattle.std.proofs.lemmas.List.{length-map, length-take-le, take_more}
 use Rattle.std.proofs.lemmas.List.Elements.{All-cons, All-nil}
 use Rattle.std.proofs.lemmas.List.Sums.{length-filter, sum_by-cons}
-use Rattle.std.proofs.lemmas.Option.{get_or_from_slice_get, slice_get-get_or, slice_get-map, slice_get_within}
+use Rattle.std.proofs.lemmas.Option.{slice_get-map, slice_get_within}
 use Rattle.std.specs.List.{AllByRecursion, count_by}
-use Rattle.xray_image.specs.Program.{Program}
-use Rattle.patch_script.specs.Micros.{hold_of, total_of}
+use Rattle.patch_script.specs.Micros.{hold_of}
 use Rattle.patch_script.specs.Plans.{Plan}
 use Rattle.patch_script.specs.Refusals.{commands_of}
 use Rattle.fdr_record.specs.declared.event.Event.{Event}
@@ -17,29 +15,26 @@ use Rattle.fdr_buffer.specs.Segments.{segments}
 use Rattle.buffer_queue.specs.Left.{IsLeft, absent_from, of_thread, sealed_in_all}
 use Rattle.machine_step.specs.Buffers.{spare_of}
 use Rattle.buffer_queue.specs.Passes.{PoolIs}
-use Rattle.machine_step.specs.declared.limits.Limits.{Limits}
 use Rattle.machine_step.specs.declared.setup.Setup.{Setup}
 use Rattle.machine_step.specs.Events.{recorded}
-use Rattle.machine_step.specs.Follows.{later}
 use Rattle.machine_step.specs.PlainStep.{PlainRun}
 use Rattle.machine_step.specs.Traced.{IsThreadOf, Traced, sleds_passed}
-use Rattle.sled_rule.specs.declared.seats.WorkSeat.{WorkSeat}
-use Rattle.sled_rule.specs.declared.table.CodeTable.{CodeTable}
 use Rattle.sled_rule.specs.declared.views.WorkView.{WorkView}
-use Rattle.sled_rule.specs.Seats.{IsWorkerOf, script_of, work_view}
-use Rattle.traced_run.specs.Following.{LoadsFollow, MarksFollowScript}
+use Rattle.sled_rule.specs.Seats.{work_view}
+use Rattle.traced_run.specs.Following.{MarksFollowScript}
 use Rattle.traced_run.specs.Kept.{buffers_after, segment_count, stamp_of, thread_buffers}
 use Rattle.traced_run.specs.Left.{HasRun}
 use Rattle.traced_run.specs.Losses.{AreLost, recycled_of}
 use Rattle.traced_run.specs.Runs.{ThreadRun}
 use Rattle.thread_run.specs.declared.worker.Worker.{Worker}
-use Rattle.thread_run.specs.Following.{given}
-use Rattle.thread_run.specs.Recordings.{HasSameOwner, Recording, StandsFor, segments_begun, segments_in}
+use Rattle.thread_run.specs.Recordings.{Recording, StandsFor, segments_begun, segments_in}
 use Rattle.thread_run.specs.Runs.{HasRunAlong, HaveRunBeside}
-use Rattle.thread_run.specs.private.Pooled.{AreWorkersOfRun, IsGoingAt, IsWorkerOfRun, lost_beside}
-use Rattle.thread_run.specs.Workers.{HasEnded, HasRunOut, HaveRun, IsGoing, cpu_of, loads_of, recorder_of, seat_of}
+use Rattle.thread_run.specs.private.Pooled.{AreWorkersOfRun, IsWorkerOfRun, lost_beside}
+use Rattle.thread_run.specs.Workers.{HasEnded, cpu_of, recorder_of, seat_of}
+use Rattle.thread_run.proofs.Each.{there_is}
 use Rattle.thread_run.proofs.Notes.{begun_are}
 use Rattle.thread_run.proofs.Order.{HoldEvents, IsBetween, all_between, in_order}
+use Rattle.thread_run.proofs.Started.{IsRunOf, run_of}
 use Rattle.thread_run.proofs.Pooled.{AreHands, HandIs, KeepsLast, hand_is, hands_of, in_hand_of, keeps_last, of_all, row_is}
 
 -- ---- the run of a worker that has ended
@@ -73,7 +68,6 @@ run_of_worker plan pool used buffers number worker is ended pooled =
     let r : Recording = recorder_of worker in
     let setup : Setup = pool.setup in
     let at = ended.at in
-    let ends = ended.plain in
     let events : List Event = recorded at.passed t.marks in
     let keeps : KeepsLast r (segments_in r events) pooled.gone (of_thread number used) =
     keeps_last r events at.recorded_are pooled.gone (of_thread number used) pooled.last in
@@ -86,19 +80,16 @@ run_of_worker plan pool used buffers number worker is ended pooled =
       marks = t.marks;
       lost = length pooled.gone;
     } in
+    let its : IsRunOf StandsFor plan setup.limits number worker run =
+    run_of StandsFor plan setup.limits number (length pooled.gone) worker (record { table = is.table; thread = is.thread; limits_are = is.limits }) ended in
     let count : segments_begun r ≡ length (segments setup.size events) = begun_are r events at.recorded_are ∙ ap length segs_are in
     let all_count : length (of_thread number buffers) ≡ length (of_thread number used ++ in_hand_of r) = ap length pooled.all in
     let segs_count : length (segments_in r events) ≡ length (segments setup.size events) = ap length segs_are in
     let Kept : Setup → ℕ → List (List Event) → List Filled = λ s thread segs. buffers_after (stamp_of s) (length pooled.gone) thread segs in (
       run,
       record {
-        plain =
-            subst (λ (q : Program). PlainRun q setup.limits number at.passed ended.end ended.last) (at.thread.program ∙ ap (λ (p : Plan). p.program) is.table)
-            (subst (λ (l : Limits). PlainRun t.program l number at.passed ended.end ended.last) is.limits
-            (subst (λ (k : ℕ). PlainRun t.program t.limits k at.passed ended.end ended.last) is.thread ends.run));
-        follow =
-            subst (λ (k : ℕ). MarksFollowScript plan.program plan.threads (commands_of plan.lines) k (sleds_passed at.passed) t.marks) is.thread
-            (subst (λ (p : Plan). MarksFollowScript p.program p.threads (commands_of p.lines) t.thread (sleds_passed at.passed) t.marks) is.table ended.marks);
+        plain = its.plain;
+        follow = its.follow;
         thread = record {
           program_is = at.thread.program ∙ ap (λ (p : Plan). p.program) is.table;
           thread_is = is.thread;
@@ -108,16 +99,8 @@ run_of_worker plan pool used buffers number worker is ended pooled =
               ∙ ap (λ (k : ℕ). hold_of k (commands_of plan.lines)) is.thread;
           limits_are = is.limits;
         };
-        along = record {
-          owner = at.seat ∙ is.thread;
-          ended = ended.count;
-          follow =
-              subst (λ (k : ℕ). LoadsFollow plan.program plan.threads (commands_of plan.lines) k (sleds_passed at.passed) (given (loads_of worker)) (total_of plan.program plan.threads (commands_of plan.lines))) is.thread
-              (subst (λ (p : Plan). LoadsFollow p.program p.threads (commands_of p.lines) t.thread (sleds_passed at.passed) (given (loads_of worker)) (total_of p.program p.threads (commands_of p.lines))) is.table
-              (later (given (loads_of worker)) _ _ at.within at.along.all.follow));
-          ends = ends;
-        };
-        has = record { thread = is.thread; loads = given (loads_of worker); ends = ends; marks = refl };
+        along = its.along;
+        has = its.has;
         segments = count;
         lost_is = omega (arith, count, segs_count, all_count, keeps.count, length-filter (λ (b : Filled). b.thread == number) buffers);
         buffers_are =
@@ -129,50 +112,6 @@ run_of_worker plan pool used buffers number worker is ended pooled =
         none = λ no. keeps.none (omega (arith, no, segs_count));
       },
     )
-
--- ---- workers that have run
-
-pub run_out : (plan : Plan) (pool : PoolIs) (number : ℕ) (old new : Worker Recording) → IsWorkerOfRun plan pool number old
-    → HasRunOut StandsFor HasSameOwner old new → IsWorkerOfRun plan pool number new × HasEnded StandsFor new
-run_out plan pool number old new is has =
-    let same = has.same in (
-      record {
-        table = ap script_of same.table ∙ is.table;
-        thread = same.thread.thread ∙ is.thread;
-        limits = same.thread.limits ∙ is.limits;
-        pass = record { same_pool = same.recorder.pool ∙ is.pass.same_pool; same_setup = same.recorder.setup ∙ is.pass.same_setup };
-        owner = same.recorder.thread ∙ is.owner;
-      },
-      has.ended,
-    )
-
--- there is an item at each place
-pub there_is : {X : Type 0} (xs : List X) (i : ℕ) → i < length xs → (x : X) × (slice_get xs i ≡ Some x)
-there_is [] i within = absurd (omega (arith, within))
-there_is (x ∷ xs) zero within = (x, refl)
-there_is (x ∷ xs) (suc i) within = there_is xs i (omega (arith, within))
-
-pub all_run_out : (plan : Plan) (pool : PoolIs) (old new : List (Worker Recording)) → AreWorkersOfRun plan pool (IsGoing StandsFor) old
-    → HaveRun StandsFor HasSameOwner old new → AreWorkersOfRun plan pool (HasEnded StandsFor) new
-all_run_out plan pool old new are has i worker here =
-    let within : i < length old = omega (arith, slice_get_within new i worker here, has.count) in
-    let was = there_is old i within in
-    run_out plan pool (i + 1) was.0 worker (are i was.0 was.1).0 (has.each i was.0 worker was.1 here)
-
--- the seats of workers of a table that have run are the table's
-pub own_seats : (plan : Plan) (pool : PoolIs) (table : CodeTable) (old new : List (Worker Recording)) → AreWorkersOfRun plan pool (IsGoingAt table) old
-    → HaveRun StandsFor HasSameOwner old new → All (IsWorkerOf table) (map (λ (w : Worker Recording). seat_of w) new)
-own_seats plan pool table old new are has k other within =
-    let seats : List WorkSeat = map (λ (w : Worker Recording). seat_of w) new in
-    let inside : k < length new = omega (arith, within, length-map new (λ (w : Worker Recording). seat_of w)) in
-    let one = there_is new k inside in
-    let was = there_is old k (omega (arith, inside, has.count)) in
-    let ran = has.each k was.0 one.0 was.1 one.1 in
-    let at : slice_get seats k ≡ Some (seat_of one.0) =
-    slice_get-map (λ (w : Worker Recording). seat_of w) new k ∙ ap (option_map (λ (w : Worker Recording). seat_of w)) one.1 in
-    let found : get_or seats k other ≡ seat_of one.0 = get_or_from_slice_get seats k (seat_of one.0) other at in
-    subst (IsWorkerOf table) (sym found)
-    (subst (λ (t : CodeTable). IsWorkerOf t (seat_of one.0)) (ran.same.table ∙ (are k was.0 was.1).1.1) ran.ended.at.own)
 
 -- ---- lists
 
@@ -422,58 +361,7 @@ left_so hold plan pool workers left threads are count is =
       };
     }
 
--- ---- workers that are made one after another
-
-push_cases : {X : Type 0} (xs : List X) (x : X) (i : ℕ) (y : X) → slice_get (xs ++ x ∷ []) i ≡ Some y
-    → (slice_get xs i ≡ Some y) ⊎ ((i ≡ length xs) × (x ≡ y))
-push_cases [] x zero y e = inr (refl, cc)
-push_cases [] x (suc zero) y e = absurd cc
-push_cases [] x (suc (suc i)) y e = absurd cc
-push_cases (z ∷ xs) x zero y e = inl e
-push_cases (z ∷ xs) x (suc i) y e = elim (push_cases xs x i y e) [
-  | inl here ↦ inl here
-  | inr last ↦ inr (ap suc last.0, last.1)
-]
-
-pub no_workers : (plan : Plan) (pool : PoolIs) (Is : Worker Recording → Type 0) (workers : List (Worker Recording)) → workers ≡ []
-    → AreWorkersOfRun plan pool Is workers
-no_workers plan pool Is workers none i worker found =
-    absurd (no_worker i worker (ap (λ (ws : List (Worker Recording)). slice_get ws i) (sym none) ∙ found))
-  where
-    no_worker : (i : ℕ) (worker : Worker Recording) → slice_get [] i ≡ Some worker → ⊥
-    no_worker zero worker e = cc
-    no_worker (suc i) worker e = cc
-
-pub one_worker : (plan : Plan) (pool : PoolIs) (Is : Worker Recording → Type 0) (old new : List (Worker Recording)) (worker : Worker Recording)
-    (count : ℕ) → length old ≡ count → AreWorkersOfRun plan pool Is old → IsWorkerOfRun plan pool (count + 1) worker → Is worker
-    → new ≡ old ++ worker ∷ [] → AreWorkersOfRun plan pool Is new
-one_worker plan pool Is old new worker count many are is good more i other found =
-    elim (push_cases old worker i other (ap (λ (ws : List (Worker Recording)). slice_get ws i) (sym more) ∙ found)) [
-      | inl here ↦ are i other here
-      | inr (at, same) ↦
-          let place : count + 1 ≡ i + 1 = omega (arith, many, at) in
-          (subst (λ (k : ℕ). IsWorkerOfRun plan pool k other) place (subst (IsWorkerOfRun plan pool (count + 1)) same is), subst Is same good)
-    ]
-
--- ---- what was written back of a slice
-
-take_own : {X : Type 0} (xs ys : List X) → take (length xs) (xs ++ ys) ≡ xs
-take_own [] ys = refl
-take_own (x ∷ xs) ys = ap (λ zs. x ∷ zs) (take_own xs ys)
-
-pub written_back : {X : Type 0} (len : ℕ) (old new : List X) → len ≡ length new → take len (new ++ drop (length new) old) ≡ new
-written_back len old new e = ap (λ (k : ℕ). take k (new ++ drop (length new) old)) e ∙ take_own new (drop (length new) old)
-
-pub all_are : (plan : Plan) (pool : PoolIs) (Is : Worker Recording → Type 0) (workers : List (Worker Recording))
-    → AreWorkersOfRun plan pool Is workers → All Is workers
-all_are plan pool Is workers are k d within = (are k (get_or workers k d) (slice_get-get_or workers k d within)).1
-
--- ---- what is gathered of one worker after another
-
-pub map_more : {X Y : Type 0} (f : X → Y) (xs : List X) (x : X) (items new : List Y) (value : Y) → items ≡ map f xs → new ≡ items ++ value ∷ []
-    → value ≡ f x → new ≡ map f (xs ++ x ∷ [])
-map_more f xs x items new value so more is =
-    more ∙ ap (λ ys. ys ++ value ∷ []) so ∙ ap (λ y. map f xs ++ y ∷ []) is ∙ sym (map-append f xs (x ∷ []))
+-- ---- what is lost of one thread after another
 
 lost_push : (bs : List Filled) (n : ℕ) (counts : List ℕ) (count : ℕ)
     → lost_beside bs n (counts ++ count ∷ []) ≡ lost_beside bs n counts ++ (count - count_by (λ (b : Filled). b.thread == n + length counts) bs) ∷ []

@@ -2,4 +2,5 @@
 pub mod Pooled
 pub mod Rooms
 pub mod Segments
+pub mod Starting
 pub mod Steps

@@ -7,6 +7,7 @@
 
 mod exchange;
 mod laws;
+mod recorded;
 mod recorder;
 mod running;
 mod thread;
@@ -14,6 +15,7 @@ mod whole;
 mod work;
 mod worker;
 
+pub use recorded::{RecordedEnd, run_recorded};
 pub use recorder::FdrRecorder;
 pub use running::run_threads;
 pub use thread::new_cpu;

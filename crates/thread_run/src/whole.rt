@@ -7,14 +7,12 @@ ghost use Rattle.machine_step.specs.Setups.{IsSetup};
 ghost use Rattle.patch_script.specs.Refusals.{commands_of};
 ghost use Rattle.sled_rule.specs.{Plans.{start_in}, Seats.{patch_view, script_of, work_view, IsPatcherOf, IsWorkerOf}};
 ghost use Rattle.sled_rule.specs.Views.{first_patch};
-ghost use Rattle.thread_run.specs.private.Rooms.{HaveRunPooled, IsGathered, IsRoom};
 ghost use Rattle.thread_run.specs.Runs.{HasPatched, HaveRunBeside};
-ghost use Rattle.thread_run.specs.private.Pooled.{lost_beside, AreWorkersOfRun, IsGoingAt};
+ghost use Rattle.thread_run.specs.private.Pooled.{lost_beside, AreNewRecorders};
+ghost use Rattle.thread_run.specs.private.Rooms.{AreParts, HaveRunPooled, IsPoolRoom};
 
+use crate::recorded::{RecordedEnd, run_workers};
 use crate::recorder::FdrRecorder;
-use crate::running::run_threads;
-use crate::thread::new_cpu;
-use crate::worker::Worker;
 use buffer_queue::{Pool, PoolPass};
 use fdr_buffer::Buffer;
 use machine_step::{Cpu, Setup, Steps};
@@ -43,16 +41,22 @@ pub struct RunEnd<'s> {
     pub buffers: Vec<Buffer>,
 }
 
-/// What threads have when they have ended, thread 1 first.
+/// What the recorders of threads have of their pool, thread 1 first.
 #[derive(Drop)]
-struct Gathered<'s> {
-    cpus: Vec<Cpu<'s>>,
-    seats: Vec<WorkSeat>,
+struct PoolParts {
     /// Into how many segments the events of each thread were cut.
     segments: Vec<u32>,
     passes: Vec<PoolPass>,
     /// The buffer in each thread's hand.
     hands: Vec<Buffer>,
+}
+
+/// What threads have when they have ended, thread 1 first.
+#[derive(Drop)]
+struct Gathered<'s> {
+    cpus: Vec<Cpu<'s>>,
+    seats: Vec<WorkSeat>,
+    parts: PoolParts,
 }
 
 /// Runs all threads of a table's script, and the script beside them, from the first micro step on.
@@ -117,87 +121,67 @@ fn run_pooled<'s, 'p, T: Threads + Wait + Sync, G: Gate + Sync>(
     ensures seats { IfOk result (λ gathered. All (IsWorkerOf table.now) gathered.seats.items) }
     ensures run { IfOk result (HaveRunPooled (script_of table.now) pool.now) }
 {
-    let room = room_for(alloc, setup)?;
-    let mut workers = new_workers(rt, alloc, steps, table, patcher, setup, pool, hands)?;
-    run_threads(rt, table, patcher, &mut workers, gate);
-    Ok(gather(setup, workers, room))
+    let room = room_for(alloc, setup.threads)?;
+    let recorders = new_recorders(rt, alloc, pool, hands, setup)?;
+    let end = run_workers(
+        rt,
+        alloc,
+        steps,
+        table,
+        patcher,
+        setup.limits,
+        recorders,
+        gate,
+    )?;
+    let RecordedEnd {
+        cpus,
+        seats,
+        recorders,
+    } = end;
+    let parts = take_apart(recorders, room);
+    Ok(Gathered { cpus, seats, parts })
 }
 
-/// The workers of all threads, thread 1 first.
-fn new_workers<'s, 't, 'p, T: Wait>(
+/// The recorders of all threads, thread 1 first. Each begins with its pass of the pool and its buffer.
+fn new_recorders<'p, T>(
     rt: &'p T,
     alloc: Global,
-    steps: &'s Steps<'s>,
-    table: &'t CodeTable,
-    patcher: &mut PatchSeat,
-    setup: &Setup,
     pool: &'p Pool,
     hands: Vec<(PoolPass, Buffer)>,
-) -> Result<Vec<Worker<'s, 't, FdrRecorder<'p, T>>>, NoMemory>
-    requires own { IsPatcherOf table.now patcher.old }
-    requires starts { (patch_view patcher.old).place ≡ start_in (script_of table.now) }
-    requires none { ((patch_view patcher.old).given ≡ 0) × ((patch_view patcher.old).met ≡ []) }
-    requires program { (script_of table.now).program ≡ steps.now }
-    requires threads { (script_of table.now).threads ≡ setup.now.threads }
-    requires setup { IsSetup setup.now }
+    setup: &Setup,
+) -> Result<Vec<FdrRecorder<'p, T>>, NoMemory>
     requires pool { pool.now.setup ≡ setup.now }
     requires hands { AreNew pool.now 1 setup.now.threads hands.items }
-    ensures own { IsPatcherOf table.now patcher.new }
-    ensures unmoved { (patch_view patcher.new).place ≡ start_in (script_of table.now) }
-    ensures given { OnOk result ((patch_view patcher.new).given ≡ setup.now.threads) }
-    ensures none_met { (patch_view patcher.new).met ≡ [] }
-    ensures count { IfOk result (λ workers. length workers.items ≡ setup.now.threads) }
-    ensures workers { IfOk result (λ workers.
-        AreWorkersOfRun (script_of table.now) pool.now (IsGoingAt table.now) workers.items) }
+    ensures count { IfOk result (λ recorders. length recorders.items ≡ setup.now.threads) }
+    ensures recorders { IfOk result (λ recorders. AreNewRecorders pool.now recorders.items) }
 {
-    let mut workers = Vec::with_capacity(alloc, setup.threads as usize)?;
+    let mut recorders = Vec::with_capacity(alloc, setup.threads as usize)?;
     let mut number = 0;
     for (pass, hand) in hands {
         number += 1;
-        let cpu = new_cpu(
-            alloc,
-            steps,
-            table.script(),
-            setup.threads,
-            number,
-            setup.limits,
-        )?;
-        let recorder = FdrRecorder::new(rt, pool, pass, hand, number, setup);
-        workers.push(Worker::start(cpu, table, patcher, recorder))?;
+        recorders.push(FdrRecorder::new(rt, pool, pass, hand, number, setup))?;
     }
-    Ok(workers)
+    Ok(recorders)
 }
 
-/// Room for what threads have when they have ended, with nothing in it.
-fn room_for<'s>(alloc: Global, setup: &Setup) -> Result<Gathered<'s>, NoMemory>
-    ensures { IfOk result (IsRoom setup.now) }
+/// Room for what the recorders of threads have of their pool, with nothing in it.
+fn room_for(alloc: Global, threads: u32) -> Result<PoolParts, NoMemory>
+    ensures { IfOk result (IsPoolRoom threads) }
 {
-    let threads = setup.threads as usize;
-    Ok(Gathered {
-        cpus: Vec::with_capacity(alloc, threads)?,
-        seats: Vec::with_capacity(alloc, threads)?,
+    let threads = threads as usize;
+    Ok(PoolParts {
         segments: Vec::with_capacity(alloc, threads)?,
         passes: Vec::with_capacity(alloc, threads)?,
         hands: Vec::with_capacity(alloc, threads)?,
     })
 }
 
-/// What the workers have, in the room for it.
-fn gather<'s, T: Wait>(
-    setup: &Setup,
-    workers: Vec<Worker<'s, '_, FdrRecorder<'_, T>>>,
-    mut room: Gathered<'s>,
-) -> Gathered<'s>
-    requires room { IsRoom setup.now room }
-    requires count { length workers.items ≡ setup.now.threads }
-    ensures { IsGathered workers.entry.items result }
+/// What the recorders have of their pool, in the room for it.
+fn take_apart<T>(recorders: Vec<FdrRecorder<'_, T>>, mut room: PoolParts) -> PoolParts
+    requires { IsPoolRoom (length recorders.items) room }
+    ensures { AreParts recorders.entry.items result }
 {
-    // Only the contract reads the setup.
-    let _setup = *setup;
-    for worker in workers {
-        let (cpu, seat, recorder) = worker.parts();
-        room.cpus.push_reserved(cpu);
-        room.seats.push_reserved(seat);
+    for recorder in recorders {
         room.segments.push_reserved(recorder.segments());
         let (pass, hand) = recorder.parts();
         room.passes.push_reserved(pass);
@@ -217,27 +201,27 @@ fn left_by<'s, R: Wait>(
     mut buffers: Vec<Buffer>,
 ) -> RunEnd<'s>
     requires pool { pool.setup ≡ setup.now }
-    requires passes { AreOf pool 1 gathered.passes.items }
-    requires count { (length gathered.segments.items ≡ setup.now.threads)
-        × (length gathered.passes.items ≡ setup.now.threads) × (length gathered.hands.items ≡ setup.now.threads) }
+    requires passes { AreOf pool 1 gathered.parts.passes.items }
+    requires count { (length gathered.parts.segments.items ≡ setup.now.threads)
+        × (length gathered.parts.passes.items ≡ setup.now.threads)
+        × (length gathered.parts.hands.items ≡ setup.now.threads) }
     requires setup { IsSetup setup.now }
     requires no_first { first.items ≡ [] }
     requires no_buffer { buffers.items ≡ [] }
     requires room { (setup.now.threads ≤ vec_capacity first) × (setup.now.max ≤ vec_capacity buffers) }
     ensures cpus { result.cpus.items ≡ gathered.entry.cpus.items }
     ensures seats { result.seats.items ≡ gathered.entry.seats.items }
-    ensures segments { result.segments.items ≡ gathered.entry.segments.items }
-    ensures first { result.first.items ≡ lost_beside result.buffers.items 1 gathered.entry.segments.items }
-    ensures buffers { (left : List Filled) × IsLeft setup.now (sealed_of gathered.entry.passes.items) left
-        × (result.buffers.items ≡ left ++ gathered.entry.hands.items) }
+    ensures segments { result.segments.items ≡ gathered.entry.parts.segments.items }
+    ensures first { result.first.items ≡ lost_beside result.buffers.items 1 gathered.entry.parts.segments.items }
+    ensures buffers { (left : List Filled) × IsLeft setup.now (sealed_of gathered.entry.parts.passes.items) left
+        × (result.buffers.items ≡ left ++ gathered.entry.parts.hands.items) }
 {
-    let Gathered {
-        cpus,
-        seats,
+    let Gathered { cpus, seats, parts } = gathered;
+    let PoolParts {
         segments,
         passes,
         hands,
-    } = gathered;
+    } = parts;
     pool.drain(rt, passes, &mut buffers);
     add_hands(hands, &mut buffers);
     add_lost(&segments, &buffers, &mut first);

@@ -10,3 +10,4 @@ pub mod Lines
 pub mod Sources
 pub mod GivenTexts
 pub mod Wide
+pub mod FewEvents

@@ -1,5 +1,5 @@
 -- CPUs that fit the byte for them.
-use Rattle.std.proofs.Common.{◌≡◌, ◌∙◌, ◌+◌, ◌<◌, ◌≤◌, ℕ, Bool, true, false, List, [], ◌∷◌, Some, None, inl, inr, refl, sym, ap}
+use Rattle.std.proofs.Common.{◌≡◌, ◌∙◌, ◌+◌, ◌<◌, ◌≤◌, ◌++◌, ℕ, Bool, true, false, List, [], ◌∷◌, Some, None, inl, inr, refl, sym, ap, arith}
 use Rattle.std.specs.Prelude.{nat_lt}
 use Rattle.std.specs.List.{position_from}
 use Rattle.std.proofs.lemmas.Bool.{cases_Bool, le-ltb, lt-ltb, ltb-false}
@@ -39,6 +39,18 @@ narrow_first e events none =
       | inl wide ↦ let h = rw wide at counted in absurd cc
       | inr narrow ↦ ltb-false 255 e.event.cpu narrow
     ]
+
+-- an event whose CPU fits, before others
+narrow_before : (e : ThreadEvent) (events : List ThreadEvent) → e.event.cpu ≤ 255 → wide_cpu events ≡ None → wide_cpu (e ∷ events) ≡ None
+narrow_before e events low none =
+    let narrow : is_wide e ≡ false = le-ltb 255 e.event.cpu low in
+    wide_from_zero (e ∷ events) ∙ rw narrow (none_from 0 1 events (sym (wide_from_zero events) ∙ none))
+
+-- and after others
+pub narrow_more : (events : List ThreadEvent) (e : ThreadEvent) → wide_cpu events ≡ None → e.event.cpu < 256 → wide_cpu (events ++ e ∷ []) ≡ None
+narrow_more [] e none low = narrow_before e [] (omega arith) refl
+narrow_more (f ∷ events) e none low =
+    narrow_before f (events ++ e ∷ []) (narrow_first f events none) (narrow_more events e (narrow_later f events none) low)
 
 -- the next of them isn't one
 pub narrow_on : (number : ℕ) (left later : List ThreadEvent) (e : ThreadEvent) → left ≡ e ∷ later → e.event.cpu ≤ 255

@@ -8,11 +8,12 @@ use Rattle.fdr_record.specs.declared.event.Kind.{Kind}
 use Rattle.fdr_record.specs.declared.event.Kind.TheVariants.{Entry, Exit, TailExit, EntryArgs}
 use Rattle.fdr_record.specs.Recordable.{ArgFits}
 use Rattle.fdr_record.specs.Records.{action_of}
+use Rattle.fdr_file.specs.declared.fault.TraceFault.{TraceFault}
 use Rattle.fdr_file.specs.declared.header.Header.{Header}
 use Rattle.fdr_file.specs.declared.trace.Trace.{Trace}
 use Rattle.fdr_file.specs.Places.{starts}
 use Rattle.fdr_file.specs.ThreadEvents.{ThreadEvent, event_given, thread_events}
-use Rattle.fdr_file.specs.Traces.{header_in, type_in, version_in}
+use Rattle.fdr_file.specs.Traces.{header_in, trace_of, type_in, version_in}
 use Rattle.trace_forms.specs.declared.basic.BasicFault.{BasicFault}
 use Rattle.trace_forms.specs.declared.basic.BasicFault.TheVariants as faults
 use Rattle.trace_forms.specs.Runs.{runs}
@@ -52,6 +53,15 @@ log_bytes header events = basic_header_bytes header ++ flat_map event_bytes even
 -- the basic log of a trace
 abbrev pub basic_bytes : Trace → List ℕ
 basic_bytes trace = log_bytes trace.header (thread_events trace.blocks)
+
+-- the same for the trace that was read, if there is one
+abbrev pub log_read : Result Trace TraceFault → List ℕ
+log_read (Ok trace) = basic_bytes trace
+log_read (Err fault) = []
+
+-- the trace that bytes read as
+abbrev pub log_of_bytes : List ℕ → List ℕ
+log_of_bytes bytes = log_read (trace_of bytes)
 
 -- the number, from 0, of the first event whose CPU doesn't fit the byte for it
 abbrev pub wide_cpu : List ThreadEvent → Option ℕ

@@ -1,6 +1,7 @@
 pub mod TraceEvents
 pub mod Runs
 pub mod BasicLogs
+pub mod FaultWords
 pub mod Dumps
 pub mod Sources
 pub mod private

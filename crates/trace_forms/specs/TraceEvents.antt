@@ -1,9 +1,11 @@
 -- A trace as JSON, in the form that Chrome's tracing page and other viewers of trace events read.
-use Rattle.std.specs.Prelude.{ℕ, List, ◌++◌, codes, map, Option}
+use Rattle.std.specs.Prelude.{ℕ, List, [], ◌++◌, codes, map, Option, Result, Ok, Err}
 use Rattle.fdr_record.specs.declared.event.Kind.{Kind}
 use Rattle.fdr_record.specs.declared.event.Kind.TheVariants.{Entry, Exit, TailExit, EntryArgs}
+use Rattle.fdr_file.specs.declared.fault.TraceFault.{TraceFault}
 use Rattle.fdr_file.specs.declared.trace.Trace.{Trace}
 use Rattle.fdr_file.specs.ThreadEvents.{ThreadEvent, thread_events}
+use Rattle.fdr_file.specs.Traces.{trace_of}
 use Rattle.xray_image.specs.Program.{Program}
 use Rattle.function_names.specs.Name.{name_text}
 use Rattle.serde_json.specs.Data.{Data, Members, array, member, no_members, number, object, string, unsigned}
@@ -55,3 +57,12 @@ events_text program events = compact_text (events_object program events) ++ code
 -- the events of a trace, in the order of the file
 abbrev pub trace_events_text : Option Program → Trace → List ℕ
 trace_events_text program trace = events_text program (thread_events trace.blocks)
+
+-- the same for the trace that was read, if there is one
+abbrev pub events_read : Option Program → Result Trace TraceFault → List ℕ
+events_read program (Ok trace) = trace_events_text program trace
+events_read program (Err fault) = []
+
+-- the trace that bytes read as
+abbrev pub events_of_bytes : Option Program → List ℕ → List ℕ
+events_of_bytes program bytes = events_read program (trace_of bytes)

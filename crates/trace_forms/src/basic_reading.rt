@@ -1,9 +1,10 @@
 //! Basic logs as they are read.
 
-ghost use Rattle.std.specs.Prelude.{◌≡◌, ◌⊎◌, ◌≤◌, ◌+◌, Err, Ok, OnOk, drop, length};
+ghost use Rattle.std.specs.Prelude.{◌≡◌, ◌⊎◌, ◌<◌, ◌≤◌, ◌+◌, Err, IfOk, None, Ok, OnOk, drop, length};
 ghost use Rattle.byteorder.specs.Endian.{little_number};
 ghost use Rattle.trace_forms.specs.declared.basic.BasicFault.TheVariants.{NoMemory};
-ghost use Rattle.trace_forms.specs.BasicLogs.{arg_logged, basic_header, basic_header_rows, basic_of, event_in, kind_numbered, record_rows};
+ghost use Rattle.fdr_file.specs.ThreadEvents.{thread_events};
+ghost use Rattle.trace_forms.specs.BasicLogs.{arg_logged, basic_header, basic_header_rows, basic_of, event_in, kind_numbered, record_rows, wide_cpu};
 
 use crate::basic::{BASIC, BasicFault, CONSTANT, HEADER_BYTES, NONSTOP, RECORD_BYTES, VERSION};
 use crate::runs::RunBlocks;
@@ -40,9 +41,10 @@ const ARG_AT: usize = 24;
 /// 16 bytes, and the last eight bytes of a record that logs no argument.
 ///
 /// Bytes that aren't a log are refused by their first fault; see `BasicFault`. `NoMemory` may come
-/// in place of any answer.
+/// in place of any answer. Each CPU of the trace is below 256, since it was a byte.
 pub fn read_basic(alloc: Global, bytes: &[u8]) -> Result<Trace, BasicFault>
     ensures reads { (result ≡ Err NoMemory) ⊎ (result ≡ basic_of bytes.now) }
+    ensures narrow { IfOk result (λ trace. wide_cpu (thread_events trace.blocks) ≡ None) }
 {
     let header = read_header(bytes)?;
     let mut runs = RunBlocks::new(alloc);
@@ -87,6 +89,7 @@ fn read_header(bytes: &[u8]) -> Result<Header, BasicFault>
 fn read_record(place: u64, bytes: &[u8]) -> Result<(u32, u32, Event), BasicFault>
     ensures reads { result ≡ record_rows place bytes.now }
     ensures whole { OnOk result (32 ≤ length bytes.now) }
+    ensures narrow { IfOk result (λ x. x.2.cpu < 256) }
 {
     if bytes.len() < RECORD_BYTES {
         return Err(BasicFault::Short(place));
@@ -105,7 +108,8 @@ fn read_record(place: u64, bytes: &[u8]) -> Result<(u32, u32, Event), BasicFault
 /// The thread, the process and the event that the bytes of a record of this kind say.
 fn event_of(kind: Kind, bytes: &[u8]) -> (u32, u32, Event)
     requires { 32 ≤ length bytes.now }
-    ensures { result ≡ event_in kind bytes.now }
+    ensures says { result ≡ event_in kind bytes.now }
+    ensures narrow { result.2.cpu < 256 }
 {
     let event = Event {
         tsc: u64_at(bytes, TSC_AT),

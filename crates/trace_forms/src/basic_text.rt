@@ -31,7 +31,7 @@ pub fn wide_cpu(trace: &Trace) -> Option<u64>
 }
 
 /// The number of the first event with such a CPU, of those that are still to come.
-fn find_wide<E: EventSource>(events: &mut E) -> Option<u64>
+pub(crate) fn find_wide<E: EventSource>(events: &mut E) -> Option<u64>
     requires { length (E.left events.old) < 2 ^ 64 }
     ensures { result ≡ first_wide (E.left events.old) }
 {

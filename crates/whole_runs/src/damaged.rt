@@ -1,6 +1,6 @@
 //! Damaged traces and images, and prefixes of a trace: each is refused with the place of its first
 //! fault, by every command that reads it.
-use crate::runs::{IMAGE, assert_no_fault, assert_stopped, image_desk, run_line};
+use crate::runs::{IMAGE, assert_left, assert_no_fault, assert_stopped, image_desk, run_line};
 use crate::trace_bytes::{BUFFERS_OF_88, FORMAT, ONE_CALL, file};
 use crate::traces::{LEFT, LEFT_BY_2, LEFT_F_BY_2};
 use std::alloc::Global;
@@ -108,7 +108,12 @@ fn assert_all_refuse<R: Abort + Threads + Wait + Sync + AllocGlobal>(
 }
 
 /// The commands that read a trace, and those that read an image.
-const TRACE_READERS: [&str; 3] = ["account t", "stack t", "convert t"];
+const TRACE_READERS: [&str; 4] = [
+    "account t",
+    "stack t",
+    "convert t",
+    "convert t --format trace-event",
+];
 
 const IMAGE_READERS: [&str; 4] = ["plain i", "extract i", "sim i s c t a", "run i s t a"];
 
@@ -119,6 +124,34 @@ fn a_damaged_trace_is_refused_at_its_first_fault(rt: HostRuntime) -> Result<(), 
         let line = format!(in rt.alloc(); "xray: t: trace {}\n", damage.2)?;
         let bytes = damaged(rt.alloc(), &whole, damage)?;
         assert_all_refuse(&rt, &TRACE_READERS, "t", &bytes, &line)?;
+    }
+    Ok(())
+}
+
+/// What `fdr-dump` prints of a trace of this version that is damaged in its first block.
+fn dump_of(alloc: Global, version: u8, refusal: &str) -> Result<String, Fail> {
+    Ok(format!(in alloc; "0 header version {version} type 1\nstop 32 {refusal}\n")?)
+}
+
+#[test]
+fn a_damaged_trace_is_dumped_up_to_its_damage(rt: HostRuntime) -> Result<(), Fail> {
+    let whole = file(rt.alloc(), &ONE_CALL)?;
+    for damage in &TRACES {
+        let bytes = damaged(rt.alloc(), &whole, damage)?;
+        let mut desk = MemDesk::new(rt.alloc(), Vec::new(rt.alloc()));
+        desk.put("t", &bytes)?;
+        let run = run_line(&rt, "fdr-dump t", &mut desk)?;
+        match damage.2 {
+            "Version 4" | "Form 0" | "Short 0" => {
+                let line = format!(in rt.alloc(); "xray: t: trace {}\n", damage.2)?;
+                assert_stopped(&rt, &run, 2, &line);
+            }
+            refusal => {
+                let version = if refusal == "Order 80" { 2 } else { 3 };
+                let text = dump_of(rt.alloc(), version, refusal)?;
+                assert_left(&rt, &run, 0, &text, "");
+            }
+        }
     }
     Ok(())
 }

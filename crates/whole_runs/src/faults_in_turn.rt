@@ -5,7 +5,7 @@
 //! the desk or of out follows the one that failed. If err fails, only its line is lost.
 use crate::checks::{check_same, check_same_at};
 use crate::runs::{IMAGE, Run, assert_held, assert_no_fault, run_line, status_of};
-use crate::trace_bytes::{ONE_CALL, RECURSION, file};
+use crate::trace_bytes::{LOG_OF_ONE_CALL, ONE_CALL, RECURSION, file};
 use std::alloc::Global;
 use std::process::Abort;
 use std::sync::Wait;
@@ -36,8 +36,18 @@ const X: Input = (
     &[b"base 0x1000\nfn main always\nmov eax, 65\nout 1\nret\n"],
 );
 
+/// The audit of a run of that script, of which `ONE_CALL` is the trace.
+const A: Input = (
+    "a",
+    &[
+        b"xray-audit 1\nthreads=1 buffer-size=16384 buffer-max=100 fuel=10000000 passings=1048576 ",
+        b"tick=1 tsc=0 cpus=1 migrate=1048576 pid=1 wall=0.0 frequency=0\n",
+        b"thread 1 returned passings 2 recorded 2 segments 1 first 0\nmarks +2\nrecycled 0\n",
+    ],
+);
+
 /// The commands. Another command is another row.
-const COMMANDS: [Command; 10] = [
+const COMMANDS: [Command; 15] = [
     Command {
         words: "asm x o",
         inputs: &[X],
@@ -64,6 +74,11 @@ const COMMANDS: [Command; 10] = [
         outputs: &["t", "a"],
     },
     Command {
+        words: "profile i s",
+        inputs: &[I, S],
+        outputs: &[],
+    },
+    Command {
         words: "account t",
         inputs: &[("t", &RECURSION)],
         outputs: &[],
@@ -81,6 +96,26 @@ const COMMANDS: [Command; 10] = [
     Command {
         words: "convert t i",
         inputs: &[("t", &ONE_CALL), I],
+        outputs: &[],
+    },
+    Command {
+        words: "check i s t a",
+        inputs: &[I, A, S, ("t", &ONE_CALL)],
+        outputs: &[],
+    },
+    Command {
+        words: "convert t i --format trace-event",
+        inputs: &[("t", &ONE_CALL), I],
+        outputs: &[],
+    },
+    Command {
+        words: "convert t i --input basic",
+        inputs: &[("t", &LOG_OF_ONE_CALL), I],
+        outputs: &[],
+    },
+    Command {
+        words: "fdr-dump t",
+        inputs: &[("t", &ONE_CALL)],
         outputs: &[],
     },
     Command {

@@ -142,6 +142,16 @@ fn two_threads_run_beside_each_other(rt: HostRuntime) -> Result<(), Fail> {
     Ok(())
 }
 
+/// The same two threads, and their stacks.
+#[test]
+fn two_threads_are_profiled_beside_each_other(rt: HostRuntime) -> Result<(), Fail> {
+    let (first, second) = (Point::Passing(1, 0), Point::Passing(2, 0));
+    let orders = [Order::new(first, second), Order::new(second, first)];
+    let line = "profile i s --threads 2 --format flame";
+    run_ordered(&rt, line, STRAIGHT_LINE, TRACED, &orders, "marks +2")?;
+    Ok(())
+}
+
 /// What the thread records: an entry of function 2 and an exit of function 1.
 const RECORDS: &[u8] =
     b"\x05\0\0\x01\0\0\0\0\0\0\0\0\0\0\0\0\x20\0\0\0\0\0\0\0\x12\0\0\0\x01\0\0\0";
@@ -158,6 +168,19 @@ fn a_thread_and_the_patcher_run_beside_each_other(rt: HostRuntime) -> Result<(),
     let desk = run_ordered(&rt, RUN, CALL, LIVE, &orders, "marks .1 +1 .1 +1")?;
     assert_length(&rt, desk.get("t"), 128);
     check_same(&rt, &records_of(&desk), &Some(RECORDS));
+    Ok(())
+}
+
+/// The same orders, and the same marks.
+#[test]
+fn a_thread_is_profiled_while_it_is_patched(rt: HostRuntime) -> Result<(), Fail> {
+    let orders = [
+        Order::new(Point::Place(3), Point::Passing(1, 1)),
+        Order::new(Point::Passing(1, 1), Point::Place(15)),
+        Order::new(Point::Place(15), Point::Passing(1, 3)),
+    ];
+    let line = "profile i s --format flame";
+    run_ordered(&rt, line, CALL, LIVE, &orders, "marks .1 +1 .1 +1")?;
     Ok(())
 }
 

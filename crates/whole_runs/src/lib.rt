@@ -11,6 +11,8 @@ mod asm;
 #[cfg(test)]
 mod bad_lines;
 #[cfg(test)]
+mod check;
+#[cfg(test)]
 mod checks;
 #[cfg(test)]
 mod damaged;
@@ -19,6 +21,8 @@ mod faults;
 #[cfg(test)]
 mod faults_in_turn;
 #[cfg(test)]
+mod forms;
+#[cfg(test)]
 mod gate_calls;
 #[cfg(test)]
 mod gates;
@@ -26,6 +30,8 @@ mod gates;
 mod pieces;
 #[cfg(test)]
 mod plain;
+#[cfg(test)]
+mod profile;
 #[cfg(test)]
 mod run;
 #[cfg(test)]

@@ -13,7 +13,7 @@ use xray_io::MemDesk;
 pub const RUN: &str = "run i s t a --wall 0";
 
 /// The thread is held at its third passing until the sleds are patched.
-const HELD: &str = "set_handler\ninit\nhold 1 2\ngo\nawait 1 2\npatch\nrelease 1\n";
+pub const HELD: &str = "set_handler\ninit\nhold 1 2\ngo\nawait 1 2\npatch\nrelease 1\n";
 
 /// A desk that holds a text as `x`, its image as `i`, and a script as `s`.
 pub fn desk_with<R: Abort + Threads + Wait + Sync + AllocGlobal>(

@@ -103,6 +103,18 @@ pub const EXIT_AFTER_2: &[u8] = b"\x12\0\0\0\x02\0\0\0";
 /// A file of one block. Function 1 is called once, for 2 cycles.
 pub const ONE_CALL: [&[u8]; 6] = [HEADER, EXTENTS_80, PREAMBLE, CPU, ENTRY, EXIT_AFTER_2];
 
+/// A header of a basic log: version 3, type 0, a constant and nonstop counter, and a frequency of 0.
+pub const BASIC_HEADER: &[u8] =
+    b"\x03\0\0\0\x03\0\0\0\0\0\0\0\0\0\0\0\0\0\0\0\0\0\0\0\0\0\0\0\0\0\0\0";
+
+/// The records of the same call in a basic log.
+pub const BASIC_EVENTS: &[u8] =
+    b"\0\0\0\0\x01\0\0\0\0\0\0\0\0\0\0\0\x01\0\0\0\x01\0\0\0\0\0\0\0\0\0\0\0\
+    \0\0\0\x01\x01\0\0\0\x02\0\0\0\0\0\0\0\x01\0\0\0\x01\0\0\0\0\0\0\0\0\0\0\0";
+
+/// The basic log of this file.
+pub const LOG_OF_ONE_CALL: [&[u8]; 2] = [BASIC_HEADER, BASIC_EVENTS];
+
 /// The same in version 2.
 pub const ONE_CALL_WITHOUT_PROCESS: [&[u8]; 7] = [
     HEADER_OF_2,

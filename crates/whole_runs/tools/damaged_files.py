@@ -5,7 +5,7 @@ usage: crates/whole_runs/tools/damaged_files.py [PROGRAM] [--files N] [--seed N]
     PROGRAM: the built program, crates/xray/out/xray if left out
     --files: how many files are damaged, 100 if left out
     --seed: the seed of everything random, 1 if left out
-    --of: only this kind: image, text, script, schedule or trace
+    --of: only this kind: image, text, script, schedule, trace or audit
     --memory: the address space of a run, beside 20 times its input, 64 if left out; 0 for no limit
     --seconds: the processor time of a run, 1 if left out
 
@@ -64,14 +64,15 @@ COMMANDS = [
     ["asm", "text", "made", "--threshold=0", "--map-version=2"],
     ["plain", "image", *RUN],
     ["extract", "image"],
-    ["sim", "image", "script", "schedule", "made", "audit", *TRACED],
-    ["run", "image", "script", "made", "audit", *TRACED],
+    ["sim", "image", "script", "schedule", "made", "made.audit", *TRACED],
+    ["run", "image", "script", "made", "made.audit", *TRACED],
     ["account", "trace"],
     ["account", "trace", "image", "--sort=sum", "--sortorder=desc", "--format=csv"],
     ["stack", "trace", "image"],
     ["stack", "trace", "--format=flame"],
     ["stack", "trace", "--format=svg"],
     ["convert", "trace", "image"],
+    ["check", "image", "script", "trace", "audit"],
 ]
 LIMITS = {
     "image": model.IMAGE_LIMIT,
@@ -79,6 +80,7 @@ LIMITS = {
     "script": model.SCRIPT_LIMIT,
     "schedule": model.SCHEDULE_LIMIT,
     "trace": model.TRACE_LIMIT,
+    "audit": model.AUDIT_LIMIT,
 }
 
 
@@ -111,6 +113,7 @@ EXAMPLES = {
     "script": examples("script"),
     "schedule": examples("schedule"),
     "trace": examples("trace"),
+    "audit": examples("audit"),
 }
 
 
@@ -130,6 +133,15 @@ def sound_script(draw, image):
     return first_accepted(make, replay_model.commands_of, image_model.image_of(image), THREADS)
 
 
+def sound_audit(files):
+    """The audit of a replay of an image, without waits in its script."""
+    waits = (b"hold", b"await", b"release")
+    commands = [line for line in files["script"].splitlines(keepends=True) if not line.lstrip().startswith(waits)]
+    world = model.World({"i": files["image"], "s": b"".join(commands), "c": b""})
+    comes = model.outcome([b"sim", b"i", b"s", b"c", b"t", b"a", *(word.encode() for word in TRACED)], world)
+    return comes.written["a"]
+
+
 def sound_files(draw):
     """A file of each kind without a fault."""
     image = draw.choice(EXAMPLES["image"]) if draw.random() < 0.3 else sound_image(draw)
@@ -141,6 +153,7 @@ def sound_files(draw):
         "schedule": first_accepted(lambda: random_schedule(draw, THREADS), replay_model.turns_of, THREADS),
         "trace": random_trace(draw, damaged_share=0),
     }
+    files["audit"] = sound_audit(files)
     for kind in ("text", "script", "schedule", "trace"):
         example = draw.choice(EXAMPLES[kind])
         if draw.random() < 0.3 and (kind != "script" or is_accepted(replay_model.commands_of, example, given, THREADS)):

@@ -62,6 +62,8 @@ COMMANDS = {
     "stack with an image": "stack calls.trace call.xrim --format flame",
     "convert": "convert calls.trace",
     "convert with an image": "convert calls.trace call.xrim --format yaml",
+    "check": "check main.xrim traced.script main.trace main.audit",
+    "check of two threads": "check call.xrim live.script call.trace call.audit",
     "soak": "soak 7",
 }
 # Longer runs of the same words, whose threads take most of the time.
@@ -70,6 +72,11 @@ LONGER = {name: f"{COMMANDS[name]}0000" for name in ("sim of long threads", "run
 WAITING = ["run of a script that waits"]
 # Seconds of processor time after which a run counts as endless.
 ENDLESS = 10
+# What leaves the traces and the audits that are checked.
+CHECKED = [
+    "sim main.xrim traced.script order.schedule main.trace main.audit --wall 0",
+    "sim call.xrim live.script live.schedule call.trace call.audit --wall 0 --threads 2",
+]
 TURNS_TEXT = "fn main always\nagain:\n    call f\n    jmp again\nfn f always\n    ret\n"
 OLD = ["old.image", "old.trace", "old.audit"]
 OUT_OF_MEMORY = (5, b"", b"xray: out of memory\n", {})
@@ -154,12 +161,14 @@ def built_refuser(folder):
 
 
 def prepared(folder, program):
-    """A folder with the files of all examples, two images, and outputs of earlier runs."""
+    """A folder with the files of all examples, two images, traces with their audits, and outputs of earlier runs."""
     for name in EXAMPLES:
         shutil.copytree(ROOT / "examples" / name, folder, dirs_exist_ok=True)
     (folder / "turns.asm").write_text(TURNS_TEXT, encoding="ascii")
     for name in ("call", "turns"):
         subprocess.run([program, "asm", f"{name}.asm", f"{name}.xrim"], cwd=folder, check=True)
+    for words in CHECKED:
+        subprocess.run([program, *words.split()], cwd=folder, stdout=subprocess.DEVNULL, check=True)
     for name in OLD:
         (folder / name).write_bytes(b"old\n" * 1000)
     return folder

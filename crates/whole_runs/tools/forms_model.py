@@ -21,6 +21,7 @@ from trace_model import (
     NEW_CPU,
     NONSTOP,
     PID,
+    PREAMBLES,
     TSC_WRAP,
     WALL_TIME,
     Block,
@@ -142,10 +143,14 @@ def record_words(kind, fields):
     return f"function {ACTION_WORDS[action]} {function} delta {delta}"
 
 
+def reader_of(content):
+    """The records of a file whose header is that of a trace."""
+    return Reader(content, PREAMBLES[trace_of(content[:HEADER_LENGTH]).header.version])
+
+
 def readable(content):
     """The length of the longest prefix that is a trace."""
-    trace_of(content[:HEADER_LENGTH])
-    reader = Reader(content)
+    reader = reader_of(content)
     end = reader.at
     while reader.at < len(content):
         try:
@@ -170,7 +175,7 @@ def dump_text(content):
     end = readable(content)
     (version,) = struct.unpack_from("<H", content)
     lines = [f"0 header version {version} type 1"]
-    reader = Reader(content[:end])
+    reader = reader_of(content[:end])
     while reader.at < end:
         lines.append(f"{reader.at} {record_words(*reader.record())}")
         reader.at += reader.length()

@@ -1,4 +1,5 @@
-"""Runs of `xray` at a limit, or one past it: of images, scripts, schedules, traces, options and what threads make."""
+"""Runs of `xray` at a limit, or one past it: of images, scripts, schedules, traces, audits, options and what threads make."""
+import check_model
 import image_model
 import machine_model
 import replay_model
@@ -203,6 +204,41 @@ def largest_seed(past):
     return Case([b"soak", b"%d" % (model.LARGEST_64 + past)], {})
 
 
+SETUP = (
+    b"xray-audit 1\nthreads=1 buffer-size=88 buffer-max=1 fuel=9 passings=9 tick=0 tsc=0 cpus=1 migrate=1 pid=0 wall=0.0 "
+    b"frequency=0\n"
+)
+
+
+def checked(passings=2, marks=".2", recycled=0):
+    """A check of an audit of one thread, beside an empty trace."""
+    lines = f"thread 1 returned passings {passings} recorded 0 segments 0 first 0\nmarks {marks}\nrecycled {recycled}\n"
+    files = {b"i": straight_file(OUT), b"s": TRACED, b"t": b"", b"a": SETUP + lines.encode()}
+    return Case([b"check", b"i", b"s", b"t", b"a"], files)
+
+
+def full_audit(past):
+    case = checked()
+    case.files[b"a"] = case.files[b"a"].ljust(model.AUDIT_LIMIT + past, b"\n")
+    return case
+
+
+def full_mark_list(past):
+    return checked(marks=f".{check_model.MARK_LIMIT + past}")
+
+
+def full_mark_runs(past):
+    return checked(marks=f".{check_model.MARK_LIMIT - 2} n1 .{1 + past}")
+
+
+def largest_count(past):
+    return checked(passings=replay_model.NUMBER_LIMIT + past)
+
+
+def largest_recycled_count(past):
+    return checked(recycled=model.LARGEST_64 + past)
+
+
 LIMITS = [
     full_code, full_function_list, full_sled_map, full_image_file, full_outputs, full_script, full_command_list,
     full_micro_step_list, full_schedule, full_schedule_lines, full_turns, full_wait, no_fuel, full_fuel, no_passings,
@@ -212,6 +248,7 @@ TRACE_LIMITS = [
     least_buffer_size, largest_buffer_size, largest_trace, a_buffer_each, full_buffer_list, latest_wall, last_counter, last_cpu,
     last_pid, full_trace_file, deepest_calls, most_rows, largest_seed,
 ]  # fmt: skip
+CHECK_LIMITS = [full_audit, full_mark_list, full_mark_runs, largest_count, largest_recycled_count]
 
 
 # Limits that a run beside the script also has.
@@ -224,7 +261,7 @@ RUN_LIMITS = [
 
 def limit_cases(forms):
     """The cases of a program with these commands, each at its limit and one past it, as functions without arguments."""
-    kinds = [(kind, past) for kind in [*LIMITS, *TRACE_LIMITS] for past in (0, 1)]
+    kinds = [(kind, past) for kind in [*LIMITS, *TRACE_LIMITS, *CHECK_LIMITS] for past in (0, 1)]
     cases = [lambda kind=kind, past=past: with_outputs(kind(past), forms) for kind, past in kinds if is_known(kind(0), forms)]
     return cases + (run_limit_cases() if "run" in forms else [])
 

@@ -2,6 +2,8 @@
 import dataclasses
 
 import image_model
+import xray_model
+from audit_damages import DAMAGES, Left, Unfit
 from random_images import assembled_draft, calling_draft, random_image, texts, units_draft
 from random_scripts import live_script, random_schedule, random_script
 from random_traces import random_trace
@@ -210,7 +212,7 @@ KINDS = {
 }
 STDIN = b"/dev/stdin"
 UNWRITABLE = [b"", b"folder", b"no/such", b"n" * 256, b"/dev/full", b"folder/"]
-INPUT_NAMES = [b"i", b"s", b"c"]
+INPUT_NAMES = [b"i", b"s", b"c", b"d"]
 
 
 def id_count(file):
@@ -232,10 +234,36 @@ def random_contents(draw, command, threads):
         case "run" | "profile":
             image = random_image(draw, KINDS["sim"], 0.04)
             return [image, live_script(draw, id_count(image), threads)]
+        case "check":
+            return check_contents(draw, threads)
         case "account" | "stack" | "convert":
             images = [random_image(draw, KINDS["names"], 0.2)] if draw.random() < 0.4 else []
             return [random_trace(draw), *images]
     return [random_image(draw, KINDS[command], 0.6)]
+
+
+def replayed_contents(draw, threads):
+    """An image, a script that doesn't wait, and the trace and the audit of a replay."""
+    while True:
+        image = random_image(draw, KINDS["sim"], 0)
+        files = {"i": image, "s": random_script(draw, id_count(image), threads), "c": random_schedule(draw, threads)}
+        size, most = draw.choice(SIZES), threads + draw.choice([0, 1, 2, 50])
+        options = f"--fuel=1000 --threads={threads} --buffer-size={size} --buffer-max={most}"
+        comes = xray_model.outcome(f"sim i s c t a {options}".encode().split(), xray_model.World(files))
+        if comes.status == 0:
+            return Left(files["i"], files["s"], comes.written["t"], comes.written["a"])
+
+
+def check_contents(draw, threads):
+    """The inputs of `check`: what a replay leaves, mostly with a damage."""
+    left = replayed_contents(draw, threads)
+    if draw.random() < 0.7:
+        damage = draw.choice(list(DAMAGES.values()))
+        try:
+            left = damage(draw, left, replayed_contents(draw, draw.choice([threads, 1, 2])))
+        except (Unfit, image_model.Refused):
+            pass
+    return [left.image, left.script, left.trace, left.audit]
 
 
 def soak_case(draw):

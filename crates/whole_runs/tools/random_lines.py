@@ -20,6 +20,7 @@ NAMES = {
     "account": [b"t", b"i"],
     "stack": [b"t", b"i"],
     "convert": [b"t", b"i"],
+    "check": [b"i", b"s", b"t", b"a"],
     "soak": [b"1"],
     "profile": [b"i", b"s"],
 }
@@ -34,12 +35,12 @@ OTHER_COMMANDS = [b"", b"help", b"Plain", b"plain ", b"--", b"-", b"--fuel=3", b
 
 @functools.cache
 def files():
-    """The inputs: an image, a script, a schedule, a text, and a trace of the image."""
+    """The inputs: an image, a script, a schedule, a text, and the trace and the audit of a replay of the image."""
     image = texts.assembled(TEXT, 1)
     inputs = {b"i": image, b"s": b"go\n", b"c": b"", b"x": TEXT}
     world = model.World({name.decode(): content for name, content in inputs.items()})
     traced = model.outcome([b"sim", b"i", b"s", b"c", b"t", b"a"], world)
-    return {**inputs, b"t": traced.written["t"]}
+    return {**inputs, b"t": traced.written["t"], b"a": traced.written["a"]}
 
 
 def value(draw, values):

@@ -4,8 +4,8 @@
 usage: crates/whole_runs/tools/random_runs.py [PROGRAM] [--with COMMANDS] [--of COMMAND] [--lines] [--loops]
            [--runs N] [--seed N] [--jobs N]
     PROGRAM: the built program, crates/xray/out/xray if left out
-    --with: which of sim, run, account, stack, convert, soak and profile PROGRAM has, with commas between them; all if left out.
-        Without sim, a replay has three files and writes no trace
+    --with: which of sim, run, account, stack, convert, check, soak and profile PROGRAM has, with commas between them; all if left
+        out. Without sim, a replay has three files and writes no trace
     --of: only this command
     --lines: only random command lines, over sound files (random_lines.py)
     --loops: runs of long loops that are patched all the time (random_loops.py)
@@ -20,7 +20,7 @@ are random blocks in any spelling that the format allows, many of them damaged t
 and command lines are written in all allowed ways, and many are wrong. Inputs are files, pipes or folders, or don't
 exist. An output may exist already, and it or standard output may refuse everything. Some runs are at a limit, or one
 past it. The status, standard output, standard error, and all files at the end are compared. Each report that the
-program has is then run on a trace that the program wrote.
+program has is then run on a trace that the program wrote, and `check` has to accept the trace with its audit.
 
 Nobody states the order of a `run` or a `profile`. So the audit's marks and lost segments are taken as given, and the marks
 that `profile` prints. The marks of each thread
@@ -28,8 +28,8 @@ have to follow the script, and the losses have to be possible. The trace, the re
 to be what follows from these marks and losses, byte by byte. If no audit could be written, TRACE has to be a trace.
 
 The last lines say how often each answer, each end of a thread and each mark came up; how many runs have passings of
-patched and of unpatched sleds; how many lost segments; and how many reports on written traces there were. A difference
-is reported with the folder in which its files are kept, and then the status is 1.
+patched and of unpatched sleds; how many lost segments; and how many reports on written traces there were, and how many
+checks of them. A difference is reported with the folder in which its files are kept, and then the status is 1.
 """
 import argparse
 import collections
@@ -202,7 +202,8 @@ def answer_of(outcome):
 class Result:
     """What kind of answer a run has, how its threads end, their runs of marks, and a line for each difference.
 
-    `reports` is how many reports on its trace there were, and `recycled` how many segments were lost.
+    `reports` is how many reports on its trace there were, `checks` how many checks of it, and `recycled` how many segments
+    were lost.
     """
 
     answer: str
@@ -210,6 +211,7 @@ class Result:
     ends: list = ()
     marks: list = ()
     reports: int = 0
+    checks: int = 0
     recycled: int = 0
 
     @property
@@ -239,6 +241,19 @@ def reported(xray, folder, trace, forms):
     return differs, len(commands)
 
 
+def checked(xray, folder, case, forms, trace, audit):
+    """A line for each difference of the check of a trace and an audit that were written, and how many checks there were."""
+    if "check" not in forms:
+        return [], 0
+    _, (image, script, *_), _ = model.command_of(case.words, forms)
+    names = {"image": case.files[image.encode()], "script": case.files[script.encode()], "written": trace, "audited": audit}
+    for name, content in names.items():
+        (folder / "folder" / name).write_bytes(content)
+    comes = run(xray, folder / "folder", [b"check", *(name.encode() for name in names)])
+    accepted = model.Outcome(0, b"yes\n", b"")
+    return [f"check of the trace: {line}" for line in outcome_differences(accepted, comes)], 1
+
+
 def judged(xray, folder, case, forms):
     """The result of a run in a folder."""
     begin = int(time.time())
@@ -251,15 +266,17 @@ def judged(xray, folder, case, forms):
     left = files_expected(case, expects)
     names = sorted({*left, *files})
     differs += [f"file {name!r} differs" for name in names if not is_as_expected(files.get(name), left.get(name))]
-    reports, recycled = 0, 0
+    reports, checks, recycled = 0, 0, 0
     if case.words[:1] in ([b"sim"], [b"run"]) and expects.status == 0 and expects.written and not differs:
         trace, audit = expects.written.values()
         differs, reports = reported(xray, folder, trace, forms)
+        refused, checks = checked(xray, folder, case, forms, trace, audit)
+        differs += refused
         recycled = int(audit.split()[-1])
     printed = [line.split() for line in expects.output.decode().splitlines()]
     ends = [words[2] for words in printed if words[:1] == ["thread"]]
     marks = [(run[0], int(run[1:])) for words in printed if words[:1] == ["marks"] for run in words[1:] if run != "-"]
-    return Result(answer_of(expects), differs, ends, marks, reports, recycled)
+    return Result(answer_of(expects), differs, ends, marks, reports, checks, recycled)
 
 
 def compared(xray, folder, number, cases):
@@ -309,7 +326,7 @@ class Summary:
 
     def __init__(self):
         self.answers, self.ends, self.marks = (collections.Counter() for _ in range(3))
-        self.runs = self.differ = self.mixed = self.losing = self.recycled = self.reports = 0
+        self.runs = self.differ = self.mixed = self.losing = self.recycled = self.reports = self.checks = 0
 
     def add(self, result):
         self.runs += 1
@@ -321,6 +338,7 @@ class Summary:
         self.losing += result.recycled > 0
         self.recycled += result.recycled
         self.reports += result.reports
+        self.checks += result.checks
         self.differ += bool(result.differs)
 
     def print(self):
@@ -328,7 +346,7 @@ class Summary:
             print(f"{name}:", ", ".join(f"{count:,} {what}" for what, count in sorted(counts.items())))
         print(f"{self.mixed:,} runs with passings of patched and of unpatched sleds")
         print(f"{self.recycled:,} segments recycled in {self.losing:,} runs")
-        print(f"{self.reports:,} reports on written traces")
+        print(f"{self.reports:,} reports on written traces, and {self.checks:,} checks")
         print(f"{self.runs:,} runs: {self.differ:,} differ from the model")
 
 

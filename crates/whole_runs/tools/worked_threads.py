@@ -35,9 +35,9 @@ RECORDED_CALL = [
 
 
 def beside(shows, *reports, file=CALL, script=TRACED, options="", **comes):
-    """An example whose first run is a `run`. `comes` says what it leaves."""
+    """An example whose first run is a `run`. `comes` says what it leaves, which `check` accepts."""
     words = f"run i s t a --wall 0 {options}".strip()
-    return Row(shows, {"i": file, "s": lines(script)}, (Run(words, **comes), *reports))
+    return Row(shows, {"i": file, "s": lines(script)}, (Run(words, **comes), Run("check i s t a", "yes"), *reports))
 
 
 def setup(**options):

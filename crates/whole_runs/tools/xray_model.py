@@ -2,8 +2,8 @@
 
 It is written from docs/formats and docs/COMMANDS.md alone, and shares nothing with the program or its definitions. It is made to
 be read, not to be fast. Other modules have its parts: images (image_model), plain runs (machine_model), scripts and replays
-(replay_model), runs beside a script (run_model), profiles of such runs (profile_model), traces (trace_model), reports on them
-(report_model) and soaks (soak_model).
+(replay_model), runs beside a script (run_model), verdicts on what runs leave (check_model), profiles of such runs
+(profile_model), traces (trace_model), reports on them (report_model) and soaks (soak_model).
 What `asm` makes from a text is passed in: crates/asm_text/tools/random_texts.py has a model of that. What `run` shows of its
 order is passed in too.
 worked_runs.py and worked_traces.py compare the model with results that were worked by hand.
@@ -12,9 +12,11 @@ import dataclasses
 import posixpath
 import re
 
+import check_model
 import profile_model
 import run_model
 import soak_model
+from forms_model import basic_bytes, basic_trace, dump_text, events_text
 from image_model import RELATIVE_VERSION, Refused, image_of, sled_map_text
 from machine_model import WORD_64, Thread, plain_text
 from replay_model import NUMBER_LIMIT, RECORDED, WAITING, commands_of, replayed, runs_text, turns_of
@@ -26,6 +28,7 @@ TEXT_LIMIT = 4_194_304
 SCRIPT_LIMIT = 1_048_576
 SCHEDULE_LIMIT = 16_777_216
 TRACE_LIMIT = 67_108_864
+AUDIT_LIMIT = 67_108_864
 LARGEST_64 = WORD_64 - 1
 
 # ---- Words
@@ -128,12 +131,14 @@ FORMS = {
     "run": Form(range(4, 5), (2, 3), TRACE_OPTIONS),
     "account": Form(TRACE_AND_IMAGE, (), ACCOUNT_OPTIONS),
     "stack": Form(TRACE_AND_IMAGE, (), {"format": Choice("human", "flame", "svg")}),
-    "convert": Form(TRACE_AND_IMAGE, (), {"format": Choice("yaml")}),
+    "convert": Form(TRACE_AND_IMAGE, (), {"format": Choice("yaml", "trace-event", "basic"), "input": Choice("fdr", "basic")}),
+    "fdr-dump": Form(range(1, 2), (), {}),
+    "check": Form(range(4, 5), (), {}),
     "soak": Form(range(1, 2), (), {}, {0: Numbers(0, LARGEST_64, None)}),
     "profile": Form(range(2, 3), (), PROFILE_OPTIONS),
 }
 # Commands that a program may lack.
-LATER = ("sim", "run", "account", "stack", "convert", "soak", "profile")
+LATER = ("sim", "run", "account", "stack", "convert", "fdr-dump", "check", "soak", "profile")
 # `sim` of a program that writes no traces: it only prints the state texts.
 REPLAY = Form(range(3, 4), (), RUN_OPTIONS)
 
@@ -324,19 +329,41 @@ def profile(world, names, options):
     return states + rows_text(rows, image, options)
 
 
+def check(world, names):
+    """What `check` prints. Its inputs are taken in another order than that of their names."""
+    image_name, script_name, trace_name, audit_name = names
+    image = taken_image(world, image_name)
+    audit = taken(world, audit_name, "audit", AUDIT_LIMIT, check_model.audit_of)
+    commands = taken_script(world, script_name, image, audit.options["threads"])
+    trace = taken(world, trace_name, "trace", TRACE_LIMIT, lambda content: content)
+    return check_model.verdict(image, commands, audit, trace) + "\n"
+
+
 def audit_line(thread, recorded):
     marks = runs_text(thread.marks)
     count = sum(mark in RECORDED for mark in thread.marks)
     return AuditLine(thread.end, thread.passings, count, len(recorded.segments), recorded.lost, marks)
 
 
-REPORTS = {"account": account_text, "stack": stack_text, "convert": yaml_text}
+def convert_text(trace, image, options):
+    """What `convert` prints."""
+    match options["format"]:
+        case "yaml":
+            return yaml_text(trace, image, options)
+        case "trace-event":
+            return events_text(trace, image)
+        case "basic":
+            return basic_bytes(trace)
+
+
+REPORTS = {"account": account_text, "stack": stack_text, "convert": convert_text}
 
 
 def report(world, command, names, options):
     """What a report on a trace prints, with an image that names its functions or without one."""
     trace_name, *rest = names
-    trace = taken(world, trace_name, "trace", TRACE_LIMIT, trace_of)
+    read = basic_trace if options.get("input") == "basic" else trace_of
+    trace = taken(world, trace_name, "trace", TRACE_LIMIT, read)
     image = taken_image(world, rest[0]) if rest else None
     try:
         return REPORTS[command](trace, image, options)
@@ -363,6 +390,10 @@ def results(command, names, options, world, assemble):
         case "run":
             comes = run_beside(world, names[:2], options)
             return dict(zip(names[2:], [comes.trace, comes.audit])), comes.states
+        case "check":
+            return {}, check(world, names)
+        case "fdr-dump":
+            return {}, taken(world, names[0], "trace", TRACE_LIMIT, dump_text)
         case "soak":
             return {}, soak_model.summary(names[0], assemble)
         case "profile":
@@ -394,7 +425,7 @@ def done(words, world, assemble, forms):
         used.append(name)
     if world.is_output_full and text:
         raise Failed(4, "output: write fault", written)
-    return Outcome(status, text.encode("ascii"), error, written)
+    return Outcome(status, text if isinstance(text, bytes) else text.encode("ascii"), error, written)
 
 
 def outcome(words, world, assemble=None, forms=FORMS):

@@ -1,13 +1,13 @@
--- If each input of a command is accepted, all is done; and no outcome has status 7.
+-- If each input of a command is accepted, all is done; and only outcomes of `profile` have status 7.
 use Rattle.std.proofs.Common.{◌≡◌, ◌≢◌, ◌⊎◌, ◌∙◌, ℕ, List, [], length, Option, Some, None, option_map, ◌∷◌, inl, inr, refl, sym, ap, subst, arith, codes}
 use Rattle.std.specs.Prelude.{⊤}
+use Rattle.audit_check.specs.Statements.{Statement}
 use Rattle.fdr_file.specs.declared.trace.Trace.{Trace}
-use Rattle.fdr_file.specs.Traces.{trace_of}
-use Rattle.command_words.specs.Limits.{trace_limit}
 use Rattle.command_words.specs.declared.report_options.AccountOptions.{AccountOptions}
+use Rattle.command_words.specs.declared.report_options.ConvertFormat.{ConvertFormat}
 use Rattle.command_words.specs.declared.report_options.StackFormat.{StackFormat}
 use Rattle.command_words.specs.declared.run_options.Bounds.{Bounds}
-use Rattle.command_words.specs.Words.{Command, Sim, Run, Plain, Extract, Asm, Account, Stack, Convert, Soak}
+use Rattle.command_words.specs.Words.{Command, Sim, Run, Plain, Extract, Asm, Account, Stack, Convert, Dump, Check, Profile, Soak}
 use Rattle.machine_step.specs.declared.setup.Setup.{Setup}
 use Rattle.asm_text.specs.Assembling.{assembled}
 use Rattle.asm_text.specs.FaultWords.{asm_words}
@@ -18,28 +18,34 @@ use Rattle.stack_rebuild.specs.Stacks.{deep_in, most_open, stack_of}
 use Rattle.step_sim.specs.FaultWords.{schedule_words, waits_words}
 use Rattle.step_sim.specs.Schedules.{schedule_of}
 use Rattle.step_sim.specs.declared.turns.Turns.{Turns}
-use Rattle.trace_words.specs.TraceWords.{trace_words}
 use Rattle.xray_image.specs.Extract.{extract_text}
 use Rattle.xray_image.specs.Program.{Program}
-use Rattle.yaml_convert.specs.Yaml.{yaml_text}
+use Rattle.trace_forms.specs.Dumps.{dump_text}
 use Rattle.xray_io.specs.Desk.{Entry, Absent, Holds}
 use Rattle.xray_io.specs.World.{World}
 use Rattle.xray_program.specs.Accepted.{AreAccepted, CountsNoFault, HoldsImage, HoldsInput, HoldsReport}
 use Rattle.xray_program.specs.Answers.{IsAnswer}
-use Rattle.xray_program.specs.Commands.{Means}
-use Rattle.xray_program.specs.Inputs.{image_form, schedule_form, schedule_limit, script_form, script_limit, text_form, text_limit, trace_form}
+use Rattle.xray_program.specs.Check.{Judges}
+use Rattle.xray_program.specs.Commands.{IsProfile, Means}
+use Rattle.xray_program.specs.Inputs.{Readable, audit_form, image_form, readable_form, schedule_form, schedule_limit, script_form, script_limit, text_form, text_limit, trace_form, unread_trace_form}
 use Rattle.xray_program.specs.Outcomes.{Outcome, Done, status_of}
 use Rattle.xray_program.specs.Account.{account_report}
+use Rattle.xray_program.specs.Convert.{ConvertsTo, converted, log_form, no_text_for}
 use Rattle.xray_program.specs.Plain.{PlainPrints}
+use Rattle.xray_program.specs.Profile.{Profiles}
 use Rattle.xray_program.specs.Reports.{TakeReport}
 use Rattle.xray_program.specs.Run.{FollowsPlan}
 use Rattle.xray_program.specs.Setups.{setup_of}
 use Rattle.xray_program.specs.Sim.{Replayed, Replays}
 use Rattle.xray_program.specs.Soak.{IsSummary}
 use Rattle.xray_program.specs.Stack.{StacksCome, stacks_text}
-use Rattle.xray_program.specs.Taking.{Form, Leaves, Prints, RefuseIf, Sound, Take, TakeMaybe}
+use Rattle.xray_program.specs.Taking.{Form, Leaves, Prints, RefuseIf, Sound, Take, TakeMaybe, ended_by}
 use Rattle.xray_program.specs.Traced.{Traces}
-use Rattle.xray_program.proofs.Meanings.{IsDecided, decided_by}
+use Rattle.xray_program.proofs.ConvertLaws.{converts_done}
+use Rattle.xray_program.proofs.DumpLaws.{readable_decided}
+use Rattle.xray_program.proofs.LogForms.{log_decided}
+use Rattle.xray_program.proofs.Meanings.{IsDecided, any_decided, decided_by}
+use Rattle.xray_program.proofs.Reports.{trace_decided}
 
 -- ---- all is done
 
@@ -48,22 +54,28 @@ abbrev IsDone : (Outcome → Type 0) → Type 0
 IsDone comes = (outcome : Outcome) → comes outcome → status_of outcome ≡ 0
 
 -- an input that is accepted leads on to what follows it
-accepted_take : {X : Type 0} (form : Form X) → IsDecided form → (held : List ℕ → Entry) (name : List ℕ) (next : X → Outcome → Type 0)
-    (value : X) → HoldsInput form (held name) value → IsDone (next value) → IsDone (Take form Sound held name next)
-accepted_take form is held name next value at done outcome (inl (gone, same)) = absurd (never at.bytes (sym at.holds ∙ gone))
+accepted_leads : {X : Type 0} (P : Outcome → Type 0) (form : Form X) → IsDecided form → (held : List ℕ → Entry) (name : List ℕ)
+    (next : X → Outcome → Type 0) (value : X) → HoldsInput form (held name) value
+    → ((outcome : Outcome) → next value outcome → P outcome) → (outcome : Outcome) → Take form Sound held name next outcome → P outcome
+accepted_leads P form is held name next value at done outcome (inl (gone, same)) = absurd (never at.bytes (sym at.holds ∙ gone))
   where
     never : (bytes : List ℕ) → Holds bytes ≡ Absent → ⊥
     never bytes e = cc
-accepted_take form is held name next value at done outcome (inr (bytes, may, inl (long, same))) =
+accepted_leads P form is held name next value at done outcome (inr (bytes, may, inl (long, same))) =
     let alike : bytes ≡ at.bytes = rw at.holds at may in
     absurd (omega (arith, ap length alike, long, at.within))
-accepted_take form is held name next value at done outcome (inr (bytes, may, inr (within, inl (refusal, refused, same)))) =
+accepted_leads P form is held name next value at done outcome (inr (bytes, may, inr (within, inl (refusal, refused, same)))) =
     let alike : bytes ≡ at.bytes = rw at.holds at may in
     absurd (is.not_both at.bytes value refusal at.reads (subst (λ b. form.Refuses b refusal) alike refused))
-accepted_take form is held name next value at done outcome (inr (bytes, may, inr (within, inr (other, reads, comes)))) =
+accepted_leads P form is held name next value at done outcome (inr (bytes, may, inr (within, inr (other, reads, comes)))) =
     let alike : bytes ≡ at.bytes = rw at.holds at may in
     let same = is.one at.bytes other value (subst (λ b. form.Reads b other) alike reads) at.reads in
     done outcome (subst (λ v. next v outcome) same comes)
+
+accepted_take : {X : Type 0} (form : Form X) → IsDecided form → (held : List ℕ → Entry) (name : List ℕ) (next : X → Outcome → Type 0)
+    (value : X) → HoldsInput form (held name) value → IsDone (next value) → IsDone (Take form Sound held name next)
+accepted_take form is held name next value at done =
+    accepted_leads (λ outcome. status_of outcome ≡ 0) form is held name next value at done
 
 accepted_maybe : IsDecided image_form → (held : List ℕ → Entry) (name : Option (List ℕ)) (next : Option Program → Outcome → Type 0)
     (value : Option Program) → HoldsImage held name value → IsDone (next value) → IsDone (TakeMaybe image_form Sound held name next)
@@ -87,13 +99,27 @@ unrefused {L} words (Some refusal) name kind next none done = absurd (never refu
     never l e = cc
 
 -- a report whose inputs are accepted
-report_done : IsDecided image_form → (held : List ℕ → Entry) (trace : List ℕ) (image : Option (List ℕ)) (Is : Trace → Type 0)
-    (next : Trace → Option Program → Outcome → Type 0) → HoldsReport held trace image Is
-    → ((t : Trace) (program : Option Program) → Is t → IsDone (next t program)) → IsDone (TakeReport trace_form Sound held trace image next)
-report_done is held trace image Is next (t, program, at, of_image, so) done =
-    accepted_take trace_form (decided_by (codes "trace") trace_limit trace_of trace_words) held trace
+report_done : (form : Form Trace) → IsDecided form → IsDecided image_form → (held : List ℕ → Entry) (trace : List ℕ) (image : Option (List ℕ))
+    (Is : Trace → Type 0) (next : Trace → Option Program → Outcome → Type 0) → HoldsReport form held trace image Is
+    → ((t : Trace) (program : Option Program) → Is t → IsDone (next t program)) → IsDone (TakeReport form Sound held trace image next)
+report_done form of_trace is held trace image Is next (t, program, at, of_image, so) done =
+    accepted_take form of_trace held trace
     (λ u. TakeMaybe image_form Sound held image (λ p. next u p)) t at
     (accepted_maybe is held image (λ p. next t p) program of_image (done t program so))
+
+-- what is left once all was written: nothing was wrong, or something was
+abbrev IsDoneOrFell : Outcome → Type 0
+IsDoneOrFell outcome = (status_of outcome ≡ 0) ⊎ (status_of outcome ≡ 7)
+
+ended_well : (outputs : List (List ℕ × List ℕ)) (text : List ℕ) (trouble : Option (List ℕ)) (outcome : Outcome)
+    → outcome ≡ ended_by outputs text trouble → IsDoneOrFell outcome
+ended_well outputs text None outcome is = inl (ap status_of is)
+ended_well outputs text (Some words) outcome is = inr (ap status_of is)
+
+-- how a command ends whose inputs are accepted
+abbrev EndsWell : Command → (Outcome → Type 0) → Type 0
+EndsWell (Profile image script options) comes = (outcome : Outcome) → comes outcome → IsDoneOrFell outcome
+EndsWell _ comes = IsDone comes
 
 -- what follows the inputs of a command
 
@@ -118,11 +144,30 @@ account_next options t program outcome = outcome ≡ Done [] (account_report opt
 abbrev stack_next : StackFormat → Trace → Option Program → Outcome → Type 0
 stack_next format t program outcome = outcome ≡ Done [] (stacks_text format program t)
 
-abbrev convert_next : Trace → Option Program → Outcome → Type 0
-convert_next t program outcome = outcome ≡ Done [] (yaml_text program t)
+abbrev convert_next : ConvertFormat → Trace → Option Program → Outcome → Type 0
+convert_next format t program outcome = outcome ≡ Done [] (converted format program t)
 
-accepted_done : IsDecided image_form → (held : List ℕ → Entry) (command : Command) → AreAccepted held command → IsDone (Means (Some command) held)
-accepted_done is held (Sim i s c t a options) (program, plan, turns, at, of_script, of_schedule, still) =
+abbrev dump_next : Readable → Outcome → Type 0
+dump_next t outcome = outcome ≡ Done [] (dump_text t.bytes t.len)
+
+-- what is printed is done
+judged_done : (program : Program) (plan : Plan) (statement : Statement) (bytes : List ℕ) → IsDone (Judges program plan statement bytes)
+judged_done program plan statement bytes outcome judges = ap status_of judges.outcome_is
+
+-- what follows the inputs of `check`, one after another
+abbrev check_trace : (List ℕ → Entry) → (t : List ℕ) → Program → Statement → Plan → Outcome → Type 0
+check_trace held t program statement plan = Take unread_trace_form Sound held t (λ bytes. Judges program plan statement bytes)
+
+abbrev check_script : (List ℕ → Entry) → (s t : List ℕ) → Program → Statement → Outcome → Type 0
+check_script held s t program statement =
+    Take (script_form program statement.setup.threads) Sound held s (λ plan. check_trace held t program statement plan)
+
+abbrev check_audit : (List ℕ → Entry) → (s t a : List ℕ) → Program → Outcome → Type 0
+check_audit held s t a program = Take audit_form Sound held a (λ statement. check_script held s t program statement)
+
+accepted_done : IsDecided image_form → IsDecided audit_form → (held : List ℕ → Entry) (command : Command) → AreAccepted held command
+    → EndsWell command (Means (Some command) held)
+accepted_done is audits held (Sim i s c t a options) (program, plan, turns, at, of_script, of_schedule, still) =
     let setup = setup_of options in
     accepted_take image_form is held i
     (λ p. Take (script_form p setup.threads) Sound held s (λ l. Take (schedule_form setup.threads) Sound held c (Replays s t a setup p l))) program at
@@ -132,36 +177,76 @@ accepted_done is held (Sim i s c t a options) (program, plan, turns, at, of_scri
     (Replays s t a setup program plan) turns of_schedule
     (unrefused waits_words (waiting_line plan.lines) s (codes "script") (sim_next s t a setup program plan turns) still
     (left_done (Traces (Replayed program plan turns setup) program setup t a)))))
-accepted_done is held (Run i s t a options) (program, plan, at, of_script) =
+accepted_done is audits held (Run i s t a options) (program, plan, at, of_script) =
     let setup = setup_of options in
     accepted_take image_form is held i (λ p. Take (script_form p setup.threads) Sound held s (λ l. run_next t a setup p l)) program at
     (accepted_take (script_form program setup.threads) (decided_by (codes "script") script_limit (plan_of program setup.threads) script_words) held s
     (λ l. run_next t a setup program l) plan of_script (left_done (Traces (FollowsPlan setup program plan) program setup t a)))
-accepted_done is held (Plain i bounds) (program, at) =
+accepted_done is audits held (Plain i bounds) (program, at) =
     accepted_take image_form is held i (plain_next bounds) program at (left_done (λ outputs text. (outputs ≡ []) × PlainPrints program bounds text))
-accepted_done is held (Extract i) (program, at) = accepted_take image_form is held i extract_next program at (λ outcome same. ap status_of same)
-accepted_done is held (Asm t i threshold relative) (file, at) =
+accepted_done is audits held (Extract i) (program, at) = accepted_take image_form is held i extract_next program at (λ outcome same. ap status_of same)
+accepted_done is audits held (Asm t i threshold relative) (file, at) =
     accepted_take (text_form threshold relative) (decided_by (codes "text") text_limit (λ bytes. assembled bytes threshold relative) asm_words) held t (asm_next i) file at
     (λ outcome same. ap status_of same)
-accepted_done is held (Account t i options) at =
-    report_done is held t i (λ u. ⊤) (account_next options) at (λ u program so outcome same. ap status_of same)
-accepted_done is held (Stack t i format) at =
-    report_done is held t i (λ u. deep_in most_open u.blocks ≡ None) (λ u program. StacksCome t format u program) at
+accepted_done is audits held (Account t i options) at =
+    report_done trace_form trace_decided is held t i (λ u. ⊤) (account_next options) at (λ u program so outcome same. ap status_of same)
+accepted_done is audits held (Stack t i format) at =
+    report_done trace_form trace_decided is held t i (λ u. deep_in most_open u.blocks ≡ None) (λ u program. StacksCome t format u program) at
     (λ u program shallow. unrefused deep_words (deep_in most_open u.blocks) t (codes "trace") (stack_next format u program) shallow
     (λ outcome same. ap status_of same))
-accepted_done is held (Convert t i) at = report_done is held t i (λ u. ⊤) convert_next at (λ u program so outcome same. ap status_of same)
-accepted_done is held (Soak number) at = left_done (λ outputs text. (outputs ≡ []) × IsSummary number text)
+accepted_done is audits held (Convert t i options) at =
+    report_done (log_form options.input) (log_decided options.input) is held t i (λ u. no_text_for options.format u ≡ None)
+    (ConvertsTo t options.format) at
+    (λ u program none outcome comes. ap status_of (converts_done t options.format u program outcome none comes))
+accepted_done is audits held (Dump t) (file, at) = accepted_take readable_form readable_decided held t dump_next file at (λ outcome same. ap status_of same)
+accepted_done is audits held (Check i s t a) (program, statement, plan, bytes, at, of_audit, of_script, of_trace) =
+    let threads : ℕ = statement.setup.threads in
+    accepted_take image_form is held i (check_audit held s t a) program at
+    (accepted_take audit_form audits held a (check_script held s t program) statement of_audit
+    (accepted_take (script_form program threads) (decided_by (codes "script") script_limit (plan_of program threads) script_words) held s
+    (check_trace held t program statement) plan of_script
+    (accepted_take unread_trace_form (any_decided (codes "trace") trace_limit) held t (λ b. Judges program plan statement b) bytes of_trace
+    (judged_done program plan statement bytes))))
+accepted_done is audits held (Profile i s options) (program, plan, at, of_script) =
+    let threads = options.bounds.threads in
+    accepted_leads IsDoneOrFell image_form is held i (λ p. Take (script_form p threads) Sound held s (Profiles options p)) program at
+    (accepted_leads IsDoneOrFell (script_form program threads) (decided_by (codes "script") script_limit (plan_of program threads) script_words) held s
+    (Profiles options program) plan of_script (λ outcome comes. ended_well _ _ _ outcome comes.2))
+accepted_done is audits held (Soak number) at = left_done (λ outputs text. (outputs ≡ []) × IsSummary number text)
 
-pub done_or_memory : IsDecided image_form → (command : Command) (before after : World) (status : ℕ) → AreAccepted before.desk.held command
-    → CountsNoFault before after → IsAnswer (Some command) before after status → (status ≡ 0) ⊎ (status ≡ 5)
-done_or_memory is command before after status accepted calm (inl (outcome, meant, same)) =
-    inl (sym same ∙ accepted_done is before.desk.held command accepted outcome meant)
-done_or_memory is command before after status accepted calm (inr (inl memory)) = inr memory
-done_or_memory is command before after status accepted calm (inr (inr (inl (three, rose)))) = absurd (calm.reads rose)
-done_or_memory is command before after status accepted calm (inr (inr (inr (four, inl rose)))) = absurd (calm.writes rose)
-done_or_memory is command before after status accepted calm (inr (inr (inr (four, inr rose)))) = absurd (calm.out rose)
+-- so the status is 0, or it is the 7 of a profile
+well : (command : Command) (held : List ℕ → Entry) (outcome : Outcome) → EndsWell command (Means (Some command) held) → Means (Some command) held outcome
+    → (status_of outcome ≡ 0) ⊎ ((status_of outcome ≡ 7) × IsProfile command)
+well (Sim i s c t a options) held outcome ends is = inl (ends outcome is)
+well (Run i s t a options) held outcome ends is = inl (ends outcome is)
+well (Plain i bounds) held outcome ends is = inl (ends outcome is)
+well (Extract i) held outcome ends is = inl (ends outcome is)
+well (Asm t i threshold relative) held outcome ends is = inl (ends outcome is)
+well (Account t i options) held outcome ends is = inl (ends outcome is)
+well (Stack t i format) held outcome ends is = inl (ends outcome is)
+well (Convert t i options) held outcome ends is = inl (ends outcome is)
+well (Dump t) held outcome ends is = inl (ends outcome is)
+well (Check i s t a) held outcome ends is = inl (ends outcome is)
+well (Profile i s options) held outcome ends is = elim (ends outcome is) [
+  | inl done ↦ inl done
+  | inr fell ↦ inr (fell, (i, s, options, refl))
+]
+well (Soak number) held outcome ends is = inl (ends outcome is)
 
--- ---- none has status 7
+pub done_or_memory : IsDecided image_form → IsDecided audit_form → (command : Command) (before after : World) (status : ℕ) → AreAccepted before.desk.held command
+    → CountsNoFault before after → IsAnswer (Some command) before after status
+    → (status ≡ 0) ⊎ (status ≡ 5) ⊎ ((status ≡ 7) × IsProfile command)
+done_or_memory is audits command before after status accepted calm (inl (outcome, meant, same)) =
+    elim (well command before.desk.held outcome (accepted_done is audits before.desk.held command accepted) meant) [
+      | inl done ↦ inl (sym same ∙ done)
+      | inr (seven, of_profile) ↦ inr (inr (sym same ∙ seven, of_profile))
+    ]
+done_or_memory is audits command before after status accepted calm (inr (inl memory)) = inr (inl memory)
+done_or_memory is audits command before after status accepted calm (inr (inr (inl (three, rose)))) = absurd (calm.reads rose)
+done_or_memory is audits command before after status accepted calm (inr (inr (inr (four, inl rose)))) = absurd (calm.writes rose)
+done_or_memory is audits command before after status accepted calm (inr (inr (inr (four, inr rose)))) = absurd (calm.out rose)
+
+-- ---- none but those of a profile have status 7
 
 abbrev IsNot7 : (Outcome → Type 0) → Type 0
 IsNot7 comes = (outcome : Outcome) → comes outcome → status_of outcome ≢ 7
@@ -190,13 +275,17 @@ refused_not_7 : (reason : Option (List ℕ)) (name kind : List ℕ) (next : Outc
 refused_not_7 None name kind next later outcome is = later outcome is
 refused_not_7 (Some refusal) name kind next later outcome is = other_status outcome _ 2 is refl (λ e. omega arith)
 
-report_not_7 : (held : List ℕ → Entry) (trace : List ℕ) (image : Option (List ℕ)) (next : Trace → Option Program → Outcome → Type 0)
-    → ((t : Trace) (program : Option Program) → IsNot7 (next t program)) → IsNot7 (TakeReport trace_form Sound held trace image next)
-report_not_7 held trace image next later =
-    take_not_7 trace_form held trace (λ t. TakeMaybe image_form Sound held image (λ p. next t p))
+report_not_7 : (form : Form Trace) (held : List ℕ → Entry) (trace : List ℕ) (image : Option (List ℕ)) (next : Trace → Option Program → Outcome → Type 0)
+    → ((t : Trace) (program : Option Program) → IsNot7 (next t program)) → IsNot7 (TakeReport form Sound held trace image next)
+report_not_7 form held trace image next later =
+    take_not_7 form held trace (λ t. TakeMaybe image_form Sound held image (λ p. next t p))
     (λ t. maybe_not_7 held image (λ p. next t p) (later t))
 
-not_7 : (held : List ℕ → Entry) (command : Command) → IsNot7 (Means (Some command) held)
+abbrev OnlyProfiles7 : Command → (Outcome → Type 0) → Type 0
+OnlyProfiles7 (Profile image script options) comes = Unit {0}
+OnlyProfiles7 _ comes = IsNot7 comes
+
+not_7 : (held : List ℕ → Entry) (command : Command) → OnlyProfiles7 command (Means (Some command) held)
 not_7 held (Sim i s c t a options) =
     let setup = setup_of options in
     take_not_7 image_form held i
@@ -217,16 +306,42 @@ not_7 held (Extract i) = take_not_7 image_form held i extract_next (λ p. done_n
 not_7 held (Asm t i threshold relative) =
     take_not_7 (text_form threshold relative) held t (asm_next i) (λ file. done_not_7 (asm_next i file) (λ outcome same. ap status_of same))
 not_7 held (Account t i options) =
-    report_not_7 held t i (account_next options) (λ u program. done_not_7 (account_next options u program) (λ outcome same. ap status_of same))
+    report_not_7 trace_form held t i (account_next options) (λ u program. done_not_7 (account_next options u program) (λ outcome same. ap status_of same))
 not_7 held (Stack t i format) =
-    report_not_7 held t i (λ u program. StacksCome t format u program)
+    report_not_7 trace_form held t i (λ u program. StacksCome t format u program)
     (λ u program. refused_not_7 (option_map deep_words (deep_in most_open u.blocks)) t (codes "trace") (stack_next format u program)
     (done_not_7 (stack_next format u program) (λ outcome same. ap status_of same)))
-not_7 held (Convert t i) =
-    report_not_7 held t i convert_next (λ u program. done_not_7 (convert_next u program) (λ outcome same. ap status_of same))
+not_7 held (Convert t i options) =
+    report_not_7 (log_form options.input) held t i (ConvertsTo t options.format)
+    (λ u program. refused_not_7 (no_text_for options.format u) t (codes "trace") (convert_next options.format u program)
+    (done_not_7 (convert_next options.format u program) (λ outcome same. ap status_of same)))
+not_7 held (Dump t) = take_not_7 readable_form held t dump_next (λ file. done_not_7 (dump_next file) (λ outcome same. ap status_of same))
+not_7 held (Check i s t a) =
+    take_not_7 image_form held i (check_audit held s t a)
+    (λ program. take_not_7 audit_form held a (check_script held s t program)
+    (λ statement. take_not_7 (script_form program statement.setup.threads) held s (check_trace held t program statement)
+    (λ plan. take_not_7 unread_trace_form held t (λ bytes. Judges program plan statement bytes)
+    (λ bytes. done_not_7 (Judges program plan statement bytes) (judged_done program plan statement bytes)))))
+not_7 held (Profile i s options) = tt
 not_7 held (Soak number) =
     done_not_7 (λ outcome. Means (Some (Soak number)) held outcome) (left_done (λ outputs text. (outputs ≡ []) × IsSummary number text))
 
-pub none_fell : (said : Option Command) (held : List ℕ → Entry) (outcome : Outcome) → Means said held outcome → status_of outcome ≢ 7
-none_fell None held outcome is = other_status outcome _ 1 is refl (λ e. omega arith)
-none_fell (Some command) held outcome is = not_7 held command outcome is
+seven : (command : Command) (held : List ℕ → Entry) (outcome : Outcome) → OnlyProfiles7 command (Means (Some command) held)
+    → Means (Some command) held outcome → status_of outcome ≡ 7 → IsProfile command
+seven (Sim i s c t a options) held outcome not is e = absurd (not outcome is e)
+seven (Run i s t a options) held outcome not is e = absurd (not outcome is e)
+seven (Plain i bounds) held outcome not is e = absurd (not outcome is e)
+seven (Extract i) held outcome not is e = absurd (not outcome is e)
+seven (Asm t i threshold relative) held outcome not is e = absurd (not outcome is e)
+seven (Account t i options) held outcome not is e = absurd (not outcome is e)
+seven (Stack t i format) held outcome not is e = absurd (not outcome is e)
+seven (Convert t i options) held outcome not is e = absurd (not outcome is e)
+seven (Dump t) held outcome not is e = absurd (not outcome is e)
+seven (Check i s t a) held outcome not is e = absurd (not outcome is e)
+seven (Profile i s options) held outcome not is e = (i, s, options, refl)
+seven (Soak number) held outcome not is e = absurd (not outcome is e)
+
+pub only_profiles_fall : (said : Option Command) (held : List ℕ → Entry) (outcome : Outcome) → Means said held outcome → status_of outcome ≡ 7
+    → (command : Command) × (said ≡ Some command) × IsProfile command
+only_profiles_fall None held outcome is e = absurd (other_status outcome _ 1 is refl (λ d. omega arith) e)
+only_profiles_fall (Some command) held outcome is e = (command, refl, seven command held outcome (not_7 held command) is e)

@@ -10,14 +10,18 @@ use Rattle.xray_program.specs.Commands.{Comes, IsDecided, IsStill, Means, TellsA
 use Rattle.xray_program.specs.Outcomes.{Outcome, BadLine, written_by}
 use Rattle.xray_program.specs.Setups.{setup_of}
 use Rattle.xray_program.specs.Taking.{Sound}
-use Rattle.command_words.specs.Words.{Command, Sim, Run, Plain, Extract, Asm, Account, Stack, Convert, Soak, reading}
+use Rattle.command_words.specs.Words.{Command, Sim, Run, Plain, Extract, Asm, Account, Stack, Convert, Dump, Check, Profile, Soak, reading}
 use Rattle.xray_program.proofs.AccountLaws.{account_alone, account_some}
 use Rattle.xray_program.proofs.AsmLaws.{asm_alone, asm_some}
+use Rattle.xray_program.proofs.Audits.{OneReading, SomeReading}
+use Rattle.xray_program.proofs.CheckLaws.{OneJudgement, SomeJudgement, check_alone, check_some}
 use Rattle.xray_program.proofs.ConvertLaws.{convert_alone, convert_some}
+use Rattle.xray_program.proofs.DumpLaws.{dump_alone, dump_some}
 use Rattle.xray_program.proofs.ExtractLaws.{extract_alone, extract_some}
 use Rattle.xray_program.proofs.Images.{Accepts, OneVerdict, SomeVerdict, image_decided, image_judged}
 use Rattle.xray_program.proofs.Meanings.{AnyOutcome, HoldsBytes, IsAlone, IsRefusal, SomeOutcome, refusal_alone}
 use Rattle.xray_program.proofs.PlainLaws.{OneEnd, SomeEnd, plain_alone, plain_some}
+use Rattle.xray_program.proofs.ProfileLaws.{profile_refuses, profile_some}
 use Rattle.xray_program.proofs.RunExists.{ScriptLetsEnd, SomeLosses, SomeMarks, some_runs}
 use Rattle.xray_program.proofs.RunLaws.{run_refuses, run_some}
 use Rattle.xray_program.proofs.SimLaws.{OneRun, StillRun, sim_alone, sim_some}
@@ -30,6 +34,8 @@ pub record Laws : Type 0 where
   pub accepts : Accepts
   pub end : OneEnd
   pub run : OneRun
+  pub audit : OneReading
+  pub judged : OneJudgement
 
 pub record Existence : Type 0 where
   pub verdict : SomeVerdict
@@ -40,6 +46,8 @@ pub record Existence : Type 0 where
   pub marks : SomeMarks
   pub losses : SomeLosses
   pub drawn : DrawnLaws
+  pub audit : SomeReading
+  pub judged : SomeJudgement
 
 -- ---- a line for each command
 
@@ -53,7 +61,10 @@ command_alone laws held told (Extract i) decided = extract_alone (image_decided 
 command_alone laws held told (Asm t i threshold relative) decided = asm_alone held t i threshold relative told
 command_alone laws held told (Account t i options) decided = account_alone (image_decided laws.verdict laws.accepts) held t i options told
 command_alone laws held told (Stack t i format) decided = stack_alone (image_decided laws.verdict laws.accepts) held t i format told
-command_alone laws held told (Convert t i) decided = convert_alone (image_decided laws.verdict laws.accepts) held t i told
+command_alone laws held told (Convert t i options) decided = convert_alone (image_decided laws.verdict laws.accepts) held t i options told
+command_alone laws held told (Dump t) decided = dump_alone held t told
+command_alone laws held told (Check i s t a) decided = check_alone (image_decided laws.verdict laws.accepts) laws.audit laws.judged held i s t a told
+command_alone laws held told (Profile i s options) decided = absurd cc
 command_alone laws held told (Soak number) decided = soak_alone (image_decided laws.verdict laws.accepts) laws.run number
 
 -- if a refusal comes of a command, nothing else does
@@ -65,7 +76,10 @@ command_refuses laws held told (Extract i) = refusal_alone _ (command_alone laws
 command_refuses laws held told (Asm t i threshold relative) = refusal_alone _ (command_alone laws held told (Asm t i threshold relative) refl)
 command_refuses laws held told (Account t i options) = refusal_alone _ (command_alone laws held told (Account t i options) refl)
 command_refuses laws held told (Stack t i format) = refusal_alone _ (command_alone laws held told (Stack t i format) refl)
-command_refuses laws held told (Convert t i) = refusal_alone _ (command_alone laws held told (Convert t i) refl)
+command_refuses laws held told (Convert t i options) = refusal_alone _ (command_alone laws held told (Convert t i options) refl)
+command_refuses laws held told (Dump t) = refusal_alone _ (command_alone laws held told (Dump t) refl)
+command_refuses laws held told (Check i s t a) = refusal_alone _ (command_alone laws held told (Check i s t a) refl)
+command_refuses laws held told (Profile i s options) = profile_refuses (image_decided laws.verdict laws.accepts) held i s options told
 command_refuses laws held told (Soak number) = refusal_alone _ (command_alone laws held told (Soak number) refl)
 
 -- each command comes to something
@@ -77,13 +91,17 @@ command_some laws held told holds (Extract i) = extract_some (image_judged laws.
 command_some laws held told holds (Asm t i threshold relative) = asm_some held t i threshold relative told holds
 command_some laws held told holds (Account t i options) = account_some (image_judged laws.verdict laws.accepts) held t i options told holds
 command_some laws held told holds (Stack t i format) = stack_some (image_judged laws.verdict laws.accepts) held t i format told holds
-command_some laws held told holds (Convert t i) = convert_some (image_judged laws.verdict laws.accepts) held t i told holds
+command_some laws held told holds (Convert t i options) = convert_some (image_judged laws.verdict laws.accepts) held t i options told holds
+command_some laws held told holds (Dump t) = dump_some held t told holds
+command_some laws held told holds (Check i s t a) = check_some (image_judged laws.verdict laws.accepts) laws.audit laws.judged held i s t a told holds
+command_some laws held told holds (Profile i s options) =
+    profile_some (image_judged laws.verdict laws.accepts) (some_runs laws.end laws.lets laws.marks laws.losses) held i s options told holds
 command_some laws held told holds (Soak number) = soak_some laws.run laws.drawn number
 
--- only `run` may wait
+-- only `run` and `profile` may wait
 pub still_by_word : AreOfTheirRows → (wall : Wall) (word : List ℕ) (words : List (List ℕ)) → (word ≡ codes "run" → ⊥)
-    → IsStill (reading wall (word ∷ words))
-still_by_word rows wall word words other = by_said (reading wall (word ∷ words)) refl
+    → (word ≡ codes "profile" → ⊥) → IsStill (reading wall (word ∷ words))
+still_by_word rows wall word words other another = by_said (reading wall (word ∷ words)) refl
   where
     by_said : (said : Option Command) → reading wall (word ∷ words) ≡ said → IsStill said
     by_said None is = refl
@@ -94,7 +112,10 @@ still_by_word rows wall word words other = by_said (reading wall (word ∷ words
     by_said (Some (Asm text image threshold relative)) is = refl
     by_said (Some (Account trace image options)) is = refl
     by_said (Some (Stack trace image format)) is = refl
-    by_said (Some (Convert trace image)) is = refl
+    by_said (Some (Convert trace image options)) is = refl
+    by_said (Some (Dump trace)) is = refl
+    by_said (Some (Check image script trace audit)) is = refl
+    by_said (Some (Profile image script options)) is = absurd (another (rows wall word words (Profile image script options) is).word_is)
     by_said (Some (Soak number)) is = refl
 
 -- ---- words

@@ -1,22 +1,75 @@
 -- `convert`: one thing comes of it, and something in any case.
-use Rattle.std.proofs.Common.{◌≡◌, ◌∙◌, ℕ, List, [], Option, refl, sym}
+use Rattle.std.proofs.Common.{◌≡◌, ◌∙◌, ℕ, List, [], Option, Some, None, Ok, option_map, ap, codes, refl, sym}
+use Rattle.command_words.specs.declared.report_options.ConvertFormat.{ConvertFormat}
+use Rattle.command_words.specs.declared.report_options.ConvertFormat.TheVariants.{Yaml, TraceEvents, Basic}
+use Rattle.command_words.specs.declared.report_options.ConvertOptions.{ConvertOptions}
+use Rattle.fdr_file.specs.declared.trace.Trace.{Trace}
+use Rattle.fdr_file.specs.ThreadEvents.{thread_events}
+use Rattle.fdr_file.specs.Traces.{trace_of}
+use Rattle.trace_forms.specs.BasicLogs.{log_read, wide_cpu}
+use Rattle.trace_forms.specs.TraceEvents.{events_read}
+use Rattle.xray_image.specs.Program.{Program}
 use Rattle.xray_io.specs.Desk.{Entry}
 use Rattle.xray_program.specs.Commands.{TellsAll}
-use Rattle.xray_program.specs.Convert.{ConvertComes}
+use Rattle.xray_program.specs.Convert.{ConvertComes, ConvertsTo, converted, cpu_words, log_form, no_text_for}
 use Rattle.xray_program.specs.Inputs.{image_form}
-use Rattle.xray_program.specs.Outcomes.{Done}
+use Rattle.xray_program.specs.Outcomes.{Outcome, Done, Refused}
+use Rattle.xray_program.specs.private.Logs.{BytesFit, TraceFits, bytes_text}
 use Rattle.xray_program.specs.Taking.{Sound}
-use Rattle.xray_program.proofs.Meanings.{AnyOutcome, HoldsBytes, IsAlone, IsDecided, IsJudged, SomeOutcome}
+use Rattle.xray_program.proofs.LogForms.{log_decided, log_judged}
+use Rattle.xray_program.proofs.Meanings.{AnyOutcome, HoldsBytes, IsAlone, IsDecided, IsJudged, SomeOutcome, refuse_alone, some_refuse}
 use Rattle.xray_program.proofs.Reports.{report_alone, report_some}
-use Rattle.yaml_convert.specs.Yaml.{yaml_text}
+use Rattle.yaml_convert.specs.Yaml.{yaml_read}
 
-pub convert_alone : IsDecided image_form → (held : List ℕ → Entry) (trace : List ℕ) (image : Option (List ℕ)) → TellsAll held
-    → IsAlone AnyOutcome (ConvertComes Sound held trace image)
-convert_alone is held trace image told =
-    report_alone is AnyOutcome held trace image (λ t program outcome. outcome ≡ Done [] (yaml_text program t)) told (λ t program a b sort x y. y ∙ sym x)
+abbrev pub printed : ConvertFormat → Trace → Option Program → Outcome → Type 0
+printed format t program outcome = outcome ≡ Done [] (converted format program t)
 
-pub convert_some : IsJudged image_form → (held : List ℕ → Entry) (trace : List ℕ) (image : Option (List ℕ)) → TellsAll held → HoldsBytes held
-    → SomeOutcome (ConvertComes Sound held trace image)
-convert_some is held trace image told holds =
-    report_some is held trace image (λ t program outcome. outcome ≡ Done [] (yaml_text program t)) told holds
-    (λ t program. (Done [] (yaml_text program t), refl))
+pub convert_alone : IsDecided image_form → (held : List ℕ → Entry) (trace : List ℕ) (image : Option (List ℕ)) (options : ConvertOptions)
+    → TellsAll held → IsAlone AnyOutcome (ConvertComes Sound held trace image options)
+convert_alone is held trace image options told =
+    report_alone (log_form options.input) (log_decided options.input) is AnyOutcome held trace image (ConvertsTo trace options.format) told
+    (λ t program. refuse_alone AnyOutcome (no_text_for options.format t) trace (codes "trace") (printed options.format t program) (λ a b sort x y. y ∙ sym x))
+
+pub convert_some : IsJudged image_form → (held : List ℕ → Entry) (trace : List ℕ) (image : Option (List ℕ)) (options : ConvertOptions)
+    → TellsAll held → HoldsBytes held → SomeOutcome (ConvertComes Sound held trace image options)
+convert_some is held trace image options told holds =
+    report_some (log_form options.input) (log_judged options.input) is held trace image (ConvertsTo trace options.format) told holds
+    (λ t program. some_refuse (no_text_for options.format t) trace (codes "trace") (printed options.format t program)
+    (λ none. (Done [] (converted options.format program t), refl)))
+
+-- if nothing refuses a trace, its text comes
+pub convert_prints : (trace : List ℕ) (format : ConvertFormat) (t : Trace) (program : Option Program) (outcome : Outcome)
+    → no_text_for format t ≡ None → printed format t program outcome → ConvertsTo trace format t program outcome
+convert_prints trace format t program outcome none is = rw none is
+
+-- and nothing else
+pub converts_done : (trace : List ℕ) (format : ConvertFormat) (t : Trace) (program : Option Program) (outcome : Outcome)
+    → no_text_for format t ≡ None → ConvertsTo trace format t program outcome → printed format t program outcome
+converts_done trace format t program outcome none is = rw none at is
+
+-- if something does, the refusal comes
+pub convert_refuses : (trace : List ℕ) (format : ConvertFormat) (t : Trace) (program : Option Program) (refusal : List ℕ)
+    → no_text_for format t ≡ Some refusal → ConvertsTo trace format t program (Refused trace (codes "trace") refusal)
+convert_refuses trace format t program refusal some = rw some refl
+
+-- the text of bytes is that of the trace that they read as
+pub bytes_say : (format : ConvertFormat) (program : Option Program) (bytes : List ℕ) (t : Trace) → trace_of bytes ≡ Ok t
+    → bytes_text format program bytes ≡ converted format program t
+bytes_say Yaml program bytes t read = ap (yaml_read program) read
+bytes_say TraceEvents program bytes t read = ap (events_read program) read
+bytes_say Basic program bytes t read = ap log_read read
+
+no_wide : (number : Option ℕ) → option_map cpu_words number ≡ None → number ≡ None
+no_wide None none = refl
+no_wide (Some number) none = absurd cc
+
+-- they have a text if nothing refuses the trace
+pub bytes_fit : (format : ConvertFormat) (bytes : List ℕ) (t : Trace) → trace_of bytes ≡ Ok t → no_text_for format t ≡ None → BytesFit format bytes
+bytes_fit Yaml bytes t read none = (t, read)
+bytes_fit TraceEvents bytes t read none = (t, read)
+bytes_fit Basic bytes t read none = (t, read, no_wide (wide_cpu (thread_events t.blocks)) none)
+
+pub trace_fits : (format : ConvertFormat) (t : Trace) → no_text_for format t ≡ None → TraceFits format t
+trace_fits Yaml t none = tt
+trace_fits TraceEvents t none = tt
+trace_fits Basic t none = no_wide (wide_cpu (thread_events t.blocks)) none

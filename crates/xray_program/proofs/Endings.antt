@@ -12,11 +12,10 @@ use Rattle.xray_io.specs.Reads.{Reads, ReadsUpToFault}
 use Rattle.xray_program.specs.Order.{FailsAtOutput, InOrder, IsNoCall, IsUnmade, MakesAll, ReadsAll, ReadsWhole, StopsAtInput}
 use Rattle.xray_program.specs.Outcomes.{Outcome, BadLine, Unread, TooLong, Refused, Done, Fell, Ending, With, Unwritten, NoMemory, status_at, err_line_at, written_by}
 use Rattle.xray_program.specs.Outputs.{OutputsAreWhole, AreUntouched, FailsAt, FailsAtOut, FailsWriting, HoldsPrefix, WritesNothing}
-use Rattle.xray_program.specs.private.Further.{ended_by}
 use Rattle.xray_program.specs.private.Stops.{IsUnsaid, answer_of, stop_line, stop_status, told_of}
 use Rattle.xray_program.specs.private.Takes.{IsStopAtInput, StopsTakings}
 use Rattle.xray_program.specs.Accepted.{AcceptsInputs}
-use Rattle.xray_program.specs.Taking.{DeskReads, Sound, AllAccepted}
+use Rattle.xray_program.specs.Taking.{DeskReads, Sound, AllAccepted, ended_by}
 use Rattle.command_words.specs.Words.{Command, outputs_of}
 use Rattle.xray_program.specs.private.Works.{AreMakings, Delivers, Ends, Finishes, KeepsOthers, StandsAfter, StopsOutputs, Writes}
 use Rattle.xray_io.specs.World.{DeskView, SinkView}

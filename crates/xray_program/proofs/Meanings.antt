@@ -5,8 +5,7 @@ use Rattle.std.proofs.lemmas.Bool.{cases_lt}
 use Rattle.xray_io.specs.Desk.{Entry, Untold, Absent, Holds}
 use Rattle.xray_program.specs.Inputs.{form_by, refused_for}
 use Rattle.xray_program.specs.Outcomes.{Outcome, Unread, TooLong, Refused, Done, written_by}
-use Rattle.xray_program.specs.Taking.{Form, Sound, MayHold, Take, TakeMaybe, RefuseIf, Leaves}
-use Rattle.xray_program.specs.private.Further.{any_bytes}
+use Rattle.xray_program.specs.Taking.{Form, Sound, MayHold, Take, TakeMaybe, RefuseIf, Leaves, any_bytes}
 
 -- ---- what a law asks of a kind of input
 

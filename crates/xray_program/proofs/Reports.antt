@@ -2,7 +2,6 @@
 use Rattle.std.specs.Prelude.{IsErrAnd}
 use Rattle.std.proofs.Common.{◌≡◌, ◌≤◌, ℕ, List, [], ◌∷◌, length, Option, Some, None, Result, Ok, Err, inl, inr, refl, le_refl, subst}
 use Rattle.std.specs.Prelude.{codes}
-use Rattle.fdr_file.specs.declared.trace.Trace.{Trace}
 use Rattle.fdr_file.specs.Traces.{trace_of}
 use Rattle.trace_words.specs.TraceWords.{trace_words}
 use Rattle.xray_image.specs.Program.{Program}
@@ -114,18 +113,23 @@ image_stopped form along both first second third before after held log image t g
 
 -- ---- what comes of a report
 
-pub report_alone : IsDecided image_form → (Sort : Outcome → Type 0) (held : List ℕ → Entry) (trace : List ℕ) (image : Option (List ℕ))
-    (next : Trace → Option Program → Outcome → Type 0) → TellsAll held → ((t : Trace) (program : Option Program) → IsAlone Sort (next t program))
-    → IsAlone Sort (TakeReport trace_form Sound held trace image next)
-report_alone is Sort held trace image next told one =
-    take_alone trace_form (decided_by (codes "trace") trace_limit trace_of trace_words) Sort held trace
-    (λ t. TakeMaybe image_form Sound held image (λ program. next t program)) (told trace) (λ _ t _.
+-- a trace is judged by a function
+pub trace_decided : IsDecided trace_form
+trace_decided = decided_by (codes "trace") trace_limit trace_of trace_words
+
+pub trace_judged : IsJudged trace_form
+trace_judged = judged_by (codes "trace") trace_limit trace_of trace_words
+
+pub report_alone : {X : Type 0} (form : Form X) → IsDecided form → IsDecided image_form → (Sort : Outcome → Type 0) (held : List ℕ → Entry) (log : List ℕ)
+    (image : Option (List ℕ)) (next : X → Option Program → Outcome → Type 0) → TellsAll held → ((t : X) (program : Option Program) → IsAlone Sort (next t program))
+    → IsAlone Sort (TakeReport form Sound held log image next)
+report_alone form of_log is Sort held log image next told one =
+    take_alone form of_log Sort held log (λ t. TakeMaybe image_form Sound held image (λ program. next t program)) (told log) (λ _ t _.
     maybe_alone image_form is Sort held image (λ program. next t program) told (one t None) (λ _ program _. one t (Some program)))
 
-pub report_some : IsJudged image_form → (held : List ℕ → Entry) (trace : List ℕ) (image : Option (List ℕ))
-    (next : Trace → Option Program → Outcome → Type 0) → TellsAll held → HoldsBytes held
-    → ((t : Trace) (program : Option Program) → SomeOutcome (next t program)) → SomeOutcome (TakeReport trace_form Sound held trace image next)
-report_some is held trace image next told holds some =
-    some_take trace_form (judged_by (codes "trace") trace_limit trace_of trace_words) held trace
-    (λ t. TakeMaybe image_form Sound held image (λ program. next t program)) (told trace) holds (λ _ t _.
+pub report_some : {X : Type 0} (form : Form X) → IsJudged form → IsJudged image_form → (held : List ℕ → Entry) (log : List ℕ) (image : Option (List ℕ))
+    (next : X → Option Program → Outcome → Type 0) → TellsAll held → HoldsBytes held
+    → ((t : X) (program : Option Program) → SomeOutcome (next t program)) → SomeOutcome (TakeReport form Sound held log image next)
+report_some form of_log is held log image next told holds some =
+    some_take form of_log held log (λ t. TakeMaybe image_form Sound held image (λ program. next t program)) (told log) holds (λ _ t _.
     some_maybe image_form is held image (λ program. next t program) told holds (some t None) (λ _ program _. some t (Some program)))

@@ -49,17 +49,19 @@ all_printed number (run ∷ runs) (t ∷ ts) same have =
     later : (i : ℕ) → number + suc i ≡ number + 1 + i
     later i = omega arith
 
--- threads that a run leaves have run
-have_run : (setup : Setup) (runs : List ThreadRun) (ts : List Traced) (segments first : List ℕ) (buffers : List Filled)
-    → Leaves setup runs ts segments first buffers → HaveRun 1 runs ts
-have_run setup runs ts segments first buffers leaves i run t found at =
+-- threads have run so, thread 1 first
+abbrev HaveRunAll : List ThreadRun → List Traced → Type 0
+HaveRunAll runs ts = (i : ℕ) (run : ThreadRun) (t : Traced) → slice_get runs i ≡ Some run → slice_get ts i ≡ Some t → HasRun (i + 1) run t
+
+pub threads_printed : (runs : List ThreadRun) (ts : List Traced) → length ts ≡ length runs → HaveRunAll runs ts
+    → flat_map thread_text ts ≡ state_texts 1 runs
+threads_printed runs ts count have = all_printed 1 runs ts count (λ i run t found at.
     let flipped : i + 1 ≡ 1 + i = omega arith in
-    subst (λ (n : ℕ). HasRun n run t) flipped (leaves.cpus_are i run t found at)
+    subst (λ (n : ℕ). HasRun n run t) flipped (have i run t found at))
 
 pub run_printed : (setup : Setup) (runs : List ThreadRun) (ts : List Traced) (segments first : List ℕ) (buffers : List Filled)
     → Leaves setup runs ts segments first buffers → flat_map thread_text ts ≡ state_texts 1 runs
-run_printed setup runs ts segments first buffers leaves =
-    all_printed 1 runs ts leaves.count (have_run setup runs ts segments first buffers leaves)
+run_printed setup runs ts segments first buffers leaves = threads_printed runs ts leaves.count leaves.cpus_are
 
 -- each of its threads has ended
 run_at : (runs : List ThreadRun) (i : ℕ) → i < length runs → (run : ThreadRun) × (slice_get runs i ≡ Some run)
@@ -71,13 +73,16 @@ each_one : (P : Traced → Type 0) (ts : List Traced) → ((i : ℕ) (t : Traced
 each_one P [] each = All-nil P
 each_one P (t ∷ ts) each = All-cons P t ts (each zero t refl) (each_one P ts (λ i u at. each (suc i) u at))
 
+pub threads_ended : (runs : List ThreadRun) (ts : List Traced) → length ts ≡ length runs → HaveRunAll runs ts → All (λ t. IsDone t.want) ts
+threads_ended runs ts count have =
+    each_one (λ t. IsDone t.want) ts (λ i t at.
+    let found = run_at runs i (subst (λ (n : ℕ). i < n) count (slice_get_within ts i t at)) in
+    let has = have i found.0 t found.1 at in
+    rw has.ends.done tt)
+
 pub run_ended : (setup : Setup) (runs : List ThreadRun) (ts : List Traced) (segments first : List ℕ) (buffers : List Filled)
     → Leaves setup runs ts segments first buffers → All (λ t. IsDone t.want) ts
-run_ended setup runs ts segments first buffers leaves =
-    each_one (λ t. IsDone t.want) ts (λ i t at.
-    let found = run_at runs i (subst (λ (n : ℕ). i < n) leaves.count (slice_get_within ts i t at)) in
-    let has = leaves.cpus_are i found.0 t found.1 at in
-    rw has.ends.done tt)
+run_ended setup runs ts segments first buffers leaves = threads_ended runs ts leaves.count leaves.cpus_are
 
 -- each has a count of segments, and one of lost segments
 pub segment_counts : (setup : Setup) (runs : List ThreadRun) (ts : List Traced) (segments first : List ℕ) (buffers : List Filled)

@@ -12,13 +12,13 @@ use Rattle.stack_rebuild.specs.declared.stack_row.StackRow.{StackRow}
 use Rattle.xray_image.specs.Program.{Program}
 use Rattle.xray_io.specs.Desk.{Entry}
 use Rattle.xray_program.specs.Commands.{TellsAll}
-use Rattle.xray_program.specs.Inputs.{image_form}
+use Rattle.xray_program.specs.Inputs.{image_form, trace_form}
 use Rattle.xray_program.specs.Outcomes.{Outcome, Done}
 use Rattle.xray_program.specs.Stack.{StackComes, StacksCome, stacks_text}
 use Rattle.xray_program.specs.Taking.{Sound}
 use Rattle.xray_program.specs.private.Meant.{RowsMean}
 use Rattle.xray_program.proofs.Meanings.{AnyOutcome, HoldsBytes, IsAlone, IsDecided, IsJudged, SomeOutcome, refuse_alone, some_refuse}
-use Rattle.xray_program.proofs.Reports.{report_alone, report_some}
+use Rattle.xray_program.proofs.Reports.{report_alone, report_some, trace_decided, trace_judged}
 
 abbrev reason : Trace → Option (List ℕ)
 reason t = option_map deep_words (deep_in most_open t.blocks)
@@ -29,13 +29,13 @@ printed format t program outcome = outcome ≡ Done [] (stacks_text format progr
 pub stack_alone : IsDecided image_form → (held : List ℕ → Entry) (trace : List ℕ) (image : Option (List ℕ)) (format : StackFormat)
     → TellsAll held → IsAlone AnyOutcome (StackComes Sound held trace image format)
 stack_alone is held trace image format told =
-    report_alone is AnyOutcome held trace image (λ t program. StacksCome trace format t program) told
+    report_alone trace_form trace_decided is AnyOutcome held trace image (λ t program. StacksCome trace format t program) told
     (λ t program. refuse_alone AnyOutcome (reason t) trace (codes "trace") (printed format t program) (λ a b sort x y. y ∙ sym x))
 
 pub stack_some : IsJudged image_form → (held : List ℕ → Entry) (trace : List ℕ) (image : Option (List ℕ)) (format : StackFormat)
     → TellsAll held → HoldsBytes held → SomeOutcome (StackComes Sound held trace image format)
 stack_some is held trace image format told holds =
-    report_some is held trace image (λ t program. StacksCome trace format t program) told holds
+    report_some trace_form trace_judged is held trace image (λ t program. StacksCome trace format t program) told holds
     (λ t program. some_refuse (reason t) trace (codes "trace") (printed format t program) (λ none. (Done [] (stacks_text format program t), refl)))
 
 -- if no thread has too many calls open, its stacks come

@@ -8,7 +8,7 @@ use Rattle.xray_io.specs.Faults.{Rose}
 use Rattle.xray_io.specs.declared.faults.ReadError.{ReadError}
 use Rattle.xray_io.specs.declared.faults.ReadError.TheVariants as errors
 use Rattle.xray_program.specs.Outcomes.{Outcome, Unread, TooLong, Refused}
-use Rattle.xray_program.specs.private.Takes.{AreTaken, IsFaultStop, IsLost, IsMaybeTaken, IsReadStop, IsStopAtInput, IsTaken, IsTooLong}
+use Rattle.xray_program.specs.private.Takes.{AreTaken, IsFaultStop, IsLost, IsMaybeTaken, IsReadStop, IsStopAtInput, IsTaken, IsTakenAs, IsTooLong}
 use Rattle.xray_program.specs.Taking.{DeskReads, Sound, Faulty, Form, MayHold, Take, TakeMaybe, IsAcceptedAs}
 use Rattle.xray_io.specs.World.{DeskView}
 use Rattle.xray_program.specs.declared.stop.Stop.{Stop}
@@ -133,6 +133,12 @@ pub first_stop : {X Y : Type 0} (form : Form X) (comes : DeskReads → Outcome �
     → AreTaken comes yields before after result
 first_stop form comes yields before after name next result stop is leads taken =
     later_stop form comes yields before before after name next result stop is leads refl (le_refl _) taken
+
+-- an input whose value is what it reads as
+pub taken_as : {X : Type 0} (form : Form X) (name : List ℕ) (before after : DeskView) (result : Result X Stop)
+    → IsTakenAs form (λ value meant. value ≡ meant) name before after result → IsTaken form name before after result
+taken_as {X} form name before after (Ok value) (meant, same, given) = subst (λ (v : X). IsAcceptedAs form (before.held name) v) (sym same) given
+taken_as form name before after (Err stop) taken = taken
 
 -- the only input decides
 pub only_taken : {X : Type 0} (form : Form X) (name : List ℕ) (next : X → Outcome → Type 0) (before after : DeskView) (result : Result X Stop)

@@ -1,5 +1,6 @@
 -- When the inputs of a command are accepted, and nothing else is wrong with them.
 use Rattle.std.specs.Prelude.{◌≡◌, ◌≤◌, ℕ, zero, suc, List, length, Option, Some, None, ⊤}
+use Rattle.audit_check.specs.Statements.{Statement}
 use Rattle.fdr_file.specs.declared.trace.Trace.{Trace}
 use Rattle.patch_script.specs.Plans.{Plan, waiting_line}
 use Rattle.stack_rebuild.specs.Stacks.{deep_in, most_open}
@@ -8,9 +9,10 @@ use Rattle.xray_image.specs.Program.{Program}
 use Rattle.xray_io.specs.Desk.{Entry, Holds}
 use Rattle.xray_io.specs.Faults.{Rose}
 use Rattle.xray_io.specs.World.{World}
-use Rattle.xray_program.specs.Inputs.{image_form, schedule_form, script_form, text_form, trace_form}
+use Rattle.xray_program.specs.Convert.{log_form, no_text_for}
+use Rattle.xray_program.specs.Inputs.{Readable, audit_form, image_form, readable_form, schedule_form, script_form, text_form, trace_form, unread_trace_form}
 use Rattle.xray_program.specs.Taking.{Form, IsAcceptedAs}
-use Rattle.command_words.specs.Words.{Command, Sim, Run, Plain, Extract, Asm, Account, Stack, Convert, Soak}
+use Rattle.command_words.specs.Words.{Command, Sim, Run, Plain, Extract, Asm, Account, Stack, Convert, Dump, Check, Profile, Soak}
 
 -- the desk reports that a name holds bytes of this kind, within its limit, which read as this value
 pub record HoldsInput {X : Type 0} (form : Form X) (entry : Entry) (value : X) : Type 0 where
@@ -26,27 +28,38 @@ HoldsImage held None (Some program) = ⊥
 HoldsImage held (Some name) None = ⊥
 HoldsImage held (Some name) (Some program) = HoldsInput image_form (held name) program
 
--- the inputs of a report are a trace and an image of which this holds
-abbrev pub HoldsReport : (List ℕ → Entry) → (trace : List ℕ) → (image : Option (List ℕ)) → (Trace → Type 0) → Type 0
-HoldsReport held trace image Is =
-    (t : Trace) × (program : Option Program) × HoldsInput trace_form (held trace) t × HoldsImage held image program × Is t
+-- the inputs are an image, and a script for it and for this many threads
+abbrev pub HoldsScript : (List ℕ → Entry) → (image script : List ℕ) → (threads : ℕ) → Type 0
+HoldsScript held image script threads =
+    (program : Program) × (plan : Plan) × HoldsInput image_form (held image) program × HoldsInput (script_form program threads) (held script) plan
+
+-- the inputs of a report are a trace in this form, of which this holds, and an image
+abbrev pub HoldsReport : Form Trace → (List ℕ → Entry) → (trace : List ℕ) → (image : Option (List ℕ)) → (Trace → Type 0) → Type 0
+HoldsReport form held trace image Is =
+    (t : Trace) × (program : Option Program) × HoldsInput form (held trace) t × HoldsImage held image program × Is t
 
 -- The desk holds each input of a command, within its limit, and each is accepted. No other cause of refusal applies: for
--- `sim` nobody waits in the script, and for `stack` no thread of the trace has too many calls open at once.
+-- `sim` nobody waits in the script, for `stack` no thread of the trace has too many calls open at once, and for `convert`
+-- the trace can be written in the new form.
 abbrev pub AreAccepted : (List ℕ → Entry) → Command → Type 0
 AreAccepted held (Sim image script schedule trace audit options) =
     (program : Program) × (plan : Plan) × (turns : List Turns) × HoldsInput image_form (held image) program
     × HoldsInput (script_form program options.bounds.threads) (held script) plan
     × HoldsInput (schedule_form options.bounds.threads) (held schedule) turns × (waiting_line plan.lines ≡ None)
-AreAccepted held (Run image script trace audit options) =
-    (program : Program) × (plan : Plan) × HoldsInput image_form (held image) program
-    × HoldsInput (script_form program options.bounds.threads) (held script) plan
+AreAccepted held (Run image script trace audit options) = HoldsScript held image script options.bounds.threads
 AreAccepted held (Plain image bounds) = (program : Program) × HoldsInput image_form (held image) program
 AreAccepted held (Extract image) = (program : Program) × HoldsInput image_form (held image) program
 AreAccepted held (Asm text image threshold relative) = (file : List ℕ) × HoldsInput (text_form threshold relative) (held text) file
-AreAccepted held (Account trace image options) = HoldsReport held trace image (λ t. ⊤)
-AreAccepted held (Stack trace image format) = HoldsReport held trace image (λ t. deep_in most_open t.blocks ≡ None)
-AreAccepted held (Convert trace image) = HoldsReport held trace image (λ t. ⊤)
+AreAccepted held (Account trace image options) = HoldsReport trace_form held trace image (λ t. ⊤)
+AreAccepted held (Stack trace image format) = HoldsReport trace_form held trace image (λ t. deep_in most_open t.blocks ≡ None)
+AreAccepted held (Convert trace image options) =
+    HoldsReport (log_form options.input) held trace image (λ t. no_text_for options.format t ≡ None)
+AreAccepted held (Dump trace) = (t : Readable) × HoldsInput readable_form (held trace) t
+AreAccepted held (Check image script trace audit) =
+    (program : Program) × (statement : Statement) × (plan : Plan) × (bytes : List ℕ) × HoldsInput image_form (held image) program
+    × HoldsInput audit_form (held audit) statement × HoldsInput (script_form program statement.setup.threads) (held script) plan
+    × HoldsInput unread_trace_form (held trace) bytes
+AreAccepted held (Profile image script options) = HoldsScript held image script options.bounds.threads
 AreAccepted held (Soak number) = ⊤
 
 -- ---- the first inputs, in the order in which they are taken
@@ -66,21 +79,32 @@ AcceptsImage held (Some name) count = AcceptsInput image_form held name (λ prog
 abbrev pub AcceptsReport : {X : Type 0} → Form X → (List ℕ → Entry) → (log : List ℕ) → (image : Option (List ℕ)) → (count : ℕ) → Type 0
 AcceptsReport form held log image count = AcceptsInput form held log (λ value later. AcceptsImage held image later) count
 
+-- and of an image and a script
+abbrev pub AcceptsScript : (List ℕ → Entry) → (image script : List ℕ) → (threads count : ℕ) → Type 0
+AcceptsScript held image script threads count =
+    AcceptsInput image_form held image (λ program.
+    AcceptsInput (script_form program threads) held script (λ plan later. ⊤)) count
+
 -- the first inputs of a command are accepted, as many as `count` says
 abbrev pub AcceptsInputs : (List ℕ → Entry) → Command → (count : ℕ) → Type 0
 AcceptsInputs held (Sim image script schedule trace audit options) count =
     AcceptsInput image_form held image (λ program.
     AcceptsInput (script_form program options.bounds.threads) held script (λ plan.
     AcceptsInput (schedule_form options.bounds.threads) held schedule (λ turns later. ⊤))) count
-AcceptsInputs held (Run image script trace audit options) count =
-    AcceptsInput image_form held image (λ program.
-    AcceptsInput (script_form program options.bounds.threads) held script (λ plan later. ⊤)) count
+AcceptsInputs held (Run image script trace audit options) count = AcceptsScript held image script options.bounds.threads count
 AcceptsInputs held (Plain image bounds) count = AcceptsInput image_form held image (λ program later. ⊤) count
 AcceptsInputs held (Extract image) count = AcceptsInput image_form held image (λ program later. ⊤) count
 AcceptsInputs held (Asm text image threshold relative) count = AcceptsInput (text_form threshold relative) held text (λ file later. ⊤) count
 AcceptsInputs held (Account trace image options) count = AcceptsReport trace_form held trace image count
 AcceptsInputs held (Stack trace image format) count = AcceptsReport trace_form held trace image count
-AcceptsInputs held (Convert trace image) count = AcceptsReport trace_form held trace image count
+AcceptsInputs held (Convert trace image options) count = AcceptsReport (log_form options.input) held trace image count
+AcceptsInputs held (Dump trace) count = AcceptsInput readable_form held trace (λ t later. ⊤) count
+AcceptsInputs held (Check image script trace audit) count =
+    AcceptsInput image_form held image (λ program.
+    AcceptsInput audit_form held audit (λ statement.
+    AcceptsInput (script_form program statement.setup.threads) held script (λ plan.
+    AcceptsInput unread_trace_form held trace (λ bytes later. ⊤)))) count
+AcceptsInputs held (Profile image script options) count = AcceptsScript held image script options.bounds.threads count
 AcceptsInputs held (Soak number) count = ⊤
 
 -- no fault of the desk or of out is counted in a call

@@ -3,21 +3,26 @@ use Rattle.std.specs.Prelude.{◌≡◌, ◌≢◌, ℕ, List, [], ◌∷◌, Bo
 use Rattle.std.specs.Option.{option_map_or}
 use Rattle.xray_io.specs.Desk.{Entry, Untold}
 use Rattle.command_words.specs.Limits.{trace_limit}
+use Rattle.command_words.specs.declared.profile_options.ProfileOptions.{ProfileOptions}
 use Rattle.xray_program.specs.Account.{AccountComes}
 use Rattle.xray_program.specs.Asm.{AsmComes}
+use Rattle.xray_program.specs.Check.{CheckComes}
 use Rattle.xray_program.specs.Convert.{ConvertComes}
+use Rattle.xray_program.specs.Dump.{DumpComes}
 use Rattle.xray_program.specs.Extract.{ExtractComes}
-use Rattle.xray_program.specs.Inputs.{image_limit, text_limit, script_limit, schedule_limit}
+use Rattle.xray_program.specs.Inputs.{audit_limit, image_limit, text_limit, script_limit, schedule_limit}
 use Rattle.xray_program.specs.Outcomes.{Outcome, BadLine, Unread}
 use Rattle.xray_program.specs.Plain.{PlainComes}
+use Rattle.xray_program.specs.Profile.{ProfileComes}
 use Rattle.xray_program.specs.Reports.{report_inputs}
 use Rattle.xray_program.specs.Run.{RunComes}
+use Rattle.xray_program.specs.Scripts.{script_inputs}
 use Rattle.xray_program.specs.Setups.{setup_of}
 use Rattle.xray_program.specs.Sim.{SimComes}
 use Rattle.xray_program.specs.Soak.{SoakComes}
 use Rattle.xray_program.specs.Stack.{StackComes}
 use Rattle.xray_program.specs.Taking.{DeskReads, Sound, Faulty}
-use Rattle.command_words.specs.Words.{Command, Sim, Run, Plain, Extract, Asm, Account, Stack, Convert, Soak, outputs_of}
+use Rattle.command_words.specs.Words.{Command, Sim, Run, Plain, Extract, Asm, Account, Stack, Convert, Dump, Check, Profile, Soak, outputs_of}
 
 -- ---- a line for each command
 
@@ -25,13 +30,16 @@ use Rattle.command_words.specs.Words.{Command, Sim, Run, Plain, Extract, Asm, Ac
 -- words leave out isn't listed.
 abbrev pub inputs_of : Command → List (List ℕ × ℕ)
 inputs_of (Sim image script schedule trace audit options) = (image, image_limit) ∷ (script, script_limit) ∷ (schedule, schedule_limit) ∷ []
-inputs_of (Run image script trace audit options) = (image, image_limit) ∷ (script, script_limit) ∷ []
+inputs_of (Run image script trace audit options) = script_inputs image script
 inputs_of (Plain image bounds) = (image, image_limit) ∷ []
 inputs_of (Extract image) = (image, image_limit) ∷ []
 inputs_of (Asm text image threshold relative) = (text, text_limit) ∷ []
 inputs_of (Account trace image options) = report_inputs trace trace_limit image
 inputs_of (Stack trace image format) = report_inputs trace trace_limit image
-inputs_of (Convert trace image) = report_inputs trace trace_limit image
+inputs_of (Convert trace image options) = report_inputs trace trace_limit image
+inputs_of (Dump trace) = (trace, trace_limit) ∷ []
+inputs_of (Check image script trace audit) = (image, image_limit) ∷ (audit, audit_limit) ∷ (script, script_limit) ∷ (trace, trace_limit) ∷ []
+inputs_of (Profile image script options) = script_inputs image script
 inputs_of (Soak number) = []
 
 -- what comes of it
@@ -43,7 +51,10 @@ Comes reads held (Extract image) = ExtractComes reads held image
 Comes reads held (Asm text image threshold relative) = AsmComes reads held text image threshold relative
 Comes reads held (Account trace image options) = AccountComes reads held trace image options
 Comes reads held (Stack trace image format) = StackComes reads held trace image format
-Comes reads held (Convert trace image) = ConvertComes reads held trace image
+Comes reads held (Convert trace image options) = ConvertComes reads held trace image options
+Comes reads held (Dump trace) = DumpComes reads held trace
+Comes reads held (Check image script trace audit) = CheckComes reads held image script trace audit
+Comes reads held (Profile image script options) = ProfileComes reads held image script options
 Comes reads held (Soak number) = SoakComes number
 
 -- whether only one outcome comes of it, over what a desk holds; this fails if threads run in an order of their own
@@ -55,7 +66,10 @@ is_decided (Extract image) = true
 is_decided (Asm text image threshold relative) = true
 is_decided (Account trace image options) = true
 is_decided (Stack trace image format) = true
-is_decided (Convert trace image) = true
+is_decided (Convert trace image options) = true
+is_decided (Dump trace) = true
+is_decided (Check image script trace audit) = true
+is_decided (Profile image script options) = false
 is_decided (Soak number) = true
 
 -- whether it waits for nobody, and starts no thread
@@ -67,7 +81,10 @@ is_still (Extract image) = true
 is_still (Asm text image threshold relative) = true
 is_still (Account trace image options) = true
 is_still (Stack trace image format) = true
-is_still (Convert trace image) = true
+is_still (Convert trace image options) = true
+is_still (Dump trace) = true
+is_still (Check image script trace audit) = true
+is_still (Profile image script options) = false
 is_still (Soak number) = true
 
 -- whether it reports on a trace
@@ -79,8 +96,15 @@ is_report (Extract image) = false
 is_report (Asm text image threshold relative) = false
 is_report (Account trace image options) = true
 is_report (Stack trace image format) = true
-is_report (Convert trace image) = true
+is_report (Convert trace image options) = true
+is_report (Dump trace) = false
+is_report (Check image script trace audit) = false
+is_report (Profile image script options) = false
 is_report (Soak number) = false
+
+-- it is a profile: only of this may an outcome come that has status 7
+abbrev pub IsProfile : Command → Type 0
+IsProfile command = (image script : List ℕ) × (options : ProfileOptions) × (command ≡ Profile image script options)
 
 -- ---- what was said: a command, or none
 

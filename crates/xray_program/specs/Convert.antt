@@ -1,12 +1,53 @@
--- `convert`: a trace as YAML.
-use Rattle.std.specs.Prelude.{◌≡◌, ℕ, List, [], Option}
+-- `convert`: a trace or a basic log in another form.
+use Rattle.std.specs.Prelude.{◌≡◌, ◌++◌, ℕ, List, [], Option, Some, None, codes, decimal, if◌then◌else◌, length, nat_lt, option_map}
+use Rattle.command_words.specs.declared.report_options.ConvertFormat.{ConvertFormat}
+use Rattle.command_words.specs.declared.report_options.ConvertFormat.TheVariants as formats
+use Rattle.command_words.specs.declared.report_options.ConvertOptions.{ConvertOptions}
+use Rattle.command_words.specs.declared.report_options.InputForm.{InputForm}
+use Rattle.command_words.specs.declared.report_options.InputForm.TheVariants as inputs
+use Rattle.fdr_file.specs.declared.trace.Trace.{Trace}
+use Rattle.fdr_file.specs.ThreadEvents.{ThreadEvent, thread_events}
+use Rattle.trace_forms.specs.BasicLogs.{basic_bytes, wide_cpu}
+use Rattle.trace_forms.specs.TraceEvents.{most_events, trace_events_text}
+use Rattle.xray_image.specs.Program.{Program}
 use Rattle.xray_io.specs.Desk.{Entry}
-use Rattle.xray_program.specs.Inputs.{trace_form}
+use Rattle.xray_program.specs.Inputs.{basic_form, trace_form}
 use Rattle.xray_program.specs.Outcomes.{Outcome, Done}
 use Rattle.xray_program.specs.Reports.{TakeReport}
-use Rattle.xray_program.specs.Taking.{DeskReads}
+use Rattle.xray_program.specs.Taking.{DeskReads, Form, RefuseIf}
 use Rattle.yaml_convert.specs.Yaml.{yaml_text}
 
--- what comes of the command: the text of the trace; a program names its functions, if there is one
-abbrev pub ConvertComes : DeskReads → (List ℕ → Entry) → (trace : List ℕ) → (image : Option (List ℕ)) → Outcome → Type 0
-ConvertComes reads held trace image = TakeReport trace_form reads held trace image (λ t program outcome. outcome ≡ Done [] (yaml_text program t))
+-- the kind of input, by the form that the trace has
+abbrev pub log_form : InputForm → Form Trace
+log_form inputs.Fdr = trace_form
+log_form inputs.Basic = basic_form
+
+-- events are too many for the text of trace events
+abbrev pub too_many : List ThreadEvent → Option (List ℕ)
+too_many events = if nat_lt most_events (length events) then Some (codes "Many") else None
+
+-- this event, counted from 0, has a CPU that the record of a basic log has no room for
+abbrev pub cpu_words : ℕ → List ℕ
+cpu_words event = codes "Cpu " ++ decimal event
+
+-- why a trace isn't converted to a form, if it isn't
+abbrev pub no_text_for : ConvertFormat → Trace → Option (List ℕ)
+no_text_for formats.Yaml t = None
+no_text_for formats.TraceEvents t = too_many (thread_events t.blocks)
+no_text_for formats.Basic t = option_map cpu_words (wide_cpu (thread_events t.blocks))
+
+-- a trace in a form; a program names its functions, if there is one
+abbrev pub converted : ConvertFormat → Option Program → Trace → List ℕ
+converted formats.Yaml program t = yaml_text program t
+converted formats.TraceEvents program t = trace_events_text program t
+converted formats.Basic program t = basic_bytes t
+
+-- what comes of the judged inputs: the trace is refused if it can't be converted, and printed in its new form otherwise
+abbrev pub ConvertsTo : (trace : List ℕ) → ConvertFormat → Trace → Option Program → Outcome → Type 0
+ConvertsTo trace format t program =
+    RefuseIf (no_text_for format t) trace (codes "trace") (λ outcome. outcome ≡ Done [] (converted format program t))
+
+-- what comes of the command
+abbrev pub ConvertComes : DeskReads → (List ℕ → Entry) → (trace : List ℕ) → (image : Option (List ℕ)) → ConvertOptions → Outcome → Type 0
+ConvertComes reads held trace image options =
+    TakeReport (log_form options.input) reads held trace image (λ t program. ConvertsTo trace options.format t program)

@@ -1,10 +1,10 @@
 -- The kinds of input.
-use Rattle.std.specs.Prelude.{◌≡◌, Result, Ok, Err, ℕ, Bool, List, [], ◌∷◌, Option, Some, None, codes, unwrap_or}
+use Rattle.std.specs.Prelude.{◌≡◌, ◌≤◌, Result, Ok, Err, ℕ, Bool, List, [], ◌∷◌, Option, Some, None, codes, length, take, unwrap_or}
 use Rattle.command_words.specs.Limits.{trace_limit}
 use Rattle.xray_image.specs.Program.{Program, IsAccepted}
 use Rattle.xray_image.specs.declared.fault.ImageFault.{ImageFault}
 use Rattle.xray_image.specs.FaultWords.{image_words}
-use Rattle.xray_image.specs.Table.{ReadsAs}
+use Rattle.xray_image.specs.Table as image
 use Rattle.asm_text.specs.Assembling.{assembled}
 use Rattle.asm_text.specs.FaultWords.{asm_words}
 use Rattle.patch_script.specs.Plans.{Plan, plan_of}
@@ -12,10 +12,18 @@ use Rattle.patch_script.specs.FaultWords.{script_words}
 use Rattle.step_sim.specs.declared.turns.Turns.{Turns}
 use Rattle.step_sim.specs.FaultWords.{schedule_words}
 use Rattle.step_sim.specs.Schedules.{schedule_of}
+use Rattle.fdr_file.specs.declared.fault.TraceFault.{TraceFault}
 use Rattle.fdr_file.specs.declared.trace.Trace.{Trace}
+use Rattle.fdr_file.specs.Prefixes.{IsReadable, ReadsAsTrace}
 use Rattle.fdr_file.specs.Traces.{trace_of}
 use Rattle.trace_words.specs.TraceWords.{trace_words}
-use Rattle.xray_program.specs.Taking.{Form}
+use Rattle.trace_forms.specs.BasicLogs.{basic_of}
+use Rattle.trace_forms.specs.FaultWords.{basic_words}
+use Rattle.audit_check.specs.declared.fault.AuditFault.{AuditFault}
+use Rattle.audit_check.specs.Reading.{ReadsAs}
+use Rattle.audit_check.specs.Statements.{Statement}
+use Rattle.audit_check.specs.Texts.{audit_words}
+use Rattle.xray_program.specs.Taking.{Form, any_bytes}
 
 -- ---- the most bytes of each kind; `trace_limit` has those of a trace
 
@@ -30,6 +38,9 @@ script_limit = 1048576
 
 abbrev pub schedule_limit : ℕ
 schedule_limit = 16777216
+
+abbrev pub audit_limit : ℕ
+audit_limit = 67108864
 
 -- an input that the words may leave out, with the most bytes that it may have: a list of one input, or of none
 abbrev pub optional_input : (name : Option (List ℕ)) → (limit : ℕ) → List (List ℕ × ℕ)
@@ -48,7 +59,7 @@ image_form = record {
   kind = codes "image";
   limit = image_limit;
   Reads = IsAccepted;
-  Refuses = λ bytes refusal. (fault : ImageFault) × ReadsAs bytes (Err fault) × (refusal ≡ refused_for (image_words fault));
+  Refuses = λ bytes refusal. (fault : ImageFault) × image.ReadsAs bytes (Err fault) × (refusal ≡ refused_for (image_words fault));
 }
 
 -- A kind of input that a function judges. Its bytes read as the value that the function gives. They are refused for the
@@ -76,3 +87,38 @@ schedule_form threads = form_by (codes "schedule") schedule_limit (schedule_of t
 -- a trace
 abbrev pub trace_form : Form Trace
 trace_form = form_by (codes "trace") trace_limit trace_of trace_words
+
+-- a trace that is only compared with others: any bytes are read
+abbrev pub unread_trace_form : Form (List ℕ)
+unread_trace_form = any_bytes (codes "trace") trace_limit
+
+-- a basic log, which reads as a trace
+abbrev pub basic_form : Form Trace
+basic_form = form_by (codes "trace") trace_limit basic_of basic_words
+
+-- bytes of which a prefix is a trace, and the length of the longest
+pub record Readable : Type 0 where
+  pub bytes : List ℕ
+  pub len : ℕ
+
+-- no prefix of the bytes is a trace
+abbrev pub ReadsNowhere : List ℕ → Type 0
+ReadsNowhere bytes = (len : ℕ) → len ≤ length bytes → ReadsAsTrace (take len bytes) → ⊥
+
+-- A file of which some prefix is a trace. If none is, it is refused for its first fault.
+abbrev pub readable_form : Form Readable
+readable_form = record {
+  kind = codes "trace";
+  limit = trace_limit;
+  Reads = λ bytes t. (t.bytes ≡ bytes) × IsReadable bytes t.len;
+  Refuses = λ bytes refusal. (fault : TraceFault) × ReadsNowhere bytes × (trace_of bytes ≡ Err fault) × (refusal ≡ refused_for (trace_words fault));
+}
+
+-- the audit of a run
+abbrev pub audit_form : Form Statement
+audit_form = record {
+  kind = codes "audit";
+  limit = audit_limit;
+  Reads = λ bytes statement. ReadsAs bytes (Ok statement);
+  Refuses = λ bytes refusal. (fault : AuditFault) × ReadsAs bytes (Err fault) × (refusal ≡ refused_for (audit_words fault));
+}

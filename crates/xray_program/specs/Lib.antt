@@ -7,13 +7,17 @@ pub mod Traced
 pub mod Asm
 pub mod Extract
 pub mod Plain
+pub mod Scripts
 pub mod Sim
 pub mod Run
 pub mod Reports
 pub mod Account
 pub mod Soak
 pub mod Stack
+pub mod Profile
 pub mod Convert
+pub mod Dump
+pub mod Check
 pub mod Commands
 pub mod Accepted
 pub mod Answers

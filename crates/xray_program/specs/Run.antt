@@ -13,9 +13,9 @@ use Rattle.machine_step.specs.Traced.{sleds_passed}
 use Rattle.traced_run.specs.Following.{AllMarksFollow, LoadsFollow}
 use Rattle.traced_run.specs.Losses.{AreLost}
 use Rattle.traced_run.specs.Runs.{EachThread, ThreadRun}
-use Rattle.xray_program.specs.Inputs.{image_form, script_form}
 use Rattle.xray_program.specs.Outcomes.{Outcome}
-use Rattle.xray_program.specs.Taking.{DeskReads, Take, Leaves}
+use Rattle.xray_program.specs.Scripts.{TakeScript}
+use Rattle.xray_program.specs.Taking.{DeskReads, Leaves}
 use Rattle.xray_program.specs.Traced.{Traces}
 
 -- The law of `run`. The marks of each thread follow the script, and as many segments are lost as the threads' pool had no
@@ -30,10 +30,7 @@ RunsBeside trace audit setup program plan = Leaves (Traces (FollowsPlan setup pr
 
 -- what comes of the command
 abbrev pub RunComes : DeskReads → (List ℕ → Entry) → (image script trace audit : List ℕ) → Setup → Outcome → Type 0
-RunComes reads held image script trace audit setup =
-    Take image_form reads held image (λ program.
-    Take (script_form program setup.threads) reads held script (λ plan.
-    RunsBeside trace audit setup program plan))
+RunComes reads held image script trace audit setup = TakeScript reads held image script setup.threads (RunsBeside trace audit setup)
 
 -- The headline's law for `run`. The loads of each thread follow the script to its end, and none of them is of a release
 -- word that still held the thread.

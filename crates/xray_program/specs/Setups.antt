@@ -19,7 +19,7 @@ limits_of bounds stamps = record {
 -- The limits of a plain run. No event of it is seen, so no words say how its passings are stamped: the counter stands
 -- still.
 abbrev pub plain_limits : Bounds → Limits
-plain_limits bounds = limits_of bounds (record { tick = 0; tsc = 0; frequency = 0; cpus = 1; migrate = 1 })
+plain_limits bounds = limits_of bounds (record { tick = 0; tsc = 0; cpus = 1; migrate = 1 })
 
 -- what a run of traced threads is made with
 abbrev pub setup_of : RunOptions → Setup
@@ -30,5 +30,5 @@ setup_of options = record {
   limits = limits_of options.bounds options.stamps;
   pid = options.pid;
   wall = options.wall;
-  frequency = options.stamps.frequency;
+  frequency = options.frequency;
 }

@@ -1,7 +1,7 @@
 -- Inputs in their turn: what comes of them, one inside the other, in the order in which they are taken.
 use Rattle.std.specs.Prelude.{◌≡◌, ◌⊎◌, ◌<◌, ◌≤◌, ℕ, List, [], length, Option, Some, None, ⊤}
 use Rattle.xray_io.specs.Desk.{Entry, Untold, Absent, Holds}
-use Rattle.xray_program.specs.Outcomes.{Outcome, Unread, TooLong, Refused, Done}
+use Rattle.xray_program.specs.Outcomes.{Outcome, Unread, TooLong, Refused, Done, Fell}
 
 -- A kind of input: its name in a line on err, the most bytes that it may have, what its bytes read as, and why they are
 -- refused, in the words of the line.
@@ -10,6 +10,10 @@ pub record Form (X : Type 0) : Type 1 where
   pub limit : ℕ
   pub Reads : List ℕ → X → Type 0
   pub Refuses : List ℕ → List ℕ → Type 0
+
+-- a kind of input that is never refused: any bytes are its value
+abbrev pub any_bytes : (kind : List ℕ) → (limit : ℕ) → Form (List ℕ)
+any_bytes kind limit = record { kind = kind; limit = limit; Reads = λ bytes value. value ≡ bytes; Refuses = λ _ _. ⊥ }
 
 -- How inputs are taken: no read of a name that the desk holds fails; or any read may fail; or each input is accepted,
 -- so no turn fails.
@@ -76,3 +80,8 @@ Leaves Are outcome = (outputs : List (List ℕ × List ℕ)) × (text : List ℕ
 -- all is done, with no outputs, and a text of which this holds
 abbrev pub Prints : (List ℕ → Type 0) → Outcome → Type 0
 Prints Is = Leaves (λ outputs text. (outputs ≡ []) × Is text)
+
+-- outputs and a text are left; all is well, unless something is found to be wrong
+abbrev pub ended_by : List (List ℕ × List ℕ) → (text : List ℕ) → (trouble : Option (List ℕ)) → Outcome
+ended_by outputs text None = Done outputs text
+ended_by outputs text (Some trouble) = Fell outputs text trouble

@@ -2,7 +2,7 @@
 ghost use Rattle.std.specs.Prelude.{◌≡◌};
 
 use crate::delivery::{Output, deliver};
-use crate::image_file::ImageFile;
+use crate::file_bytes::FileBytes;
 use crate::input::take;
 use crate::inputs::TextKind;
 use crate::stop::Stop;
@@ -28,7 +28,7 @@ impl<'a> Work<'a> for Asm<'a> {
     ghost use Rattle.xray_program.specs.Outcomes.{Done};
     ghost use Rattle.command_words.specs.Words as words;
 
-    type Inputs = ImageFile;
+    type Inputs = FileBytes;
 
     ghost says = { λ a. words.Asm a.text.now a.image.now a.threshold a.relative };
 
@@ -36,7 +36,7 @@ impl<'a> Work<'a> for Asm<'a> {
 
     ghost fits = { λ _ _. ⊤ };
 
-    fn take<D: Desk>(&self, alloc: Global, desk: &mut D) -> Result<ImageFile, Stop<'a>> {
+    fn take<D: Desk>(&self, alloc: Global, desk: &mut D) -> Result<FileBytes, Stop<'a>> {
         let kind = TextKind {
             threshold: self.threshold,
             relative: self.relative,
@@ -47,7 +47,7 @@ impl<'a> Work<'a> for Asm<'a> {
     fn finish<D: Desk, O: Sink>(
         &self,
         _alloc: Global,
-        file: &ImageFile,
+        file: &FileBytes,
         desk: &mut D,
         out: &mut O,
     ) -> Result<(), Stop<'a>> {

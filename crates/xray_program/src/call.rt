@@ -1,5 +1,5 @@
 //! The top call.
-ghost use Rattle.std.specs.Prelude.{◌≡◌, ◌↔◌, IfErr, IfOk, IsFalse, IsTrue, OnOk, Some, codes, slice_get, true};
+ghost use Rattle.std.specs.Prelude.{◌≡◌, ◌↔◌, ◌⊎◌, IfErr, IfOk, IsFalse, IsTrue, OnOk, Some, codes, slice_get, true};
 ghost use Rattle.fdr_buffer.specs.Times.{IsTime};
 ghost use Rattle.command_words.specs.{Items.{texts}, Ranges.{HasRanges}, Views.{command_view}};
 ghost use Rattle.command_words.specs.Words.{reading};
@@ -11,11 +11,14 @@ ghost use Rattle.xray_program.specs.private.Works.{Ends, IsOther, SaidHasRanges}
 
 use crate::account::Account;
 use crate::asm::Asm;
+use crate::check::Check;
 use crate::convert::Convert;
+use crate::dump::Dump;
 use crate::extract::Extract;
 use crate::plain::Plain;
+use crate::profile::perform_profile;
 use crate::run::perform_run;
-use crate::run_inputs::Run;
+use crate::run_inputs::{Profile, Run};
 use crate::sim::Sim;
 use crate::soak::Soak;
 use crate::stack::Stack;
@@ -32,8 +35,8 @@ use step_sim::{a_replay_loses_few, lost_segments_are_the_oldest, no_replay_tears
 use traced_run::a_whole_run_executes_to_its_end;
 use xray_io::{Desk, Gate, Sink, Wall};
 
-/// Does what `words` say, with the files of `desk`. `words` don't hold the program's own name, and
-/// don't say a `run`. If `may_wait` answers `false`, they say none. Answers the program's status.
+/// Does what `words` say, with the files of `desk`. `words` don't hold the program's own name, and say
+/// neither a `run` nor a `profile`. If `may_wait` answers `false`, they say none. Answers the program's status.
 ///
 /// The microseconds of `wall` are below 1,000,000.
 ///
@@ -68,9 +71,9 @@ pub fn xray_still<D: Desk, O: Sink, E: Sink>(
 }
 
 /// Does what `words` say, with the files of `desk`. `words` don't hold the program's own name.
-/// Answers the program's status, as `xray_still` does. `run` starts its threads through `rt`, and
-/// they and the patcher pass `gate`. No clause says that they pass it, or that the call of `run`
-/// returns. All other commands are those of `xray_still`.
+/// Answers the program's status, as `xray_still` does. `run` and `profile` start their threads through
+/// `rt`, and they and the patcher pass `gate`. No clause says that they pass it, or that the call of
+/// `run` or of `profile` returns. All other commands are those of `xray_still`.
 pub fn xray<T: Threads + Wait + Sync, D: Desk, O: Sink, E: Sink, G: Gate + Sync>(
     rt: &T,
     alloc: Global,
@@ -95,16 +98,27 @@ pub fn xray<T: Threads + Wait + Sync, D: Desk, O: Sink, E: Sink, G: Gate + Sync>
     answer(ended, err)
 }
 
-/// Whether the call of `words` may wait: the first of them is `run`. If it is not, `xray_still` may
-/// make the call, whatever the wall time is.
+/// Whether the call of `words` may wait: the first of them is `run` or `profile`. If it is neither,
+/// `xray_still` may make the call, whatever the wall time is.
 pub fn may_wait(words: &[String]) -> bool
-    ensures run { IsTrue result ↔ (slice_get (texts words.now) 0 ≡ Some (codes "run")) }
+    ensures waits { IsTrue result ↔ (slice_get (texts words.now) 0 ≡ Some (codes "run"))
+        ⊎ (slice_get (texts words.now) 0 ≡ Some (codes "profile")) }
     ensures still { IsFalse result → (wall : Wall) → IsStill (reading wall (texts words.now)) }
 {
     commands_follow_their_rows();
     match words.split_first() {
-        Some((word, _)) => word.as_str() == "run",
+        Some((word, _)) => starts_threads(word),
         None => false,
+    }
+}
+
+/// Whether this is the word of a command that starts threads.
+fn starts_threads(word: &str) -> bool
+    ensures { IsTrue result ↔ (word.now ≡ codes "run") ⊎ (word.now ≡ codes "profile") }
+{
+    match word {
+        "run" | "profile" => true,
+        _ => false,
     }
 }
 
@@ -218,6 +232,18 @@ fn perform_any<'a, T: Threads + Wait + Sync, D: Desk, O: Sink, G: Gate + Sync>(
                 gate,
             )
         }
+        Command::Profile {
+            image,
+            script,
+            options,
+        } => {
+            let profile = Profile {
+                image,
+                script,
+                options,
+            };
+            perform_profile(rt, alloc, &profile, desk, out, gate)
+        }
         other => perform_command(alloc, other, desk, out),
     }
 }
@@ -275,7 +301,7 @@ fn perform_command<'a, D: Desk, O: Sink>(
             };
             perform(alloc, &sim, desk, out)
         }
-        Command::Run { .. } => unreachable!(),
+        Command::Run { .. } | Command::Profile { .. } => unreachable!(),
         other => perform_other(alloc, other, desk, out),
     }
 }
@@ -294,7 +320,7 @@ fn perform_other<'a, D: Desk, O: Sink>(
         (D.along desk.old desk.new) (answer_of result) (told_of result) }
 {
     match command {
-        Command::Sim { .. } | Command::Run { .. } => unreachable!(),
+        Command::Sim { .. } | Command::Run { .. } | Command::Profile { .. } => unreachable!(),
         Command::Plain { image, bounds } => perform(alloc, &Plain { image, bounds }, desk, out),
         Command::Extract { image } => perform(alloc, &Extract { image }, desk, out),
         Command::Asm {
@@ -310,6 +336,21 @@ fn perform_other<'a, D: Desk, O: Sink>(
                 relative,
             };
             perform(alloc, &asm, desk, out)
+        }
+        Command::Dump { trace } => perform(alloc, &Dump { trace }, desk, out),
+        Command::Check {
+            image,
+            script,
+            trace,
+            audit,
+        } => {
+            let check = Check {
+                image,
+                script,
+                trace,
+                audit,
+            };
+            perform(alloc, &check, desk, out)
         }
         Command::Soak { number } => perform(alloc, &Soak { number }, desk, out),
         report => perform_report(alloc, report, desk, out),
@@ -354,8 +395,17 @@ fn perform_report<'a, D: Desk, O: Sink>(
             };
             perform(alloc, &stack, desk, out)
         }
-        Command::Convert { trace, image } => {
-            perform(alloc, &Convert { trace, image }, desk, out)
+        Command::Convert {
+            trace,
+            image,
+            options,
+        } => {
+            let convert = Convert {
+                trace,
+                image,
+                options,
+            };
+            perform(alloc, &convert, desk, out)
         }
         _ => unreachable!(),
     }

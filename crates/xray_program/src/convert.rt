@@ -1,72 +1,29 @@
-//! `convert`: a trace as YAML.
-ghost use Rattle.std.specs.Prelude.{◌≡◌, ℕ, List, Ok, Err, IfErr, OnOk, option_map, ◌⊎◌};
+//! `convert`: a trace or a basic log in another form.
+ghost use Rattle.std.specs.Prelude.{◌≡◌, None, Ok, option_map};
+ghost use Rattle.fault_words.specs.Words.{words_text};
 ghost use Rattle.fdr_file.specs.declared.trace.Trace.{Trace};
-ghost use Rattle.fdr_file.specs.Traces.{trace_of};
-ghost use Rattle.xray_program.specs.private.Meant.{BytesMean};
+ghost use Rattle.fdr_file.specs.{Prefixes.{ReadsAsTrace}, ThreadEvents.{thread_events}, Traces.{trace_of}};
+ghost use Rattle.trace_forms.specs.BasicLogs.{wide_cpu};
+ghost use Rattle.xray_program.specs.Convert.{cpu_words, no_text_for, too_many};
+ghost use Rattle.xray_program.specs.private.Logs.{LogMeans};
 
 use crate::delivery::{NoOutputs, deliver};
 use crate::inputs::TRACE;
+use crate::log::{Log, LogKind};
 use crate::report_inputs::{ReportInputs, take_report};
 use crate::stop::Stop;
-use crate::stream::StreamKind;
-use crate::trace_feed::TraceFeed;
 use crate::work::Work;
-use command_words::TRACE_LIMIT;
-use fdr_file::{KeepNothing, Trace, TraceFault};
+use command_words::{ConvertFormat, ConvertOptions};
+use fault_words::Words;
+use fdr_file::{EventCursor, Trace};
 use std::alloc::Global;
-use trace_words::TraceRefusal;
-use xray_io::{Desk, Feed, Sink};
-use yaml_convert::YamlBytes;
-
-/// A trace whose bytes are kept.
-#[derive(Drop)]
-struct ConvertKind;
-
-impl StreamKind for ConvertKind {
-    ghost use Rattle.xray_program.specs.Inputs.{trace_form};
-
-    type Meaning = Trace;
-
-    type Pieces = Vec<u8>;
-
-    type Value = Vec<u8>;
-
-    type Refusal = TraceRefusal;
-
-    ghost form = { λ _. trace_form };
-
-    ghost means = { λ _. BytesMean };
-
-    fn word(&self) -> &'static str {
-        TRACE
-    }
-
-    fn limit(&self) -> u64 {
-        TRACE_LIMIT
-    }
-
-    fn begin(&self, alloc: Global) -> Vec<u8> {
-        Vec::new(alloc)
-    }
-
-    fn judge(&self, _alloc: Global, bytes: Vec<u8>) -> Result<Vec<u8>, TraceRefusal> {
-        match judge_bytes(&bytes) {
-            Ok(()) => Ok(bytes),
-            Err(fault) => Err(TraceRefusal { fault }),
-        }
-    }
-}
-
-/// Whether bytes are a trace. The answer is an error if they aren't. No list of events is made.
-fn judge_bytes(bytes: &[u8]) -> Result<(), TraceFault>
-    ensures reads { OnOk result ((trace : Trace) × (trace_of bytes.now ≡ Ok trace)) }
-    ensures faults { IfErr result (λ fault. (trace_of bytes.now ≡ Err fault) ⊎ (fault ≡ TraceFault.NoMemory)) }
-{
-    let mut feed = TraceFeed::new(KeepNothing);
-    feed.feed(bytes)?;
-    feed.finish()?;
-    Ok(())
-}
+use trace_forms::{
+    BasicBytes, BasicText, EventSource, EventsBytes, EventsText, TraceCursor, has_too_many,
+    wide_cpu_of_bytes,
+};
+use xray_image::Image;
+use xray_io::{Desk, Piece, Printed, Sink, Text, WriteFault};
+use yaml_convert::{YamlBytes, YamlText};
 
 /// `convert TRACE [IMAGE]`.
 #[derive(Drop)]
@@ -75,43 +32,173 @@ pub(crate) struct Convert<'a> {
     pub(crate) trace: &'a str,
     /// The name of the image that names the functions, if the words name one.
     pub(crate) image: Option<&'a str>,
+    /// The form that the trace has, and the form in which it is printed.
+    pub(crate) options: ConvertOptions,
 }
 
 impl<'a> Work<'a> for Convert<'a> {
-    ghost use Rattle.std.specs.Prelude.{[]};
     ghost use Rattle.command_words.specs.Words as words;
-    ghost use Rattle.xray_program.specs.Outcomes.{Done};
+    ghost use Rattle.xray_program.specs.Convert.{ConvertsTo};
     ghost use Rattle.xray_program.specs.private.ReportTakes.{ComesOfMeant};
-    ghost use Rattle.yaml_convert.specs.Yaml.{yaml_text};
 
-    type Inputs = ReportInputs<Vec<u8>>;
+    type Inputs = ReportInputs<Log>;
 
-    ghost says = { λ c. words.Convert c.trace.now (option_map (λ n. n.now) c.image) };
+    ghost says = { λ c. words.Convert c.trace.now (option_map (λ n. n.now) c.image) c.options };
 
-    ghost yields = { λ _. ComesOfMeant BytesMean
-        (λ trace program outcome. outcome ≡ Done [] (yaml_text program trace)) };
+    ghost yields = { λ c. ComesOfMeant LogMeans (ConvertsTo c.trace.now c.options.format) };
 
-    ghost fits = { λ _ inputs. (trace : Trace) × BytesMean inputs.log trace };
+    ghost fits = { λ _ inputs. (trace : Trace) × LogMeans inputs.log trace };
 
-    fn take<D: Desk>(
-        &self,
-        alloc: Global,
-        desk: &mut D,
-    ) -> Result<ReportInputs<Vec<u8>>, Stop<'a>> {
-        take_report(alloc, desk, self.trace, &ConvertKind, self.image)
+    fn take<D: Desk>(&self, alloc: Global, desk: &mut D) -> Result<ReportInputs<Log>, Stop<'a>> {
+        let kind = LogKind {
+            form: self.options.input,
+        };
+        take_report(alloc, desk, self.trace, &kind, self.image)
     }
 
     fn finish<D: Desk, O: Sink>(
         &self,
         _alloc: Global,
-        inputs: &ReportInputs<Vec<u8>>,
+        inputs: &ReportInputs<Log>,
         desk: &mut D,
         out: &mut O,
     ) -> Result<(), Stop<'a>> {
-        let text = YamlBytes {
-            bytes: &inputs.log,
-            image: inputs.image.as_ref(),
-        };
-        deliver(desk, out, &NoOutputs, &text, None)
+        let format = self.options.format;
+        let image = inputs.image.as_ref();
+        match refusal_of(format, &inputs.log) {
+            Some(words) => Err(Stop::Refused {
+                name: self.trace,
+                kind: TRACE,
+                words,
+            }),
+            None => match &inputs.log {
+                Log::Fdr(bytes) => {
+                    let text = BytesReport {
+                        bytes,
+                        image,
+                        format,
+                    };
+                    deliver(desk, out, &NoOutputs, &text, None)
+                }
+                Log::Basic(trace) => {
+                    let text = TraceReport {
+                        trace,
+                        image,
+                        format,
+                    };
+                    deliver(desk, out, &NoOutputs, &text, None)
+                }
+            },
+        }
+    }
+}
+
+/// Why a log isn't printed in a form, if it isn't.
+fn refusal_of(format: ConvertFormat, log: &Log) -> Option<Words<'static>>
+    requires { (trace : Trace) × LogMeans log.now trace }
+    ensures { (trace : Trace) → LogMeans log.now trace
+        → option_map words_text result ≡ no_text_for format trace }
+{
+    match log {
+        Log::Fdr(bytes) => refusal_of_bytes(format, bytes),
+        Log::Basic(trace) => refusal_of_trace(format, trace),
+    }
+}
+
+/// Why the trace that bytes read as isn't printed in a form, if it isn't.
+fn refusal_of_bytes(format: ConvertFormat, bytes: &[u8]) -> Option<Words<'static>>
+    requires { ReadsAsTrace bytes.now }
+    ensures { (trace : Trace) → trace_of bytes.now ≡ Ok trace
+        → option_map words_text result ≡ no_text_for format trace }
+{
+    match format {
+        ConvertFormat::Yaml => None,
+        ConvertFormat::TraceEvents => too_many_of(&mut EventCursor::new(bytes)),
+        ConvertFormat::Basic => wide_of(wide_cpu_of_bytes(bytes)),
+    }
+}
+
+/// The same for a trace each of whose CPUs fits the byte that a basic log has for it.
+fn refusal_of_trace(format: ConvertFormat, trace: &Trace) -> Option<Words<'static>>
+    requires { wide_cpu (thread_events trace.now.blocks) ≡ None }
+    ensures { option_map words_text result ≡ no_text_for format trace.now }
+{
+    match format {
+        ConvertFormat::Yaml | ConvertFormat::Basic => None,
+        ConvertFormat::TraceEvents => too_many_of(&mut TraceCursor::new(trace)),
+    }
+}
+
+/// The words for more events than trace events are printed of, if so many are still to come.
+fn too_many_of<E: EventSource>(events: &mut E) -> Option<Words<'static>>
+    ensures { option_map words_text result ≡ too_many (E.left events.old) }
+{
+    if has_too_many(events) {
+        Some(Words::name(b"Many"))
+    } else {
+        None
+    }
+}
+
+/// The words for the number of the first event whose CPU a basic log has no room for.
+fn wide_of(number: Option<u64>) -> Option<Words<'static>>
+    ensures { option_map words_text result ≡ option_map cpu_words number }
+{
+    match number {
+        Some(number) => Some(Words::two(Piece::Bytes(b"Cpu "), Piece::Number(u128::from(number)))),
+        None => None,
+    }
+}
+
+/// The trace that bytes read as, in a form.
+#[derive(Clone, Copy)]
+struct BytesReport<'a> {
+    bytes: &'a [u8],
+    image: Option<&'a Image>,
+    format: ConvertFormat,
+}
+
+impl Printed for BytesReport<'_> {
+    ghost use Rattle.xray_program.specs.private.Logs.{BytesFit, bytes_text};
+
+    ghost text = { λ t. bytes_text t.format (option_map (λ image. image.now) t.image) t.bytes.now };
+
+    ghost ready = { λ t. BytesFit t.format t.bytes.now };
+
+    fn add_to<S: Sink>(&self, to: &mut Text<S>) -> Result<(), WriteFault> {
+        let bytes = self.bytes;
+        let image = self.image;
+        match self.format {
+            ConvertFormat::Yaml => YamlBytes { bytes, image }.add_to(to),
+            ConvertFormat::TraceEvents => EventsBytes { bytes, image }.add_to(to),
+            ConvertFormat::Basic => BasicBytes { bytes }.add_to(to),
+        }
+    }
+}
+
+/// A trace in a form.
+#[derive(Clone, Copy)]
+struct TraceReport<'a> {
+    trace: &'a Trace,
+    image: Option<&'a Image>,
+    format: ConvertFormat,
+}
+
+impl Printed for TraceReport<'_> {
+    ghost use Rattle.xray_program.specs.Convert.{converted};
+    ghost use Rattle.xray_program.specs.private.Logs.{TraceFits};
+
+    ghost text = { λ t. converted t.format (option_map (λ image. image.now) t.image) t.trace.now };
+
+    ghost ready = { λ t. TraceFits t.format t.trace.now };
+
+    fn add_to<S: Sink>(&self, to: &mut Text<S>) -> Result<(), WriteFault> {
+        let trace = self.trace;
+        let image = self.image;
+        match self.format {
+            ConvertFormat::Yaml => YamlText { trace, image }.add_to(to),
+            ConvertFormat::TraceEvents => EventsText { trace, image }.add_to(to),
+            ConvertFormat::Basic => BasicText { trace }.add_to(to),
+        }
     }
 }

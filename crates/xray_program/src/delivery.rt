@@ -8,7 +8,7 @@ ghost use Rattle.xray_program.specs.private.Works.{AreMakings, Delivers, KeepsOt
 
 use crate::stop::Stop;
 use fault_words::Words;
-use xray_io::{Desk, Printed, Sink, WriteFault, write_output, write_text};
+use xray_io::{Desk, Printed, Sink, Text, WriteFault, write_output, write_text};
 
 /// The name of the standard output in a line on err.
 const OUT: &str = "output";
@@ -102,6 +102,28 @@ impl<'a, P: Printed, Q: Printed> Outputs<'a> for TwoOutputs<'a, '_, P, Q> {
             },
             Err(WriteFault) => Err(Stop::Unwritten(self.first.name)),
         }
+    }
+}
+
+/// Two texts, one after the other.
+#[derive(Clone, Copy)]
+pub(crate) struct Both<'t, P, Q> {
+    /// The one that is printed first.
+    pub(crate) first: &'t P,
+    /// The one that follows it.
+    pub(crate) second: &'t Q,
+}
+
+impl<P: Printed, Q: Printed> Printed for Both<'_, P, Q> {
+    ghost use Rattle.std.specs.Prelude.{◌++◌};
+
+    ghost text = { λ both. P.text both.first.now ++ Q.text both.second.now };
+
+    ghost ready = { λ both. P.ready both.first.now × Q.ready both.second.now };
+
+    fn add_to<S: Sink>(&self, to: &mut Text<S>) -> Result<(), WriteFault> {
+        self.first.add_to(to)?;
+        self.second.add_to(to)
     }
 }
 

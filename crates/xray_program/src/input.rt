@@ -4,8 +4,9 @@ ghost use Rattle.std.specs.Prelude.{◌≡◌, ◌≤◌, ℕ, List, Some, lengt
 ghost use Rattle.xray_io.specs.{Calls.{Went}, World.{desk_view}};
 ghost use Rattle.xray_program.specs.private.Takes.{IsFaultStop, IsReadStop};
 ghost use Rattle.xray_program.specs.private.Takes.{IsMaybeTaken, IsMaybeTaking, IsTaken, IsTaking};
-ghost use Rattle.xray_program.specs.Taking.{Form};
+ghost use Rattle.xray_program.specs.Taking.{Form, any_bytes};
 
+use crate::file_bytes::FileBytes;
 use crate::stop::Stop;
 use fault_words::Fault;
 use std::alloc::Global;
@@ -64,6 +65,27 @@ pub(crate) fn take<'a, K: Kind, D: Desk>(
             Ok(value) => Ok(value),
             Err(fault) => Err(fault_stop(name, kind.word(), &fault)),
         },
+        Err(error) => Err(read_stop(name, error)),
+    }
+}
+
+/// Takes an input of any bytes, which are its value: reads it and measures it.
+pub(crate) fn take_bytes<'a, D: Desk>(
+    alloc: Global,
+    desk: &mut D,
+    name: &'a str,
+    limit: u64,
+) -> Result<FileBytes, Stop<'a>>
+    ensures taken { let seen = desk_view D.held D.read_faults D.write_faults in (kind : List ℕ)
+        → IsTaken (any_bytes kind limit) name.now (seen desk.old) (seen desk.new) result }
+    ensures held { D.held desk.new ≡ D.held desk.old }
+    ensures later { D.read_faults desk.old ≤ D.read_faults desk.new }
+    ensures writes { D.write_faults desk.new ≡ D.write_faults desk.old }
+    ensures calm { OnOk result (D.read_faults desk.new ≡ D.read_faults desk.old) }
+    ensures calls { Went (D.along desk.old desk.new) (IsTaking name.now limit result) }
+{
+    match read_whole(alloc, desk, name, limit) {
+        Ok(bytes) => Ok(FileBytes { bytes }),
         Err(error) => Err(read_stop(name, error)),
     }
 }

@@ -1,9 +1,11 @@
 //! The kinds of input.
 ghost use Rattle.command_words.specs.Ranges.{IsThreadCount};
 
-use crate::image_file::ImageFile;
+use crate::file_bytes::FileBytes;
 use crate::input::Kind;
+use crate::stated_audit::StatedAudit;
 use asm_text::{AsmFault, assemble};
+use audit_check::{AuditFault, read_audit};
 use patch_script::{Script, ScriptFault, read_script};
 use std::alloc::Global;
 use step_sim::{Schedule, ScheduleFault, read_schedule};
@@ -20,6 +22,9 @@ const SCRIPT_LIMIT: u64 = 1_048_576;
 
 /// The most bytes of a schedule.
 const SCHEDULE_LIMIT: u64 = 16_777_216;
+
+/// The most bytes of an audit.
+const AUDIT_LIMIT: u64 = 67_108_864;
 
 /// The word for a script in a line on err.
 pub(crate) const SCRIPT: &str = "script";
@@ -69,7 +74,7 @@ impl Kind for TextKind {
     ghost use Rattle.std.specs.Prelude.{⊤};
     ghost use Rattle.xray_program.specs.Inputs.{text_form};
 
-    type Value = ImageFile;
+    type Value = FileBytes;
 
     type Refusal = AsmFault;
 
@@ -85,9 +90,9 @@ impl Kind for TextKind {
         TEXT_LIMIT
     }
 
-    fn judge(&self, alloc: Global, bytes: &[u8]) -> Result<ImageFile, AsmFault> {
+    fn judge(&self, alloc: Global, bytes: &[u8]) -> Result<FileBytes, AsmFault> {
         match assemble(alloc, bytes, self.threshold, self.relative) {
-            Ok(bytes) => Ok(ImageFile { bytes }),
+            Ok(bytes) => Ok(FileBytes { bytes }),
             Err(fault) => Err(fault),
         }
     }
@@ -159,5 +164,37 @@ impl Kind for ScheduleKind {
 
     fn judge(&self, alloc: Global, bytes: &[u8]) -> Result<Schedule, ScheduleFault> {
         read_schedule(alloc, bytes, self.threads)
+    }
+}
+
+/// The audit of a run.
+#[derive(Drop)]
+pub(crate) struct AuditKind;
+
+impl Kind for AuditKind {
+    ghost use Rattle.audit_check.specs.Statements.{NamesThreads};
+    ghost use Rattle.xray_program.specs.Inputs.{audit_form};
+
+    type Value = StatedAudit;
+
+    type Refusal = AuditFault;
+
+    ghost form = { λ _. audit_form };
+
+    ghost fits = { λ _. NamesThreads };
+
+    fn word(&self) -> &'static str {
+        "audit"
+    }
+
+    fn limit(&self) -> u64 {
+        AUDIT_LIMIT
+    }
+
+    fn judge(&self, alloc: Global, bytes: &[u8]) -> Result<StatedAudit, AuditFault> {
+        match read_audit(alloc, bytes) {
+            Ok(audit) => Ok(StatedAudit { audit }),
+            Err(fault) => Err(fault),
+        }
     }
 }

@@ -1,5 +1,7 @@
 //! Laws of what the program means. Each law is the contract of a function that does nothing.
-ghost use Rattle.std.specs.Prelude.{◌≡◌, ◌≢◌, ◌<◌, ◌⊎◌, ℕ, List, Option, None, Some, All, IsPermutation, map};
+ghost use Rattle.std.specs.Prelude.{◌≡◌, ◌≢◌, ◌<◌, ◌⊎◌, ◌∷◌, [], ℕ, List, Option, None, Some, All, IsPermutation, map};
+ghost use Rattle.audit_check.specs.Texts.{verdict_text};
+ghost use Rattle.audit_check.specs.declared.verdict.Verdict.TheVariants.{Yes};
 ghost use Rattle.command_words.specs.Files.{inputs_in, names_of, row_of};
 ghost use Rattle.machine_step.specs.Buffers.{spare_of};
 ghost use Rattle.machine_step.specs.declared.setup.Setup.{Setup};
@@ -8,21 +10,24 @@ ghost use Rattle.xray_image.specs.Program.{IsAccepted, Program};
 ghost use Rattle.xray_io.specs.Desk.{Entry, Holds};
 ghost use Rattle.xray_io.specs.World.{World};
 ghost use Rattle.xray_program.specs.{Accepted.{AreAccepted, CountsNoFault}, Answers.{IsAnswer}};
-ghost use Rattle.xray_program.specs.Commands.{IsDecided, Means, TellsAll, inputs_of};
-ghost use Rattle.xray_program.specs.Outcomes.{Outcome, status_of, written_by};
+ghost use Rattle.xray_program.specs.Commands.{IsDecided, IsProfile, Means, TellsAll, inputs_of};
+ghost use Rattle.xray_program.specs.Outcomes.{Done, Outcome, status_of, written_by};
 ghost use Rattle.machine_step.specs.Setups.{IsSetup};
 ghost use Rattle.xray_program.specs.Traced.{IsReported};
-ghost use Rattle.command_words.specs.Words.{Command};
+ghost use Rattle.command_words.specs.Ranges.{AreRunOptions};
+ghost use Rattle.command_words.specs.Words.{Check, Command, Run, Sim};
+ghost use Rattle.command_words.specs.declared.run_options.RunOptions.{RunOptions};
 ghost use Rattle.fdr_file.specs.declared.trace.Trace.{Trace};
 ghost use Rattle.flame_graph.specs.Laws.{LowestAddUp, NoneSticksOut};
 ghost use Rattle.stack_rebuild.specs.Stacks.{stack_of};
 
 use crate::drawn::each_input_is_read;
+use audit_check::{a_lawful_run_is_accepted, one_reading, some_reading};
 use fdr_file::a_trace_is_read;
 use flame_graph::{no_frame_sticks_out, stacks_can_be_drawn, the_lowest_frames_add_up};
 use machine_step::{one_end, some_end, some_marks_follow};
 use patch_script::each_script_lets_threads_end;
-use step_sim::{one_run, some_run};
+use step_sim::{a_replay_loses_few, marks_of_a_replay_follow, one_run, some_run};
 use trace_flush::{a_run_is_traced, a_trace_is_short};
 use traced_run::some_losses_are_of_a_queue;
 use xray_image::{one_verdict, some_verdict};
@@ -36,6 +41,8 @@ pub fn one_meaning()
     one_verdict();
     one_end();
     one_run();
+    one_reading();
+    audit_check::one_verdict();
 }
 
 /// If words mean an outcome that writes nothing, they mean nothing else, over a desk that reports
@@ -48,11 +55,14 @@ pub fn refusal_is_the_only_meaning()
     one_verdict();
     one_end();
     one_run();
+    one_reading();
+    audit_check::one_verdict();
 }
 
 /// Words mean something over a desk that reports every name, whatever bytes the names hold. For
-/// `run` this says that each script that is read has lawful runs: its awaits and holds leave a place
-/// for each load of each thread.
+/// `run` and `profile` this says that each script that is read has lawful runs: its awaits and holds
+/// leave a place for each load of each thread. For `check` it says that bytes are an audit or are
+/// refused at a line, and that there is a verdict on any audit and any trace.
 pub fn some_meaning()
     ensures { (said : Option Command) (held : List ℕ → Entry) → TellsAll held
         → ((name bytes : List ℕ) → held name ≡ Holds bytes → All (λ b. b < 256) bytes)
@@ -68,6 +78,8 @@ pub fn some_meaning()
     each_input_is_read();
     a_run_is_traced();
     a_trace_is_read();
+    some_reading();
+    audit_check::some_verdict();
 }
 
 /// The inputs of a command, whose turns come one after another, are the files that are read by its
@@ -79,20 +91,23 @@ pub fn inputs_follow_the_rows()
 
 /// If words say a command, each of its inputs is held, within its limit and accepted, nothing else is
 /// wrong with them (`AreAccepted`), and no fault is counted, then the status is 0, unless memory runs
-/// out. For `run` this is about a call that returns. `IsAnswer` is the field `complete` of the contract
-/// of a call.
+/// out, or the recorder of a `profile` stops. For `run` and `profile` this is about a call that
+/// returns. `IsAnswer` is the field `complete` of the contract of a call.
 pub fn accepted_inputs_mean_done()
     ensures { (command : Command) (before after : World) (status : ℕ)
         → AreAccepted before.desk.held command → CountsNoFault before after
-        → IsAnswer (Some command) before after status → (status ≡ 0) ⊎ (status ≡ 5) }
+        → IsAnswer (Some command) before after status
+        → (status ≡ 0) ⊎ (status ≡ 5) ⊎ ((status ≡ 7) × IsProfile command) }
 {
     one_verdict();
+    one_reading();
 }
 
-/// No words mean an outcome with status 7, whatever the desk holds.
-pub fn no_words_mean_7()
+/// Only the words of a `profile` mean an outcome with status 7, whatever the desk holds.
+pub fn only_profiles_mean_7()
     ensures { (said : Option Command) (held : List ℕ → Entry) (outcome : Outcome)
-        → Means said held outcome → status_of outcome ≢ 7 }
+        → Means said held outcome → status_of outcome ≡ 7
+        → (command : Command) × (said ≡ Some command) × IsProfile command }
 {}
 
 /// The reports take the trace of a run that its setup allows (`IsSetup`): its bytes are the trace of the
@@ -106,6 +121,24 @@ pub fn reports_take_a_run()
     a_run_is_traced();
     a_trace_is_short();
     a_trace_is_read();
+}
+
+/// What `sim` and `run` leave is accepted. If a desk holds the trace and the audit that one of them means
+/// to leave, beside the same image and the same script, then `check` of these four means `yes`.
+pub fn what_is_left_is_accepted()
+    ensures sim { (held after : List ℕ → Entry) (i s c t a : List ℕ) (options : RunOptions) (trace audit text : List ℕ)
+        → AreRunOptions options → Means (Some (Sim i s c t a options)) held (Done ((t, trace) ∷ (a, audit) ∷ []) text)
+        → after i ≡ held i → after s ≡ held s → after t ≡ Holds trace → after a ≡ Holds audit
+        → Means (Some (Check i s t a)) after (Done [] (verdict_text Yes)) }
+    ensures run { (held after : List ℕ → Entry) (i s t a : List ℕ) (options : RunOptions) (trace audit text : List ℕ)
+        → AreRunOptions options → Means (Some (Run i s t a options)) held (Done ((t, trace) ∷ (a, audit) ∷ []) text)
+        → after i ≡ held i → after s ≡ held s → after t ≡ Holds trace → after a ≡ Holds audit
+        → Means (Some (Check i s t a)) after (Done [] (verdict_text Yes)) }
+{
+    a_lawful_run_is_accepted();
+    a_trace_is_short();
+    a_replay_loses_few();
+    marks_of_a_replay_follow();
 }
 
 /// In the picture that `stack --format svg` prints of a trace, no frame sticks out of that of its

@@ -1,8 +1,8 @@
 //! The top call: all that the program does, from the words of its command line to what it writes.
 //!
 //! The words are read first, together with the wall time (`command_words`). A command is one module
-//! (`sim`, `run`, `plain`, `extract`, `asm`, `account`, `stack`, `convert`, `soak`), which implements
-//! `Work`. It takes its inputs in their order (`inputs_of`, `input`). Each is read, measured and
+//! (`sim`, `plain`, `extract`, `asm`, `account`, `stack`, `convert`, `dump`, `check`, `soak`), which implements
+//! `Work`, or starts threads (`run`, `profile`). It takes its inputs in their order (`inputs_of`, `input`). Each is read, measured and
 //! judged before the next is opened, so the first that fails decides. Then it does its work, and
 //! writes its outputs and its text (`delivery`). What is written of traced threads is in `traced`.
 //! The inputs of `soak` are `drawn`, and its text is a `summary`. Last, if something stopped the
@@ -18,23 +18,31 @@ mod account;
 mod account_options;
 mod asm;
 mod call;
+mod check;
+mod check_inputs;
 mod convert;
 mod delivery;
 mod drawn;
+mod dump;
 mod extract;
-mod image_file;
+mod file_bytes;
 mod input;
 mod inputs;
 mod laws;
+mod log;
 mod plain;
+mod profile;
+mod readable_file;
 mod report_inputs;
 mod run;
 mod run_inputs;
+mod script_inputs;
 mod setups;
 mod sim;
 mod sim_inputs;
 mod soak;
 mod stack;
+mod stated_audit;
 mod stop;
 mod stream;
 mod summary;
@@ -45,6 +53,7 @@ mod work;
 pub use call::{may_wait, out_of_memory, xray, xray_still};
 pub use drawn::soak_inputs;
 pub use laws::{
-    accepted_inputs_mean_done, inputs_follow_the_rows, no_words_mean_7, one_meaning,
+    accepted_inputs_mean_done, inputs_follow_the_rows, one_meaning, only_profiles_mean_7,
     pictures_add_up, refusal_is_the_only_meaning, reports_take_a_run, some_meaning,
+    what_is_left_is_accepted,
 };

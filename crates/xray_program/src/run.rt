@@ -1,21 +1,18 @@
 //! `run`: threads that run over an image while a script patches their sleds.
-ghost use Rattle.std.specs.Prelude.{◌≡◌, ◌≤◌, ◌∷◌, [], IfOk, OnOk, Some, map};
+ghost use Rattle.std.specs.Prelude.{◌≡◌, ◌∷◌, [], IfOk, Some, map};
 ghost use Rattle.command_words.specs.Words.{outputs_of};
 ghost use Rattle.patch_script.specs.Refusals.{commands_of};
 ghost use Rattle.machine_step.specs.Setups.{IsSetup};
 ghost use Rattle.machine_step.specs.declared.setup.Setup.{Setup};
 ghost use Rattle.sled_rule.specs.Seats.{work_view};
 ghost use Rattle.thread_run.specs.Runs.{HaveRunBeside};
-ghost use Rattle.xray_io.specs.{Calls.{Went}, World.{desk_view, sink_view}};
-ghost use Rattle.xray_program.specs.{Accepted.{AcceptsInputs}, Commands.{Comes, inputs_of}};
+ghost use Rattle.xray_io.specs.World.{desk_view, sink_view};
 ghost use Rattle.xray_program.specs.private.RunInputs.{comes_of, said_by, IsReadFor};
 ghost use Rattle.xray_program.specs.private.Stops.{answer_of, told_of};
-ghost use Rattle.xray_program.specs.private.Takes.{AreTaken, AreTakings};
 ghost use Rattle.xray_program.specs.private.Works.{Ends, Finishes, KeepsOthers};
 
-use crate::input::take;
-use crate::inputs::{ImageKind, ScriptKind};
 use crate::run_inputs::{Run, RunInputs};
+use crate::script_inputs::take_script;
 use crate::setups::setup_of;
 use crate::stop::Stop;
 use crate::traced::{RunLeft, deliver_run, room_for};
@@ -43,35 +40,9 @@ pub(crate) fn perform_run<'a, T: Threads + Wait + Sync, D: Desk, O: Sink, G: Gat
         Ends (Some (said_by command.now)) (seen desk.old) (seen desk.new) (got out.old) (got out.new)
         (D.along desk.old desk.new) (answer_of result) (told_of result) }
 {
-    let inputs = take_inputs(alloc, command, desk)?;
-    finish(rt, alloc, command, inputs, desk, out, gate)
-}
-
-/// Takes the image and then the script. The first that fails decides.
-fn take_inputs<'a, D: Desk>(
-    alloc: Global,
-    command: &Run<'a>,
-    desk: &mut D,
-) -> Result<RunInputs, Stop<'a>>
-    ensures taken { let seen = desk_view D.held D.read_faults D.write_faults in
-        AreTaken (λ reads. Comes reads (D.held desk.old) (said_by command.now)) (comes_of command.now)
-        (seen desk.old) (seen desk.new) result }
-    ensures fits { IfOk result (IsReadFor command.now.options.bounds.threads) }
-    ensures held { D.held desk.new ≡ D.held desk.old }
-    ensures later { D.read_faults desk.old ≤ D.read_faults desk.new }
-    ensures writes { D.write_faults desk.new ≡ D.write_faults desk.old }
-    ensures calm { OnOk result (D.read_faults desk.new ≡ D.read_faults desk.old) }
-    ensures calls { Went (D.along desk.old desk.new)
-        (AreTakings (AcceptsInputs (D.held desk.old) (said_by command.now)) (inputs_of (said_by command.now)) result) }
-{
     let threads = command.options.bounds.threads;
-    let image = take(alloc, desk, command.image, &ImageKind)?;
-    let kind = ScriptKind {
-        image: &image,
-        threads,
-    };
-    let script = take(alloc, desk, command.script, &kind)?;
-    Ok(RunInputs { image, script })
+    let inputs = take_script(alloc, desk, command.image, command.script, threads)?;
+    finish(rt, alloc, command, inputs, desk, out, gate)
 }
 
 /// Runs the threads beside the script, and writes what comes of it. All memory is asked for before

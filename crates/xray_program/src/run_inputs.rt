@@ -1,8 +1,9 @@
-//! The words of `run`, and its inputs, once both of them were judged.
-ghost use Rattle.command_words.specs.Ranges.{AreRunOptions};
+//! The words of commands that run threads beside a script, and their inputs, once both of them were
+//! judged.
+ghost use Rattle.command_words.specs.Ranges.{AreProfileOptions, AreRunOptions};
 
 use crate::traced::TraceFiles;
-use command_words::RunOptions;
+use command_words::{ProfileOptions, RunOptions};
 use patch_script::Script;
 use xray_image::Image;
 
@@ -20,7 +21,19 @@ pub(crate) struct Run<'a> {
     ghost ranges: { AreRunOptions options },
 }
 
-/// The inputs of `run`.
+/// `profile IMAGE SCRIPT`.
+#[derive(Drop)]
+pub(crate) struct Profile<'a> {
+    /// The image file's name.
+    pub(crate) image: &'a str,
+    /// The name of the patcher's script.
+    pub(crate) script: &'a str,
+    /// What the threads are run with, and how their stacks are printed.
+    pub(crate) options: ProfileOptions,
+    ghost ranges: { AreProfileOptions options },
+}
+
+/// An image, and a script for it.
 #[derive(Drop)]
 pub(crate) struct RunInputs {
     /// The image.

@@ -1,17 +1,16 @@
 //! What threads are run with, by the options of the words.
 ghost use Rattle.std.specs.Prelude.{◌≡◌};
-ghost use Rattle.command_words.specs.Ranges.{AreRunOptions};
-ghost use Rattle.machine_step.specs.Setups.{IsSetup};
+ghost use Rattle.command_words.specs.Ranges.{AreProfileOptions, AreRunOptions};
+ghost use Rattle.machine_step.specs.Setups.{AreLimits, IsSetup};
 ghost use Rattle.xray_program.specs.Setups.{limits_of, plain_limits, setup_of};
 
-use command_words::{Bounds, RunOptions, Stamps};
+use command_words::{Bounds, ProfileOptions, RunOptions, Stamps};
 use machine_step::{Limits, Setup};
 
 /// The stamps of a plain run. No event of it is seen, so the counter stands still, on one CPU.
 const UNSTAMPED: Stamps = Stamps {
     tick: 0,
     tsc: 0,
-    frequency: 0,
     cpus: 1,
     migrate: 1,
 };
@@ -37,6 +36,15 @@ pub(crate) fn plain_limits(bounds: Bounds) -> Limits
     limits_of(bounds, UNSTAMPED)
 }
 
+/// The limits of the threads of a profile.
+pub(crate) fn profile_limits(options: ProfileOptions) -> Limits
+    requires { AreProfileOptions options }
+    ensures options { result ≡ limits_of options.bounds options.stamps }
+    ensures are_limits { AreLimits result }
+{
+    limits_of(options.bounds, options.stamps)
+}
+
 /// What a run of traced threads is made with.
 pub(crate) fn setup_of(options: RunOptions) -> Setup
     requires { AreRunOptions options }
@@ -50,6 +58,6 @@ pub(crate) fn setup_of(options: RunOptions) -> Setup
         limits: limits_of(options.bounds, options.stamps),
         pid: options.pid,
         wall: options.wall,
-        frequency: options.stamps.frequency,
+        frequency: options.frequency,
     }
 }

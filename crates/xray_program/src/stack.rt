@@ -133,12 +133,13 @@ impl<'a> Work<'a> for Stack<'a> {
 
 /// Stacks in a format.
 #[derive(Clone, Copy)]
-struct StackReport<'a> {
-    rows: &'a [StackRow],
-    image: Option<&'a Image>,
+pub(crate) struct StackReport<'a> {
+    pub(crate) rows: &'a [StackRow],
+    /// The image that names the functions, if there is one.
+    pub(crate) image: Option<&'a Image>,
     /// How often the counter advances, in cycles a second, or 0.
-    frequency: u64,
-    format: StackFormat,
+    pub(crate) frequency: u64,
+    pub(crate) format: StackFormat,
 }
 
 impl Printed for StackReport<'_> {

@@ -1,5 +1,5 @@
 -- The rows of an audit, and how far a reader has come in them.
-use Rattle.std.specs.Prelude.{◌≡◌, ◌+◌, ℕ, List, [], ◌∷◌, ◌++◌, Result, Err, codes, decimal, All, Some, length, slice_get}
+use Rattle.std.specs.Prelude.{◌≡◌, ◌+◌, ℕ, List, [], ◌∷◌, ◌++◌, codes, decimal, All, Some, length, slice_get}
 use Rattle.std.specs.List.{flat_map}
 use Rattle.machine_step.specs.declared.setup.Setup.{Setup}
 use Rattle.machine_step.specs.Setups.{IsSetup}

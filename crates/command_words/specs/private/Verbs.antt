@@ -4,9 +4,9 @@ use Rattle.std.specs.Str.{bytes_eq}
 use Rattle.xray_io.specs.declared.wall.Wall.{Wall}
 use Rattle.command_words.specs.Lines.{Line}
 use Rattle.command_words.specs.Rows.{CommandRow}
-use Rattle.command_words.specs.Tables.{account_row, asm_row, convert_row, extract_row, plain_row, run_row, sim_row}
-use Rattle.command_words.specs.Tables.{soak_row, stack_row}
-use Rattle.command_words.specs.Words.{Command, account_in, asm_in, convert_in, extract_in, plain_in, run_in, sim_in, soak_in, stack_in}
+use Rattle.command_words.specs.Tables.{account_row, asm_row, check_row, convert_row, dump_row, extract_row, plain_row, run_row, sim_row}
+use Rattle.command_words.specs.Tables.{profile_row, soak_row, stack_row}
+use Rattle.command_words.specs.Words.{Command, account_in, asm_in, check_in, convert_in, dump_in, extract_in, plain_in, profile_in, run_in, sim_in, soak_in, stack_in}
 use Rattle.command_words.specs.declared.words.Report.{Report}
 use Rattle.command_words.specs.declared.words.Report.TheVariants as reports
 use Rattle.command_words.specs.declared.words.Verb.{Verb}
@@ -23,6 +23,9 @@ verb_of word =
     else if bytes_eq word account_row.word then Some (verbs.Report reports.Account)
     else if bytes_eq word stack_row.word then Some (verbs.Report reports.Stack)
     else if bytes_eq word convert_row.word then Some (verbs.Report reports.Convert)
+    else if bytes_eq word dump_row.word then Some verbs.Dump
+    else if bytes_eq word check_row.word then Some verbs.Check
+    else if bytes_eq word profile_row.word then Some verbs.Profile
     else if bytes_eq word soak_row.word then Some verbs.Soak
     else None
 
@@ -36,6 +39,9 @@ row_by verbs.Asm = asm_row
 row_by (verbs.Report reports.Account) = account_row
 row_by (verbs.Report reports.Stack) = stack_row
 row_by (verbs.Report reports.Convert) = convert_row
+row_by verbs.Dump = dump_row
+row_by verbs.Check = check_row
+row_by verbs.Profile = profile_row
 row_by verbs.Soak = soak_row
 
 -- the report that a line asks for
@@ -52,4 +58,7 @@ command_by verbs.Sim wall = sim_in wall
 command_by verbs.Run wall = run_in wall
 command_by verbs.Asm wall = asm_in
 command_by (verbs.Report report) wall = report_said report
+command_by verbs.Dump wall = dump_in
+command_by verbs.Check wall = check_in
+command_by verbs.Profile wall = profile_in
 command_by verbs.Soak wall = soak_in

@@ -3,11 +3,10 @@ use Rattle.std.specs.Prelude.{◌≡◌, ◌+◌, ◌-◌, ◌==◌, ℕ, List, 
 use Rattle.patch_script.specs.Plans.{Plan}
 use Rattle.buffer_queue.specs.Passes.{PoolIs, IsOf}
 use Rattle.fdr_buffer.specs.Filled.{Filled}
-use Rattle.sled_rule.specs.declared.table.CodeTable.{CodeTable}
 use Rattle.sled_rule.specs.Seats.{script_of}
 use Rattle.thread_run.specs.declared.worker.Worker.{Worker}
 use Rattle.thread_run.specs.Recordings.{Recording, StandsFor}
-use Rattle.thread_run.specs.Workers.{IsGoing, cpu_of, recorder_of, table_of}
+use Rattle.thread_run.specs.Workers.{cpu_of, recorder_of, table_of}
 
 -- the worker of a number, of a run with this pool
 pub record IsWorkerOfRun (plan : Plan) (pool : PoolIs) (number : ℕ) (worker : Worker Recording) : Type 0 where
@@ -22,9 +21,16 @@ abbrev pub AreWorkersOfRun : Plan → PoolIs → (Worker Recording → Type 0) �
 AreWorkersOfRun plan pool Is workers =
     (i : ℕ) (worker : Worker Recording) → slice_get workers i ≡ Some worker → IsWorkerOfRun plan pool (i + 1) worker × Is worker
 
--- a worker of a table that hasn't ended
-abbrev pub IsGoingAt : CodeTable → Worker Recording → Type 0
-IsGoingAt table worker = IsGoing StandsFor worker × (table_of worker ≡ table)
+-- the recorder of a thread of a pool, before its first event
+pub record IsNewRecorder (pool : PoolIs) (number : ℕ) (recorder : Recording) : Type 0 where
+  pub pass : IsOf pool recorder.pass
+  pub owner : recorder.pass.thread ≡ number
+  pub no_events : StandsFor recorder []
+
+-- the recorders of threads of all numbers from 1 on
+abbrev pub AreNewRecorders : PoolIs → List Recording → Type 0
+AreNewRecorders pool recorders =
+    (i : ℕ) (recorder : Recording) → slice_get recorders i ≡ Some recorder → IsNewRecorder pool (i + 1) recorder
 
 -- for each thread, from this one on, how many of its segments are in none of these buffers
 abbrev pub lost_beside : List Filled → ℕ → List ℕ → List ℕ

@@ -1,12 +1,11 @@
 -- What the reports know of a trace at its end.
-use Rattle.std.specs.Prelude.{◌≡◌, ℕ, None, map, Result, Ok, Err, Vec}
+use Rattle.std.specs.Prelude.{◌≡◌, None, map, Result, Ok, Err, Vec}
 use Rattle.std.specs.declared.alloc.Global.{Global}
 use Rattle.account_report.specs.Account.{account_of}
 use Rattle.account_report.specs.AccountText.{latencies_of}
 use Rattle.account_report.specs.Ordered.{arranged}
 use Rattle.command_words.specs.declared.report_options.AccountOptions.{AccountOptions}
 use Rattle.fdr_file.specs.declared.trace.Trace.{Trace}
-use Rattle.fdr_file.specs.Traces.{trace_of}
 use Rattle.stack_rebuild.specs.Stacks.{IsDeepFault, deep_in, most_open, stack_of, told}
 use Rattle.stack_rebuild.specs.declared.stack_row.StackFault.{StackFault}
 use Rattle.stack_rebuild.specs.declared.stack_row.StackRow.{StackRow}
@@ -28,7 +27,3 @@ RowsMean (Err fault) trace = IsDeepFault fault (deep_in most_open trace.blocks)
 pub record StacksMean (stacks : TraceStacks) (trace : Trace) : Type 0 where
   pub frequency : stacks.frequency ≡ trace.header.frequency
   pub rows : RowsMean stacks.rows trace
-
--- the bytes of a trace
-abbrev pub BytesMean : Vec ℕ Global → Trace → Type 0
-BytesMean bytes trace = trace_of bytes.items ≡ Ok trace

@@ -1,4 +1,4 @@
--- What the words of `run` say, and its inputs, once all of them were judged.
+-- What the words of `run` say, and the inputs of a command that runs threads beside a script, once they were judged.
 use Rattle.std.specs.Prelude.{◌≡◌, ℕ}
 use Rattle.command_words.specs.Words.{Command}
 use Rattle.command_words.specs.Words as words

@@ -3,7 +3,7 @@ use Rattle.fdr_file.specs.ThreadEvents.{ThreadEvent}
 use Rattle.std.proofs.lemmas.Bool.{cases_lt, false≢true}
 use Rattle.trace_forms.specs.Sources.{cursor_left}
 use Rattle.std.proofs.Common.{inl, inr}
-use Rattle.trace_forms.proofs.tests.wide_of.Goals as goal
+use Rattle.layer_tests.proofs.forms.wide_of.Goals as goal
 
 pub wide_cpu-requires : goal.wide_cpu-requires
 wide_cpu-requires c =

@@ -1,48 +1,35 @@
-use Rattle.std.proofs.Common.{◌≡◌, List, ap, arith, length, subst, sym, ◌∙◌}
-use Rattle.std.specs.Prelude.{All}
+use Rattle.std.proofs.Common.{◌≡◌, ap, subst, sym, ◌∙◌}
+use Rattle.std.specs.Prelude.{[]}
+use Rattle.machine_step.specs.declared.limits.Limits.{Limits}
 use Rattle.machine_step.specs.declared.setup.Setup.{Setup}
-use Rattle.sled_rule.specs.Seats.{IsWorkerOf, script_of}
-use Rattle.thread_run.specs.declared.worker.Worker.{Worker}
-use Rattle.thread_run.specs.Recordings.{Recording, StandsFor}
-use Rattle.thread_run.specs.private.Rooms.{IsGathered}
-use Rattle.thread_run.specs.private.Pooled.{AreWorkersOfRun, IsGoingAt}
-use Rattle.thread_run.specs.Workers.{IsGoing}
-use Rattle.thread_run.proofs.RunLemmas.{all_are, all_run_out, own_seats, written_back}
+use Rattle.sled_rule.specs.Seats.{script_of}
+use Rattle.thread_run.specs.Each.{HaveChanged}
+use Rattle.thread_run.specs.Recordings.{HasSameOwner, StandsFor}
+use Rattle.thread_run.specs.private.Starting.{AreWorkersAt}
+use Rattle.thread_run.specs.Workers.{HasEnded}
+use Rattle.thread_run.specs.private.Rooms.{AreParts}
+use Rattle.thread_run.proofs.Each.{all_of}
+use Rattle.thread_run.proofs.Gathered.{run_with_pool}
 use Rattle.thread_run.proofs.whole.run_pooled.Goals as goal
 
-pub run_threads-requires-clause-going : goal.run_threads-requires-clause-going
-run_threads-requires-clause-going g c κs within =
-    subst (All (IsGoing {R = Recording} StandsFor)) (sym c.deref_mut.ensures.value)
-    (λ k d inside. (all_are (script_of c.args.table.now) c.args.pool.now (IsGoingAt c.args.table.now) c.in_ok-workers.workers.items
-    c.in_ok-workers.ensures.workers k d inside).0)
-
-pub returns-clause-seats : goal.returns-clause-seats
-returns-clause-seats g c =
-    let plan = script_of c.args.table.now in
-    let table = c.args.table.now in
-    let items = c.in_ok-workers.workers.items in
-    let new = c.run_threads.new.workers in
-    let has = c.run_threads.ensures.workers in
-    let going = subst (AreWorkersOfRun plan c.args.pool.now (IsGoingAt table)) (sym c.deref_mut.ensures.value) c.in_ok-workers.ensures.workers in
-    let count : length new ≡ length items = has.count ∙ ap length c.deref_mut.ensures.value in
-    let same = written_back c.in_ok-workers.workers.len items new (omega (arith, c.in_ok-workers.workers.ok.0, count)) in
-    let gathered = subst (λ (ws : List (Worker Recording)). IsGathered ws c.gather.result) same c.gather.ensures in
-    subst (All (IsWorkerOf table)) (sym gathered.seats) (own_seats plan c.args.pool.now table c.deref_mut.result.now new going has)
+pub run_workers-requires-clause-no_events : goal.run_workers-requires-clause-no_events
+run_workers-requires-clause-no_events g c κs within =
+    all_of (λ r. StandsFor r []) c.in_ok-recorders.recorders.items (λ i r found. (c.in_ok-recorders.ensures.recorders i r found).no_events)
 
 pub returns-clause-run : goal.returns-clause-run
 returns-clause-run g c =
     let plan = script_of c.args.table.now in
     let pool = c.args.pool.now in
-    let items = c.in_ok-workers.workers.items in
-    let new = c.run_threads.new.workers in
-    let has = c.run_threads.ensures.workers in
-    let going = subst (AreWorkersOfRun plan pool (IsGoingAt c.args.table.now)) (sym c.deref_mut.ensures.value) c.in_ok-workers.ensures.workers in
-    let ended = all_run_out plan pool c.deref_mut.result.now new (λ i worker found. ((going i worker found).0, (going i worker found).1.0)) has in
-    let count : length new ≡ length items = has.count ∙ ap length c.deref_mut.ensures.value in
-    let same = written_back c.in_ok-workers.workers.len items new (omega (arith, c.in_ok-workers.workers.ok.0, count)) in
+    let recorders = c.in_ok-recorders.recorders.items in
+    let has = c.in_ok-end.ensures.worked in
+    let limits : c.args.setup.now.limits ≡ pool.setup.limits = ap (λ (s : Setup). s.limits) (sym c.requires.pool) in
     record {
-      workers = new;
-      count = count ∙ c.in_ok-workers.ensures.count ∙ ap (λ (s : Setup). s.threads) (sym c.requires.pool);
-      ended = ended;
-      have = subst (λ (ws : List (Worker Recording)). IsGathered ws c.gather.result) same c.gather.ensures;
+      workers = has.workers;
+      count = has.count ∙ c.in_ok-recorders.ensures.count ∙ ap (λ (s : Setup). s.threads) (sym c.requires.pool);
+      ended = run_with_pool plan pool recorders has.workers c.in_ok-recorders.ensures.recorders has.count
+          (subst (λ (l : Limits). AreWorkersAt plan l (HasEnded StandsFor) has.workers) limits has.ended)
+          (subst (HaveChanged HasSameOwner recorders) has.recorders_are has.followed);
+      cpus = has.cpus_are;
+      seats = has.seats_are;
+      parts = subst (λ rs. AreParts rs c.take_apart-parts.result) has.recorders_are c.take_apart-parts.ensures;
     }

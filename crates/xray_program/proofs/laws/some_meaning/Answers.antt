@@ -17,5 +17,7 @@ returns c said held told holds =
         traced = c.a_run_is_traced.ensures;
         reads = c.a_trace_is_read.ensures.read;
       };
+      audit = c.some_reading.ensures;
+      judged = c.some_verdict-2.ensures;
     })
     said held told holds

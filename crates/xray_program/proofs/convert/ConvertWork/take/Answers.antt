@@ -1,18 +1,27 @@
-use Rattle.std.proofs.Common.{◌≡◌, [], option_map}
+use Rattle.std.proofs.Common.{ℕ, option_map, subst}
+use Rattle.xray_io.specs.Calls.{Went}
 use Rattle.xray_io.specs.World.{desk_view}
-use Rattle.xray_program.specs.Outcomes.{Done}
-use Rattle.xray_program.specs.Inputs.{trace_form}
-use Rattle.xray_program.specs.private.Meant.{BytesMean}
+use Rattle.xray_program.specs.Accepted.{AcceptsReport}
+use Rattle.xray_program.specs.Convert.{ConvertsTo, log_form}
+use Rattle.xray_program.specs.Reports.{report_inputs}
+use Rattle.xray_program.specs.private.Logs.{LogMeans}
+use Rattle.xray_program.specs.private.Takes.{AreTakings}
+use Rattle.xray_program.proofs.LogForms.{log_limit}
 use Rattle.xray_program.proofs.Reports.{report_taken}
 use Rattle.xray_program.proofs.convert.ConvertWork.take.Goals as goal
-use Rattle.yaml_convert.specs.Yaml.{yaml_text}
 
 pub returns-clause-taken : goal.returns-clause-taken
 returns-clause-taken g c =
     let seen = desk_view g.D.Desk.held g.D.Desk.read_faults g.D.Desk.write_faults in
     let s = c.args.self.now in
-    report_taken trace_form BytesMean s.trace.now (option_map (λ n. n.now) s.image) (λ t program outcome. outcome ≡ Done [] (yaml_text program t))
+    report_taken (log_form s.options.input) LogMeans s.trace.now (option_map (λ n. n.now) s.image) (ConvertsTo s.trace.now s.options.format)
     (seen c.args.desk.now) (seen c.take_report.new.desk) c.take_report.result c.take_report.ensures.taken
 
 pub returns-clause-calls : goal.returns-clause-calls
-returns-clause-calls g c = c.take_report.ensures.calls
+returns-clause-calls g c =
+    let s = c.args.self.now in
+    let form = log_form s.options.input in
+    let image = option_map (λ n. n.now) s.image in
+    subst (λ (limit : ℕ). Went (g.D.Desk.along c.args.desk.now c.take_report.new.desk)
+    (AreTakings (AcceptsReport form (g.D.Desk.held c.args.desk.now) s.trace.now image) (report_inputs s.trace.now limit image) c.take_report.result))
+    (log_limit s.options.input) c.take_report.ensures.calls

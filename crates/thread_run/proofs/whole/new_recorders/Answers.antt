@@ -1,0 +1,39 @@
+use Rattle.std.proofs.Common.{◌≡◌, ◌+◌, arith, ap, ◌∙◌, length, length-append, ◌∷◌, []}
+use Rattle.fdr_buffer.specs.Filled.{Filled}
+use Rattle.buffer_queue.specs.Passes.{PassIs, new_hand, new_pass}
+use Rattle.thread_run.specs.private.Pooled.{IsNewRecorder}
+use Rattle.thread_run.proofs.Each.{one_more, one_taken}
+use Rattle.thread_run.proofs.Gathered.{new_at}
+use Rattle.thread_run.proofs.whole.new_recorders.Goals as goal
+
+pub new-requires-clause-hand : goal.new-requires-clause-hand
+new-requires-clause-hand g c =
+    let kept = c.loop-pass.invariant in let yielded = c.loop-pass.yielded in let rest = c.next.new.self.rest.items in
+    let one : PassIs × Filled = (c.in-Some.pass, c.in-Some.hand) in
+    let order = one_taken yielded rest one _ c.args.hands.items c.in-Some.ensures.steps.0 kept.order in
+    new_at c.args.pool.now c.args.setup.now.threads c.loop-pass.number c.args.hands.items yielded rest one c.requires.hands order kept.number
+
+pub loop-pass-preserved : goal.loop-pass-preserved
+loop-pass-preserved g c =
+    let kept = c.loop-pass.invariant in let yielded = c.loop-pass.yielded in let rest = c.next.new.self.rest.items in
+    let one : PassIs × Filled = (c.in-Some.pass, c.in-Some.hand) in
+    let order = one_taken yielded rest one _ c.args.hands.items c.in-Some.ensures.steps.0 kept.order in
+    let begins : one ≡ new_hand c.args.pool.now (c.loop-pass.number + 1) =
+    new_at c.args.pool.now c.args.setup.now.threads c.loop-pass.number c.args.hands.items yielded rest one c.requires.hands order kept.number in
+    let old = c.loop-pass.recorders.items in
+    let recorder = c.new.result in
+    let more = c.in_ok-push.ensures.items in
+    let pass : recorder.pass ≡ new_pass c.args.pool.now (c.loop-pass.number + 1) =
+    c.new.ensures.pass ∙ ap (λ (h : PassIs × Filled). h.0) begins in
+    record {
+      order = order;
+      number = omega (arith, kept.number, length-append yielded (one ∷ []));
+      count = omega (arith, ap length more, length-append old (recorder ∷ []), kept.count);
+      recorders = one_more (λ i r. IsNewRecorder c.args.pool.now (i + 1) r) old c.push.new.self.items recorder c.loop-pass.number kept.count kept.recorders
+          (record {
+            pass = record { same_pool = ap (λ (p : PassIs). p.pool) pass; same_setup = ap (λ (p : PassIs). p.setup) pass };
+            owner = ap (λ (p : PassIs). p.thread) pass;
+            no_events = c.new.ensures.no_events;
+          })
+          more;
+    }

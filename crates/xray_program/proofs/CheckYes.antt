@@ -1,0 +1,187 @@
+-- What `sim` and `run` leave is accepted by `check`.
+use Rattle.std.proofs.Common.{◌≡◌, ◌≤◌, ◌∙◌, ℕ, List, [], ◌∷◌, length, Option, Some, None, Ok, option_map, inl, inr, refl, sym, ap, subst, arith, codes}
+use Rattle.audit_check.specs.declared.verdict.Verdict.TheVariants.{Yes}
+use Rattle.audit_check.specs.Statements.{MayState, Statement, run_statement, text_of}
+use Rattle.audit_check.specs.Texts.{verdict_text}
+use Rattle.audit_check.specs.Verdicts.{IsJudged}
+use Rattle.command_words.specs.Limits.{trace_limit}
+use Rattle.machine_step.specs.Buffers.{spare_of}
+use Rattle.machine_step.specs.declared.setup.Setup.{Setup}
+use Rattle.machine_step.specs.Setups.{IsSetup}
+use Rattle.patch_script.specs.declared.command.Command.{Command}
+use Rattle.patch_script.specs.Plans.{Plan, plan_of, waiting_line}
+use Rattle.patch_script.specs.Refusals.{Lines, commands_of}
+use Rattle.step_sim.specs.declared.turns.Turns.{Turns}
+use Rattle.step_sim.specs.FaultWords.{waits_words}
+use Rattle.step_sim.specs.Replayed.{IsReplayOf}
+use Rattle.step_sim.specs.Schedules.{schedule_of}
+use Rattle.trace_flush.specs.Flush.{trace_bytes}
+use Rattle.trace_flush.specs.Lines.{audit_of_run}
+use Rattle.traced_run.specs.Following.{AllMarksFollow}
+use Rattle.traced_run.specs.Losses.{AreLost}
+use Rattle.traced_run.specs.Runs.{IsRun, ThreadRun}
+use Rattle.xray_image.specs.Program.{IsAccepted, Program}
+use Rattle.xray_io.specs.Desk.{Entry, Holds}
+use Rattle.xray_program.specs.Check.{CheckComes, Judges}
+use Rattle.xray_program.specs.Inputs.{audit_form, audit_limit, image_form, schedule_form, script_form, unread_trace_form}
+use Rattle.xray_program.specs.Outcomes.{Outcome, Done, Refused, TooLong, Unread}
+use Rattle.xray_program.specs.Run.{FollowsPlan, RunComes, RunsBeside}
+use Rattle.xray_program.specs.Sim.{Replayed, Replays, SimComes}
+use Rattle.xray_program.specs.Taking.{Form, IsAcceptedAs, Leaves, MayHold, RefuseIf, Sound, Take}
+use Rattle.xray_program.specs.Traced.{Traces, written_of}
+use Rattle.xray_program.proofs.AuditLengths.{statement_short}
+use Rattle.xray_program.proofs.CheckLaws.{AfterAudit, AfterImage, AfterScript}
+
+-- what the crates below say
+pub record YesLaws : Type 0 where
+  pub short : (bytes : List ℕ) (program : Program) (setup : Setup) (runs : List ThreadRun) → IsAccepted bytes program → IsSetup setup
+      → IsRun program setup runs → AreLost setup.size (spare_of setup) runs → length (trace_bytes setup runs) ≤ trace_limit
+  pub read : (program : Program) (script : List Command) (setup : Setup) (runs : List ThreadRun) → IsSetup setup → IsRun program setup runs
+      → AllMarksFollow program setup.threads script runs → AreLost setup.size (spare_of setup) runs
+      → MayState (run_statement setup runs) × (audit_of_run setup runs ≡ text_of (run_statement setup runs))
+  pub yes : (program : Program) (script : List Command) (setup : Setup) (runs : List ThreadRun) → IsRun program setup runs
+      → AllMarksFollow program setup.threads script runs → AreLost setup.size (spare_of setup) runs
+      → IsJudged program script (run_statement setup runs) (trace_bytes setup runs) Yes
+
+pub record ReplayLaws : Type 0 where
+  pub follow : (program : Program) (lines : Lines) (text : List ℕ) (schedule : List Turns) (setup : Setup) (runs : List ThreadRun)
+      → schedule_of setup.threads text ≡ Ok schedule → waiting_line lines ≡ None → IsReplayOf program (commands_of lines) schedule setup runs
+      → AllMarksFollow program setup.threads (commands_of lines) runs
+  pub few : (program : Program) (script : List Command) (text : List ℕ) (schedule : List Turns) (setup : Setup) (runs : List ThreadRun)
+      → schedule_of setup.threads text ≡ Ok schedule → IsReplayOf program script schedule setup runs → AreLost setup.size (spare_of setup) runs
+
+-- ---- what was taken, if all is done
+
+-- an input that led to outputs and a text was accepted
+pub taken : {X : Type 0} (form : Form X) (held : List ℕ → Entry) (name : List ℕ) (next : X → Outcome → Type 0) (outputs : List (List ℕ × List ℕ))
+    (text : List ℕ) → Take form Sound held name next (Done outputs text)
+    → (value : X) × IsAcceptedAs form (held name) value × next value (Done outputs text)
+taken form held name next outputs text (inl (gone, is)) = absurd (never is)
+  where
+    never : Done outputs text ≡ Unread name → ⊥
+    never e = cc
+taken form held name next outputs text (inr (bytes, may, inl (long, is))) = absurd (never is)
+  where
+    never : Done outputs text ≡ TooLong name → ⊥
+    never e = cc
+taken form held name next outputs text (inr (bytes, may, inr (within, inl (refusal, refused, is)))) = absurd (never is)
+  where
+    never : Done outputs text ≡ Refused name form.kind refusal → ⊥
+    never e = cc
+taken form held name next outputs text (inr (bytes, may, inr (within, inr (value, reads, comes)))) =
+    (value, record { bytes = bytes; held = may; within = within; reads = reads }, comes)
+
+-- so it was not refused after all inputs
+unrefused : (line : Option ℕ) (name kind : List ℕ) (next : Outcome → Type 0) (outputs : List (List ℕ × List ℕ)) (text : List ℕ)
+    → RefuseIf (option_map waits_words line) name kind next (Done outputs text) → (line ≡ None) × next (Done outputs text)
+unrefused None name kind next outputs text comes = (refl, comes)
+unrefused (Some line) name kind next outputs text is = absurd (never is)
+  where
+    never : Done outputs text ≡ Refused name kind (waits_words line) → ⊥
+    never e = cc
+
+-- ---- what is taken again
+
+again : {X : Type 0} (form : Form X) (held : List ℕ → Entry) (name : List ℕ) (next : X → Outcome → Type 0) (value : X) (outcome : Outcome)
+    → IsAcceptedAs form (held name) value → next value outcome → Take form Sound held name next outcome
+again form held name next value outcome given comes = inr (given.bytes, given.held, inr (given.within, inr (value, given.reads, comes)))
+
+-- bytes that a name holds
+holding : {X : Type 0} (form : Form X) (entry : Entry) (bytes : List ℕ) (value : X) → entry ≡ Holds bytes → length bytes ≤ form.limit → form.Reads bytes value
+    → IsAcceptedAs form entry value
+holding form entry bytes value held within reads = record {
+  bytes = bytes;
+  held = subst (λ (e : Entry). MayHold e bytes) (sym held) refl;
+  within = within;
+  reads = reads;
+}
+
+-- the outputs are what they are called
+outputs_same : (t a x y p q : List ℕ) → ◌≡◌ {A = List (List ℕ × List ℕ)} ((t, x) ∷ (a, y) ∷ []) ((t, p) ∷ (a, q) ∷ []) → (x ≡ p) × (y ≡ q)
+outputs_same t a x y p q e =
+    let one : ◌≡◌ {A = List ℕ × List ℕ} (t, x) (t, p) = cc in
+    let two : ◌≡◌ {A = List ℕ × List ℕ} (a, y) (a, q) = cc in
+    (ap (λ (o : List ℕ × List ℕ). o.1) one, ap (λ (o : List ℕ × List ℕ). o.1) two)
+
+-- ---- lawful runs
+
+module _ (laws : YesLaws) (held : List ℕ → Entry) (i s t a : List ℕ) (setup : Setup) (is_setup : IsSetup setup) where
+  -- the desk holds what the runs were made from, and what they left
+  pub judged_yes : (program : Program) (plan : Plan) (runs : List ThreadRun) → IsAcceptedAs image_form (held i) program
+      → IsAcceptedAs (script_form program setup.threads) (held s) plan → IsRun program setup runs
+      → AllMarksFollow program setup.threads (commands_of plan.lines) runs → AreLost setup.size (spare_of setup) runs
+      → held t ≡ Holds (trace_bytes setup runs) → held a ≡ Holds (audit_of_run setup runs)
+      → CheckComes Sound held i s t a (Done [] (verdict_text Yes))
+  judged_yes program plan runs image script run follow lost trace audit =
+      let read = laws.read program (commands_of plan.lines) setup runs is_setup run follow lost in
+      let few : length (audit_of_run setup runs) ≤ audit_limit =
+      subst (λ (b : List ℕ). length b ≤ audit_limit) (sym read.1) (statement_short (run_statement setup runs) read.0) in
+      let judges : Judges program plan (run_statement setup runs) (trace_bytes setup runs) (Done [] (verdict_text Yes)) =
+      record { verdict = Yes; judged = laws.yes program (commands_of plan.lines) setup runs run follow lost; outcome_is = refl } in
+      let yes : Outcome = Done [] (verdict_text Yes) in
+      let statement : Statement = run_statement setup runs in
+      again image_form held i (AfterImage held s t a) program yes image
+      (again audit_form held a (AfterAudit held s t program) statement yes (holding audit_form (held a) (audit_of_run setup runs) statement audit few read)
+      (again (script_form program setup.threads) held s (AfterScript held t program statement) plan yes script
+      (again unread_trace_form held t (λ bytes. Judges program plan statement bytes) (trace_bytes setup runs) yes
+      (holding unread_trace_form (held t) (trace_bytes setup runs) (trace_bytes setup runs) trace
+      (laws.short image.bytes program setup runs image.reads is_setup run lost) refl) judges)))
+
+-- ---- of a command
+
+module _ (laws : YesLaws) (held after : List ℕ → Entry) (i s t a : List ℕ) (setup : Setup) (is_setup : IsSetup setup) (trace audit text : List ℕ)
+    (image_held : after i ≡ held i) (script_held : after s ≡ held s) (trace_held : after t ≡ Holds trace) (audit_held : after a ≡ Holds audit) where
+  abbrev left : List (List ℕ × List ℕ)
+  left = (t, trace) ∷ (a, audit) ∷ []
+
+  pub yes_of_runs : (program : Program) (plan : Plan) (runs : List ThreadRun) → IsAcceptedAs image_form (held i) program
+      → IsAcceptedAs (script_form program setup.threads) (held s) plan → IsRun program setup runs
+      → AllMarksFollow program setup.threads (commands_of plan.lines) runs → AreLost setup.size (spare_of setup) runs
+      → left ≡ written_of t a setup runs → CheckComes Sound after i s t a (Done [] (verdict_text Yes))
+  yes_of_runs program plan runs image script run follow lost is =
+      let same = outputs_same t a trace audit (trace_bytes setup runs) (audit_of_run setup runs) is in
+      judged_yes laws after i s t a setup is_setup program plan runs (subst (λ (e : Entry). IsAcceptedAs image_form e program) (sym image_held) image)
+      (subst (λ (e : Entry). IsAcceptedAs (script_form program setup.threads) e plan) (sym script_held) script) run follow lost
+      (trace_held ∙ ap Holds same.0) (audit_held ∙ ap Holds same.1)
+
+  pub yes_of_run : RunComes Sound held i s t a setup (Done left text) → CheckComes Sound after i s t a (Done [] (verdict_text Yes))
+  yes_of_run comes =
+      let one = taken image_form held i
+      (λ program. Take (script_form program setup.threads) Sound held s (λ plan. RunsBeside t a setup program plan)) left text comes in
+      let program : Program = one.0 in
+      let image = one.1 in
+      let two = taken (script_form program setup.threads) held s (λ plan. RunsBeside t a setup program plan) left text one.2 in
+      let plan : Plan = two.0 in
+      let script = two.1 in
+      let traces : Traces (FollowsPlan setup program plan) program setup t a two.2.0 two.2.1 = two.2.2 in
+      yes_of_runs program plan traces.runs image script traces.run traces.lawful.follow traces.lawful.losses
+      (same_outputs left two.2.0 text two.2.1 two.2.3 ∙ traces.outputs_are)
+    where
+      same_outputs : (x y : List (List ℕ × List ℕ)) (u v : List ℕ) → Done x u ≡ Done y v → x ≡ y
+      same_outputs x y u v e = cc
+
+  pub yes_of_sim : ReplayLaws → (c : List ℕ) → SimComes Sound held i s c t a setup (Done left text) → CheckComes Sound after i s t a (Done [] (verdict_text Yes))
+  yes_of_sim replays c comes =
+      let one = taken image_form held i
+      (λ program. Take (script_form program setup.threads) Sound held s
+      (λ plan. Take (schedule_form setup.threads) Sound held c (λ turns. Replays s t a setup program plan turns))) left text comes in
+      let program : Program = one.0 in
+      let image = one.1 in
+      let two = taken (script_form program setup.threads) held s
+      (λ plan. Take (schedule_form setup.threads) Sound held c (λ turns. Replays s t a setup program plan turns)) left text one.2 in
+      let plan : Plan = two.0 in
+      let script = two.1 in
+      let three = taken (schedule_form setup.threads) held c (λ turns. Replays s t a setup program plan turns) left text two.2 in
+      let turns : List Turns = three.0 in
+      let schedule = three.1 in
+      let four = unrefused (waiting_line plan.lines) s (codes "script") (Leaves (Traces (Replayed program plan turns setup) program setup t a)) left text
+      three.2 in
+      let still = four.0 in
+      let traces : Traces (Replayed program plan turns setup) program setup t a four.1.0 four.1.1 = four.1.2 in
+      yes_of_runs program plan traces.runs image script traces.run
+      (replays.follow program plan.lines schedule.bytes turns setup traces.runs schedule.reads still traces.lawful)
+      (replays.few program (commands_of plan.lines) schedule.bytes turns setup traces.runs schedule.reads traces.lawful)
+      (same_outputs left four.1.0 text four.1.1 four.1.3 ∙ traces.outputs_are)
+    where
+      same_outputs : (x y : List (List ℕ × List ℕ)) (u v : List ℕ) → Done x u ≡ Done y v → x ≡ y
+      same_outputs x y u v e = cc

@@ -1,0 +1,5 @@
+use Rattle.xray_program.proofs.AcceptedInputs.{only_profiles_fall}
+use Rattle.xray_program.proofs.laws.only_profiles_mean_7.Goals as goal
+
+pub returns : goal.returns
+returns c = only_profiles_fall

@@ -1,0 +1,65 @@
+-- `profile`: threads that run over an image while a script patches their sleds, and the stacks of what they recorded.
+use Rattle.std.specs.Prelude.{◌≡◌, ◌+◌, ◌++◌, ℕ, List, [], ◌∷◌, length, map, codes, decimal, Option, Some, None}
+use Rattle.call_trie.specs.declared.state.TrieState.{TrieState}
+use Rattle.call_trie.specs.declared.state.TrieState.TheVariants.{Live, Full, Deep}
+use Rattle.call_trie.specs.Tries.{state_after}
+use Rattle.command_words.specs.declared.profile_options.ProfileOptions.{ProfileOptions}
+use Rattle.command_words.specs.declared.report_options.StackFormat.{StackFormat}
+use Rattle.fdr_record.specs.declared.event.Event.{Event}
+use Rattle.machine_step.specs.PlainStep.{PlainRun}
+use Rattle.patch_script.specs.Plans.{Plan}
+use Rattle.patch_script.specs.Refusals.{commands_of}
+use Rattle.stack_rebuild.specs.Stacks.{stack_of_threads}
+use Rattle.traced_run.specs.Following.{AllMarksFollow}
+use Rattle.traced_run.specs.Runs.{EachThread, ThreadRun, events_of}
+use Rattle.xray_image.specs.Program.{Program}
+use Rattle.xray_io.specs.Desk.{Entry}
+use Rattle.xray_program.specs.Outcomes.{Outcome}
+use Rattle.xray_program.specs.Scripts.{TakeScript}
+use Rattle.xray_program.specs.Setups.{limits_of}
+use Rattle.xray_program.specs.Stack.{rows_text}
+use Rattle.xray_program.specs.Taking.{DeskReads, ended_by}
+use Rattle.xray_program.specs.Traced.{state_texts}
+
+-- what went wrong with the recorder of a thread, if it has stopped
+abbrev pub trouble_in : TrieState → (thread : ℕ) → Option (List ℕ)
+trouble_in Live thread = None
+trouble_in Full thread = Some (codes "profile: full " ++ decimal thread)
+trouble_in Deep thread = Some (codes "profile: deep " ++ decimal thread)
+
+-- the first of these
+abbrev pub first_trouble : Option (List ℕ) → Option (List ℕ) → Option (List ℕ)
+first_trouble None later = later
+first_trouble (Some trouble) later = Some trouble
+
+-- what went wrong with the least thread whose recorder has stopped, by the states of all recorders, from a thread on
+abbrev pub trouble_of : (thread : ℕ) → List TrieState → Option (List ℕ)
+trouble_of thread [] = None
+trouble_of thread (state ∷ states) = first_trouble (trouble_in state thread) (trouble_of (thread + 1) states)
+
+-- the report on the events of threads, unless there is trouble; no words say which frequency the counter has
+abbrev pub report_unless : Option (List ℕ) → StackFormat → Program → List (List Event) → List ℕ
+report_unless None format program threads = rows_text format 0 (Some program) (stack_of_threads threads)
+report_unless (Some trouble) format program threads = []
+
+-- What comes of these runs. Their state texts are printed, and then the stacks of the events that their marks record. If
+-- the recorder of a thread has stopped, only the state texts are printed, and the least such thread is named.
+abbrev pub profile_of : ProfileOptions → Program → List ThreadRun → Outcome
+profile_of options program runs =
+    let threads = map events_of runs in
+    let trouble = trouble_of 1 (map (state_after options.nodes) threads) in
+    ended_by [] (state_texts 1 runs ++ report_unless trouble options.format program threads) trouble
+
+-- the threads have run, each as its plain run does, and their marks follow the script
+pub record AreProfiled (options : ProfileOptions) (program : Program) (plan : Plan) (runs : List ThreadRun) : Type 0 where
+  pub count : length runs ≡ options.bounds.threads
+  pub plain : EachThread runs (λ number run. PlainRun program (limits_of options.bounds options.stamps) number run.passed run.end run.last)
+  pub follow : AllMarksFollow program options.bounds.threads (commands_of plan.lines) runs
+
+-- what comes of the judged inputs: what comes of some such runs
+abbrev pub Profiles : ProfileOptions → Program → Plan → Outcome → Type 0
+Profiles options program plan outcome = (runs : List ThreadRun) × AreProfiled options program plan runs × (outcome ≡ profile_of options program runs)
+
+-- what comes of the command
+abbrev pub ProfileComes : DeskReads → (List ℕ → Entry) → (image script : List ℕ) → ProfileOptions → Outcome → Type 0
+ProfileComes reads held image script options = TakeScript reads held image script options.bounds.threads (Profiles options)

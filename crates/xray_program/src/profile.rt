@@ -1,0 +1,165 @@
+//! `profile`: threads that run over an image while a script patches their sleds, and the stacks of
+//! what they recorded.
+ghost use Rattle.std.specs.Prelude.{◌≡◌, ◌+◌, ◌≤◌, [], All, IfOk, IsTrue, List, None, Option, Some, length, map, option_map};
+ghost use Rattle.call_trie.specs.Tries.{StandsFor};
+ghost use Rattle.call_trie.specs.declared.state.TrieState.TheVariants.{Live};
+ghost use Rattle.command_words.specs.Ranges.{AreProfileOptions};
+ghost use Rattle.command_words.specs.Words.{outputs_of};
+ghost use Rattle.fault_words.specs.Words.{words_text};
+ghost use Rattle.machine_step.specs.Setups.{AreLimits};
+ghost use Rattle.xray_io.specs.World.{desk_view, sink_view};
+ghost use Rattle.xray_program.specs.Profile.{trouble_in, trouble_of};
+ghost use Rattle.xray_program.specs.private.Profiled.{comes_of, said_by, HaveProfiled};
+ghost use Rattle.xray_program.specs.private.RunInputs.{IsReadFor};
+ghost use Rattle.xray_program.specs.private.Stops.{answer_of, told_of};
+ghost use Rattle.xray_program.specs.private.Works.{Ends, Finishes, KeepsOthers};
+
+use crate::delivery::{Both, NoOutputs, deliver};
+use crate::run_inputs::{Profile, RunInputs};
+use crate::script_inputs::take_script;
+use crate::setups::profile_limits;
+use crate::stack::StackReport;
+use crate::stop::Stop;
+use call_trie::{MOST_NODES, TrieRecorder, TrieState, merged};
+use command_words::ProfileOptions;
+use fault_words::Words;
+use flame_graph::stacks_of_threads_can_be_drawn;
+use machine_step::Steps;
+use patch_script::Script;
+use sled_patch::run_prefix;
+use sled_rule::CodeTable;
+use sled_words::MAX_THREADS;
+use std::alloc::Global;
+use std::sync::Wait;
+use std::thread::Threads;
+use thread_run::{RecordedEnd, run_recorded};
+use xray_io::{Desk, Each, Gate, NoMemory, Sink};
+
+/// Does all of `profile`, and leaves err as it is. The threads start through `rt`. They and the patcher
+/// pass `gate`. No clause says that the call returns: threads may wait for the patcher.
+pub(crate) fn perform_profile<'a, T: Threads + Wait + Sync, D: Desk, O: Sink, G: Gate + Sync>(
+    rt: &T,
+    alloc: Global,
+    command: &Profile<'a>,
+    desk: &mut D,
+    out: &mut O,
+    gate: &G,
+) -> Result<(), Stop<'a>>
+    ensures { let seen = desk_view D.held D.read_faults D.write_faults in
+        let got = sink_view O.written O.faults in
+        Ends (Some (said_by command.now)) (seen desk.old) (seen desk.new) (got out.old) (got out.new)
+        (D.along desk.old desk.new) (answer_of result) (told_of result) }
+{
+    let threads = command.options.bounds.threads;
+    let inputs = take_script(alloc, desk, command.image, command.script, threads)?;
+    finish(rt, alloc, command, inputs, desk, out, gate)
+}
+
+/// Runs the threads beside the script, and writes what comes of it. All memory is asked for before
+/// the first thread starts, except that of the report.
+fn finish<'a, T: Threads + Wait + Sync, D: Desk, O: Sink, G: Gate + Sync>(
+    rt: &T,
+    alloc: Global,
+    command: &Profile<'a>,
+    inputs: RunInputs,
+    desk: &mut D,
+    out: &mut O,
+    gate: &G,
+) -> Result<(), Stop<'a>>
+    requires { IsReadFor command.now.options.bounds.threads inputs }
+    ensures finishes { let seen = desk_view D.held D.read_faults D.write_faults in
+        let got = sink_view O.written O.faults in
+        Finishes (comes_of command.now inputs) (seen desk.old) (seen desk.new) (got out.old) (got out.new)
+        (D.along desk.old desk.new) result }
+    ensures others { let seen = desk_view D.held D.read_faults D.write_faults in
+        KeepsOthers (outputs_of (said_by command.now)) (seen desk.old) (seen desk.new) }
+{
+    let RunInputs { image, script } = inputs;
+    let steps = Steps::new(alloc, &image)?;
+    let end = run_profiled(rt, alloc, &steps, script, command.options, gate)?;
+    match trouble_of(&end.recorders) {
+        Some(trouble) => deliver(desk, out, &NoOutputs, &Each(&end.cpus), Some(trouble)),
+        None => {
+            let rows = merged(alloc, &end.recorders)?;
+            // Called for its contract: the rows can be printed in any format.
+            stacks_of_threads_can_be_drawn();
+            let stacks = StackReport {
+                rows: &rows,
+                image: Some(&image),
+                frequency: 0,
+                format: command.options.format,
+            };
+            let text = Both {
+                first: &Each(&end.cpus),
+                second: &stacks,
+            };
+            deliver(desk, out, &NoOutputs, &text, None)
+        }
+    }
+}
+
+/// Runs all threads over an image's steps, and a script beside them. Each thread has a recorder of its
+/// own, which stands for the events of the thread.
+fn run_profiled<'s, T: Threads + Wait + Sync, G: Gate + Sync>(
+    rt: &T,
+    alloc: Global,
+    steps: &'s Steps<'s>,
+    script: Script,
+    options: ProfileOptions,
+    gate: &G,
+) -> Result<RecordedEnd<'s, TrieRecorder>, NoMemory>
+    requires program { script.program ≡ steps.now }
+    requires threads { script.threads ≡ options.bounds.threads }
+    requires options { AreProfileOptions options }
+    ensures profiled { IfOk result (λ end.
+        HaveProfiled options steps.now script.entry end.cpus.items end.recorders.items) }
+{
+    let threads = options.bounds.threads;
+    let (table, mut seat) = CodeTable::new(alloc, steps.image(), script, threads)?;
+    run_prefix(&table, &mut seat);
+    let recorders = new_recorders(alloc, threads, options.nodes)?;
+    let limits = profile_limits(options);
+    let end = run_recorded(rt, alloc, steps, &table, &mut seat, limits, recorders, gate)?;
+    Ok(end)
+}
+
+/// A recorder for each thread, each with so many nodes.
+fn new_recorders(alloc: Global, threads: u32, nodes: u32) -> Result<Vec<TrieRecorder>, NoMemory>
+    requires { (1 ≤ nodes) × (nodes ≤ MOST_NODES) }
+    ensures count { IfOk result (λ tries. length tries.items ≡ threads) }
+    ensures room { IfOk result (λ tries. All (λ trie. trie.room ≡ nodes) tries.items) }
+    ensures no_events { IfOk result (λ tries. All (λ trie. StandsFor trie []) tries.items) }
+{
+    let mut recorders = Vec::with_capacity(alloc, threads as usize)?;
+    for _ in 0..threads {
+        recorders.push(TrieRecorder::new(alloc, nodes)?)?;
+    }
+    Ok(recorders)
+}
+
+/// What went wrong with the least thread whose recorder has stopped, if there is one.
+fn trouble_of<'a>(recorders: &[TrieRecorder]) -> Option<Words<'a>>
+    requires { length recorders.now ≤ MAX_THREADS }
+    ensures { option_map words_text result
+        ≡ trouble_of 1 (map (λ recorder. recorder.state) recorders.now) }
+{
+    let mut thread = 0;
+    for recorder in recorders {
+        thread += 1;
+        if let Some(words) = trouble_in(recorder.state(), thread) {
+            return Some(words);
+        }
+    }
+    None
+}
+
+/// What went wrong with the recorder of a thread, if it has stopped.
+fn trouble_in<'a>(state: TrieState, thread: u32) -> Option<Words<'a>>
+    ensures { option_map words_text result ≡ trouble_in state thread }
+{
+    match state {
+        TrieState::Live => None,
+        TrieState::Full => Some(Words::numbered(b"profile: full ", thread)),
+        TrieState::Deep => Some(Words::numbered(b"profile: deep ", thread)),
+    }
+}
