@@ -5,7 +5,7 @@ use Rattle.xray_io.specs.declared.wall.Wall.{Wall}
 use Rattle.command_words.specs.declared.report_options.ConvertFormat.TheVariants as formats
 use Rattle.command_words.specs.declared.report_options.InputForm.TheVariants as inputs
 use Rattle.command_words.specs.declared.report_options.StackFormat.TheVariants as stacks
-use Rattle.command_words.specs.Words.{Command, Sim, Plain, Extract, Asm, Convert, Dump, Check, Profile, Soak, outputs_of, reading}
+use Rattle.command_words.specs.Words.{Command, Sim, Plain, Extract, Asm, Convert, Dump, Check, Profile, Soak, Import, outputs_of, reading}
 
 -- a wall time that is passed in
 noon : Wall
@@ -142,3 +142,10 @@ seed_of_65_bits = refl
 
 no_seed : says (codes "soak" ∷ []) ≡ None
 no_seed = refl
+
+-- a log becomes a trace of another name
+imported : says (codes "import" ∷ codes "l" ∷ codes "t" ∷ []) ≡ Some (Import (codes "l") (codes "t"))
+imported = refl
+
+onto_the_log : says (codes "import" ∷ codes "l" ∷ codes "l" ∷ []) ≡ None
+onto_the_log = refl

@@ -2,7 +2,7 @@
 use Rattle.std.specs.Prelude.{option_map}
 use Rattle.command_words.specs.declared.words.Command as command
 use Rattle.command_words.specs.declared.words.Command.TheVariants as command_of
-use Rattle.command_words.specs.Words.{Command, Sim, Run, Plain, Extract, Asm, Account, Stack, Convert, Dump, Check, Profile, Soak}
+use Rattle.command_words.specs.Words.{Command, Sim, Run, Plain, Extract, Asm, Account, Stack, Convert, Dump, Check, Profile, Soak, Import}
 
 abbrev pub command_view : command.Command → Command
 command_view (command_of.Sim image script schedule trace audit options) =
@@ -18,3 +18,4 @@ command_view (command_of.Dump trace) = Dump trace.now
 command_view (command_of.Check image script trace audit) = Check image.now script.now trace.now audit.now
 command_view (command_of.Profile image script options) = Profile image.now script.now options
 command_view (command_of.Soak number) = Soak number
+command_view (command_of.Import log trace) = Import log.now trace.now

@@ -17,6 +17,11 @@ use Rattle.fdr_file.specs.declared.trace.Trace.{Trace}
 use Rattle.fdr_file.specs.Prefixes.{IsReadable, ReadsAsTrace}
 use Rattle.fdr_file.specs.Traces.{trace_of}
 use Rattle.trace_words.specs.TraceWords.{trace_words}
+use Rattle.runtime_log.specs.declared.facts.Facts.{Facts}
+use Rattle.runtime_log.specs.declared.fault.LogFault.{LogFault}
+use Rattle.runtime_log.specs.FaultWords.{log_words}
+use Rattle.runtime_log.specs.Imports.{IsImport}
+use Rattle.runtime_log.specs.Logs.{logged}
 use Rattle.trace_forms.specs.BasicLogs.{basic_of}
 use Rattle.trace_forms.specs.FaultWords.{basic_words}
 use Rattle.audit_check.specs.declared.fault.AuditFault.{AuditFault}
@@ -95,6 +100,15 @@ unread_trace_form = any_bytes (codes "trace") trace_limit
 -- a basic log, which reads as a trace
 abbrev pub basic_form : Form Trace
 basic_form = form_by (codes "trace") trace_limit basic_of basic_words
+
+-- a log of LLVM's runtime, which reads as the file of the trace that is made of it, with the facts that are printed
+abbrev pub imported_form : Form (List ℕ × Facts)
+imported_form = record {
+  kind = codes "log";
+  limit = trace_limit;
+  Reads = λ bytes made. IsImport bytes made.0 made.1;
+  Refuses = λ bytes refusal. (fault : LogFault) × (logged bytes ≡ Err fault) × (refusal ≡ refused_for (log_words fault));
+}
 
 -- bytes of which a prefix is a trace, and the length of the longest
 pub record Readable : Type 0 where
