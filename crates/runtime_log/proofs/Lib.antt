@@ -1,9 +1,9 @@
 pub mod Noting
 pub mod Walking
-pub mod Reading
+pub mod BlockReading
 pub mod Coming
-pub mod Blocks
-pub mod Packing
+pub mod BlockLists
+pub mod Packed
 pub mod Recordable
 pub mod Contents
 pub mod Taking

@@ -24,7 +24,7 @@ use Rattle.runtime_log.specs.Logs.{LogBlock, log_block_in}
 use Rattle.runtime_log.specs.Taken.{chosen, comes_before, first_counter, first_ones, has_events, is_among, order_key, undoubled}
 use Rattle.runtime_log.specs.private.Choices.{AreAt, IsAt, KeepsFirst, LiesWithin, content_at, counter_first, time_key}
 use Rattle.runtime_log.specs.private.Records.{records_in}
-use Rattle.runtime_log.proofs.Blocks.{at_more}
+use Rattle.runtime_log.proofs.BlockLists.{at_more}
 
 -- ---- the block at its places
 

@@ -95,7 +95,7 @@ pub(crate) fn take_blocks(
     let mut taken = first_ones(alloc, bytes, mode, blocks)?;
     let once = taken.len();
     taken.retain(|block| block.first.is_some());
-    taken.sort_unstable_by(by_time);
+    taken.sort_unstable_by(|one, other| by_time(one, other));
     let left = LeftOut {
         doubled: (blocks.len() - once) as u64,
         empty: (once - taken.len()) as u64,

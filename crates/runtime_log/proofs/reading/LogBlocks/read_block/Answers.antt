@@ -2,8 +2,8 @@ use Rattle.std.proofs.Common.{◌≡◌, ℕ, ◌+◌, length, drop, sym, ap, �
 use Rattle.std.proofs.lemmas.List.{length-drop, length-take-le}
 use Rattle.std.proofs.lemmas.Result.{err_from_is_err_and}
 use Rattle.runtime_log.specs.Logs.{block_content, block_opened, block_said}
-use Rattle.runtime_log.proofs.Blocks.{block_sized}
-use Rattle.runtime_log.proofs.Reading.{block_at, block_is, block_stops, block_unsized, opened_rows}
+use Rattle.runtime_log.proofs.BlockLists.{block_sized}
+use Rattle.runtime_log.proofs.BlockReading.{block_at, block_is, block_stops, block_unsized, opened_rows}
 use Rattle.runtime_log.proofs.reading.LogBlocks.read_block.Goals as goal
 
 pub returns-in_err-walk-clause-refuses : goal.returns-in_err-walk-clause-refuses

@@ -5,7 +5,7 @@ use Rattle.fdr_file.specs.declared.fault.TraceFault.{TraceFault}
 use Rattle.runtime_log.specs.declared.blocks.Mode.{Mode}
 use Rattle.runtime_log.specs.Logs.{LogBlock, as_log}
 use Rattle.runtime_log.specs.private.Readings.{blocks_said}
-use Rattle.runtime_log.proofs.Blocks.{blocks_all, blocks_more, blocks_stop}
+use Rattle.runtime_log.proofs.BlockLists.{blocks_all, blocks_more, blocks_stop}
 use Rattle.runtime_log.proofs.reading.LogBlocks.read_recorder.Goals as goal
 
 pub blocks-preserved : goal.blocks-preserved

@@ -3,7 +3,7 @@ use Rattle.std.proofs.lemmas.List.{length-drop}
 use Rattle.std.proofs.lemmas.Result.{err_from_is_err_and}
 use Rattle.runtime_log.specs.declared.own_event.OwnKind.{OwnKind}
 use Rattle.runtime_log.specs.Logs.{one_custom, one_typed}
-use Rattle.runtime_log.proofs.Reading.{custom_few, reads_all, reads_more, reads_stop, typed_few}
+use Rattle.runtime_log.proofs.BlockReading.{custom_few, reads_all, reads_more, reads_stop, typed_few}
 use Rattle.runtime_log.proofs.reading.LogBlocks.read_records.Goals as goal
 
 pub records-init : goal.records-init
