@@ -3,6 +3,7 @@ use Rattle.std.proofs.Common.{◌≡◌, ◌≢◌, ◌⊎◌, ◌∙◌, ℕ, L
 use Rattle.std.specs.Prelude.{⊤}
 use Rattle.audit_check.specs.Statements.{Statement}
 use Rattle.fdr_file.specs.declared.trace.Trace.{Trace}
+use Rattle.command_words.specs.Limits.{trace_limit}
 use Rattle.command_words.specs.declared.report_options.AccountOptions.{AccountOptions}
 use Rattle.command_words.specs.declared.report_options.ConvertFormat.{ConvertFormat}
 use Rattle.command_words.specs.declared.report_options.StackFormat.{StackFormat}

@@ -1,20 +1,17 @@
 -- `check`: the turns of its four inputs.
-use Rattle.std.proofs.Common.{◌≡◌, ℕ, List, Result, subst}
+use Rattle.std.proofs.Common.{◌≡◌, ℕ, List, subst, sym}
 use Rattle.audit_check.specs.Statements.{Statement}
 use Rattle.command_words.specs.Words as words
 use Rattle.patch_script.specs.Plans.{Plan}
 use Rattle.xray_image.specs.Program.{Program}
 use Rattle.xray_io.specs.Desk.{Entry}
-use Rattle.xray_io.specs.World.{DeskView}
 use Rattle.xray_program.specs.Accepted.{AcceptsInputs}
 use Rattle.xray_program.specs.Check.{CheckComes, Judges}
 use Rattle.xray_program.specs.Inputs.{audit_form, image_form, script_form, unread_trace_form}
 use Rattle.xray_program.specs.Outcomes.{Outcome}
 use Rattle.xray_program.specs.Taking.{DeskReads, IsAcceptedAs, Take}
-use Rattle.xray_program.specs.private.Takes.{IsTaken}
 use Rattle.xray_program.specs.declared.check.Check.{Check}
 use Rattle.xray_program.specs.declared.check_inputs.CheckInputs.{CheckInputs}
-use Rattle.xray_program.specs.declared.stop.Stop.{Stop}
 use Rattle.xray_program.proofs.Turns.{Leads, leads, leads_on}
 
 -- its first inputs are accepted
@@ -50,16 +47,20 @@ module _ (held : List ℕ → Entry) (c : Check) (program : Program) (image : Is
     pub to_script : Leads (Comes held c) (λ reads. AfterAudit held c program reads statement)
     to_script = leads_on audit_form (Comes held c) held c.audit.now (AfterAudit held c program) statement to_audit audit
 
+    -- for a number of threads that is the audit's
+    pub to_script_for : (threads : ℕ) → threads ≡ statement.setup.threads
+        → Leads (Comes held c) (λ reads. Take (script_form program threads) reads held c.script.now (AfterScript held c program statement reads))
+    to_script_for threads same =
+        subst
+        (λ (n : ℕ). Leads (Comes held c) (λ reads. Take (script_form program n) reads held c.script.now (AfterScript held c program statement reads)))
+        (sym same) to_script
+
     pub to_trace : (plan : Plan) → IsAcceptedAs (script_form program statement.setup.threads) (held c.script.now) plan
         → Leads (Comes held c) (λ reads. AfterScript held c program statement reads plan)
     to_trace plan script =
         leads_on (script_form program statement.setup.threads) (Comes held c) held c.script.now (AfterScript held c program statement) plan to_script script
 
--- what is true of a script for a number of threads is true of it for an equal number
-pub taken_for : (program : Program) (n m : ℕ) (name : List ℕ) (before after : DeskView) (result : Result Plan Stop) → n ≡ m
-    → IsTaken (script_form program n) name before after result → IsTaken (script_form program m) name before after result
-taken_for program n m name before after result same = subst (λ (k : ℕ). IsTaken (script_form program k) name before after result) same
-
+-- what is accepted as a script for a number of threads is accepted for an equal number
 pub accepted_for : (program : Program) (n m : ℕ) (entry : Entry) (plan : Plan) → n ≡ m → IsAcceptedAs (script_form program n) entry plan
     → IsAcceptedAs (script_form program m) entry plan
 accepted_for program n m entry plan same = subst (λ (k : ℕ). IsAcceptedAs (script_form program k) entry plan) same

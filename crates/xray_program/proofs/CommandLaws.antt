@@ -1,8 +1,8 @@
 -- What words mean: only one thing if they are decided, a refusal and nothing else, and something in any case. Each
 -- command has a line.
-use Rattle.std.proofs.Common.{◌≡◌, ◌∙◌, ℕ, List, ◌∷◌, map, Option, Some, None, true, arith, codes, refl, subst, sym}
+use Rattle.std.proofs.Common.{◌≡◌, ◌∙◌, ℕ, List, [], ◌∷◌, map, Option, Some, None, true, arith, codes, refl, subst, sym}
 use Rattle.std.specs.Prelude.{IsPermutation}
-use Rattle.std.proofs.lemmas.List.Sorted.{IsPermutation-refl}
+use Rattle.std.proofs.lemmas.List.Sorted.{IsPermutation-cons, IsPermutation-refl, IsPermutation-to_front}
 use Rattle.command_words.specs.Files.{AreOfTheirRows, inputs_in, names_of, row_of}
 use Rattle.xray_io.specs.Desk.{Entry}
 use Rattle.xray_io.specs.declared.wall.Wall.{Wall}
@@ -146,13 +146,26 @@ some_means laws (Some command) held told holds = command_some laws held told hol
 
 -- ---- rows
 
--- the inputs are those of the row, in its order
-in_order : (command : Command) → map (λ input. input.0) (inputs_of command) ≡ inputs_in (row_of command).files (names_of command)
-in_order = grind arith
+-- the audit of `check` is taken before its script and its trace
+audit_first : (image script trace audit : List ℕ) → IsPermutation (image ∷ script ∷ trace ∷ audit ∷ []) (image ∷ audit ∷ script ∷ trace ∷ [])
+audit_first image script trace audit =
+    IsPermutation-cons image (script ∷ trace ∷ audit ∷ []) (audit ∷ script ∷ trace ∷ []) (IsPermutation-to_front (script ∷ trace ∷ []) audit)
 
+-- the inputs are those of the row, and but for `check` in its order
 pub inputs_of_row : (command : Command)
     → IsPermutation (inputs_in (row_of command).files (names_of command)) (map (λ input. input.0) (inputs_of command))
-inputs_of_row command =
-    let names = inputs_in (row_of command).files (names_of command) in
-    let P : List (List ℕ) → Type 0 = IsPermutation names in
-    subst P (sym (in_order command)) (IsPermutation-refl names)
+inputs_of_row (Sim i s c t a options) = IsPermutation-refl (i ∷ s ∷ c ∷ [])
+inputs_of_row (Run i s t a options) = IsPermutation-refl (i ∷ s ∷ [])
+inputs_of_row (Plain i bounds) = IsPermutation-refl (i ∷ [])
+inputs_of_row (Extract i) = IsPermutation-refl (i ∷ [])
+inputs_of_row (Asm t i threshold relative) = IsPermutation-refl (t ∷ [])
+inputs_of_row (Account t None options) = IsPermutation-refl (t ∷ [])
+inputs_of_row (Account t (Some i) options) = IsPermutation-refl (t ∷ i ∷ [])
+inputs_of_row (Stack t None format) = IsPermutation-refl (t ∷ [])
+inputs_of_row (Stack t (Some i) format) = IsPermutation-refl (t ∷ i ∷ [])
+inputs_of_row (Convert t None options) = IsPermutation-refl (t ∷ [])
+inputs_of_row (Convert t (Some i) options) = IsPermutation-refl (t ∷ i ∷ [])
+inputs_of_row (Dump t) = IsPermutation-refl (t ∷ [])
+inputs_of_row (Check i s t a) = audit_first i s t a
+inputs_of_row (Profile i s options) = IsPermutation-refl (i ∷ s ∷ [])
+inputs_of_row (Soak number) = IsPermutation-refl []

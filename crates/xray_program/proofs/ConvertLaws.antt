@@ -1,5 +1,6 @@
 -- `convert`: one thing comes of it, and something in any case.
-use Rattle.std.proofs.Common.{◌≡◌, ◌∙◌, ℕ, List, [], Option, Some, None, Ok, option_map, ap, codes, refl, sym}
+use Rattle.std.proofs.Common.{◌≡◌, ◌∙◌, ℕ, List, [], Option, Some, None, Ok, Vec, option_map, ap, codes, refl, subst, sym}
+use Rattle.std.specs.declared.alloc.Global.{Global}
 use Rattle.command_words.specs.declared.report_options.ConvertFormat.{ConvertFormat}
 use Rattle.command_words.specs.declared.report_options.ConvertFormat.TheVariants.{Yaml, TraceEvents, Basic}
 use Rattle.command_words.specs.declared.report_options.ConvertOptions.{ConvertOptions}
@@ -14,7 +15,9 @@ use Rattle.xray_program.specs.Commands.{TellsAll}
 use Rattle.xray_program.specs.Convert.{ConvertComes, ConvertsTo, converted, cpu_words, log_form, no_text_for}
 use Rattle.xray_program.specs.Inputs.{image_form}
 use Rattle.xray_program.specs.Outcomes.{Outcome, Done, Refused}
-use Rattle.xray_program.specs.private.Logs.{BytesFit, TraceFits, bytes_text}
+use Rattle.xray_program.specs.declared.log.Log.{Log}
+use Rattle.xray_program.specs.declared.log.Log.TheVariants as logs
+use Rattle.xray_program.specs.private.Logs.{BytesFit, LogMeans, TraceFits, bytes_text}
 use Rattle.xray_program.specs.Taking.{Sound}
 use Rattle.xray_program.proofs.LogForms.{log_decided, log_judged}
 use Rattle.xray_program.proofs.Meanings.{AnyOutcome, HoldsBytes, IsAlone, IsDecided, IsJudged, SomeOutcome, refuse_alone, some_refuse}
@@ -73,3 +76,11 @@ pub trace_fits : (format : ConvertFormat) (t : Trace) → no_text_for format t �
 trace_fits Yaml t none = tt
 trace_fits TraceEvents t none = tt
 trace_fits Basic t none = no_wide (wide_cpu (thread_events t.blocks)) none
+
+-- ---- what is known of a log
+
+pub bytes_kept : (log : Log) (bytes : Vec ℕ Global) (t : Trace) → log ≡ logs.Fdr bytes → LogMeans log t → trace_of bytes.items ≡ Ok t
+bytes_kept log bytes t is means = subst (λ (l : Log). LogMeans l t) is means
+
+pub trace_kept : (log : Log) (read t : Trace) → log ≡ logs.Basic read → LogMeans log t → read ≡ t
+trace_kept log read t is means = (subst (λ (l : Log). LogMeans l t) is means).0

@@ -1,5 +1,5 @@
 -- `fdr-dump`: one thing comes of it, and something in any case.
-use Rattle.std.proofs.Common.{◌≡◌, ◌≢◌, ◌⊎◌, ◌<◌, ◌≤◌, ◌+◌, ◌∙◌, ℕ, zero, suc, List, [], length, take, Result, Ok, Err, inl, inr, ap, arith, le_refl, refl, subst, sym}
+use Rattle.std.proofs.Common.{◌≡◌, ◌≢◌, ◌⊎◌, ◌<◌, ◌≤◌, ◌+◌, ◌∙◌, ℕ, zero, suc, List, [], length, take, Result, Ok, Err, inl, inr, ap, ap₂, arith, le_refl, refl, subst, sym}
 use Rattle.std.specs.Prelude.{IfOk}
 use Rattle.std.proofs.Math.Seq.{take-length}
 use Rattle.std.proofs.lemmas.Bool.{cases_lt}
@@ -33,7 +33,7 @@ one_file : (bytes : List ℕ) (s t : Readable) → readable_form.Reads bytes s �
 one_file bytes s t (of_s, x) (of_t, y) = alike s t (of_s ∙ sym of_t) (one_end bytes s.len t.len x y)
   where
     alike : (s t : Readable) → s.bytes ≡ t.bytes → s.len ≡ t.len → s ≡ t
-    alike s t same_bytes same_len = cc
+    alike s t same_bytes same_len = ap₂ (λ (bytes : List ℕ) (len : ℕ). let file : Readable = record { bytes = bytes; len = len } in file) same_bytes same_len
 
 same_fault : (f g : TraceFault) → (let v : Result Trace TraceFault = Err f in let w : Result Trace TraceFault = Err g in v ≡ w) → f ≡ g
 same_fault f g e = cc
@@ -63,12 +63,12 @@ reads_or bytes = by_answer (trace_of bytes) refl
 -- nor is this one, or any that is longer
 none_from : (bytes : List ℕ) (len : ℕ) → (ReadsAsTrace (take len bytes) → ⊥) → NoneAbove bytes len → (more : ℕ) → len ≤ more → more ≤ length bytes
     → ReadsAsTrace (take more bytes) → ⊥
-none_from bytes len no none more above within reads =
+none_from bytes len fails none more above within reads =
     elim (cases_lt len more) [
       | inl lt ↦ none more lt within reads
       | inr ge ↦
           let same : more ≡ len = omega arith in
-          no (subst (λ (n : ℕ). ReadsAsTrace (take n bytes)) same reads)
+          fails (subst (λ (n : ℕ). ReadsAsTrace (take n bytes)) same reads)
     ]
 
 -- the longest of the prefixes up to this length that is a trace, if one is
@@ -76,12 +76,12 @@ longest_of : (bytes : List ℕ) (len : ℕ) → len ≤ length bytes → NoneAbo
 longest_of bytes zero within none =
     elim (reads_or (take 0 bytes)) [
       | inl reads ↦ inl (0, record { within = within; reads = reads; longest = none })
-      | inr no ↦ inr (λ (len : ℕ) at_most. none_from bytes 0 no none len (omega arith) at_most)
+      | inr fails ↦ inr (λ (len : ℕ) at_most. none_from bytes 0 fails none len (omega arith) at_most)
     ]
 longest_of bytes (suc len) within none =
     elim (reads_or (take (suc len) bytes)) [
       | inl reads ↦ inl (suc len, record { within = within; reads = reads; longest = none })
-      | inr no ↦ longest_of bytes len (omega (arith, within)) (λ (more : ℕ) above at_most. none_from bytes (suc len) no none more (omega (arith, above)) at_most)
+      | inr fails ↦ longest_of bytes len (omega (arith, within)) (λ (more : ℕ) above at_most. none_from bytes (suc len) fails none more (omega (arith, above)) at_most)
     ]
 
 pub readable_judged : IsJudged readable_form

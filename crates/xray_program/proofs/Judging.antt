@@ -10,11 +10,7 @@ use Rattle.xray_image.specs.FaultWords.{image_words}
 use Rattle.xray_image.specs.Table.{Verdict, ReadsAs}
 use Rattle.xray_image.specs.declared.fault.ImageFault.{ImageFault}
 use Rattle.xray_image.specs.declared.fault.ImageFault.TheVariants as faults
-use Rattle.audit_check.specs.declared.fault.AuditFault.{AuditFault}
-use Rattle.audit_check.specs.declared.fault.AuditFault.TheVariants as auditing
-use Rattle.audit_check.specs.Reading.{ReadsAs as ReadsAudit}
-use Rattle.audit_check.specs.Texts.{audit_words}
-use Rattle.xray_program.specs.Inputs.{audit_form, image_form, refused_for}
+use Rattle.xray_program.specs.Inputs.{image_form, refused_for}
 
 -- a text has at most one more line than bytes
 lines_of_few : (parts : List (List ℕ)) → length (lines_of_parts parts) ≤ length parts
@@ -47,12 +43,3 @@ image_refuses bytes (Err fault) (inl wanting) = λ refusal is. absurd (none refu
     none : (refusal : List ℕ) (f : ImageFault) → f ≡ faults.NoMemory → image_words f ≡ Some refusal → ⊥
     none refusal f e is = never refusal (subst (λ h. image_words h ≡ Some refusal) e is)
 image_refuses bytes (Err fault) (inr reads) = λ refusal is. (fault, reads, ap refused_for (sym is))
-
--- bytes that aren't an audit are refused for their fault
-pub audit_refuses : (bytes : List ℕ) (fault : AuditFault) → (fault ≡ auditing.NoMemory) ⊎ ReadsAudit bytes (Err fault)
-    → (refusal : List ℕ) → audit_words fault ≡ Some refusal → audit_form.Refuses bytes refusal
-audit_refuses bytes fault (inl wanting) refusal is = absurd (never (subst (λ f. audit_words f ≡ Some refusal) wanting is))
-  where
-    never : audit_words auditing.NoMemory ≡ Some refusal → ⊥
-    never e = cc
-audit_refuses bytes fault (inr refused) refusal is = (fault, refused, ap refused_for (sym is))

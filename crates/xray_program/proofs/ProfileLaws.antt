@@ -22,8 +22,8 @@ AfterImage held s options program = Take (script_form program options.bounds.thr
 -- what is left isn't a refusal
 left_no_refusal : (outputs : List (List ℕ × List ℕ)) (text : List ℕ) (trouble : Option (List ℕ)) (outcome : Outcome)
     → outcome ≡ ended_by outputs text trouble → IsRefusal outcome → ⊥
-left_no_refusal outputs text None outcome is none = absurd (rw is at none in cc)
-left_no_refusal outputs text (Some words) outcome is none = absurd (rw is at none in cc)
+left_no_refusal outputs text None outcome is none = absurd (let never = rw is at none in cc)
+left_no_refusal outputs text (Some words) outcome is none = absurd (let never = rw is at none in cc)
 
 pub profile_refuses : IsDecided image_form → (held : List ℕ → Entry) (i s : List ℕ) (options : ProfileOptions) → TellsAll held
     → IsAlone IsRefusal (ProfileComes Sound held i s options)

@@ -97,33 +97,14 @@ profiled options program plan limits old cpus seats new same_program same_thread
 pub all_live : (thread : ℕ) (tries : List Trie) → trouble_of thread (map (λ (trie : Trie). trie.state) tries) ≡ None
     → All (λ (trie : Trie). trie.state ≡ Live) tries
 all_live thread [] none = All-nil (λ (trie : Trie). trie.state ≡ Live)
-all_live thread (trie ∷ tries) none = by_state trie.state refl
+all_live thread (trie ∷ tries) none = by_state trie.state refl (all_live (thread + 1) tries)
   where
-    by_state : (state : TrieState) → trie.state ≡ state → All (λ (t : Trie). t.state ≡ Live) (trie ∷ tries)
-    by_state Live is = All-cons (λ (t : Trie). t.state ≡ Live) trie tries is (all_live (thread + 1) tries (rw is at none))
-    by_state Full is = absurd (let never = rw is at none in cc)
-    by_state Deep is = absurd (let never = rw is at none in cc)
-
--- the recorder at a place decides, or those after it do
-module _ (tries : List Trie) (i thread : ℕ) (d : Trie) (trouble : Option (List ℕ)) where
-  abbrev from_here : ℕ → ℕ → Option (List ℕ)
-  from_here number place = trouble_of number (map (λ (t : Trie). t.state) (drop place tries))
-
-  here_first : i < length tries → from_here (thread + 1) i ≡ first_trouble (trouble_in (get_or tries i d).state (thread + 1)) (from_here (thread + 2) (i + 1))
-  here_first within =
-      let next : thread + 1 + 1 ≡ thread + 2 = omega arith in
-      ap (λ (ts : List Trie). trouble_of (thread + 1) (map (λ (t : Trie). t.state) ts)) (drop_more tries i d within)
-      ∙ ap (λ (n : ℕ). first_trouble (trouble_in (get_or tries i d).state (thread + 1)) (from_here n (i + 1))) next
-
-  pub trouble_later : i < length tries → trouble ≡ from_here (thread + 1) i → trouble_in (get_or tries i d).state (thread + 1) ≡ None
-      → trouble ≡ from_here (thread + 2) (i + 1)
-  trouble_later within is none =
-      is ∙ here_first within ∙ ap (λ (t : Option (List ℕ)). first_trouble t (from_here (thread + 2) (i + 1))) none
-
-  pub trouble_here : (words : List ℕ) → i < length tries → trouble ≡ from_here (thread + 1) i
-      → trouble_in (get_or tries i d).state (thread + 1) ≡ Some words → trouble ≡ Some words
-  trouble_here words within is some =
-      is ∙ here_first within ∙ ap (λ (t : Option (List ℕ)). first_trouble t (from_here (thread + 2) (i + 1))) some
+    by_state : (state : TrieState) → trie.state ≡ state
+        → (trouble_of (thread + 1) (map (λ (t : Trie). t.state) tries) ≡ None → All (λ (t : Trie). t.state ≡ Live) tries)
+        → All (λ (t : Trie). t.state ≡ Live) (trie ∷ tries)
+    by_state Live is later = All-cons (λ (t : Trie). t.state ≡ Live) trie tries is (later (rw is at none))
+    by_state Full is later = absurd (let never = rw is at none in cc)
+    by_state Deep is later = absurd (let never = rw is at none in cc)
 
 -- ---- what comes of runs
 

@@ -62,8 +62,8 @@ impl<'a> Work<'a> for Check<'a> {
         desk: &mut D,
         out: &mut O,
     ) -> Result<(), Stop<'a>> {
-        let audit = &inputs.audit.audit;
-        let trace = &inputs.trace.bytes;
+        let audit = inputs.audit.audit();
+        let trace = inputs.trace.bytes();
         let verdict = check_audit(alloc, &inputs.image, &inputs.script, audit, trace)?;
         deliver(desk, out, &NoOutputs, &verdict, None)
     }

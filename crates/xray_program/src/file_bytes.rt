@@ -1,4 +1,6 @@
 //! The bytes of a file.
+ghost use Rattle.std.specs.Prelude.{◌≡◌};
+
 use std::marker::Model;
 
 /// The bytes of a file. In contracts they are a list.
@@ -13,4 +15,13 @@ impl Model for FileBytes {
     ghost Value = { List ℕ };
 
     ghost view = { λ f. f.bytes.items };
+}
+
+impl FileBytes {
+    /// The bytes.
+    pub(crate) fn bytes(&self) -> &[u8]
+        ensures { result.now ≡ self.now }
+    {
+        &self.bytes
+    }
 }

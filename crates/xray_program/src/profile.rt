@@ -1,18 +1,21 @@
 //! `profile`: threads that run over an image while a script patches their sleds, and the stacks of
 //! what they recorded.
-ghost use Rattle.std.specs.Prelude.{◌≡◌, ◌+◌, ◌≤◌, [], All, IfOk, IsTrue, List, None, Option, Some, length, map, option_map};
+ghost use Rattle.std.specs.Prelude.{◌≡◌, ◌≤◌, ◌++◌, [], All, IfOk, None, Some, length, map, option_map};
+ghost use Rattle.std.specs.List.{flat_map};
 ghost use Rattle.call_trie.specs.Tries.{StandsFor};
-ghost use Rattle.call_trie.specs.declared.state.TrieState.TheVariants.{Live};
 ghost use Rattle.command_words.specs.Ranges.{AreProfileOptions};
 ghost use Rattle.command_words.specs.Words.{outputs_of};
 ghost use Rattle.fault_words.specs.Words.{words_text};
-ghost use Rattle.machine_step.specs.Setups.{AreLimits};
+ghost use Rattle.flame_graph.specs.Frames.{AreStacks};
+ghost use Rattle.machine_step.specs.{EndedText.{thread_text}, Traced.{IsDone}};
+ghost use Rattle.stack_rebuild.specs.Stacks.{told};
 ghost use Rattle.xray_io.specs.World.{desk_view, sink_view};
 ghost use Rattle.xray_program.specs.Profile.{trouble_in, trouble_of};
 ghost use Rattle.xray_program.specs.private.Profiled.{comes_of, said_by, HaveProfiled};
 ghost use Rattle.xray_program.specs.private.RunInputs.{IsReadFor};
 ghost use Rattle.xray_program.specs.private.Stops.{answer_of, told_of};
-ghost use Rattle.xray_program.specs.private.Works.{Ends, Finishes, KeepsOthers};
+ghost use Rattle.xray_program.specs.Stack.{rows_text};
+ghost use Rattle.xray_program.specs.private.Works.{Delivers, Ends, Finishes, KeepsOthers};
 
 use crate::delivery::{Both, NoOutputs, deliver};
 use crate::run_inputs::{Profile, RunInputs};
@@ -21,18 +24,20 @@ use crate::setups::profile_limits;
 use crate::stack::StackReport;
 use crate::stop::Stop;
 use call_trie::{MOST_NODES, TrieRecorder, TrieState, merged};
-use command_words::ProfileOptions;
+use command_words::{ProfileOptions, StackFormat};
 use fault_words::Words;
 use flame_graph::stacks_of_threads_can_be_drawn;
-use machine_step::Steps;
+use machine_step::{Cpu, Steps};
 use patch_script::Script;
 use sled_patch::run_prefix;
 use sled_rule::CodeTable;
 use sled_words::MAX_THREADS;
+use stack_rebuild::StackRow;
 use std::alloc::Global;
 use std::sync::Wait;
 use std::thread::Threads;
 use thread_run::{RecordedEnd, run_recorded};
+use xray_image::Image;
 use xray_io::{Desk, Each, Gate, NoMemory, Sink};
 
 /// Does all of `profile`, and leaves err as it is. The threads start through `rt`. They and the patcher
@@ -78,24 +83,64 @@ fn finish<'a, T: Threads + Wait + Sync, D: Desk, O: Sink, G: Gate + Sync>(
     let steps = Steps::new(alloc, &image)?;
     let end = run_profiled(rt, alloc, &steps, script, command.options, gate)?;
     match trouble_of(&end.recorders) {
-        Some(trouble) => deliver(desk, out, &NoOutputs, &Each(&end.cpus), Some(trouble)),
+        Some(trouble) => deliver_states(desk, out, &end.cpus, trouble),
         None => {
             let rows = merged(alloc, &end.recorders)?;
             // Called for its contract: the rows can be printed in any format.
             stacks_of_threads_can_be_drawn();
-            let stacks = StackReport {
-                rows: &rows,
-                image: Some(&image),
-                frequency: 0,
-                format: command.options.format,
-            };
-            let text = Both {
-                first: &Each(&end.cpus),
-                second: &stacks,
-            };
-            deliver(desk, out, &NoOutputs, &text, None)
+            deliver_report(desk, out, &end.cpus, &rows, &image, command.options.format)
         }
     }
+}
+
+/// Prints the state texts, and reports what went wrong.
+fn deliver_states<'a, D: Desk, O: Sink>(
+    desk: &mut D,
+    out: &mut O,
+    cpus: &[Cpu],
+    trouble: Words<'a>,
+) -> Result<(), Stop<'a>>
+    requires done { All (λ cpu. IsDone cpu.want) cpus.now }
+    ensures delivers { let seen = desk_view D.held D.read_faults D.write_faults in
+        let got = sink_view O.written O.faults in
+        Delivers [] (flat_map thread_text cpus.now) (Some (words_text trouble.entry))
+        (seen desk.old) (seen desk.new) (got out.old) (got out.new) (D.along desk.old desk.new) result }
+    ensures others { let seen = desk_view D.held D.read_faults D.write_faults in
+        KeepsOthers [] (seen desk.old) (seen desk.new) }
+{
+    deliver(desk, out, &NoOutputs, &Each(cpus), Some(trouble))
+}
+
+/// Prints the state texts, and then the rows of their stacks.
+fn deliver_report<'a, D: Desk, O: Sink>(
+    desk: &mut D,
+    out: &mut O,
+    cpus: &[Cpu],
+    rows: &[StackRow],
+    image: &Image,
+    format: StackFormat,
+) -> Result<(), Stop<'a>>
+    requires done { All (λ cpu. IsDone cpu.want) cpus.now }
+    requires rows { AreStacks (map told rows.now) }
+    ensures delivers { let seen = desk_view D.held D.read_faults D.write_faults in
+        let got = sink_view O.written O.faults in
+        Delivers [] (flat_map thread_text cpus.now ++ rows_text format 0 (Some image.now) (map told rows.now)) None
+        (seen desk.old) (seen desk.new) (got out.old) (got out.new) (D.along desk.old desk.new) result }
+    ensures others { let seen = desk_view D.held D.read_faults D.write_faults in
+        KeepsOthers [] (seen desk.old) (seen desk.new) }
+{
+    let states = Each(cpus);
+    let stacks = StackReport {
+        rows,
+        image: Some(image),
+        frequency: 0,
+        format,
+    };
+    let text = Both {
+        first: &states,
+        second: &stacks,
+    };
+    deliver(desk, out, &NoOutputs, &text, None)
 }
 
 /// Runs all threads over an image's steps, and a script beside them. Each thread has a recorder of its
@@ -112,7 +157,7 @@ fn run_profiled<'s, T: Threads + Wait + Sync, G: Gate + Sync>(
     requires threads { script.threads ≡ options.bounds.threads }
     requires options { AreProfileOptions options }
     ensures profiled { IfOk result (λ end.
-        HaveProfiled options steps.now script.entry end.cpus.items end.recorders.items) }
+        HaveProfiled options steps.now script end.cpus.items end.recorders.items) }
 {
     let threads = options.bounds.threads;
     let (table, mut seat) = CodeTable::new(alloc, steps.image(), script, threads)?;

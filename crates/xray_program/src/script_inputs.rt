@@ -1,5 +1,6 @@
 //! The inputs of a command that runs threads beside a script.
 ghost use Rattle.std.specs.Prelude.{◌≡◌, ◌≤◌, IfOk, OnOk};
+ghost use Rattle.command_words.specs.Ranges.{IsThreadCount};
 ghost use Rattle.xray_io.specs.{Calls.{Went}, World.{desk_view}};
 ghost use Rattle.xray_program.specs.{Accepted.{AcceptsScript}, Scripts.{script_inputs}};
 ghost use Rattle.xray_program.specs.private.RunInputs.{IsReadFor};
@@ -22,6 +23,7 @@ pub(crate) fn take_script<'a, D: Desk>(
     script: &'a str,
     threads: u32,
 ) -> Result<RunInputs, Stop<'a>>
+    requires few { IsThreadCount threads }
     ensures taken { let seen = desk_view D.held D.read_faults D.write_faults in
         IsScriptTaken image.now script.now threads (seen desk.old) (seen desk.new) result }
     ensures fits { IfOk result (IsReadFor threads) }

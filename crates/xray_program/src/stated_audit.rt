@@ -1,5 +1,6 @@
 //! What an audit states.
 ghost use Rattle.std.specs.Prelude.{◌≡◌};
+ghost use Rattle.audit_check.specs.Statements.{statement_of};
 
 use audit_check::Audit;
 use std::marker::Model;
@@ -19,6 +20,13 @@ impl Model for StatedAudit {
 }
 
 impl StatedAudit {
+    /// The audit.
+    pub(crate) fn audit(&self) -> &Audit
+        ensures { statement_of result.now ≡ self.now }
+    {
+        &self.audit
+    }
+
     /// For how many threads it states something.
     pub(crate) fn threads(&self) -> u32
         ensures { result ≡ self.now.setup.threads }

@@ -1,7 +1,6 @@
-use Rattle.std.proofs.Common.{refl}
 use Rattle.xray_io.specs.World.{desk_view}
 use Rattle.xray_program.specs.Taking.{any_bytes}
-use Rattle.xray_program.proofs.Turns.{gives, unread}
+use Rattle.xray_program.proofs.Turns.{unread}
 use Rattle.xray_program.proofs.input.take_bytes.Goals as goal
 
 pub returns-in-Err-clause-taken : goal.returns-in-Err-clause-taken

@@ -1,6 +1,8 @@
-use Rattle.std.proofs.Common.{◌≡◌, ◌++◌, ◌∙◌, List, [], None, Option, Some, map, option_map, ap, refl, subst, sym}
+use Rattle.std.proofs.Common.{◌≡◌, ◌++◌, ◌∙◌, ℕ, List, [], None, Option, Some, map, option_map, ap, refl, subst, sym}
 use Rattle.std.specs.List.{All, flat_map}
+use Rattle.call_trie.specs.Merging.{AllStandFor}
 use Rattle.call_trie.specs.Tries.{Trie}
+use Rattle.call_trie.specs.declared.state.TrieState.{TrieState}
 use Rattle.call_trie.specs.declared.state.TrieState.TheVariants.{Live}
 use Rattle.fault_words.specs.Words.{words_text}
 use Rattle.flame_graph.specs.Frames.{AreStacks}
@@ -11,7 +13,9 @@ use Rattle.traced_run.specs.Runs.{events_of}
 use Rattle.xray_image.specs.Program.{Program}
 use Rattle.xray_io.specs.World.{desk_view, sink_view}
 use Rattle.xray_program.specs.private.Profiled.{HaveProfiled, comes_of}
+use Rattle.xray_program.specs.Profile.{trouble_of}
 use Rattle.xray_program.specs.Stack.{rows_text}
+use Rattle.xray_program.specs.Traced.{state_texts}
 use Rattle.xray_program.specs.declared.stop.Stop.TheVariants as stops
 use Rattle.xray_program.proofs.Endings.{finishes, refuses}
 use Rattle.xray_program.proofs.Profiling.{all_live, profile_done, profile_fell}
@@ -29,3 +33,85 @@ returns-in_err-end-clause-finishes g c =
     refuses (comes_of c.args.command.now c.args.inputs) (desk_view g.D.Desk.held g.D.Desk.read_faults g.D.Desk.write_faults c.args.desk.now)
     (sink_view g.O.Sink.written g.O.Sink.faults c.args.out.now) (g.D.Desk.along c.args.desk.now c.args.desk.now) stops.NoMemory c.from_residual-in_err-end.result c.from_residual-in_err-end.ensures.1
     ((refl, refl), record { calls = []; way = g.met.D.Desk.along_none c.args.desk.now; are = refl })
+
+pub returns-in_err-rows-in-None-clause-finishes : goal.returns-in_err-rows-in-None-clause-finishes
+returns-in_err-rows-in-None-clause-finishes g c =
+    refuses (comes_of c.args.command.now c.args.inputs) (desk_view g.D.Desk.held g.D.Desk.read_faults g.D.Desk.write_faults c.args.desk.now)
+    (sink_view g.O.Sink.written g.O.Sink.faults c.args.out.now) (g.D.Desk.along c.args.desk.now c.args.desk.now) stops.NoMemory c.from_residual-in_err-rows-in-None.result c.from_residual-in_err-rows-in-None.ensures.1
+    ((refl, refl), record { calls = []; way = g.met.D.Desk.along_none c.args.desk.now; are = refl })
+
+pub deliver_states-requires : goal.deliver_states-requires
+deliver_states-requires g c =
+    let have = c.in_ok-end.ensures.profiled in
+    subst (All (λ t. IsDone t.want)) (sym c.deref-in-Some.ensures.value) (threads_ended have.runs c.in_ok-end.end.cpus.items have.count have.cpus_are)
+
+pub returns-in-Some-clause-finishes : goal.returns-in-Some-clause-finishes
+returns-in-Some-clause-finishes g c =
+    let seen = desk_view g.D.Desk.held g.D.Desk.read_faults g.D.Desk.write_faults in
+    let got = sink_view g.O.Sink.written g.O.Sink.faults in
+    let s = c.args.command.now in
+    let program = c.args.inputs.image in
+    let have : HaveProfiled s.options program c.args.inputs.script c.in_ok-end.end.cpus.items c.in_ok-end.end.recorders.items =
+    subst (λ (p : Program). HaveProfiled s.options p c.args.inputs.script c.in_ok-end.end.cpus.items c.in_ok-end.end.recorders.items) c.in_ok-steps.ensures.program
+    c.in_ok-end.ensures.profiled in
+    let trouble = words_text c.in-Some.trouble in
+    let text = flat_map thread_text c.deref-in-Some.result.now in
+    let is : text ≡ _ = ap (λ (ts : List Traced). flat_map thread_text ts) c.deref-in-Some.ensures.value ∙ threads_printed have.runs c.in_ok-end.end.cpus.items have.count have.cpus_are in
+    let wrong : Some trouble ≡ trouble_of 1 (map (λ (t : Trie). t.state) c.deref.result.now) = c.trouble_of.ensures in
+    finishes (comes_of s c.args.inputs) [] text (Some trouble) (seen c.args.desk.now) (seen c.deliver_states.new.desk) (got c.args.out.now)
+    (got c.deliver_states.new.out) (g.D.Desk.along c.args.desk.now c.deliver_states.new.desk) c.deliver_states.result (
+      have.runs,
+      have.are,
+      profile_fell s.options program have.runs text trouble is
+          (wrong ∙ ap (λ (ts : List Trie). trouble_of 1 (map (λ (t : Trie). t.state) ts)) c.deref.ensures.value ∙ ap (trouble_of 1) have.states),
+    )
+    c.deliver_states.ensures.delivers
+
+pub merged-requires : goal.merged-requires
+merged-requires g c =
+    let none : None ≡ trouble_of 1 (map (λ (t : Trie). t.state) c.deref.result.now) = c.trouble_of.ensures in
+    all_live 1 c.deref-in-None.result.now
+    (ap (λ (ts : List Trie). trouble_of 1 (map (λ (t : Trie). t.state) ts)) (c.deref-in-None.ensures.value ∙ sym c.deref.ensures.value) ∙ sym none)
+
+pub deliver_report-requires-clause-done : goal.deliver_report-requires-clause-done
+deliver_report-requires-clause-done g c =
+    let have = c.in_ok-end.ensures.profiled in
+    subst (All (λ t. IsDone t.want)) (sym c.deref-2-in-None.ensures.value) (threads_ended have.runs c.in_ok-end.end.cpus.items have.count have.cpus_are)
+
+pub deliver_report-requires-clause-rows : goal.deliver_report-requires-clause-rows
+deliver_report-requires-clause-rows g c =
+    let have = c.in_ok-end.ensures.profiled in
+    let threads = map events_of have.runs in
+    let stand = subst (λ (ts : List Trie). AllStandFor ts threads) (sym c.deref-in-None.ensures.value) have.stand in
+    let rows : map told c.deref-3-in-None.result.now ≡ stack_of_threads threads =
+    ap (map told) c.deref-3-in-None.ensures.value ∙ c.in_ok-rows-in-None.ensures threads stand in
+    subst AreStacks (sym rows) (c.stacks_of_threads_can_be_drawn-in-None.ensures threads)
+
+pub returns-clause-finishes : goal.returns-clause-finishes
+returns-clause-finishes g c =
+    let seen = desk_view g.D.Desk.held g.D.Desk.read_faults g.D.Desk.write_faults in
+    let got = sink_view g.O.Sink.written g.O.Sink.faults in
+    let s = c.args.command.now in
+    let program = c.args.inputs.image in
+    let cpus = c.in_ok-end.end.cpus.items in
+    let have : HaveProfiled s.options program c.args.inputs.script cpus c.in_ok-end.end.recorders.items =
+    subst (λ (p : Program). HaveProfiled s.options p c.args.inputs.script cpus c.in_ok-end.end.recorders.items) c.in_ok-steps.ensures.program
+    c.in_ok-end.ensures.profiled in
+    let threads = map events_of have.runs in
+    let states = flat_map thread_text c.deref-2-in-None.result.now in
+    let printed : states ≡ state_texts 1 have.runs =
+    ap (λ (ts : List Traced). flat_map thread_text ts) c.deref-2-in-None.ensures.value ∙ threads_printed have.runs cpus have.count have.cpus_are in
+    let stand = subst (λ (ts : List Trie). AllStandFor ts threads) (sym c.deref-in-None.ensures.value) have.stand in
+    let rows : map told c.deref-3-in-None.result.now ≡ stack_of_threads threads =
+    ap (map told) c.deref-3-in-None.ensures.value ∙ c.in_ok-rows-in-None.ensures threads stand in
+    let shown : List PathRow → List ℕ = λ rs. rows_text s.options.format 0 (Some program) rs in
+    let text = states ++ shown (map told c.deref-3-in-None.result.now) in
+    let is : text ≡ state_texts 1 have.runs ++ shown (stack_of_threads threads) =
+    ap (λ (t : List ℕ). t ++ shown (map told c.deref-3-in-None.result.now)) printed
+    ∙ ap (λ (rs : List PathRow). state_texts 1 have.runs ++ shown rs) rows in
+    let none : None ≡ trouble_of 1 (map (λ (t : Trie). t.state) c.deref.result.now) = c.trouble_of.ensures in
+    finishes (comes_of s c.args.inputs) [] text None (seen c.args.desk.now) (seen c.deliver_report.new.desk) (got c.args.out.now)
+    (got c.deliver_report.new.out) (g.D.Desk.along c.args.desk.now c.deliver_report.new.desk) c.deliver_report.result
+    (have.runs, have.are, profile_done s.options program have.runs text is
+    (none ∙ ap (λ (ts : List Trie). trouble_of 1 (map (λ (t : Trie). t.state) ts)) c.deref.ensures.value ∙ ap (trouble_of 1) have.states))
+    c.deliver_report.ensures.delivers

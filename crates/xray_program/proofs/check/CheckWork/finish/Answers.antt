@@ -1,4 +1,5 @@
 use Rattle.std.proofs.Common.{ℕ, List, [], None, refl, subst}
+use Rattle.audit_check.specs.Statements.{Statement}
 use Rattle.audit_check.specs.Texts.{verdict_text}
 use Rattle.audit_check.specs.Verdicts.{IsJudged}
 use Rattle.patch_script.specs.Refusals.{commands_of}
@@ -13,8 +14,10 @@ returns-clause-finishes g c =
     let got = sink_view g.O.Sink.written g.O.Sink.faults in
     let inputs = c.args.inputs.now in
     let verdict = c.in_ok-verdict.verdict in
+    let stated = subst (λ (s : Statement). IsJudged inputs.image (commands_of inputs.script.lines) s c.bytes-trace.result.now verdict)
+    c.audit-audit.ensures c.in_ok-verdict.ensures in
     let judged : IsJudged inputs.image (commands_of inputs.script.lines) inputs.audit inputs.trace verdict =
-    subst (λ (t : List ℕ). IsJudged inputs.image (commands_of inputs.script.lines) inputs.audit t verdict) c.deref.ensures.value c.in_ok-verdict.ensures in
+    subst (λ (t : List ℕ). IsJudged inputs.image (commands_of inputs.script.lines) inputs.audit t verdict) c.bytes-trace.ensures stated in
     finishes (Judges inputs.image inputs.script inputs.audit inputs.trace) [] (verdict_text verdict) None (seen c.args.desk.now)
     (seen c.deliver.new.desk) (got c.args.out.now) (got c.deliver.new.out) (g.D.Desk.along c.args.desk.now c.deliver.new.desk) c.deliver.result
     (record { verdict = verdict; judged = judged; outcome_is = refl }) c.deliver.ensures.delivers

@@ -2,7 +2,7 @@ use Rattle.std.proofs.Common.{[], ◌∷◌, refl, ◌∙◌, arith, codes}
 use Rattle.command_words.specs.Limits.{trace_limit}
 use Rattle.xray_io.specs.World.{desk_view}
 use Rattle.xray_program.specs.Inputs.{audit_form, audit_limit, image_form, image_limit, script_form, script_limit, unread_trace_form}
-use Rattle.xray_program.proofs.CheckTurns.{Accepts, AfterAudit, AfterImage, AfterScript, AfterTrace, Comes, accepted_for, comes_of, taken_for, to_audit, to_script, to_trace}
+use Rattle.xray_program.proofs.CheckTurns.{Accepts, AfterAudit, AfterImage, AfterScript, AfterTrace, Comes, accepted_for, comes_of, to_audit, to_script_for, to_trace}
 use Rattle.xray_program.proofs.Ordering.{all_taken, first_handed, read_first, read_on, stop_handed}
 use Rattle.xray_program.proofs.SimTurns.{given_before}
 use Rattle.xray_program.proofs.Turns.{first_stop, later_stop, leads, leads_on}
@@ -35,12 +35,12 @@ returns-in_err-script-clause-taken g c =
     let program = c.in_ok-image.image in
     let statement = c.in_ok-audit.audit in
     let audit = given_before audit_form held (g.D.Desk.held c.take.new.desk) s.audit.now statement c.take.ensures.held c.in_ok-audit.ensures.taken in
-    later_stop (script_form program statement.setup.threads) (Comes held s) comes_of (seen c.args.desk.now) (seen c.take-2.new.desk)
+    let threads = c.threads-threads.result in
+    later_stop (script_form program threads) (Comes held s) comes_of (seen c.args.desk.now) (seen c.take-2.new.desk)
     (seen c.take-3.new.desk) s.script.now (AfterScript held s program statement) c.from_residual-in_err-script.result _
-    c.from_residual-in_err-script.ensures.1 (to_script held s program c.in_ok-image.ensures.taken statement audit)
-    (c.take-2.ensures.held ∙ c.take.ensures.held) (omega (arith, c.take.ensures.later, c.take-2.ensures.later))
-    (taken_for program c.threads.result statement.setup.threads s.script.now (seen c.take-2.new.desk) (seen c.take-3.new.desk) _ c.threads.ensures
-    c.in_err-script.ensures.taken)
+    c.from_residual-in_err-script.ensures.1
+    (to_script_for held s program c.in_ok-image.ensures.taken statement audit threads c.threads-threads.ensures)
+    (c.take-2.ensures.held ∙ c.take.ensures.held) (omega (arith, c.take.ensures.later, c.take-2.ensures.later)) c.in_err-script.ensures.taken
 
 pub returns-in_err-trace-clause-taken : goal.returns-in_err-trace-clause-taken
 returns-in_err-trace-clause-taken g c =
@@ -53,7 +53,7 @@ returns-in_err-trace-clause-taken g c =
     let two = c.take-2.ensures.held ∙ c.take.ensures.held in
     let audit = given_before audit_form held (g.D.Desk.held c.take.new.desk) s.audit.now statement c.take.ensures.held c.in_ok-audit.ensures.taken in
     let script = given_before (script_form program statement.setup.threads) held (g.D.Desk.held c.take-2.new.desk) s.script.now plan two
-    (accepted_for program c.threads.result statement.setup.threads (g.D.Desk.held c.take-2.new.desk s.script.now) plan c.threads.ensures
+    (accepted_for program c.threads-threads.result statement.setup.threads (g.D.Desk.held c.take-2.new.desk s.script.now) plan c.threads-threads.ensures
     c.in_ok-script.ensures.taken) in
     later_stop unread_trace_form (Comes held s) comes_of (seen c.args.desk.now) (seen c.take-3.new.desk) (seen c.take_bytes.new.desk) s.trace.now
     (AfterTrace program statement plan) c.from_residual-in_err-trace.result _ c.from_residual-in_err-trace.ensures.1
@@ -70,7 +70,7 @@ returns-clause-taken g c = λ reads outcome yields.
     let two = c.take-2.ensures.held ∙ c.take.ensures.held in
     let audit = given_before audit_form held (g.D.Desk.held c.take.new.desk) s.audit.now statement c.take.ensures.held c.in_ok-audit.ensures.taken in
     let script = given_before (script_form program statement.setup.threads) held (g.D.Desk.held c.take-2.new.desk) s.script.now plan two
-    (accepted_for program c.threads.result statement.setup.threads (g.D.Desk.held c.take-2.new.desk s.script.now) plan c.threads.ensures
+    (accepted_for program c.threads-threads.result statement.setup.threads (g.D.Desk.held c.take-2.new.desk s.script.now) plan c.threads-threads.ensures
     c.in_ok-script.ensures.taken) in
     leads_on unread_trace_form (Comes held s) held s.trace.now (AfterTrace program statement plan) c.in_ok-trace.trace
     (to_trace held s program c.in_ok-image.ensures.taken statement audit plan script)
@@ -111,12 +111,10 @@ returns-in_err-script-clause-calls g c =
     let statement = c.in_ok-audit.audit in
     let audit = given_before audit_form held (g.D.Desk.held c.take.new.desk) s.audit.now statement c.take.ensures.held c.in_ok-audit.ensures.taken in
     let first = (s.image.now, image_limit) ∷ [] in
-    stop_handed along both c.args.desk.now c.take-2.new.desk c.take-3.new.desk (script_form program statement.setup.threads)
+    stop_handed along both c.args.desk.now c.take-2.new.desk c.take-3.new.desk (script_form program c.threads-threads.result)
     (seen c.take-2.new.desk) (seen c.take-3.new.desk) _ ((s.image.now, image_limit) ∷ (s.audit.now, audit_limit) ∷ []) ((s.trace.now, trace_limit) ∷ [])
     s.script.now c.from_residual-in_err-script.result _ (Accepts held s) (program, c.in_ok-image.ensures.taken, (statement, audit, tt))
-    c.from_residual-in_err-script.ensures.1 refl
-    (taken_for program c.threads.result statement.setup.threads s.script.now (seen c.take-2.new.desk) (seen c.take-3.new.desk) _ c.threads.ensures
-    c.in_err-script.ensures.taken)
+    c.from_residual-in_err-script.ensures.1 refl c.in_err-script.ensures.taken
     (read_on along both c.args.desk.now c.take.new.desk c.take-2.new.desk first s.audit.now audit_limit
     (read_first along both g.met.D.Desk.along_none c.args.desk.now c.take.new.desk s.image.now image_limit c.in_ok-image.ensures.calls)
     c.in_ok-audit.ensures.calls) c.in_err-script.ensures.calls
@@ -134,7 +132,7 @@ returns-in_err-trace-clause-calls g c =
     let audit = given_before audit_form held (g.D.Desk.held c.take.new.desk) s.audit.now statement c.take.ensures.held c.in_ok-audit.ensures.taken in
     let script = given_before (script_form program statement.setup.threads) held (g.D.Desk.held c.take-2.new.desk) s.script.now plan
     (c.take-2.ensures.held ∙ c.take.ensures.held)
-    (accepted_for program c.threads.result statement.setup.threads (g.D.Desk.held c.take-2.new.desk s.script.now) plan c.threads.ensures
+    (accepted_for program c.threads-threads.result statement.setup.threads (g.D.Desk.held c.take-2.new.desk s.script.now) plan c.threads-threads.ensures
     c.in_ok-script.ensures.taken) in
     let one = read_first along both g.met.D.Desk.along_none c.args.desk.now c.take.new.desk s.image.now image_limit c.in_ok-image.ensures.calls in
     let two = read_on along both c.args.desk.now c.take.new.desk c.take-2.new.desk ((s.image.now, image_limit) ∷ []) s.audit.now audit_limit one
@@ -159,7 +157,7 @@ returns-clause-calls g c =
     let held_two = c.take-2.ensures.held ∙ c.take.ensures.held in
     let audit = given_before audit_form held (g.D.Desk.held c.take.new.desk) s.audit.now statement c.take.ensures.held c.in_ok-audit.ensures.taken in
     let script = given_before (script_form program statement.setup.threads) held (g.D.Desk.held c.take-2.new.desk) s.script.now plan held_two
-    (accepted_for program c.threads.result statement.setup.threads (g.D.Desk.held c.take-2.new.desk s.script.now) plan c.threads.ensures
+    (accepted_for program c.threads-threads.result statement.setup.threads (g.D.Desk.held c.take-2.new.desk s.script.now) plan c.threads-threads.ensures
     c.in_ok-script.ensures.taken) in
     let trace = given_before unread_trace_form held (g.D.Desk.held c.take-3.new.desk) s.trace.now bytes (c.take-3.ensures.held ∙ held_two)
     (c.in_ok-trace.ensures.taken (codes "trace")) in
