@@ -1,5 +1,5 @@
 -- Blocks by their places, and what they are of a log.
-use Rattle.std.specs.Prelude.{◌≡◌, ◌≤◌, ℕ, ◌+◌, ◌-◌, ◌==◌, ⊤, ⊥, List, [], ◌∷◌, ◌++◌, length, take, drop, count_by, Option, Some, None, Ok}
+use Rattle.std.specs.Prelude.{◌≡◌, ◌≤◌, ℕ, ◌+◌, ◌-◌, ◌==◌, ⊤, List, [], ◌∷◌, ◌++◌, length, take, drop, count_by, Option, Some, None, Ok}
 use Rattle.std.specs.Option.{unwrap_or}
 use Rattle.fdr_record.specs.declared.event.Event.{Event}
 use Rattle.fdr_file.specs.declared.trace.Block.{Block}

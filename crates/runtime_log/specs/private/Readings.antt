@@ -1,5 +1,5 @@
 -- The blocks of a log, as they are read.
-use Rattle.std.specs.Prelude.{◌≡◌, ◌≤◌, ◌⊎◌, ⊤, ⊥, ℕ, ◌+◌, ◌*◌, List, [], ◌∷◌, length, drop, map, sum, take, Option, Some, None, Result, Ok, Err, Unit}
+use Rattle.std.specs.Prelude.{◌≡◌, ◌≤◌, ◌⊎◌, ⊤, ℕ, ◌+◌, ◌*◌, List, [], ◌∷◌, length, drop, map, sum, take, Option, Some, None, Result, Ok, Err}
 use Rattle.fdr_file.specs.declared.fault.TraceFault.{TraceFault}
 use Rattle.fdr_file.specs.declared.fault.TraceFault.TheVariants.{NoMemory}
 use Rattle.runtime_log.specs.declared.basic.BasicRec.{BasicRec}

@@ -1,4 +1,4 @@
-use Rattle.std.proofs.Common.{◌≡◌, List, Result, Ok, Err, drop, refl, sym, ap, subst, ◌∙◌, arith, inl, inr, tt, rules}
+use Rattle.std.proofs.Common.{◌≡◌, List, Result, Ok, Err, drop, refl, sym, ap, subst, ◌∙◌, arith, inl, inr, rules}
 use Rattle.std.proofs.lemmas.List.{length-drop}
 use Rattle.runtime_log.specs.declared.fault.LogFault.{LogFault}
 use Rattle.fdr_file.specs.declared.fault.TraceFault.{TraceFault}
