@@ -151,6 +151,10 @@ soak|18446744073709551616 => none
 soak|-1 => none
 soak|1|2 => none
 soak|1|--threads|4 => none
+import|l|t => import [l] [t]
+import|l|l => none
+import|l => none
+import|l|t|u => none
 ";
 
 /// Words as a program gets them, from a line with bars between the words.
@@ -220,6 +224,7 @@ fn shown_command(alloc: Global, command: Command) -> Result<String, AllocError> 
             format!(in alloc; "profile [{image}] [{script}] {options}")
         }
         Command::Soak { number } => format!(in alloc; "soak {number}"),
+        Command::Import { log, trace } => format!(in alloc; "import [{log}] [{trace}]"),
         Command::Run {
             image,
             script,
@@ -309,7 +314,7 @@ fn command_lines_say_what_the_rows_say(rt: HostRuntime) -> Result<(), Fail> {
             rows = rows.wrapping_add(1);
         }
     }
-    check_same(&rt, &rows, &132);
+    check_same(&rt, &rows, &136);
     Ok(())
 }
 

@@ -4,7 +4,7 @@ use crate::runs::{
 };
 use std::test::Fail;
 
-const BAD_LINES: [&str; 59] = [
+const BAD_LINES: [&str; 62] = [
     // No words, and commands with too few or too many names, or with an output named twice.
     "",
     "sim i s",
@@ -71,6 +71,10 @@ const BAD_LINES: [&str; 59] = [
     "soak x",
     "soak 18446744073709551616",
     "soak 1 2",
+    // `import`.
+    "import l",
+    "import l l",
+    "import l t u",
 ];
 
 #[test]

@@ -47,7 +47,7 @@ const A: Input = (
 );
 
 /// The commands. Another command is another row.
-const COMMANDS: [Command; 15] = [
+const COMMANDS: [Command; 16] = [
     Command {
         words: "asm x o",
         inputs: &[X],
@@ -122,6 +122,11 @@ const COMMANDS: [Command; 15] = [
         words: "soak 1",
         inputs: &[],
         outputs: &[],
+    },
+    Command {
+        words: "import l t",
+        inputs: &[("l", &RECURSION)],
+        outputs: &["t"],
     },
 ];
 
