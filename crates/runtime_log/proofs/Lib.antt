@@ -4,6 +4,7 @@ pub mod BlockReading
 pub mod Coming
 pub mod BlockLists
 pub mod Packed
+pub mod RecordFits
 pub mod Recordable
 pub mod Contents
 pub mod Taking

@@ -54,12 +54,13 @@ tagged_again at other bytes r e = by_short (ltb (length bytes) 32) e
 
 -- records of 32 bytes each, and one more
 pub read_more : (n : ℕ) (bytes chunk : List ℕ) (r : BasicRec) → length bytes ≡ 32 * n → length chunk ≡ 32 → length (records_read n bytes) ≡ n → tagged_rows 0 chunk ≡ Ok r
-    → records_read (n + 1) (bytes ++ chunk) ≡ records_read n bytes ++ r ∷ []
+    → records_read (suc n) (bytes ++ chunk) ≡ records_read n bytes ++ r ∷ []
 read_more zero [] chunk r long whole all is =
     let same : take 32 chunk ≡ chunk = take_all 32 chunk (omega (arith, whole)) in
     ap (λ (xs : List ℕ). record_before (tagged_rows 0 xs) []) same ∙ ap (λ (x : Result BasicRec LogFault). record_before x []) is
 read_more zero (b ∷ bytes) chunk r long whole all is = absurd (omega (arith, long))
-read_more (suc n) bytes chunk r long whole all is = by_first (tagged_rows 0 (take 32 bytes)) refl all
+read_more (suc n) bytes chunk r long whole all is =
+    by_first (λ rest far few. read_more n rest chunk r far whole few is) (tagged_rows 0 (take 32 bytes)) refl all
   where
     rest : List ℕ
     rest = drop 32 bytes
@@ -70,11 +71,12 @@ read_more (suc n) bytes chunk r long whole all is = by_first (tagged_rows 0 (tak
     behind : drop 32 (bytes ++ chunk) ≡ rest ++ chunk
     behind = drop-append-le 32 bytes chunk (omega (arith, long))
 
-    by_first : (x : Result BasicRec LogFault) → tagged_rows 0 (take 32 bytes) ≡ x → length (record_before x (records_read n rest)) ≡ suc n
-        → record_before (tagged_rows 0 (take 32 (bytes ++ chunk))) (records_read (n + 1) (drop 32 (bytes ++ chunk))) ≡ record_before (tagged_rows 0 (take 32 bytes)) (records_read n rest) ++ r ∷ []
-    by_first (Err fault) e h = absurd (omega (arith, h))
-    by_first (Ok first) e h =
-        rw (front, behind, e) (ap (λ (rs : List BasicRec). first ∷ rs) (read_more n rest chunk r (omega (arith, long, length-drop 32 bytes)) whole (omega (arith, h)) is))
+    by_first : ((xs : List ℕ) → length xs ≡ 32 * n → length (records_read n xs) ≡ n → records_read (suc n) (xs ++ chunk) ≡ records_read n xs ++ r ∷ [])
+        → (x : Result BasicRec LogFault) → tagged_rows 0 (take 32 bytes) ≡ x → length (record_before x (records_read n rest)) ≡ suc n
+        → record_before (tagged_rows 0 (take 32 (bytes ++ chunk))) (records_read (suc n) (drop 32 (bytes ++ chunk))) ≡ record_before (tagged_rows 0 (take 32 bytes)) (records_read n rest) ++ r ∷ []
+    by_first again (Err fault) e h = absurd (omega (arith, h))
+    by_first again (Ok first) e h =
+        rw (front, behind, e) (ap (λ (rs : List BasicRec). first ∷ rs) (again rest (omega (arith, long, length-drop 32 bytes)) (omega (arith, h))))
 
 -- ---- their events
 

@@ -6,7 +6,7 @@ use Rattle.std.specs.List.Sorted.{IsSortedBy}
 use Rattle.std.specs.Cmp.Lexicographic.{slice_cmp}
 use Rattle.std.specs.Ordering.{is_lt, nat_cmp}
 use Rattle.std.specs.Str.{bytes_eq}
-use Rattle.std.proofs.lemmas.Bool.{lt-ltb}
+use Rattle.std.proofs.lemmas.Bool.{lt-ltb, ne_eqb}
 use Rattle.std.proofs.lemmas.List.{get_or-map, length-map}
 use Rattle.std.proofs.lemmas.List.Elements.{All-cons, All-get_or, All-head, All-nil, All-tail}
 use Rattle.std.proofs.lemmas.List.Filters.{length-filter_both}
@@ -93,7 +93,7 @@ pub at_length : (bytes : List ℕ) (mode : Mode) (places : List Placed) (said : 
 at_length bytes mode [] [] are = refl
 at_length bytes mode [] (s ∷ said) are = absurd are
 at_length bytes mode (p ∷ places) [] are = absurd are
-at_length bytes mode (p ∷ places) (s ∷ said) are = ap (λ (n : ℕ). 1 + n) (at_length bytes mode places said are.1)
+at_length bytes mode (p ∷ places) (s ∷ said) are = ap suc (at_length bytes mode places said are.1)
 
 -- ---- those whose bytes come for the first time
 
@@ -109,7 +109,9 @@ at_index bytes mode [] said i d are within = absurd (omega arith)
 at_index bytes mode (p ∷ places) [] i d are within = absurd are
 at_index bytes mode (p ∷ places) (s ∷ said) zero d are within = record { b = s; is = are.0; rest = refl }
 at_index bytes mode (p ∷ places) (s ∷ said) (suc i) d are within =
-    let there = at_index bytes mode places said i d are.1 (omega arith) in record { b = there.b; is = there.is; rest = there.rest }
+    let there = at_index bytes mode places said i d are.1 (omega arith) in
+    let next : suc (i + 1) ≡ suc i + 1 = omega arith in
+    record { b = there.b; is = there.is; rest = there.rest ∙ ap (λ (k : ℕ). there.b ∷ drop k (s ∷ said)) next }
 
 -- a block whose bytes were there before
 pub keeps_doubled : (bytes : List ℕ) (mode : Mode) (said : List LogBlock) (i : ℕ) (kept : List Placed) (seen more : List (List ℕ)) (placed : Placed)
@@ -182,7 +184,7 @@ empty_count blocks =
   where
     none_is : (n : ℕ) → eqb n 0 ≡ not (nat_lt 0 n)
     none_is zero = refl
-    none_is (suc n) = refl
+    none_is (suc n) = rw (ne_eqb (suc n) 0 (λ e. omega (arith, e)), lt-ltb 0 (suc n) (omega arith)) refl
 
 -- ---- in order
 
