@@ -2,7 +2,9 @@
 use Rattle.std.proofs.Common.{◌≡◌, ℕ, true, false, List, [], ◌∷◌, Option, Some, None, refl}
 use Rattle.std.specs.Prelude.{codes, option_map}
 use Rattle.xray_io.specs.declared.wall.Wall.{Wall}
-use Rattle.command_words.specs.Words.{Command, Sim, Plain, Extract, Asm, Soak, outputs_of, reading}
+use Rattle.command_words.specs.Reports.{ByIds, ByImage, ByMap}
+use Rattle.command_words.specs.declared.report_options.StackFormat.TheVariants.{Human}
+use Rattle.command_words.specs.Words.{Command, Sim, Plain, Extract, Asm, Stack, Convert, Soak, Import, outputs_of, reading}
 
 -- a wall time that is passed in
 noon : Wall
@@ -99,3 +101,23 @@ seed_of_65_bits = refl
 
 no_seed : says (codes "soak" ∷ []) ≡ None
 no_seed = refl
+
+-- an image or a sled map names the functions of a trace, and not both
+by_ids : says (codes "convert" ∷ codes "t" ∷ []) ≡ Some (Convert (codes "t") ByIds)
+by_ids = refl
+
+by_image : says (codes "convert" ∷ codes "t" ∷ codes "i" ∷ []) ≡ Some (Convert (codes "t") (ByImage (codes "i")))
+by_image = refl
+
+by_map : says (codes "stack" ∷ codes "--map=m" ∷ codes "t" ∷ []) ≡ Some (Stack (codes "t") (ByMap (codes "m")) Human)
+by_map = refl
+
+by_both : says (codes "convert" ∷ codes "t" ∷ codes "i" ∷ codes "--map" ∷ codes "m" ∷ []) ≡ None
+by_both = refl
+
+-- a log and the trace that is made of it
+imported : says (codes "import" ∷ codes "l" ∷ codes "t" ∷ []) ≡ Some (Import (codes "l") (codes "t"))
+imported = refl
+
+onto_the_log : says (codes "import" ∷ codes "l" ∷ codes "l" ∷ []) ≡ None
+onto_the_log = refl

@@ -22,6 +22,8 @@ mod words;
 
 pub use fdr_buffer::TRACE_LIMIT;
 pub use laws::commands_follow_their_rows;
-pub use report_options::{AccountFormat, AccountOptions, SortColumn, SortOrder, StackFormat};
+pub use report_options::{
+    AccountFormat, AccountOptions, NameSource, SortColumn, SortOrder, StackFormat,
+};
 pub use run_options::{Bounds, Buffers, RunOptions, Stamps};
 pub use words::{Command, read_words};

@@ -194,6 +194,13 @@ pub(crate) const CONVERT_FORMAT: OptionRow = OptionRow {
     default: Some(0),
 };
 
+/// The sled map that names the functions of a trace.
+pub(crate) const MAP: OptionRow = OptionRow {
+    name: "map",
+    values: Values::FileName,
+    default: None,
+};
+
 /// The options of a plain run.
 const BOUNDS_OPTIONS: &[OptionRow] = &[THREADS, FUEL, PASSINGS];
 
@@ -284,21 +291,21 @@ pub(crate) const SEEDS: Values = Values::Number {
 pub(crate) const ACCOUNT: CommandRow = CommandRow {
     word: "account",
     files: &[TRACE, NAMING_IMAGE],
-    options: &[SORT, SORT_ORDER, TOP, ACCOUNT_FORMAT],
+    options: &[SORT, SORT_ORDER, TOP, ACCOUNT_FORMAT, MAP],
 };
 
 /// `stack TRACE [IMAGE]`: prints how often each stack of a trace occurred, and for how long.
 pub(crate) const STACK: CommandRow = CommandRow {
     word: "stack",
     files: &[TRACE, NAMING_IMAGE],
-    options: &[STACK_FORMAT],
+    options: &[STACK_FORMAT, MAP],
 };
 
 /// `convert TRACE [IMAGE]`: prints a trace as a text in YAML.
 pub(crate) const CONVERT: CommandRow = CommandRow {
     word: "convert",
     files: &[TRACE, NAMING_IMAGE],
-    options: &[CONVERT_FORMAT],
+    options: &[CONVERT_FORMAT, MAP],
 };
 
 /// `asm TEXT IMAGE`: assembles an image.
@@ -343,5 +350,18 @@ pub(crate) const RUN: CommandRow = CommandRow {
 pub(crate) const SOAK: CommandRow = CommandRow {
     word: "soak",
     files: &[SEED],
+    options: &[],
+};
+
+/// A log of LLVM's runtime.
+const LOG: FileRow = FileRow {
+    label: "log",
+    role: Role::Input,
+};
+
+/// `import LOG TRACE`: writes a log of LLVM's runtime as a trace, and prints what was taken.
+pub(crate) const IMPORT: CommandRow = CommandRow {
+    word: "import",
+    files: &[LOG, MADE_TRACE],
     options: &[],
 };

@@ -9,13 +9,14 @@ ghost use Rattle.command_words.specs.private.Verbs.{command_by, report_said, row
 use crate::cutting::cut_line;
 use crate::line::Line;
 use crate::report_options::{
-    AccountOptions, ReportFiles, StackFormat, account_options_in, report_files_in, stack_format_in,
+    AccountOptions, NameSource, ReportFiles, StackFormat, account_options_in, report_files_in,
+    stack_format_in,
 };
 use crate::rows::CommandRow;
 use crate::run_options::{Bounds, RunOptions, bounds_in, run_options_in};
 use crate::tables::{
-    ACCOUNT, ASM, CONVERT, CONVERT_FORMAT, EXTRACT, MAP_VERSION, PLAIN, RELATIVE_MAP, RUN, SEEDS,
-    SIM, SOAK, STACK, THRESHOLD,
+    ACCOUNT, ASM, CONVERT, CONVERT_FORMAT, EXTRACT, IMPORT, MAP_VERSION, PLAIN, RELATIVE_MAP, RUN,
+    SEEDS, SIM, SOAK, STACK, THRESHOLD,
 };
 use std::alloc::{AllocError, Global};
 use xray_io::Wall;
@@ -79,8 +80,8 @@ pub enum Command<'a> {
     Account {
         /// The trace.
         trace: &'a str,
-        /// The image that names the functions, if there is one.
-        image: Option<&'a str>,
+        /// What names its functions.
+        names: NameSource<'a>,
         /// How the account is printed.
         options: AccountOptions,
     },
@@ -88,8 +89,8 @@ pub enum Command<'a> {
     Stack {
         /// The trace.
         trace: &'a str,
-        /// The image that names the functions, if there is one.
-        image: Option<&'a str>,
+        /// What names its functions.
+        names: NameSource<'a>,
         /// The form in which the stacks are printed.
         format: StackFormat,
     },
@@ -97,14 +98,21 @@ pub enum Command<'a> {
     Convert {
         /// The trace.
         trace: &'a str,
-        /// The image that names the functions, if there is one.
-        image: Option<&'a str>,
+        /// What names its functions.
+        names: NameSource<'a>,
     },
     /// Replays a schedule over a large image and a script, all drawn from a number, and prints a
     /// summary.
     Soak {
         /// The number.
         number: u64,
+    },
+    /// Writes a log of LLVM's runtime as a trace, and prints what was taken.
+    Import {
+        /// The log.
+        log: &'a str,
+        /// The trace, which is an output of another name.
+        trace: &'a str,
     },
 }
 
@@ -152,6 +160,8 @@ enum Verb {
     Report(Report),
     /// `soak SEED`.
     Soak,
+    /// `import LOG TRACE`.
+    Import,
 }
 
 /// A report on a trace.
@@ -188,6 +198,8 @@ impl Verb {
             Some(Verb::Report(Report::Convert))
         } else if word == SOAK.word {
             Some(Verb::Soak)
+        } else if word == IMPORT.word {
+            Some(Verb::Import)
         } else {
             None
         }
@@ -207,6 +219,7 @@ impl Verb {
             Verb::Report(Report::Stack) => STACK,
             Verb::Report(Report::Convert) => CONVERT,
             Verb::Soak => SOAK,
+            Verb::Import => IMPORT,
         }
     }
 }
@@ -240,6 +253,10 @@ fn command_in<'a>(verb: Verb, wall: Wall, line: &Line<'a>) -> Option<Command<'a>
                 let number = SEEDS.number_of(seed)?;
                 Some(Command::Soak { number })
             }
+            _ => None,
+        },
+        Verb::Import => match files {
+            [log, trace] => Some(Command::Import { log, trace }),
             _ => None,
         },
     }
@@ -305,21 +322,21 @@ fn report_in<'a>(report: Report, line: &Line<'a>) -> Option<Command<'a>>
     ensures reads { option_map command_view result ≡ report_said report (line_view line.now) }
     ensures ranges { IfSome (option_map command_view result) HasRanges }
 {
-    let ReportFiles { trace, image } = report_files_in(line)?;
+    let ReportFiles { trace, names } = report_files_in(line)?;
     match report {
         Report::Account => Some(Command::Account {
             trace,
-            image,
+            names,
             options: account_options_in(line)?,
         }),
         Report::Stack => Some(Command::Stack {
             trace,
-            image,
+            names,
             format: stack_format_in(line)?,
         }),
         Report::Convert => {
             let _yaml = CONVERT_FORMAT.number_in(line)?;
-            Some(Command::Convert { trace, image })
+            Some(Command::Convert { trace, names })
         }
     }
 }

@@ -14,21 +14,27 @@ use xray_io::NoMemory;
 
 /// Whether the next record may be an argument.
 #[derive(Clone, Copy)]
-pub(crate) enum Argument {
+pub enum Argument {
     /// It may not.
     Barred,
     /// It may. The last record is an entry of this function, which logs its argument.
-    Awaited { func: u32 },
+    Awaited {
+        /// The function's id.
+        func: u32,
+    },
     /// It may, but it has no meaning, since another argument stands before it.
     Known,
 }
 
 /// The CPU and the counter by the records so far, and whether an argument may follow them.
 #[derive(Clone, Copy)]
-pub(crate) struct Base {
-    cpu: u16,
-    tsc: u64,
-    argument: Argument,
+pub struct Base {
+    /// The number of the CPU.
+    pub cpu: u16,
+    /// The counter at the last record, in cycles.
+    pub tsc: u64,
+    /// Whether an argument may follow.
+    pub argument: Argument,
 }
 
 /// What is known after a record, and the events that it settles: the entry before it, whose argument

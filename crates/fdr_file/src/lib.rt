@@ -22,6 +22,7 @@ mod version;
 mod writing;
 
 pub use cursor::EventCursor;
+pub use events::{Argument, Base};
 pub use fault::TraceFault;
 pub use header::Header;
 pub use laws::{
@@ -30,7 +31,9 @@ pub use laws::{
 };
 pub use longest::readable;
 pub use reading::read_trace;
+pub use records::{record_len, record_of};
 pub use scan::TraceScan;
+pub use stage::{Inside, Span, Stage, Told, judge, within_events};
 pub use taker::{KeepNothing, Taker};
 pub use trace::{Block, Blocks, Events, Items, Trace};
 pub use version::{VERSION, Version};

@@ -36,8 +36,16 @@ const X: Input = (
     &[b"base 0x1000\nfn main always\nmov eax, 65\nout 1\nret\n"],
 );
 
+/// A sled map that names function 1.
+const M: Input = (
+    "m",
+    &[
+        b"---\n- { id: 1, address: 0x1, function: 0x1, kind: function-enter, always-instrument: true, function-name: f }\n...\n",
+    ],
+);
+
 /// The commands. Another command is another row.
-const COMMANDS: [Command; 10] = [
+const COMMANDS: [Command; 12] = [
     Command {
         words: "asm x o",
         inputs: &[X],
@@ -82,6 +90,16 @@ const COMMANDS: [Command; 10] = [
         words: "convert t i",
         inputs: &[("t", &ONE_CALL), I],
         outputs: &[],
+    },
+    Command {
+        words: "stack t --map m",
+        inputs: &[("t", &RECURSION), M],
+        outputs: &[],
+    },
+    Command {
+        words: "import l t",
+        inputs: &[("l", &RECURSION)],
+        outputs: &["t"],
     },
     Command {
         words: "soak 1",

@@ -23,6 +23,8 @@ mod gate_calls;
 #[cfg(test)]
 mod gates;
 #[cfg(test)]
+mod imports;
+#[cfg(test)]
 mod pieces;
 #[cfg(test)]
 mod plain;

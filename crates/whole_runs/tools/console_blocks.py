@@ -21,7 +21,7 @@ ROOT = next(folder for folder in pathlib.Path(__file__).resolve().parents if (fo
 TOURS = ["README.md", "docs/TOUR.md"]
 FORMATS = sorted(f"docs/formats/{page.name}" for page in (ROOT / "docs/formats").glob("*.md"))
 MANUALS = ["docs/COMMANDS.md", "docs/REFUSALS.md", *FORMATS]
-EXAMPLES = ["first-run", "asm", "live-patching", "reports"]
+EXAMPLES = ["first-run", "asm", "live-patching", "reports", "runtime-logs"]
 # What the shell prints after each command, on a line of its own.
 MARK = "---- console_blocks: done ----"
 

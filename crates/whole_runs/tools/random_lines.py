@@ -11,6 +11,7 @@ import xray_model as model
 from random_images import ROOT, texts
 
 TEXT = (ROOT / "examples/asm/call.asm").read_bytes()
+MAP = (ROOT / "examples/runtime-logs/calls.map").read_bytes()
 NAMES = {
     "asm": [b"x", b"new"],
     "plain": [b"i"],
@@ -20,9 +21,10 @@ NAMES = {
     "account": [b"t", b"i"],
     "stack": [b"t", b"i"],
     "convert": [b"t", b"i"],
+    "import": [b"t", b"new"],
     "soak": [b"1"],
 }
-OTHER_NAMES = [b"i", b"t", b"new", b"./new", b"-", b"a=b", b"a b", b"", b"--", b"-x", b"--fuel", b"--fuel=3", b"help",
+OTHER_NAMES = [b"i", b"t", b"m", b"new", b"./new", b"-", b"a=b", b"a b", b"", b"--", b"-x", b"--fuel", b"--fuel=3", b"help",
                b"missing"]  # fmt: skip
 WRONG = [b"", b"+", b"-1", b"++1", b"+-1", b" 1", b"1 ", b"0x1", b"1e3", b"1.0", b"1=1", b"=", b"-", b"--", b"one", b"1_000",
          str(1 << 64).encode(), str(10**40).encode(), "\u0661".encode(), b"human ", b"Text"]  # fmt: skip
@@ -33,9 +35,9 @@ OTHER_COMMANDS = [b"", b"help", b"Plain", b"plain ", b"--", b"-", b"--fuel=3", b
 
 @functools.cache
 def files():
-    """The inputs: an image, a script, a schedule, a text, and a trace of the image."""
+    """The inputs: an image, a script, a schedule, a text, a sled map, and a trace of the image."""
     image = texts.assembled(TEXT, 1)
-    inputs = {b"i": image, b"s": b"go\n", b"c": b"", b"x": TEXT}
+    inputs = {b"i": image, b"s": b"go\n", b"c": b"", b"x": TEXT, b"m": MAP}
     world = model.World({name.decode(): content for name, content in inputs.items()})
     traced = model.outcome([b"sim", b"i", b"s", b"c", b"t", b"a"], world)
     return {**inputs, b"t": traced.written["t"]}
@@ -47,6 +49,11 @@ def value(draw, values):
         return draw.choice(WRONG)
     if isinstance(values, model.Choice):
         return draw.choice(values.words).encode()
+    if isinstance(values, model.FileName):
+        return b"m" if draw.random() < 0.8 else draw.choice(OTHER_NAMES)
+    if isinstance(values, model.OneOf):
+        number = draw.choice(values.numbers) + (draw.random() < 0.1)
+        return random_cases.spelled(draw, number).encode()
     inside = [values.least, values.most, values.default or 0, draw.randint(values.least, min(values.most, 2000))]
     number = draw.choice([values.least - 1, values.most + 1]) if draw.random() < 0.03 else draw.choice(inside)
     return random_cases.spelled(draw, max(number, 0)).encode()

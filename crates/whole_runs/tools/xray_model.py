@@ -11,12 +11,14 @@ import dataclasses
 import posixpath
 import re
 
+import import_model
+import map_model
 import run_model
 import soak_model
 from image_model import RELATIVE_VERSION, Refused, image_of, sled_map_text
 from machine_model import WORD_64, Thread, plain_text
 from replay_model import NUMBER_LIMIT, RECORDED, WAITING, commands_of, replayed, runs_text, turns_of
-from report_model import account_text, stack_text, yaml_text
+from report_model import account_text, names_of_image, stack_text, yaml_text
 from trace_model import AuditLine, Header, audit_text, file_bytes, trace_of
 
 IMAGE_LIMIT = 4_194_304
@@ -24,6 +26,7 @@ TEXT_LIMIT = 4_194_304
 SCRIPT_LIMIT = 1_048_576
 SCHEDULE_LIMIT = 16_777_216
 TRACE_LIMIT = 67_108_864
+MAP_LIMIT = 67_108_864
 LARGEST_64 = WORD_64 - 1
 
 # ---- Words
@@ -74,6 +77,15 @@ class Choice:
         return word
 
 
+class FileName:
+    """An option whose value is the name of a file."""
+
+    default = None
+
+    def value_of(self, word):
+        return word
+
+
 @dataclasses.dataclass(frozen=True)
 class Form:
     """How many files a command has at least and at most, which of them are outputs, and its options.
@@ -110,6 +122,7 @@ ACCOUNT_OPTIONS = {
     "sortorder": Choice("asc", "desc"),
     "top": Numbers(0, NUMBER_LIMIT, None),
     "format": Choice("text", "csv"),
+    "map": FileName(),
 }
 
 TRACE_AND_IMAGE = range(1, 3)
@@ -120,12 +133,13 @@ FORMS = {
     "sim": Form(range(5, 6), (3, 4), TRACE_OPTIONS),
     "run": Form(range(4, 5), (2, 3), TRACE_OPTIONS),
     "account": Form(TRACE_AND_IMAGE, (), ACCOUNT_OPTIONS),
-    "stack": Form(TRACE_AND_IMAGE, (), {"format": Choice("human", "flame")}),
-    "convert": Form(TRACE_AND_IMAGE, (), {"format": Choice("yaml")}),
+    "stack": Form(TRACE_AND_IMAGE, (), {"format": Choice("human", "flame"), "map": FileName()}),
+    "convert": Form(TRACE_AND_IMAGE, (), {"format": Choice("yaml"), "map": FileName()}),
+    "import": Form(range(2, 3), (1,), {}),
     "soak": Form(range(1, 2), (), {}, {0: Numbers(0, LARGEST_64, None)}),
 }
 # Commands that a program may lack.
-LATER = ("sim", "run", "account", "stack", "convert", "soak")
+LATER = ("sim", "run", "account", "stack", "convert", "import", "soak")
 # `sim` of a program that writes no traces: it only prints the state texts.
 REPLAY = Form(range(3, 4), (), RUN_OPTIONS)
 
@@ -156,12 +170,14 @@ def command_of(words, forms):
             if option not in form.options or option in given:
                 raise BadLine
             value = value if is_joined else next(left, None)
-            if value is None:
+            if value is None or (not is_joined and len(value) > 1 and value.startswith("-")):
                 raise BadLine
             given[option] = form.options[option].value_of(value)
         else:
             files.append(word)
     if len(files) not in form.files or any(files.count(files[at]) > 1 for at in form.outputs):
+        raise BadLine
+    if "map" in given and len(files) > 1:
         raise BadLine
     for at, values in form.numbers.items():
         files[at] = values.value_of(files[at])
@@ -297,13 +313,20 @@ def audit_line(thread, recorded):
 REPORTS = {"account": account_text, "stack": stack_text, "convert": yaml_text}
 
 
+def taken_names(world, images, map_name):
+    """The names that an image or a sled map gives to the ids of functions, if there is one of them."""
+    if map_name is not None:
+        return taken(world, map_name, "map", MAP_LIMIT, map_model.names_of)
+    return names_of_image(taken_image(world, images[0])) if images else {}
+
+
 def report(world, command, names, options):
-    """What a report on a trace prints, with an image that names its functions or without one."""
+    """What a report on a trace prints, with an image or a sled map that names its functions or without one."""
     trace_name, *rest = names
     trace = taken(world, trace_name, "trace", TRACE_LIMIT, trace_of)
-    image = taken_image(world, rest[0]) if rest else None
+    function_names = taken_names(world, rest, options["map"])
     try:
-        return REPORTS[command](trace, image, options)
+        return REPORTS[command](trace, function_names, options)
     except Refused as refused:
         raise Failed(2, f"{trace_name}: trace {refused.reason}")
 
@@ -327,6 +350,10 @@ def results(command, names, options, world, assemble):
         case "run":
             comes = run_beside(world, names[:2], options)
             return dict(zip(names[2:], [comes.trace, comes.audit])), comes.states
+        case "import":
+            log_name, trace_name = names
+            log = taken(world, log_name, "log", TRACE_LIMIT, import_model.logged)
+            return {trace_name: file_bytes(import_model.trace_made(log))}, import_model.facts(log)
         case "soak":
             return {}, soak_model.summary(names[0], assemble)
         case _:
@@ -351,7 +378,7 @@ def done(words, world, assemble, forms):
         used.append(name)
     if world.is_output_full and text:
         raise Failed(4, "output: write fault", written)
-    return Outcome(0, text.encode("ascii"), b"", written)
+    return Outcome(0, text.encode("utf-8", "surrogateescape"), b"", written)
 
 
 def outcome(words, world, assemble=None, forms=FORMS):

@@ -7,7 +7,14 @@ use Rattle.command_words.specs.Limits.{trace_limit}
 use Rattle.command_words.specs.declared.report_options.AccountOptions.{AccountOptions}
 use Rattle.command_words.specs.declared.report_options.StackFormat.{StackFormat}
 use Rattle.command_words.specs.declared.run_options.Bounds.{Bounds}
-use Rattle.command_words.specs.Words.{Command, Sim, Run, Plain, Extract, Asm, Account, Stack, Convert, Soak}
+use Rattle.command_words.specs.Words.{Command, Sim, Run, Plain, Extract, Asm, Account, Stack, Convert, Soak, Import}
+use Rattle.command_words.specs.Reports.{NameSource, ByIds, ByImage, ByMap}
+use Rattle.function_names.specs.Name.{program_names}
+use Rattle.map_names.specs.FaultWords.{map_words}
+use Rattle.map_names.specs.Maps.{map_naming}
+use Rattle.map_names.specs.Naming.{Naming, no_names}
+use Rattle.runtime_log.specs.Facts.{facts_text}
+use Rattle.runtime_log.specs.declared.facts.Facts.{Facts}
 use Rattle.machine_step.specs.declared.setup.Setup.{Setup}
 use Rattle.asm_text.specs.Assembling.{assembled}
 use Rattle.asm_text.specs.FaultWords.{asm_words}
@@ -25,20 +32,20 @@ use Rattle.xray_image.specs.Program.{Program}
 use Rattle.yaml_convert.specs.Yaml.{yaml_text}
 use Rattle.xray_io.specs.Desk.{Entry, Absent, Holds}
 use Rattle.xray_io.specs.World.{World}
-use Rattle.xray_program.specs.Accepted.{AreAccepted, CountsNoFault, HoldsImage, HoldsInput, HoldsReport}
+use Rattle.xray_program.specs.Accepted.{AreAccepted, CountsNoFault, HoldsInput, HoldsNames, HoldsReport}
 use Rattle.xray_program.specs.Answers.{IsAnswer}
 use Rattle.xray_program.specs.Commands.{Means}
-use Rattle.xray_program.specs.Inputs.{image_form, schedule_form, schedule_limit, script_form, script_limit, text_form, text_limit, trace_form}
+use Rattle.xray_program.specs.Inputs.{image_form, log_form, map_form, map_limit, schedule_form, schedule_limit, script_form, script_limit, text_form, text_limit, trace_form}
 use Rattle.xray_program.specs.Outcomes.{Outcome, Done, status_of}
 use Rattle.xray_program.specs.Account.{account_report}
 use Rattle.xray_program.specs.Plain.{PlainPrints}
-use Rattle.xray_program.specs.Reports.{TakeReport}
+use Rattle.xray_program.specs.Reports.{TakeNames, TakeReport}
 use Rattle.xray_program.specs.Run.{FollowsPlan}
 use Rattle.xray_program.specs.Setups.{setup_of}
 use Rattle.xray_program.specs.Sim.{Replayed, Replays}
 use Rattle.xray_program.specs.Soak.{IsSummary}
 use Rattle.xray_program.specs.Stack.{StacksCome, form_of}
-use Rattle.xray_program.specs.Taking.{Form, Leaves, Prints, RefuseIf, Sound, Take, TakeMaybe}
+use Rattle.xray_program.specs.Taking.{Form, Leaves, Prints, RefuseIf, Sound, Take}
 use Rattle.xray_program.specs.Traced.{Traces}
 use Rattle.xray_program.proofs.Meanings.{IsDecided, decided_by}
 
@@ -66,13 +73,13 @@ accepted_take form is held name next value at done outcome (inr (bytes, may, inr
     let same = is.one at.bytes other value (subst (λ b. form.Reads b other) alike reads) at.reads in
     done outcome (subst (λ v. next v outcome) same comes)
 
-accepted_maybe : IsDecided image_form → (held : List ℕ → Entry) (name : Option (List ℕ)) (next : Option Program → Outcome → Type 0)
-    (value : Option Program) → HoldsImage held name value → IsDone (next value) → IsDone (TakeMaybe image_form Sound held name next)
-accepted_maybe is held None next None at done = done
-accepted_maybe is held None next (Some program) at done = absurd at
-accepted_maybe is held (Some name) next None at done = absurd at
-accepted_maybe is held (Some name) next (Some program) at done =
-    accepted_take image_form is held name (λ v. next (Some v)) program at done
+accepted_names : IsDecided image_form → (held : List ℕ → Entry) (names : NameSource) (next : Naming → Outcome → Type 0)
+    → HoldsNames held names → ((naming : Naming) → IsDone (next naming)) → IsDone (TakeNames Sound held names next)
+accepted_names is held ByIds next at done = done no_names
+accepted_names is held (ByImage name) next (program, at) done =
+    accepted_take image_form is held name (λ p. next (program_names p)) program at (done (program_names program))
+accepted_names is held (ByMap name) next (naming, at) done =
+    accepted_take map_form (decided_by (codes "map") map_limit map_naming map_words) held name next naming at (done naming)
 
 -- what is left is done
 left_done : (Are : List (List ℕ × List ℕ) → List ℕ → Type 0) → IsDone (Leaves Are)
@@ -88,13 +95,13 @@ unrefused {L} words (Some refusal) name kind next none done = absurd (never refu
     never l e = cc
 
 -- a report whose inputs are accepted
-report_done : IsDecided image_form → (held : List ℕ → Entry) (trace : List ℕ) (image : Option (List ℕ)) (Is : Trace → Type 0)
-    (next : Trace → Option Program → Outcome → Type 0) → HoldsReport held trace image Is
-    → ((t : Trace) (program : Option Program) → Is t → IsDone (next t program)) → IsDone (TakeReport trace_form Sound held trace image next)
-report_done is held trace image Is next (t, program, at, of_image, so) done =
+report_done : IsDecided image_form → (held : List ℕ → Entry) (trace : List ℕ) (names : NameSource) (Is : Trace → Type 0)
+    (next : Trace → Naming → Outcome → Type 0) → HoldsReport held trace names Is
+    → ((t : Trace) (naming : Naming) → Is t → IsDone (next t naming)) → IsDone (TakeReport trace_form Sound held trace names next)
+report_done is held trace names Is next (t, at, of_names, so) done =
     accepted_take trace_form (decided_by (codes "trace") trace_limit trace_of trace_words) held trace
-    (λ u. TakeMaybe image_form Sound held image (λ p. next u p)) t at
-    (accepted_maybe is held image (λ p. next t p) program of_image (done t program so))
+    (λ u. TakeNames Sound held names (next u)) t at
+    (accepted_names is held names (next t) of_names (λ naming. done t naming so))
 
 -- what follows the inputs of a command
 
@@ -113,17 +120,20 @@ extract_next program outcome = outcome ≡ Done [] (extract_text program)
 abbrev asm_next : List ℕ → List ℕ → Outcome → Type 0
 asm_next image file outcome = outcome ≡ Done ((image, file) ∷ []) []
 
-abbrev account_next : AccountOptions → Trace → Option Program → Outcome → Type 0
-account_next options t program outcome = outcome ≡ Done [] (account_report options t program)
+abbrev account_next : AccountOptions → Trace → Naming → Outcome → Type 0
+account_next options t naming outcome = outcome ≡ Done [] (account_report options t naming)
 
-abbrev stack_next : StackFormat → Trace → Option Program → Outcome → Type 0
-stack_next format t program outcome = outcome ≡ Done [] (stack_text (form_of format) program (stack_of t.blocks))
+abbrev stack_next : StackFormat → Trace → Naming → Outcome → Type 0
+stack_next format t naming outcome = outcome ≡ Done [] (stack_text (form_of format) naming (stack_of t.blocks))
 
-abbrev convert_next : Trace → Option Program → Outcome → Type 0
-convert_next t program outcome = outcome ≡ Done [] (yaml_text program t)
+abbrev convert_next : Trace → Naming → Outcome → Type 0
+convert_next t naming outcome = outcome ≡ Done [] (yaml_text naming t)
 
-accepted_done : IsDecided image_form → (held : List ℕ → Entry) (command : Command) → AreAccepted held command → IsDone (Means (Some command) held)
-accepted_done is held (Sim i s c t a options) (program, plan, turns, at, of_script, of_schedule, still) =
+abbrev import_next : List ℕ → List ℕ × Facts → Outcome → Type 0
+import_next trace made outcome = outcome ≡ Done ((trace, made.0) ∷ []) (facts_text made.1)
+
+accepted_done : IsDecided image_form → IsDecided log_form → (held : List ℕ → Entry) (command : Command) → AreAccepted held command → IsDone (Means (Some command) held)
+accepted_done is log_is held (Sim i s c t a options) (program, plan, turns, at, of_script, of_schedule, still) =
     let setup = setup_of options in
     accepted_take image_form is held i
     (λ p. Take (script_form p setup.threads) Sound held s (λ l. Take (schedule_form setup.threads) Sound held c (Replays s t a setup p l))) program at
@@ -133,34 +143,35 @@ accepted_done is held (Sim i s c t a options) (program, plan, turns, at, of_scri
     (Replays s t a setup program plan) turns of_schedule
     (unrefused waits_words (waiting_line plan.lines) s (codes "script") (sim_next s t a setup program plan turns) still
     (left_done (Traces (Replayed program plan turns setup) program setup t a)))))
-accepted_done is held (Run i s t a options) (program, plan, at, of_script) =
+accepted_done is log_is held (Run i s t a options) (program, plan, at, of_script) =
     let setup = setup_of options in
     accepted_take image_form is held i (λ p. Take (script_form p setup.threads) Sound held s (λ l. run_next t a setup p l)) program at
     (accepted_take (script_form program setup.threads) (decided_by (codes "script") script_limit (plan_of program setup.threads) script_words) held s
     (λ l. run_next t a setup program l) plan of_script (left_done (Traces (FollowsPlan setup program plan) program setup t a)))
-accepted_done is held (Plain i bounds) (program, at) =
+accepted_done is log_is held (Plain i bounds) (program, at) =
     accepted_take image_form is held i (plain_next bounds) program at (left_done (λ outputs text. (outputs ≡ []) × PlainPrints program bounds text))
-accepted_done is held (Extract i) (program, at) = accepted_take image_form is held i extract_next program at (λ outcome same. ap status_of same)
-accepted_done is held (Asm t i threshold relative) (file, at) =
+accepted_done is log_is held (Extract i) (program, at) = accepted_take image_form is held i extract_next program at (λ outcome same. ap status_of same)
+accepted_done is log_is held (Asm t i threshold relative) (file, at) =
     accepted_take (text_form threshold relative) (decided_by (codes "text") text_limit (λ bytes. assembled bytes threshold relative) asm_words) held t (asm_next i) file at
     (λ outcome same. ap status_of same)
-accepted_done is held (Account t i options) at =
+accepted_done is log_is held (Account t i options) at =
     report_done is held t i (λ u. ⊤) (account_next options) at (λ u program so outcome same. ap status_of same)
-accepted_done is held (Stack t i format) at =
+accepted_done is log_is held (Stack t i format) at =
     report_done is held t i (λ u. deep_in most_open u.blocks ≡ None) (λ u program. StacksCome t format u program) at
     (λ u program shallow. unrefused deep_words (deep_in most_open u.blocks) t (codes "trace") (stack_next format u program) shallow
     (λ outcome same. ap status_of same))
-accepted_done is held (Convert t i) at = report_done is held t i (λ u. ⊤) convert_next at (λ u program so outcome same. ap status_of same)
-accepted_done is held (Soak number) at = left_done (λ outputs text. (outputs ≡ []) × IsSummary number text)
+accepted_done is log_is held (Convert t i) at = report_done is held t i (λ u. ⊤) convert_next at (λ u program so outcome same. ap status_of same)
+accepted_done is log_is held (Soak number) at = left_done (λ outputs text. (outputs ≡ []) × IsSummary number text)
+accepted_done is log_is held (Import log trace) (made, at) = accepted_take log_form log_is held log (import_next trace) made at (λ outcome same. ap status_of same)
 
-pub done_or_memory : IsDecided image_form → (command : Command) (before after : World) (status : ℕ) → AreAccepted before.desk.held command
+pub done_or_memory : IsDecided image_form → IsDecided log_form → (command : Command) (before after : World) (status : ℕ) → AreAccepted before.desk.held command
     → CountsNoFault before after → IsAnswer (Some command) before after status → (status ≡ 0) ⊎ (status ≡ 5)
-done_or_memory is command before after status accepted calm (inl (outcome, meant, same)) =
-    inl (sym same ∙ accepted_done is before.desk.held command accepted outcome meant)
-done_or_memory is command before after status accepted calm (inr (inl memory)) = inr memory
-done_or_memory is command before after status accepted calm (inr (inr (inl (three, rose)))) = absurd (calm.reads rose)
-done_or_memory is command before after status accepted calm (inr (inr (inr (four, inl rose)))) = absurd (calm.writes rose)
-done_or_memory is command before after status accepted calm (inr (inr (inr (four, inr rose)))) = absurd (calm.out rose)
+done_or_memory is log_is command before after status accepted calm (inl (outcome, meant, same)) =
+    inl (sym same ∙ accepted_done is log_is before.desk.held command accepted outcome meant)
+done_or_memory is log_is command before after status accepted calm (inr (inl memory)) = inr memory
+done_or_memory is log_is command before after status accepted calm (inr (inr (inl (three, rose)))) = absurd (calm.reads rose)
+done_or_memory is log_is command before after status accepted calm (inr (inr (inr (four, inl rose)))) = absurd (calm.writes rose)
+done_or_memory is log_is command before after status accepted calm (inr (inr (inr (four, inr rose)))) = absurd (calm.out rose)
 
 -- ---- none has status 7
 
@@ -179,10 +190,11 @@ take_not_7 form held name next later outcome (inr (bytes, may, inr (within, inl 
     other_status outcome _ 2 is refl (λ e. omega arith)
 take_not_7 form held name next later outcome (inr (bytes, may, inr (within, inr (value, reads, comes)))) = later value outcome comes
 
-maybe_not_7 : (held : List ℕ → Entry) (name : Option (List ℕ)) (next : Option Program → Outcome → Type 0)
-    → ((value : Option Program) → IsNot7 (next value)) → IsNot7 (TakeMaybe image_form Sound held name next)
-maybe_not_7 held None next later = later None
-maybe_not_7 held (Some name) next later = take_not_7 image_form held name (λ v. next (Some v)) (λ v. later (Some v))
+names_not_7 : (held : List ℕ → Entry) (names : NameSource) (next : Naming → Outcome → Type 0)
+    → ((naming : Naming) → IsNot7 (next naming)) → IsNot7 (TakeNames Sound held names next)
+names_not_7 held ByIds next later = later no_names
+names_not_7 held (ByImage name) next later = take_not_7 image_form held name (λ p. next (program_names p)) (λ p. later (program_names p))
+names_not_7 held (ByMap name) next later = take_not_7 map_form held name next later
 
 done_not_7 : (comes : Outcome → Type 0) → IsDone comes → IsNot7 comes
 done_not_7 comes done outcome is seven = let zero_is : ◌≡◌ {A = ℕ} 0 7 = sym (done outcome is) ∙ seven in omega arith
@@ -191,11 +203,10 @@ refused_not_7 : (reason : Option (List ℕ)) (name kind : List ℕ) (next : Outc
 refused_not_7 None name kind next later outcome is = later outcome is
 refused_not_7 (Some refusal) name kind next later outcome is = other_status outcome _ 2 is refl (λ e. omega arith)
 
-report_not_7 : (held : List ℕ → Entry) (trace : List ℕ) (image : Option (List ℕ)) (next : Trace → Option Program → Outcome → Type 0)
-    → ((t : Trace) (program : Option Program) → IsNot7 (next t program)) → IsNot7 (TakeReport trace_form Sound held trace image next)
-report_not_7 held trace image next later =
-    take_not_7 trace_form held trace (λ t. TakeMaybe image_form Sound held image (λ p. next t p))
-    (λ t. maybe_not_7 held image (λ p. next t p) (later t))
+report_not_7 : (held : List ℕ → Entry) (trace : List ℕ) (names : NameSource) (next : Trace → Naming → Outcome → Type 0)
+    → ((t : Trace) (naming : Naming) → IsNot7 (next t naming)) → IsNot7 (TakeReport trace_form Sound held trace names next)
+report_not_7 held trace names next later =
+    take_not_7 trace_form held trace (λ t. TakeNames Sound held names (next t)) (λ t. names_not_7 held names (next t) (later t))
 
 not_7 : (held : List ℕ → Entry) (command : Command) → IsNot7 (Means (Some command) held)
 not_7 held (Sim i s c t a options) =
@@ -227,6 +238,8 @@ not_7 held (Convert t i) =
     report_not_7 held t i convert_next (λ u program. done_not_7 (convert_next u program) (λ outcome same. ap status_of same))
 not_7 held (Soak number) =
     done_not_7 (λ outcome. Means (Some (Soak number)) held outcome) (left_done (λ outputs text. (outputs ≡ []) × IsSummary number text))
+not_7 held (Import log trace) =
+    take_not_7 log_form held log (import_next trace) (λ made. done_not_7 (import_next trace made) (λ outcome same. ap status_of same))
 
 pub none_fell : (said : Option Command) (held : List ℕ → Entry) (outcome : Outcome) → Means said held outcome → status_of outcome ≢ 7
 none_fell None held outcome is = other_status outcome _ 1 is refl (λ e. omega arith)

@@ -1,20 +1,24 @@
 -- What words mean: only one thing if they are decided, a refusal and nothing else, and something in any case. Each
 -- command has a line.
-use Rattle.std.proofs.Common.{◌≡◌, ◌∙◌, ℕ, List, ◌∷◌, map, Option, Some, None, true, arith, codes, refl, subst, sym}
+use Rattle.std.proofs.Common.{◌≡◌, ◌∙◌, ◌++◌, ℕ, List, ◌∷◌, map, Option, Some, None, true, codes, refl, subst, sym}
 use Rattle.std.specs.Prelude.{IsPermutation}
 use Rattle.std.proofs.lemmas.List.Sorted.{IsPermutation-refl}
-use Rattle.command_words.specs.Files.{AreOfTheirRows, inputs_in, names_of, row_of}
+use Rattle.command_words.specs.Files.{AreOfTheirRows, inputs_in, names_given, names_of, row_of}
+use Rattle.command_words.specs.Reports.{ByIds, ByImage, ByMap}
 use Rattle.xray_io.specs.Desk.{Entry}
 use Rattle.xray_io.specs.declared.wall.Wall.{Wall}
 use Rattle.xray_program.specs.Commands.{Comes, IsDecided, IsStill, Means, TellsAll, inputs_of, is_decided}
 use Rattle.xray_program.specs.Outcomes.{Outcome, BadLine, written_by}
 use Rattle.xray_program.specs.Setups.{setup_of}
 use Rattle.xray_program.specs.Taking.{Sound}
-use Rattle.command_words.specs.Words.{Command, Sim, Run, Plain, Extract, Asm, Account, Stack, Convert, Soak, reading}
+use Rattle.command_words.specs.Words.{Command, Sim, Run, Plain, Extract, Asm, Account, Stack, Convert, Soak, Import, reading}
 use Rattle.xray_program.proofs.AccountLaws.{account_alone, account_some}
 use Rattle.xray_program.proofs.AsmLaws.{asm_alone, asm_some}
 use Rattle.xray_program.proofs.ConvertLaws.{convert_alone, convert_some}
 use Rattle.xray_program.proofs.ExtractLaws.{extract_alone, extract_some}
+use Rattle.runtime_log.specs.Laws.{OneImport, SomeImport}
+use Rattle.xray_program.proofs.ImportLaws.{import_alone, import_some}
+use Rattle.xray_program.proofs.Logs.{log_decided, log_judged}
 use Rattle.xray_program.proofs.Images.{Accepts, OneVerdict, SomeVerdict, image_decided, image_judged}
 use Rattle.xray_program.proofs.Meanings.{AnyOutcome, HoldsBytes, IsAlone, IsRefusal, SomeOutcome, refusal_alone}
 use Rattle.xray_program.proofs.PlainLaws.{OneEnd, SomeEnd, plain_alone, plain_some}
@@ -30,6 +34,7 @@ pub record Laws : Type 0 where
   pub accepts : Accepts
   pub end : OneEnd
   pub run : OneRun
+  pub imports : OneImport
 
 pub record Existence : Type 0 where
   pub verdict : SomeVerdict
@@ -40,6 +45,7 @@ pub record Existence : Type 0 where
   pub marks : SomeMarks
   pub losses : SomeLosses
   pub drawn : DrawnLaws
+  pub imports : SomeImport
 
 -- ---- a line for each command
 
@@ -55,6 +61,7 @@ command_alone laws held told (Account t i options) decided = account_alone (imag
 command_alone laws held told (Stack t i format) decided = stack_alone (image_decided laws.verdict laws.accepts) held t i format told
 command_alone laws held told (Convert t i) decided = convert_alone (image_decided laws.verdict laws.accepts) held t i told
 command_alone laws held told (Soak number) decided = soak_alone (image_decided laws.verdict laws.accepts) laws.run number
+command_alone laws held told (Import log trace) decided = import_alone (log_decided laws.imports) held log trace told
 
 -- if a refusal comes of a command, nothing else does
 command_refuses : Laws → (held : List ℕ → Entry) → TellsAll held → (command : Command) → IsAlone IsRefusal (Comes Sound held command)
@@ -67,6 +74,7 @@ command_refuses laws held told (Account t i options) = refusal_alone _ (command_
 command_refuses laws held told (Stack t i format) = refusal_alone _ (command_alone laws held told (Stack t i format) refl)
 command_refuses laws held told (Convert t i) = refusal_alone _ (command_alone laws held told (Convert t i) refl)
 command_refuses laws held told (Soak number) = refusal_alone _ (command_alone laws held told (Soak number) refl)
+command_refuses laws held told (Import log trace) = refusal_alone _ (command_alone laws held told (Import log trace) refl)
 
 -- each command comes to something
 command_some : Existence → (held : List ℕ → Entry) → TellsAll held → HoldsBytes held → (command : Command) → SomeOutcome (Comes Sound held command)
@@ -79,6 +87,7 @@ command_some laws held told holds (Account t i options) = account_some (image_ju
 command_some laws held told holds (Stack t i format) = stack_some (image_judged laws.verdict laws.accepts) held t i format told holds
 command_some laws held told holds (Convert t i) = convert_some (image_judged laws.verdict laws.accepts) held t i told holds
 command_some laws held told holds (Soak number) = soak_some laws.run laws.drawn number
+command_some laws held told holds (Import log trace) = import_some (log_judged laws.imports) held log trace told holds
 
 -- only `run` may wait
 pub still_by_word : AreOfTheirRows → (wall : Wall) (word : List ℕ) (words : List (List ℕ)) → (word ≡ codes "run" → ⊥)
@@ -92,10 +101,11 @@ still_by_word rows wall word words other = by_said (reading wall (word ∷ words
     by_said (Some (Plain image bounds)) is = refl
     by_said (Some (Extract image)) is = refl
     by_said (Some (Asm text image threshold relative)) is = refl
-    by_said (Some (Account trace image options)) is = refl
-    by_said (Some (Stack trace image format)) is = refl
-    by_said (Some (Convert trace image)) is = refl
+    by_said (Some (Account trace names options)) is = refl
+    by_said (Some (Stack trace names format)) is = refl
+    by_said (Some (Convert trace names)) is = refl
     by_said (Some (Soak number)) is = refl
+    by_said (Some (Import log trace)) is = refl
 
 -- ---- words
 
@@ -116,13 +126,28 @@ some_means laws (Some command) held told holds = command_some laws held told hol
 
 -- ---- rows
 
--- the inputs are those of the row, in its order
-in_order : (command : Command) → map (λ input. input.0) (inputs_of command) ≡ inputs_in (row_of command).files (names_of command)
-in_order = grind arith
+-- the inputs are those of the row, in its order, and then those that options name
+in_order : (command : Command) → map (λ input. input.0) (inputs_of command) ≡ inputs_in (row_of command).files (names_of command) ++ names_given command
+in_order (Sim image script schedule trace audit options) = refl
+in_order (Run image script trace audit options) = refl
+in_order (Plain image bounds) = refl
+in_order (Extract image) = refl
+in_order (Asm text image threshold relative) = refl
+in_order (Account trace ByIds options) = refl
+in_order (Account trace (ByImage name) options) = refl
+in_order (Account trace (ByMap name) options) = refl
+in_order (Stack trace ByIds format) = refl
+in_order (Stack trace (ByImage name) format) = refl
+in_order (Stack trace (ByMap name) format) = refl
+in_order (Convert trace ByIds) = refl
+in_order (Convert trace (ByImage name)) = refl
+in_order (Convert trace (ByMap name)) = refl
+in_order (Soak number) = refl
+in_order (Import log trace) = refl
 
 pub inputs_of_row : (command : Command)
-    → IsPermutation (inputs_in (row_of command).files (names_of command)) (map (λ input. input.0) (inputs_of command))
+    → IsPermutation (inputs_in (row_of command).files (names_of command) ++ names_given command) (map (λ input. input.0) (inputs_of command))
 inputs_of_row command =
-    let names = inputs_in (row_of command).files (names_of command) in
+    let names = inputs_in (row_of command).files (names_of command) ++ names_given command in
     let P : List (List ℕ) → Type 0 = IsPermutation names in
     subst P (sym (in_order command)) (IsPermutation-refl names)

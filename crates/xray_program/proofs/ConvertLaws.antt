@@ -1,5 +1,6 @@
 -- `convert`: one thing comes of it, and something in any case.
-use Rattle.std.proofs.Common.{◌≡◌, ◌∙◌, ℕ, List, [], Option, refl, sym}
+use Rattle.std.proofs.Common.{◌≡◌, ◌∙◌, ℕ, List, [], refl, sym}
+use Rattle.command_words.specs.Reports.{NameSource}
 use Rattle.xray_io.specs.Desk.{Entry}
 use Rattle.xray_program.specs.Commands.{TellsAll}
 use Rattle.xray_program.specs.Convert.{ConvertComes}
@@ -10,13 +11,13 @@ use Rattle.xray_program.proofs.Meanings.{AnyOutcome, HoldsBytes, IsAlone, IsDeci
 use Rattle.xray_program.proofs.Reports.{report_alone, report_some}
 use Rattle.yaml_convert.specs.Yaml.{yaml_text}
 
-pub convert_alone : IsDecided image_form → (held : List ℕ → Entry) (trace : List ℕ) (image : Option (List ℕ)) → TellsAll held
-    → IsAlone AnyOutcome (ConvertComes Sound held trace image)
-convert_alone is held trace image told =
-    report_alone is AnyOutcome held trace image (λ t program outcome. outcome ≡ Done [] (yaml_text program t)) told (λ t program a b sort x y. y ∙ sym x)
+pub convert_alone : IsDecided image_form → (held : List ℕ → Entry) (trace : List ℕ) (source : NameSource) → TellsAll held
+    → IsAlone AnyOutcome (ConvertComes Sound held trace source)
+convert_alone is held trace source told =
+    report_alone is AnyOutcome held trace source (λ t names outcome. outcome ≡ Done [] (yaml_text names t)) told (λ t names a b sort x y. y ∙ sym x)
 
-pub convert_some : IsJudged image_form → (held : List ℕ → Entry) (trace : List ℕ) (image : Option (List ℕ)) → TellsAll held → HoldsBytes held
-    → SomeOutcome (ConvertComes Sound held trace image)
-convert_some is held trace image told holds =
-    report_some is held trace image (λ t program outcome. outcome ≡ Done [] (yaml_text program t)) told holds
-    (λ t program. (Done [] (yaml_text program t), refl))
+pub convert_some : IsJudged image_form → (held : List ℕ → Entry) (trace : List ℕ) (source : NameSource) → TellsAll held → HoldsBytes held
+    → SomeOutcome (ConvertComes Sound held trace source)
+convert_some is held trace source told holds =
+    report_some is held trace source (λ t names outcome. outcome ≡ Done [] (yaml_text names t)) told holds
+    (λ t names. (Done [] (yaml_text names t), refl))

@@ -8,8 +8,11 @@ pub mod Endings
 pub mod ExtractLaws
 pub mod Headline
 pub mod Images
+pub mod ImportLaws
 pub mod Judging
+pub mod Logs
 pub mod Meanings
+pub mod NamesTaken
 pub mod Ordering
 pub mod Outputting
 pub mod PlainLaws

@@ -5,7 +5,7 @@ use Rattle.std.proofs.lemmas.Bool.{cases_lt}
 use Rattle.xray_io.specs.Desk.{Entry, Untold, Absent, Holds}
 use Rattle.xray_program.specs.Inputs.{form_by, refused_for}
 use Rattle.xray_program.specs.Outcomes.{Outcome, Unread, TooLong, Refused, Done, written_by}
-use Rattle.xray_program.specs.Taking.{Form, Sound, MayHold, Take, TakeMaybe, RefuseIf, Leaves}
+use Rattle.xray_program.specs.Taking.{Form, Sound, MayHold, Take, RefuseIf, Leaves}
 use Rattle.xray_program.specs.private.Further.{any_bytes}
 
 -- ---- what a law asks of a kind of input
@@ -74,14 +74,6 @@ take_alone form is Sort held name next told later a b sort (inr (bytes, may, inr
     let values = is.one bytes w v (subst (λ q. form.Reads q w) same reads') reads in
     later bytes v reads a b sort x (subst (λ u. next u b) values y)
 
--- one that the words may leave out
-pub maybe_alone : {X : Type 0} (form : Form X) → IsDecided form → (Sort : Outcome → Type 0) (held : List ℕ → Entry) (name : Option (List ℕ))
-    (next : Option X → Outcome → Type 0) → ((n : List ℕ) → held n ≢ Untold) → IsAlone Sort (next None)
-    → ((bytes : List ℕ) (value : X) → form.Reads bytes value → IsAlone Sort (next (Some value)))
-    → IsAlone Sort (TakeMaybe form Sound held name next)
-maybe_alone form is Sort held None next told none later = none
-maybe_alone form is Sort held (Some name) next told none later = take_alone form is Sort held name (λ value. next (Some value)) (told name) later
-
 -- a reason to refuse, after all inputs
 pub refuse_alone : (Sort : Outcome → Type 0) (reason : Option (List ℕ)) (name kind : List ℕ) (next : Outcome → Type 0) → IsAlone Sort next
     → IsAlone Sort (RefuseIf reason name kind next)
@@ -143,14 +135,6 @@ some_take {X} form is held name next told holds later = by_entry (held name) ref
     by_entry Untold e = absurd (told e)
     by_entry Absent e = (Unread name, inl (e, refl))
     by_entry (Holds bytes) e = by_length bytes e (cases_lt form.limit (length bytes))
-
--- one that the words may leave out
-pub some_maybe : {X : Type 0} (form : Form X) → IsJudged form → (held : List ℕ → Entry) (name : Option (List ℕ))
-    (next : Option X → Outcome → Type 0) → ((n : List ℕ) → held n ≢ Untold) → HoldsBytes held → SomeOutcome (next None)
-    → ((bytes : List ℕ) (value : X) → form.Reads bytes value → SomeOutcome (next (Some value)))
-    → SomeOutcome (TakeMaybe form Sound held name next)
-some_maybe form is held None next told holds none later = none
-some_maybe form is held (Some name) next told holds none later = some_take form is held name (λ value. next (Some value)) (told name) holds later
 
 -- a reason to refuse, after all inputs
 pub some_refuse : (reason : Option (List ℕ)) (name kind : List ℕ) (next : Outcome → Type 0) → (reason ≡ None → SomeOutcome next)

@@ -7,6 +7,7 @@ use Rattle.xray_program.specs.Account.{AccountComes}
 use Rattle.xray_program.specs.Asm.{AsmComes}
 use Rattle.xray_program.specs.Convert.{ConvertComes}
 use Rattle.xray_program.specs.Extract.{ExtractComes}
+use Rattle.xray_program.specs.Import.{ImportComes}
 use Rattle.xray_program.specs.Inputs.{image_limit, text_limit, script_limit, schedule_limit}
 use Rattle.xray_program.specs.Outcomes.{Outcome, BadLine, Unread}
 use Rattle.xray_program.specs.Plain.{PlainComes}
@@ -17,7 +18,7 @@ use Rattle.xray_program.specs.Sim.{SimComes}
 use Rattle.xray_program.specs.Soak.{SoakComes}
 use Rattle.xray_program.specs.Stack.{StackComes}
 use Rattle.xray_program.specs.Taking.{DeskReads, Sound, Faulty}
-use Rattle.command_words.specs.Words.{Command, Sim, Run, Plain, Extract, Asm, Account, Stack, Convert, Soak, outputs_of}
+use Rattle.command_words.specs.Words.{Command, Sim, Run, Plain, Extract, Asm, Account, Stack, Convert, Soak, Import, outputs_of}
 
 -- ---- a line for each command
 
@@ -29,10 +30,11 @@ inputs_of (Run image script trace audit options) = (image, image_limit) ∷ (scr
 inputs_of (Plain image bounds) = (image, image_limit) ∷ []
 inputs_of (Extract image) = (image, image_limit) ∷ []
 inputs_of (Asm text image threshold relative) = (text, text_limit) ∷ []
-inputs_of (Account trace image options) = report_inputs trace trace_limit image
-inputs_of (Stack trace image format) = report_inputs trace trace_limit image
-inputs_of (Convert trace image) = report_inputs trace trace_limit image
+inputs_of (Account trace names options) = report_inputs trace trace_limit names
+inputs_of (Stack trace names format) = report_inputs trace trace_limit names
+inputs_of (Convert trace names) = report_inputs trace trace_limit names
 inputs_of (Soak number) = []
+inputs_of (Import log trace) = (log, trace_limit) ∷ []
 
 -- what comes of it
 abbrev pub Comes : DeskReads → (List ℕ → Entry) → Command → Outcome → Type 0
@@ -41,10 +43,11 @@ Comes reads held (Run image script trace audit options) = RunComes reads held im
 Comes reads held (Plain image bounds) = PlainComes reads held image bounds
 Comes reads held (Extract image) = ExtractComes reads held image
 Comes reads held (Asm text image threshold relative) = AsmComes reads held text image threshold relative
-Comes reads held (Account trace image options) = AccountComes reads held trace image options
-Comes reads held (Stack trace image format) = StackComes reads held trace image format
-Comes reads held (Convert trace image) = ConvertComes reads held trace image
+Comes reads held (Account trace names options) = AccountComes reads held trace names options
+Comes reads held (Stack trace names format) = StackComes reads held trace names format
+Comes reads held (Convert trace names) = ConvertComes reads held trace names
 Comes reads held (Soak number) = SoakComes number
+Comes reads held (Import log trace) = ImportComes reads held log trace
 
 -- whether only one outcome comes of it, over what a desk holds; this fails if threads run in an order of their own
 abbrev pub is_decided : Command → Bool
@@ -53,10 +56,11 @@ is_decided (Run image script trace audit options) = false
 is_decided (Plain image bounds) = true
 is_decided (Extract image) = true
 is_decided (Asm text image threshold relative) = true
-is_decided (Account trace image options) = true
-is_decided (Stack trace image format) = true
-is_decided (Convert trace image) = true
+is_decided (Account trace names options) = true
+is_decided (Stack trace names format) = true
+is_decided (Convert trace names) = true
 is_decided (Soak number) = true
+is_decided (Import log trace) = true
 
 -- whether it waits for nobody, and starts no thread
 abbrev pub is_still : Command → Bool
@@ -65,10 +69,11 @@ is_still (Run image script trace audit options) = false
 is_still (Plain image bounds) = true
 is_still (Extract image) = true
 is_still (Asm text image threshold relative) = true
-is_still (Account trace image options) = true
-is_still (Stack trace image format) = true
-is_still (Convert trace image) = true
+is_still (Account trace names options) = true
+is_still (Stack trace names format) = true
+is_still (Convert trace names) = true
 is_still (Soak number) = true
+is_still (Import log trace) = true
 
 -- whether it reports on a trace
 abbrev pub is_report : Command → Bool
@@ -77,10 +82,11 @@ is_report (Run image script trace audit options) = false
 is_report (Plain image bounds) = false
 is_report (Extract image) = false
 is_report (Asm text image threshold relative) = false
-is_report (Account trace image options) = true
-is_report (Stack trace image format) = true
-is_report (Convert trace image) = true
+is_report (Account trace names options) = true
+is_report (Stack trace names format) = true
+is_report (Convert trace names) = true
 is_report (Soak number) = false
+is_report (Import log trace) = false
 
 -- ---- what was said: a command, or none
 

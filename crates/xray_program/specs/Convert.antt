@@ -1,5 +1,6 @@
 -- `convert`: a trace as YAML.
-use Rattle.std.specs.Prelude.{◌≡◌, ℕ, List, [], Option}
+use Rattle.std.specs.Prelude.{◌≡◌, ℕ, List, []}
+use Rattle.command_words.specs.Reports.{NameSource}
 use Rattle.xray_io.specs.Desk.{Entry}
 use Rattle.xray_program.specs.Inputs.{trace_form}
 use Rattle.xray_program.specs.Outcomes.{Outcome, Done}
@@ -7,6 +8,6 @@ use Rattle.xray_program.specs.Reports.{TakeReport}
 use Rattle.xray_program.specs.Taking.{DeskReads}
 use Rattle.yaml_convert.specs.Yaml.{yaml_text}
 
--- what comes of the command: the text of the trace; a program names its functions, if there is one
-abbrev pub ConvertComes : DeskReads → (List ℕ → Entry) → (trace : List ℕ) → (image : Option (List ℕ)) → Outcome → Type 0
-ConvertComes reads held trace image = TakeReport trace_form reads held trace image (λ t program outcome. outcome ≡ Done [] (yaml_text program t))
+-- what comes of the command: the text of the trace, with the names that are given to its functions
+abbrev pub ConvertComes : DeskReads → (List ℕ → Entry) → (trace : List ℕ) → NameSource → Outcome → Type 0
+ConvertComes reads held trace source = TakeReport trace_form reads held trace source (λ t names outcome. outcome ≡ Done [] (yaml_text names t))

@@ -1,5 +1,5 @@
 -- The kinds of input.
-use Rattle.std.specs.Prelude.{◌≡◌, Result, Ok, Err, ℕ, Bool, List, [], ◌∷◌, Option, Some, None, codes, unwrap_or}
+use Rattle.std.specs.Prelude.{◌≡◌, Result, Ok, Err, ℕ, Bool, List, [], Option, codes, unwrap_or}
 use Rattle.command_words.specs.Limits.{trace_limit}
 use Rattle.xray_image.specs.Program.{Program, IsAccepted}
 use Rattle.xray_image.specs.declared.fault.ImageFault.{ImageFault}
@@ -15,9 +15,17 @@ use Rattle.step_sim.specs.Schedules.{schedule_of}
 use Rattle.fdr_file.specs.declared.trace.Trace.{Trace}
 use Rattle.fdr_file.specs.Traces.{trace_of}
 use Rattle.trace_words.specs.TraceWords.{trace_words}
+use Rattle.map_names.specs.FaultWords.{map_words}
+use Rattle.map_names.specs.Maps.{map_naming}
+use Rattle.map_names.specs.Naming.{Naming}
+use Rattle.runtime_log.specs.FaultWords.{log_words}
+use Rattle.runtime_log.specs.Imports.{IsImport}
+use Rattle.runtime_log.specs.Logs.{logged}
+use Rattle.runtime_log.specs.declared.facts.Facts.{Facts}
+use Rattle.runtime_log.specs.declared.fault.LogFault.{LogFault}
 use Rattle.xray_program.specs.Taking.{Form}
 
--- ---- the most bytes of each kind; `trace_limit` has those of a trace
+-- ---- the most bytes of each kind; `trace_limit` has those of a trace and of a log
 
 abbrev pub image_limit : ℕ
 image_limit = 4194304
@@ -31,10 +39,8 @@ script_limit = 1048576
 abbrev pub schedule_limit : ℕ
 schedule_limit = 16777216
 
--- an input that the words may leave out, with the most bytes that it may have: a list of one input, or of none
-abbrev pub optional_input : (name : Option (List ℕ)) → (limit : ℕ) → List (List ℕ × ℕ)
-optional_input None limit = []
-optional_input (Some name) limit = (name, limit) ∷ []
+abbrev pub map_limit : ℕ
+map_limit = 67108864
 
 -- ---- the kinds
 
@@ -76,3 +82,16 @@ schedule_form threads = form_by (codes "schedule") schedule_limit (schedule_of t
 -- a trace
 abbrev pub trace_form : Form Trace
 trace_form = form_by (codes "trace") trace_limit trace_of trace_words
+
+-- a sled map, which reads as the names that it gives to functions
+abbrev pub map_form : Form Naming
+map_form = form_by (codes "map") map_limit map_naming map_words
+
+-- a log of LLVM's runtime, which reads as the file of the trace that is made of it, with the facts that are printed
+abbrev pub log_form : Form (List ℕ × Facts)
+log_form = record {
+  kind = codes "log";
+  limit = trace_limit;
+  Reads = λ bytes made. IsImport bytes made.0 made.1;
+  Refuses = λ bytes refusal. (fault : LogFault) × (logged bytes ≡ Err fault) × (refusal ≡ refused_for (log_words fault));
+}

@@ -14,6 +14,7 @@ pub mod Account
 pub mod Soak
 pub mod Stack
 pub mod Convert
+pub mod Import
 pub mod Commands
 pub mod Accepted
 pub mod Answers

@@ -1,14 +1,15 @@
 -- `stack`: on which paths the functions of a trace were called, and for how long.
-use Rattle.std.specs.Prelude.{◌≡◌, ℕ, List, [], Option, option_map, codes}
+use Rattle.std.specs.Prelude.{◌≡◌, ℕ, List, [], option_map, codes}
 use Rattle.command_words.specs.declared.report_options.StackFormat.{StackFormat}
 use Rattle.command_words.specs.declared.report_options.StackFormat.TheVariants.{Human, Flame}
+use Rattle.command_words.specs.Reports.{NameSource}
 use Rattle.fdr_file.specs.declared.trace.Trace.{Trace}
+use Rattle.map_names.specs.Naming.{Naming}
 use Rattle.stack_rebuild.specs.FaultWords.{deep_words}
 use Rattle.stack_rebuild.specs.Stacks.{deep_in, most_open, stack_of}
 use Rattle.stack_rebuild.specs.StackText.{stack_text}
 use Rattle.stack_rebuild.specs.declared.stack_text.StackForm.{StackForm}
 use Rattle.stack_rebuild.specs.declared.stack_text.StackForm.TheVariants as forms
-use Rattle.xray_image.specs.Program.{Program}
 use Rattle.xray_io.specs.Desk.{Entry}
 use Rattle.xray_program.specs.Inputs.{trace_form}
 use Rattle.xray_program.specs.Outcomes.{Outcome, Done}
@@ -21,12 +22,12 @@ form_of Human = forms.Human
 form_of Flame = forms.Flame
 
 -- What comes of the judged inputs. If a thread of the trace has too many calls open at once, the trace is refused for
--- the least such thread. Otherwise its stacks are printed. A program names the functions, if there is one.
-abbrev pub StacksCome : (trace : List ℕ) → StackFormat → Trace → Option Program → Outcome → Type 0
-StacksCome trace format t program =
+-- the least such thread. Otherwise its stacks are printed, with the names that are given to functions.
+abbrev pub StacksCome : (trace : List ℕ) → StackFormat → Trace → Naming → Outcome → Type 0
+StacksCome trace format t names =
     RefuseIf (option_map deep_words (deep_in most_open t.blocks)) trace (codes "trace")
-    (λ outcome. outcome ≡ Done [] (stack_text (form_of format) program (stack_of t.blocks)))
+    (λ outcome. outcome ≡ Done [] (stack_text (form_of format) names (stack_of t.blocks)))
 
 -- what comes of the command
-abbrev pub StackComes : DeskReads → (List ℕ → Entry) → (trace : List ℕ) → (image : Option (List ℕ)) → StackFormat → Outcome → Type 0
-StackComes reads held trace image format = TakeReport trace_form reads held trace image (λ t program. StacksCome trace format t program)
+abbrev pub StackComes : DeskReads → (List ℕ → Entry) → (trace : List ℕ) → NameSource → StackFormat → Outcome → Type 0
+StackComes reads held trace source format = TakeReport trace_form reads held trace source (λ t names. StacksCome trace format t names)

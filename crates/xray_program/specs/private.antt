@@ -4,6 +4,7 @@ pub mod Drawn
 pub mod Ends
 pub mod Further
 pub mod Meant
+pub mod NamesTaken
 pub mod ReportTakes
 pub mod RunInputs
 pub mod SimInputs

@@ -13,6 +13,7 @@ use crate::account::Account;
 use crate::asm::Asm;
 use crate::convert::Convert;
 use crate::extract::Extract;
+use crate::import::Import;
 use crate::plain::Plain;
 use crate::run::perform_run;
 use crate::run_inputs::Run;
@@ -312,6 +313,7 @@ fn perform_other<'a, D: Desk, O: Sink>(
             perform(alloc, &asm, desk, out)
         }
         Command::Soak { number } => perform(alloc, &Soak { number }, desk, out),
+        Command::Import { log, trace } => perform(alloc, &Import { log, trace }, desk, out),
         report => perform_report(alloc, report, desk, out),
     }
 }
@@ -332,30 +334,30 @@ fn perform_report<'a, D: Desk, O: Sink>(
     match command {
         Command::Account {
             trace,
-            image,
+            names,
             options,
         } => {
             let account = Account {
                 trace,
-                image,
+                names,
                 options,
             };
             perform(alloc, &account, desk, out)
         }
         Command::Stack {
             trace,
-            image,
+            names,
             format,
         } => {
             let stack = Stack {
                 trace,
-                image,
+                names,
                 format,
             };
             perform(alloc, &stack, desk, out)
         }
-        Command::Convert { trace, image } => {
-            perform(alloc, &Convert { trace, image }, desk, out)
+        Command::Convert { trace, names } => {
+            perform(alloc, &Convert { trace, names }, desk, out)
         }
         _ => unreachable!(),
     }

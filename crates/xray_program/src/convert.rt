@@ -1,5 +1,5 @@
 //! `convert`: a trace as YAML.
-ghost use Rattle.std.specs.Prelude.{◌≡◌, ℕ, List, Ok, Err, IfErr, OnOk, option_map, ◌⊎◌};
+ghost use Rattle.std.specs.Prelude.{◌≡◌, ℕ, List, Ok, Err, IfErr, OnOk, ◌⊎◌};
 ghost use Rattle.fdr_file.specs.declared.trace.Trace.{Trace};
 ghost use Rattle.fdr_file.specs.Traces.{trace_of};
 ghost use Rattle.xray_program.specs.private.Meant.{BytesMean};
@@ -11,7 +11,7 @@ use crate::stop::Stop;
 use crate::stream::StreamKind;
 use crate::trace_feed::TraceFeed;
 use crate::work::Work;
-use command_words::TRACE_LIMIT;
+use command_words::{NameSource, TRACE_LIMIT};
 use fdr_file::{KeepNothing, Trace, TraceFault};
 use std::alloc::Global;
 use trace_words::TraceRefusal;
@@ -73,23 +73,23 @@ fn judge_bytes(bytes: &[u8]) -> Result<(), TraceFault>
 pub(crate) struct Convert<'a> {
     /// The trace's name.
     pub(crate) trace: &'a str,
-    /// The name of the image that names the functions, if the words name one.
-    pub(crate) image: Option<&'a str>,
+    /// What names its functions.
+    pub(crate) names: NameSource<'a>,
 }
 
 impl<'a> Work<'a> for Convert<'a> {
     ghost use Rattle.std.specs.Prelude.{[]};
-    ghost use Rattle.command_words.specs.Words as words;
+    ghost use Rattle.command_words.specs.{Views.{source_view}, Words as words};
     ghost use Rattle.xray_program.specs.Outcomes.{Done};
     ghost use Rattle.xray_program.specs.private.ReportTakes.{ComesOfMeant};
     ghost use Rattle.yaml_convert.specs.Yaml.{yaml_text};
 
     type Inputs = ReportInputs<Vec<u8>>;
 
-    ghost says = { λ c. words.Convert c.trace.now (option_map (λ n. n.now) c.image) };
+    ghost says = { λ c. words.Convert c.trace.now (source_view c.names) };
 
     ghost yields = { λ _. ComesOfMeant BytesMean
-        (λ trace program outcome. outcome ≡ Done [] (yaml_text program trace)) };
+        (λ trace names outcome. outcome ≡ Done [] (yaml_text names trace)) };
 
     ghost fits = { λ _ inputs. (trace : Trace) × BytesMean inputs.log trace };
 
@@ -98,7 +98,7 @@ impl<'a> Work<'a> for Convert<'a> {
         alloc: Global,
         desk: &mut D,
     ) -> Result<ReportInputs<Vec<u8>>, Stop<'a>> {
-        take_report(alloc, desk, self.trace, &ConvertKind, self.image)
+        take_report(alloc, desk, self.trace, &ConvertKind, self.names)
     }
 
     fn finish<D: Desk, O: Sink>(
@@ -110,7 +110,7 @@ impl<'a> Work<'a> for Convert<'a> {
     ) -> Result<(), Stop<'a>> {
         let text = YamlBytes {
             bytes: &inputs.log,
-            image: inputs.image.as_ref(),
+            names: inputs.names.as_names(),
         };
         deliver(desk, out, &NoOutputs, &text, None)
     }

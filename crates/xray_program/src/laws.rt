@@ -1,6 +1,6 @@
 //! Laws of what the program means. Each law is the contract of a function that does nothing.
-ghost use Rattle.std.specs.Prelude.{◌≡◌, ◌≢◌, ◌<◌, ◌⊎◌, ℕ, List, Option, None, Some, All, IsPermutation, map};
-ghost use Rattle.command_words.specs.Files.{inputs_in, names_of, row_of};
+ghost use Rattle.std.specs.Prelude.{◌≡◌, ◌≢◌, ◌<◌, ◌⊎◌, ◌++◌, ℕ, List, Option, None, Some, All, IsPermutation, map};
+ghost use Rattle.command_words.specs.Files.{inputs_in, names_given, names_of, row_of};
 ghost use Rattle.machine_step.specs.Buffers.{spare_of};
 ghost use Rattle.machine_step.specs.declared.setup.Setup.{Setup};
 ghost use Rattle.traced_run.specs.{Losses.{AreLost}, Runs.{IsRun, ThreadRun}};
@@ -11,13 +11,16 @@ ghost use Rattle.xray_program.specs.{Accepted.{AreAccepted, CountsNoFault}, Answ
 ghost use Rattle.xray_program.specs.Commands.{IsDecided, Means, TellsAll, inputs_of};
 ghost use Rattle.xray_program.specs.Outcomes.{Outcome, status_of, written_by};
 ghost use Rattle.machine_step.specs.Setups.{IsSetup};
+ghost use Rattle.xray_program.specs.Import.{RunsImportThemselves};
 ghost use Rattle.xray_program.specs.Traced.{IsReported};
 ghost use Rattle.command_words.specs.Words.{Command};
 
 use crate::drawn::each_input_is_read;
+use fdr_buffer::segments_hold_all;
 use fdr_file::a_trace_is_read;
 use machine_step::{one_end, some_end, some_marks_follow};
 use patch_script::each_script_lets_threads_end;
+use runtime_log::{a_trace_in_order_is_imported_as_itself, one_import, some_import};
 use step_sim::{one_run, some_run};
 use trace_flush::{a_run_is_traced, a_trace_is_short};
 use traced_run::some_losses_are_of_a_queue;
@@ -32,6 +35,7 @@ pub fn one_meaning()
     one_verdict();
     one_end();
     one_run();
+    one_import();
 }
 
 /// If words mean an outcome that writes nothing, they mean nothing else, over a desk that reports
@@ -44,6 +48,7 @@ pub fn refusal_is_the_only_meaning()
     one_verdict();
     one_end();
     one_run();
+    one_import();
 }
 
 /// Words mean something over a desk that reports every name, whatever bytes the names hold. For
@@ -64,12 +69,15 @@ pub fn some_meaning()
     each_input_is_read();
     a_run_is_traced();
     a_trace_is_read();
+    some_import();
 }
 
 /// The inputs of a command, whose turns come one after another, are the files that are read by its
-/// row in the table of commands. They may be taken in another order than that of their names.
+/// row in the table of commands, and those that its options name. They may be taken in another order
+/// than that of their names.
 pub fn inputs_follow_the_rows()
-    ensures { (command : Command) → IsPermutation (inputs_in (row_of command).files (names_of command))
+    ensures { (command : Command)
+        → IsPermutation (inputs_in (row_of command).files (names_of command) ++ names_given command)
         (map (λ input. input.0) (inputs_of command)) }
 {}
 
@@ -83,6 +91,7 @@ pub fn accepted_inputs_mean_done()
         → IsAnswer (Some command) before after status → (status ≡ 0) ⊎ (status ≡ 5) }
 {
     one_verdict();
+    one_import();
 }
 
 /// No words mean an outcome with status 7, whatever the desk holds.
@@ -102,4 +111,15 @@ pub fn reports_take_a_run()
     a_run_is_traced();
     a_trace_is_short();
     a_trace_is_read();
+}
+
+/// The trace that `sim` or `run` wrote is imported as itself, byte for byte, if the counter rises from
+/// each event of a thread to the next. With `--tick 0` it doesn't rise, and two segments of a thread may
+/// have the same bytes, of which `import` leaves one out.
+pub fn a_run_is_imported_as_itself()
+    ensures { RunsImportThemselves }
+{
+    a_trace_in_order_is_imported_as_itself();
+    segments_hold_all();
+    a_run_is_traced();
 }

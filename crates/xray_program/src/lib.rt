@@ -1,8 +1,8 @@
 //! The top call: all that the program does, from the words of its command line to what it writes.
 //!
 //! The words are read first, together with the wall time (`command_words`). A command is one module
-//! (`sim`, `run`, `plain`, `extract`, `asm`, `account`, `stack`, `convert`, `soak`), which implements
-//! `Work`. It takes its inputs in their order (`inputs_of`, `input`). Each is read, measured and
+//! (`sim`, `run`, `plain`, `extract`, `asm`, `account`, `stack`, `convert`, `soak`, `import`), which
+//! implements `Work`. It takes its inputs in their order (`inputs_of`, `input`). Each is read, measured and
 //! judged before the next is opened, so the first that fails decides. Then it does its work, and
 //! writes its outputs and its text (`delivery`). What is written of traced threads is in `traced`.
 //! The inputs of `soak` are `drawn`, and its text is a `summary`. Last, if something stopped the
@@ -23,9 +23,11 @@ mod delivery;
 mod drawn;
 mod extract;
 mod image_file;
+mod import;
 mod input;
 mod inputs;
 mod laws;
+mod names;
 mod plain;
 mod report_inputs;
 mod run;
@@ -45,6 +47,6 @@ mod work;
 pub use call::{may_wait, out_of_memory, xray, xray_still};
 pub use drawn::soak_inputs;
 pub use laws::{
-    accepted_inputs_mean_done, inputs_follow_the_rows, no_words_mean_7, one_meaning,
-    refusal_is_the_only_meaning, reports_take_a_run, some_meaning,
+    a_run_is_imported_as_itself, accepted_inputs_mean_done, inputs_follow_the_rows,
+    no_words_mean_7, one_meaning, refusal_is_the_only_meaning, reports_take_a_run, some_meaning,
 };

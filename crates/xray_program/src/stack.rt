@@ -1,5 +1,5 @@
 //! `stack`: on which paths the functions of a trace were called, and for how long.
-ghost use Rattle.std.specs.Prelude.{◌≡◌, option_map};
+ghost use Rattle.std.specs.Prelude.{◌≡◌};
 ghost use Rattle.xray_program.specs.Stack.{form_of};
 ghost use Rattle.xray_program.specs.private.Meant.{StacksMean};
 
@@ -11,7 +11,7 @@ use crate::stop::Stop;
 use crate::stream::StreamKind;
 use crate::trace_feed::TraceFeed;
 use crate::work::Work;
-use command_words::{StackFormat, TRACE_LIMIT};
+use command_words::{NameSource, StackFormat, TRACE_LIMIT};
 use fdr_file::Trace;
 use stack_rebuild::{StackFault, StackFold, StackForm, StackRow, StackText};
 use std::alloc::Global;
@@ -66,21 +66,21 @@ impl StreamKind for StackKind {
 pub(crate) struct Stack<'a> {
     /// The trace's name.
     pub(crate) trace: &'a str,
-    /// The name of the image that names the functions, if the words name one.
-    pub(crate) image: Option<&'a str>,
+    /// What names its functions.
+    pub(crate) names: NameSource<'a>,
     /// How the stacks are printed.
     pub(crate) format: StackFormat,
 }
 
 impl<'a> Work<'a> for Stack<'a> {
     ghost use Rattle.std.specs.Prelude.{⊤};
-    ghost use Rattle.command_words.specs.Words as words;
+    ghost use Rattle.command_words.specs.{Views.{source_view}, Words as words};
     ghost use Rattle.xray_program.specs.Stack.{StacksCome};
     ghost use Rattle.xray_program.specs.private.ReportTakes.{ComesOfMeant};
 
     type Inputs = ReportInputs<Result<Vec<StackRow>, StackFault>>;
 
-    ghost says = { λ s. words.Stack s.trace.now (option_map (λ n. n.now) s.image) s.format };
+    ghost says = { λ s. words.Stack s.trace.now (source_view s.names) s.format };
 
     ghost yields = { λ s. ComesOfMeant StacksMean (StacksCome s.trace.now s.format) };
 
@@ -91,7 +91,7 @@ impl<'a> Work<'a> for Stack<'a> {
         alloc: Global,
         desk: &mut D,
     ) -> Result<ReportInputs<Result<Vec<StackRow>, StackFault>>, Stop<'a>> {
-        take_report(alloc, desk, self.trace, &StackKind, self.image)
+        take_report(alloc, desk, self.trace, &StackKind, self.names)
     }
 
     fn finish<D: Desk, O: Sink>(
@@ -105,7 +105,7 @@ impl<'a> Work<'a> for Stack<'a> {
             Ok(rows) => {
                 let text = StackText {
                     rows,
-                    image: inputs.image.as_ref(),
+                    names: inputs.names.as_names(),
                     form: form_of(self.format),
                 };
                 deliver(desk, out, &NoOutputs, &text, None)

@@ -5,8 +5,8 @@ use Rattle.xray_io.specs.declared.wall.Wall.{Wall}
 use Rattle.command_words.specs.Lines.{Line}
 use Rattle.command_words.specs.Rows.{CommandRow}
 use Rattle.command_words.specs.Tables.{account_row, asm_row, convert_row, extract_row, plain_row, run_row, sim_row}
-use Rattle.command_words.specs.Tables.{soak_row, stack_row}
-use Rattle.command_words.specs.Words.{Command, account_in, asm_in, convert_in, extract_in, plain_in, run_in, sim_in, soak_in, stack_in}
+use Rattle.command_words.specs.Tables.{import_row, soak_row, stack_row}
+use Rattle.command_words.specs.Words.{Command, account_in, asm_in, convert_in, extract_in, import_in, plain_in, run_in, sim_in, soak_in, stack_in}
 use Rattle.command_words.specs.declared.words.Report.{Report}
 use Rattle.command_words.specs.declared.words.Report.TheVariants as reports
 use Rattle.command_words.specs.declared.words.Verb.{Verb}
@@ -24,6 +24,7 @@ verb_of word =
     else if bytes_eq word stack_row.word then Some (verbs.Report reports.Stack)
     else if bytes_eq word convert_row.word then Some (verbs.Report reports.Convert)
     else if bytes_eq word soak_row.word then Some verbs.Soak
+    else if bytes_eq word import_row.word then Some verbs.Import
     else None
 
 -- its row in the table
@@ -37,6 +38,7 @@ row_by (verbs.Report reports.Account) = account_row
 row_by (verbs.Report reports.Stack) = stack_row
 row_by (verbs.Report reports.Convert) = convert_row
 row_by verbs.Soak = soak_row
+row_by verbs.Import = import_row
 
 -- the report that a line asks for
 abbrev pub report_said : Report → Line → Option Command
@@ -53,3 +55,4 @@ command_by verbs.Run wall = run_in wall
 command_by verbs.Asm wall = asm_in
 command_by (verbs.Report report) wall = report_said report
 command_by verbs.Soak wall = soak_in
+command_by verbs.Import wall = import_in

@@ -1,6 +1,7 @@
 use Rattle.xray_program.proofs.AcceptedInputs.{done_or_memory}
 use Rattle.xray_program.proofs.Images.{image_decided}
+use Rattle.xray_program.proofs.Logs.{log_decided}
 use Rattle.xray_program.proofs.laws.accepted_inputs_mean_done.Goals as goal
 
 pub returns : goal.returns
-returns c = done_or_memory (image_decided c.one_verdict.ensures.one c.one_verdict.ensures.accepted)
+returns c = done_or_memory (image_decided c.one_verdict.ensures.one c.one_verdict.ensures.accepted) (log_decided c.one_import.ensures)

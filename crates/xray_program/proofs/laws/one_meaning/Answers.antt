@@ -4,5 +4,5 @@ use Rattle.xray_program.proofs.laws.one_meaning.Goals as goal
 pub returns : goal.returns
 returns c said held one other told decided a b =
     one_means
-    (record { verdict = c.one_verdict.ensures.one; accepts = c.one_verdict.ensures.accepted; end = c.one_end.ensures; run = c.one_run.ensures })
+    (record { verdict = c.one_verdict.ensures.one; accepts = c.one_verdict.ensures.accepted; end = c.one_end.ensures; run = c.one_run.ensures; imports = c.one_import.ensures })
     said held one other told decided a b

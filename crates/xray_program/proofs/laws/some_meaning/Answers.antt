@@ -17,5 +17,6 @@ returns c said held told holds =
         traced = c.a_run_is_traced.ensures;
         reads = c.a_trace_is_read.ensures.read;
       };
+      imports = c.some_import.ensures;
     })
     said held told holds

@@ -1,0 +1,7 @@
+-- What the contracts of private functions cite. No promise of this crate rests on it.
+pub mod Walks
+pub mod Records
+pub mod Headers
+pub mod Choices
+pub mod Packings
+pub mod Readings
