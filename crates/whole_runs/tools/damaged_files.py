@@ -137,13 +137,16 @@ def sound_script(draw, image):
     return first_accepted(make, replay_model.commands_of, image_model.image_of(image), THREADS)
 
 
-def sound_audit(draw, files):
-    """The audit of a replay of an image, without waits in its script, or an example if this script is refused."""
+def sound_audit(files):
+    """The audit of a replay of an image, without waits in its script, or with a script that patches nothing if that one is refused."""
     waits = (b"hold", b"await", b"release")
     commands = [line for line in files["script"].splitlines(keepends=True) if not line.lstrip().startswith(waits)]
-    world = model.World({"i": files["image"], "s": b"".join(commands), "c": b""})
-    comes = model.outcome([b"sim", b"i", b"s", b"c", b"t", b"a", *(word.encode() for word in TRACED)], world)
-    return (comes.written or {}).get("a") or draw.choice(EXAMPLES["audit"])
+    words = [b"sim", b"i", b"s", b"c", b"t", b"a", *(word.encode() for word in TRACED)]
+    for script in (b"".join(commands), b"go\n"):
+        comes = model.outcome(words, model.World({"i": files["image"], "s": script, "c": b""}))
+        if comes.status == 0:
+            return comes.written["a"]
+    raise ValueError("an image that runs no script")
 
 
 def sound_files(draw):
@@ -157,7 +160,7 @@ def sound_files(draw):
         "schedule": first_accepted(lambda: random_schedule(draw, THREADS), replay_model.turns_of, THREADS),
         "trace": random_trace(draw, damaged_share=0),
     }
-    files["audit"] = sound_audit(draw, files)
+    files["audit"] = sound_audit(files)
     for kind in ("text", "script", "schedule", "trace"):
         example = draw.choice(EXAMPLES[kind])
         if draw.random() < 0.3 and (kind != "script" or is_accepted(replay_model.commands_of, example, given, THREADS)):
