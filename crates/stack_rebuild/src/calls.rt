@@ -54,7 +54,7 @@ impl ThreadCalls {
     /// Takes the thread's next event, and answers the pair that it makes. `NoMemory` means that an
     /// allocation was refused, or that there are more events than a `usize` counts. After it no
     /// clause says where the thread is.
-    #[inline]
+    #[inline(always)]
     pub fn take(&mut self, event: &Event) -> Result<Option<Pair>, NoMemory>
         ensures pair { IfOk result (λ pair.
             pair ≡ pair_at event.now self.old.events self.old.calls) }
