@@ -44,6 +44,7 @@ impl Tally {
     }
 
     /// One more event, and the pair that it makes.
+    #[inline(always)]
     pub(crate) fn add(&mut self, kind: Kind, pair: &Option<Pair>) -> Result<(), NoMemory>
         ensures { OnOk result (self.new ≡ with_event kind (durations_in pair.now) self.old) }
     {
