@@ -60,17 +60,24 @@ COMMANDS = {
     "account with an image": "account calls.trace call.xrim --sort sum --sortorder desc --top 1 --format csv",
     "stack": "stack calls.trace",
     "stack with an image": "stack calls.trace call.xrim --format flame",
+    "stack as a picture": "stack calls.trace call.xrim --format svg",
     "convert": "convert calls.trace",
     "convert with an image": "convert calls.trace call.xrim --format yaml",
     "convert to trace events": "convert calls.trace call.xrim --format trace-event",
     "convert to a basic log": "convert calls.trace --format basic",
+    "convert of a basic log": "convert calls.log call.xrim --input basic",
     "fdr-dump": "fdr-dump calls.trace",
     "check": "check main.xrim traced.script main.trace main.audit",
     "check of two threads": "check call.xrim live.script call.trace call.audit",
+    "profile": "profile main.xrim traced.script",
+    "profile of two threads": "profile call.xrim traced.script --threads 2 --format svg",
+    "profile whose recorders stop": "profile call.xrim traced.script --nodes 1",
     "soak": "soak 7",
 }
 # Longer runs of the same words, whose threads take most of the time.
 LONGER = {name: f"{COMMANDS[name]}0000" for name in ("sim of long threads", "run of long threads")}
+# The statuses with enough memory that aren't 0.
+STATUS = {"profile whose recorders stop": 7}
 # The commands whose script waits for a thread.
 WAITING = ["run of a script that waits"]
 # Seconds of processor time after which a run counts as endless.
@@ -172,6 +179,8 @@ def prepared(folder, program):
         subprocess.run([program, "asm", f"{name}.asm", f"{name}.xrim"], cwd=folder, check=True)
     for words in CHECKED:
         subprocess.run([program, *words.split()], cwd=folder, stdout=subprocess.DEVNULL, check=True)
+    with (folder / "calls.log").open("wb") as log:
+        subprocess.run([program, "convert", "calls.trace", "--format", "basic"], cwd=folder, stdout=log, check=True)
     for name in OLD:
         (folder / name).write_bytes(b"old\n" * 1000)
     return folder
@@ -255,7 +264,7 @@ def differences(name, runs, most):
     words = COMMANDS[name]
     counts = dict.fromkeys(["out of memory", "the same", "a fault of a file", *["endless"] * (name in WAITING)], 0)
     alone = runs.alone(words)
-    if alone[0] != 0:
+    if alone[0] != STATUS.get(name, 0):
         return [f"{name}: status {alone[0]} with enough memory: {alone[2]!r}"], counts
     before, lines = runs.before_threads(name) if name in LONGER else (most, [])
     for number in range(1, most + 1):

@@ -113,7 +113,7 @@ TRACE_OPTIONS = {
 PROFILE_OPTIONS = {
     **{option: TRACE_OPTIONS[option] for option in (*RUN_OPTIONS, "tick", "tsc", "cpus", "migrate")},
     "nodes": Numbers(1, 262_144, 4096),
-    "format": Choice("human", "flame"),
+    "format": Choice("human", "flame", "svg"),
 }
 ACCOUNT_OPTIONS = {
     "sort": Choice("funcid", "count", "min", "med", "90p", "99p", "max", "sum"),
@@ -326,7 +326,8 @@ def profile(world, names, options):
     states = state_texts(ended)
     if trouble is not None:
         raise Fell(states, f"profile: {trouble}")
-    return states + rows_text(rows, image, options)
+    before = f"<!--\n{states}-->\n" if options["format"] == "svg" else states
+    return before + rows_text(rows, image, options)
 
 
 def check(world, names):
