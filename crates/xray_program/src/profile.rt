@@ -38,7 +38,7 @@ use std::sync::Wait;
 use std::thread::Threads;
 use thread_run::{RecordedEnd, run_recorded};
 use xray_image::Image;
-use xray_io::{Desk, Each, Gate, NoMemory, Printed, Sink, Text, WriteFault};
+use xray_io::{Desk, Each, Gate, NoMemory, Piece, Printed, Sink, Text, WriteFault};
 
 /// Does all of `profile`, and leaves err as it is. The threads start through `rt`. They and the patcher
 /// pass `gate`. No clause says that the call returns: threads may wait for the patcher.
@@ -165,9 +165,17 @@ impl Printed for StatesBefore<'_, '_> {
         match self.format {
             StackFormat::Human | StackFormat::Flame => states.add_to(to),
             StackFormat::Svg => {
-                to.bytes(b"<!--\n")?;
-                states.add_to(to)?;
-                to.bytes(b"-->\n")
+                let close = Piece::Bytes(b"-->\n");
+                let closed = Both {
+                    first: &states,
+                    second: &close,
+                };
+                let open = Piece::Bytes(b"<!--\n");
+                let comment = Both {
+                    first: &open,
+                    second: &closed,
+                };
+                comment.add_to(to)
             }
         }
     }
