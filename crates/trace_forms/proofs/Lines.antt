@@ -1,9 +1,8 @@
 -- The lines of a dump.
-use Rattle.std.proofs.Common.{◌≡◌, ℕ, ◌+◌, ◌<◌, ◌≤◌, ◌%◌, ◌++◌, ◌∙◌, List, [], length, drop, take, map, inl, inr, sym, ap, ap₂, arith, lit<, lit≤, eqb, slice_index, append_assoc, Ok, Err}
-use Rattle.std.specs.Prelude.{codes, decimal, nat_lt, Option, Result, None, Some}
+use Rattle.std.proofs.Common.{◌≡◌, ℕ, ◌+◌, ◌<◌, ◌≤◌, ◌%◌, ◌++◌, ◌∙◌, List, [], length, drop, map, inl, inr, sym, ap, ap₂, arith, lit<, lit≤, eqb, slice_index, append_assoc, Ok, Err}
+use Rattle.std.specs.Prelude.{codes, decimal, nat_lt, Option, Result, Some}
 use Rattle.std.specs.Result.{result_err}
 use Rattle.std.proofs.Math.ListN.{drop_of_length-le}
-use Rattle.std.proofs.Math.Seq.{take-length}
 use Rattle.std.proofs.lemmas.Bool.{cases_Bool}
 use Rattle.std.proofs.lemmas.List.{append-nil, drop-drop, length-drop}
 use Rattle.std.specs.List.{flat_map}
@@ -14,14 +13,13 @@ use Rattle.fdr_file.specs.declared.trace.Block.{Block}
 use Rattle.fdr_file.specs.declared.trace.Trace.{Trace}
 use Rattle.fdr_file.specs.declared.stage.Stage.{Stage}
 use Rattle.fdr_file.specs.declared.stage.Stage.TheVariants.{Due, Within, Faulty}
-use Rattle.fdr_file.specs.Prefixes.{IsReadable}
 use Rattle.fdr_file.specs.Scanning.{Scanned, scanned_ends, stage_ends, with_blocks}
 use Rattle.fdr_file.specs.Traces.{header_in, record_in, record_length, standing_at, standings, trace_of, version_in}
 use Rattle.fault_words.specs.Words.{words_text}
 use Rattle.fault_words.specs.declared.words.Words.{Words}
 use Rattle.trace_words.specs.TraceWords.{trace_words}
 use Rattle.xray_io.specs.Piece.{piece_text}
-use Rattle.trace_forms.specs.Dumps.{fault_in, fault_of, header_line, record_lines, standing_line}
+use Rattle.trace_forms.specs.Dumps.{fault_of, header_line, record_lines, standing_line}
 use Rattle.trace_forms.proofs.Places.{starts_first, starts_none}
 
 -- the lines of the records from a place on
@@ -89,12 +87,6 @@ pub header_is : (bytes : List ℕ) (trace : Trace) (s : Scanned) → trace_of by
 header_is bytes trace s read ends = by_stage (length bytes) (header_in bytes) s.blocks trace s.stage (sym ends ∙ read)
 
 -- ---- the last line
-
--- bytes all of which are a trace have no fault
-pub no_fault : (bytes : List ℕ) (end : ℕ) → IsReadable bytes end → end ≡ length bytes → None ≡ fault_in bytes
-no_fault bytes end readable all =
-    let whole : take end bytes ≡ bytes = ap (λ (n : ℕ). take n bytes) all ∙ take-length bytes in
-    sym (ap fault_of (ap trace_of (sym whole) ∙ readable.reads.1))
 
 -- the fault of a scan is that of the bytes
 pub fault_is : (scanned : Result Header TraceFault) (blocks : List Block) (read : Result Trace TraceFault) → with_blocks scanned blocks ≡ read
