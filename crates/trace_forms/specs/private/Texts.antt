@@ -2,6 +2,7 @@
 use Rattle.std.specs.Prelude.{ℕ, Bool, List, [], ◌∷◌, ◌++◌, ◌==◌, ◌&&◌, not, nat_le, codes, decimal, Option, Some, None}
 use Rattle.std.specs.List.{flat_map}
 use Rattle.json.specs.Print.{escape}
+use Rattle.fdr_record.specs.declared.event.Event.{Event}
 use Rattle.fdr_record.specs.declared.event.Kind.{Kind}
 use Rattle.fdr_record.specs.declared.event.Kind.TheVariants.{Entry, Exit, TailExit, EntryArgs}
 use Rattle.fdr_file.specs.ThreadEvents.{ThreadEvent}
@@ -17,9 +18,13 @@ arg_shown TailExit arg = None
 arg_shown EntryArgs arg = Some arg
 
 -- an event up to its CPU
-abbrev pub event_start : Option ℕ → List ℕ
-event_start None = codes "{\"cpu\":"
-event_start (Some arg) = codes "{\"args\":{\"arg\":" ++ (decimal arg ++ codes "},\"cpu\":")
+abbrev pub arg_start : Option ℕ → List ℕ
+arg_start None = codes "{\"cpu\":"
+arg_start (Some arg) = codes "{\"args\":{\"arg\":" ++ (decimal arg ++ codes "},\"cpu\":")
+
+-- an event up to its name
+abbrev pub event_start : Event → List ℕ
+event_start event = arg_start (arg_shown event.kind event.arg) ++ (decimal event.cpu ++ codes ",\"name\":\"")
 
 -- all that comes after its name
 abbrev pub event_end : ThreadEvent → List ℕ
@@ -29,8 +34,7 @@ event_end e =
 
 -- an event
 abbrev pub event_json : Option Program → ThreadEvent → List ℕ
-event_json program e =
-    event_start (arg_shown e.event.kind e.event.arg) ++ (decimal e.event.cpu ++ (codes ",\"name\":\"" ++ (escape (name_text program e.event.func) ++ event_end e)))
+event_json program e = event_start e.event ++ (escape (name_text program e.event.func) ++ event_end e)
 
 -- an event after the first, with a comma before it
 abbrev pub next_json : Option Program → ThreadEvent → List ℕ

@@ -16,14 +16,14 @@ objects-preserved g c =
     let e : ThreadEvent = record { thread = c.in-Some.thread; pid = c.in-Some.pid; event = c.in-Some.event } in (
       given ++ e ∷ [],
       one_given _ given _ _ e c.objects.invariant.1 c.in-Some.ensures,
-      subst (λ (t : List ℕ). AddsText g.S.Sink.written g.S.Sink.faults g.S.Sink.along c.args.text.now c.add_next.new.text t (Ok tt)) (one_text (next_json program) given e)
-          (adds_more g.met.S.Sink.along_both {answer = Ok tt} c.objects.invariant.2 c.in_ok-add_next.ensures),
+      subst (λ (t : List ℕ). AddsText g.S.Sink.written g.S.Sink.faults g.S.Sink.along c.args.text.now c.add_event.new.text t (Ok tt)) (one_text (next_json program) given e)
+          (adds_more g.met.S.Sink.along_both {answer = Ok tt} c.objects.invariant.2 c.in_ok-add_event.ensures),
     )
 
-pub returns-in_err-add_next : goal.returns-in_err-add_next
-returns-in_err-add_next g c =
+pub returns-in_err-add_event : goal.returns-in_err-add_event
+returns-in_err-add_event g c =
     let program = option_map (λ image. image.now) c.args.image in
     let given = c.objects.invariant.0 in
     let e : ThreadEvent = record { thread = c.in-Some.thread; pid = c.in-Some.pid; event = c.in-Some.event } in
-    adds_failed (adds_within g.met.S.Sink.along_both (later_json program (g.E.EventSource.left c.next_event.new.self)) c.objects.invariant.2 c.in_err-add_next.ensures
+    adds_failed (adds_within g.met.S.Sink.along_both (later_json program (g.E.EventSource.left c.next_event.new.self)) c.objects.invariant.2 c.in_err-add_event.ensures
     (all_texts (next_json program) _ given _ _ e c.objects.invariant.1 c.in-Some.ensures)) c.from_residual.result c.from_residual.ensures.1

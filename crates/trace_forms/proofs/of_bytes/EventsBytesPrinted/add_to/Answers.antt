@@ -1,7 +1,7 @@
-use Rattle.std.proofs.Common.{◌≡◌, ◌∙◌, List, ℕ, ap, subst, sym}
+use Rattle.std.proofs.Common.{◌∙◌, List, ℕ, ap, subst, sym}
 use Rattle.std.specs.Option.{option_map}
 use Rattle.xray_io.specs.Text.{AddsText}
-use Rattle.trace_forms.specs.TraceEvents.{events_of_bytes, events_read, events_text}
+use Rattle.trace_forms.specs.TraceEvents.{events_read, events_text}
 use Rattle.trace_forms.proofs.of_bytes.EventsBytesPrinted.add_to.Goals as goal
 
 pub returns : goal.returns
