@@ -194,7 +194,7 @@ type Told = (
 
 const TOLD: [Told; 4] = [
     // A tail exit ends the call of its function.
-    (TAIL_JUMP, TRACED, "", [2, 4], REGISTERS, "+4", "a 1\nb 0\n"),
+    (TAIL_JUMP, TRACED, "", [2, 4], REGISTERS, "+4", "a 0\nb 0\n"),
     // The counter wraps within a call.
     (
         CALL,

@@ -37,7 +37,7 @@ OPTIONS = {
     "cpus": [1, 1, 2, 3, 65_535],
     "migrate": [1, 2, 3, 1_048_576, 1_048_576],
 }
-NO_BUFFER_TWICE = ["--buffer-size=65536", "--buffer-max=1024", "--wall=0"]
+NO_BUFFER_TWICE = ["--buffer-size=16384", "--buffer-max=1024", "--wall=0"]
 
 
 def done(program, folder, words):
