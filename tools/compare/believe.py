@@ -1,7 +1,7 @@
 #!/usr/bin/env python3
 """Lists the definitions that the contract of the top call reaches, and compares the list with docs/BELIEVE.md.
 
-usage: crates/whole_runs/tools/believe.py [--write] [ROOT]
+usage: tools/compare/believe.py [--write] [ROOT]
     --write: writes docs/BELIEVE.md
     ROOT: the folder of the repository, that of this file if left out
 
@@ -11,11 +11,14 @@ are declared in src, are listed apart. The definitions of the standard library a
 
 If the page differs from the sources, the first lines that differ are reported, and the status is 1.
 """
-import argparse
 import difflib
 import pathlib
 import re
 import sys
+
+sys.dont_write_bytecode = True  # the modules are in the repository, and their compiled forms aren't
+sys.path.insert(0, str(pathlib.Path(__file__).resolve().parents[1]))
+from command_line import ROOT, CommandLine  # noqa: E402
 
 PAGE = "docs/BELIEVE.md"
 CONTRACT = ("xray_program", "Answers", "Answered")
@@ -31,8 +34,8 @@ Below are all definitions of this repository that it reaches. Whoever has read t
 file comes before the files whose definitions it uses. So you can read from the top, and stop where a name says enough.
 [MODEL.md](MODEL.md) says the same in words.
 
-`crates/whole_runs/tools/believe.py` makes this page from the sources, and the gate compares them. Lines are those of
-the definitions, with the comments above them. A definition in **bold** is one that the headline reaches: what `sim` and
+`tools/compare/believe.py` makes this page from the sources, and the gate compares them. Lines are those of the
+definitions, with the comments above them. A definition in **bold** is one that the headline reaches: what `sim` and
 `run` promise about threads, marks and traces (`SimIsTraced` and `RunIsTraced`).
 """
 
@@ -236,9 +239,9 @@ def page(book):
 
 
 def main():
-    parser = argparse.ArgumentParser(description=__doc__, formatter_class=argparse.RawDescriptionHelpFormatter)
+    parser = CommandLine(__doc__)
     parser.add_argument("--write", action="store_true")
-    parser.add_argument("root", nargs="?", type=pathlib.Path, default=pathlib.Path(__file__).resolve().parents[3])
+    parser.add_argument("root", nargs="?", type=pathlib.Path, default=ROOT, metavar="ROOT")
     given = parser.parse_args()
     made = page(Book(given.root))
     place = given.root / PAGE
@@ -248,7 +251,7 @@ def main():
     was = place.read_text(encoding="utf-8") if place.is_file() else ""
     changes = list(difflib.unified_diff(was.splitlines(), made.splitlines(), PAGE, "the sources", lineterm="", n=0))
     if changes:
-        print(f"{PAGE} differs from the sources; {pathlib.Path(__file__).name} --write makes it anew:")
+        print(f"{PAGE} differs from the sources; tools/compare/believe.py --write makes it anew:")
         print("\n".join(line[:300] for line in changes[:20]))
         return 1
     return 0

@@ -1,7 +1,7 @@
 #!/usr/bin/env python3
 """Runs the console blocks of the documents, and reports where the program doesn't print what they show.
 
-usage: crates/whole_runs/tools/console_blocks.py [PROGRAM]
+usage: tools/compare/console_blocks.py [PROGRAM]
     PROGRAM: the built program, crates/xray/out/xray if left out
 
 In a block ```console a line that begins with `$ ` is a command. The lines after it, up to the next command, are what it prints on
@@ -9,7 +9,6 @@ standard output and standard error. Each document has one shell, so a command fi
 left. README.md and the tour begin at the top of a copy of the examples. The manual and the pages on refusals and formats begin in a
 folder with the files of all examples. Each difference is printed with its document and line, and then the status is 1.
 """
-import argparse
 import dataclasses
 import pathlib
 import shutil
@@ -17,7 +16,10 @@ import subprocess
 import sys
 import tempfile
 
-ROOT = next(folder for folder in pathlib.Path(__file__).resolve().parents if (folder / "crates.txt").is_file())
+sys.dont_write_bytecode = True  # the modules are in the repository, and their compiled forms aren't
+sys.path.insert(0, str(pathlib.Path(__file__).resolve().parents[1]))
+from command_line import ROOT, CommandLine  # noqa: E402
+
 TOURS = ["README.md", "docs/TOUR.md"]
 FORMATS = sorted(f"docs/formats/{page.name}" for page in (ROOT / "docs/formats").glob("*.md"))
 MANUALS = ["docs/COMMANDS.md", "docs/REFUSALS.md", *FORMATS]
@@ -91,11 +93,9 @@ def differences(name, program):
 
 
 def main():
-    parser = argparse.ArgumentParser(description="Runs the console blocks of the documents.")
-    parser.add_argument("program", nargs="?", type=pathlib.Path, default=ROOT / "crates/xray/out/xray", metavar="PROGRAM")
-    program = parser.parse_args().program.resolve()
-    if not program.is_file():
-        parser.error(f"there is no program {program}")
+    parser = CommandLine(__doc__)
+    parser.add_program()
+    program = parser.parse_args().program
     count, reported = 0, []
     for name in [*TOURS, *MANUALS]:
         steps, differing = differences(name, program)

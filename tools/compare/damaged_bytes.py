@@ -1,7 +1,7 @@
 #!/usr/bin/env python3
 """Damages one trace in every place, runs `xray` on each damaged file, and reports where it differs from the model.
 
-usage: crates/whole_runs/tools/damaged_bytes.py [PROGRAM] [--step N] [--memory MB] [--seconds N]
+usage: tools/compare/damaged_bytes.py [PROGRAM] [--step N] [--memory MB] [--seconds N]
     PROGRAM: the built program, crates/xray/out/xray if left out
     --step: only each Nth damage, 1 if left out
     --memory, --seconds: as those of damaged_files.py
@@ -14,14 +14,14 @@ prefixes of the trace, those with 32, 120, 208 and 296 bytes have to be accepted
 The last lines say how often each answer came, and what the slowest run took. A difference is reported with the folder in
 which its files are kept, and then the status is 1.
 """
-import argparse
 import pathlib
 import sys
 
 sys.dont_write_bytecode = True  # the modules are in the repository, and their compiled forms aren't
+sys.path.insert(0, str(pathlib.Path(__file__).resolve().parents[1]))
+from command_line import CommandLine  # noqa: E402
 from damaged_files import Most, Tries, judged  # noqa: E402
-from random_images import ROOT  # noqa: E402
-from trace_model import EXIT, Block, Event, Header, Trace, file_bytes  # noqa: E402
+from model.trace_model import EXIT, Block, Event, Header, Trace, file_bytes  # noqa: E402
 
 COMMANDS = [["account", "trace"], ["convert", "trace"]]
 TRACE = file_bytes(
@@ -68,15 +68,12 @@ def tried(tries, damage, content):
 
 
 def arguments():
-    parser = argparse.ArgumentParser(description="Damages one trace in every place, and runs the program on each.")
-    built = ROOT / "crates/xray/out/xray"
-    parser.add_argument("program", nargs="?", type=pathlib.Path, default=built, metavar="PROGRAM")
+    parser = CommandLine(__doc__)
+    parser.add_program()
     parser.add_argument("--step", type=int, default=1, metavar="N")
     parser.add_argument("--memory", type=int, default=64, metavar="MB")
     parser.add_argument("--seconds", type=float, default=1, metavar="N")
     given = parser.parse_args()
-    if not given.program.is_file():
-        parser.error(f"there is no program {given.program}")
     if given.step < 1:
         parser.error("--step is less than 1")
     return given
@@ -84,7 +81,7 @@ def arguments():
 
 def main():
     given = arguments()
-    tries = Tries(given.program.resolve(), 0, ["trace"], Most(given.memory, given.seconds))
+    tries = Tries(given.program, 0, ["trace"], Most(given.memory, given.seconds))
     for number, (damage, content) in enumerate(damages()):
         if number % given.step == 0:
             tried(tries, damage, content)

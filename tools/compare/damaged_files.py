@@ -1,7 +1,7 @@
 #!/usr/bin/env python3
 """Damages real files of each kind, runs `xray` on them, and reports where it differs from the model or takes too much.
 
-usage: crates/whole_runs/tools/damaged_files.py [PROGRAM] [--files N] [--seed N] [--of KIND] [--memory MB] [--seconds N]
+usage: tools/compare/damaged_files.py [PROGRAM] [--files N] [--seed N] [--of KIND] [--memory MB] [--seconds N]
     PROGRAM: the built program, crates/xray/out/xray if left out
     --files: how many files are damaged, 100 if left out
     --seed: the seed of everything random, 1 if left out
@@ -22,7 +22,6 @@ no limit of memory and more time.
 The last lines say how often each answer came for each kind, and what the slowest run took. A difference is reported with the
 folder in which its files are kept, and then the status is 1.
 """
-import argparse
 import collections
 import dataclasses
 import functools
@@ -37,15 +36,17 @@ import sys
 import tempfile
 
 sys.dont_write_bytecode = True  # the modules are in the repository, and their compiled forms aren't
-import image_model  # noqa: E402
-import replay_model  # noqa: E402
-import run_model  # noqa: E402
-import xray_model as model  # noqa: E402
-from image_model import Refused  # noqa: E402
-from random_images import ROOT, assembled_draft, calling_draft, texts, units_draft  # noqa: E402
-from random_runs import answer_of, assemble, outcome_differences, shown_in  # noqa: E402
-from random_scripts import live_commands, random_schedule, random_script  # noqa: E402
-from random_traces import random_trace  # noqa: E402
+sys.path.insert(0, str(pathlib.Path(__file__).resolve().parents[1]))
+from command_line import ROOT, CommandLine  # noqa: E402
+from inputs.random_images import assembled_draft, calling_draft, units_draft  # noqa: E402
+from inputs.random_scripts import live_commands, random_schedule, random_script  # noqa: E402
+from inputs.random_texts import small_text, written  # noqa: E402
+from inputs.random_traces import random_trace  # noqa: E402
+from model import image_model, replay_model, run_model  # noqa: E402
+from model import xray_model as model  # noqa: E402
+from model.asm_model import assembled  # noqa: E402
+from model.image_model import Refused  # noqa: E402
+from random_runs import answer_of, outcome_differences, shown_in  # noqa: E402
 
 # After these seconds a run counts as endless.
 ENDLESS = 60
@@ -112,7 +113,7 @@ def examples(ending):
 
 
 EXAMPLES = {
-    "image": [*examples("xrim"), *(assemble(text, 1) for text in examples("asm"))],
+    "image": [*examples("xrim"), *(assembled(text, 1) for text in examples("asm"))],
     "text": examples("asm"),
     "script": examples("script"),
     "schedule": examples("schedule"),
@@ -131,7 +132,7 @@ def sound_script(draw, image):
 
     def make():
         if draw.random() < 0.3:
-            return texts.written(draw, live_commands(draw, ids, THREADS))
+            return written(draw, live_commands(draw, ids, THREADS))
         return random_script(draw, ids, THREADS)
 
     return first_accepted(make, replay_model.commands_of, image_model.image_of(image), THREADS)
@@ -155,7 +156,7 @@ def sound_files(draw):
     given = image_model.image_of(image)
     files = {
         "image": image,
-        "text": first_accepted(lambda: texts.small_text(draw), assemble, 1),
+        "text": first_accepted(lambda: small_text(draw), assembled, 1),
         "script": sound_script(draw, image),
         "schedule": first_accepted(lambda: random_schedule(draw, THREADS), replay_model.turns_of, THREADS),
         "trace": random_trace(draw, damaged_share=0),
@@ -324,7 +325,7 @@ def judged(xray, folder, streams, words, files, most):
     shown = shown_in(taken.outcome.output, written, 0)
     try:
         world = model.World(files, wall=(0, 0), shown=shown.threads)
-        expects = model.outcome([word.encode() for word in words], world, assemble)
+        expects = model.outcome([word.encode() for word in words], world)
     except run_model.Unlawful as unlawful:
         return taken, [f"the run may not show this: {unlawful}"]
     lines = broken_rules(taken, most) + outcome_differences(expects, taken.outcome)
@@ -406,24 +407,20 @@ class Tries:
 
 
 def arguments():
-    parser = argparse.ArgumentParser(description="Damages real files of each kind, and runs the program on them.")
-    built = ROOT / "crates/xray/out/xray"
-    parser.add_argument("program", nargs="?", type=pathlib.Path, default=built, metavar="PROGRAM")
+    parser = CommandLine(__doc__)
+    parser.add_program()
     parser.add_argument("--files", type=int, default=100, metavar="N")
     parser.add_argument("--seed", type=int, default=1, metavar="N")
     parser.add_argument("--of", dest="kind", choices=LIMITS)
     parser.add_argument("--memory", type=int, default=64, metavar="MB")
     parser.add_argument("--seconds", type=float, default=1, metavar="N")
-    given = parser.parse_args()
-    if not given.program.is_file():
-        parser.error(f"there is no program {given.program}")
-    return given
+    return parser.parse_args()
 
 
 def main():
     given = arguments()
     kinds = [given.kind] if given.kind else list(LIMITS)
-    tries = Tries(given.program.resolve(), given.seed, kinds, Most(given.memory, given.seconds))
+    tries = Tries(given.program, given.seed, kinds, Most(given.memory, given.seconds))
     for number in range(given.files):
         tries.run(number)
     tries.end()

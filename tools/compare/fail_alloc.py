@@ -1,7 +1,7 @@
 #!/usr/bin/env python3
 """Refuses each allocation of small runs in turn, and reports where a run then does what it may not do.
 
-usage: crates/whole_runs/tools/fail_alloc.py [PROGRAM] [--with ROWS] [--most N]
+usage: tools/compare/fail_alloc.py [PROGRAM] [--with ROWS] [--most N]
     PROGRAM: the built program, crates/xray/out/xray if left out
     --with: which rows of the table of commands are run, with commas between them; all of them if left out
     --most: how many allocations of a run are tried, 5,000 if left out
@@ -26,7 +26,6 @@ never come to its end. Only for such a script a run may also use up its processo
 The allocations are those of the C library's functions, in all threads of the program. A preloaded library counts them, so this
 needs a C compiler, `cc`.
 """
-import argparse
 import dataclasses
 import os
 import pathlib
@@ -38,7 +37,10 @@ import subprocess
 import sys
 import tempfile
 
-ROOT = next(folder for folder in pathlib.Path(__file__).resolve().parents if (folder / "crates.txt").is_file())
+sys.dont_write_bytecode = True  # the modules are in the repository, and their compiled forms aren't
+sys.path.insert(0, str(pathlib.Path(__file__).resolve().parents[1]))
+from command_line import ROOT, CommandLine  # noqa: E402
+
 EXAMPLES = ["first-run", "asm", "live-patching", "reports"]
 TURNS = "turns.xrim traced.script"
 # In a small run the events of a thread fit in its first buffer, so that no order of threads changes its files.
@@ -274,12 +276,12 @@ def differences(name, runs, most):
 
 
 def main():
-    words = argparse.ArgumentParser(description=__doc__.split("\n")[0])
-    words.add_argument("program", nargs="?", default=ROOT / "crates/xray/out/xray", type=pathlib.Path)
+    words = CommandLine(__doc__)
+    words.add_program()
     words.add_argument("--with", dest="commands", default=",".join(COMMANDS))
     words.add_argument("--most", type=int, default=5000)
     said = words.parse_args()
-    program = said.program.resolve()
+    program = said.program
     found, tried = [], 0
     with tempfile.TemporaryDirectory() as scratch:
         folder = pathlib.Path(scratch)

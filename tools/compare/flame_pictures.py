@@ -1,7 +1,7 @@
 #!/usr/bin/env python3
 """Reads the pictures of `xray stack --format svg` with Python's XML parser, and compares them with the rows of `xray stack`.
 
-usage: crates/whole_runs/tools/flame_pictures.py [PROGRAM] [--runs N] [--seed N]
+usage: tools/compare/flame_pictures.py [PROGRAM] [--runs N] [--seed N]
     PROGRAM: the built program, crates/xray/out/xray if left out
     --runs: how many random traces, 1000 if left out
     --seed: the seed of everything random, 1 if left out
@@ -12,7 +12,6 @@ option. The text has to be that of flame_model.py. No box may stick out of the o
 wide as the whole, with what is left out. Beside random traces there are some of few rows, of many, and of deep calls. A
 difference is reported, and then the status is 1.
 """
-import argparse
 import collections
 import pathlib
 import random
@@ -24,10 +23,10 @@ import time
 import xml.etree.ElementTree
 
 sys.dont_write_bytecode = True  # the modules are in the repository, and their compiled forms aren't
-import flame_model  # noqa: E402
-import trace_model  # noqa: E402
-from random_images import ROOT  # noqa: E402
-from random_traces import random_trace  # noqa: E402
+sys.path.insert(0, str(pathlib.Path(__file__).resolve().parents[1]))
+from command_line import CommandLine  # noqa: E402
+from inputs.random_traces import random_trace  # noqa: E402
+from model import flame_model, trace_model  # noqa: E402
 
 SPACE = "{http://www.w3.org/2000/svg}"
 HINT = re.compile(r"(.*): count (\d+), sum (\d+), self (\d+)")
@@ -165,12 +164,12 @@ def run(program, trace, *options):
 
 
 def main():
-    parser = argparse.ArgumentParser(usage=__doc__)
-    parser.add_argument("program", nargs="?", default=str(ROOT / "crates/xray/out/xray"))
-    parser.add_argument("--runs", type=int, default=1000)
-    parser.add_argument("--seed", type=int, default=1)
+    parser = CommandLine(__doc__)
+    parser.add_program()
+    parser.add_argument("--runs", type=int, default=1000, metavar="N")
+    parser.add_argument("--seed", type=int, default=1, metavar="N")
     args = parser.parse_args()
-    program = str(pathlib.Path(args.program).resolve())
+    program = str(args.program)
     counts, wrong, longest = collections.Counter(), 0, 0.0
     with tempfile.TemporaryDirectory() as folder:
         trace = pathlib.Path(folder) / "trace"

@@ -1,21 +1,22 @@
 #!/usr/bin/env python3
 """Replays threads that fill all buffers of the largest trace, of 67,108,864 bytes, and compares each byte of it.
 
-usage: crates/whole_runs/tools/full_trace.py PROGRAM
-    PROGRAM: a built program
+usage: tools/compare/full_trace.py [PROGRAM]
+    PROGRAM: the built program, crates/xray/out/xray if left out
 
 Fourteen threads call an empty function over and over. In the first run each of them fills fourteen buffers to their last
 byte, and no buffer is used twice. In the second run each thread passes one more sled, so it takes one more buffer. The last
 thread then takes all buffers of the first. The expected bytes follow from the position of an event in its thread, without
 the model. A difference is reported, and then the status is 1.
 """
-import argparse
 import pathlib
 import subprocess
 import sys
 import tempfile
 
 sys.dont_write_bytecode = True  # the modules are in the repository, and their compiled forms aren't
+sys.path.insert(0, str(pathlib.Path(__file__).resolve().parents[1]))
+from command_line import CommandLine  # noqa: E402
 from worked_runs import TRACED, image, lines  # noqa: E402
 
 IMAGE = image("fn main always / again: / call f / jmp again / fn f always / ret")
@@ -112,9 +113,9 @@ def account_differences(program, folder):
 
 
 def main():
-    parser = argparse.ArgumentParser(description=__doc__.splitlines()[0])
-    parser.add_argument("program", type=pathlib.Path)
-    program = parser.parse_args().program.resolve()
+    parser = CommandLine(__doc__)
+    parser.add_program()
+    program = parser.parse_args().program
     full, one_more = SEGMENTS * ROOM, SEGMENTS * ROOM + 1
     assert len(trace(full, {})) == FULL_TRACE
     with tempfile.TemporaryDirectory() as name:

@@ -1,7 +1,7 @@
 #!/usr/bin/env python3
 """Compares what the built program makes of random traces in further forms with a model, with Python's json and with LLVM's reader.
 
-usage: crates/whole_runs/tools/further_forms.py [PROGRAM] [--traces N] [--seed N] [--llvm-xray NAME]
+usage: tools/compare/further_forms.py [PROGRAM] [--traces N] [--seed N] [--llvm-xray NAME]
     PROGRAM: the built program, crates/xray/out/xray if left out
     --traces: how many random traces, 1700 if left out, of which more than 1000 have trace events
     --seed: the seed of everything random, 1 if left out
@@ -15,7 +15,6 @@ the model. Then the answers are read again:
     dump           `llvm-xray fdr-dump` gives the same records; of a damaged trace, the records up to the line `stop` come first
 A difference is reported, and then the status is 1.
 """
-import argparse
 import collections
 import dataclasses
 import pathlib
@@ -27,14 +26,13 @@ import sys
 import tempfile
 
 sys.dont_write_bytecode = True  # the modules are in the repository, and their compiled forms aren't
-import forms_model  # noqa: E402
+sys.path.insert(0, str(pathlib.Path(__file__).resolve().parents[1]))
 import llvm_agrees  # noqa: E402
-import report_model  # noqa: E402
-import trace_model  # noqa: E402
-import xray_model as model  # noqa: E402
-from image_model import image_of  # noqa: E402
-from random_images import ROOT  # noqa: E402
-from random_traces import other_file, random_trace  # noqa: E402
+from command_line import ROOT, CommandLine  # noqa: E402
+from inputs.random_traces import other_file, random_trace  # noqa: E402
+from model import forms_model, report_model, trace_model  # noqa: E402
+from model import xray_model as model  # noqa: E402
+from model.image_model import image_of  # noqa: E402
 
 IMAGE = ROOT / "examples/first-run/main.xrim"
 ACTIONS = {word: action for action, word in enumerate(forms_model.ACTION_WORDS)}
@@ -173,8 +171,8 @@ def check_basic(draw, program, log, llvm_xray, counted):
 
 
 def arguments():
-    parser = argparse.ArgumentParser(description="Compares the further forms of traces with a model, with json and with llvm-xray.")
-    parser.add_argument("program", nargs="?", type=pathlib.Path, default=ROOT / "crates/xray/out/xray", metavar="PROGRAM")
+    parser = CommandLine(__doc__)
+    parser.add_program()
     parser.add_argument("--traces", type=int, default=1700, metavar="N")
     parser.add_argument("--seed", type=int, default=1, metavar="N")
     parser.add_argument("--llvm-xray", default="llvm-xray-14", metavar="NAME")
@@ -186,7 +184,7 @@ def main():
     llvm_xray = given.llvm_xray if shutil.which(given.llvm_xray) else None
     counted, differ = collections.Counter(), 0
     with tempfile.TemporaryDirectory(prefix="further_forms.") as folder:
-        program = Program(given.program.resolve(), pathlib.Path(folder))
+        program = Program(given.program, pathlib.Path(folder))
         for number in range(1, given.traces + 1):
             draw = random.Random(f"{given.seed} {number}")
             content = random_trace(draw)

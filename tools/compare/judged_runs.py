@@ -1,7 +1,7 @@
 #!/usr/bin/env python3
 """Lets `xray check` judge random runs and what is left of them after a damage, and reports where it differs from the model.
 
-usage: crates/whole_runs/tools/judged_runs.py [PROGRAM] [--runs N] [--seed N] [--damages N] [--jobs N]
+usage: tools/compare/judged_runs.py [PROGRAM] [--runs N] [--seed N] [--damages N] [--jobs N]
     PROGRAM: the built program, crates/xray/out/xray if left out
     --runs: how many runs are judged, 100 if left out
     --seed: the seed of everything random, 1 if left out
@@ -16,7 +16,6 @@ are damaged (audit_damages.py), and the status, standard output and standard err
 The last lines say how often each damage came, and with which answers. A difference is reported with the folder in which its files
 are kept, and then the status is 1.
 """
-import argparse
 import collections
 import concurrent.futures
 import dataclasses
@@ -28,12 +27,14 @@ import sys
 import tempfile
 
 sys.dont_write_bytecode = True  # the modules are in the repository, and their compiled forms aren't
-import xray_model as model  # noqa: E402
-from audit_damages import DAMAGES, Left, Unfit  # noqa: E402
-from image_model import Refused  # noqa: E402
-from random_cases import KINDS, SIZES, id_count  # noqa: E402
-from random_images import ROOT, random_image  # noqa: E402
-from random_scripts import live_script, random_schedule, random_script  # noqa: E402
+sys.path.insert(0, str(pathlib.Path(__file__).resolve().parents[1]))
+from command_line import CommandLine  # noqa: E402
+from inputs.audit_damages import DAMAGES, Left, Unfit  # noqa: E402
+from inputs.random_cases import KINDS, SIZES, id_count  # noqa: E402
+from inputs.random_images import random_image  # noqa: E402
+from inputs.random_scripts import live_script, random_schedule, random_script  # noqa: E402
+from model import xray_model as model  # noqa: E402
+from model.image_model import Refused  # noqa: E402
 
 WORDS = ["check", "image", "script", "trace", "audit"]
 LONGEST_RUN = 120  # the seconds after which a run counts as endless
@@ -151,22 +152,18 @@ class Judge:
 
 
 def arguments():
-    parser = argparse.ArgumentParser(description="Lets the program judge random runs and damaged ones.")
-    built = ROOT / "crates/xray/out/xray"
-    parser.add_argument("program", nargs="?", type=pathlib.Path, default=built, metavar="PROGRAM")
+    parser = CommandLine(__doc__)
+    parser.add_program()
     parser.add_argument("--runs", type=int, default=100, metavar="N")
     parser.add_argument("--seed", type=int, default=1, metavar="N")
     parser.add_argument("--damages", type=int, default=4, metavar="N")
     parser.add_argument("--jobs", type=int, default=2, metavar="N")
-    given = parser.parse_args()
-    if not given.program.is_file():
-        parser.error(f"there is no program {given.program}")
-    return given
+    return parser.parse_args()
 
 
 def main():
     given = arguments()
-    judge = Judge(given.program.resolve(), given.seed, given.damages)
+    judge = Judge(given.program, given.seed, given.damages)
     counts, differ = collections.defaultdict(collections.Counter), 0
     with concurrent.futures.ThreadPoolExecutor(given.jobs) as pool:
         for result in pool.map(judge.judged, range(1, given.runs + 1)):

@@ -1,7 +1,7 @@
 #!/usr/bin/env python3
 """Compares what LLVM's `llvm-xray` reads in traces with what the model reads in them, and reports where they differ.
 
-usage: crates/whole_runs/tools/llvm_agrees.py [PROGRAM] [--traces N] [--seed N] [--llvm-xray NAME]
+usage: tools/compare/llvm_agrees.py [PROGRAM] [--traces N] [--seed N] [--llvm-xray NAME]
     PROGRAM: a built program that has `sim` and `run`, which writes the traces; without it the model writes them
     --traces: how many traces, 300 if left out; without PROGRAM, every other one has random records that no replay writes
     --seed: the seed of everything random, 1 if left out
@@ -18,7 +18,6 @@ Function ids stand for names, so LLVM needs no sled map. If LLVM is known to do 
 has a name in `Known`, and the last lines say how often it came up. A difference is reported with the trace's file, which is kept,
 and then the status is 1.
 """
-import argparse
 import collections
 import dataclasses
 import enum
@@ -31,11 +30,13 @@ import sys
 import tempfile
 
 sys.dont_write_bytecode = True  # the modules are in the repository, and their compiled forms aren't
-import report_model as reports  # noqa: E402
-import trace_model as traces  # noqa: E402
-import xray_model as model  # noqa: E402
-from random_cases import option, random_contents, spelled, TRACE_VALUES  # noqa: E402
-from random_traces import random_draft  # noqa: E402
+sys.path.insert(0, str(pathlib.Path(__file__).resolve().parents[1]))
+from command_line import CommandLine  # noqa: E402
+from inputs.random_cases import TRACE_VALUES, option, random_contents, spelled  # noqa: E402
+from inputs.random_traces import random_draft  # noqa: E402
+from model import report_model as reports  # noqa: E402
+from model import trace_model as traces  # noqa: E402
+from model import xray_model as model  # noqa: E402
 
 LEAST_SORTED_ANYHOW = 17
 LEAST_UNREPORTED = (1 << 32) - 2
@@ -395,8 +396,8 @@ def example_by(number, seed, program, folder):
 
 
 def arguments():
-    parser = argparse.ArgumentParser(description="Compares what llvm-xray makes of traces with what the model makes of them.")
-    parser.add_argument("program", nargs="?", type=pathlib.Path, metavar="PROGRAM")
+    parser = CommandLine(__doc__)
+    parser.add_program(default=None)
     parser.add_argument("--traces", type=int, default=300, metavar="N")
     parser.add_argument("--seed", type=int, default=1, metavar="N")
     parser.add_argument("--llvm-xray", default="llvm-xray-14", metavar="NAME")
@@ -405,14 +406,13 @@ def arguments():
 
 def main():
     given = arguments()
-    program = None if given.program is None else given.program.resolve()
     if shutil.which(given.llvm_xray) is None:
         print(f"nothing was compared: there is no {given.llvm_xray} (Debian's package llvm-14 has it)")
         return
     compared, left_out, differ = collections.Counter(), collections.Counter(), 0
     folder = pathlib.Path(tempfile.mkdtemp(prefix="llvm_agrees."))
     for number in range(1, given.traces + 1):
-        example = example_by(number, given.seed, program, folder)
+        example = example_by(number, given.seed, given.program, folder)
         path = folder / f"trace-{number}"
         path.write_bytes(example.raw)
         is_kept = False

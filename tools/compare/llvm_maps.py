@@ -1,7 +1,7 @@
 #!/usr/bin/env python3
 """Compares what LLVM's `llvm-xray` reads in sled maps with what the model reads in them, and reports where they differ.
 
-usage: crates/whole_runs/tools/llvm_maps.py [PROGRAM] [--images N] [--seed N] [--llvm-xray NAME]
+usage: tools/compare/llvm_maps.py [PROGRAM] [--images N] [--seed N] [--llvm-xray NAME]
     PROGRAM: a built program, which prints the same maps by `extract`, and is compared too; without it only the model is
     --images: how many images, 200 if left out
     --seed: the seed of everything random, 1 if left out
@@ -14,7 +14,6 @@ The maps are of versions 0, 1 and 2, and many are of several. For each entry LLV
 version. If a function is at address 0, it gives this function and the next one the same id. A difference is reported, and then the
 status is 1.
 """
-import argparse
 import pathlib
 import random
 import re
@@ -25,8 +24,11 @@ import sys
 import tempfile
 
 sys.dont_write_bytecode = True  # the modules are in the repository, and their compiled forms aren't
-import image_model as model  # noqa: E402
-from random_images import assembled_draft, units_draft  # noqa: E402
+sys.path.insert(0, str(pathlib.Path(__file__).resolve().parents[1]))
+from command_line import CommandLine  # noqa: E402
+from inputs.random_images import assembled_draft, units_draft  # noqa: E402
+from model import image_container as container  # noqa: E402
+from model import image_model as model  # noqa: E402
 
 # LLVM's words for the kinds of sleds.
 KINDS = ["function-enter", "function-exit", "tail-exit", "log-args-enter"]
@@ -52,16 +54,17 @@ def section(name, kind, flags, address, at, length):
 
 def elf_of(image):
     """An ELF file with the code of an image file and, above it, with its map."""
-    base, length, functions, entries = struct.unpack_from("<QIII", image, 8)
-    code = image[HEADER_LENGTH : HEADER_LENGTH + length]
-    sled_map = image[len(image) - model.ENTRY_LENGTH * entries :]
+    head = container.header_of(image)
+    base = head.base
+    code = image[container.HEADER_LENGTH : container.HEADER_LENGTH + head.length]
+    sled_map = image[len(image) - container.ENTRY_LENGTH * head.sleds :]
     at = [HEADER_LENGTH]
     for part in (code, sled_map, NAMES):
         at.append(at[-1] + len(part))
     sections = [
         bytes(SECTION_LENGTH),
         section(b".text", CONTENT, CODE, base, at[0], len(code)),
-        section(b"xray_instr_map", CONTENT, ALLOCATED, base + model.MAP_DISTANCE, at[1], len(sled_map)),
+        section(b"xray_instr_map", CONTENT, ALLOCATED, base + container.MAP_DISTANCE, at[1], len(sled_map)),
         section(b".shstrtab", STRINGS, 0, 0, at[2], len(NAMES)),
     ]
     header = b"\x7fELF\x02\x01\x01".ljust(16, b"\0") + struct.pack(
@@ -112,14 +115,14 @@ def differences(given, folder, file, image):
         yield f"expected {model_rows(image)}, LLVM says {done.stdout}{done.stderr}"
     if given.program is not None:
         (folder / "i").write_bytes(file)
-        done = subprocess.run([given.program.resolve(), "extract", "i"], cwd=folder, capture_output=True, text=True)
+        done = subprocess.run([given.program, "extract", "i"], cwd=folder, capture_output=True, text=True)
         if done.stdout != model.sled_map_text(image):
             yield f"expected {model.sled_map_text(image)}, came {done.stdout}{done.stderr}"
 
 
 def main():
-    parser = argparse.ArgumentParser(description="Compares LLVM's reading of sled maps with the model's.")
-    parser.add_argument("program", nargs="?", type=pathlib.Path, metavar="PROGRAM")
+    parser = CommandLine(__doc__)
+    parser.add_program(default=None)
     parser.add_argument("--images", type=int, default=200, metavar="N")
     parser.add_argument("--seed", type=int, default=1, metavar="N")
     parser.add_argument("--llvm-xray", default="llvm-xray-14", metavar="NAME")

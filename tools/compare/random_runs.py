@@ -1,8 +1,8 @@
 #!/usr/bin/env python3
 """Compares `xray` with a model of it on random inputs and command lines, and reports where they differ.
 
-usage: crates/whole_runs/tools/random_runs.py [PROGRAM] [--with COMMANDS] [--of COMMAND] [--lines] [--loops]
-           [--runs N] [--seed N] [--jobs N]
+usage: tools/compare/random_runs.py [PROGRAM] [--with COMMANDS] [--of COMMAND] [--lines] [--loops] [--runs N] [--seed N]
+           [--jobs N]
     PROGRAM: the built program, crates/xray/out/xray if left out
     --with: which of sim, run, account, stack, convert, check, soak and profile PROGRAM has, with commas between them; all if left
         out. Without sim, a replay has three files and writes no trace
@@ -31,7 +31,6 @@ The last lines say how often each answer, each end of a thread and each mark cam
 patched and of unpatched sleds; how many lost segments; and how many reports on written traces there were, and how many
 checks of them. A difference is reported with the folder in which its files are kept, and then the status is 1.
 """
-import argparse
 import collections
 import concurrent.futures
 import dataclasses
@@ -45,15 +44,15 @@ import tempfile
 import time
 
 sys.dont_write_bytecode = True  # the modules are in the repository, and their compiled forms aren't
-import run_model  # noqa: E402
-import trace_model  # noqa: E402
-import xray_model as model  # noqa: E402
-from image_model import Refused  # noqa: E402
-from limit_cases import limit_cases  # noqa: E402
-from random_cases import STDIN, random_case  # noqa: E402
-from random_images import ROOT, texts  # noqa: E402
-from random_lines import line_case  # noqa: E402
-from random_loops import loop_case  # noqa: E402
+sys.path.insert(0, str(pathlib.Path(__file__).resolve().parents[1]))
+from command_line import CommandLine  # noqa: E402
+from inputs.limit_cases import limit_cases  # noqa: E402
+from inputs.random_cases import STDIN, random_case  # noqa: E402
+from inputs.random_lines import line_case  # noqa: E402
+from inputs.random_loops import loop_case  # noqa: E402
+from model import run_model, trace_model  # noqa: E402
+from model import xray_model as model  # noqa: E402
+from model.image_model import Refused  # noqa: E402
 
 # One run in this many is at a limit or one past it, by turns.
 LIMIT_EVERY = 40
@@ -102,13 +101,6 @@ class Loops:
 
 
 # ---- What is expected, and what is found
-
-
-def assemble(text, threshold, relative=False):
-    try:
-        return texts.assembled(text, threshold, relative)
-    except texts.Refused as refused:
-        raise Refused(refused.refusal.value, refused.line)
 
 
 def world_of(case, shows):
@@ -259,7 +251,7 @@ def judged(xray, folder, case, forms):
     begin = int(time.time())
     comes, files = came(xray, folder, case)
     try:
-        expects = model.outcome(case.words, world_of(case, shown_in(comes.output, files, begin)), assemble, forms)
+        expects = model.outcome(case.words, world_of(case, shown_in(comes.output, files, begin)), forms)
     except run_model.Unlawful as unlawful:
         return Result("unlawful", [f"the run may not show this: {unlawful}"])
     differs = outcome_differences(expects, comes)
@@ -293,9 +285,8 @@ def compared(xray, folder, number, cases):
 
 
 def arguments():
-    parser = argparse.ArgumentParser(description="Compares the program with a model of it on random inputs.")
-    built = ROOT / "crates/xray/out/xray"
-    parser.add_argument("program", nargs="?", type=pathlib.Path, default=built, metavar="PROGRAM")
+    parser = CommandLine(__doc__)
+    parser.add_program()
     parser.add_argument("--with", dest="commands", default=",".join(model.LATER), metavar="COMMANDS")
     parser.add_argument("--of", dest="command", metavar="COMMAND")
     parser.add_argument("--lines", action="store_true")
@@ -304,8 +295,6 @@ def arguments():
     parser.add_argument("--seed", type=int, default=1, metavar="N")
     parser.add_argument("--jobs", type=int, default=2, metavar="N")
     given = parser.parse_args()
-    if not given.program.is_file():
-        parser.error(f"there is no program {given.program}")
     unknown = set(given.commands.split(",")) - {"", *model.LATER}
     if unknown:
         parser.error(f"--with: {', '.join(sorted(unknown))}")
@@ -352,7 +341,7 @@ class Summary:
 
 def main():
     given = arguments()
-    program, cases = given.program.resolve(), cases_of(given)
+    program, cases = given.program, cases_of(given)
     folder = pathlib.Path(tempfile.mkdtemp(prefix="random_runs."))
     summary = Summary()
     with concurrent.futures.ThreadPoolExecutor(given.jobs) as pool:

@@ -1,7 +1,7 @@
 #!/usr/bin/env python3
 """Shows what `xray` does on faults of the operating system, and reports where the manual's sentences on them don't hold.
 
-usage: crates/whole_runs/tools/real_faults.py [PROGRAM] [--list]
+usage: tools/compare/real_faults.py [PROGRAM] [--list]
     PROGRAM: the built program, crates/xray/out/xray if left out
     --list: prints each sentence with its commands, and runs nothing
 
@@ -9,7 +9,6 @@ Each row below has a sentence, the shell commands that show it, and what they pr
 files of all examples and some longer ones. As root, commands after `$OTHER` run as a user without rights, and `$SMALL` is a file
 system of 16 KiB; rows that need one are skipped if it can't be mounted. What differs is printed, and then the status is 1.
 """
-import argparse
 import dataclasses
 import os
 import pathlib
@@ -19,7 +18,10 @@ import subprocess
 import sys
 import tempfile
 
-ROOT = next(folder for folder in pathlib.Path(__file__).resolve().parents if (folder / "crates.txt").is_file())
+sys.dont_write_bytecode = True  # the modules are in the repository, and their compiled forms aren't
+sys.path.insert(0, str(pathlib.Path(__file__).resolve().parents[1]))
+from command_line import ROOT, CommandLine  # noqa: E402
+
 EXAMPLES = ["first-run", "asm", "live-patching", "reports"]
 NOBODY = 65534
 # Seconds after which the commands of a row count as endless.
@@ -357,20 +359,17 @@ class Place:
 
 
 def main():
-    parser = argparse.ArgumentParser(description="Shows what the program does on faults of the operating system.")
-    built = ROOT / "crates/xray/out/xray"
-    parser.add_argument("program", nargs="?", type=pathlib.Path, default=built, metavar="PROGRAM")
+    parser = CommandLine(__doc__)
+    parser.add_program(unless="list")
     parser.add_argument("--list", action="store_true")
     given = parser.parse_args()
     if given.list:
         for row in (row for rows in TABLES.values() for row in rows):
             print(f"{row.sentence}\n" + "".join(f"    {line}\n" for line in row.commands.splitlines()))
         return
-    if not given.program.is_file():
-        parser.error(f"there is no program {given.program}")
     differ = 0
     with tempfile.TemporaryDirectory(prefix="real_faults.") as folder:
-        place = Place(given.program.resolve(), pathlib.Path(folder))
+        place = Place(given.program, pathlib.Path(folder))
         for name, rows in TABLES.items():
             found = [(row, place.comes(row), place.expected(row)) for row in rows]
             differs = [(row, comes, expected) for row, comes, expected in found if comes not in (None, expected)]

@@ -1,6 +1,10 @@
 #!/usr/bin/env python3
 """Compares the public surface of the crates with the one that was agreed on.
 
+usage: tools/compare/surface.py [--more] [ROOT]
+    --more: public items that no line names are listed too
+    ROOT: the folder of the repository, that of this file if left out
+
 Other programs are written against the names and signatures below: types with their variants and
 fields, traits, and functions with the names and types of their parameters. This tool reads the
 public items of crates/*/src and reports each one that is missing or has another form, unless
@@ -10,14 +14,16 @@ The status is 1 if something else differs, or if an entry of ALLOWED no longer d
 In a signature below, lifetimes, the type parameters of types, and bounds are left out. So are the
 allocator and the runtime, except in a line that begins with `whole`. After a semicolon comes
 another function of the same type. The order of a struct's fields is free, and so are public items
-that no line names; --more lists those.
-
-    surface.py [--more] [ROOT]
+that no line names.
 """
 
+import pathlib
 import re
 import sys
-from pathlib import Path
+
+sys.dont_write_bytecode = True  # the modules are in the repository, and their compiled forms aren't
+sys.path.insert(0, str(pathlib.Path(__file__).resolve().parents[1]))
+from command_line import ROOT, CommandLine  # noqa: E402
 
 SURFACE = """
 crate xray_io
@@ -345,8 +351,11 @@ def surface_of(folder):
 
 
 def main():
-    words = [word for word in sys.argv[1:] if word != "--more"]
-    root = (Path(words[0]) if words else Path(__file__).resolve().parents[3]) / "crates"
+    words = CommandLine(__doc__)
+    words.add_argument("--more", action="store_true")
+    words.add_argument("root", nargs="?", type=pathlib.Path, default=ROOT, metavar="ROOT")
+    given = words.parse_args()
+    root = given.root / "crates"
     allowed = {(crate, name): form for crate, name, form, _ in ALLOWED}
     built = {folder.name: surface_of(folder) for folder in root.iterdir() if (folder / "src/lib.rt").exists()}
     crate, named, bad = "", set(), 0
@@ -363,7 +372,7 @@ def main():
     for crate, name in allowed.keys() - named:
         bad += 1
         print(f"{crate} {name}: it may differ, but isn't of the surface")
-    if "--more" in sys.argv:
+    if given.more:
         for crate, items in sorted(built.items()):
             for name, (form, _) in sorted(items.items()):
                 if (crate, name) not in named and not name.startswith("impl "):

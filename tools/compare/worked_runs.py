@@ -1,7 +1,7 @@
 #!/usr/bin/env python3
 """Compares the model of `xray` with results that were worked by hand, and reports where they differ.
 
-usage: crates/whole_runs/tools/worked_runs.py [PROGRAM] [--with COMMANDS]
+usage: tools/compare/worked_runs.py [PROGRAM] [--with COMMANDS]
     PROGRAM: a built program, which is compared with the same results; without it only the model is
     --with: which of sim, run, account, stack, convert and soak PROGRAM has, with commas between them; all if left out.
         Without sim, a replay has three files and writes no trace
@@ -11,19 +11,18 @@ The images are made from assembler texts by the assembler's own model. Each run 
 standard error. The stores that scripts make are compared too. A difference is reported, and then the status is 1.
 worked_traces.py does the same with traces and the reports on them.
 """
-import argparse
 import dataclasses
 import pathlib
-import struct
 import subprocess
 import sys
 import tempfile
 
 sys.dont_write_bytecode = True  # the modules are in the repository, and their compiled forms aren't
-import image_model  # noqa: E402
-import replay_model  # noqa: E402
-import xray_model as model  # noqa: E402
-from random_images import texts  # noqa: E402
+sys.path.insert(0, str(pathlib.Path(__file__).resolve().parents[1]))
+from command_line import CommandLine, finish  # noqa: E402
+from model import image_container, image_model, replay_model  # noqa: E402
+from model import xray_model as model  # noqa: E402
+from model.asm_model import assembled  # noqa: E402
 
 
 def lines(said):
@@ -32,7 +31,7 @@ def lines(said):
 
 
 def image(said):
-    return texts.assembled(lines(f"base 0x1000 / {said}"), 1)
+    return assembled(lines(f"base 0x1000 / {said}"), 1)
 
 
 STRAIGHT_TEXT = "fn main always / mov eax, 65 / out 1 / ret"
@@ -83,7 +82,7 @@ FAR = STRAIGHT_LINE[:32] + (0x200000000).to_bytes(8, "little") + STRAIGHT_LINE[4
 def mapped(*entries):
     """The straight line with these entries in its map: a version, and the fields of the sled and of the function."""
     return STRAIGHT_LINE[:-64] + b"".join(
-        struct.pack("<QQBBB13x", sled % (1 << 64), function % (1 << 64), kind, 1, version)
+        image_container.ENTRY.pack(sled % (1 << 64), function % (1 << 64), kind, 1, version, b"")
         for kind, (version, sled, function) in enumerate(entries)
     )
 
@@ -205,7 +204,7 @@ REPLAY = "sim i s c"
 def model_leaves(run, commands):
     files = {"i": run.image, "s": lines(run.script), "c": lines(run.schedule)}
     words = [word.encode() for word in words_of(run, commands).split()]
-    return model.outcome(words, model.World(files), forms=model.forms_with(commands))
+    return model.outcome(words, model.World(files), model.forms_with(commands))
 
 
 def words_of(run, commands):
@@ -250,7 +249,7 @@ ASSEMBLED = [
 def model_image(options):
     words = [b"asm", b"t", b"i", *(option.encode() for option in options)]
     files = {"t": lines(f"base 0x1000 / {STRAIGHT_TEXT}")}
-    return model.outcome(words, model.World(files), texts.assembled).written.get("i")
+    return model.outcome(words, model.World(files)).written.get("i")
 
 
 def program_image(program, options):
@@ -280,31 +279,22 @@ def store_differences():
             yield f"model: script {script!r}: {len(before)} micro steps before go, stores {stores}"
 
 
-def given_words(description):
-    """The program, if there is one, and the commands of which results are compared."""
-    parser = argparse.ArgumentParser(description=description)
-    parser.add_argument("program", nargs="?", type=pathlib.Path, metavar="PROGRAM")
+def given_words(text):
+    """The program, if there is one, and the commands of which results are compared. `text` says how to call this."""
+    parser = CommandLine(text)
+    parser.add_program(default=None)
     parser.add_argument("--with", dest="commands", default=",".join(model.LATER), metavar="COMMANDS")
     given = parser.parse_args()
     return given.program, given.commands.split(",")
 
 
-def finish(differ, compared):
-    """Prints the differences, and how many there are among what was compared. The status is 1 if there are any."""
-    for text in differ:
-        print(text)
-    print(f"{compared}, {len(differ)} differences")
-    sys.exit(1 if differ else 0)
-
-
 def main():
-    program, commands = given_words("Compares the model with results that were worked by hand.")
+    program, commands = given_words(__doc__)
     differ = [*run_differences("model", lambda run: model_leaves(run, commands)), *store_differences()]
     differ += image_differences("model", model_image)
     if program is not None:
-        path = program.resolve()
-        differ += run_differences(str(program), lambda run: program_leaves(path, run, commands))
-        differ += image_differences(str(program), lambda options: program_image(path, options))
+        differ += run_differences(str(program), lambda run: program_leaves(program, run, commands))
+        differ += image_differences(str(program), lambda options: program_image(program, options))
     finish(differ, f"{len(RUNS)} runs, {len(STORES)} scripts and {len(ASSEMBLED)} images")
 
 

@@ -1,7 +1,7 @@
 #!/usr/bin/env python3
 """Runs `xray run` again and again on examples that were worked by hand, and reports where a run differs from them.
 
-usage: crates/whole_runs/tools/worked_threads.py [PROGRAM] [--times N]
+usage: tools/compare/worked_threads.py [PROGRAM] [--times N]
     PROGRAM: the built program, crates/xray/out/xray if left out
     --times: how often each example is run, 100 if left out
 
@@ -11,7 +11,6 @@ before or after them, would hang on some examples, or leave other marks. Then ea
 created or written, and files that may not grow past a size, for every size up to that of the whole file. A difference
 is reported, and then the status is 1.
 """
-import argparse
 import functools
 import pathlib
 import resource
@@ -21,8 +20,9 @@ import sys
 import tempfile
 
 sys.dont_write_bytecode = True  # the modules are in the repository, and their compiled forms aren't
-from random_images import ROOT  # noqa: E402
-from worked_runs import CALL, REGISTERS, STRAIGHT_LINE, TRACED, finish, lines  # noqa: E402
+sys.path.insert(0, str(pathlib.Path(__file__).resolve().parents[1]))
+from command_line import CommandLine, finish  # noqa: E402
+from worked_runs import CALL, REGISTERS, STRAIGHT_LINE, TRACED, lines  # noqa: E402
 from worked_traces import (  # noqa: E402
     CSV_HEAD, FIBONACCI, SETUP, Programmed, Row, Run, audited, block, header, run_differences,
 )  # fmt: skip
@@ -333,12 +333,11 @@ def row_differences(program, row):
 
 
 def main():
-    parser = argparse.ArgumentParser(description="Runs threads beside scripts again and again.")
-    built = ROOT / "crates/xray/out/xray"
-    parser.add_argument("program", nargs="?", type=pathlib.Path, default=built, metavar="PROGRAM")
+    parser = CommandLine(__doc__)
+    parser.add_program()
     parser.add_argument("--times", type=int, default=100, metavar="N")
     given = parser.parse_args()
-    program = given.program.resolve()
+    program = given.program
     again = [*ORDERED, sixteen_holds(), *UNORDERED]
     differ = [line for row in REFUSED for line in row_differences(program, row)]
     for row in again:

@@ -1,7 +1,7 @@
 #!/usr/bin/env python3
 """Compares the model of `xray` with traces, audits and reports that were worked by hand, and reports where they differ.
 
-usage: crates/whole_runs/tools/worked_traces.py [PROGRAM] [--with COMMANDS]
+usage: tools/compare/worked_traces.py [PROGRAM] [--with COMMANDS]
     PROGRAM: a built program, which is compared with the same results; without it only the model is
     --with: which of sim, run, account, stack, convert and soak PROGRAM has, with commas between them; all if left out
 
@@ -17,11 +17,11 @@ import sys
 import tempfile
 
 sys.dont_write_bytecode = True  # the modules are in the repository, and their compiled forms aren't
-import image_model  # noqa: E402
-import replay_model  # noqa: E402
-import trace_model  # noqa: E402
-import xray_model as model  # noqa: E402
-from worked_runs import CALL, STRAIGHT_LINE, TAIL_JUMP, TRACED, finish, given_words, image, lines  # noqa: E402
+sys.path.insert(0, str(pathlib.Path(__file__).resolve().parents[1]))
+from command_line import finish  # noqa: E402
+from model import image_model, replay_model, trace_model  # noqa: E402
+from model import xray_model as model  # noqa: E402
+from worked_runs import CALL, STRAIGHT_LINE, TAIL_JUMP, TRACED, given_words, image, lines  # noqa: E402
 
 EMPTY_FUNCTION = image("fn main always / out 0 / ret")
 FIBONACCI = image(
@@ -676,13 +676,13 @@ def segment_differences():
 
 
 def main():
-    program, commands = given_words("Compares the model with traces and reports that were worked by hand.")
+    program, commands = given_words(__doc__)
     differ = [*unpatched_exit_differences(), *segment_differences()]
     for row in ROWS:
         differ += row_differences("model", Modelled(row.files), row, model.LATER)
         if program is not None:
             with tempfile.TemporaryDirectory(prefix="worked_traces.") as folder:
-                world = Programmed(program.resolve(), folder, row.files)
+                world = Programmed(program, folder, row.files)
                 differ += row_differences(str(program), world, row, commands)
     finish(differ, f"{len(ROWS)} rows, {sum(len(row.runs) for row in ROWS)} runs")
 

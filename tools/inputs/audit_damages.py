@@ -2,11 +2,11 @@
 import dataclasses
 import re
 
-import check_model
-from check_model import Audit, audit_of, trace_of_audit
-from image_model import image_of
-from replay_model import commands_of, runs_text
-from trace_model import AuditLine, audit_text, file_bytes, trace_of
+from model import check_model
+from model.check_model import Audit, audit_of, trace_of_audit
+from model.image_model import image_of
+from model.replay_model import commands_of, runs_text
+from model.trace_model import AuditLine, audit_text, file_bytes, trace_of
 
 
 @dataclasses.dataclass(frozen=True)

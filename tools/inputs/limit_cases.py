@@ -1,32 +1,21 @@
 """Runs of `xray` at a limit, or one past it: of images, scripts, schedules, traces, audits, options and what threads make."""
-import check_model
-import forms_model
-import image_model
-import machine_model
-import replay_model
-import trace_model
-import xray_model as model
-from random_cases import Case
-from random_images import ENTRY_SLED, EXIT_SLED, Draft
+from model import check_model, forms_model, image_model, machine_model, replay_model, trace_model
+from model import xray_model as model
+from model.image_container import image_file
 
-START = 0x1000
+from .random_cases import Case
+from .random_images import ENTRY_SLED, EXIT_SLED
+
 PATCH = b"patch\ngo\nunpatch\n"
 PUSH, OUT, ALIGNMENT = b"\x50", b"\xE6\x01", b"\x90"
 DISPLACEMENT = bytes(4)
-
-
-def image_file(code, functions=((0, b"main"),), sleds=()):
-    """An image by places: functions (place, name), and sleds (place, kind), all of the first function."""
-    named = [[START + place, name] for place, name in functions]
-    entries = [[START + place, START, kind, 1, 0, bytes(13)] for place, kind in sleds]
-    return Draft(START, bytearray(code), named, entries, 0, [START + 0x200000 + 16 * kind for kind in range(4)]).file()
 
 
 def straight_file(body):
     """An image of one function with an entry sled and an exit sled."""
     code = ENTRY_SLED + DISPLACEMENT + body
     code += ALIGNMENT * (len(code) % 2)
-    return image_file(code + EXIT_SLED + DISPLACEMENT, sleds=[(0, 0), (len(code), 1)])
+    return image_file(code + EXIT_SLED + DISPLACEMENT, sleds=[(0, 0, 0), (len(code), 0, 1)])
 
 
 def full_code(past):
@@ -41,7 +30,7 @@ def full_function_list(past):
 def full_sled_map(past):
     count = image_model.SLED_LIMIT + past
     code = (EXIT_SLED + DISPLACEMENT + ALIGNMENT) * count
-    return Case([b"extract", b"i"], {b"i": image_file(code, sleds=[(12 * sled, 1) for sled in range(count)])})
+    return Case([b"extract", b"i"], {b"i": image_file(code, sleds=[(12 * sled, 0, 1) for sled in range(count)])})
 
 
 def full_image_file(past):
@@ -52,7 +41,7 @@ def full_image_file(past):
 def entered_file(count):
     """An image with this number of entry sleds. After the last one a thread comes to no unit."""
     code = (ENTRY_SLED + DISPLACEMENT + ALIGNMENT) * count
-    return image_file(code, sleds=[(12 * sled, 0) for sled in range(count)])
+    return image_file(code, sleds=[(12 * sled, 0, 0) for sled in range(count)])
 
 
 def replay(*options, image=straight_file(OUT), script=PATCH, schedule=b""):

@@ -1,14 +1,15 @@
 """Random runs of `xray`: command lines, their inputs as files, pipes or folders, and outputs that may refuse everything."""
 import dataclasses
 
-import image_model
-import xray_model
-from audit_damages import DAMAGES, Left, Unfit
-from forms_model import basic_bytes
-from random_images import assembled_draft, calling_draft, random_image, texts, units_draft
-from random_scripts import live_script, random_schedule, random_script
-from random_traces import other_file, random_trace
-from trace_model import trace_of
+from model import image_model, xray_model
+from model.forms_model import basic_bytes
+from model.trace_model import trace_of
+
+from .audit_damages import DAMAGES, Left, Unfit
+from .random_images import assembled_draft, calling_draft, random_image, units_draft
+from .random_scripts import live_script, random_schedule, random_script
+from .random_texts import small_text
+from .random_traces import other_file, random_trace
 
 
 @dataclasses.dataclass
@@ -241,7 +242,7 @@ def random_contents(draw, command, threads):
     """The bytes of a command's inputs, in order."""
     match command:
         case "asm":
-            return [texts.small_text(draw)]
+            return [small_text(draw)]
         case "sim":
             image = random_image(draw, KINDS["sim"], 0.12)
             return [image, random_script(draw, id_count(image), threads), random_schedule(draw, threads)]

@@ -1,95 +1,17 @@
 """Random image files for comparisons with the model: of random assembler texts, of random units, of functions that call
 each other, and damaged in all the ways in which an image is refused.
 """
-import dataclasses
-import importlib.util
-import pathlib
 import struct
-import sys
 
-import image_model as model
+from model import image_model as model
+from model.asm_model import assembled
+from model.image_container import ENTRY_HEAD, EXIT_HEAD, Draft, draft_of, trampolines_above
 
-ROOT = next(folder for folder in pathlib.Path(__file__).resolve().parents if (folder / "crates.txt").is_file())
+from . import random_texts as texts
 
-
-def loaded(path):
-    """A Python file as a module."""
-    spec = importlib.util.spec_from_file_location(path.stem, path)
-    module = importlib.util.module_from_spec(spec)
-    sys.modules[path.stem] = module
-    spec.loader.exec_module(module)
-    return module
-
-
-texts = loaded(ROOT / "crates/asm_text/tools/random_texts.py")
-
-# ---- An image file as its parts, each of which may be damaged
-
-ENTRY_SLED = bytes.fromhex("EB09660F1F8400")
-EXIT_SLED = bytes.fromhex("C32E660F1F8400")
+# Sleds without the displacement at their end.
+ENTRY_SLED, EXIT_SLED = (head + model.NOP for head in (ENTRY_HEAD, EXIT_HEAD))
 PLAIN_REGISTERS = [number for number in range(16) if number not in model.RESERVED]
-
-
-@dataclasses.dataclass
-class Draft:
-    """The parts of an image file. The header has their counts, plus what `counts` adds to them."""
-
-    base: int
-    code: bytearray
-    functions: list  # [start, name]
-    entries: list  # [address, function, kind, always, version, padding], with absolute addresses
-    entry: int = 0
-    trampolines: list = dataclasses.field(default_factory=list)
-    magic: bytes = b"XRIM"
-    version: int = 1
-    counts: list = dataclasses.field(default_factory=lambda: [0, 0, 0])
-
-    def file(self):
-        sizes = [len(self.code), len(self.functions), len(self.entries)]
-        counts = [(size + more) % (1 << 32) for size, more in zip(sizes, self.counts)]
-        addresses = [address % (1 << 64) for address in self.trampolines]
-        header = self.magic + struct.pack(
-            "<IQIIII4Q", self.version % (1 << 32), self.base % (1 << 64), *counts, self.entry % (1 << 32), *addresses
-        )
-        named = b"".join(struct.pack("<QB", start % (1 << 64), len(name)) + name for start, name in self.functions)
-        mapped = b"".join(self.entry_bytes(number, *entry) for number, entry in enumerate(self.entries))
-        return header + bytes(self.code) + named + mapped
-
-    def entry_at(self, number):
-        """The address of an entry of the map."""
-        return self.base + model.MAP_DISTANCE + model.ENTRY_LENGTH * number
-
-    def entry_bytes(self, number, address, function, kind, always, version, padding):
-        if version == model.RELATIVE_VERSION:
-            address -= self.entry_at(number)
-            function -= self.entry_at(number) + model.FUNCTION_FIELD
-        return struct.pack("<QQBBB", address % (1 << 64), function % (1 << 64), kind, always, version) + padding
-
-    def keep_fields(self, number, version):
-        """Gives an entry of the map another version, but not other bytes in its fields."""
-        before = self.entry_bytes(number, *self.entries[number])
-        fields, at = struct.unpack_from("<QQ", before), self.entry_at(number)
-        self.entries[number][0] = model.absolute(version, at, fields[0])
-        self.entries[number][1] = model.absolute(version, at + model.FUNCTION_FIELD, fields[1])
-        self.entries[number][4] = version
-
-
-def draft_of(file):
-    """The parts of an image file without a fault."""
-    _, version, base, length, functions, sleds, entry, *trampolines = struct.unpack_from("<4sIQIIII4Q", file)
-    at = model.HEADER_LENGTH + length
-    draft = Draft(base, bytearray(file[model.HEADER_LENGTH : at]), [], [], entry, list(trampolines), version=version)
-    for _ in range(functions):
-        start, count = struct.unpack_from("<QB", file, at)
-        draft.functions.append([start, file[at + 9 : at + 9 + count]])
-        at += 9 + count
-    for number in range(sleds):
-        address, function, kind, always, map_version = struct.unpack_from("<QQBBB", file, at)
-        address = model.absolute(map_version, draft.entry_at(number), address)
-        function = model.absolute(map_version, draft.entry_at(number) + model.FUNCTION_FIELD, function)
-        draft.entries.append([address, function, kind, always, map_version, file[at + 19 : at + 32]])
-        at += model.ENTRY_LENGTH
-    return draft
 
 
 def assembled_draft(draw):
@@ -97,8 +19,8 @@ def assembled_draft(draw):
     while True:
         text = texts.written(draw, texts.program(draw))
         try:
-            return draft_of(texts.assembled(text, draw.choice([0, 1, 2, 4]), draw.choice([False, True])))
-        except texts.Refused:
+            return draft_of(assembled(text, draw.choice([0, 1, 2, 4]), draw.choice([False, True])))
+        except model.Refused:
             continue
 
 
@@ -196,8 +118,7 @@ def units_draft(draw):
         version, always = draw.choice([0, 1, 2]), draw.choice([0, 1, 1, 2, 255])
         padding = draw.choice([bytes(13), draw.randbytes(13)])
         entries.append([base + place, base + function, kind, always, version, padding])
-    trampolines = [base + 0x200000 + 16 * kind for kind in range(4)]
-    return Draft(base, units.code, functions, entries, draw.randrange(len(functions)), trampolines)
+    return Draft(base, units.code, functions, entries, draw.randrange(len(functions)), trampolines_above(base))
 
 
 BETWEEN_CALLS = ["mov eax, 7", "add rax, rdi", "sub rdi, rax", "out 1"]
@@ -215,7 +136,7 @@ def calling_draft(draw):
             callees = later if later and draw.random() < 0.95 else names
             lines += [draw.choice(BETWEEN_CALLS), f"call {draw.choice(callees)}"] if later else [draw.choice(BETWEEN_CALLS)]
         lines.append(f"tailjmp {draw.choice(later)}" if later and draw.random() < 0.3 else "ret")
-    return draft_of(texts.assembled("\n".join(lines).encode("ascii"), 1))
+    return draft_of(assembled("\n".join(lines).encode("ascii"), 1))
 
 
 # ---- Damages

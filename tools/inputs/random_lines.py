@@ -6,9 +6,11 @@ words that aren't seeds.
 """
 import functools
 
-import random_cases
-import xray_model as model
-from random_images import ROOT, texts
+from command_line import ROOT
+from model import xray_model as model
+from model.asm_model import assembled
+
+from . import random_cases
 
 TEXT = (ROOT / "examples/asm/call.asm").read_bytes()
 NAMES = {
@@ -37,7 +39,7 @@ OTHER_COMMANDS = [b"", b"help", b"Plain", b"plain ", b"--", b"-", b"--fuel=3", b
 @functools.cache
 def files():
     """The inputs: an image, a script, a schedule, a text, and the trace and the audit of a replay of the image."""
-    image = texts.assembled(TEXT, 1)
+    image = assembled(TEXT, 1)
     inputs = {b"i": image, b"s": b"go\n", b"c": b"", b"x": TEXT}
     world = model.World({name.decode(): content for name, content in inputs.items()})
     traced = model.outcome([b"sim", b"i", b"s", b"c", b"t", b"a"], world)

@@ -3,8 +3,9 @@
 Each image is an endless loop over functions with sleds, which the limit of passings ends. The patcher never waits, or
 only now and then for a thread. Many buffers are small, so most of these runs lose segments.
 """
-import random_cases
-from random_images import texts
+from model.asm_model import assembled
+
+from . import random_cases
 
 
 def loop_text(draw):
@@ -47,5 +48,5 @@ def loop_case(draw):
         "wall": 0,
     }
     words = ["run", "i", "s", "t", "a", *(f"--{name}={value}" for name, value in options.items())]
-    files = {b"i": texts.assembled(text, 1), b"s": patching(draw, ids, threads)}
+    files = {b"i": assembled(text, 1), b"s": patching(draw, ids, threads)}
     return random_cases.Case([word.encode() for word in words], files)

@@ -1,5 +1,5 @@
 """Random scripts and schedules for comparisons with the model: right ones, and some with a fault or two."""
-from random_images import texts
+from .random_texts import written
 
 # ---- Scripts
 
@@ -66,7 +66,7 @@ def live_script(draw, ids, threads):
     lines = live_commands(draw, ids, threads)
     while draw.random() < 0.04:
         lines = faulty(draw, lines, draw.choice(WRONG_COMMANDS).split())
-    return texts.written(draw, lines)
+    return written(draw, lines)
 
 
 WRONG_COMMANDS = [
@@ -111,7 +111,7 @@ def random_script(draw, ids, threads):
     while lines and draw.random() < fault_share:
         wrong = one_too_many(draw, ids, threads) if draw.random() < 0.3 else draw.choice(WRONG_COMMANDS).split()
         lines = faulty(draw, lines, wrong)
-    return texts.written(draw, lines)
+    return written(draw, lines)
 
 
 # ---- Schedules
@@ -134,4 +134,4 @@ def random_schedule(draw, threads):
     if draw.random() < 0.1:
         wrong = draw.choice([*WRONG_TURNS, f"t {threads + 1} 1", f"t {threads + 1} 1"])
         lines.insert(draw.randint(0, len(lines)), wrong.split(" "))
-    return texts.written(draw, lines) if lines else draw.choice([b"", b"\n", b"# nothing", b" \t\r\n"])
+    return written(draw, lines) if lines else draw.choice([b"", b"\n", b"# nothing", b" \t\r\n"])

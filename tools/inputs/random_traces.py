@@ -4,7 +4,7 @@ in which a trace is refused.
 import dataclasses
 import struct
 
-from trace_model import (
+from model.trace_model import (
     CALL_ARGUMENT, ENTRY, ENTRY_ARGS, EXIT, EXTENTS, FIELDS, FUNCTION, NEW_BUFFER, NEW_CPU, PID, PREAMBLES, TAIL_EXIT, TSC_WRAP,
     WALL_TIME, WORD_32, WORD_64, FLIGHT_DATA_RECORDER, HEADER_LENGTH, METADATA_LENGTH,
 )  # fmt: skip

@@ -5,10 +5,10 @@ It is written from docs/formats and docs/COMMANDS.md alone, and shares nothing w
 import dataclasses
 import re
 
-from image_model import Refused
-from machine_model import Thread
-from run_model import Course, MarkedThread, Segments, Unlawful, marks_of
-from trace_model import Block, Header, Trace, file_bytes
+from .image_model import Refused
+from .machine_model import Thread
+from .run_model import Course, MarkedThread, Segments, Unlawful, marks_of
+from .trace_model import Block, Header, Trace, file_bytes
 
 WORD_32, WORD_64 = 1 << 32, 1 << 64
 MARK_LIMIT = 1_048_576

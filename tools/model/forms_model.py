@@ -7,9 +7,9 @@ import itertools
 import json
 import struct
 
-from image_model import Refused
-from report_model import namer
-from trace_model import (
+from .image_model import Refused
+from .report_model import namer
+from .trace_model import (
     CALL_ARGUMENT,
     CONSTANT,
     ENTRIES,

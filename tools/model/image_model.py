@@ -8,21 +8,17 @@ import itertools
 import re
 import struct
 
+from . import image_container as container
+from .image_container import SLED_LENGTH
+
 CODE_LIMIT = 1_048_576
 FUNCTION_LIMIT = 1024
 SLED_LIMIT = 4096
 BASE_LIMIT = 0x7FFF00000000
-HEADER_LENGTH = 64
-ENTRY_LENGTH = 32
-SLED_LENGTH = 11
-# How far above the base address the sled map is, and how far behind an entry's start the field of the function is.
-MAP_DISTANCE = 0x100000
-FUNCTION_FIELD = 8
-RELATIVE_VERSION = 2
 NEWEST_VERSION = 2
 
 # The kinds of sleds in the map. A sled of the last kind is an entry that logs arguments.
-ENTRY, EXIT, TAIL, ENTRY_ARGS = range(4)
+ENTRY, EXIT, TAIL, ENTRY_ARGS = range(container.KINDS)
 
 RSP, R10 = 4, 10
 RESERVED = (RSP, R10)
@@ -133,7 +129,7 @@ def sum_of(left, source_high, target_high):
     return "add" if opcode == 0x01 else "sub", named(target, source)
 
 
-NOP = bytes.fromhex("660F1F8400")
+NOP = container.NOP[:5]
 
 
 def unit(code, place):
@@ -141,7 +137,7 @@ def unit(code, place):
     is_entry = code[place] == 0xEB
     is_exit = code[place : place + 2] == b"\xC3\x2E"
     if is_entry or is_exit:
-        head = b"\xEB\x09" if is_entry else b"\xC3\x2E"
+        head = container.ENTRY_HEAD if is_entry else container.EXIT_HEAD
         whole = code[place : place + 7] == head + NOP and place + SLED_LENGTH <= len(code)
         if not whole or place % 2 == 1:
             raise Refused("Sled", place)
@@ -207,62 +203,40 @@ class Image:
 
 def image_of(file):
     """The image in a file's bytes."""
-    if len(file) < HEADER_LENGTH:
+    try:
+        check_header(container.header_of(file))
+        draft = container.draft_of(file)
+    except container.Cut:
         raise Refused("Short")
-    magic, version, base, length, functions, sleds, entry, *trampolines = struct.unpack_from("<4sIQIIII4Q", file)
-    if magic != b"XRIM":
-        raise Refused("Magic")
-    if version != 1:
-        raise Refused("Version")
-    if length > CODE_LIMIT:
-        raise Refused("Limit Code")
-    if not 1 <= functions <= FUNCTION_LIMIT:
-        raise Refused("Limit Functions")
-    if sleds > SLED_LIMIT:
-        raise Refused("Limit Sleds")
-    if entry >= functions:
-        raise Refused("Limit Entry")
-    if base % 16 != 0 or base > BASE_LIMIT:
-        raise Refused("Limit Base")
-    code, table, sled_map = parts_of(file, base, length, functions, sleds)
-    image = Image(base, units_of(code), table, sled_map, entry, tuple(trampolines))
+    if draft.length < len(file):
+        raise Refused("Trailing")
+    functions = [(start, name) for start, name in draft.functions]
+    entries = [
+        Entry(address, function, kind, always != 0, version)
+        for address, function, kind, always, version, _ in draft.entries
+    ]
+    image = Image(draft.base, units_of(draft.code), functions, entries, draft.entry, tuple(draft.trampolines))
     check_names(image)
     check_map(image)
     check_targets(image)
     return image
 
 
-def absolute(version, at, field):
-    """The address that a field at an address says."""
-    return (at + field) % (1 << 64) if version == RELATIVE_VERSION else field
-
-
-def parts_of(file, base, length, functions, sleds):
-    """The code, the functions with their names, and the entries of the sled map."""
-    at = HEADER_LENGTH
-
-    def taken(count):
-        nonlocal at
-        if at + count > len(file):
-            raise Refused("Short")
-        at += count
-        return file[at - count : at]
-
-    code = taken(length)
-    table = []
-    for _ in range(functions):
-        start, count = struct.unpack("<QB", taken(9))
-        table.append((start, taken(count)))
-    sled_map = []
-    for number in range(sleds):
-        address, function, kind, always, version = struct.unpack("<QQBBB13x", taken(ENTRY_LENGTH))
-        entry_at = base + MAP_DISTANCE + ENTRY_LENGTH * number
-        address = absolute(version, entry_at, address)
-        function = absolute(version, entry_at + FUNCTION_FIELD, function)
-        sled_map.append(Entry(address, function, kind, always != 0, version))
-    if at < len(file):
-        raise Refused("Trailing")
-    return code, table, sled_map
+def check_header(header):
+    if header.magic != container.MAGIC:
+        raise Refused("Magic")
+    if header.version != container.VERSION:
+        raise Refused("Version")
+    if header.length > CODE_LIMIT:
+        raise Refused("Limit Code")
+    if not 1 <= header.functions <= FUNCTION_LIMIT:
+        raise Refused("Limit Functions")
+    if header.sleds > SLED_LIMIT:
+        raise Refused("Limit Sleds")
+    if header.entry >= header.functions:
+        raise Refused("Limit Entry")
+    if header.base % 16 != 0 or header.base > BASE_LIMIT:
+        raise Refused("Limit Base")
 
 
 def check_names(image):

@@ -2,9 +2,9 @@
 
 It is written from docs/formats and docs/COMMANDS.md alone, and shares nothing with the program or its definitions.
 """
-import run_model
-from report_model import DEPTH_LIMIT, stack_rows
-from trace_model import ENTRIES
+from . import run_model
+from .report_model import DEPTH_LIMIT, stack_rows
+from .trace_model import ENTRIES
 
 LIVE, FULL, DEEP = "live", "full", "deep"
 

@@ -8,11 +8,11 @@ import itertools
 import math
 import re
 
-import image_model
-import trace_model
-from image_model import ENTRY_ARGS, Refused
-from machine_model import WORD_64, Ended, Thread
-from trace_model import Buffers, Event
+from . import image_model, trace_model
+from .image_model import ENTRY_ARGS, Refused
+from .machine_model import WORD_64, Ended, Thread
+from .text_model import lines_of, words_of
+from .trace_model import Buffers, Event
 
 LINE_LIMIT = 1_048_576
 COMMAND_LIMIT = 1024
@@ -23,10 +23,7 @@ NUMBER_LIMIT = 4_294_967_295
 
 def word_lines(text):
     """The lines of a text as their words. None for a line with a byte that is allowed only in comments."""
-    *ended, last = text.split(b"\n")
-    lines = [line.removesuffix(b"\r") for line in ended] + ([last] if last else [])
-    said = [line.partition(b"#")[0] for line in lines]
-    return [line.decode("ascii").split() if re.fullmatch(rb"[\t\x20-\x7E]*", line) else None for line in said]
+    return [words_of(line) for line in lines_of(text)]
 
 
 def number_of(word):

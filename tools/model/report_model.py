@@ -5,9 +5,9 @@ It is written from docs/formats and docs/COMMANDS.md alone, and shares nothing w
 import collections
 import dataclasses
 
-import flame_model
-from image_model import Refused
-from trace_model import CONSTANT, ENTRIES, ENTRY_ARGS, NONSTOP, WORD_64
+from . import flame_model
+from .image_model import Refused
+from .trace_model import CONSTANT, ENTRIES, ENTRY_ARGS, NONSTOP, WORD_64
 
 DEPTH_LIMIT = 4096
 COLUMN = 10

@@ -9,9 +9,9 @@ import collections
 import dataclasses
 import re
 
-from image_model import ENTRY_ARGS
-from replay_model import ENTRY_HEAD, HEAD, ID, INITIALIZED, OFFSET, OPCODE, TracedThread, Words
-from trace_model import Buffers
+from .image_model import ENTRY_ARGS
+from .replay_model import ENTRY_HEAD, HEAD, ID, INITIALIZED, OFFSET, OPCODE, TracedThread, Words
+from .trace_model import Buffers
 
 
 class Unlawful(Exception):

@@ -1,11 +1,7 @@
-#!/usr/bin/env python3
-"""The three inputs of a number, by the rules in README.md alone.
+"""A model of what `soak` draws: the text, the script and the schedule of a number, as lists of lines.
 
-usage: inputs_of.py NUMBER              their lengths in bytes, and the first lines of each
-       inputs_of.py NUMBER FOLDER       writes them as FOLDER/text, FOLDER/script and FOLDER/schedule
+It is written from crates/soak_inputs/README.md alone.
 """
-import os
-import sys
 
 
 class Draws:
@@ -54,19 +50,3 @@ def schedule(draws):
 def inputs_of(number):
     draws = Draws(number)
     return [("text", text(draws)), ("script", script(draws)), ("schedule", schedule(draws))]
-
-
-def main():
-    if len(sys.argv) not in (2, 3):
-        sys.exit(__doc__)
-    for name, lines in inputs_of(int(sys.argv[1])):
-        written = "".join(line + "\n" for line in lines)
-        if len(sys.argv) == 3:
-            with open(os.path.join(sys.argv[2], name), "w") as file:
-                file.write(written)
-        else:
-            print(name, len(written), lines[:8])
-
-
-if __name__ == "__main__":
-    main()

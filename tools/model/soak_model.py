@@ -1,17 +1,16 @@
 """A model of `soak`: the summary of a seed.
 
-The inputs are those of crates/soak_inputs/tools/inputs_of.py. docs/COMMANDS.md says what is done with them. The models
-of `asm`, `sim` and `account` do it.
+The inputs are those of soak_inputs. docs/COMMANDS.md says what is done with them. The models of `asm`, `sim` and
+`account` do it.
 """
 import functools
 
-from image_model import image_of
-from random_images import ROOT, loaded
-from replay_model import commands_of, replayed, turns_of
-from report_model import account_of
-from trace_model import Header, file_bytes, trace_of
-
-inputs = loaded(ROOT / "crates/soak_inputs/tools/inputs_of.py")
+from .asm_model import assembled
+from .image_model import image_of
+from .replay_model import commands_of, replayed, turns_of
+from .report_model import account_of
+from .soak_inputs import inputs_of
+from .trace_model import Header, file_bytes, trace_of
 
 THREADS = 4
 OPTIONS = {
@@ -26,10 +25,10 @@ def written(lines):
 
 
 @functools.cache
-def summary(seed, assemble):
-    """What `soak SEED` prints. `assemble` makes the image of a text by a threshold."""
-    text, script, schedule = (written(lines) for _, lines in inputs.inputs_of(seed))
-    image = image_of(assemble(text, 1))
+def summary(seed):
+    """What `soak SEED` prints."""
+    text, script, schedule = (written(lines) for _, lines in inputs_of(seed))
+    image = image_of(assembled(text, 1))
     ended, buffers = replayed(image, commands_of(script, image, THREADS), turns_of(schedule, THREADS), OPTIONS)
     content = file_bytes(buffers.trace(Header(OPTIONS["frequency"], OPTIONS["buffer-size"]), (0, 0), OPTIONS["pid"]))
     lines = [f"soak {seed}"]

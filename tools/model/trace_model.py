@@ -7,7 +7,7 @@ import collections
 import dataclasses
 import struct
 
-from image_model import Refused
+from .image_model import Refused
 
 WORD_32, WORD_64 = 1 << 32, 1 << 64
 HEADER_LENGTH = 32

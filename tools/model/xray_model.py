@@ -1,27 +1,26 @@
 """A model of `xray`: how words are read, what each command does, and what is left on each status.
 
-It is written from docs/formats and docs/COMMANDS.md alone, and shares nothing with the program or its definitions. It is made to
-be read, not to be fast. Other modules have its parts: images (image_model), plain runs (machine_model), scripts and replays
-(replay_model), runs beside a script (run_model), verdicts on what runs leave (check_model), profiles of such runs
-(profile_model), traces (trace_model), reports on them (report_model) and soaks (soak_model).
-What `asm` makes from a text is passed in: crates/asm_text/tools/random_texts.py has a model of that. What `run` shows of its
-order is passed in too.
-worked_runs.py and worked_traces.py compare the model with results that were worked by hand.
+It is written from docs alone, and shares nothing with the program or its definitions. It is made to be read, not to be fast.
+Other modules have its parts: image files (image_container, image_model), texts (asm_model), plain runs (machine_model), scripts
+and replays (replay_model), runs beside a script (run_model), verdicts on what runs leave (check_model), profiles of such runs
+(profile_model), traces (trace_model), reports on them (report_model, flame_model, forms_model), and soaks (soak_inputs,
+soak_model). What `run` shows of its order is passed in.
+
+worked_runs.py and worked_traces.py of tools/compare compare the model with results that were worked by hand.
 """
 import dataclasses
 import posixpath
 import re
 
-import check_model
-import profile_model
-import run_model
-import soak_model
-from forms_model import basic_bytes, basic_trace, dump_text, events_text
-from image_model import RELATIVE_VERSION, Refused, image_of, sled_map_text
-from machine_model import WORD_64, Thread, plain_text
-from replay_model import NUMBER_LIMIT, RECORDED, WAITING, commands_of, replayed, runs_text, turns_of
-from report_model import account_text, rows_text, stack_text, yaml_text
-from trace_model import AuditLine, Header, audit_text, file_bytes, trace_of
+from . import check_model, profile_model, run_model, soak_model
+from .asm_model import assembled
+from .forms_model import basic_bytes, basic_trace, dump_text, events_text
+from .image_container import RELATIVE_VERSION
+from .image_model import Refused, image_of, sled_map_text
+from .machine_model import WORD_64, Thread, plain_text
+from .replay_model import NUMBER_LIMIT, RECORDED, WAITING, commands_of, replayed, runs_text, turns_of
+from .report_model import account_text, rows_text, stack_text, yaml_text
+from .trace_model import AuditLine, Header, audit_text, file_bytes, trace_of
 
 IMAGE_LIMIT = 4_194_304
 TEXT_LIMIT = 4_194_304
@@ -371,13 +370,13 @@ def report(world, command, names, options):
         raise Failed(2, f"{trace_name}: trace {refused.reason}")
 
 
-def results(command, names, options, world, assemble):
+def results(command, names, options, world):
     """The bytes of a command's outputs by their names, in order, and its text."""
     match command:
         case "asm":
             text_name, image_name = names
             relative = options["map-version"] == RELATIVE_VERSION
-            image = taken(world, text_name, "text", TEXT_LIMIT, lambda text: assemble(text, options["threshold"], relative))
+            image = taken(world, text_name, "text", TEXT_LIMIT, lambda text: assembled(text, options["threshold"], relative))
             return {image_name: image}, ""
         case "plain":
             return {}, plain_texts(taken_image(world, names[0]), options)
@@ -395,7 +394,7 @@ def results(command, names, options, world, assemble):
         case "fdr-dump":
             return {}, taken(world, names[0], "trace", TRACE_LIMIT, dump_text)
         case "soak":
-            return {}, soak_model.summary(names[0], assemble)
+            return {}, soak_model.summary(names[0])
         case "profile":
             return {}, profile(world, names, options)
         case _:
@@ -407,12 +406,12 @@ def is_same_file(one, other):
     return posixpath.normpath(one) == posixpath.normpath(other) and not one.startswith("/dev/")
 
 
-def done(words, world, assemble, forms):
+def done(words, world, forms):
     """What a run leaves if nothing fails."""
     command, names, options = command_of(words, forms)
     status, error = 0, b""
     try:
-        outputs, text = results(command, names, options, world, assemble)
+        outputs, text = results(command, names, options, world)
     except Fell as fell:
         outputs, text = {}, fell.text
         status, error = 7, f"xray: {fell.trouble}\n".encode()
@@ -428,13 +427,10 @@ def done(words, world, assemble, forms):
     return Outcome(status, text if isinstance(text, bytes) else text.encode("ascii"), error, written)
 
 
-def outcome(words, world, assemble=None, forms=FORMS):
-    """What a run of the program leaves. `assemble` makes the image of a text by a threshold, or raises `Refused`.
-
-    It is also given whether the addresses of the sled map are relative.
-    """
+def outcome(words, world, forms=FORMS):
+    """What a run of the program leaves."""
     try:
-        return done(words, world, assemble, forms)
+        return done(words, world, forms)
     except BadLine:
         return Outcome(1, b"", b"xray: bad command line\n")
     except Failed as failed:

@@ -1,10 +1,18 @@
 #!/usr/bin/env python3
-"""How many steps the table of `call_trie` takes to find a node, on average over all nodes of a trie.
+"""Prints how many steps the table of `call_trie` takes to find a node, on average over all nodes of a trie.
+
+usage: tools/values/steps_on_average.py
 
 Each trie has as many nodes as there may be, so its table is as full as it gets. The numbers and the rule are those of
-`src/table.rt`. Run it without arguments: it prints a line for each shape of tries, with the worst average over the sizes.
+crates/call_trie/src/table.rt. There is a line for each shape of tries, with the worst average over the sizes.
 """
+import pathlib
 import random
+import sys
+
+sys.dont_write_bytecode = True  # the modules are in the repository, and their compiled forms aren't
+sys.path.insert(0, str(pathlib.Path(__file__).resolve().parents[1]))
+from command_line import CommandLine  # noqa: E402
 
 PARENT_FACTOR = 0xB3CC92D2C080C6B5
 STEP_FACTOR = 0x5399EAB96E03949D
@@ -59,6 +67,7 @@ SHAPES = {
 
 
 def main():
+    CommandLine(__doc__).parse_args()
     for shape, nodes in SHAPES.items():
         average, size = max((steps_on_average(nodes(size)), size) for size in SIZES)
         print(f"{average:.2f} with {size} nodes: {shape}")

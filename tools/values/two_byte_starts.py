@@ -1,8 +1,17 @@
+#!/usr/bin/env python3
 """Prints what each two bytes begin, as runs in ascending order, for crates/layer_tests/src/instructions/two_byte_starts.rt.
+
+usage: tools/values/two_byte_starts.py
 
 It lists the encodings of the ten instructions with all sixteen registers, by the tables of the Intel
 SDM, volume 2, and looks which of them continue each start. It has no decoder.
 """
+import pathlib
+import sys
+
+sys.dont_write_bytecode = True  # the modules are in the repository, and their compiled forms aren't
+sys.path.insert(0, str(pathlib.Path(__file__).resolve().parents[1]))
+from command_line import CommandLine  # noqa: E402
 
 RESERVED = (4, 10)
 ANY = None  # a byte of an immediate, a distance or a port
@@ -51,6 +60,7 @@ def answer(start, alive):
 
 
 def main():
+    CommandLine(__doc__).parse_args()
     every = list(encodings())
     runs = []
     for start in range(1 << 16):
@@ -65,4 +75,5 @@ def main():
     print("];")
 
 
-main()
+if __name__ == "__main__":
+    main()
