@@ -6,12 +6,9 @@ instruction's name and its operands, registers by number, or a label's name with
 """
 import struct
 
-BASE = 0x1000
-NOP = bytes.fromhex("660F1F840000020000")
-ENTRY_SLED = bytes.fromhex("EB09") + NOP
-EXIT_SLED = bytes.fromhex("C32E") + NOP
+from model.image_container import ENTRY_SLED, EXIT_SLED, image_file, sled
+
 ALIGNMENT = b"\x90"
-ENTRY, EXIT = 0, 1
 
 
 def opcode(code, register):
@@ -48,24 +45,24 @@ def lay_out(functions, labels):
     """
     code, starts, sleds, found = bytearray(), [], [], {}
 
-    def sled(kind, head):
+    def add_sled(kind):
         if len(code) % 2 == 1:
             code.extend(ALIGNMENT)
-        sleds.append((len(code), starts[-1][1], kind))
-        code.extend(head)
+        sleds.append((len(code), starts[-1][0], kind))
+        code.extend(sled(kind))
 
     for name, traced, lines in functions:
         if traced and len(code) % 2 == 1:
             code.extend(ALIGNMENT)
         found[name] = len(code)
-        starts.append((name, len(code)))
+        starts.append((len(code), name.encode()))
         if traced:
-            sled(ENTRY, ENTRY_SLED)
+            add_sled(ENTRY_SLED)
         for line in lines:
             if isinstance(line, str):
                 found[line.rstrip(":")] = len(code)
             elif line == ("ret",) and traced:
-                sled(EXIT, EXIT_SLED)
+                add_sled(EXIT_SLED)
             else:
                 code.extend(encode(line, labels, len(code)))
     return bytes(code), starts, sleds, found
@@ -75,14 +72,7 @@ def image(functions):
     """The file of an image that starts at its first function."""
     *_, labels = lay_out(functions, {})
     code, starts, sleds, _ = lay_out(functions, labels)
-    trampolines = [BASE + 0x200000 + 16 * kind for kind in range(4)]
-    counts = [len(code), len(starts), len(sleds), 0]
-    parts = [b"XRIM" + struct.pack("<IQIIII4Q", 1, BASE, *counts, *trampolines), code]
-    for name, start in starts:
-        parts.append(struct.pack("<QB", BASE + start, len(name)) + name.encode())
-    for place, start, kind in sleds:
-        parts.append(struct.pack("<QQBBB13x", BASE + place, BASE + start, kind, 1, 0))
-    return b"".join(parts)
+    return image_file(code, starts, sleds)
 
 
 RAX, RCX, RDX, RDI = 0, 1, 2, 7

@@ -42,6 +42,13 @@ class CommandLine(argparse.ArgumentParser):
         return words
 
 
+def only_program(text):
+    """The program of a command that takes no other word. `text` is the text at the head of its file."""
+    words = CommandLine(text)
+    words.add_program()
+    return words.parse_args().program
+
+
 def finish(differ, compared):
     """Prints the differences, and how many there are among what was compared. The status is 1 if there are any."""
     for text in differ:
