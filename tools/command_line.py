@@ -15,7 +15,8 @@ class CommandLine(argparse.ArgumentParser):
     def __init__(self, text):
         super().__init__()
         self.text = text.strip() + "\n"
-        self.needless = None
+        self.must_exist = True
+        self.needless = ""
 
     def format_help(self):
         return self.text
@@ -24,19 +25,20 @@ class CommandLine(argparse.ArgumentParser):
         _, _, usage = self.text.partition("usage: ")
         return f"usage: {usage.partition(chr(10) * 2)[0]}\n"
 
-    def add_program(self, default=BUILT, unless=None):
-        """Adds the word PROGRAM, a program that exists. None as the default says that it may be left out.
+    def add_program(self, default=BUILT, must_exist=True, unless=""):
+        """Adds the word PROGRAM. None as the default says that it may be left out.
 
-        `unless` is an option with which no program is needed.
+        The program must exist, unless `must_exist` says otherwise, or the option is given that `unless` names.
         """
         self.add_argument("program", nargs="?", type=pathlib.Path, default=default, metavar="PROGRAM")
+        self.must_exist = must_exist
         self.needless = unless
 
     def parse_args(self, *given, **named):
         words = super().parse_args(*given, **named)
         program = getattr(words, "program", None)
-        if program is not None and not getattr(words, self.needless or "", False):
-            if not program.is_file():
+        if program is not None:
+            if self.must_exist and not getattr(words, self.needless, False) and not program.is_file():
                 self.error(f"there is no program {program}")
             words.program = program.resolve()
         return words
