@@ -13,7 +13,7 @@ usage: tools/compare/random_runs.py [PROGRAM] [--with COMMANDS] [--of COMMAND] [
     --seed: the seed of everything random, 1 if left out
     --jobs: how many runs at a time, 2 if left out
 
-The model is xray_model.py, written from docs/formats and docs/COMMANDS.md alone. The images are of random programs, by
+The model is xray_model.py, written from docs/formats and docs/commands alone. The images are of random programs, by
 the assembler's own model, of random units, or of functions that call each other. Many are damaged in one place or two:
 a field of the header, the code, a function, a name, a map entry, a trampoline, a branch, or the file's length. Traces
 are random blocks in any spelling that the format allows, many of them damaged too. Assembler texts, scripts, schedules

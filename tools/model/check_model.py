@@ -1,6 +1,6 @@
 """A model of the judge of audits: which bytes are an audit, and the verdict on an audit and a trace.
 
-It is written from docs/formats and docs/COMMANDS.md alone, and shares nothing with the program or its definitions.
+It is written from docs/formats and docs/commands alone, and shares nothing with the program or its definitions.
 """
 import dataclasses
 import re

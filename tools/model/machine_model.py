@@ -1,6 +1,6 @@
 """A model of the plain machine: a thread of an image whose sleds are only counted, and its plain text.
 
-It is written from docs/formats and docs/COMMANDS.md alone, and shares nothing with the program or its definitions.
+It is written from docs/formats and docs/commands alone, and shares nothing with the program or its definitions.
 """
 STACK_LIMIT = 65_536
 OUTPUT_LIMIT = 65_536

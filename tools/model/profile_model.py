@@ -1,6 +1,6 @@
 """A model of `profile`: what the recorder of each thread comes to, and the rows of all threads.
 
-It is written from docs/formats and docs/COMMANDS.md alone, and shares nothing with the program or its definitions.
+It is written from docs/formats and docs/commands alone, and shares nothing with the program or its definitions.
 """
 from . import run_model
 from .report_model import DEPTH_LIMIT, stack_rows

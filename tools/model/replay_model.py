@@ -1,6 +1,6 @@
 """A model of replays: scripts and schedules, the words that the patcher stores, and threads that load them.
 
-It is written from docs/formats and docs/COMMANDS.md alone, and shares nothing with the program or its definitions.
+It is written from docs/formats and docs/commands alone, and shares nothing with the program or its definitions.
 """
 import collections
 import dataclasses

@@ -1,6 +1,6 @@
 """A model of reports on a trace: matched pairs, the account, the stacks, and the YAML of `convert`.
 
-It is written from docs/formats and docs/COMMANDS.md alone, and shares nothing with the program or its definitions.
+It is written from docs/formats and docs/commands alone, and shares nothing with the program or its definitions.
 """
 import collections
 import dataclasses

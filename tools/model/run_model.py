@@ -1,6 +1,6 @@
 """A model of runs of threads beside a patcher: which marks follow a script, and which segments may be lost.
 
-It is written from docs/formats and docs/COMMANDS.md alone, and shares nothing with the program or its definitions. No
+It is written from docs/formats and docs/commands alone, and shares nothing with the program or its definitions. No
 schedule states the order of a run, so the model can't say what its outcome is. It judges the marks and the losses that
 a run shows, and says what a run with these leaves.
 """

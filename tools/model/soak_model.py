@@ -1,6 +1,6 @@
 """A model of `soak`: the summary of a seed.
 
-The inputs are those of soak_inputs. docs/COMMANDS.md says what is done with them. The models of `asm`, `sim` and
+The inputs are those of soak_inputs. docs/commands/soak.md says what is done with them. The models of `asm`, `sim` and
 `account` do it.
 """
 import functools

@@ -1,6 +1,6 @@
 """A model of traces: events and their records, segments, the buffers that threads share, trace files both ways, the audit.
 
-It is written from docs/formats and docs/COMMANDS.md alone, and shares nothing with the program or its definitions.
+It is written from docs/formats and docs/commands alone, and shares nothing with the program or its definitions.
 A trace is read as LLVM's Flight Data Recorder files of versions 2 and 3 are, and written as those of version 3.
 """
 import collections
