@@ -69,7 +69,10 @@ REPORT_VALUES = {
     "format": ["text", "csv"],
 }
 FORMATS = {
-    "account": ["text", "csv"], "stack": ["human", "flame", "svg"], "convert": ["yaml", "trace-event", "basic"], "profile": ["human", "flame"],
+    "account": ["text", "csv"],
+    "stack": ["human", "flame", "svg"],
+    "convert": ["yaml", "trace-event", "basic"],
+    "profile": ["human", "flame", "svg"],
 }
 WRONG_REPORT_WORDS = [
     "--sort=func", "--sort", "--sort=", "--sort=Count", "--sortorder=dsc", "--sortorder=ascending", "--top=-1",

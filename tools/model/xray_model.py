@@ -112,7 +112,7 @@ TRACE_OPTIONS = {
 PROFILE_OPTIONS = {
     **{option: TRACE_OPTIONS[option] for option in (*RUN_OPTIONS, "tick", "tsc", "cpus", "migrate")},
     "nodes": Numbers(1, 262_144, 4096),
-    "format": Choice("human", "flame"),
+    "format": Choice("human", "flame", "svg"),
 }
 ACCOUNT_OPTIONS = {
     "sort": Choice("funcid", "count", "min", "med", "90p", "99p", "max", "sum"),
