@@ -69,7 +69,9 @@ REPORT_VALUES = {
     "format": ["text", "csv"],
 }
 FORMATS = {
-    "account": ["text", "csv"], "stack": ["human", "flame", "svg"], "convert": ["yaml", "trace-event", "basic"],
+    "account": ["text", "csv"],
+    "stack": ["human", "flame", "svg"],
+    "convert": ["yaml", "trace-event", "basic"],
     "profile": ["human", "flame", "svg"],
 }
 WRONG_REPORT_WORDS = [
