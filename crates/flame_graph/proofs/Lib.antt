@@ -7,4 +7,5 @@ pub mod Rows
 pub mod Scales
 pub mod Sorted
 pub mod Spans
+pub mod Splitting
 pub mod Within

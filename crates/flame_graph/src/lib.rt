@@ -2,9 +2,10 @@
 //!
 //! `flame` prints the picture. `walk` goes through the rows once and keeps the frames that are open;
 //! `open_frames` opens them. `sums` has the totals, `scale` places, `line` the line of a frame, and
-//! `names` its name. `laws` says what is true of every picture.
+//! `names` its name, whose `characters` may have several bytes. `laws` says what is true of every picture.
 #![tactic(auto)]
 
+mod characters;
 mod flame;
 mod frame;
 mod laws;

@@ -1,14 +1,14 @@
 -- Texts and records, by their pieces.
 use Rattle.std.proofs.Common.{◌≡◌, ℕ, ◌++◌, ◌∙◌, List, [], ◌∷◌, refl, ap, append_assoc}
-use Rattle.std.specs.Prelude.{codes, decimal, replicate, Option, Some}
+use Rattle.std.specs.Prelude.{codes, decimal, replicate, Some}
 use Rattle.std.proofs.lemmas.List.{append-nil}
 use Rattle.json.specs.Print.{escape}
 use Rattle.byteorder.specs.Endian.{little_bytes}
 use Rattle.fdr_record.specs.Records.{action_of}
 use Rattle.fdr_file.specs.declared.header.Header.{Header}
 use Rattle.fdr_file.specs.ThreadEvents.{ThreadEvent}
-use Rattle.xray_image.specs.Program.{Program}
-use Rattle.function_names.specs.Name.{name_text}
+use Rattle.map_names.specs.Naming.{Naming}
+use Rattle.function_names.specs.Name.{plain_name}
 use Rattle.trace_forms.specs.BasicLogs.{arg_logged, basic_header_bytes, event_bytes}
 use Rattle.trace_forms.specs.TraceEvents.{phase_text}
 use Rattle.trace_forms.specs.private.Texts.{arg_shown, event_end, event_json, event_start}
@@ -28,21 +28,21 @@ parts : (s d k n e : List ℕ) → (s ++ (d ++ (k ++ []))) ++ (n ++ e) ≡ s ++ 
 parts s d k n e = simp (append_assoc, append-nil)
 
 -- an event that is put together of its parts
-pub event_parts : (program : Option Program) (e : ThreadEvent) (cpu : ℕ) → cpu ≡ e.event.cpu
-    → (event_start (arg_shown e.event.kind e.event.arg) ++ (decimal cpu ++ (codes ",\"name\":\"" ++ []))) ++ (escape (name_text program e.event.func) ++ event_end e)
-    ≡ event_json program e
-event_parts program e cpu same =
+pub event_parts : (names : Naming) (e : ThreadEvent) (cpu : ℕ) → cpu ≡ e.event.cpu
+    → (event_start (arg_shown e.event.kind e.event.arg) ++ (decimal cpu ++ (codes ",\"name\":\"" ++ []))) ++ (escape (plain_name names e.event.func) ++ event_end e)
+    ≡ event_json names e
+event_parts names e cpu same =
     let start = event_start (arg_shown e.event.kind e.event.arg) in
-    let rest = escape (name_text program e.event.func) ++ event_end e in
+    let rest = escape (plain_name names e.event.func) ++ event_end e in
     ap (λ (n : ℕ). (start ++ (decimal n ++ (codes ",\"name\":\"" ++ []))) ++ rest) same
-    ∙ parts start (decimal e.event.cpu) (codes ",\"name\":\"") (escape (name_text program e.event.func)) (event_end e)
+    ∙ parts start (decimal e.event.cpu) (codes ",\"name\":\"") (escape (plain_name names e.event.func)) (event_end e)
 
-pub event_parts_left : (program : Option Program) (e : ThreadEvent) (cpu : ℕ) → cpu ≡ e.event.cpu
-    → ((event_start (arg_shown e.event.kind e.event.arg) ++ (decimal cpu ++ (codes ",\"name\":\"" ++ []))) ++ escape (name_text program e.event.func)) ++ event_end e
-    ≡ event_json program e
-event_parts_left program e cpu same =
-    append_assoc (event_start (arg_shown e.event.kind e.event.arg) ++ (decimal cpu ++ (codes ",\"name\":\"" ++ []))) (escape (name_text program e.event.func)) (event_end e)
-    ∙ event_parts program e cpu same
+pub event_parts_left : (names : Naming) (e : ThreadEvent) (cpu : ℕ) → cpu ≡ e.event.cpu
+    → ((event_start (arg_shown e.event.kind e.event.arg) ++ (decimal cpu ++ (codes ",\"name\":\"" ++ []))) ++ escape (plain_name names e.event.func)) ++ event_end e
+    ≡ event_json names e
+event_parts_left names e cpu same =
+    append_assoc (event_start (arg_shown e.event.kind e.event.arg) ++ (decimal cpu ++ (codes ",\"name\":\"" ++ []))) (escape (plain_name names e.event.func)) (event_end e)
+    ∙ event_parts names e cpu same
 
 -- ---- basic logs
 

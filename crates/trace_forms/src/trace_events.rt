@@ -2,6 +2,7 @@
 
 ghost use Rattle.std.specs.{Prelude.{◌≡◌, ◌+◌, ◌<◌, ◌↔◌, [], ⊤, Err, IfOk, IfSome, IsTrue, MatchBool, length}, Option.{option_map}};
 ghost use Rattle.fdr_file.specs.ThreadEvents.{event_given, thread_events};
+ghost use Rattle.function_names.specs.Name.{image_names, naming};
 ghost use Rattle.xray_io.specs.{Piece.{piece_text}, Text.{AddsText}};
 ghost use Rattle.trace_forms.specs.TraceEvents.{events_text, most_events, phase_text, trace_events_text};
 ghost use Rattle.trace_forms.specs.private.Texts.{arg_shown, event_end, event_json, event_start, later_json, list_json, next_json};
@@ -11,6 +12,7 @@ use crate::gathered::Gathered;
 use crate::source::{EventSource, TraceCursor};
 use fdr_file::Trace;
 use fdr_record::{Event, Kind};
+use function_names::Names;
 use std::alloc::Global;
 use thiserror::Error;
 use xray_image::Image;
@@ -41,18 +43,17 @@ pub enum EventFault {
 pub struct EventsText<'a> {
     /// The trace.
     pub trace: &'a Trace,
-    /// The image that names the functions of the events. If it has no name for one, or if there is no
-    /// image, the name is `#` and the id.
-    pub image: Option<&'a Image>,
+    /// What names the functions of the events. If a name isn't known, it is `#` and the id.
+    pub names: Names<'a>,
 }
 
 impl Printed for EventsText<'_> {
-    ghost text = { λ t. trace_events_text (option_map (λ image. image.now) t.image) t.trace.now };
+    ghost text = { λ t. trace_events_text (naming t.names) t.trace.now };
 
     ghost ready = { λ _. ⊤ };
 
     fn add_to<S: Sink>(&self, to: &mut Text<S>) -> Result<(), WriteFault> {
-        add_events(to, &mut TraceCursor::new(self.trace), self.image)
+        add_events(to, &mut TraceCursor::new(self.trace), self.names)
     }
 }
 
@@ -87,14 +88,15 @@ pub fn event_text(
     image: Option<&Image>,
 ) -> Result<Vec<u8>, EventFault>
     ensures text { IfOk result (λ text. text.items
-        ≡ trace_events_text (option_map (λ image. image.now) image.entry) trace.now) }
+        ≡ trace_events_text (image_names (option_map (λ image. image.now) image.entry)) trace.now) }
     ensures many { (result ≡ Err EventFault.Many)
         ↔ (most_events < length (thread_events trace.now.blocks)) }
 {
     if has_too_many(&mut TraceCursor::new(trace)) {
         return Err(EventFault::Many);
     }
-    match gather(alloc, &EventsText { trace, image }) {
+    let names = Names::of_image(image);
+    match gather(alloc, &EventsText { trace, names }) {
         Some(text) => Ok(text),
         None => Err(EventFault::NoMemory),
     }
@@ -103,7 +105,7 @@ pub fn event_text(
 /// The text of these events, if memory isn't refused.
 fn gather(alloc: Global, events: &EventsText) -> Option<Vec<u8>>
     ensures { IfSome result (λ text. text.items
-        ≡ trace_events_text (option_map (λ image. image.now) events.now.image) events.now.trace.now) }
+        ≡ trace_events_text (naming events.now.names) events.now.trace.now) }
 {
     let mut sink = Gathered::new(alloc);
     match write_text(events, &mut sink) {
@@ -116,13 +118,13 @@ fn gather(alloc: Global, events: &EventsText) -> Option<Vec<u8>>
 pub(crate) fn add_events<S: Sink, E: EventSource>(
     text: &mut Text<S>,
     events: &mut E,
-    image: Option<&Image>,
+    names: Names,
 ) -> Result<(), WriteFault>
     ensures { AddsText S.written S.faults S.along text.old text.new
-        (events_text (option_map (λ image. image.now) image.entry) (E.left events.old)) result }
+        (events_text (naming names.entry) (E.left events.old)) result }
 {
     text.bytes(b"{\"traceEvents\":[")?;
-    add_list(text, events, image)?;
+    add_list(text, events, names)?;
     text.bytes(b"]}\n")
 }
 
@@ -130,16 +132,16 @@ pub(crate) fn add_events<S: Sink, E: EventSource>(
 fn add_list<S: Sink, E: EventSource>(
     text: &mut Text<S>,
     events: &mut E,
-    image: Option<&Image>,
+    names: Names,
 ) -> Result<(), WriteFault>
     ensures { AddsText S.written S.faults S.along text.old text.new
-        (list_json (option_map (λ image. image.now) image.entry) (E.left events.old)) result }
+        (list_json (naming names.entry) (E.left events.old)) result }
 {
     match events.next_event() {
         None => Ok(()),
         Some((thread, pid, event)) => {
-            add_event(text, image, thread, pid, &event)?;
-            add_later(text, events, image)
+            add_event(text, names, thread, pid, &event)?;
+            add_later(text, events, names)
         }
     }
 }
@@ -148,13 +150,13 @@ fn add_list<S: Sink, E: EventSource>(
 fn add_later<S: Sink, E: EventSource>(
     text: &mut Text<S>,
     events: &mut E,
-    image: Option<&Image>,
+    names: Names,
 ) -> Result<(), WriteFault>
     ensures { AddsText S.written S.faults S.along text.old text.new
-        (later_json (option_map (λ image. image.now) image.entry) (E.left events.old)) result }
+        (later_json (naming names.entry) (E.left events.old)) result }
 {
     'objects: while let Some((thread, pid, event)) = events.next_event() {
-        add_next(text, image, thread, pid, &event)?;
+        add_next(text, names, thread, pid, &event)?;
     }
     Ok(())
 }
@@ -162,29 +164,29 @@ fn add_later<S: Sink, E: EventSource>(
 /// Adds the object of an event, with a comma before it.
 fn add_next<S: Sink>(
     text: &mut Text<S>,
-    image: Option<&Image>,
+    names: Names,
     thread: u32,
     pid: u32,
     event: &Event,
 ) -> Result<(), WriteFault>
     ensures { AddsText S.written S.faults S.along text.old text.new
-        (next_json (option_map (λ image. image.now) image.entry)
+        (next_json (naming names.entry)
         (event_given (thread, pid, event.now))) result }
 {
     text.bytes(b",")?;
-    add_event(text, image, thread, pid, event)
+    add_event(text, names, thread, pid, event)
 }
 
 /// Adds the object of an event.
 fn add_event<S: Sink>(
     text: &mut Text<S>,
-    image: Option<&Image>,
+    names: Names,
     thread: u32,
     pid: u32,
     event: &Event,
 ) -> Result<(), WriteFault>
     ensures { AddsText S.written S.faults S.along text.old text.new
-        (event_json (option_map (λ image. image.now) image.entry)
+        (event_json (naming names.entry)
         (event_given (thread, pid, event.now))) result }
 {
     add_start(text, event)?;
@@ -192,7 +194,7 @@ fn add_event<S: Sink>(
         Piece::Number(u128::from(event.cpu)),
         Piece::Bytes(b",\"name\":\""),
     ])?;
-    add_escaped_name(text, image, event.func)?;
+    add_escaped_name(text, names, event.func)?;
     add_end(text, thread, pid, event)
 }
 

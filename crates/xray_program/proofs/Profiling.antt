@@ -24,6 +24,7 @@ use Rattle.thread_run.proofs.Each.{there_is}
 use Rattle.traced_run.specs.Following.{MarksFollowScript}
 use Rattle.traced_run.specs.Runs.{ThreadRun, events_of}
 use Rattle.xray_image.specs.Program.{Program}
+use Rattle.function_names.specs.Name.{program_names}
 use Rattle.xray_program.specs.Outcomes.{Outcome, Done, Fell}
 use Rattle.xray_program.specs.Profile.{profile_of, report_unless, trouble_of}
 use Rattle.xray_program.specs.private.Profiled.{HaveProfiled}
@@ -132,6 +133,6 @@ module _ (options : ProfileOptions) (program : Program) (runs : List ThreadRun) 
   profile_fell text trouble is wrong =
       ap (λ (t : List ℕ). Fell [] t trouble) (is ∙ sym (append-nil (state_texts 1 runs))) ∙ ap ended_with wrong
 
-  pub profile_done : (text : List ℕ) → text ≡ state_texts 1 runs ++ rows_text options.format 0 (Some program) (stack_of_threads (map events_of runs))
+  pub profile_done : (text : List ℕ) → text ≡ state_texts 1 runs ++ rows_text options.format 0 (program_names program) (stack_of_threads (map events_of runs))
       → trouble_is None → ended_by [] text None ≡ profile_of options program runs
   profile_done text is none = ap (λ (t : List ℕ). Done [] t) is ∙ ap ended_with none

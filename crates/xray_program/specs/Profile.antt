@@ -5,6 +5,7 @@ use Rattle.call_trie.specs.declared.state.TrieState.TheVariants.{Live, Full, Dee
 use Rattle.call_trie.specs.Tries.{state_after}
 use Rattle.command_words.specs.declared.profile_options.ProfileOptions.{ProfileOptions}
 use Rattle.command_words.specs.declared.report_options.StackFormat.{StackFormat}
+use Rattle.function_names.specs.Name.{program_names}
 use Rattle.fdr_record.specs.declared.event.Event.{Event}
 use Rattle.machine_step.specs.PlainStep.{PlainRun}
 use Rattle.patch_script.specs.Plans.{Plan}
@@ -39,7 +40,7 @@ trouble_of thread (state ∷ states) = first_trouble (trouble_in state thread) (
 
 -- the report on the events of threads, unless there is trouble; no words say which frequency the counter has
 abbrev pub report_unless : Option (List ℕ) → StackFormat → Program → List (List Event) → List ℕ
-report_unless None format program threads = rows_text format 0 (Some program) (stack_of_threads threads)
+report_unless None format program threads = rows_text format 0 (program_names program) (stack_of_threads threads)
 report_unless (Some trouble) format program threads = []
 
 -- What comes of these runs. Their state texts are printed, and then the stacks of the events that their marks record. If
