@@ -28,7 +28,7 @@ use Rattle.audit_check.specs.Statements.{Statement}
 use Rattle.audit_check.specs.Texts.{audit_words}
 use Rattle.xray_program.specs.Taking.{Form, any_bytes}
 
--- ---- the most bytes of each kind; `trace_limit` has those of a trace and of a log
+-- ---- the most bytes of each kind; `trace_limit` has those of a trace
 
 abbrev pub image_limit : ℕ
 image_limit = 4194304
