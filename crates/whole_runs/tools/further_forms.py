@@ -29,6 +29,7 @@ import tempfile
 sys.dont_write_bytecode = True  # the modules are in the repository, and their compiled forms aren't
 import forms_model  # noqa: E402
 import llvm_agrees  # noqa: E402
+import map_model  # noqa: E402
 import report_model  # noqa: E402
 import trace_model  # noqa: E402
 import xray_model as model  # noqa: E402
@@ -81,7 +82,8 @@ def shortened(came):
 
 def check_events(text, content, image):
     """Python's json reads the text as the events of the trace."""
-    name_of = report_model.namer(image)
+    names = {} if image is None else report_model.names_of_image(image)
+    name_of = report_model.namer(names, map_model.plain)
     expected = [
         (
             thread,
