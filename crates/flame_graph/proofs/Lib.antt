@@ -2,6 +2,7 @@ pub mod Drawing
 pub mod Endings
 pub mod Lowest
 pub mod Measures
+pub mod NameTexts
 pub mod Orders
 pub mod Rows
 pub mod Scales

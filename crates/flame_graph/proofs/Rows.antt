@@ -4,8 +4,8 @@ use Rattle.std.specs.Fmt.{digits}
 use Rattle.std.specs.Prelude.{codes}
 use Rattle.map_names.specs.Naming.{no_names}
 use Rattle.stack_rebuild.specs.Stacks.{PathRow}
-use Rattle.core.specs.Char.{encode_utf8}
-use Rattle.core.specs.Str.{chars, is_utf8}
+use Rattle.std.specs.Char.{encode_utf8}
+use Rattle.std.specs.Str.{chars, is_utf8}
 use Rattle.flame_graph.specs.FlameText.{flame_text, shortened, xml_text}
 use Rattle.flame_graph.specs.Picture.{thousandths_at}
 

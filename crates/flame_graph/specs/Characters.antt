@@ -1,6 +1,6 @@
 -- The characters of a name: those of the UTF-8 in it, and each other byte by itself.
 use Rattle.std.specs.Prelude.{◌-◌, ◌&&◌, Bool, ℕ, zero, suc, List, [], ◌∷◌, length, take, nat_le, if◌then◌else◌}
-use Rattle.core.specs.Str.{is_utf8}
+use Rattle.std.specs.Str.{is_utf8}
 
 -- whether bytes are UTF-8
 abbrev pub is_text : List ℕ → Bool

@@ -19,6 +19,6 @@ mod walk;
 pub use flame::{FlameGraph, write_flame_graph};
 pub use frame::Calls;
 pub use laws::{
-    no_frame_sticks_out, stacks_can_be_drawn, stacks_of_threads_can_be_drawn,
+    names_are_text, no_frame_sticks_out, stacks_can_be_drawn, stacks_of_threads_can_be_drawn,
     the_lowest_frames_add_up,
 };
