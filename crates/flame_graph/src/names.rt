@@ -19,8 +19,11 @@ pub(crate) const ROOM: usize = 11;
 /// What stands for what has no place in a text of XML: U+FFFD in UTF-8.
 const REPLACEMENT: [u8; 3] = [0xEF, 0xBF, 0xBD];
 
-/// The characters of several bytes that no text of XML has: U+FFFE and U+FFFF.
-const OUTSIDE: [[u8; 3]; 2] = [[0xEF, 0xBF, 0xBE], [0xEF, 0xBF, 0xBF]];
+/// U+FFFE, which no text of XML has.
+const FFFE: &[u8] = b"\xEF\xBF\xBE";
+
+/// U+FFFF, which none has either.
+const FFFF: &[u8] = b"\xEF\xBF\xBF";
 
 /// Writes the name of a function that isn't known, so that it goes to the end of the word. Returns
 /// where it begins.
@@ -104,8 +107,8 @@ fn add_wide<S: Sink>(to: &mut Text<S>, character: &[u8]) -> Result<(), WriteFaul
 fn is_outside(character: &[u8]) -> bool
     ensures { result ≡ is_outside character.now }
 {
-    let first = character == OUTSIDE[0];
-    first || character == OUTSIDE[1]
+    let is_fffe = character == FFFE;
+    is_fffe || character == FFFF
 }
 
 /// Adds a character of one byte.
