@@ -152,7 +152,7 @@ def differences(rows, picture, frequency):
     if any(own for *_, own in rows) and lowest != flame_model.ACROSS:
         yield f"the lowest row is {lowest} wide"
     model_rows = [flame_model.PathRow(tuple(int(name[1:]) for name in path), *numbers) for path, *numbers in rows]
-    if picture != flame_model.flame_text(model_rows, lambda function: f"#{function}".encode(), frequency):
+    if picture != flame_model.flame_text(model_rows, lambda function: f"#{function}", frequency):
         yield "the text isn't that of the model"
 
 

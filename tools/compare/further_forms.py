@@ -30,7 +30,7 @@ sys.path.insert(0, str(pathlib.Path(__file__).resolve().parents[1]))
 import llvm_agrees  # noqa: E402
 from command_line import ROOT, CommandLine  # noqa: E402
 from inputs.random_traces import other_file, random_trace  # noqa: E402
-from model import forms_model, report_model, trace_model  # noqa: E402
+from model import forms_model, map_model, report_model, trace_model  # noqa: E402
 from model import xray_model as model  # noqa: E402
 from model.image_model import image_of  # noqa: E402
 
@@ -79,7 +79,8 @@ def shortened(came):
 
 def check_events(text, content, image):
     """Python's json reads the text as the events of the trace."""
-    name_of = report_model.namer(image)
+    names = {} if image is None else report_model.names_of_image(image)
+    name_of = report_model.namer(names, map_model.plain)
     expected = [
         (
             thread,

@@ -7,6 +7,7 @@ from model.trace_model import trace_of
 
 from .audit_damages import DAMAGES, Left, Unfit
 from .random_images import assembled_draft, calling_draft, random_image, units_draft
+from .random_maps import random_map
 from .random_scripts import live_script, random_schedule, random_script
 from .random_texts import small_text
 from .random_traces import other_file, random_trace
@@ -316,8 +317,18 @@ def random_case(draw, forms, only=None):
     for _ in forms[command].outputs:
         names.append(random_output(draw, case, names))
     options = random_options(draw, command, threads, writes_traces=command == "sim" and bool(forms["sim"].outputs))
+    if "map" in forms[command].options and draw.random() < (0.3 if len(names) == 1 else 0.03):
+        options.append(map_option(draw, case))
     case.words = random_words(draw, command, names, options)
     return case
+
+
+def map_option(draw, case):
+    """The words of `--map`, with a sled map, or with a name that can't be read."""
+    if draw.random() < 0.06:
+        return option(draw, "map", draw.choice(["missing", "folder", ""]))
+    case.files[b"map.yaml"] = random_map(draw)
+    return option(draw, "map", "map.yaml")
 
 
 def random_output(draw, case, names):

@@ -27,7 +27,7 @@ NAMES = {
     "soak": [b"1"],
     "profile": [b"i", b"s"],
 }
-OTHER_NAMES = [b"i", b"t", b"new", b"./new", b"-", b"a=b", b"a b", b"", b"--", b"-x", b"--fuel", b"--fuel=3", b"help",
+OTHER_NAMES = [b"i", b"t", b"m", b"new", b"./new", b"-", b"a=b", b"a b", b"", b"--", b"-x", b"--fuel", b"--fuel=3", b"help",
                b"missing"]  # fmt: skip
 WRONG = [b"", b"+", b"-1", b"++1", b"+-1", b" 1", b"1 ", b"0x1", b"1e3", b"1.0", b"1=1", b"=", b"-", b"--", b"one", b"1_000",
          str(1 << 64).encode(), str(10**40).encode(), "\u0661".encode(), b"human ", b"Text"]  # fmt: skip
@@ -38,9 +38,9 @@ OTHER_COMMANDS = [b"", b"help", b"Plain", b"plain ", b"--", b"-", b"--fuel=3", b
 
 @functools.cache
 def files():
-    """The inputs: an image, a script, a schedule, a text, and the trace and the audit of a replay of the image."""
+    """The inputs: an image, a script, a schedule, a text, a sled map, and the trace and the audit of a replay of the image."""
     image = assembled(TEXT, 1)
-    inputs = {b"i": image, b"s": b"go\n", b"c": b"", b"x": TEXT}
+    inputs = {b"i": image, b"s": b"go\n", b"c": b"", b"x": TEXT, b"m": model.sled_map_text(model.image_of(image)).encode()}
     world = model.World({name.decode(): content for name, content in inputs.items()})
     traced = model.outcome([b"sim", b"i", b"s", b"c", b"t", b"a"], world)
     return {**inputs, b"t": traced.written["t"], b"a": traced.written["a"]}
@@ -52,6 +52,8 @@ def value(draw, values):
         return draw.choice(WRONG)
     if isinstance(values, model.Choice):
         return draw.choice(values.words).encode()
+    if isinstance(values, model.FileName):
+        return b"m" if draw.random() < 0.8 else draw.choice(OTHER_NAMES)
     if isinstance(values, model.OneOf):
         return random_cases.spelled(draw, draw.choice([*values.numbers, max(values.numbers) + 1])).encode()
     inside = [values.least, values.most, values.default or 0, draw.randint(values.least, min(values.most, 2000))]

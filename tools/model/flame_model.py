@@ -5,6 +5,7 @@ are `PathRow`s in ascending order of their paths. Frames are found in tables of 
 """
 import collections
 import dataclasses
+import re
 
 MOST = 2**128 - 1
 LARGE = 2**107
@@ -58,11 +59,14 @@ def frames_of(rows):
 
 # ---- Text
 
+OUTSIDE = re.compile("[\0-\x1f\x7f\ud800-\udfff\ufffe\uffff]")
+
 
 def escaped(name):
-    """A name in XML, byte by byte. What isn't printable ASCII is replaced by U+FFFD."""
+    """A name in XML. What has no place there is replaced by U+FFFD: control characters, U+FFFE, U+FFFF, and bytes that are
+    no UTF-8, for which a name has surrogates."""
     special = {"&": "&amp;", "<": "&lt;", ">": "&gt;", '"': "&quot;"}
-    return "".join(special.get(chr(byte), chr(byte) if 32 <= byte < 127 else "\ufffd") for byte in name)
+    return "".join(special.get(one, "\ufffd" if OUTSIDE.match(one) else one) for one in name)
 
 
 def shortened(name, room):
@@ -102,7 +106,7 @@ def frame_line(frame, left, width, top, name):
 
 
 def flame_text(rows, named, frequency):
-    """The picture. `named` gives the bytes of a function's name."""
+    """The picture. `named` gives the name of a function."""
     total = min(sum(row.own for row in rows), MOST)
     levels = min(max((len(row.path) for row in rows), default=0), DEPTH_LIMIT)
     unit = 1 if total < LARGE else LARGE_UNIT

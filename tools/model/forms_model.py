@@ -7,6 +7,7 @@ import itertools
 import json
 import struct
 
+from . import map_model
 from .image_model import Refused
 from .report_model import namer
 from .trace_model import (
@@ -60,12 +61,12 @@ def event_object(name_of, thread, pid, event):
     return fields | ({"args": {"arg": event.arg}} if event.action == ENTRY_ARGS else {})
 
 
-def events_text(trace, image):
+def events_text(trace, names):
     """What `convert --format trace-event` prints."""
     events = with_threads(trace)
     if len(events) > MOST_EVENTS:
         raise Refused("Many")
-    objects = [event_object(namer(image), *event) for event in events]
+    objects = [event_object(namer(names, map_model.plain), *event) for event in events]
     return json.dumps({"traceEvents": objects}, sort_keys=True, separators=(",", ":"), ensure_ascii=False) + "\n"
 
 

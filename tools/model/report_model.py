@@ -5,7 +5,7 @@ It is written from docs/formats and docs/commands alone, and shares nothing with
 import collections
 import dataclasses
 
-from . import flame_model
+from . import flame_model, map_model
 from .image_model import Refused
 from .trace_model import CONSTANT, ENTRIES, ENTRY_ARGS, NONSTOP, WORD_64
 
@@ -15,11 +15,19 @@ COLUMN = 10
 # ---- Names
 
 
-def namer(image):
-    """How functions are named: by the image, if there is one and it has the id, and otherwise by their number."""
-    names = {} if image is None else dict(zip(image.ids, (entry.function for entry in image.entries)))
-    starts = {} if image is None else dict(image.functions)
-    return lambda function: starts[names[function]].decode("ascii") if function in names else f"#{function}"
+def names_of_image(image):
+    """The names that an image gives to the ids of functions."""
+    starts = dict(image.functions)
+    return {one: starts[entry.function] for one, entry in zip(image.ids, image.entries)}
+
+
+def namer(names, spelled):
+    """How functions are named: by their names as a form spells them, and otherwise by their number."""
+    return lambda function: text_of(spelled(names[function])) if function in names else f"#{function}"
+
+
+def text_of(name):
+    return name.decode("utf-8", "surrogateescape")
 
 
 # ---- Pairs
@@ -128,11 +136,11 @@ def ordered_rows(rows, sort, is_descending, top):
     return rows if top is None else rows[:top]
 
 
-def account_text(trace, image, options):
+def account_text(trace, names, options):
     rows = account_of(trace)
     latencies = sum(row.count > 0 for row in rows)
     shown = ordered_rows(rows, options["sort"], options["sortorder"] == "desc", options["top"])
-    name_of = namer(image)
+    name_of = namer(names, map_model.csv_field if options["format"] == "csv" else map_model.plain)
     lines = [HEAD, *([*row_words(row), name_of(row.funcid)] for row in shown)]
     if options["format"] == "csv":
         return "".join(",".join(words) + "\n" for words in lines)
@@ -183,16 +191,16 @@ def stack_rows(threads):
     return sorted(rows.items())
 
 
-def stack_text(trace, image, options):
-    return rows_text(stacks_of(trace), image, options, trace.header.frequency)
+def stack_text(trace, names, options):
+    return rows_text(stacks_of(trace), names, options, trace.header.frequency)
 
 
-def rows_text(rows, image, options, frequency=0):
+def rows_text(rows, names, options, frequency=0):
     """The text of these rows. The counter has this frequency."""
-    name_of = namer(image)
     if options["format"] == "svg":
         rows = [flame_model.PathRow(path, row.count, row.sum, row.own) for path, row in rows]
-        return flame_model.flame_text(rows, lambda function: name_of(function).encode(), frequency)
+        return flame_model.flame_text(rows, namer(names, map_model.plain), frequency)
+    name_of = namer(names, map_model.frame)
     named = [(";".join(map(name_of, path)), row) for path, row in rows]
     if options["format"] == "flame":
         return "".join(f"{path} {row.own}\n" for path, row in named)
@@ -213,9 +221,9 @@ def said(flag):
     return "true" if flag else "false"
 
 
-def yaml_text(trace, image, options):
+def yaml_text(trace, names, options):
     """The events in the order of the file, block by block."""
-    name_of = namer(image)
+    name_of = namer(names, lambda name: map_model.yaml_text(name)[1:-1])
     items = [
         f"  - {{ type: 0, func-id: {event.function}, function: '{name_of(event.function)}', cpu: {event.cpu}, "
         f"thread: {block.thread}, process: {block.pid}, kind: {KINDS[event.action]}{arguments(event)}, tsc: {event.tsc} }}"

@@ -12,14 +12,14 @@ import dataclasses
 import posixpath
 import re
 
-from . import check_model, profile_model, run_model, soak_model
+from . import check_model, map_model, profile_model, run_model, soak_model
 from .asm_model import assembled
 from .forms_model import basic_bytes, basic_trace, dump_text, events_text
 from .image_container import RELATIVE_VERSION
 from .image_model import Refused, image_of, sled_map_text
 from .machine_model import WORD_64, Thread, plain_text
 from .replay_model import NUMBER_LIMIT, RECORDED, WAITING, commands_of, replayed, runs_text, turns_of
-from .report_model import account_text, rows_text, stack_text, yaml_text
+from .report_model import account_text, names_of_image, rows_text, stack_text, yaml_text
 from .trace_model import AuditLine, Header, audit_text, file_bytes, trace_of
 
 IMAGE_LIMIT = 4_194_304
@@ -28,6 +28,7 @@ SCRIPT_LIMIT = 1_048_576
 SCHEDULE_LIMIT = 16_777_216
 TRACE_LIMIT = 67_108_864
 AUDIT_LIMIT = 67_108_864
+MAP_LIMIT = 67_108_864
 LARGEST_64 = WORD_64 - 1
 
 # ---- Words
@@ -78,6 +79,15 @@ class Choice:
         return word
 
 
+class FileName:
+    """An option whose value is the name of a file."""
+
+    default = None
+
+    def value_of(self, word):
+        return word
+
+
 @dataclasses.dataclass(frozen=True)
 class Form:
     """How many files a command has at least and at most, which of them are outputs, and its options.
@@ -119,6 +129,7 @@ ACCOUNT_OPTIONS = {
     "sortorder": Choice("asc", "desc"),
     "top": Numbers(0, NUMBER_LIMIT, None),
     "format": Choice("text", "csv"),
+    "map": FileName(),
 }
 
 TRACE_AND_IMAGE = range(1, 3)
@@ -129,8 +140,12 @@ FORMS = {
     "sim": Form(range(5, 6), (3, 4), TRACE_OPTIONS),
     "run": Form(range(4, 5), (2, 3), TRACE_OPTIONS),
     "account": Form(TRACE_AND_IMAGE, (), ACCOUNT_OPTIONS),
-    "stack": Form(TRACE_AND_IMAGE, (), {"format": Choice("human", "flame", "svg")}),
-    "convert": Form(TRACE_AND_IMAGE, (), {"format": Choice("yaml", "trace-event", "basic"), "input": Choice("fdr", "basic")}),
+    "stack": Form(TRACE_AND_IMAGE, (), {"format": Choice("human", "flame", "svg"), "map": FileName()}),
+    "convert": Form(
+        TRACE_AND_IMAGE,
+        (),
+        {"format": Choice("yaml", "trace-event", "basic"), "input": Choice("fdr", "basic"), "map": FileName()},
+    ),
     "fdr-dump": Form(range(1, 2), (), {}),
     "check": Form(range(4, 5), (), {}),
     "soak": Form(range(1, 2), (), {}, {0: Numbers(0, LARGEST_64, None)}),
@@ -168,12 +183,14 @@ def command_of(words, forms):
             if option not in form.options or option in given:
                 raise BadLine
             value = value if is_joined else next(left, None)
-            if value is None:
+            if value is None or (not is_joined and len(value) > 1 and value.startswith("-")):
                 raise BadLine
             given[option] = form.options[option].value_of(value)
         else:
             files.append(word)
     if len(files) not in form.files or any(files.count(files[at]) > 1 for at in form.outputs):
+        raise BadLine
+    if "map" in given and len(files) > 1:
         raise BadLine
     for at, values in form.numbers.items():
         files[at] = values.value_of(files[at])
@@ -326,7 +343,7 @@ def profile(world, names, options):
     if trouble is not None:
         raise Fell(states, f"profile: {trouble}")
     before = f"<!--\n{states}-->\n" if options["format"] == "svg" else states
-    return before + rows_text(rows, image, options)
+    return before + rows_text(rows, names_of_image(image), options)
 
 
 def check(world, names):
@@ -345,13 +362,13 @@ def audit_line(thread, recorded):
     return AuditLine(thread.end, thread.passings, count, len(recorded.segments), recorded.lost, marks)
 
 
-def convert_text(trace, image, options):
+def convert_text(trace, names, options):
     """What `convert` prints."""
     match options["format"]:
         case "yaml":
-            return yaml_text(trace, image, options)
+            return yaml_text(trace, names, options)
         case "trace-event":
-            return events_text(trace, image)
+            return events_text(trace, names)
         case "basic":
             return basic_bytes(trace)
 
@@ -359,14 +376,21 @@ def convert_text(trace, image, options):
 REPORTS = {"account": account_text, "stack": stack_text, "convert": convert_text}
 
 
+def taken_names(world, images, map_name):
+    """The names that an image or a sled map gives to the ids of functions, if there is one of them."""
+    if map_name is not None:
+        return taken(world, map_name, "map", MAP_LIMIT, map_model.names_of)
+    return names_of_image(taken_image(world, images[0])) if images else {}
+
+
 def report(world, command, names, options):
-    """What a report on a trace prints, with an image that names its functions or without one."""
+    """What a report on a trace prints, with an image or a sled map that names its functions or without one."""
     trace_name, *rest = names
     read = basic_trace if options.get("input") == "basic" else trace_of
     trace = taken(world, trace_name, "trace", TRACE_LIMIT, read)
-    image = taken_image(world, rest[0]) if rest else None
+    function_names = taken_names(world, rest, options["map"])
     try:
-        return REPORTS[command](trace, image, options)
+        return REPORTS[command](trace, function_names, options)
     except Refused as refused:
         raise Failed(2, f"{trace_name}: trace {refused.reason}")
 
@@ -425,7 +449,8 @@ def done(words, world, forms):
         used.append(name)
     if world.is_output_full and text:
         raise Failed(4, "output: write fault", written)
-    return Outcome(status, text if isinstance(text, bytes) else text.encode("ascii"), error, written)
+    text = text if isinstance(text, bytes) else text.encode("utf-8", "surrogateescape")
+    return Outcome(status, text, error, written)
 
 
 def outcome(words, world, forms=FORMS):

@@ -211,6 +211,13 @@ pub(crate) const NODES: OptionRow = OptionRow {
     default: Some(4_096),
 };
 
+/// The sled map that names the functions of a trace.
+pub(crate) const MAP: OptionRow = OptionRow {
+    name: "map",
+    values: Values::FileName,
+    default: None,
+};
+
 /// The options of a plain run.
 const BOUNDS_OPTIONS: &[OptionRow] = &[THREADS, FUEL, PASSINGS];
 
@@ -320,21 +327,21 @@ pub(crate) const SEEDS: Values = Values::Number {
 pub(crate) const ACCOUNT: CommandRow = CommandRow {
     word: "account",
     files: &[TRACE, NAMING_IMAGE],
-    options: &[SORT, SORT_ORDER, TOP, ACCOUNT_FORMAT],
+    options: &[SORT, SORT_ORDER, TOP, ACCOUNT_FORMAT, MAP],
 };
 
 /// `stack TRACE [IMAGE]`: prints how often each stack of a trace occurred, and for how long.
 pub(crate) const STACK: CommandRow = CommandRow {
     word: "stack",
     files: &[TRACE, NAMING_IMAGE],
-    options: &[STACK_FORMAT],
+    options: &[STACK_FORMAT, MAP],
 };
 
 /// `convert TRACE [IMAGE]`: prints a trace in another form.
 pub(crate) const CONVERT: CommandRow = CommandRow {
     word: "convert",
     files: &[TRACE, NAMING_IMAGE],
-    options: &[CONVERT_FORMAT, INPUT],
+    options: &[CONVERT_FORMAT, INPUT, MAP],
 };
 
 /// `fdr-dump TRACE`: prints the records of a trace.

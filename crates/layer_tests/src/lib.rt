@@ -59,6 +59,8 @@ mod scripts;
 #[cfg(test)]
 mod setups;
 #[cfg(test)]
+mod sled_maps;
+#[cfg(test)]
 mod sled_values;
 #[cfg(test)]
 mod stack_folds;

@@ -7,8 +7,8 @@ use Rattle.fdr_record.specs.declared.event.Kind.{Kind}
 use Rattle.fdr_record.specs.declared.rec.Rec.{Rec}
 use Rattle.fdr_record.specs.declared.rec.Rec.TheVariants.{Function}
 use Rattle.fdr_file.specs.ThreadEvents.{ThreadEvent}
-use Rattle.xray_image.specs.Program.{Program}
-use Rattle.function_names.specs.Name.{name_text}
+use Rattle.map_names.specs.Naming.{Naming}
+use Rattle.function_names.specs.Name.{plain_name}
 use Rattle.trace_forms.specs.Dumps.{kind_word, record_line, record_text}
 use Rattle.trace_forms.specs.TraceEvents.{phase_text}
 use Rattle.trace_forms.specs.private.Texts.{arg_shown, arg_start, event_end, event_json, event_start}
@@ -59,11 +59,11 @@ end_row e pid thread r r1 r2 r3 r4 r5 r6 r7 r8 r9 same_pid same_thread e0 e1 e2 
     rw (e9, e8, e7, e6, e5, e4, e3, e2, e1, e0, same_pid, same_thread) refl
 
 -- an event is put together of its parts
-pub event_parts : (before : List ℕ) (program : Option Program) (e : ThreadEvent)
-    → (before ++ event_start e.event) ++ (escape (name_text program e.event.func) ++ event_end e) ≡ before ++ event_json program e
-event_parts before program e = append_assoc before (event_start e.event) (escape (name_text program e.event.func) ++ event_end e)
+pub event_parts : (before : List ℕ) (names : Naming) (e : ThreadEvent)
+    → (before ++ event_start e.event) ++ (escape (plain_name names e.event.func) ++ event_end e) ≡ before ++ event_json names e
+event_parts before names e = append_assoc before (event_start e.event) (escape (plain_name names e.event.func) ++ event_end e)
 
-pub event_parts_left : (before : List ℕ) (program : Option Program) (e : ThreadEvent)
-    → ((before ++ event_start e.event) ++ escape (name_text program e.event.func)) ++ event_end e ≡ before ++ event_json program e
-event_parts_left before program e =
-    append_assoc (before ++ event_start e.event) (escape (name_text program e.event.func)) (event_end e) ∙ event_parts before program e
+pub event_parts_left : (before : List ℕ) (names : Naming) (e : ThreadEvent)
+    → ((before ++ event_start e.event) ++ escape (plain_name names e.event.func)) ++ event_end e ≡ before ++ event_json names e
+event_parts_left before names e =
+    append_assoc (before ++ event_start e.event) (escape (plain_name names e.event.func)) (event_end e) ∙ event_parts before names e

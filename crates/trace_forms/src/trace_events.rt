@@ -2,6 +2,7 @@
 
 ghost use Rattle.std.specs.{Prelude.{◌≡◌, ◌+◌, ◌<◌, ◌≤◌, ◌↔◌, [], ◌++◌, ⊤, Err, IfOk, IfSome, IsTrue, MatchBool, length}, Option.{option_map}};
 ghost use Rattle.fdr_file.specs.ThreadEvents.{event_given, thread_events};
+ghost use Rattle.function_names.specs.Name.{image_names, naming};
 ghost use Rattle.xray_io.specs.Text.{AddsText};
 ghost use Rattle.trace_forms.specs.TraceEvents.{events_text, most_events, phase_text, trace_events_text};
 ghost use Rattle.trace_forms.specs.private.Texts.{arg_shown, arg_start, event_end, event_json, event_start, later_json, list_json};
@@ -12,6 +13,7 @@ use crate::row::{ROOM, Row};
 use crate::source::{EventSource, TraceCursor};
 use fdr_file::Trace;
 use fdr_record::{Event, Kind};
+use function_names::Names;
 use std::alloc::Global;
 use thiserror::Error;
 use xray_image::Image;
@@ -51,18 +53,17 @@ pub enum EventFault {
 pub struct EventsText<'a> {
     /// The trace.
     pub trace: &'a Trace,
-    /// The image that names the functions of the events. If it has no name for one, or if there is no
-    /// image, the name is `#` and the id.
-    pub image: Option<&'a Image>,
+    /// What names the functions of the events. If a name isn't known, it is `#` and the id.
+    pub names: Names<'a>,
 }
 
 impl Printed for EventsText<'_> {
-    ghost text = { λ t. trace_events_text (option_map (λ image. image.now) t.image) t.trace.now };
+    ghost text = { λ t. trace_events_text (naming t.names) t.trace.now };
 
     ghost ready = { λ _. ⊤ };
 
     fn add_to<S: Sink>(&self, to: &mut Text<S>) -> Result<(), WriteFault> {
-        add_events(to, &mut TraceCursor::new(self.trace), self.image)
+        add_events(to, &mut TraceCursor::new(self.trace), self.names)
     }
 }
 
@@ -97,14 +98,15 @@ pub fn event_text(
     image: Option<&Image>,
 ) -> Result<Vec<u8>, EventFault>
     ensures text { IfOk result (λ text. text.items
-        ≡ trace_events_text (option_map (λ image. image.now) image.entry) trace.now) }
+        ≡ trace_events_text (image_names (option_map (λ image. image.now) image.entry)) trace.now) }
     ensures many { (result ≡ Err EventFault.Many)
         ↔ (most_events < length (thread_events trace.now.blocks)) }
 {
     if has_too_many(&mut TraceCursor::new(trace)) {
         return Err(EventFault::Many);
     }
-    match gather(alloc, &EventsText { trace, image }) {
+    let names = Names::of_image(image);
+    match gather(alloc, &EventsText { trace, names }) {
         Some(text) => Ok(text),
         None => Err(EventFault::NoMemory),
     }
@@ -113,7 +115,7 @@ pub fn event_text(
 /// The text of these events, if memory isn't refused.
 fn gather(alloc: Global, events: &EventsText) -> Option<Vec<u8>>
     ensures { IfSome result (λ text. text.items
-        ≡ trace_events_text (option_map (λ image. image.now) events.now.image) events.now.trace.now) }
+        ≡ trace_events_text (naming events.now.names) events.now.trace.now) }
 {
     let mut sink = Gathered::new(alloc);
     match write_text(events, &mut sink) {
@@ -126,13 +128,13 @@ fn gather(alloc: Global, events: &EventsText) -> Option<Vec<u8>>
 pub(crate) fn add_events<S: Sink, E: EventSource>(
     text: &mut Text<S>,
     events: &mut E,
-    image: Option<&Image>,
+    names: Names,
 ) -> Result<(), WriteFault>
     ensures { AddsText S.written S.faults S.along text.old text.new
-        (events_text (option_map (λ image. image.now) image.entry) (E.left events.old)) result }
+        (events_text (naming names.entry) (E.left events.old)) result }
 {
     text.bytes(b"{\"traceEvents\":[")?;
-    add_list(text, events, image)?;
+    add_list(text, events, names)?;
     text.bytes(b"]}\n")
 }
 
@@ -140,16 +142,16 @@ pub(crate) fn add_events<S: Sink, E: EventSource>(
 fn add_list<S: Sink, E: EventSource>(
     text: &mut Text<S>,
     events: &mut E,
-    image: Option<&Image>,
+    names: Names,
 ) -> Result<(), WriteFault>
     ensures { AddsText S.written S.faults S.along text.old text.new
-        (list_json (option_map (λ image. image.now) image.entry) (E.left events.old)) result }
+        (list_json (naming names.entry) (E.left events.old)) result }
 {
     match events.next_event() {
         None => Ok(()),
         Some((thread, pid, event)) => {
-            add_event(text, b"", image, thread, pid, &event)?;
-            add_later(text, events, image)
+            add_event(text, b"", names, thread, pid, &event)?;
+            add_later(text, events, names)
         }
     }
 }
@@ -158,13 +160,13 @@ fn add_list<S: Sink, E: EventSource>(
 fn add_later<S: Sink, E: EventSource>(
     text: &mut Text<S>,
     events: &mut E,
-    image: Option<&Image>,
+    names: Names,
 ) -> Result<(), WriteFault>
     ensures { AddsText S.written S.faults S.along text.old text.new
-        (later_json (option_map (λ image. image.now) image.entry) (E.left events.old)) result }
+        (later_json (naming names.entry) (E.left events.old)) result }
 {
     'objects: while let Some((thread, pid, event)) = events.next_event() {
-        add_event(text, b",", image, thread, pid, &event)?;
+        add_event(text, b",", names, thread, pid, &event)?;
     }
     Ok(())
 }
@@ -174,20 +176,20 @@ fn add_later<S: Sink, E: EventSource>(
 fn add_event<S: Sink>(
     text: &mut Text<S>,
     before: &[u8],
-    image: Option<&Image>,
+    names: Names,
     thread: u32,
     pid: u32,
     event: &Event,
 ) -> Result<(), WriteFault>
     requires { length before.now ≤ MOST_BEFORE }
     ensures { AddsText S.written S.faults S.along text.old text.new
-        (before.now ++ event_json (option_map (λ image. image.now) image.entry)
+        (before.now ++ event_json (naming names.entry)
         (event_given (thread, pid, event.now))) result }
 {
     let mut row = Row::new();
     put_start(&mut row, before, event);
     text.bytes(row.as_slice())?;
-    add_escaped_name(text, image, event.func)?;
+    add_escaped_name(text, names, event.func)?;
     add_end(text, thread, pid, event)
 }
 

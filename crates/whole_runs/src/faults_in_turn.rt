@@ -46,8 +46,16 @@ const A: Input = (
     ],
 );
 
+/// A sled map that names function 1.
+const M: Input = (
+    "m",
+    &[
+        b"---\n- { id: 1, address: 0x1, function: 0x1, kind: function-enter, always-instrument: true, function-name: f }\n...\n",
+    ],
+);
+
 /// The commands. Another command is another row.
-const COMMANDS: [Command; 15] = [
+const COMMANDS: [Command; 16] = [
     Command {
         words: "asm x o",
         inputs: &[X],
@@ -101,6 +109,11 @@ const COMMANDS: [Command; 15] = [
     Command {
         words: "check i s t a",
         inputs: &[I, A, S, ("t", &ONE_CALL)],
+        outputs: &[],
+    },
+    Command {
+        words: "stack t --map m",
+        inputs: &[("t", &RECURSION), M],
         outputs: &[],
     },
     Command {

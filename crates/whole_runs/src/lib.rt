@@ -39,6 +39,8 @@ mod runs;
 #[cfg(test)]
 mod sim;
 #[cfg(test)]
+mod sled_maps;
+#[cfg(test)]
 mod soak;
 #[cfg(test)]
 mod stack;

@@ -1,9 +1,10 @@
 -- What words mean: only one thing if they are decided, a refusal and nothing else, and something in any case. Each
 -- command has a line.
-use Rattle.std.proofs.Common.{◌≡◌, ◌∙◌, ℕ, List, [], ◌∷◌, map, Option, Some, None, true, codes, refl, sym}
+use Rattle.std.proofs.Common.{◌≡◌, ◌∙◌, ◌++◌, ℕ, List, [], ◌∷◌, map, Option, Some, None, true, codes, refl, sym}
 use Rattle.std.specs.Prelude.{IsPermutation}
 use Rattle.std.proofs.lemmas.List.Sorted.{IsPermutation-cons, IsPermutation-refl, IsPermutation-to_front}
-use Rattle.command_words.specs.Files.{AreOfTheirRows, inputs_in, names_of, row_of}
+use Rattle.command_words.specs.Files.{AreOfTheirRows, inputs_in, names_given, names_of, row_of}
+use Rattle.command_words.specs.Reports.{ByIds, ByImage, ByMap}
 use Rattle.xray_io.specs.Desk.{Entry}
 use Rattle.xray_io.specs.declared.wall.Wall.{Wall}
 use Rattle.xray_program.specs.Commands.{Comes, IsDecided, IsStill, Means, TellsAll, inputs_of, is_decided}
@@ -110,9 +111,9 @@ still_by_word rows wall word words other another = by_said (reading wall (word �
     by_said (Some (Plain image bounds)) is = refl
     by_said (Some (Extract image)) is = refl
     by_said (Some (Asm text image threshold relative)) is = refl
-    by_said (Some (Account trace image options)) is = refl
-    by_said (Some (Stack trace image format)) is = refl
-    by_said (Some (Convert trace image options)) is = refl
+    by_said (Some (Account trace names options)) is = refl
+    by_said (Some (Stack trace names format)) is = refl
+    by_said (Some (Convert trace names options)) is = refl
     by_said (Some (Dump trace)) is = refl
     by_said (Some (Check image script trace audit)) is = refl
     by_said (Some (Profile image script options)) is = absurd (another (rows wall word words (Profile image script options) is).word_is)
@@ -144,18 +145,21 @@ audit_first image script trace audit =
 
 -- the inputs are those of the row, and but for `check` in its order
 pub inputs_of_row : (command : Command)
-    → IsPermutation (inputs_in (row_of command).files (names_of command)) (map (λ input. input.0) (inputs_of command))
+    → IsPermutation (inputs_in (row_of command).files (names_of command) ++ names_given command) (map (λ input. input.0) (inputs_of command))
 inputs_of_row (Sim i s c t a options) = IsPermutation-refl (i ∷ s ∷ c ∷ [])
 inputs_of_row (Run i s t a options) = IsPermutation-refl (i ∷ s ∷ [])
 inputs_of_row (Plain i bounds) = IsPermutation-refl (i ∷ [])
 inputs_of_row (Extract i) = IsPermutation-refl (i ∷ [])
 inputs_of_row (Asm t i threshold relative) = IsPermutation-refl (t ∷ [])
-inputs_of_row (Account t None options) = IsPermutation-refl (t ∷ [])
-inputs_of_row (Account t (Some i) options) = IsPermutation-refl (t ∷ i ∷ [])
-inputs_of_row (Stack t None format) = IsPermutation-refl (t ∷ [])
-inputs_of_row (Stack t (Some i) format) = IsPermutation-refl (t ∷ i ∷ [])
-inputs_of_row (Convert t None options) = IsPermutation-refl (t ∷ [])
-inputs_of_row (Convert t (Some i) options) = IsPermutation-refl (t ∷ i ∷ [])
+inputs_of_row (Account t ByIds options) = IsPermutation-refl (t ∷ [])
+inputs_of_row (Account t (ByImage name) options) = IsPermutation-refl (t ∷ name ∷ [])
+inputs_of_row (Account t (ByMap name) options) = IsPermutation-refl (t ∷ name ∷ [])
+inputs_of_row (Stack t ByIds format) = IsPermutation-refl (t ∷ [])
+inputs_of_row (Stack t (ByImage name) format) = IsPermutation-refl (t ∷ name ∷ [])
+inputs_of_row (Stack t (ByMap name) format) = IsPermutation-refl (t ∷ name ∷ [])
+inputs_of_row (Convert t ByIds options) = IsPermutation-refl (t ∷ [])
+inputs_of_row (Convert t (ByImage name) options) = IsPermutation-refl (t ∷ name ∷ [])
+inputs_of_row (Convert t (ByMap name) options) = IsPermutation-refl (t ∷ name ∷ [])
 inputs_of_row (Dump t) = IsPermutation-refl (t ∷ [])
 inputs_of_row (Check i s t a) = audit_first i s t a
 inputs_of_row (Profile i s options) = IsPermutation-refl (i ∷ s ∷ [])

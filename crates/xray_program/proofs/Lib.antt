@@ -17,6 +17,7 @@ pub mod Images
 pub mod Judging
 pub mod LogForms
 pub mod Meanings
+pub mod NamesTaken
 pub mod Ordering
 pub mod Outputting
 pub mod PlainLaws

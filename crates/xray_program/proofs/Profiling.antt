@@ -24,6 +24,7 @@ use Rattle.thread_run.proofs.Each.{there_is}
 use Rattle.traced_run.specs.Following.{MarksFollowScript}
 use Rattle.traced_run.specs.Runs.{ThreadRun, events_of}
 use Rattle.xray_image.specs.Program.{Program}
+use Rattle.function_names.specs.Name.{program_names}
 use Rattle.xray_program.specs.Outcomes.{Outcome, Done, Fell}
 use Rattle.xray_program.specs.Profile.{printed_of, profile_of, states_before, trouble_of}
 use Rattle.xray_program.specs.private.Profiled.{HaveProfiled}
@@ -133,6 +134,6 @@ module _ (options : ProfileOptions) (program : Program) (runs : List ThreadRun) 
       ap (λ (t : List ℕ). Fell [] t trouble) is ∙ ap ended_with wrong
 
   pub profile_done : (text : List ℕ)
-      → text ≡ states_before options.format (state_texts 1 runs) ++ rows_text options.format 0 (Some program) (stack_of_threads (map events_of runs))
+      → text ≡ states_before options.format (state_texts 1 runs) ++ rows_text options.format 0 (program_names program) (stack_of_threads (map events_of runs))
       → trouble_is None → ended_by [] text None ≡ profile_of options program runs
   profile_done text is none = ap (λ (t : List ℕ). Done [] t) is ∙ ap ended_with none

@@ -6,6 +6,7 @@ use Rattle.call_trie.specs.Tries.{state_after}
 use Rattle.command_words.specs.declared.profile_options.ProfileOptions.{ProfileOptions}
 use Rattle.command_words.specs.declared.report_options.StackFormat.{StackFormat}
 use Rattle.command_words.specs.declared.report_options.StackFormat.TheVariants.{Human, Flame, Svg}
+use Rattle.function_names.specs.Name.{program_names}
 use Rattle.fdr_record.specs.declared.event.Event.{Event}
 use Rattle.machine_step.specs.PlainStep.{PlainRun}
 use Rattle.patch_script.specs.Plans.{Plan}
@@ -49,7 +50,7 @@ states_before Svg states = codes "<!--\n" ++ states ++ codes "-->\n"
 -- which frequency the counter has.
 abbrev pub printed_of : Option (List ℕ) → StackFormat → Program → (states : List ℕ) → List (List Event) → List ℕ
 printed_of None format program states threads =
-    states_before format states ++ rows_text format 0 (Some program) (stack_of_threads threads)
+    states_before format states ++ rows_text format 0 (program_names program) (stack_of_threads threads)
 printed_of (Some trouble) format program states threads = states
 
 -- What comes of these runs. Their state texts are printed, and then the stacks of the events that their marks record. If

@@ -373,36 +373,36 @@ fn perform_report<'a, D: Desk, O: Sink>(
     match command {
         Command::Account {
             trace,
-            image,
+            names,
             options,
         } => {
             let account = Account {
                 trace,
-                image,
+                names,
                 options,
             };
             perform(alloc, &account, desk, out)
         }
         Command::Stack {
             trace,
-            image,
+            names,
             format,
         } => {
             let stack = Stack {
                 trace,
-                image,
+                names,
                 format,
             };
             perform(alloc, &stack, desk, out)
         }
         Command::Convert {
             trace,
-            image,
+            names,
             options,
         } => {
             let convert = Convert {
                 trace,
-                image,
+                names,
                 options,
             };
             perform(alloc, &convert, desk, out)

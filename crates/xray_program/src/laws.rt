@@ -1,8 +1,8 @@
 //! Laws of what the program means. Each law is the contract of a function that does nothing.
-ghost use Rattle.std.specs.Prelude.{◌≡◌, ◌≢◌, ◌<◌, ◌⊎◌, ◌∷◌, [], ℕ, List, Option, None, Some, All, IsPermutation, map};
+ghost use Rattle.std.specs.Prelude.{◌≡◌, ◌≢◌, ◌<◌, ◌⊎◌, ◌∷◌, ◌++◌, [], ℕ, List, Option, None, Some, All, IsPermutation, map};
 ghost use Rattle.audit_check.specs.Texts.{verdict_text};
 ghost use Rattle.audit_check.specs.declared.verdict.Verdict.TheVariants.{Yes};
-ghost use Rattle.command_words.specs.Files.{inputs_in, names_of, row_of};
+ghost use Rattle.command_words.specs.Files.{inputs_in, names_given, names_of, row_of};
 ghost use Rattle.machine_step.specs.Buffers.{spare_of};
 ghost use Rattle.machine_step.specs.declared.setup.Setup.{Setup};
 ghost use Rattle.traced_run.specs.{Losses.{AreLost}, Runs.{IsRun, ThreadRun}};
@@ -83,9 +83,11 @@ pub fn some_meaning()
 }
 
 /// The inputs of a command, whose turns come one after another, are the files that are read by its
-/// row in the table of commands. They may be taken in another order than that of their names.
+/// row in the table of commands, and those that its options name. They may be taken in another order
+/// than that of their names.
 pub fn inputs_follow_the_rows()
-    ensures { (command : Command) → IsPermutation (inputs_in (row_of command).files (names_of command))
+    ensures { (command : Command)
+        → IsPermutation (inputs_in (row_of command).files (names_of command) ++ names_given command)
         (map (λ input. input.0) (inputs_of command)) }
 {}
 

@@ -30,6 +30,7 @@ mod input;
 mod inputs;
 mod laws;
 mod log;
+mod names;
 mod plain;
 mod profile;
 mod readable_file;

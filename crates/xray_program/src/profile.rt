@@ -7,6 +7,7 @@ ghost use Rattle.command_words.specs.Ranges.{AreProfileOptions};
 ghost use Rattle.command_words.specs.Words.{outputs_of};
 ghost use Rattle.fault_words.specs.Words.{words_text};
 ghost use Rattle.flame_graph.specs.Frames.{AreStacks};
+ghost use Rattle.function_names.specs.Name.{program_names};
 ghost use Rattle.machine_step.specs.{EndedText.{thread_text}, Traced.{IsDone}};
 ghost use Rattle.stack_rebuild.specs.Stacks.{told};
 ghost use Rattle.xray_io.specs.World.{desk_view, sink_view};
@@ -27,6 +28,7 @@ use call_trie::{MOST_NODES, TrieRecorder, TrieState, merged};
 use command_words::{ProfileOptions, StackFormat};
 use fault_words::Words;
 use flame_graph::stacks_of_threads_can_be_drawn;
+use function_names::Names;
 use machine_step::{Cpu, Steps};
 use patch_script::Script;
 use sled_patch::run_prefix;
@@ -125,7 +127,7 @@ fn deliver_report<'a, D: Desk, O: Sink>(
     ensures delivers { let seen = desk_view D.held D.read_faults D.write_faults in
         let got = sink_view O.written O.faults in
         Delivers [] (states_before format (flat_map thread_text cpus.now)
-        ++ rows_text format 0 (Some image.now) (map told rows.now)) None
+        ++ rows_text format 0 (program_names image.now) (map told rows.now)) None
         (seen desk.old) (seen desk.new) (got out.old) (got out.new) (D.along desk.old desk.new) result }
     ensures others { let seen = desk_view D.held D.read_faults D.write_faults in
         KeepsOthers [] (seen desk.old) (seen desk.new) }
@@ -133,7 +135,7 @@ fn deliver_report<'a, D: Desk, O: Sink>(
     let states = StatesBefore { cpus, format };
     let stacks = StackReport {
         rows,
-        image: Some(image),
+        names: Names::Image(image),
         frequency: 0,
         format,
     };

@@ -4,6 +4,7 @@ use Rattle.call_trie.specs.Merging.{AllStandFor}
 use Rattle.call_trie.specs.Tries.{Trie}
 use Rattle.fault_words.specs.Words.{words_text}
 use Rattle.flame_graph.specs.Frames.{AreStacks}
+use Rattle.function_names.specs.Name.{program_names}
 use Rattle.machine_step.specs.EndedText.{thread_text}
 use Rattle.machine_step.specs.Traced.{IsDone, Traced}
 use Rattle.stack_rebuild.specs.Stacks.{PathRow, stack_of_threads, told}
@@ -107,7 +108,7 @@ returns-clause-finishes g c =
     let stand = subst (λ (ts : List Trie). AllStandFor ts threads) (sym c.deref-in-None.ensures.value) have.stand in
     let rows : map told c.deref-in-None-3.result.now ≡ stack_of_threads threads =
     ap (map told) c.deref-in-None-3.ensures.value ∙ c.in_ok-rows-in-None.ensures threads stand in
-    let shown : List PathRow → List ℕ = λ rs. rows_text s.options.format 0 (Some program) rs in
+    let shown : List PathRow → List ℕ = λ rs. rows_text s.options.format 0 (program_names program) rs in
     let before : List ℕ → List ℕ = λ t. states_before s.options.format t in
     let text = before states ++ shown (map told c.deref-in-None-3.result.now) in
     let is : text ≡ before (state_texts 1 have.runs) ++ shown (stack_of_threads threads) =
