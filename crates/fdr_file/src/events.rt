@@ -141,6 +141,7 @@ pub(crate) fn step(ends: bool, at: u64, rec: Rec, base: Option<Base>) -> Result<
 /// The record at a place of a block's bytes, after a record with a CPU and a counter: what is known
 /// after it, the events that it settles, and the place after it. `None` if it isn't whole, or may not
 /// stand there. `place` is its place in the file. The block ends at the place `end` of the bytes.
+#[inline(always)]
 pub fn take_step(
     bytes: &[u8],
     at: usize,
