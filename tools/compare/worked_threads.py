@@ -1,9 +1,10 @@
 #!/usr/bin/env python3
 """Runs `xray run` again and again on examples that were worked by hand, and reports where a run differs from them.
 
-usage: tools/compare/worked_threads.py [PROGRAM] [--times N]
+usage: tools/compare/worked_threads.py [PROGRAM] [--times N] [--step N]
     PROGRAM: the built program, crates/xray/out/xray if left out
     --times: how often each example is run, 100 if left out
+    --step: only each Nth size at which outputs fail, 1 if left out
 
 Threads of the system run in a different order each time. The scripts of most examples put them in order by holds and
 awaits, so each run has to leave the same bytes. A program that ran its threads one after the other, or patched only
@@ -274,11 +275,11 @@ def output_differences(failing):
             yield f"{said} > {output}: {came}"
 
 
-def size_differences(failing):
-    """For each size, a run in which no output may grow past it. The first output that is longer keeps its prefix."""
+def size_differences(failing, step):
+    """For each of these sizes, a run in which no output may grow past it. The first output that is longer keeps its prefix."""
     whole = failing.whole()
     words = failing.row.runs[0].words
-    for size in sizes_of(max(len(whole[name]) for name in ("t", "a", "out"))):
+    for size in sizes_of(max(len(whole[name]) for name in ("t", "a", "out")))[::step]:
         failed = next((name for name in ("t", "a", "out") if len(whole[name]) > size), None)
         came = failing.run(words, size)
         if came != left_by(whole, failed, size):
@@ -314,12 +315,12 @@ LONGEST = [
 ]
 
 
-def failure_differences(program):
+def failure_differences(program, step):
     with tempfile.TemporaryDirectory(prefix="worked_threads.") as folder:
         for row in (HELD, ORDERED[1]):
             yield from output_differences(Failing(program, row, folder))
         for row in LONGEST:
-            yield from size_differences(Failing(program, row, folder))
+            yield from size_differences(Failing(program, row, folder), step)
 
 
 # ---- The comparison
@@ -336,6 +337,7 @@ def main():
     parser = CommandLine(__doc__)
     parser.add_program()
     parser.add_argument("--times", type=int, default=100, metavar="N")
+    parser.add_argument("--step", type=int, default=1, metavar="N")
     given = parser.parse_args()
     program = given.program
     again = [*ORDERED, sixteen_holds(), *UNORDERED]
@@ -343,7 +345,7 @@ def main():
     for row in again:
         for time in range(1, given.times + 1):
             differ += (f"time {time}: {line}" for line in row_differences(program, row))
-    differ += failure_differences(program)
+    differ += failure_differences(program, given.step)
     finish(differ, f"{len(again)} examples, {given.times} times each, and outputs that fail")
 
 
