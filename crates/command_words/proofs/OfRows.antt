@@ -1,6 +1,7 @@
 -- A command and its row in the table.
-use Rattle.std.proofs.Common.{◌≡◌, ◌∙◌, ◌==◌, ℕ, Bool, true, false, List, [], ◌∷◌, Option, Some, None, refl, sym, ap, arith}
+use Rattle.std.proofs.Common.{◌≡◌, ◌∙◌, ◌==◌, ℕ, Bool, true, false, List, [], ◌∷◌, Option, Some, None, refl, sym, ap, subst, arith}
 use Rattle.std.specs.List.{cons_option}
+use Rattle.std.specs.Option.{option_map_or}
 use Rattle.std.specs.Prelude.{if◌then◌else◌, option_and_then, option_map}
 use Rattle.std.specs.Str.{bytes_eq}
 use Rattle.xray_io.specs.declared.wall.Wall.{Wall}
@@ -109,13 +110,17 @@ report_of : {X : Type 0} (row : CommandRow) (make : List ℕ → NameSource → 
     → report_by make line options ≡ Some command → IsOf row line.files (cons_option (value_in map_option.name line) []) command
 report_of {X} row make line options command each says = go line.files (value_in map_option.name line) options refl refl refl
   where
+    -- what is said by a trace alone, with this map
+    named_alone : (trace : List ℕ) (option : X) (map : Option (List ℕ)) → Type 0
+    named_alone trace option map = Some (make trace (option_map_or ByMap map ByIds) option) ≡ Some command
+
     go : (files : List (List ℕ)) (map : Option (List ℕ)) (given : Option X) → line.files ≡ files → value_in map_option.name line ≡ map → options ≡ given
         → IsOf row line.files (cons_option (value_in map_option.name line) []) command
     go (trace ∷ []) None (Some option) e f g =
-        let is : make trace ByIds option ≡ command = same _ _ (rw (e, f, g) at says) in
+        let is : make trace ByIds option ≡ command = same _ _ (subst (named_alone trace option) f (rw (e, g) at says)) in
         rw (sym is, e, f) (each trace ByIds option)
     go (trace ∷ []) (Some map) (Some option) e f g =
-        let is : make trace (ByMap map) option ≡ command = same _ _ (rw (e, f, g) at says) in
+        let is : make trace (ByMap map) option ≡ command = same _ _ (subst (named_alone trace option) f (rw (e, g) at says)) in
         rw (sym is, e, f) (each trace (ByMap map) option)
     go (trace ∷ image ∷ []) None (Some option) e f g =
         let is : make trace (ByImage image) option ≡ command = same _ _ (rw (e, f, g) at says) in

@@ -1,5 +1,5 @@
 //! The command that a command line says.
-ghost use Rattle.std.specs.Prelude.{◌≡◌, IfOk, IfSome, option_map, true};
+ghost use Rattle.std.specs.Prelude.{◌≡◌, IfOk, IfSome, find, option_map, true};
 ghost use Rattle.fdr_buffer.specs.Times.{IsTime};
 ghost use Rattle.command_words.specs.{Items.{texts}, Lines.{outputs_differ}, Ranges.{HasRanges}};
 ghost use Rattle.command_words.specs.{Tables.{run_row, sim_row}, Views.{command_view}, Words.{asm_in, check_in, profile_in, reading, run_in, sim_in}};
@@ -222,8 +222,7 @@ impl Verb {
     fn of(word: &str) -> Option<Verb>
         ensures { result ≡ verb_of word.now }
     {
-        let verb = VERBS.iter().find(|verb| verb.has_word(word))?;
-        Some(*verb)
+        verb_in(&VERBS, word)
     }
 
     /// Whether its command has this word.
@@ -252,6 +251,13 @@ impl Verb {
             Verb::Soak => SOAK,
         }
     }
+}
+
+/// The first of these verbs whose command has a word. `None` if no command of them has it.
+fn verb_in(verbs: &[Verb], word: &str) -> Option<Verb>
+    ensures { result ≡ find (is_word_of word.now) verbs.now }
+{
+    verbs.iter().find(|verb| verb.has_word(word)).copied()
 }
 
 /// The command that a line of the verb says. `None` if it lacks a file, or if a value isn't allowed.
