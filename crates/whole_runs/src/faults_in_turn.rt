@@ -136,6 +136,11 @@ const COMMANDS: [Command; 16] = [
         inputs: &[],
         outputs: &[],
     },
+    Command {
+        words: "import l t",
+        inputs: &[("l", &RECURSION)],
+        outputs: &["t"],
+    },
 ];
 
 /// What each output holds before, and a name that no command has.
