@@ -55,7 +55,7 @@ const M: Input = (
 );
 
 /// The commands. Another command is another row.
-const COMMANDS: [Command; 16] = [
+const COMMANDS: [Command; 17] = [
     Command {
         words: "asm x o",
         inputs: &[X],

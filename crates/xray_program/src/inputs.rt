@@ -6,6 +6,7 @@ use crate::input::Kind;
 use crate::stated_audit::StatedAudit;
 use asm_text::{AsmFault, assemble};
 use audit_check::{AuditFault, read_audit};
+use command_words::TRACE_LIMIT;
 use map_names::{MapFault, MapNames, read_map};
 use patch_script::{Script, ScriptFault, read_script};
 use runtime_log::{ImportedLog, LogFault, import_log};
