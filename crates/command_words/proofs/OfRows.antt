@@ -12,9 +12,9 @@ use Rattle.command_words.specs.Numbers.{number_of}
 use Rattle.command_words.specs.Reports.{NameSource, ByIds, ByImage, ByMap, account_options_in, choice_in, convert_options_in, stack_formats}
 use Rattle.command_words.specs.Rows.{CommandRow}
 use Rattle.command_words.specs.Tables.{account_row, asm_row, check_row, convert_row, dump_row, extract_row, plain_row, run_row, sim_row}
-use Rattle.command_words.specs.Tables.{map_option, map_version_option, profile_row, relative_map, seeds, soak_row, stack_format_option, stack_row, threshold_option}
-use Rattle.command_words.specs.Words.{Command, Sim, Run, Plain, Extract, Asm, Account, Stack, Convert, Dump, Check, Profile, Soak}
-use Rattle.command_words.specs.Words.{account_in, asm_in, bounds_in, check_in, convert_in, dump_in, extract_in, plain_in, profile_in, profile_options_in, report_by, run_in, run_options_in, sim_in, soak_in, stack_in}
+use Rattle.command_words.specs.Tables.{import_row, map_option, map_version_option, profile_row, relative_map, seeds, soak_row, stack_format_option, stack_row, threshold_option}
+use Rattle.command_words.specs.Words.{Command, Sim, Run, Plain, Extract, Asm, Account, Stack, Convert, Dump, Check, Profile, Soak, Import}
+use Rattle.command_words.specs.Words.{account_in, asm_in, bounds_in, check_in, convert_in, dump_in, extract_in, import_in, plain_in, profile_in, profile_options_in, report_by, run_in, run_options_in, sim_in, soak_in, stack_in}
 use Rattle.command_words.specs.declared.profile_options.ProfileOptions.{ProfileOptions}
 use Rattle.command_words.specs.declared.report_options.AccountOptions.{AccountOptions}
 use Rattle.command_words.specs.declared.report_options.ConvertOptions.{ConvertOptions}
@@ -207,6 +207,17 @@ soak_of line command says = go line.files refl
     go [] e = absurd (never command (rw e at says))
     go (a ∷ b ∷ names) e = absurd (never command (rw e at says))
 
+import_of : (line : Line) (command : Command) → import_in line ≡ Some command → IsOfLine import_row line command
+import_of line command says = go line.files refl
+  where
+    go : (names : List (List ℕ)) → line.files ≡ names → IsOfLine import_row line command
+    go (log ∷ trace ∷ []) e =
+        let is : Import log trace ≡ command = same _ _ (rw e at says) in
+        rw (sym is, e) (record { row_is = refl; names_are = refl; given_are = refl })
+    go [] e = absurd (never command (rw e at says))
+    go (a ∷ []) e = absurd (never command (rw e at says))
+    go (a ∷ b ∷ c ∷ names) e = absurd (never command (rw e at says))
+
 -- the outputs of each
 pub outputs_of_row : OutputsAreOfTheRow
 outputs_of_row = grind arith
@@ -262,4 +273,5 @@ of_their_rows wall word words command says =
     (branch word words command check_row _ _ (of_line check_in check_row items command (λ line. check_of line command))
     (branch word words command profile_row _ _ (of_line profile_in profile_row items command (λ line. profile_of line command))
     (branch word words command soak_row _ _ (of_line soak_in soak_row items command (λ line. soak_of line command))
-    (λ no. absurd (never command no))))))))))))) says
+    (branch word words command import_row _ _ (of_line import_in import_row items command (λ line. import_of line command))
+    (λ no. absurd (never command no)))))))))))))) says

@@ -6,7 +6,7 @@ use Rattle.command_words.specs.Reports.{ByIds, ByImage, ByMap}
 use Rattle.command_words.specs.declared.report_options.ConvertFormat.TheVariants as formats
 use Rattle.command_words.specs.declared.report_options.InputForm.TheVariants as inputs
 use Rattle.command_words.specs.declared.report_options.StackFormat.TheVariants as stacks
-use Rattle.command_words.specs.Words.{Command, Sim, Plain, Extract, Asm, Stack, Convert, Dump, Check, Profile, Soak, outputs_of, reading}
+use Rattle.command_words.specs.Words.{Command, Sim, Plain, Extract, Asm, Stack, Convert, Dump, Check, Profile, Soak, Import, outputs_of, reading}
 
 -- a wall time that is passed in
 noon : Wall
@@ -150,3 +150,10 @@ by_map = refl
 
 by_both : says (codes "convert" ∷ codes "t" ∷ codes "i" ∷ codes "--map" ∷ codes "m" ∷ []) ≡ None
 by_both = refl
+
+-- a log and the trace that is made of it
+imported : says (codes "import" ∷ codes "l" ∷ codes "t" ∷ []) ≡ Some (Import (codes "l") (codes "t"))
+imported = refl
+
+onto_the_log : says (codes "import" ∷ codes "l" ∷ codes "l" ∷ []) ≡ None
+onto_the_log = refl

@@ -8,8 +8,8 @@ use Rattle.command_words.specs.Numbers.{is_file_name}
 use Rattle.command_words.specs.Reports.{NameSource, ByIds, ByImage, ByMap}
 use Rattle.command_words.specs.Rows.{CommandRow, FileRow, OptionRow, is_output, names_file}
 use Rattle.command_words.specs.Tables.{account_row, asm_row, check_row, convert_row, dump_row, extract_row, plain_row, run_row, sim_row}
-use Rattle.command_words.specs.Tables.{profile_row, soak_row, stack_row}
-use Rattle.command_words.specs.Words.{Command, Sim, Run, Plain, Extract, Asm, Account, Stack, Convert, Dump, Check, Profile, Soak, outputs_of, reading}
+use Rattle.command_words.specs.Tables.{import_row, profile_row, soak_row, stack_row}
+use Rattle.command_words.specs.Words.{Command, Sim, Run, Plain, Extract, Asm, Account, Stack, Convert, Dump, Check, Profile, Soak, Import, outputs_of, reading}
 
 -- ---- a line for each command
 
@@ -27,6 +27,7 @@ row_of (Dump trace) = dump_row
 row_of (Check image script trace audit) = check_row
 row_of (Profile image script options) = profile_row
 row_of (Soak number) = soak_row
+row_of (Import log trace) = import_row
 
 -- the image that names functions, and the sled map that does, if there is one
 abbrev pub image_named : NameSource → List (List ℕ)
@@ -53,6 +54,7 @@ names_of (Dump trace) = trace ∷ []
 names_of (Check image script trace audit) = image ∷ script ∷ trace ∷ audit ∷ []
 names_of (Profile image script options) = image ∷ script ∷ []
 names_of (Soak number) = []
+names_of (Import log trace) = log ∷ trace ∷ []
 
 -- the names of its files that options name: only a report has such
 abbrev pub names_given : Command → List (List ℕ)

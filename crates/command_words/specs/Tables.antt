@@ -206,6 +206,13 @@ profile_row = record {
   options = profile_options;
 }
 
+abbrev pub import_row : CommandRow
+import_row = record {
+  word = codes "import";
+  files = record { label = codes "log"; role = Input } ∷ record { label = codes "trace"; role = Output } ∷ [];
+  options = [];
+}
+
 -- ---- the number that inputs are drawn from
 
 -- it may be any of 64 bits

@@ -9,7 +9,7 @@ use Rattle.command_words.specs.Lines.{Line, line_of, number_in, value_in}
 use Rattle.command_words.specs.Numbers.{number_of}
 use Rattle.command_words.specs.Reports.{NameSource, account_options_in, choice_in, convert_options_in, report_files_in, stack_formats}
 use Rattle.command_words.specs.Tables.{account_row, asm_row, check_row, convert_row, dump_row, extract_row, plain_row, run_row, sim_row}
-use Rattle.command_words.specs.Tables.{profile_row, seeds, soak_row, stack_row}
+use Rattle.command_words.specs.Tables.{import_row, profile_row, seeds, soak_row, stack_row}
 use Rattle.command_words.specs.Tables.{map_version_option, nodes_option, relative_map, stack_format_option}
 use Rattle.command_words.specs.Tables.{threads_option, fuel_option, passings_option, buffer_size_option, buffer_max_option, threshold_option}
 use Rattle.command_words.specs.Tables.{tick_option, tsc_option, frequency_option, cpus_option, migrate_option, pid_option, wall_option}
@@ -35,6 +35,7 @@ pub data Command : Type 0 where
   Check : (image script trace audit : List ℕ) → Command
   Profile : (image script : List ℕ) → (options : ProfileOptions) → Command
   Soak : (number : ℕ) → Command
+  Import : (log trace : List ℕ) → Command
 
 -- ---- the options of the commands that run threads
 
@@ -189,6 +190,13 @@ soak_in line = of_files line.files
     of_files (seed ∷ []) = option_map Soak (number_of seeds seed)
     of_files _ = None
 
+abbrev pub import_in : Line → Option Command
+import_in line = of_files line.files
+  where
+    of_files : List (List ℕ) → Option Command
+    of_files (log ∷ trace ∷ []) = Some (Import log trace)
+    of_files _ = None
+
 -- the command that words say at this wall time, if they say one
 abbrev pub reading : Wall → List (List ℕ) → Option Command
 reading wall [] = None
@@ -206,6 +214,7 @@ reading wall (word ∷ words) =
     else if bytes_eq word check_row.word then option_and_then check_in (line_of check_row items)
     else if bytes_eq word profile_row.word then option_and_then profile_in (line_of profile_row items)
     else if bytes_eq word soak_row.word then option_and_then soak_in (line_of soak_row items)
+    else if bytes_eq word import_row.word then option_and_then import_in (line_of import_row items)
     else None
 
 -- ---- the outputs
@@ -224,3 +233,4 @@ outputs_of (Dump trace) = []
 outputs_of (Check image script trace audit) = []
 outputs_of (Profile image script options) = []
 outputs_of (Soak number) = []
+outputs_of (Import log trace) = trace ∷ []

@@ -404,6 +404,19 @@ pub(crate) const RUN: CommandRow = CommandRow {
     options: RUN_OPTIONS,
 };
 
+/// A log of LLVM's runtime.
+const LOG: FileRow = FileRow {
+    label: "log",
+    role: Role::Input,
+};
+
+/// `import LOG TRACE`: writes a log of LLVM's runtime as a trace, and prints what was taken.
+pub(crate) const IMPORT: CommandRow = CommandRow {
+    word: "import",
+    files: &[LOG, MADE_TRACE],
+    options: &[],
+};
+
 /// `soak SEED`: replays a schedule over a large image and a script, all drawn from a number, and
 /// prints a summary.
 pub(crate) const SOAK: CommandRow = CommandRow {

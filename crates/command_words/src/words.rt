@@ -16,8 +16,8 @@ use crate::report_options::{
 use crate::rows::CommandRow;
 use crate::run_options::{Bounds, RunOptions, bounds_in, run_options_in};
 use crate::tables::{
-    ACCOUNT, ASM, CHECK, CONVERT, DUMP, EXTRACT, MAP_VERSION, PLAIN, PROFILE, RELATIVE_MAP, RUN,
-    SEEDS, SIM, SOAK, STACK, THRESHOLD,
+    ACCOUNT, ASM, CHECK, CONVERT, DUMP, EXTRACT, IMPORT, MAP_VERSION, PLAIN, PROFILE, RELATIVE_MAP,
+    RUN, SEEDS, SIM, SOAK, STACK, THRESHOLD,
 };
 use std::alloc::{AllocError, Global};
 use xray_io::Wall;
@@ -136,6 +136,13 @@ pub enum Command<'a> {
         /// The number.
         number: u64,
     },
+    /// Writes a log of LLVM's runtime as a trace, and prints what was taken.
+    Import {
+        /// The log.
+        log: &'a str,
+        /// The trace, which is written.
+        trace: &'a str,
+    },
 }
 
 /// The command that words say at a wall time, or `None` if they say none. The words are those after
@@ -188,6 +195,8 @@ enum Verb {
     Profile,
     /// `soak SEED`.
     Soak,
+    /// `import LOG TRACE`.
+    Import,
 }
 
 /// A report on a trace.
@@ -202,7 +211,7 @@ enum Report {
 }
 
 /// All verbs.
-const VERBS: [Verb; 12] = [
+const VERBS: [Verb; 13] = [
     Verb::Plain,
     Verb::Extract,
     Verb::Sim,
@@ -215,6 +224,7 @@ const VERBS: [Verb; 12] = [
     Verb::Check,
     Verb::Profile,
     Verb::Soak,
+    Verb::Import,
 ];
 
 impl Verb {
@@ -249,6 +259,7 @@ impl Verb {
             Verb::Check => CHECK,
             Verb::Profile => PROFILE,
             Verb::Soak => SOAK,
+            Verb::Import => IMPORT,
         }
     }
 }
@@ -295,6 +306,10 @@ fn command_in<'a>(verb: Verb, wall: Wall, line: &Line<'a>) -> Option<Command<'a>
                 let number = SEEDS.number_of(seed)?;
                 Some(Command::Soak { number })
             }
+            _ => None,
+        },
+        Verb::Import => match files {
+            [log, trace] => Some(Command::Import { log, trace }),
             _ => None,
         },
     }

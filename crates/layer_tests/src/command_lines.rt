@@ -162,6 +162,11 @@ soak|1|2 => none
 soak|1|--threads|4 => none
 plain|i|--map=m => none
 profile|i|s|--map=m => none
+import|l|t => import [l] [t]
+import|l|l => none
+import|l => none
+import|l|t|u => none
+import|l|t|--map=m => none
 ";
 
 /// Words as a program gets them, from a line with bars between the words.
@@ -231,6 +236,7 @@ fn shown_command(alloc: Global, command: Command) -> Result<String, AllocError> 
             format!(in alloc; "profile [{image}] [{script}] {options}")
         }
         Command::Soak { number } => format!(in alloc; "soak {number}"),
+        Command::Import { log, trace } => format!(in alloc; "import [{log}] [{trace}]"),
         Command::Run {
             image,
             script,
@@ -320,7 +326,7 @@ fn command_lines_say_what_the_rows_say(rt: HostRuntime) -> Result<(), Fail> {
             rows = rows.wrapping_add(1);
         }
     }
-    check_same(&rt, &rows, &143);
+    check_same(&rt, &rows, &148);
     Ok(())
 }
 

@@ -4,7 +4,7 @@ use crate::runs::{
 };
 use std::test::Fail;
 
-const BAD_LINES: [&str; 65] = [
+const BAD_LINES: [&str; 69] = [
     // No words, and commands with too few or too many names, or with an output named twice.
     "",
     "sim i s",
@@ -78,6 +78,11 @@ const BAD_LINES: [&str; 65] = [
     "soak x",
     "soak 18446744073709551616",
     "soak 1 2",
+    // `import`.
+    "import l",
+    "import l l",
+    "import l t u",
+    "import l t --map m",
 ];
 
 #[test]

@@ -55,7 +55,7 @@ const M: Input = (
 );
 
 /// The commands. Another command is another row.
-const COMMANDS: [Command; 16] = [
+const COMMANDS: [Command; 17] = [
     Command {
         words: "asm x o",
         inputs: &[X],
@@ -135,6 +135,11 @@ const COMMANDS: [Command; 16] = [
         words: "soak 1",
         inputs: &[],
         outputs: &[],
+    },
+    Command {
+        words: "import l t",
+        inputs: &[("l", &RECURSION)],
+        outputs: &["t"],
     },
 ];
 

@@ -27,6 +27,8 @@ mod gate_calls;
 #[cfg(test)]
 mod gates;
 #[cfg(test)]
+mod imports;
+#[cfg(test)]
 mod pieces;
 #[cfg(test)]
 mod plain;

@@ -8,7 +8,7 @@ use Rattle.command_words.specs.declared.report_options.AccountOptions.{AccountOp
 use Rattle.command_words.specs.declared.report_options.ConvertFormat.{ConvertFormat}
 use Rattle.command_words.specs.declared.report_options.StackFormat.{StackFormat}
 use Rattle.command_words.specs.declared.run_options.Bounds.{Bounds}
-use Rattle.command_words.specs.Words.{Command, Sim, Run, Plain, Extract, Asm, Account, Stack, Convert, Dump, Check, Profile, Soak}
+use Rattle.command_words.specs.Words.{Command, Sim, Run, Plain, Extract, Asm, Account, Stack, Convert, Dump, Check, Profile, Soak, Import}
 use Rattle.command_words.specs.Reports.{NameSource, ByIds, ByImage, ByMap}
 use Rattle.function_names.specs.Name.{program_names}
 use Rattle.map_names.specs.FaultWords.{map_words}
@@ -19,6 +19,8 @@ use Rattle.asm_text.specs.Assembling.{assembled}
 use Rattle.asm_text.specs.FaultWords.{asm_words}
 use Rattle.patch_script.specs.FaultWords.{script_words}
 use Rattle.patch_script.specs.Plans.{Plan, plan_of, waiting_line}
+use Rattle.runtime_log.specs.Facts.{facts_text}
+use Rattle.runtime_log.specs.declared.facts.Facts.{Facts}
 use Rattle.stack_rebuild.specs.FaultWords.{deep_words}
 use Rattle.stack_rebuild.specs.Stacks.{deep_in, most_open}
 use Rattle.step_sim.specs.FaultWords.{schedule_words, waits_words}
@@ -33,7 +35,7 @@ use Rattle.xray_program.specs.Accepted.{AreAccepted, CountsNoFault, HoldsInput, 
 use Rattle.xray_program.specs.Answers.{IsAnswer}
 use Rattle.xray_program.specs.Check.{Judges}
 use Rattle.xray_program.specs.Commands.{IsProfile, Means}
-use Rattle.xray_program.specs.Inputs.{Readable, audit_form, image_form, map_form, map_limit, readable_form, schedule_form, schedule_limit, script_form, script_limit, text_form, text_limit, trace_form, unread_trace_form}
+use Rattle.xray_program.specs.Inputs.{Readable, audit_form, image_form, imported_form, map_form, map_limit, readable_form, schedule_form, schedule_limit, script_form, script_limit, text_form, text_limit, trace_form, unread_trace_form}
 use Rattle.xray_program.specs.Outcomes.{Outcome, Done, status_of}
 use Rattle.xray_program.specs.Account.{account_report}
 use Rattle.xray_program.specs.Convert.{ConvertsTo, converted, log_form, no_text_for}
@@ -128,6 +130,9 @@ EndsWell _ comes = IsDone comes
 
 -- what follows the inputs of a command
 
+abbrev import_next : List ℕ → List ℕ × Facts → Outcome → Type 0
+import_next trace made outcome = outcome ≡ Done ((trace, made.0) ∷ []) (facts_text made.1)
+
 abbrev sim_next : (s t a : List ℕ) → Setup → Program → Plan → List Turns → Outcome → Type 0
 sim_next s t a setup program plan turns = Leaves (Traces (Replayed program plan turns setup) program setup t a)
 
@@ -170,9 +175,9 @@ check_script held s t program statement =
 abbrev check_audit : (List ℕ → Entry) → (s t a : List ℕ) → Program → Outcome → Type 0
 check_audit held s t a program = Take audit_form Sound held a (λ statement. check_script held s t program statement)
 
-accepted_done : IsDecided image_form → IsDecided audit_form → (held : List ℕ → Entry) (command : Command) → AreAccepted held command
+accepted_done : IsDecided image_form → IsDecided audit_form → IsDecided imported_form → (held : List ℕ → Entry) (command : Command) → AreAccepted held command
     → EndsWell command (Means (Some command) held)
-accepted_done is audits held (Sim i s c t a options) (program, plan, turns, at, of_script, of_schedule, still) =
+accepted_done is audits logs held (Sim i s c t a options) (program, plan, turns, at, of_script, of_schedule, still) =
     let setup = setup_of options in
     accepted_take image_form is held i
     (λ p. Take (script_form p setup.threads) Sound held s (λ l. Take (schedule_form setup.threads) Sound held c (Replays s t a setup p l))) program at
@@ -182,29 +187,29 @@ accepted_done is audits held (Sim i s c t a options) (program, plan, turns, at, 
     (Replays s t a setup program plan) turns of_schedule
     (unrefused waits_words (waiting_line plan.lines) s (codes "script") (sim_next s t a setup program plan turns) still
     (left_done (Traces (Replayed program plan turns setup) program setup t a)))))
-accepted_done is audits held (Run i s t a options) (program, plan, at, of_script) =
+accepted_done is audits logs held (Run i s t a options) (program, plan, at, of_script) =
     let setup = setup_of options in
     accepted_take image_form is held i (λ p. Take (script_form p setup.threads) Sound held s (λ l. run_next t a setup p l)) program at
     (accepted_take (script_form program setup.threads) (decided_by (codes "script") script_limit (plan_of program setup.threads) script_words) held s
     (λ l. run_next t a setup program l) plan of_script (left_done (Traces (FollowsPlan setup program plan) program setup t a)))
-accepted_done is audits held (Plain i bounds) (program, at) =
+accepted_done is audits logs held (Plain i bounds) (program, at) =
     accepted_take image_form is held i (plain_next bounds) program at (left_done (λ outputs text. (outputs ≡ []) × PlainPrints program bounds text))
-accepted_done is audits held (Extract i) (program, at) = accepted_take image_form is held i extract_next program at (λ outcome same. ap status_of same)
-accepted_done is audits held (Asm t i threshold relative) (file, at) =
+accepted_done is audits logs held (Extract i) (program, at) = accepted_take image_form is held i extract_next program at (λ outcome same. ap status_of same)
+accepted_done is audits logs held (Asm t i threshold relative) (file, at) =
     accepted_take (text_form threshold relative) (decided_by (codes "text") text_limit (λ bytes. assembled bytes threshold relative) asm_words) held t (asm_next i) file at
     (λ outcome same. ap status_of same)
-accepted_done is audits held (Account t names options) at =
+accepted_done is audits logs held (Account t names options) at =
     report_done trace_form trace_decided is held t names (λ u. ⊤) (account_next options) at (λ u naming so outcome same. ap status_of same)
-accepted_done is audits held (Stack t names format) at =
+accepted_done is audits logs held (Stack t names format) at =
     report_done trace_form trace_decided is held t names (λ u. deep_in most_open u.blocks ≡ None) (λ u naming. StacksCome t format u naming) at
     (λ u naming shallow. unrefused deep_words (deep_in most_open u.blocks) t (codes "trace") (stack_next format u naming) shallow
     (λ outcome same. ap status_of same))
-accepted_done is audits held (Convert t names options) at =
+accepted_done is audits logs held (Convert t names options) at =
     report_done (log_form options.input) (log_decided options.input) is held t names (λ u. no_text_for options.format u ≡ None)
     (ConvertsTo t options.format) at
     (λ u naming none outcome comes. ap status_of (converts_done t options.format u naming outcome none comes))
-accepted_done is audits held (Dump t) (file, at) = accepted_take readable_form readable_decided held t dump_next file at (λ outcome same. ap status_of same)
-accepted_done is audits held (Check i s t a) (program, statement, plan, bytes, at, of_audit, of_script, of_trace) =
+accepted_done is audits logs held (Dump t) (file, at) = accepted_take readable_form readable_decided held t dump_next file at (λ outcome same. ap status_of same)
+accepted_done is audits logs held (Check i s t a) (program, statement, plan, bytes, at, of_audit, of_script, of_trace) =
     let threads : ℕ = statement.setup.threads in
     accepted_take image_form is held i (check_audit held s t a) program at
     (accepted_take audit_form audits held a (check_script held s t program) statement of_audit
@@ -212,12 +217,14 @@ accepted_done is audits held (Check i s t a) (program, statement, plan, bytes, a
     (check_trace held t program statement) plan of_script
     (accepted_take unread_trace_form (any_decided (codes "trace") trace_limit) held t (λ b. Judges program plan statement b) bytes of_trace
     (judged_done program plan statement bytes))))
-accepted_done is audits held (Profile i s options) (program, plan, at, of_script) =
+accepted_done is audits logs held (Profile i s options) (program, plan, at, of_script) =
     let threads = options.bounds.threads in
     accepted_leads IsDoneOrFell image_form is held i (λ p. Take (script_form p threads) Sound held s (Profiles options p)) program at
     (accepted_leads IsDoneOrFell (script_form program threads) (decided_by (codes "script") script_limit (plan_of program threads) script_words) held s
     (Profiles options program) plan of_script (λ outcome comes. ended_well _ _ _ outcome comes.2))
-accepted_done is audits held (Soak number) at = left_done (λ outputs text. (outputs ≡ []) × IsSummary number text)
+accepted_done is audits logs held (Soak number) at = left_done (λ outputs text. (outputs ≡ []) × IsSummary number text)
+accepted_done is audits logs held (Import log trace) (made, at) =
+    accepted_take imported_form logs held log (import_next trace) made at (λ outcome same. ap status_of same)
 
 -- so the status is 0, or it is the 7 of a profile
 well : (command : Command) (held : List ℕ → Entry) (outcome : Outcome) → EndsWell command (Means (Some command) held) → Means (Some command) held outcome
@@ -237,19 +244,20 @@ well (Profile i s options) held outcome ends is = elim (ends outcome is) [
   | inr fell ↦ inr (fell, (i, s, options, refl))
 ]
 well (Soak number) held outcome ends is = inl (ends outcome is)
+well (Import log trace) held outcome ends is = inl (ends outcome is)
 
-pub done_or_memory : IsDecided image_form → IsDecided audit_form → (command : Command) (before after : World) (status : ℕ) → AreAccepted before.desk.held command
+pub done_or_memory : IsDecided image_form → IsDecided audit_form → IsDecided imported_form → (command : Command) (before after : World) (status : ℕ) → AreAccepted before.desk.held command
     → CountsNoFault before after → IsAnswer (Some command) before after status
     → (status ≡ 0) ⊎ (status ≡ 5) ⊎ ((status ≡ 7) × IsProfile command)
-done_or_memory is audits command before after status accepted calm (inl (outcome, meant, same)) =
-    elim (well command before.desk.held outcome (accepted_done is audits before.desk.held command accepted) meant) [
+done_or_memory is audits logs command before after status accepted calm (inl (outcome, meant, same)) =
+    elim (well command before.desk.held outcome (accepted_done is audits logs before.desk.held command accepted) meant) [
       | inl done ↦ inl (sym same ∙ done)
       | inr (seven, of_profile) ↦ inr (inr (sym same ∙ seven, of_profile))
     ]
-done_or_memory is audits command before after status accepted calm (inr (inl memory)) = inr (inl memory)
-done_or_memory is audits command before after status accepted calm (inr (inr (inl (three, rose)))) = absurd (calm.reads rose)
-done_or_memory is audits command before after status accepted calm (inr (inr (inr (four, inl rose)))) = absurd (calm.writes rose)
-done_or_memory is audits command before after status accepted calm (inr (inr (inr (four, inr rose)))) = absurd (calm.out rose)
+done_or_memory is audits logs command before after status accepted calm (inr (inl memory)) = inr (inl memory)
+done_or_memory is audits logs command before after status accepted calm (inr (inr (inl (three, rose)))) = absurd (calm.reads rose)
+done_or_memory is audits logs command before after status accepted calm (inr (inr (inr (four, inl rose)))) = absurd (calm.writes rose)
+done_or_memory is audits logs command before after status accepted calm (inr (inr (inr (four, inr rose)))) = absurd (calm.out rose)
 
 -- ---- none but those of a profile have status 7
 
@@ -330,6 +338,8 @@ not_7 held (Check i s t a) =
 not_7 held (Profile i s options) = tt
 not_7 held (Soak number) =
     done_not_7 (λ outcome. Means (Some (Soak number)) held outcome) (left_done (λ outputs text. (outputs ≡ []) × IsSummary number text))
+not_7 held (Import log trace) =
+    take_not_7 imported_form held log (import_next trace) (λ made. done_not_7 (import_next trace made) (λ outcome same. ap status_of same))
 
 seven : (command : Command) (held : List ℕ → Entry) (outcome : Outcome) → OnlyProfiles7 command (Means (Some command) held)
     → Means (Some command) held outcome → status_of outcome ≡ 7 → IsProfile command
@@ -345,6 +355,7 @@ seven (Dump t) held outcome not is e = absurd (not outcome is e)
 seven (Check i s t a) held outcome not is e = absurd (not outcome is e)
 seven (Profile i s options) held outcome not is e = (i, s, options, refl)
 seven (Soak number) held outcome not is e = absurd (not outcome is e)
+seven (Import log trace) held outcome not is e = absurd (not outcome is e)
 
 pub only_profiles_fall : (said : Option Command) (held : List ℕ → Entry) (outcome : Outcome) → Means said held outcome → status_of outcome ≡ 7
     → (command : Command) × (said ≡ Some command) × IsProfile command

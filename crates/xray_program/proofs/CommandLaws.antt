@@ -11,7 +11,7 @@ use Rattle.xray_program.specs.Commands.{Comes, IsDecided, IsStill, Means, TellsA
 use Rattle.xray_program.specs.Outcomes.{Outcome, BadLine, written_by}
 use Rattle.xray_program.specs.Setups.{setup_of}
 use Rattle.xray_program.specs.Taking.{Sound}
-use Rattle.command_words.specs.Words.{Command, Sim, Run, Plain, Extract, Asm, Account, Stack, Convert, Dump, Check, Profile, Soak, reading}
+use Rattle.command_words.specs.Words.{Command, Sim, Run, Plain, Extract, Asm, Account, Stack, Convert, Dump, Check, Profile, Soak, Import, reading}
 use Rattle.xray_program.proofs.AccountLaws.{account_alone, account_some}
 use Rattle.xray_program.proofs.AsmLaws.{asm_alone, asm_some}
 use Rattle.xray_program.proofs.Audits.{OneReading, SomeReading}
@@ -19,7 +19,10 @@ use Rattle.xray_program.proofs.CheckLaws.{OneJudgement, SomeJudgement, check_alo
 use Rattle.xray_program.proofs.ConvertLaws.{convert_alone, convert_some}
 use Rattle.xray_program.proofs.DumpLaws.{dump_alone, dump_some}
 use Rattle.xray_program.proofs.ExtractLaws.{extract_alone, extract_some}
+use Rattle.runtime_log.specs.Laws.{OneImport, SomeImport}
 use Rattle.xray_program.proofs.Images.{Accepts, OneVerdict, SomeVerdict, image_decided, image_judged}
+use Rattle.xray_program.proofs.ImportLaws.{import_alone, import_some}
+use Rattle.xray_program.proofs.Logs.{imported_decided, imported_judged}
 use Rattle.xray_program.proofs.Meanings.{AnyOutcome, HoldsBytes, IsAlone, IsRefusal, SomeOutcome, refusal_alone}
 use Rattle.xray_program.proofs.PlainLaws.{OneEnd, SomeEnd, plain_alone, plain_some}
 use Rattle.xray_program.proofs.ProfileLaws.{profile_refuses, profile_some}
@@ -37,6 +40,7 @@ pub record Laws : Type 0 where
   pub run : OneRun
   pub audit : OneReading
   pub judged : OneJudgement
+  pub imports : OneImport
 
 pub record Existence : Type 0 where
   pub verdict : SomeVerdict
@@ -49,6 +53,7 @@ pub record Existence : Type 0 where
   pub drawn : DrawnLaws
   pub audit : SomeReading
   pub judged : SomeJudgement
+  pub imports : SomeImport
 
 -- ---- a line for each command
 
@@ -67,6 +72,7 @@ command_alone laws held told (Dump t) decided = dump_alone held t told
 command_alone laws held told (Check i s t a) decided = check_alone (image_decided laws.verdict laws.accepts) laws.audit laws.judged held i s t a told
 command_alone laws held told (Profile i s options) decided = absurd cc
 command_alone laws held told (Soak number) decided = soak_alone (image_decided laws.verdict laws.accepts) laws.run number
+command_alone laws held told (Import log trace) decided = import_alone (imported_decided laws.imports) held log trace told
 
 -- if a refusal comes of a command, nothing else does
 command_refuses : Laws → (held : List ℕ → Entry) → TellsAll held → (command : Command) → IsAlone IsRefusal (Comes Sound held command)
@@ -82,6 +88,7 @@ command_refuses laws held told (Dump t) = refusal_alone _ (command_alone laws he
 command_refuses laws held told (Check i s t a) = refusal_alone _ (command_alone laws held told (Check i s t a) refl)
 command_refuses laws held told (Profile i s options) = profile_refuses (image_decided laws.verdict laws.accepts) held i s options told
 command_refuses laws held told (Soak number) = refusal_alone _ (command_alone laws held told (Soak number) refl)
+command_refuses laws held told (Import log trace) = refusal_alone _ (command_alone laws held told (Import log trace) refl)
 
 -- each command comes to something
 command_some : Existence → (held : List ℕ → Entry) → TellsAll held → HoldsBytes held → (command : Command) → SomeOutcome (Comes Sound held command)
@@ -98,6 +105,7 @@ command_some laws held told holds (Check i s t a) = check_some (image_judged law
 command_some laws held told holds (Profile i s options) =
     profile_some (image_judged laws.verdict laws.accepts) (some_runs laws.end laws.lets laws.marks laws.losses) held i s options told holds
 command_some laws held told holds (Soak number) = soak_some laws.run laws.drawn number
+command_some laws held told holds (Import log trace) = import_some (imported_judged laws.imports) held log trace told holds
 
 -- only `run` and `profile` may wait
 pub still_by_word : AreOfTheirRows → (wall : Wall) (word : List ℕ) (words : List (List ℕ)) → (word ≡ codes "run" → ⊥)
@@ -118,6 +126,7 @@ still_by_word rows wall word words other another = by_said (reading wall (word �
     by_said (Some (Check image script trace audit)) is = refl
     by_said (Some (Profile image script options)) is = absurd (another (rows wall word words (Profile image script options) is).word_is)
     by_said (Some (Soak number)) is = refl
+    by_said (Some (Import log trace)) is = refl
 
 -- ---- words
 
@@ -164,3 +173,4 @@ inputs_of_row (Dump t) = IsPermutation-refl (t ∷ [])
 inputs_of_row (Check i s t a) = audit_first i s t a
 inputs_of_row (Profile i s options) = IsPermutation-refl (i ∷ s ∷ [])
 inputs_of_row (Soak number) = IsPermutation-refl []
+inputs_of_row (Import log trace) = IsPermutation-refl (log ∷ [])

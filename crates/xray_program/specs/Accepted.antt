@@ -5,6 +5,7 @@ use Rattle.command_words.specs.Reports.{NameSource, ByIds, ByImage, ByMap}
 use Rattle.fdr_file.specs.declared.trace.Trace.{Trace}
 use Rattle.map_names.specs.Naming.{Naming}
 use Rattle.patch_script.specs.Plans.{Plan, waiting_line}
+use Rattle.runtime_log.specs.declared.facts.Facts.{Facts}
 use Rattle.stack_rebuild.specs.Stacks.{deep_in, most_open}
 use Rattle.step_sim.specs.declared.turns.Turns.{Turns}
 use Rattle.xray_image.specs.Program.{Program}
@@ -12,9 +13,9 @@ use Rattle.xray_io.specs.Desk.{Entry, Holds}
 use Rattle.xray_io.specs.Faults.{Rose}
 use Rattle.xray_io.specs.World.{World}
 use Rattle.xray_program.specs.Convert.{log_form, no_text_for}
-use Rattle.xray_program.specs.Inputs.{Readable, audit_form, image_form, map_form, readable_form, schedule_form, script_form, text_form, trace_form, unread_trace_form}
+use Rattle.xray_program.specs.Inputs.{Readable, audit_form, image_form, imported_form, map_form, readable_form, schedule_form, script_form, text_form, trace_form, unread_trace_form}
 use Rattle.xray_program.specs.Taking.{Form, IsAcceptedAs}
-use Rattle.command_words.specs.Words.{Command, Sim, Run, Plain, Extract, Asm, Account, Stack, Convert, Dump, Check, Profile, Soak}
+use Rattle.command_words.specs.Words.{Command, Sim, Run, Plain, Extract, Asm, Account, Stack, Convert, Dump, Check, Profile, Soak, Import}
 
 -- the desk reports that a name holds bytes of this kind, within its limit, which read as this value
 pub record HoldsInput {X : Type 0} (form : Form X) (entry : Entry) (value : X) : Type 0 where
@@ -61,6 +62,7 @@ AreAccepted held (Check image script trace audit) =
     × HoldsInput unread_trace_form (held trace) bytes
 AreAccepted held (Profile image script options) = HoldsScript held image script options.bounds.threads
 AreAccepted held (Soak number) = ⊤
+AreAccepted held (Import log trace) = (made : List ℕ × Facts) × HoldsInput imported_form (held log) made
 
 -- ---- the first inputs, in the order in which they are taken
 
@@ -107,6 +109,7 @@ AcceptsInputs held (Check image script trace audit) count =
     AcceptsInput unread_trace_form held trace (λ bytes later. ⊤)))) count
 AcceptsInputs held (Profile image script options) count = AcceptsScript held image script options.bounds.threads count
 AcceptsInputs held (Soak number) count = ⊤
+AcceptsInputs held (Import log trace) count = AcceptsInput imported_form held log (λ made later. ⊤) count
 
 -- no fault of the desk or of out is counted in a call
 pub record CountsNoFault (before after : World) : Type 0 where

@@ -10,6 +10,7 @@ use Rattle.xray_program.specs.Check.{CheckComes}
 use Rattle.xray_program.specs.Convert.{ConvertComes}
 use Rattle.xray_program.specs.Dump.{DumpComes}
 use Rattle.xray_program.specs.Extract.{ExtractComes}
+use Rattle.xray_program.specs.Import.{ImportComes}
 use Rattle.xray_program.specs.Inputs.{audit_limit, image_limit, text_limit, script_limit, schedule_limit}
 use Rattle.xray_program.specs.Outcomes.{Outcome, BadLine, Unread}
 use Rattle.xray_program.specs.Plain.{PlainComes}
@@ -22,7 +23,7 @@ use Rattle.xray_program.specs.Sim.{SimComes}
 use Rattle.xray_program.specs.Soak.{SoakComes}
 use Rattle.xray_program.specs.Stack.{StackComes}
 use Rattle.xray_program.specs.Taking.{DeskReads, Sound, Faulty}
-use Rattle.command_words.specs.Words.{Command, Sim, Run, Plain, Extract, Asm, Account, Stack, Convert, Dump, Check, Profile, Soak, outputs_of}
+use Rattle.command_words.specs.Words.{Command, Sim, Run, Plain, Extract, Asm, Account, Stack, Convert, Dump, Check, Profile, Soak, Import, outputs_of}
 
 -- ---- a line for each command
 
@@ -41,6 +42,7 @@ inputs_of (Dump trace) = (trace, trace_limit) ∷ []
 inputs_of (Check image script trace audit) = (image, image_limit) ∷ (audit, audit_limit) ∷ (script, script_limit) ∷ (trace, trace_limit) ∷ []
 inputs_of (Profile image script options) = script_inputs image script
 inputs_of (Soak number) = []
+inputs_of (Import log trace) = (log, trace_limit) ∷ []
 
 -- what comes of it
 abbrev pub Comes : DeskReads → (List ℕ → Entry) → Command → Outcome → Type 0
@@ -56,6 +58,7 @@ Comes reads held (Dump trace) = DumpComes reads held trace
 Comes reads held (Check image script trace audit) = CheckComes reads held image script trace audit
 Comes reads held (Profile image script options) = ProfileComes reads held image script options
 Comes reads held (Soak number) = SoakComes number
+Comes reads held (Import log trace) = ImportComes reads held log trace
 
 -- whether only one outcome comes of it, over what a desk holds; this fails if threads run in an order of their own
 abbrev pub is_decided : Command → Bool
@@ -71,6 +74,7 @@ is_decided (Dump trace) = true
 is_decided (Check image script trace audit) = true
 is_decided (Profile image script options) = false
 is_decided (Soak number) = true
+is_decided (Import log trace) = true
 
 -- whether it waits for nobody, and starts no thread
 abbrev pub is_still : Command → Bool
@@ -86,6 +90,7 @@ is_still (Dump trace) = true
 is_still (Check image script trace audit) = true
 is_still (Profile image script options) = false
 is_still (Soak number) = true
+is_still (Import log trace) = true
 
 -- whether it reports on a trace
 abbrev pub is_report : Command → Bool
@@ -101,6 +106,7 @@ is_report (Dump trace) = false
 is_report (Check image script trace audit) = false
 is_report (Profile image script options) = false
 is_report (Soak number) = false
+is_report (Import log trace) = false
 
 -- it is a profile: only of this may an outcome come that has status 7
 abbrev pub IsProfile : Command → Type 0

@@ -20,6 +20,11 @@ use Rattle.trace_words.specs.TraceWords.{trace_words}
 use Rattle.map_names.specs.FaultWords.{map_words}
 use Rattle.map_names.specs.Maps.{map_naming}
 use Rattle.map_names.specs.Naming.{Naming}
+use Rattle.runtime_log.specs.declared.facts.Facts.{Facts}
+use Rattle.runtime_log.specs.declared.fault.LogFault.{LogFault}
+use Rattle.runtime_log.specs.FaultWords.{log_words}
+use Rattle.runtime_log.specs.Imports.{IsImport}
+use Rattle.runtime_log.specs.Logs.{logged}
 use Rattle.trace_forms.specs.BasicLogs.{basic_of}
 use Rattle.trace_forms.specs.FaultWords.{basic_words}
 use Rattle.audit_check.specs.declared.fault.AuditFault.{AuditFault}
@@ -100,6 +105,15 @@ basic_form = form_by (codes "trace") trace_limit basic_of basic_words
 -- a sled map, which reads as the names that it gives to functions
 abbrev pub map_form : Form Naming
 map_form = form_by (codes "map") map_limit map_naming map_words
+
+-- a log of LLVM's runtime, which reads as the file of the trace that is made of it, with the facts that are printed
+abbrev pub imported_form : Form (List ℕ × Facts)
+imported_form = record {
+  kind = codes "log";
+  limit = trace_limit;
+  Reads = λ bytes made. IsImport bytes made.0 made.1;
+  Refuses = λ bytes refusal. (fault : LogFault) × (logged bytes ≡ Err fault) × (refusal ≡ refused_for (log_words fault));
+}
 
 -- bytes of which a prefix is a trace, and the length of the longest
 pub record Readable : Type 0 where

@@ -15,6 +15,7 @@ use crate::check::Check;
 use crate::convert::Convert;
 use crate::dump::Dump;
 use crate::extract::Extract;
+use crate::import::Import;
 use crate::plain::Plain;
 use crate::profile::perform_profile;
 use crate::run::perform_run;
@@ -353,6 +354,7 @@ fn perform_other<'a, D: Desk, O: Sink>(
             perform(alloc, &check, desk, out)
         }
         Command::Soak { number } => perform(alloc, &Soak { number }, desk, out),
+        Command::Import { log, trace } => perform(alloc, &Import { log, trace }, desk, out),
         report => perform_report(alloc, report, desk, out),
     }
 }

@@ -6,8 +6,10 @@ use crate::input::Kind;
 use crate::stated_audit::StatedAudit;
 use asm_text::{AsmFault, assemble};
 use audit_check::{AuditFault, read_audit};
+use command_words::TRACE_LIMIT;
 use map_names::{MapFault, MapNames, read_map};
 use patch_script::{Script, ScriptFault, read_script};
+use runtime_log::{ImportedLog, LogFault, import_log};
 use std::alloc::Global;
 use step_sim::{Schedule, ScheduleFault, read_schedule};
 use xray_image::{Image, ImageFault, read_image};
@@ -91,6 +93,35 @@ impl Kind for MapKind {
 
     fn judge(&self, alloc: Global, bytes: &[u8]) -> Result<MapNames, MapFault> {
         read_map(alloc, bytes)
+    }
+}
+
+/// A log of LLVM's runtime. Its value is the trace that is made of it.
+#[derive(Drop)]
+pub(crate) struct RuntimeLogKind;
+
+impl Kind for RuntimeLogKind {
+    ghost use Rattle.std.specs.Prelude.{⊤};
+    ghost use Rattle.xray_program.specs.Inputs.{imported_form};
+
+    type Value = ImportedLog;
+
+    type Refusal = LogFault;
+
+    ghost form = { λ _. imported_form };
+
+    ghost fits = { λ _ _. ⊤ };
+
+    fn word(&self) -> &'static str {
+        "log"
+    }
+
+    fn limit(&self) -> u64 {
+        TRACE_LIMIT
+    }
+
+    fn judge(&self, alloc: Global, bytes: &[u8]) -> Result<ImportedLog, LogFault> {
+        import_log(alloc, bytes)
     }
 }
 

@@ -1,7 +1,8 @@
 //! The top call: all that the program does, from the words of its command line to what it writes.
 //!
 //! The words are read first, together with the wall time (`command_words`). A command is one module
-//! (`sim`, `plain`, `extract`, `asm`, `account`, `stack`, `convert`, `dump`, `check`, `soak`), which implements
+//! (`sim`, `plain`, `extract`, `asm`, `account`, `stack`, `convert`, `dump`, `check`, `soak`,
+//! `import`), which implements
 //! `Work`, or starts threads (`run`, `profile`). It takes its inputs in their order (`inputs_of`, `input`). Each is read, measured and
 //! judged before the next is opened, so the first that fails decides. Then it does its work, and
 //! writes its outputs and its text (`delivery`). What is written of traced threads is in `traced`.
@@ -26,6 +27,7 @@ mod drawn;
 mod dump;
 mod extract;
 mod file_bytes;
+mod import;
 mod input;
 mod inputs;
 mod laws;
@@ -54,7 +56,7 @@ mod work;
 pub use call::{may_wait, out_of_memory, xray, xray_still};
 pub use drawn::soak_inputs;
 pub use laws::{
-    accepted_inputs_mean_done, inputs_follow_the_rows, one_meaning, only_profiles_mean_7,
-    pictures_add_up, refusal_is_the_only_meaning, reports_take_a_run, some_meaning,
-    what_is_left_is_accepted,
+    a_run_is_imported_as_itself, accepted_inputs_mean_done, inputs_follow_the_rows, one_meaning,
+    only_profiles_mean_7, pictures_add_up, refusal_is_the_only_meaning, reports_take_a_run,
+    some_meaning, what_is_left_is_accepted,
 };

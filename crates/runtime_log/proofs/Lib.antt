@@ -1,0 +1,11 @@
+pub mod Noting
+pub mod Walking
+pub mod BlockReading
+pub mod Coming
+pub mod BlockLists
+pub mod Packed
+pub mod RecordFits
+pub mod Recordable
+pub mod Contents
+pub mod Taking
+pub mod Runs
