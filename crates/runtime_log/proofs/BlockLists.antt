@@ -23,14 +23,14 @@ use Rattle.runtime_log.specs.declared.version.LogVersion.{LogVersion}
 use Rattle.runtime_log.specs.Logs.{LogBlock, block_size_rows, log_block_in, log_block_rows, recorder_blocks, sized_rows}
 use Rattle.runtime_log.specs.OwnEvents.{log_record_in, own_kind}
 use Rattle.runtime_log.specs.Versions.{trace_version}
-use Rattle.runtime_log.specs.private.Choices.{AreAt, AreInFileOrder, IsAt}
+use Rattle.runtime_log.specs.private.Choices.{AreAt, IsAt}
 use Rattle.runtime_log.specs.private.Readings.{BlocksRead}
 use Rattle.runtime_log.proofs.Walking.{starts_first, starts_none}
 
 -- ---- the size of a block
 
 -- a record with a number of bytes is extents
-size_is : (r : Rec) (size : ℕ) → size_named r ≡ Some size → r ≡ Extents size
+pub size_is : (r : Rec) (size : ℕ) → size_named r ≡ Some size → r ≡ Extents size
 size_is (Extents n) size e = cc
 size_is r size e = absurd cc
 
@@ -78,14 +78,6 @@ at_more bytes mode (p ∷ places) (s ∷ said) placed b are is = (are.0, at_more
 at_more bytes mode [] (s ∷ said) placed b are is = absurd are
 at_more bytes mode (p ∷ places) [] placed b are is = absurd are
 
-pub order_more : (from to next : ℕ) (said : List LogBlock) (b : LogBlock) → AreInFileOrder from to said → to ≤ b.place → b.place < next → AreInFileOrder from next (said ++ b ∷ [])
-order_more from to next [] b order here below = (omega (arith, order, here), omega (arith, below))
-order_more from to next (s ∷ said) b order here below = (order.0, order_more (1 + s.place) to next said b order.1 here below)
-
-pub order_wider : (from to next : ℕ) (said : List LogBlock) → AreInFileOrder from to said → to ≤ next → AreInFileOrder from next said
-order_wider from to next [] order more = omega (arith, order, more)
-order_wider from to next (s ∷ said) order more = (order.0, order_wider (1 + s.place) to next said order.1 more)
-
 custom_more : (said : List LogBlock) (b : LogBlock) → sum (map (λ (x : LogBlock). x.custom) (said ++ b ∷ [])) ≡ sum (map (λ (x : LogBlock). x.custom) said) + b.custom
 custom_more said b = ap sum (map-append (λ (x : LogBlock). x.custom) said (b ∷ [])) ∙ sum_by_push (λ n. n) (map (λ (x : LogBlock). x.custom) said) b.custom
 
@@ -95,23 +87,21 @@ typed_more said b = ap sum (map-append (λ (x : LogBlock). x.typed) said (b ∷ 
 -- ---- one more block
 
 -- the blocks from a place on, after these
-abbrev Onward : LogVersion → Result (List LogBlock) TraceFault → ℕ → List ℕ → Result (List LogBlock) TraceFault
+abbrev pub Onward : LogVersion → Result (List LogBlock) TraceFault → ℕ → List ℕ → Result (List LogBlock) TraceFault
 Onward version said at rest = said >>= λ blocks. InTurn (log_block_rows version) blocks (starts block_length 0 at rest)
 
-block_first : (version : LogVersion) (said : List LogBlock) (at : ℕ) (rest : List ℕ) → 0 < length rest
+pub block_first : (version : LogVersion) (said : List LogBlock) (at : ℕ) (rest : List ℕ) → 0 < length rest
     → InTurn (log_block_rows version) said (starts block_length 0 at rest) ≡ Onward version (log_block_rows version said (at, rest)) (at + block_length rest) (drop (block_length rest) rest)
 block_first version said at rest some = ap (InTurn (log_block_rows version) said) (starts_first block_length at rest some (omega arith))
 
 pub blocks_more : (version : LogVersion) (bytes : List ℕ) (at : ℕ) (old new : LogBlocks) (placed : Placed) (b : LogBlock) → BlocksRead version bytes at old → at < length bytes
-    → log_block_in version (at, drop at bytes) ≡ Ok b → IsAt bytes (Recorder version) placed b → placed.begin ≡ at → placed.end ≡ at + block_length (drop at bytes)
+    → log_block_in version (at, drop at bytes) ≡ Ok b → IsAt bytes (Recorder version) placed b → placed.end ≡ at + block_length (drop at bytes)
     → new.blocks.items ≡ old.blocks.items ++ placed ∷ [] → new.custom ≡ old.custom + b.custom → new.typed ≡ old.typed + b.typed
     → BlocksRead version bytes placed.end new
-blocks_more version bytes at old new placed b r within is place begin end items custom typed =
+blocks_more version bytes at old new placed b r within is place end items custom typed =
     let rest = drop at bytes in
     let more : List LogBlock = r.said ++ b ∷ [] in
     let some : 0 < length rest = omega (arith, length-drop at bytes) in
-    let here : b.place ≡ at = sym place.place ∙ begin in
-    let further : b.place < placed.end = omega (arith, here, end) in
     record {
       said = more;
       on =
@@ -120,7 +110,6 @@ blocks_more version bytes at old new placed b r within is place begin end items 
           ∙ ap (λ (xs : List ℕ). InTurn (log_block_rows version) more (starts block_length 0 (at + block_length rest) xs)) (drop-drop (block_length rest) at bytes)
           ∙ ap (λ (k : ℕ). InTurn (log_block_rows version) more (starts block_length 0 k (drop k bytes))) (sym end);
       places = subst (λ (xs : List Placed). AreAt bytes (Recorder version) xs more) (sym items) (at_more bytes (Recorder version) old.blocks.items r.said placed b r.places place);
-      order = order_more 0 at placed.end r.said b r.order (omega (arith, here)) further;
       custom = custom ∙ ap (λ (n : ℕ). n + b.custom) r.custom ∙ sym (custom_more r.said b);
       typed = typed ∙ ap (λ (n : ℕ). n + b.typed) r.typed ∙ sym (typed_more r.said b);
     }

@@ -9,3 +9,14 @@ pub mod Recordable
 pub mod Contents
 pub mod Taking
 pub mod Runs
+pub mod WholeLogs
+pub mod FileOrder
+pub mod OneOrder
+pub mod OneImport
+pub mod RecordCuts
+pub mod TraceIsLog
+pub mod ReadingBack
+pub mod ItselfImported
+pub mod NextRecords
+pub mod Adding
+pub mod RunLists

@@ -1,7 +1,7 @@
--- The events of a log are events that a trace can have.
+-- The events of a log of the Flight Data Recorder mode fit the records of a trace.
 use Rattle.std.proofs.Common.{◌≡◌, ℕ, zero, suc, ◌+◌, ◌-◌, ◌/◌, ◌%◌, ◌^◌, ◌<◌, ◌≤◌, Bool, true, false, cond, eqb, ltb, List, [], ◌∷◌, ◌++◌, length, drop, slice_index, Option, Some, None, Result, Ok, Err, refl, sym, ap, subst, ◌∙◌, arith}
 use Rattle.std.specs.Prelude.{⊤, All, option_to_list, ◌&&◌, not}
-use Rattle.std.proofs.lemmas.List.Elements.{All-append, All-cons, All-head, All-nil, All-tail}
+use Rattle.std.proofs.lemmas.List.Elements.{All-append, All-cons, All-head, All-nil, All-tail, All-weaker}
 use Rattle.xray_io.specs.Rows.{First, NeedsPart, ◌>>=◌}
 use Rattle.xray_io.specs.declared.wall.Wall.{Wall}
 use Rattle.fdr_record.specs.declared.event.Event.{Event}
@@ -11,6 +11,8 @@ use Rattle.fdr_record.specs.declared.fault.RecFault.{RecFault}
 use Rattle.fdr_record.specs.declared.rec.Rec.{Rec}
 use Rattle.fdr_record.specs.declared.rec.Rec.TheVariants.{NewBuffer, NewCpu, TscWrap, WallTime, Pid, CallArg, Extents, Function}
 use Rattle.fdr_record.specs.Recordable.{ArgFits, IsRecordable}
+use Rattle.fdr_record.specs.Records.{FieldsFit}
+use Rattle.fdr_buffer.specs.Segments.{EventFits}
 use Rattle.fdr_file.specs.declared.events.Argument.{Argument}
 use Rattle.fdr_file.specs.declared.events.Argument.TheVariants as arguments
 use Rattle.fdr_file.specs.declared.events.Base.{Base}
@@ -31,19 +33,22 @@ use Rattle.fdr_file.specs.Traces.{logs_arg, pid_named, preamble_bytes, record_in
 use Rattle.runtime_log.specs.declared.own_event.OwnKind.{OwnKind}
 use Rattle.runtime_log.specs.declared.version.LogVersion.{LogVersion}
 use Rattle.runtime_log.specs.Logs.{log_record_rows, unless_faulty}
-use Rattle.runtime_log.specs.OwnEvents.{log_record_in, log_record_length, own_kind}
+use Rattle.runtime_log.specs.OwnEvents.{counter_so_far, log_record_in, log_record_length, own_delta, own_kind}
 use Rattle.runtime_log.specs.Versions.{trace_version}
 use Rattle.runtime_log.specs.private.Walks.{events_by, events_told, settled}
-use Rattle.runtime_log.proofs.RecordFits.{AreBytes, FoundFits, RecFits, record_fits}
+use Rattle.runtime_log.proofs.RecordFits.{AreBytes, FoundFits, record_fits}
 
 -- ---- records
 
 log_record_fits : (version : LogVersion) (stage : Stage) (bytes : List ℕ) → AreBytes bytes → FoundFits (log_record_in version stage bytes)
 log_record_fits version stage bytes all = by_kind (own_kind version bytes) refl
   where
+    below : (counter_so_far stage + own_delta version bytes) % 2 ^ 64 < 2 ^ 64
+    below = omega arith
+
     by_kind : (kind : Option OwnKind) → own_kind version bytes ≡ kind → FoundFits (log_record_in version stage bytes)
     by_kind None e = rw e (record_fits bytes all)
-    by_kind (Some kind) e = rw e tt
+    by_kind (Some kind) e = rw e below
 
 -- ---- stages
 
@@ -53,14 +58,21 @@ ArgumentFits arguments.Barred = ⊤
 ArgumentFits (arguments.Awaited func) = func < 2 ^ 28
 ArgumentFits arguments.Known = ⊤
 
+-- the CPU and the counter of the last record fit the records of a trace
+abbrev pub IsBase : Base → Type 0
+IsBase base = (base.cpu < 2 ^ 16) × (base.tsc < 2 ^ 64) × ArgumentFits base.argument
+
 abbrev pub BaseFits : Option Base → Type 0
 BaseFits None = ⊤
-BaseFits (Some base) = ArgumentFits base.argument
+BaseFits (Some base) = IsBase base
+
+abbrev pub WallFits : Wall → Type 0
+WallFits wall = (wall.secs < 2 ^ 64) × (wall.micros < 2 ^ 32)
 
 abbrev pub InsideFits : Inside → Type 0
 InsideFits insides.Opened = ⊤
-InsideFits (insides.Thread thread) = ⊤
-InsideFits (insides.Wall thread wall) = ⊤
+InsideFits (insides.Thread thread) = thread < 2 ^ 32
+InsideFits (insides.Wall thread wall) = (thread < 2 ^ 32) × WallFits wall
 InsideFits (insides.Events base) = BaseFits base
 
 abbrev pub StageFits : Stage → Type 0
@@ -68,14 +80,14 @@ StageFits Due = ⊤
 StageFits (Within span inside) = InsideFits inside
 StageFits (Faulty span fault) = ⊤
 
--- the event, if there is one, is one that a trace can have
+-- the event, if there is one, fits the records of a trace
 abbrev pub MaybeFits : Option Event → Type 0
 MaybeFits None = ⊤
-MaybeFits (Some event) = IsRecordable event
+MaybeFits (Some event) = EventFits event
 
 abbrev pub ToldFits : Told → Type 0
 ToldFits Nothing = ⊤
-ToldFits (Begun thread wall pid) = ⊤
+ToldFits (Begun thread wall pid) = (thread < 2 ^ 32) × WallFits wall × (pid < 2 ^ 32)
 ToldFits (Noted entry event) = MaybeFits entry × MaybeFits event
 
 -- what a record says, and the stage after it
@@ -83,22 +95,22 @@ abbrev pub SaidFits : Result (Stage × Told) TraceFault → Type 0
 SaidFits (Ok said) = StageFits said.0 × ToldFits said.1
 SaidFits (Err fault) = ⊤
 
-abbrev InFits : Result (Inside × Told) TraceFault → Type 0
+abbrev pub InFits : Result (Inside × Told) TraceFault → Type 0
 InFits (Ok said) = InsideFits said.0 × ToldFits said.1
 InFits (Err fault) = ⊤
 
-abbrev StepFits : Result (Base × Option Event × Option Event) TraceFault → Type 0
-StepFits (Ok step) = ArgumentFits step.0.argument × MaybeFits step.1 × MaybeFits step.2
+abbrev pub StepFits : Result (Base × Option Event × Option Event) TraceFault → Type 0
+StepFits (Ok step) = IsBase step.0 × MaybeFits step.1 × MaybeFits step.2
 StepFits (Err fault) = ⊤
 
-due_fits : (a : Argument) (base : Base) (arg : ℕ) → ArgumentFits a → MaybeFits (entry_due a base arg)
-due_fits arguments.Barred base arg fits = tt
-due_fits (arguments.Awaited func) base arg fits = record { id = fits; arg = tt }
-due_fits arguments.Known base arg fits = tt
+due_fits : (a : Argument) (base : Base) (arg : ℕ) → arg < 2 ^ 64 → IsBase base → ArgumentFits a → MaybeFits (entry_due a base arg)
+due_fits arguments.Barred base arg few fits awaited = tt
+due_fits (arguments.Awaited func) base arg few fits awaited = record { cpu = fits.0; func = awaited; tsc = fits.1; arg = few; logged = tt }
+due_fits arguments.Known base arg few fits awaited = tt
 
-entry_fits : (base : Option Base) (arg : ℕ) → BaseFits base → MaybeFits (entry_with base arg)
-entry_fits None arg fits = tt
-entry_fits (Some base) arg fits = due_fits base.argument base arg fits
+entry_fits : (base : Option Base) (arg : ℕ) → arg < 2 ^ 64 → BaseFits base → MaybeFits (entry_with base arg)
+entry_fits None arg few fits = tt
+entry_fits (Some base) arg few fits = due_fits base.argument base arg few fits fits.2
 
 -- an event of this kind, without an argument
 plain_fits : (kind : Kind) → ArgFits kind 0
@@ -107,8 +119,11 @@ plain_fits Exit = refl
 plain_fits TailExit = refl
 plain_fits EntryArgs = tt
 
-function_step : (ends : Bool) (kind : Kind) (func tsc : ℕ) (base : Base) → func < 2 ^ 28 → ArgumentFits base.argument → StepFits (Ok (function_on ends kind func tsc base))
-function_step ends kind func tsc base few fits = by_test (logs_arg kind && not ends)
+no_arg : 0 < 2 ^ 64
+no_arg = omega arith
+
+function_step : (ends : Bool) (kind : Kind) (func tsc : ℕ) (base : Base) → func < 2 ^ 28 → tsc < 2 ^ 64 → IsBase base → StepFits (Ok (function_on ends kind func tsc base))
+function_step ends kind func tsc base few below fits = by_test (logs_arg kind && not ends)
   where
     awaited : Base
     awaited = record { cpu = base.cpu; tsc = tsc; argument = arguments.Awaited func }
@@ -120,44 +135,65 @@ function_step ends kind func tsc base few fits = by_test (logs_arg kind && not e
     event = record { cpu = base.cpu; func = func; kind = kind; tsc = tsc; arg = 0 }
 
     by_test : (b : Bool) → StepFits (Ok (cond b (awaited, entry_with (Some base) 0, None) (barred, entry_with (Some base) 0, Some event)))
-    by_test true = (few, entry_fits (Some base) 0 fits, tt)
-    by_test false = (tt, entry_fits (Some base) 0 fits, record { id = few; arg = plain_fits kind })
+    by_test true = ((fits.0, below, few), entry_fits (Some base) 0 no_arg fits, tt)
+    by_test false = ((fits.0, below, tt), entry_fits (Some base) 0 no_arg fits, record { cpu = fits.0; func = few; tsc = below; arg = no_arg; logged = plain_fits kind })
 
-argument_step : (at value : ℕ) (base : Base) (a : Argument) → ArgumentFits base.argument → StepFits (argument_on at value base a)
-argument_step at value base arguments.Barred fits = tt
-argument_step at value base (arguments.Awaited func) fits = (tt, entry_fits (Some base) value fits, tt)
-argument_step at value base arguments.Known fits = (fits, tt, tt)
+argument_step : (at value : ℕ) (base : Base) (a : Argument) → value < 2 ^ 64 → IsBase base → StepFits (argument_on at value base a)
+argument_step at value base arguments.Barred few fits = tt
+argument_step at value base (arguments.Awaited func) few fits = ((fits.0, fits.1, tt), entry_fits (Some base) value few fits, tt)
+argument_step at value base arguments.Known few fits = (fits, tt, tt)
 
-step_fits : (ends : Bool) (at : ℕ) (r : Rec) (base : Option Base) → RecFits r → BaseFits base → StepFits (step_on ends at r base)
-step_fits ends at (NewCpu cpu tsc) base few fits = (tt, entry_fits base 0 fits, tt)
+step_fits : (ends : Bool) (at : ℕ) (r : Rec) (base : Option Base) → FieldsFit r → BaseFits base → StepFits (step_on ends at r base)
+step_fits ends at (NewCpu cpu tsc) base few fits = ((few.0, few.1, tt), entry_fits base 0 no_arg fits, tt)
 step_fits ends at (TscWrap tsc) None few fits = tt
-step_fits ends at (TscWrap tsc) (Some base) few fits = (tt, entry_fits (Some base) 0 fits, tt)
+step_fits ends at (TscWrap tsc) (Some base) few fits = ((fits.0, few, tt), entry_fits (Some base) 0 no_arg fits, tt)
 step_fits ends at (Function kind func delta) None few fits = tt
-step_fits ends at (Function kind func delta) (Some base) few fits = function_step ends kind func ((base.tsc + delta) % 2 ^ 64) base few fits
+step_fits ends at (Function kind func delta) (Some base) few fits =
+    let below : (base.tsc + delta) % 2 ^ 64 < 2 ^ 64 = omega arith in
+    function_step ends kind func ((base.tsc + delta) % 2 ^ 64) base few.0 below fits
 step_fits ends at (CallArg value) None few fits = tt
-step_fits ends at (CallArg value) (Some base) few fits = argument_step at value base base.argument fits
+step_fits ends at (CallArg value) (Some base) few fits = argument_step at value base base.argument few fits
 step_fits ends at (NewBuffer thread) base few fits = tt
 step_fits ends at (WallTime wall) base few fits = tt
 step_fits ends at (Pid pid) base few fits = tt
 step_fits ends at (Extents size) base few fits = tt
 
-next_fits : (version : Version) (inside : Inside) (ends : Bool) (at : ℕ) (r : Rec) → RecFits r → InsideFits inside → InFits (inside_next version inside ends at r)
-next_fits version insides.Opened ends at r few fits = by_thread (thread_named r)
+-- the thread, the wall time and the process that a record names
+thread_fits : (r : Rec) (thread : ℕ) → FieldsFit r → thread_named r ≡ Some thread → thread < 2 ^ 32
+thread_fits (NewBuffer n) thread few e =
+    let same : n ≡ thread = cc in
+    omega (arith, few, same)
+thread_fits r thread few e = absurd cc
+
+wall_fits : (r : Rec) (wall : Wall) → FieldsFit r → wall_named r ≡ Some wall → WallFits wall
+wall_fits (WallTime w) wall few e =
+    let same : w ≡ wall = cc in
+    subst WallFits same few
+wall_fits r wall few e = absurd cc
+
+pid_fits : (r : Rec) (pid : ℕ) → FieldsFit r → pid_named r ≡ Some pid → pid < 2 ^ 32
+pid_fits (Pid n) pid few e =
+    let same : n ≡ pid = cc in
+    omega (arith, few, same)
+pid_fits r pid few e = absurd cc
+
+next_fits : (version : Version) (inside : Inside) (ends : Bool) (at : ℕ) (r : Rec) → FieldsFit r → InsideFits inside → InFits (inside_next version inside ends at r)
+next_fits version insides.Opened ends at r few fits = by_thread (thread_named r) refl
   where
-    by_thread : (o : Option ℕ) → InFits (NeedsPart o (Err (traces.Order at)) λ thread. Ok (insides.Thread thread, Nothing))
-    by_thread None = tt
-    by_thread (Some thread) = (tt, tt)
-next_fits version (insides.Thread thread) ends at r few fits = by_wall version (wall_named r)
+    by_thread : (o : Option ℕ) → thread_named r ≡ o → InFits (NeedsPart o (Err (traces.Order at)) λ thread. Ok (insides.Thread thread, Nothing))
+    by_thread None e = tt
+    by_thread (Some thread) e = (thread_fits r thread few e, tt)
+next_fits version (insides.Thread thread) ends at r few fits = by_wall version (wall_named r) refl
   where
-    by_wall : (v : Version) (o : Option Wall) → InFits (NeedsPart o (Err (traces.Order at)) λ wall. Ok (after_wall v thread wall))
-    by_wall v None = tt
-    by_wall Two (Some wall) = (tt, tt)
-    by_wall Three (Some wall) = (tt, tt)
-next_fits version (insides.Wall thread wall) ends at r few fits = by_pid (pid_named r)
+    by_wall : (v : Version) (o : Option Wall) → wall_named r ≡ o → InFits (NeedsPart o (Err (traces.Order at)) λ wall. Ok (after_wall v thread wall))
+    by_wall v None e = tt
+    by_wall Two (Some wall) e = (tt, (fits, wall_fits r wall few e, omega arith))
+    by_wall Three (Some wall) e = ((fits, wall_fits r wall few e), tt)
+next_fits version (insides.Wall thread wall) ends at r few fits = by_pid (pid_named r) refl
   where
-    by_pid : (o : Option ℕ) → InFits (NeedsPart o (Err (traces.Order at)) λ pid. Ok (insides.Events None, Begun thread wall pid))
-    by_pid None = tt
-    by_pid (Some pid) = (tt, tt)
+    by_pid : (o : Option ℕ) → pid_named r ≡ o → InFits (NeedsPart o (Err (traces.Order at)) λ pid. Ok (insides.Events None, Begun thread wall pid))
+    by_pid None e = tt
+    by_pid (Some pid) e = (tt, (fits.0, fits.1, pid_fits r pid few e))
 next_fits version (insides.Events base) ends at r few fits = by_step (step_on ends at r base) (step_fits ends at r base few fits)
   where
     by_step : (s : Result (Base × Option Event × Option Event) TraceFault) → StepFits s → InFits (s >>= λ step. Ok (insides.Events (Some step.0), Noted step.1 step.2))
@@ -229,21 +265,25 @@ starts_fit len left at [] all = tt
 starts_fit len (suc left) at (b ∷ bytes) all = starts_fit len left (at + 1) bytes (All-tail (λ b. b < 256) b bytes all)
 starts_fit len zero at (b ∷ bytes) all = (all, starts_fit len (len (b ∷ bytes) - 1) (at + 1) bytes (All-tail (λ b. b < 256) b bytes all))
 
-maybe_all : (o : Option Event) → MaybeFits o → All IsRecordable (option_to_list o)
-maybe_all None fits = All-nil IsRecordable
-maybe_all (Some event) fits = All-cons IsRecordable event [] fits (All-nil IsRecordable)
+maybe_all : (o : Option Event) → MaybeFits o → All EventFits (option_to_list o)
+maybe_all None fits = All-nil EventFits
+maybe_all (Some event) fits = All-cons EventFits event [] fits (All-nil EventFits)
 
-settled_fit : (told : Told) → ToldFits told → All IsRecordable (settled told)
-settled_fit Nothing fits = All-nil IsRecordable
-settled_fit (Begun thread wall pid) fits = All-nil IsRecordable
-settled_fit (Noted entry event) fits = All-append IsRecordable (option_to_list entry) (option_to_list event) (maybe_all entry fits.0) (maybe_all event fits.1)
+pub settled_fit : (told : Told) → ToldFits told → All EventFits (settled told)
+settled_fit Nothing fits = All-nil EventFits
+settled_fit (Begun thread wall pid) fits = All-nil EventFits
+settled_fit (Noted entry event) fits = All-append EventFits (option_to_list entry) (option_to_list event) (maybe_all entry fits.0) (maybe_all event fits.1)
 
-pub events_fit : (version : LogVersion) (stage : Stage) (places : List (ℕ × List ℕ)) → PlacesFit places → StageFits stage → All IsRecordable (events_told version stage places)
-events_fit version stage [] all fits = All-nil IsRecordable
+pub events_fit : (version : LogVersion) (stage : Stage) (places : List (ℕ × List ℕ)) → PlacesFit places → StageFits stage → All EventFits (events_told version stage places)
+events_fit version stage [] all fits = All-nil EventFits
 events_fit version stage ((at, bytes) ∷ later) all fits =
     by_row (λ next f. events_fit version next later all.1 f) (log_record_rows version stage (at, bytes)) (row_fits version stage at bytes all.0 fits)
   where
-    by_row : ((next : Stage) → StageFits next → All IsRecordable (events_told version next later)) → (x : Result (Stage × Told) TraceFault) → SaidFits x
-        → All IsRecordable (events_by x (λ next. events_told version next later))
-    by_row again (Ok said) f = All-append IsRecordable (settled said.1) (events_told version said.0 later) (settled_fit said.1 f.1) (again said.0 f.0)
-    by_row again (Err fault) f = All-nil IsRecordable
+    by_row : ((next : Stage) → StageFits next → All EventFits (events_told version next later)) → (x : Result (Stage × Told) TraceFault) → SaidFits x
+        → All EventFits (events_by x (λ next. events_told version next later))
+    by_row again (Ok said) f = All-append EventFits (settled said.1) (events_told version said.0 later) (settled_fit said.1 f.1) (again said.0 f.0)
+    by_row again (Err fault) f = All-nil EventFits
+
+-- events that fit their records are events that a trace can have
+pub fit_recordable : (events : List Event) → All EventFits events → All IsRecordable events
+fit_recordable events all = All-weaker EventFits IsRecordable (λ event fits. record { id = fits.func; arg = fits.logged }) events all

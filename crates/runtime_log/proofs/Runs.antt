@@ -5,12 +5,13 @@ use Rattle.std.specs.Option.{option_or}
 use Rattle.byteorder.specs.Endian.{little_number}
 use Rattle.std.proofs.lemmas.Bool.{ltb-true}
 use Rattle.std.proofs.lemmas.List.{drop-append-le, length-append, length-drop, length-take-le, take-append-le, take_all}
-use Rattle.std.proofs.lemmas.List.Elements.{All-cons, All-nil}
+use Rattle.std.proofs.lemmas.List.Elements.{All-cons, All-drop, All-nil, All-take}
 use Rattle.xray_io.specs.Rows.{First, NeedsPart}
 use Rattle.fdr_record.specs.declared.event.Event.{Event}
 use Rattle.fdr_record.specs.declared.event.Kind.{Kind}
 use Rattle.fdr_record.specs.declared.event.Kind.TheVariants.{Entry, Exit, TailExit, EntryArgs}
 use Rattle.fdr_record.specs.Recordable.{ArgFits, IsRecordable}
+use Rattle.fdr_buffer.specs.Segments.{EventFits}
 use Rattle.fdr_file.specs.Traces.{logs_arg}
 use Rattle.fdr_file.specs.declared.fault.TraceFault.TheVariants as traces
 use Rattle.runtime_log.specs.declared.basic.BasicRec.{BasicRec}
@@ -20,7 +21,9 @@ use Rattle.runtime_log.specs.declared.fault.LogFault.{LogFault}
 use Rattle.runtime_log.specs.declared.fault.LogFault.TheVariants as faults
 use Rattle.runtime_log.specs.BasicLogs.{argument_in, basic_events, func_in, kind_byte, kind_numbered, passing_in, passing_rows, tag_in, tagged_rows, with_argument}
 use Rattle.runtime_log.specs.private.Choices.{counter_first}
-use Rattle.runtime_log.specs.private.Records.{record_before, records_in, records_read}
+use Rattle.runtime_log.specs.private.Records.{counter_of, record_before, records_in, records_read}
+use Rattle.runtime_log.proofs.RecordFits.{AreBytes, byte_below, number_below}
+use Rattle.runtime_log.proofs.Recordable.{fit_recordable}
 
 -- ---- one record
 
@@ -80,11 +83,6 @@ read_more (suc n) bytes chunk r long whole all is =
 
 -- ---- their events
 
--- the counter of the event of a record, if it has one
-abbrev pub counter_of : BasicRec → Option ℕ
-counter_of (Passed owner event) = Some event.tsc
-counter_of (Argument owner func value) = None
-
 -- an argument changes no counter
 argued_counter : (event : Event) (later : List BasicRec) → (with_argument event later).tsc ≡ event.tsc
 argued_counter event [] = refl
@@ -105,11 +103,14 @@ first_more (Argument owner func value ∷ records) r = first_more records r
 
 -- ---- events that a trace can have
 
-abbrev RecordFits : BasicRec → Type 0
-RecordFits (Passed owner event) = IsRecordable event
-RecordFits (Argument owner func value) = ⊤
+abbrev pub OwnerFits : Owner → Type 0
+OwnerFits owner = (owner.thread < 2 ^ 32) × (owner.pid < 2 ^ 32)
 
-abbrev ReadFits : Result BasicRec LogFault → Type 0
+abbrev pub RecordFits : BasicRec → Type 0
+RecordFits (Passed owner event) = OwnerFits owner × EventFits event
+RecordFits (Argument owner func value) = OwnerFits owner × (value < 2 ^ 64)
+
+abbrev pub ReadFits : Result BasicRec LogFault → Type 0
 ReadFits (Ok r) = RecordFits r
 ReadFits (Err fault) = ⊤
 
@@ -119,11 +120,30 @@ plain_arg Exit arg = refl
 plain_arg TailExit arg = refl
 plain_arg EntryArgs arg = tt
 
-read_fits : (at : ℕ) (bytes : List ℕ) → ReadFits (tagged_rows at bytes)
-read_fits at bytes = by_short (ltb (length bytes) 32)
+arg_below : (b : Bool) (arg : ℕ) → arg < 2 ^ 64 → cond b arg 0 < 2 ^ 64
+arg_below true arg few = few
+arg_below false arg few = omega arith
+
+pub read_fits : (at : ℕ) (bytes : List ℕ) → AreBytes bytes → ReadFits (tagged_rows at bytes)
+read_fits at bytes all = by_short (ltb (length bytes) 32)
   where
+    four : (from : ℕ) → little_number 4 (drop from bytes) < 2 ^ 32
+    four from = omega (arith, number_below from 4 bytes all)
+
+    eight : (from : ℕ) → little_number 8 (drop from bytes) < 2 ^ 64
+    eight from = omega (arith, number_below from 8 bytes all)
+
     by_func : (kind : Kind) (b : Bool) → ltb (func_in bytes) (2 ^ 28) ≡ b → ReadFits (First (not b) (Err (faults.Function at (func_in bytes))) (Ok (passing_in kind bytes)))
-    by_func kind true e = record { id = ltb-true (func_in bytes) (2 ^ 28) e; arg = plain_arg kind (little_number 8 (drop 24 bytes)) }
+    by_func kind true e = (
+      (four 16, four 20),
+      record {
+        cpu = omega (arith, byte_below bytes all 2);
+        func = ltb-true (func_in bytes) (2 ^ 28) e;
+        tsc = eight 8;
+        arg = arg_below (logs_arg kind) (little_number 8 (drop 24 bytes)) (eight 24);
+        logged = plain_arg kind (little_number 8 (drop 24 bytes));
+      },
+    )
     by_func kind false e = tt
 
     by_kind : (k : Option Kind) → ReadFits (NeedsPart k (Err (faults.Kind at (kind_byte bytes))) λ kind. First (not (ltb (func_in bytes) (2 ^ 28))) (Err (faults.Function at (func_in bytes))) (Ok (passing_in kind bytes)))
@@ -132,7 +152,7 @@ read_fits at bytes = by_short (ltb (length bytes) 32)
 
     by_tag : (passing argument : Bool) → ReadFits (First passing (passing_rows at bytes) (First argument (Ok (argument_in bytes)) (Err (faults.Tag at (tag_in bytes)))))
     by_tag true argument = by_kind (kind_numbered (kind_byte bytes))
-    by_tag false true = tt
+    by_tag false true = ((four 8, four 12), eight 16)
     by_tag false false = tt
 
     by_short : (short : Bool)
@@ -140,13 +160,14 @@ read_fits at bytes = by_short (ltb (length bytes) 32)
     by_short true = tt
     by_short false = by_tag (eqb (tag_in bytes) 0) (eqb (tag_in bytes) 1)
 
-abbrev RecordsFit : List BasicRec → Type 0
+abbrev pub RecordsFit : List BasicRec → Type 0
 RecordsFit [] = ⊤
 RecordsFit (r ∷ records) = RecordFits r × RecordsFit records
 
-records_fit : (n : ℕ) (bytes : List ℕ) → RecordsFit (records_read n bytes)
-records_fit zero bytes = tt
-records_fit (suc n) bytes = by_first (records_fit n (drop 32 bytes)) (tagged_rows 0 (take 32 bytes)) (read_fits 0 (take 32 bytes))
+records_fit : (n : ℕ) (bytes : List ℕ) → AreBytes bytes → RecordsFit (records_read n bytes)
+records_fit zero bytes all = tt
+records_fit (suc n) bytes all =
+    by_first (records_fit n (drop 32 bytes) (All-drop (λ b. b < 256) 32 bytes all)) (tagged_rows 0 (take 32 bytes)) (read_fits 0 (take 32 bytes) (All-take (λ b. b < 256) 32 bytes all))
   where
     by_first : RecordsFit (records_read n (drop 32 bytes)) → (x : Result BasicRec LogFault) → ReadFits x → RecordsFit (record_before x (records_read n (drop 32 bytes)))
     by_first later (Ok r) fits = (fits, later)
@@ -158,22 +179,23 @@ argued_kind Exit value arg e = absurd cc
 argued_kind TailExit value arg e = absurd cc
 argued_kind EntryArgs value arg e = tt
 
-argued_fits : (event : Event) (later : List BasicRec) → IsRecordable event → IsRecordable (with_argument event later)
-argued_fits event [] fits = fits
-argued_fits event (Passed owner other ∷ later) fits = fits
-argued_fits event (Argument owner func value ∷ later) fits = by_test (logs_arg event.kind) refl
+argued_fits : (event : Event) (later : List BasicRec) → EventFits event → RecordsFit later → EventFits (with_argument event later)
+argued_fits event [] fits few = fits
+argued_fits event (Passed owner other ∷ later) fits few = fits
+argued_fits event (Argument owner func value ∷ later) fits few = by_test (logs_arg event.kind) refl
   where
-    by_test : (b : Bool) → logs_arg event.kind ≡ b → IsRecordable (cond b (record event { arg = value }) event)
-    by_test true e = record { id = fits.id; arg = argued_kind event.kind value event.arg e }
+    by_test : (b : Bool) → logs_arg event.kind ≡ b → EventFits (cond b (record event { arg = value }) event)
+    by_test true e = record { cpu = fits.cpu; func = fits.func; tsc = fits.tsc; arg = few.0.1; logged = argued_kind event.kind value event.arg e }
     by_test false e = fits
 
-basic_fit : (records : List BasicRec) → RecordsFit records → All IsRecordable (basic_events records)
-basic_fit [] fits = All-nil IsRecordable
-basic_fit (Passed owner event ∷ later) fits = All-cons IsRecordable (with_argument event later) (basic_events later) (argued_fits event later fits.0) (basic_fit later fits.1)
+pub basic_fit : (records : List BasicRec) → RecordsFit records → All EventFits (basic_events records)
+basic_fit [] fits = All-nil EventFits
+basic_fit (Passed owner event ∷ later) fits =
+    All-cons EventFits (with_argument event later) (basic_events later) (argued_fits event later fits.0.1 fits.1) (basic_fit later fits.1)
 basic_fit (Argument owner func value ∷ later) fits = basic_fit later fits.1
 
-pub basic_recordable : (bytes : List ℕ) → All IsRecordable (basic_events (records_in bytes))
-basic_recordable bytes = basic_fit (records_in bytes) (records_fit (length bytes / 32) bytes)
+pub basic_recordable : (bytes : List ℕ) → AreBytes bytes → All IsRecordable (basic_events (records_in bytes))
+basic_recordable bytes all = fit_recordable (basic_events (records_in bytes)) (basic_fit (records_in bytes) (records_fit (length bytes / 32) bytes all))
 
 -- ---- how many they are
 

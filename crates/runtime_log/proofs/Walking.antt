@@ -55,7 +55,7 @@ starts_few len zero at (byte ∷ bytes) = omega (arith, starts_few len (len (byt
 -- ---- records
 
 -- a record has some bytes
-record_some : (bytes : List ℕ) → 0 < record_length bytes
+pub record_some : (bytes : List ℕ) → 0 < record_length bytes
 record_some bytes = elim (cases_Bool (eqb (slice_index bytes 0 % 2) 0)) [ inl e ↦ rw e (lit< tt) | inr e ↦ rw e (lit< tt) ]
 
 pub log_record_some : (version : LogVersion) (bytes : List ℕ) → 0 < log_record_length version bytes

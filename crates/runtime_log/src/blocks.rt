@@ -2,7 +2,7 @@
 ghost use Rattle.std.specs.Prelude.{◌≡◌, ◌<◌, ◌+◌, ◌++◌, ◌^◌, All, None, [], length, option_to_list};
 ghost use Rattle.fdr_record.specs.Recordable.{IsRecordable};
 ghost use Rattle.runtime_log.specs.Logs.{LogBlock as SaidBlock};
-ghost use Rattle.runtime_log.specs.private.{Choices.{IsAt, LiesWithin, head_length}, Coming.{MayGive, events_to_come}, Walks.{settled, walk_events}};
+ghost use Rattle.runtime_log.specs.private.{Choices.{IsAt, LiesWithin, head_length}, Coming.{MayGive, events_to_come, recorder_events}, Walks.{settled, walk_events}};
 
 use crate::basic::BasicEvents;
 use crate::version::LogVersion;
@@ -58,17 +58,20 @@ pub(crate) struct LogBlocks {
     pub(crate) typed: u64,
 }
 
+/// The events of a block of the Flight Data Recorder mode, one after the other.
+#[derive(Clone, Copy)]
+pub(crate) struct RecorderEvents<'a> {
+    /// The way through the records that are left.
+    walk: BlockWalk<'a>,
+    /// The event that comes before theirs.
+    pending: Option<Event>,
+}
+
 /// The events of a block of a log that was read, one after the other.
 #[derive(Clone, Copy)]
 pub(crate) enum BlockEvents<'a> {
-    /// Of the Flight Data Recorder mode: the records that are left, and the event that comes before
-    /// theirs.
-    Recorder {
-        /// The way through the records.
-        walk: BlockWalk<'a>,
-        /// The event.
-        pending: Option<Event>,
-    },
+    /// Of the Flight Data Recorder mode.
+    Recorder(RecorderEvents<'a>),
     /// Of the basic mode.
     Basic(BasicEvents<'a>),
     /// None is left.
@@ -113,11 +116,28 @@ fn next_told(walk: &mut BlockWalk) -> (Option<Event>, Option<Event>)
     (None, None)
 }
 
+impl RecorderEvents<'_> {
+    /// The next event.
+    fn next(&mut self) -> Option<Event>
+        requires few { self.old.walk.at + length self.old.walk.rest.now < 2 ^ 32 }
+        ensures few { self.new.walk.at + length self.new.walk.rest.now < 2 ^ 32 }
+        ensures gives { recorder_events self.old ≡ option_to_list result ++ recorder_events self.new }
+        ensures ends { result ≡ None → recorder_events self.old ≡ [] }
+    {
+        if let Some(event) = self.pending.take() {
+            return Some(event);
+        }
+        let (event, later) = next_told(&mut self.walk);
+        self.pending = later;
+        event
+    }
+}
+
 impl<'a> BlockEvents<'a> {
     /// All events of a block.
     pub(crate) fn of(bytes: &'a [u8], mode: Mode, block: &LogBlock) -> BlockEvents<'a>
-        requires few { length bytes.entry.now < 2 ^ 30 }
-        requires within { LiesWithin bytes.entry.now mode block.now }
+        requires few { length bytes.now < 2 ^ 30 }
+        requires within { LiesWithin bytes.now mode block.now }
         ensures may { MayGive result }
         ensures all { (b : SaidBlock) → IsAt bytes.entry.now mode block.now b
             → events_to_come result ≡ b.block.events }
@@ -127,10 +147,10 @@ impl<'a> BlockEvents<'a> {
         match mode {
             Mode::Recorder(version) => {
                 match BlockWalk::open(version, block.begin as u64, &bytes[block.begin..]) {
-                    Ok(walk) => BlockEvents::Recorder {
+                    Ok(walk) => BlockEvents::Recorder(RecorderEvents {
                         walk,
                         pending: None,
-                    },
+                    }),
                     Err(_) => BlockEvents::Done,
                 }
             }
@@ -146,14 +166,7 @@ impl<'a> BlockEvents<'a> {
         ensures ends { result ≡ None → events_to_come self.old ≡ [] }
     {
         match self {
-            BlockEvents::Recorder { walk, pending } => match pending.take() {
-                Some(event) => Some(event),
-                None => {
-                    let (event, later) = next_told(walk);
-                    *pending = later;
-                    event
-                }
-            },
+            BlockEvents::Recorder(events) => events.next(),
             BlockEvents::Basic(events) => events.next(),
             BlockEvents::Done => None,
         }

@@ -1,7 +1,7 @@
 //! What is said of an import.
 ghost use Rattle.std.specs.Prelude.{◌≡◌, option_map};
 ghost use Rattle.xray_io.specs.{Piece.{piece_text, right_aligned}, Text.{AddsText}};
-ghost use Rattle.runtime_log.specs.Facts.{count_line, counter_line, facts_text};
+ghost use Rattle.runtime_log.specs.Facts.{count_line, counter_line, fact_line, facts_text};
 
 use xray_io::{Piece, Printed, Sink, Text, WriteFault};
 
@@ -92,7 +92,14 @@ fn right(number: u64) -> Piece<'static>
 }
 
 /// Adds a piece and what it is.
-fn add_line<S: Sink>(text: &mut Text<S>, piece: Piece, what: &[u8]) -> Result<(), WriteFault> {
+fn add_line<'x, S: Sink>(
+    text: &mut Text<S>,
+    piece: Piece<'x>,
+    what: &'x [u8],
+) -> Result<(), WriteFault>
+    ensures { AddsText S.written S.faults S.along text.old text.new
+        (fact_line (piece_text piece) what.now) result }
+{
     text.pieces(&[
         piece,
         Piece::Bytes(b" "),

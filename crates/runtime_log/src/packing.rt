@@ -13,8 +13,8 @@ use crate::facts::Facts;
 use crate::notes::Notes;
 use crate::taken::LeftOut;
 use fdr_buffer::{Buffer, LARGEST_SIZE, a_segment_grows, one_event_fits};
-use fdr_file::{Header, write_file};
-use fdr_record::{Event, METADATA_BYTES, Rec, put_rec};
+use fdr_file::{Header, extents, write_file};
+use fdr_record::Event;
 use std::alloc::Global;
 use xray_io::{MemSink, NoMemory};
 
@@ -105,10 +105,8 @@ impl Packing {
         ensures others { (self.new.buffer ≡ self.old.buffer) × (self.new.notes ≡ self.old.notes) }
     {
         let bytes = self.buffer.bytes();
-        let mut extents = [0; METADATA_BYTES];
-        let size = bytes.len() as u64;
-        put_rec(&Rec::Extents { size }, &mut extents, 0);
-        self.file.extend_from_slice(&extents)?;
+        let head = extents(bytes.len() as u64);
+        self.file.extend_from_slice(&head)?;
         self.file.extend_from_slice(bytes)?;
         Ok(())
     }

@@ -1,16 +1,16 @@
 //! All blocks of a log, in the order of the file.
 ghost use Rattle.std.specs.Prelude.{◌≡◌, ◌⊎◌, ◌<◌, ◌≤◌, ◌+◌, ◌++◌, ◌^◌, ℕ, [], List, Ok, Err, IfErr, IfOk, OnOk, drop, length, option_to_list, take};
-ghost use Rattle.xray_io.specs.Rows.{InTurn};
 ghost use Rattle.fdr_file.specs.declared.fault.TraceFault.TheVariants.{NoMemory as NoRoom};
 ghost use Rattle.fdr_file.specs.declared.trace.Block.{Block as TheBlock};
 ghost use Rattle.fdr_file.specs.Scanning.{empty_block};
 ghost use Rattle.fdr_file.specs.Traces.{block_length};
 ghost use Rattle.runtime_log.specs.declared.fault.LogFault.TheVariants.{Trace};
-ghost use Rattle.runtime_log.specs.Logs.{BlockSoFar, LogBlock as SaidBlock, block_with, log_block_in, log_places, one_custom, one_typed, said_rows};
+ghost use Rattle.runtime_log.specs.Logs.{BlockSoFar, LogBlock as SaidBlock, block_with, log_block_in, one_custom, one_typed};
 ghost use Rattle.runtime_log.specs.BasicLogs.{BasicRun, runs_with, single_run, tagged_rows};
 ghost use Rattle.runtime_log.specs.private.Choices.{IsAt, Shows, counter_first};
+ghost use Rattle.runtime_log.specs.private.Records.{counter_of};
 ghost use Rattle.runtime_log.specs.private.Headers.{header_for, mode_of};
-ghost use Rattle.runtime_log.specs.private.Readings.{AreRead, AreRuns, BelongsAt, HasRead, IsRun, RecordsRead, blocks_said};
+ghost use Rattle.runtime_log.specs.private.Readings.{AreRead, AreRuns, BelongsAt, HasRead, IsRun, RecordsRead, blocks_said, walk_reads};
 
 use crate::basic::{BasicRec, Owner, RECORD_BYTES, may_follow, record_in, same_owner};
 use crate::blocks::{LogBlock, LogBlocks, Mode};
@@ -99,24 +99,31 @@ fn record_bytes(rest: &[u8]) -> &[u8]
     }
 }
 
+/// The counter of a record's event, if it is a passing.
+fn counter_in(rec: BasicRec) -> Option<u64>
+    ensures { result ≡ counter_of rec }
+{
+    match rec {
+        BasicRec::Passed { event, .. } => Some(event.tsc),
+        BasicRec::Argument { .. } => None,
+    }
+}
+
 /// A block of one record of a basic log, which is at a place.
 fn single_record(at: usize, rec: BasicRec) -> LogBlock
     requires few { at + 32 < 2 ^ 64 }
     ensures run { (bytes : List ℕ) → BelongsAt bytes at rec → IsRun bytes result (single_run (at, drop at bytes) rec) }
     ensures place { (result.begin ≡ at) × (result.end ≡ at + 32) }
+    ensures first { result.first ≡ counter_of rec }
 {
     let owner = rec.owner();
-    let first = match rec {
-        BasicRec::Passed { event, .. } => Some(event.tsc),
-        BasicRec::Argument { .. } => None,
-    };
     LogBlock {
         begin: at,
         end: at + RECORD_BYTES,
         thread: owner.thread,
         pid: owner.pid,
         wall: Wall { secs: 0, micros: 0 },
-        first,
+        first: counter_in(rec),
     }
 }
 
@@ -196,15 +203,14 @@ impl LogBlocks {
     fn read_records(&mut self, mut walk: BlockWalk, block: &mut LogBlock) -> Result<(), TraceFault>
         requires few { walk.at + length walk.rest.now < 2 ^ 32 }
         requires counts { (self.old.custom ≤ walk.at) × (self.old.typed ≤ walk.at) }
-        ensures reads { (so : BlockSoFar) → walk.stage ≡ so.stage → Shows block.old so.block
-            → OnOk result (RecordsRead self.old self.new so block.new
-            (InTurn (said_rows walk.version) so (log_places walk.version walk.at walk.rest.now))) }
-        ensures refuses { (so : BlockSoFar) → walk.stage ≡ so.stage → IfErr result (λ fault.
-            InTurn (said_rows walk.version) so (log_places walk.version walk.at walk.rest.now) ≡ Err fault) }
-        ensures counts { OnOk result ((self.new.custom ≤ walk.at + length walk.rest.now)
-            × (self.new.typed ≤ walk.at + length walk.rest.now)) }
+        ensures reads { (so : BlockSoFar) → walk.entry.stage ≡ so.stage → Shows block.old so.block
+            → OnOk result (RecordsRead self.old self.new so block.new (walk_reads walk.entry so)) }
+        ensures refuses { (so : BlockSoFar) → walk.entry.stage ≡ so.stage
+            → IfErr result (λ fault. walk_reads walk.entry so ≡ Err fault) }
+        ensures counts { OnOk result ((self.new.custom ≤ walk.entry.at + length walk.entry.rest.now)
+            × (self.new.typed ≤ walk.entry.at + length walk.entry.rest.now)) }
         ensures places { OnOk result ((block.new.begin ≡ block.old.begin)
-            × (block.new.end ≡ walk.at + length walk.rest.now)) }
+            × (block.new.end ≡ walk.entry.at + length walk.entry.rest.now)) }
         ensures others { (self.new.blocks ≡ self.old.blocks) × (self.new.mode ≡ self.old.mode) }
     {
         'records: while walk.left() > 0 {
@@ -249,7 +255,7 @@ impl LogBlocks {
         ensures mode { self.new.mode ≡ self.old.mode }
     {
         let mut at = HEADER_BYTES;
-        'blocks: while at < bytes.len() {
+        'reading: while at < bytes.len() {
             let block = match self.read_block(version, bytes, at) {
                 Ok(block) => block,
                 Err(fault) => return Err(LogFault::Trace(fault)),
@@ -264,8 +270,8 @@ impl LogBlocks {
     /// of the same thread and process.
     fn add_record(&mut self, at: usize, rec: BasicRec) -> Result<(), NoMemory>
         requires few { at + 32 < 2 ^ 64 }
-        ensures adds { (bytes : List ℕ) (runs : List BasicRun) → AreRuns bytes 32 at runs self.old.blocks.items
-            → BelongsAt bytes at rec → OnOk result (AreRuns bytes 32 (at + 32)
+        ensures adds { (bytes : List ℕ) (runs : List BasicRun) → AreRuns bytes at runs self.old.blocks.items
+            → BelongsAt bytes at rec → OnOk result (AreRuns bytes (at + 32)
             (runs_with runs (at, drop at bytes) rec) self.new.blocks.items) }
         ensures others { (self.new.custom ≡ self.old.custom) × (self.new.typed ≡ self.old.typed)
             × (self.new.mode ≡ self.old.mode) }
@@ -304,6 +310,19 @@ impl LogBlocks {
         Ok(())
     }
 
+    /// The blocks of a log of either mode.
+    fn read_all(&mut self, bytes: &[u8]) -> Result<(), LogFault>
+        requires few { (32 ≤ length bytes.now) × (length bytes.now < 2 ^ 32) }
+        requires none { (self.old.blocks.items ≡ []) × (self.old.custom ≡ 0) × (self.old.typed ≡ 0) }
+        ensures reads { HasRead bytes.now self.new result }
+        ensures mode { self.new.mode ≡ self.old.mode }
+    {
+        match self.mode {
+            Mode::Recorder(version) => self.read_recorder(version, bytes),
+            Mode::Basic => self.read_basic(bytes),
+        }
+    }
+
     /// All blocks of a log of this mode.
     pub(crate) fn read(alloc: Global, bytes: &[u8], mode: Mode) -> Result<LogBlocks, LogFault>
         requires few { (32 ≤ length bytes.now) × (length bytes.now < 2 ^ 32) }
@@ -313,10 +332,7 @@ impl LogBlocks {
         ensures refuses { IfErr result (λ fault. (fault ≡ Trace NoRoom) ⊎ (blocks_said mode bytes.now ≡ Err fault)) }
     {
         let mut blocks = LogBlocks::new(alloc, mode);
-        match mode {
-            Mode::Recorder(version) => blocks.read_recorder(version, bytes)?,
-            Mode::Basic => blocks.read_basic(bytes)?,
-        }
+        blocks.read_all(bytes)?;
         Ok(blocks)
     }
 }

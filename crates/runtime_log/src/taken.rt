@@ -1,6 +1,6 @@
 //! The blocks that are taken, in their order.
 ghost use Rattle.std.specs.{Cmp.Lexicographic.{slice_cmp}, Ordering.{nat_cmp}};
-ghost use Rattle.std.specs.Prelude.{◌≡◌, ◌||◌, ℕ, All, IfOk, List, OnOk, length, map, not};
+ghost use Rattle.std.specs.Prelude.{◌≡◌, ◌≤◌, ◌||◌, ℕ, All, IfOk, List, OnOk, length, map, not};
 ghost use Rattle.std.specs.{Option.{unwrap_or}, Str.{bytes_eq}};
 ghost use Rattle.runtime_log.specs.Logs.{LogBlock as SaidBlock};
 ghost use Rattle.runtime_log.specs.Taken.{AreTaken, is_among, undoubled};
@@ -23,7 +23,7 @@ pub(crate) struct LeftOut {
 
 /// The bytes of a block, without its extents.
 fn content<'a>(bytes: &'a [u8], mode: Mode, block: &LogBlock) -> &'a [u8]
-    requires { LiesWithin bytes.entry.now mode block.now }
+    requires { LiesWithin bytes.now mode block.now }
     ensures { result.now ≡ content_at bytes.entry.now mode block.now }
 {
     let begin = block.begin + mode.head_bytes();
@@ -48,12 +48,13 @@ fn first_ones(
     blocks: &[LogBlock],
 ) -> Result<Vec<LogBlock>, NoMemory>
     requires within { All (LiesWithin bytes.now mode) blocks.now }
-    ensures { (said : List SaidBlock) → AreAt bytes.now mode blocks.now said
+    ensures keeps { (said : List SaidBlock) → AreAt bytes.now mode blocks.now said
         → IfOk result (λ kept. AreAt bytes.now mode kept.items (undoubled said)) }
+    ensures few { IfOk result (λ kept. length kept.items ≤ length blocks.now) }
 {
     let mut seen = BTreeSet::new(alloc);
     let mut kept = Vec::new(alloc);
-    'blocks: for block in blocks {
+    'keeping: for block in blocks {
         if add_content(&mut seen, content(bytes, mode, block))? {
             kept.push(*block)?;
         }

@@ -111,7 +111,7 @@ impl<'a> BlockWalk<'a> {
         at: u64,
         bytes: &'a [u8],
     ) -> Result<BlockWalk<'a>, TraceFault>
-        requires few { at + length bytes.entry.now < 2 ^ 32 }
+        requires few { at + length bytes.now < 2 ^ 32 }
         ensures { OpensTo version at bytes.entry.now result }
     {
         let size = block_size(version, at, bytes)?;

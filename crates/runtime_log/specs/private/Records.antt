@@ -1,6 +1,8 @@
 -- The records of a run of the basic mode, as they are read again.
-use Rattle.std.specs.Prelude.{ℕ, zero, suc, ◌/◌, List, [], ◌∷◌, length, drop, take, Result, Ok, Err}
+use Rattle.std.specs.Prelude.{ℕ, zero, suc, ◌/◌, List, [], ◌∷◌, length, drop, take, Option, Some, None, Result, Ok, Err}
+use Rattle.fdr_record.specs.declared.event.Event.{Event}
 use Rattle.runtime_log.specs.declared.basic.BasicRec.{BasicRec}
+use Rattle.runtime_log.specs.declared.basic.BasicRec.TheVariants.{Passed, Argument}
 use Rattle.runtime_log.specs.declared.fault.LogFault.{LogFault}
 use Rattle.runtime_log.specs.BasicLogs.{basic_length, tagged_rows}
 
@@ -17,3 +19,8 @@ records_read (suc n) bytes = record_before (tagged_rows 0 (take basic_length byt
 -- all of them
 abbrev pub records_in : List ℕ → List BasicRec
 records_in bytes = records_read (length bytes / basic_length) bytes
+
+-- the counter of the event of a record, if it has one
+abbrev pub counter_of : BasicRec → Option ℕ
+counter_of (Passed owner event) = Some event.tsc
+counter_of (Argument owner func value) = None

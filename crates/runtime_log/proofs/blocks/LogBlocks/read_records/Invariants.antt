@@ -1,8 +1,7 @@
 use Rattle.std.proofs.Common.{◌≡◌, ◌+◌, ◌-◌, ◌≤◌, length}
 use Rattle.runtime_log.specs.Logs.{BlockSoFar}
-use Rattle.runtime_log.specs.private.Choices.{Shows}
 use Rattle.runtime_log.specs.private.Readings.{ReadsOn}
-use Rattle.runtime_log.proofs.reading.LogBlocks.read_records.Given as goal
+use Rattle.runtime_log.proofs.blocks.LogBlocks.read_records.Given as goal
 
 -- the records so far were read
 abbrev pub invariant-records : goal.invariant-records
@@ -10,8 +9,7 @@ invariant-records l = record {
   end : l.walk.at + length l.walk.rest.now ≡ l.initial.walk.at + length l.initial.walk.rest.now;
   version : l.walk.version ≡ l.initial.walk.version;
   counts : (l.self.custom ≤ l.walk.at) × (l.self.typed ≤ l.walk.at);
-  reads : (so : BlockSoFar) → l.initial.walk.stage ≡ so.stage → ReadsOn so l.fn.self l.initial.walk l.self l.walk;
-  shows : (so : BlockSoFar) (stage : l.initial.walk.stage ≡ so.stage) → Shows l.fn.block so.block → Shows l.block (reads so stage).now.block;
+  reads : (so : BlockSoFar) → l.initial.walk.stage ≡ so.stage → ReadsOn so l.fn.self l.fn.block l.initial.walk l.self l.block l.walk;
   begin : l.block.begin ≡ l.fn.block.begin;
   others : (l.self.blocks ≡ l.fn.self.blocks) × (l.self.mode ≡ l.fn.self.mode);
 }

@@ -1,6 +1,6 @@
 use Rattle.std.proofs.Common.{◌≡◌, ◌-◌, ◌≤◌, length}
 use Rattle.runtime_log.specs.private.Readings.{RunsRead}
-use Rattle.runtime_log.proofs.reading.LogBlocks.read_basic.Given as goal
+use Rattle.runtime_log.proofs.blocks.LogBlocks.read_basic.Given as goal
 
 -- the records so far were read
 abbrev pub invariant-records : goal.invariant-records

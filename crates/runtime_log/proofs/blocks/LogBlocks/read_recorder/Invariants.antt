@@ -6,16 +6,16 @@ use Rattle.fdr_file.specs.Traces.{block_length}
 use Rattle.runtime_log.specs.Logs.{LogBlock, log_block_rows, recorder_blocks}
 use Rattle.runtime_log.specs.private.Choices.{AreAt, AreInFileOrder}
 use Rattle.runtime_log.specs.private.Readings.{BlocksRead}
-use Rattle.runtime_log.proofs.reading.LogBlocks.read_recorder.Given as goal
+use Rattle.runtime_log.proofs.blocks.LogBlocks.read_recorder.Given as goal
 
 -- the blocks so far were read
-abbrev pub invariant-blocks : goal.invariant-blocks
-invariant-blocks l = record {
+abbrev pub invariant-reading : goal.invariant-reading
+invariant-reading l = record {
   within : l.at ≤ length l.bytes;
   reads : BlocksRead l.version l.bytes l.at l.self;
   counts : (l.self.custom ≤ l.at) × (l.self.typed ≤ l.at);
   mode : l.self.mode ≡ l.fn.self.mode;
 }
 
-abbrev pub decreases-blocks : goal.decreases-blocks
-decreases-blocks l = length l.bytes - l.at
+abbrev pub decreases-reading : goal.decreases-reading
+decreases-reading l = length l.bytes - l.at
