@@ -7,6 +7,7 @@ from model.trace_model import trace_of
 
 from .audit_damages import DAMAGES, Left, Unfit
 from .random_images import assembled_draft, calling_draft, random_image, units_draft
+from .random_logs import random_log as random_runtime_log
 from .random_maps import random_map
 from .random_scripts import live_script, random_schedule, random_script
 from .random_texts import small_text
@@ -260,6 +261,8 @@ def random_contents(draw, command, threads):
             return [random_log(draw) if command == "convert" and draw.random() < 0.3 else random_trace(draw), *images]
         case "fdr-dump":
             return [random_trace(draw)]
+        case "import":
+            return [random_runtime_log(draw)]
     return [random_image(draw, KINDS[command], 0.6)]
 
 

@@ -23,6 +23,7 @@ NAMES = {
     "stack": [b"t", b"i"],
     "convert": [b"t", b"i"],
     "fdr-dump": [b"t"],
+    "import": [b"t", b"new"],
     "check": [b"i", b"s", b"t", b"a"],
     "soak": [b"1"],
     "profile": [b"i", b"s"],

@@ -12,7 +12,7 @@ import dataclasses
 import posixpath
 import re
 
-from . import check_model, map_model, profile_model, run_model, soak_model
+from . import check_model, import_model, map_model, profile_model, run_model, soak_model
 from .asm_model import assembled
 from .forms_model import basic_bytes, basic_trace, dump_text, events_text
 from .image_container import RELATIVE_VERSION
@@ -147,12 +147,13 @@ FORMS = {
         {"format": Choice("yaml", "trace-event", "basic"), "input": Choice("fdr", "basic"), "map": FileName()},
     ),
     "fdr-dump": Form(range(1, 2), (), {}),
+    "import": Form(range(2, 3), (1,), {}),
     "check": Form(range(4, 5), (), {}),
     "soak": Form(range(1, 2), (), {}, {0: Numbers(0, LARGEST_64, None)}),
     "profile": Form(range(2, 3), (), PROFILE_OPTIONS),
 }
 # Commands that a program may lack.
-LATER = ("sim", "run", "account", "stack", "convert", "fdr-dump", "check", "soak", "profile")
+LATER = ("sim", "run", "account", "stack", "convert", "fdr-dump", "check", "import", "soak", "profile")
 # `sim` of a program that writes no traces: it only prints the state texts.
 REPLAY = Form(range(3, 4), (), RUN_OPTIONS)
 
@@ -418,6 +419,10 @@ def results(command, names, options, world):
             return {}, check(world, names)
         case "fdr-dump":
             return {}, taken(world, names[0], "trace", TRACE_LIMIT, dump_text)
+        case "import":
+            log_name, trace_name = names
+            log = taken(world, log_name, "log", TRACE_LIMIT, import_model.logged)
+            return {trace_name: file_bytes(import_model.trace_made(log))}, import_model.facts(log)
         case "soak":
             return {}, soak_model.summary(names[0])
         case "profile":
