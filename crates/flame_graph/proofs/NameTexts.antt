@@ -1,10 +1,10 @@
 -- What a picture shows of a name is UTF-8.
-use Rattle.std.proofs.Common.{◌≡◌, ◌≤◌, ◌<◌, ◌+◌, ◌-◌, ◌++◌, ◌∷◌, ◌⊎◌, ◌==◌, ◌&&◌, ℕ, zero, suc, Bool, true, false, cond, inl, inr, List, [], length, take, refl, sym, ap, arith, subst, leb}
+use Rattle.std.proofs.Common.{◌≡◌, ◌≤◌, ◌<◌, ◌-◌, ◌∷◌, ◌⊎◌, ◌==◌, ◌&&◌, ℕ, zero, suc, Bool, true, false, inl, inr, List, [], length, take, refl, arith}
 use Rattle.std.specs.Prelude.{All, codes, nat_le, slice_index, if◌then◌else◌}
 use Rattle.std.specs.Char.{encode_utf8}
-use Rattle.std.specs.List.{flat_map}
 use Rattle.std.specs.Str.{IsUtf8, chars, is_utf8}
-use Rattle.std.proofs.lemmas.Bool.{and_parts, cond-false, cond-true, eqb-false, leb-true}
+use Rattle.std.proofs.lemmas.Bool.{and_parts, eqb-false, leb-true}
+use Rattle.std.proofs.lemmas.List.Elements.{All-cons, All-head, All-nil, All-tail, All-take}
 use Rattle.std.proofs.lemmas.Str.{IsUtf8-append, IsUtf8-from_ascii, IsUtf8-from_is_utf8, IsUtf8-nil}
 use Rattle.flame_graph.specs.Characters.{begins_with, characters, characters_after, first_size, is_text}
 use Rattle.flame_graph.specs.FlameText.{cut_text, is_outside, replacement, shortened, xml_byte, xml_character, xml_characters, xml_text, xml_wide}
@@ -34,14 +34,11 @@ first_is b bytes =
     go false false false false p q r s = inr refl
 
 all_after : (n : ℕ) (bytes : List ℕ) → All IsCharacter (characters_after n bytes)
-all_after n [] = tt
-all_after zero (b ∷ bytes) = (first_is b bytes, all_after (first_size (b ∷ bytes) - 1) bytes)
+all_after n [] = All-nil IsCharacter
+all_after zero (b ∷ bytes) =
+    All-cons IsCharacter (take (first_size (b ∷ bytes)) (b ∷ bytes)) (characters_after (first_size (b ∷ bytes) - 1) bytes) (first_is b bytes)
+    (all_after (first_size (b ∷ bytes) - 1) bytes)
 all_after (suc n) (b ∷ bytes) = all_after n bytes
-
-first_of : (n : ℕ) (cs : List (List ℕ)) → All IsCharacter cs → All IsCharacter (take n cs)
-first_of zero cs all = tt
-first_of (suc n) [] all = tt
-first_of (suc n) (c ∷ cs) all = (all.0, first_of n cs all.1)
 
 -- ---- their texts
 
@@ -87,7 +84,7 @@ of_byte b = go (b == 38) (b == 60) (b == 62) (b == 34) (nat_le 32 b && nat_le b 
     go false false false true plain is = mark
     go false false false false true is =
         let most : b ≤ 126 = leb-true b 126 (and_parts _ _ is).1 in
-        one b (omega arith)
+        one b (omega (arith, most))
     go false false false false false is = replaced
 
 of_wide : (c : List ℕ) → is_text c ≡ true → IsUtf8 (xml_wide c)
@@ -107,7 +104,9 @@ of_character c is = go (length c == 1) refl is
 
 of_characters : (cs : List (List ℕ)) → All IsCharacter cs → IsUtf8 (xml_characters cs)
 of_characters [] all = IsUtf8-nil
-of_characters (c ∷ cs) all = IsUtf8-append (xml_character c) (xml_characters cs) (of_character c all.0) (of_characters cs all.1)
+of_characters (c ∷ cs) all =
+    IsUtf8-append (xml_character c) (xml_characters cs)
+    (of_character c (All-head IsCharacter c cs all)) (of_characters cs (All-tail IsCharacter c cs all))
 
 -- ---- names
 
@@ -117,7 +116,7 @@ of_name name = of_characters (characters name) (all_after 0 name)
 of_cut : (most : ℕ) (name : List ℕ) → IsUtf8 (cut_text most name)
 of_cut most name =
     IsUtf8-append (xml_characters (take most (characters name))) (codes "..")
-    (of_characters (take most (characters name)) (first_of most (characters name) (all_after 0 name))) dots
+    (of_characters (take most (characters name)) (All-take IsCharacter most (characters name) (all_after 0 name))) dots
 
 of_label : (room : ℕ) (name : List ℕ) → IsUtf8 (shortened room name)
 of_label room name = go (nat_le (length (characters name)) room)

@@ -57,8 +57,12 @@ one_text f given x =
 
 -- of the first n, one more is given, and the others are to come
 one_of_first : (given later : List (List ℕ)) (x : List ℕ) (m : ℕ) → take (length given + suc m) (given ++ x ∷ later) ≡ (given ++ x ∷ []) ++ take m later
-one_of_first [] later x m = refl
-one_of_first (y ∷ given) later x m = ap (λ (xs : List (List ℕ)). y ∷ xs) (one_of_first given later x m)
+one_of_first [] later x m =
+    let size : 0 + suc m ≡ suc m = omega arith in
+    ap (λ (k : ℕ). take k (x ∷ later)) size
+one_of_first (y ∷ given) later x m =
+    let size : length (y ∷ given) + suc m ≡ suc (length given + suc m) = omega arith in
+    ap (λ (k : ℕ). take k (y ∷ given ++ x ∷ later)) size ∙ ap (λ (xs : List (List ℕ)). y ∷ xs) (one_of_first given later x m)
 
 -- their texts, up to that of the one more, are a prefix of all
 pub first_texts : (f : List ℕ → List ℕ) (all given left later : List (List ℕ)) (x : List ℕ) (n : ℕ) → all ≡ given ++ left → left ≡ x ∷ later → length given < n
