@@ -31,7 +31,7 @@ NotesEvent thread event old new =
     (events : List ThreadEvent) (e : ThreadEvent) → HasNoted events old → e.thread ≡ thread → e.event ≡ event → HasNoted (events ++ e ∷ []) new
 
 -- how many blocks were taken is no matter of their events
-abbrev counted : Notes → ℕ → Notes
+abbrev pub counted : Notes → ℕ → Notes
 counted old n = record old { facts = record old.facts { blocks = n } }
 
 noted_again : (events : List ThreadEvent) (old : Notes) (n : ℕ) → HasNoted events old → HasNoted events (counted old n)
@@ -102,8 +102,8 @@ adds_more placed old mid new all left rest event adds next fills notes same =
 pub packed_more : (header : Header) (said taken : List LogBlock) (b : LogBlock) (placed : Placed) (old mid new : Packing) (all left : BlockEvents)
     → HasPacked header said taken old → Shows placed b.block → events_to_come all ≡ b.block.events → Adds placed old all left mid → events_to_come left ≡ []
     → AreFew mid.notes.facts → mid.buffer.size ≡ LARGEST_SIZE
-    → new.file.items ≡ mid.file.items ++ block_bytes mid.buffer → new.buffer ≡ mid.buffer → new.notes ≡ mid.notes → HasPacked header said (taken ++ b ∷ []) new
-packed_more header said taken b placed old mid new all left packed shows is adds none few size file buffer notes =
+    → new.buffer ≡ mid.buffer → new.notes ≡ mid.notes → new.file.items ≡ mid.file.items ++ block_bytes mid.buffer → HasPacked header said (taken ++ b ∷ []) new
+packed_more header said taken b placed old mid new all left packed shows is adds none few size buffer notes file =
     let done_is : adds.done ≡ b.block.events = sym (append-nil adds.done) ∙ ap (λ (es : List Event). adds.done ++ es) (sym none) ∙ sym adds.parts ∙ is in
     let written = fills_all placed old.file.items adds.done mid new.file.items adds.fills file in
     let noted = adds.notes (taken_events taken) b.block.pid packed.notes in

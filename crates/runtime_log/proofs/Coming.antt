@@ -1,5 +1,6 @@
 -- The events that are still to come of a block, after one more record.
-use Rattle.std.proofs.Common.{◌≡◌, ℕ, zero, suc, ◌+◌, ◌*◌, ◌/◌, ◌<◌, ◌≤◌, List, [], ◌∷◌, ◌++◌, length, drop, take, Option, Some, None, Result, Ok, Err, refl, sym, ap, ◌∙◌, arith}
+use Rattle.std.proofs.Common.{◌≡◌, ℕ, zero, suc, ◌+◌, ◌*◌, ◌/◌, ◌<◌, ◌≤◌, false, List, [], ◌∷◌, ◌++◌, length, drop, take, Option, Some, None, Result, Ok, Err, refl, sym, ap, ◌∙◌, arith}
+use Rattle.std.specs.Prelude.{IfSome, MatchOption, is_some, option_to_list}
 use Rattle.fdr_record.specs.declared.event.Event.{Event}
 use Rattle.fdr_file.specs.declared.fault.TraceFault.{TraceFault}
 use Rattle.fdr_file.specs.declared.stage.Stage.{Stage}
@@ -31,3 +32,17 @@ walk_stop walk fault some is = events_first walk.version walk.stage walk.at walk
 
 pub walk_end : (walk : BlockWalk) → length walk.rest.now ≡ 0 → walk_events walk ≡ []
 walk_end walk none = events_none walk.version walk.stage walk.at walk.rest.now none
+
+-- a record that settles no event
+pub settles_none : (first later : Option Event) → is_some first ≡ false → (first ≡ None → later ≡ None) → option_to_list first ++ option_to_list later ≡ []
+settles_none None later none ends = ap option_to_list (ends refl)
+settles_none (Some event) later none ends = absurd cc
+
+-- the first of the events, if there is one
+pub gives_some : (first : Option Event) (events later : List Event) → events ≡ option_to_list first ++ later → IfSome first (λ event. events ≡ event ∷ later)
+gives_some None events later is = tt
+gives_some (Some event) events later is = is
+
+pub match_some : (first : Option Event) (none : Type 0) (some : Event → Type 0) → MatchOption first none some → IfSome first some
+match_some None none some is = tt
+match_some (Some event) none some is = is

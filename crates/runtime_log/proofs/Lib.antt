@@ -19,4 +19,7 @@ pub mod ReadingBack
 pub mod ItselfImported
 pub mod NextRecords
 pub mod Adding
+pub mod FactTexts
+pub mod Importing
 pub mod RunLists
+pub mod GivenEvents

@@ -374,6 +374,16 @@ no_blocks at bytes before all said none ends =
       told = sym (ends_last Due before at bytes all none ends).1 ∙ sym (append-nil before);
     }
 
+-- a block, and those after it
+one_more : (at : ℕ) (bytes : List ℕ) (said more : List LogBlock) (b : LogBlock) → 0 < length bytes → log_block_in Three (at, bytes) ≡ Ok b
+    → InTurn (log_block_rows Three) (said ++ b ∷ []) (starts block_length 0 (at + block_length bytes) (drop (block_length bytes) bytes)) ≡ Ok ((said ++ b ∷ []) ++ more)
+    → InTurn (log_block_rows Three) said (starts block_length 0 at bytes) ≡ Ok (said ++ b ∷ more)
+one_more at bytes said more b some is rest =
+    block_first Three said at bytes some
+    ∙ ap (λ (x : Result LogBlock TraceFault). Onward Three (x >>= λ s. Ok (said ++ s ∷ [])) (at + block_length bytes) (drop (block_length bytes) bytes)) is
+    ∙ rest
+    ∙ ap (λ (bs : List LogBlock). let x : Result (List LogBlock) TraceFault = Ok bs in x) (append_assoc said (b ∷ []) more)
+
 blocks_follow : (n at : ℕ) (bytes : List ℕ) (before all : List Block) (said : List LogBlock) → length bytes ≤ n → Ends Due before at bytes all → BlocksFollow at bytes before all said
 blocks_follow zero at bytes before all said few ends =
     let none : length bytes ≡ 0 = omega arith in
@@ -403,11 +413,7 @@ blocks_follow (suc n) at bytes before all said few ends =
         (subst (λ (xs : List ℕ). Ends Due (before ++ f.last.block ∷ []) (at + 16 + size) xs all) rest f.left) in
         let g = again (at + block_length bytes) (drop (block_length bytes) bytes) (before ++ f.last.block ∷ []) (said ++ b ∷ []) (omega (arith, few, some, length-drop (block_length bytes) bytes)) left in record {
           more = b ∷ g.more;
-          reads =
-              block_first Three said at bytes some
-              ∙ ap (λ (x : Result LogBlock TraceFault). Onward Three (x >>= λ s. Ok (said ++ s ∷ [])) (at + block_length bytes) (drop (block_length bytes) bytes)) is
-              ∙ g.reads
-              ∙ ap (λ (bs : List LogBlock). let x : Result (List LogBlock) TraceFault = Ok bs in x) (append_assoc said (b ∷ []) g.more);
+          reads = one_more at bytes said g.more b some is g.reads;
           told = g.told ∙ append_assoc before (f.last.block ∷ []) (map (λ (x : LogBlock). x.block) g.more);
         }
 

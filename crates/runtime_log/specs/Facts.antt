@@ -57,22 +57,34 @@ facts_of blocks taken =
 
 -- ---- as they are printed
 
--- a fact is a line: a number at the right end of twenty places, and what it is
-abbrev pub fact_line : (number : List ℕ) → (what : List ℕ) → List ℕ
-fact_line number what = number ++ codes " " ++ what ++ codes "\n"
+-- a number at the right end of twenty places; a dash (45) if there is none
+abbrev pub right_or_dash : Option ℕ → List ℕ
+right_or_dash number = option_map_or (λ n. right_aligned n 20) number (replicate 19 32 ++ 45 ∷ [])
+
+-- a line: a number, and what it is
+unfoldable pub counter_line : Option ℕ → List ℕ → List ℕ
+counter_line number what = right_or_dash number ++ codes " " ++ what ++ codes "\n"
 
 abbrev pub count_line : ℕ → List ℕ → List ℕ
-count_line count what = fact_line (right_aligned count 20) what
+count_line count what = counter_line (Some count) what
 
--- a counter; if there are no events, a dash (45) stands in its place
-abbrev pub counter_line : Option ℕ → List ℕ → List ℕ
-counter_line counter what = fact_line (option_map_or (λ n. right_aligned n 20) counter (replicate 19 32 ++ 45 ∷ [])) what
-
-abbrev pub facts_text : Facts → List ℕ
-facts_text facts =
+-- what was taken
+abbrev pub taken_text : Facts → List ℕ
+taken_text facts =
     count_line facts.blocks (codes "blocks") ++ count_line facts.threads (codes "threads") ++ count_line facts.events (codes "events")
     ++ count_line facts.arguments (codes "entries with arguments")
-    ++ count_line facts.custom (codes "custom events left out") ++ count_line facts.typed (codes "typed events left out")
+
+-- what was left out
+abbrev pub left_out_text : Facts → List ℕ
+left_out_text facts =
+    count_line facts.custom (codes "custom events left out") ++ count_line facts.typed (codes "typed events left out")
     ++ count_line facts.doubled (codes "doubled blocks left out") ++ count_line facts.empty (codes "empty blocks left out")
-    ++ counter_line facts.first (codes "first counter") ++ counter_line facts.last (codes "last counter")
+
+-- the counters of the events
+abbrev pub counters_text : Facts → List ℕ
+counters_text facts =
+    counter_line facts.first (codes "first counter") ++ counter_line facts.last (codes "last counter")
     ++ count_line facts.back (codes "threads whose counter goes back")
+
+abbrev pub facts_text : Facts → List ℕ
+facts_text facts = taken_text facts ++ left_out_text facts ++ counters_text facts

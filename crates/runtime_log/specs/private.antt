@@ -7,3 +7,4 @@ pub mod Readings
 pub mod Coming
 pub mod Notes
 pub mod Packings
+pub mod FactLines

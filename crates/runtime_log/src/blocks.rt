@@ -1,5 +1,5 @@
 //! The blocks of a log, by their places.
-ghost use Rattle.std.specs.Prelude.{◌≡◌, ◌<◌, ◌+◌, ◌++◌, ◌^◌, All, None, [], length, option_to_list};
+ghost use Rattle.std.specs.Prelude.{◌≡◌, ◌<◌, ◌+◌, ◌++◌, ◌^◌, All, IfSome, None, [], ◌∷◌, length, option_to_list};
 ghost use Rattle.fdr_record.specs.Recordable.{IsRecordable};
 ghost use Rattle.runtime_log.specs.Logs.{LogBlock as SaidBlock};
 ghost use Rattle.runtime_log.specs.private.{Choices.{IsAt, LiesWithin, head_length}, Coming.{MayGive, events_to_come, recorder_events}, Walks.{settled, walk_events}};
@@ -162,7 +162,7 @@ impl<'a> BlockEvents<'a> {
     pub(crate) fn next(&mut self) -> Option<Event>
         requires may { MayGive self.old }
         ensures may { MayGive self.new }
-        ensures gives { events_to_come self.old ≡ option_to_list result ++ events_to_come self.new }
+        ensures gives { IfSome result (λ event. events_to_come self.old ≡ event ∷ events_to_come self.new) }
         ensures ends { result ≡ None → events_to_come self.old ≡ [] }
     {
         match self {

@@ -1,9 +1,10 @@
 //! What is said of an import.
-ghost use Rattle.std.specs.Prelude.{◌≡◌, option_map};
-ghost use Rattle.xray_io.specs.{Piece.{piece_text, right_aligned}, Text.{AddsText}};
-ghost use Rattle.runtime_log.specs.Facts.{count_line, counter_line, fact_line, facts_text};
+ghost use Rattle.std.specs.{Prelude.{◌≡◌}, List.{flat_map}};
+ghost use Rattle.xray_io.specs.Piece.{piece_text};
+ghost use Rattle.runtime_log.specs.Facts.{counters_text, left_out_text, right_or_dash, taken_text};
+ghost use Rattle.runtime_log.specs.private.FactLines.{line_text};
 
-use xray_io::{Piece, Printed, Sink, Text, WriteFault};
+use xray_io::{Each, Piece, Printed, Sink, Text, WriteFault};
 
 /// The width of a number. A longer one is printed whole.
 const WIDTH: usize = 20;
@@ -44,66 +45,81 @@ impl Printed for Facts {
     ghost ready = { λ _. ⊤ };
 
     fn add_to<S: Sink>(&self, to: &mut Text<S>) -> Result<(), WriteFault> {
-        add_count(to, self.blocks, b"blocks")?;
-        add_count(to, self.threads, b"threads")?;
-        add_count(to, self.events, b"events")?;
-        add_count(to, self.arguments, b"entries with arguments")?;
-        add_count(to, self.custom, b"custom events left out")?;
-        add_count(to, self.typed, b"typed events left out")?;
-        add_count(to, self.doubled, b"doubled blocks left out")?;
-        add_count(to, self.empty, b"empty blocks left out")?;
-        add_counter(to, self.first, b"first counter")?;
-        add_counter(to, self.last, b"last counter")?;
-        add_count(to, self.back, b"threads whose counter goes back")
+        Each(&self.taken()).add_to(to)?;
+        Each(&self.left_out()).add_to(to)?;
+        Each(&self.counters()).add_to(to)
     }
 }
 
-/// Adds a number and what it is.
-fn add_count<S: Sink>(text: &mut Text<S>, count: u64, what: &[u8]) -> Result<(), WriteFault>
-    ensures { AddsText S.written S.faults S.along text.old text.new
-        (count_line count what.now) result }
-{
-    add_line(text, right(count), what)
-}
+impl Facts {
+    /// What was taken.
+    fn taken(&self) -> [Line; 4]
+        ensures { flat_map line_text result ≡ taken_text self.now }
+    {
+        [
+            Line(Some(self.blocks), b"blocks"),
+            Line(Some(self.threads), b"threads"),
+            Line(Some(self.events), b"events"),
+            Line(Some(self.arguments), b"entries with arguments"),
+        ]
+    }
 
-/// Adds a counter and what it is, or a dash in place of the counter.
-fn add_counter<S: Sink>(
-    text: &mut Text<S>,
-    counter: Option<u64>,
-    what: &[u8],
-) -> Result<(), WriteFault>
-    ensures { AddsText S.written S.faults S.along text.old text.new
-        (counter_line counter what.now) result }
-{
-    match counter {
-        Some(counter) => add_line(text, right(counter), what),
-        None => add_line(text, Piece::Bytes(b"                   -"), what),
+    /// What was left out.
+    fn left_out(&self) -> [Line; 4]
+        ensures { flat_map line_text result ≡ left_out_text self.now }
+    {
+        [
+            Line(Some(self.custom), b"custom events left out"),
+            Line(Some(self.typed), b"typed events left out"),
+            Line(Some(self.doubled), b"doubled blocks left out"),
+            Line(Some(self.empty), b"empty blocks left out"),
+        ]
+    }
+
+    /// The counters of the events.
+    fn counters(&self) -> [Line; 3]
+        ensures { flat_map line_text result ≡ counters_text self.now }
+    {
+        [
+            Line(self.first, b"first counter"),
+            Line(self.last, b"last counter"),
+            Line(Some(self.back), b"threads whose counter goes back"),
+        ]
     }
 }
 
-/// A number at the right end of its places.
-fn right(number: u64) -> Piece<'static>
-    ensures { piece_text result ≡ right_aligned number 20 }
-{
-    Piece::Right {
-        number: u128::from(number),
-        width: WIDTH,
+/// A line: a number, if there is one, and what it is.
+#[derive(Clone, Copy)]
+struct Line(Option<u64>, &'static [u8]);
+
+impl Printed for Line {
+    ghost use Rattle.std.specs.Prelude.{⊤};
+    ghost use Rattle.runtime_log.specs.private.FactLines.{line_text};
+
+    ghost text = { line_text };
+
+    ghost ready = { λ _. ⊤ };
+
+    #[tactic(auto, unfolding(crate::specs::Facts::counter_line))]
+    fn add_to<S: Sink>(&self, to: &mut Text<S>) -> Result<(), WriteFault> {
+        to.pieces(&[
+            right(self.0),
+            Piece::Bytes(b" "),
+            Piece::Bytes(self.1),
+            Piece::Bytes(b"\n"),
+        ])
     }
 }
 
-/// Adds a piece and what it is.
-fn add_line<'x, S: Sink>(
-    text: &mut Text<S>,
-    piece: Piece<'x>,
-    what: &'x [u8],
-) -> Result<(), WriteFault>
-    ensures { AddsText S.written S.faults S.along text.old text.new
-        (fact_line (piece_text piece) what.now) result }
+/// A number at the right end of its places, or a dash in place of none.
+fn right(number: Option<u64>) -> Piece<'static>
+    ensures { piece_text result ≡ right_or_dash number }
 {
-    text.pieces(&[
-        piece,
-        Piece::Bytes(b" "),
-        Piece::Bytes(what),
-        Piece::Bytes(b"\n"),
-    ])
+    match number {
+        Some(number) => Piece::Right {
+            number: u128::from(number),
+            width: WIDTH,
+        },
+        None => Piece::Bytes(b"                   -"),
+    }
 }

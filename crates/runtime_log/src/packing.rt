@@ -151,10 +151,10 @@ impl Packing {
         requires size { self.old.buffer.size ≡ LARGEST_SIZE }
         ensures packs { (header : TheHeader) (said taken : List SaidBlock) (b : SaidBlock)
             → HasPacked header said taken self.old → Shows block.now b.block
-            → b.block.events ≢ [] → events_to_come events ≡ b.block.events
+            → b.block.events ≢ [] → events_to_come events.entry ≡ b.block.events
             → OnOk result (HasPacked header said (taken ++ b ∷ []) self.new) }
         ensures room { OnOk result (self.new.notes.facts.events
-            ≡ self.old.notes.facts.events + length (events_to_come events)) }
+            ≡ self.old.notes.facts.events + length (events_to_come events.entry)) }
         ensures blocks { OnOk result (self.new.notes.facts.blocks ≡ self.old.notes.facts.blocks + 1) }
         ensures few { AreFew self.new.notes.facts }
         ensures size { self.new.buffer.size ≡ LARGEST_SIZE }
