@@ -1,8 +1,9 @@
 #!/usr/bin/env python3
 """Runs commands one at a time, and reports the time and the memory that each of them took by itself.
 
-The system counts the memory of the process that starts a command as the command's own, and a bench may hold a lot. So this
-file runs as a separate process that holds little, and starts the command. It holds about 16 MB; no peak below that is reported.
+The system counts the memory of the process that starts a command as the command's own, and a bench may hold a lot. So
+this file runs as a separate process that holds little, and starts the command. It holds about 16 MB; no peak below that
+is reported.
 """
 import dataclasses
 import os

@@ -6,14 +6,14 @@ usage: tools/compare/assembled_texts.py [PROGRAM] [--texts N] [--seed N]
     --texts: how many texts, 1000 if left out
     --seed: the seed of the texts and options, 1 if left out
 
-The model is asm_model.py, with statuses and lines on standard error from the manual. Most texts are small programs with all
-lines of the language, written in all allowed ways, and many have a fault. The others are at a limit of the language or one past
-it.
+The model is asm_model.py, with statuses and lines on standard error from the manual. Most texts are small programs with
+all lines of the language, written in all allowed ways, and many have a fault. The others are at a limit of the language
+or one past it.
 
-For each text all bytes of the image are compared; or the refusal's line on standard error, the status, and that no image was
-made. `extract` and `plain` have to accept each image. The last line says how many texts became images, and how often each
-refusal came up. A difference is reported with what was expected and what was found. Then the text and its images are kept, in
-the folder that the work is done in, and the status is 1.
+For each text all bytes of the image are compared; or the refusal's line on standard error, the status, and that no
+image was made. `extract` and `plain` have to accept each image. The last line says how many texts became images, and
+how often each refusal came up. A difference is reported with what was expected and what was found. Then the text and
+its images are kept, in the folder that the work is done in, and the status is 1.
 """
 import collections
 import dataclasses

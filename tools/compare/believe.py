@@ -5,8 +5,8 @@ usage: tools/compare/believe.py [--write] [ROOT]
     --write: writes docs/BELIEVE.md
     ROOT: the folder of the repository, that of this file if left out
 
-A contract is worth no more than its definitions. They are in crates/*/specs. From CONTRACT this goes on to each definition
-that one of them names, through the `use` lines of its file. Types of the code, which the logic sees as they
+A contract is worth no more than its definitions. They are in crates/*/specs. From CONTRACT this goes on to each
+definition that one of them names, through the `use` lines of its file. Types of the code, which the logic sees as they
 are declared in src, are listed apart. The definitions of the standard library aren't listed.
 
 If the page differs from the sources, the first lines that differ are reported, and the status is 1.

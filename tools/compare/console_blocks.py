@@ -4,11 +4,12 @@
 usage: tools/compare/console_blocks.py [PROGRAM]
     PROGRAM: the built program, crates/xray/out/xray if left out
 
-In a block ```console a line that begins with `$ ` is a command. The lines after it, up to the next command, are what it prints
-on standard output and standard error. Each document has one shell, so a command finds the files and the folder that earlier
-commands left. README.md and the tour are followed one after the other in one shell. It begins in a copy of what the repository
-has, and may leave no file there. The pages of the manual and those on refusals and formats each begin in a folder with the files
-of all examples. Each difference is printed with its document and line, and then the status is 1.
+In a block ```console a line that begins with `$ ` is a command. The lines after it, up to the next command, are what it
+prints on standard output and standard error. Each document has one shell, so a command finds the files and the folder
+that earlier commands left. README.md and the tour are followed one after the other in one shell. It begins in a copy of
+what the repository has, and may leave no file there. The pages of the manual and those on refusals and formats each
+begin in a folder with the files of all examples. Each difference is printed with its document and line, and then the
+status is 1.
 """
 import dataclasses
 import pathlib

@@ -6,13 +6,13 @@ usage: tools/compare/damaged_bytes.py [PROGRAM] [--step N] [--memory MB] [--seco
     --step: only each Nth damage, 1 if left out
     --memory, --seconds: as those of damaged_files.py
 
-The trace has three blocks of one event each, of two threads: 296 bytes. It is cut at each place, and each of its bytes gets
-each other value. `account` and `convert` read every damaged file. Their statuses and both streams have to be those of the
-model (xray_model.py), so a refusal has the right name and place, and the rules of damaged_files.py have to hold. Of the
-prefixes of the trace, those with 32, 120, 208 and 296 bytes have to be accepted, and no other one.
+The trace has three blocks of one event each, of two threads: 296 bytes. It is cut at each place, and each of its bytes
+gets each other value. `account` and `convert` read every damaged file. Their statuses and both streams have to be those
+of the model (xray_model.py), so a refusal has the right name and place, and the rules of damaged_files.py have to hold.
+Of the prefixes of the trace, those with 32, 120, 208 and 296 bytes have to be accepted, and no other one.
 
-The last lines say how often each answer came, and what the slowest run took. A difference is reported with the folder in
-which its files are kept, and then the status is 1.
+The last lines say how often each answer came, and what the slowest run took. A difference is reported with the folder
+in which its files are kept, and then the status is 1.
 """
 import pathlib
 import sys

@@ -9,18 +9,18 @@ usage: tools/compare/damaged_files.py [PROGRAM] [--files N] [--seed N] [--of KIN
     --memory: the address space of a run, beside 20 times its input, 64 if left out; 0 for no limit
     --seconds: the processor time of a run, 1 if left out
 
-The files are those of examples/, and random ones without a fault, of which each is damaged in a few ways. A file gets one to
-three damages: bytes are changed, inserted or removed, a number becomes extreme, the file is cut, or joined with another one, of
-the same kind or of another. A few are longer than their limit, and a few are gone. Each is given to every command that reads its
-kind, beside sound files of the other kinds.
+The files are those of examples/, and random ones without a fault, of which each is damaged in a few ways. A file gets
+one to three damages: bytes are changed, inserted or removed, a number becomes extreme, the file is cut, or joined with
+another one, of the same kind or of another. A few are longer than their limit, and a few are gone. Each is given to
+every command that reads its kind, beside sound files of the other kinds.
 
-A run has to end with status 0, 2, 3 or 6, within its time and its address space. Unless the status is 0 it prints one line on
-standard error and nothing on standard output. Otherwise it prints nothing on standard error. The status, both streams and the
-files have to be those of the model (xray_model.py), so a refusal has the right name and place. A program with a sanitizer needs
-no limit of memory and more time.
+A run has to end with status 0, 2, 3 or 6, within its time and its address space. Unless the status is 0 it prints one
+line on standard error and nothing on standard output. Otherwise it prints nothing on standard error. The status, both
+streams and the files have to be those of the model (xray_model.py), so a refusal has the right name and place. A
+program with a sanitizer needs no limit of memory and more time.
 
-The last lines say how often each answer came for each kind, and what the slowest run took. A difference is reported with the
-folder in which its files are kept, and then the status is 1.
+The last lines say how often each answer came for each kind, and what the slowest run took. A difference is reported
+with the folder in which its files are kept, and then the status is 1.
 """
 import collections
 import dataclasses

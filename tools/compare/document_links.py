@@ -1,11 +1,11 @@
 #!/usr/bin/env python3
-"""Compares the links of the documents with the files and headings of the repository, and reports those that lead nowhere.
+"""Compares the links of the documents with what they lead to, and reports those that lead nowhere.
 
 usage: tools/compare/document_links.py [ROOT]
     ROOT: the folder of the repository, that of this file if left out
 
-A link is relative to its document, and may name a heading after `#`. Links to other places aren't followed. It runs nothing.
-If a link leads nowhere, it is reported with its document and line, and then the status is 1.
+A link is relative to its document, and may name a heading after `#`. Links to other places aren't followed. It runs
+nothing. If a link leads nowhere, it is reported with its document and line, and then the status is 1.
 """
 import functools
 import pathlib

@@ -16,15 +16,16 @@ a second run all later ones too. A run may then
   changed.
 Anything else is reported, and then the status is 1. A run in which nothing is refused has to be the same as one without the tool.
 
-No run of `sim` or `run` may end with status 5 for an allocation that is made once its threads have begun. Which ones these are
-shows a longer run of the same words: between two of its allocations lies most of its processor time, and the threads run there.
-The longer run has to make as many allocations as the small one.
+No run of `sim` or `run` may end with status 5 for an allocation that is made once its threads have begun. Which ones
+these are shows a longer run of the same words: between two of its allocations lies most of its processor time, and the
+threads run there. The longer run has to make as many allocations as the small one.
 
-If the refused allocation was needed to start a thread, `run` does that thread's work on another one. A script that waits may then
-never come to its end. Only for such a script a run may also use up its processor time, with nothing written.
+If the refused allocation was needed to start a thread, `run` does that thread's work on another one. A script that
+waits may then never come to its end. Only for such a script a run may also use up its processor time, with nothing
+written.
 
-The allocations are those of the C library's functions, in all threads of the program. A preloaded library counts them, so this
-needs a C compiler, `cc`.
+The allocations are those of the C library's functions, in all threads of the program. A preloaded library counts them,
+so this needs a C compiler, `cc`.
 """
 import dataclasses
 import os

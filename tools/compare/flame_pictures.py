@@ -1,16 +1,16 @@
 #!/usr/bin/env python3
-"""Reads the pictures of `xray stack --format svg` with Python's XML parser, and compares them with the rows of `xray stack`.
+"""Compares the pictures of `xray stack --format svg`, as Python's XML parser reads them, with the rows of `xray stack`.
 
 usage: tools/compare/flame_pictures.py [PROGRAM] [--runs N] [--seed N]
     PROGRAM: the built program, crates/xray/out/xray if left out
     --runs: how many random traces, 1000 if left out
     --seed: the seed of everything random, 1 if left out
 
-Each picture is read as XML. A box stands on the box below it whose ends are not inside its own, and so each box has a path. The
-paths, places, widths, counts, sums and times have to be those that follow from the rows that the program prints without the
-option. The text has to be that of flame_model.py. No box may stick out of the one below it, and the lowest row has to be as
-wide as the whole, with what is left out. Beside random traces there are some of few rows, of many, and of deep calls. A
-difference is reported, and then the status is 1.
+Each picture is read as XML. A box stands on the box below it whose ends are not inside its own, and so each box has a
+path. The paths, places, widths, counts, sums and times have to be those that follow from the rows that the program
+prints without the option. The text has to be that of flame_model.py. No box may stick out of the one below it, and the
+lowest row has to be as wide as the whole, with what is left out. Beside random traces there are some of few rows, of
+many, and of deep calls. A difference is reported, and then the status is 1.
 """
 import collections
 import pathlib

@@ -4,10 +4,10 @@
 usage: tools/compare/full_trace.py [PROGRAM]
     PROGRAM: the built program, crates/xray/out/xray if left out
 
-Fourteen threads call an empty function over and over. In the first run each of them fills fourteen buffers to their last
-byte, and no buffer is used twice. In the second run each thread passes one more sled, so it takes one more buffer. The last
-thread then takes all buffers of the first. The expected bytes follow from the position of an event in its thread, without
-the model. A difference is reported, and then the status is 1.
+Fourteen threads call an empty function over and over. In the first run each of them fills fourteen buffers to their
+last byte, and no buffer is used twice. In the second run each thread passes one more sled, so it takes one more buffer.
+The last thread then takes all buffers of the first. The expected bytes follow from the position of an event in its
+thread, without the model. A difference is reported, and then the status is 1.
 """
 import pathlib
 import subprocess

@@ -1,5 +1,5 @@
 #!/usr/bin/env python3
-"""Compares what the built program makes of random traces in further forms with a model, with Python's json and with LLVM's reader.
+"""Compares further forms of random traces with a model, with Python's json and with what `llvm-xray` reads.
 
 usage: tools/compare/further_forms.py [PROGRAM] [--traces N] [--seed N] [--llvm-xray NAME]
     PROGRAM: the built program, crates/xray/out/xray if left out

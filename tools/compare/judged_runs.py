@@ -1,5 +1,5 @@
 #!/usr/bin/env python3
-"""Lets `xray check` judge random runs and what is left of them after a damage, and reports where it differs from the model.
+"""Lets `xray check` judge random runs, and what is left of them after a damage, and compares it with the model.
 
 usage: tools/compare/judged_runs.py [PROGRAM] [--runs N] [--seed N] [--damages N] [--jobs N]
     PROGRAM: the built program, crates/xray/out/xray if left out
@@ -8,13 +8,14 @@ usage: tools/compare/judged_runs.py [PROGRAM] [--runs N] [--seed N] [--damages N
     --damages: how many damages are tried on each run, 4 if left out
     --jobs: how many runs at a time, 2 if left out
 
-Each run is a `sim` or a `run` of a random image beside a random script, with patching, waits, arguments, one to sixteen threads,
-and buffers that are used again. `check` has to say `yes` of what it left, and so has the model (check_model.py). Then the files
-are damaged (audit_damages.py), and the status, standard output and standard error of `check` have to be those of the model
-(xray_model.py). Most damages get a verdict or a refusal. A few leave what another lawful run would have left.
+Each run is a `sim` or a `run` of a random image beside a random script, with patching, waits, arguments, one to sixteen
+threads, and buffers that are used again. `check` has to say `yes` of what it left, and so has the model
+(check_model.py). Then the files are damaged (audit_damages.py), and the status, standard output and standard error of
+`check` have to be those of the model (xray_model.py). Most damages get a verdict or a refusal. A few leave what another
+lawful run would have left.
 
-The last lines say how often each damage came, and with which answers. A difference is reported with the folder in which its files
-are kept, and then the status is 1.
+The last lines say how often each damage came, and with which answers. A difference is reported with the folder in which
+its files are kept, and then the status is 1.
 """
 import collections
 import concurrent.futures

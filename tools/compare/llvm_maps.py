@@ -9,10 +9,10 @@ usage: tools/compare/llvm_maps.py [PROGRAM] [--images N] [--seed N] [--llvm-xray
 
 Debian's package llvm-14 has LLVM's program. If it is missing, this reports that and passes.
 
-LLVM reads a map in a section of an ELF file. So the code and the map of an image are put into one, at the addresses that they have.
-The maps are of versions 0, 1 and 2, and many are of several. For each entry LLVM has to say the same addresses, function id, kind and
-version. If a function is at address 0, it gives this function and the next one the same id. A difference is reported, and then the
-status is 1.
+LLVM reads a map in a section of an ELF file. So the code and the map of an image are put into one, at the addresses
+that they have. The maps are of versions 0, 1 and 2, and many are of several. For each entry LLVM has to say the same
+addresses, function id, kind and version. If a function is at address 0, it gives this function and the next one the
+same id. A difference is reported, and then the status is 1.
 """
 import pathlib
 import random

@@ -22,10 +22,10 @@ exist. An output may exist already, and it or standard output may refuse everyth
 past it. The status, standard output, standard error, and all files at the end are compared. Each report that the
 program has is then run on a trace that the program wrote, and `check` has to accept the trace with its audit.
 
-Nobody states the order of a `run` or a `profile`. So the audit's marks and lost segments are taken as given, and the marks
-that `profile` prints. The marks of each thread
-have to follow the script, and the losses have to be possible. The trace, the rest of the audit and standard output have
-to be what follows from these marks and losses, byte by byte. If no audit could be written, TRACE has to be a trace.
+Nobody states the order of a `run` or a `profile`. So the audit's marks and lost segments are taken as given, and the
+marks that `profile` prints. The marks of each thread have to follow the script, and the losses have to be possible. The
+trace, the rest of the audit and standard output have to be what follows from these marks and losses, byte by byte. If
+no audit could be written, TRACE has to be a trace.
 
 The last lines say how often each answer, each end of a thread and each mark came up; how many runs have passings of
 patched and of unpatched sleds; how many lost segments; and how many reports on written traces there were, and how many

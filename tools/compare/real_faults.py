@@ -1,13 +1,14 @@
 #!/usr/bin/env python3
-"""Shows what `xray` does on faults of the operating system, and reports where the manual's sentences on them don't hold.
+"""Shows what `xray` does on faults of the operating system, and compares it with the sentences of the manual.
 
 usage: tools/compare/real_faults.py [PROGRAM] [--list]
     PROGRAM: the built program, crates/xray/out/xray if left out
     --list: prints each sentence with its commands, and runs nothing
 
-Each row below has a sentence, the shell commands that show it, and what they print. They run in a folder of their own with the
-files of all examples and some longer ones. As root, commands after `$OTHER` run as a user without rights, and `$SMALL` is a file
-system of 16 KiB; rows that need one are skipped if it can't be mounted. What differs is printed, and then the status is 1.
+Each row below has a sentence, the shell commands that show it, and what they print. They run in a folder of their own
+with the files of all examples and some longer ones. As root, commands after `$OTHER` run as a user without rights, and
+`$SMALL` is a file system of 16 KiB; rows that need one are skipped if it can't be mounted. What differs is printed, and
+then the status is 1.
 """
 import dataclasses
 import os

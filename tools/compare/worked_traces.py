@@ -5,9 +5,9 @@ usage: tools/compare/worked_traces.py [PROGRAM] [--with COMMANDS]
     PROGRAM: a built program, which is compared with the same results; without it only the model is
     --with: which of sim, run, account, stack, convert and soak PROGRAM has, with commas between them; all if left out
 
-Each row begins with some files and goes through runs over them, in order. A replay leaves a trace t and an audit a, which later
-reports read. A run has what it prints, or some of these lines, and which files it leaves. Traces are written as hexadecimal
-bytes, record by record. A difference is reported, and then the status is 1.
+Each row begins with some files and goes through runs over them, in order. A replay leaves a trace t and an audit a,
+which later reports read. A run has what it prints, or some of these lines, and which files it leaves. Traces are
+written as hexadecimal bytes, record by record. A difference is reported, and then the status is 1.
 """
 import dataclasses
 import pathlib

@@ -1,8 +1,8 @@
 """Random command lines over a few small files, for `random_runs.py --lines`.
 
-The inputs are sound, so the outcome of a line depends only on its words: each option at the ends of its range and one past them,
-in all spellings; options twice, of other commands, shortened, and without a value; names that look like options; `--`; seeds, and
-words that aren't seeds.
+The inputs are sound, so the outcome of a line depends only on its words: each option at the ends of its range and one
+past them, in all spellings; options twice, of other commands, shortened, and without a value; names that look like
+options; `--`; seeds, and words that aren't seeds.
 """
 import functools
 

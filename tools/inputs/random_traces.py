@@ -1,5 +1,5 @@
-"""Random trace files for comparisons with the model: spelled in all ways that the format allows, and damaged in all the ways
-in which a trace is refused.
+"""Random trace files for comparisons with the model: spelled in all ways that the format allows, and damaged in all the
+ways in which a trace is refused.
 """
 import dataclasses
 import struct

@@ -1,7 +1,7 @@
 """A model of further forms of a trace: trace events, basic logs both ways, and dumps.
 
-It is written from docs/formats and docs/commands alone, and shares nothing with the program or its definitions. The text of trace
-events is that of Python's `json`.
+It is written from docs/formats and docs/commands alone, and shares nothing with the program or its definitions. The
+text of trace events is that of Python's `json`.
 """
 import itertools
 import json

@@ -1,10 +1,10 @@
 """A model of `xray`: how words are read, what each command does, and what is left on each status.
 
-It is written from docs alone, and shares nothing with the program or its definitions. It is made to be read, not to be fast.
-Other modules have its parts: image files (image_container, image_model), texts (asm_model), plain runs (machine_model), scripts
-and replays (replay_model), runs beside a script (run_model), verdicts on what runs leave (check_model), profiles of such runs
-(profile_model), traces (trace_model), reports on them (report_model, flame_model, forms_model), and soaks (soak_inputs,
-soak_model). What `run` shows of its order is passed in.
+It is written from docs alone, and shares nothing with the program or its definitions. It is made to be read, not to be
+fast. Other modules have its parts: image files (image_container, image_model), texts (asm_model), plain runs
+(machine_model), scripts and replays (replay_model), runs beside a script (run_model), verdicts on what runs leave
+(check_model), profiles of such runs (profile_model), traces (trace_model), reports on them (report_model, flame_model,
+forms_model), and soaks (soak_inputs, soak_model). What `run` shows of its order is passed in.
 
 worked_runs.py and worked_traces.py of tools/compare compare the model with results that were worked by hand.
 """

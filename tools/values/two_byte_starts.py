@@ -1,5 +1,5 @@
 #!/usr/bin/env python3
-"""Prints what each two bytes begin, as runs in ascending order, for crates/layer_tests/src/instructions/two_byte_starts.rt.
+"""Prints what each two bytes begin, as runs in ascending order: the table of two_byte_starts.rt of layer_tests.
 
 usage: tools/values/two_byte_starts.py
 
