@@ -1,5 +1,5 @@
 -- A block that is added to the file of a trace, event by event.
-use Rattle.std.proofs.Common.{◌≡◌, ℕ, ◌+◌, List, [], ◌∷◌, ◌++◌, length, map, refl, sym, ap, subst, ◌∙◌, append_assoc, append-nil, arith}
+use Rattle.std.proofs.Common.{◌≡◌, ℕ, ◌+◌, List, [], ◌∷◌, ◌++◌, map, refl, sym, ap, subst, ◌∙◌, append_assoc, append-nil, arith}
 use Rattle.std.proofs.lemmas.List.{length-append, map-append}
 use Rattle.fdr_record.specs.declared.event.Event.{Event}
 use Rattle.fdr_buffer.specs.declared.buffer.TheConstants.{LARGEST_SIZE}
@@ -13,7 +13,6 @@ use Rattle.runtime_log.specs.declared.facts.Facts.{Facts}
 use Rattle.runtime_log.specs.declared.notes.Notes.{Notes}
 use Rattle.runtime_log.specs.declared.packing.Packing.{Packing}
 use Rattle.runtime_log.specs.Facts.{taken_events}
-use Rattle.runtime_log.specs.Imports.{trace_file, trace_taken}
 use Rattle.runtime_log.specs.Logs.{LogBlock}
 use Rattle.runtime_log.specs.private.Choices.{Shows}
 use Rattle.runtime_log.specs.private.Coming.{events_to_come}

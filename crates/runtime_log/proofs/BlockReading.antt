@@ -1,8 +1,7 @@
 -- What has been read of a log, after one more record or block.
-use Rattle.std.proofs.Common.{◌≡◌, ℕ, ◌+◌, ◌-◌, ◌<◌, ◌≤◌, List, [], ◌∷◌, ◌++◌, length, drop, take, map, Option, Some, None, Result, Ok, Err, refl, sym, ap, subst, ◌∙◌, arith}
-use Rattle.std.specs.Prelude.{sum}
+use Rattle.std.proofs.Common.{◌≡◌, ℕ, ◌+◌, ◌-◌, ◌<◌, ◌≤◌, List, [], ◌∷◌, ◌++◌, length, drop, take, Option, Some, None, Result, Ok, Err, refl, sym, ap, ◌∙◌, arith}
 use Rattle.std.specs.Option.{option_or}
-use Rattle.std.proofs.lemmas.List.{drop-drop, length-drop, length-take-le}
+use Rattle.std.proofs.lemmas.List.{drop-drop, length-drop}
 use Rattle.xray_io.specs.Rows.{InTurn, ◌>>=◌}
 use Rattle.fdr_record.specs.declared.event.Event.{Event}
 use Rattle.fdr_file.specs.declared.fault.TraceFault.{TraceFault}
@@ -18,7 +17,7 @@ use Rattle.runtime_log.specs.declared.version.LogVersion.{LogVersion}
 use Rattle.runtime_log.specs.declared.walk.BlockWalk.{BlockWalk}
 use Rattle.runtime_log.specs.Logs.{BlockSoFar, LogBlock, block_content, block_opened, block_said, block_size_rows, content_rows, log_block_in, log_places, log_record_rows, block_with, one_custom, one_typed, said_rows}
 use Rattle.runtime_log.specs.OwnEvents.{log_record_length, own_kind}
-use Rattle.runtime_log.specs.private.Choices.{IsAt, LiesWithin, Shows, content_at, counter_first}
+use Rattle.runtime_log.specs.private.Choices.{IsAt, Shows, counter_first}
 use Rattle.runtime_log.specs.private.Readings.{ReadsOn, walk_reads}
 use Rattle.runtime_log.specs.private.Walks.{IsOpened, IsPast}
 use Rattle.runtime_log.proofs.Walking.{rows_first, rows_none, so_with}

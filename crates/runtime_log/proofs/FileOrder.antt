@@ -1,5 +1,5 @@
 -- The blocks of a log stand one behind the other.
-use Rattle.std.proofs.Common.{◌≡◌, ℕ, zero, suc, ◌+◌, ◌-◌, ◌<◌, ◌≤◌, Bool, true, false, cond, List, [], ◌∷◌, ◌++◌, length, drop, map, take, Option, Some, None, Result, Ok, Err, refl, sym, ap, subst, ◌∙◌, arith}
+use Rattle.std.proofs.Common.{◌≡◌, ℕ, zero, suc, ◌+◌, ◌-◌, ◌<◌, ◌≤◌, Bool, true, false, cond, List, [], ◌∷◌, ◌++◌, length, drop, map, take, Some, Result, Ok, Err, refl, ap, subst, arith}
 use Rattle.std.specs.Prelude.{not}
 use Rattle.std.proofs.lemmas.List.{length-drop}
 use Rattle.xray_io.specs.Rows.{First, InTurn, ◌>>=◌}
@@ -16,9 +16,8 @@ use Rattle.runtime_log.specs.declared.version.LogVersion.{LogVersion}
 use Rattle.runtime_log.specs.BasicLogs.{BasicRun, BasicSoFar, basic_length, basic_places, basic_rows, longer_run, may_follow, no_records, owner_of, runs_with, same_owner, single_run, tagged_rows}
 use Rattle.runtime_log.specs.Logs.{Log, LogBlock, as_log, log_block_in, log_block_rows, logged, recorder_blocks, run_block}
 use Rattle.runtime_log.specs.private.Choices.{AreInFileOrder}
-use Rattle.runtime_log.specs.private.Headers.{mode_of}
 use Rattle.runtime_log.specs.private.Readings.{blocks_said}
-use Rattle.runtime_log.proofs.WholeLogs.{LogParts, block_parts, log_parts, log_whole}
+use Rattle.runtime_log.proofs.WholeLogs.{block_parts, log_parts, log_whole}
 
 order_more : (from to next : ℕ) (said : List LogBlock) (b : LogBlock) → AreInFileOrder from to said → to ≤ b.place → b.place < next → AreInFileOrder from next (said ++ b ∷ [])
 order_more from to next [] b order here below = (omega (arith, order, here), omega (arith, below))

@@ -1,9 +1,8 @@
 -- The events of a block that was read, by its places.
-use Rattle.std.proofs.Common.{◌≡◌, ℕ, ◌+◌, ◌-◌, ◌*◌, ◌^◌, ◌<◌, ◌≤◌, List, [], ◌++◌, length, get_or, drop, take, Result, Ok, refl, sym, ap, subst, ◌∙◌, arith}
+use Rattle.std.proofs.Common.{◌≡◌, ℕ, ◌+◌, ◌*◌, ◌^◌, ◌<◌, ◌≤◌, List, length, get_or, drop, take, Result, Ok, sym, ap, subst, ◌∙◌, arith}
 use Rattle.std.specs.Prelude.{All}
 use Rattle.std.proofs.lemmas.List.{length-drop, length-take}
 use Rattle.std.proofs.lemmas.List.Elements.{All-drop, All-from_get_or, All-take}
-use Rattle.fdr_record.specs.declared.event.Event.{Event}
 use Rattle.fdr_record.specs.Recordable.{IsRecordable}
 use Rattle.fdr_file.specs.declared.fault.TraceFault.{TraceFault}
 use Rattle.fdr_file.specs.declared.stage.Stage.{Stage}
@@ -18,7 +17,7 @@ use Rattle.runtime_log.specs.private.Choices.{IsAt, content_at}
 use Rattle.runtime_log.specs.private.Records.{records_in}
 use Rattle.runtime_log.specs.private.Walks.{IsOpened, events_told, walk_events}
 use Rattle.runtime_log.proofs.RecordFits.{AreBytes}
-use Rattle.runtime_log.proofs.Recordable.{StageFits, events_fit, fit_recordable, starts_fit}
+use Rattle.runtime_log.proofs.Recordable.{events_fit, fit_recordable, starts_fit}
 use Rattle.runtime_log.proofs.Runs.{basic_few, basic_recordable}
 use Rattle.runtime_log.proofs.Walking.{events_few, events_said, starts_few}
 use Rattle.runtime_log.proofs.WholeLogs.{block_parts}

@@ -1,5 +1,5 @@
 -- The import of a log: the blocks that are taken, packed one after the other.
-use Rattle.std.proofs.Common.{◌≡◌, ℕ, zero, suc, ◌+◌, ◌<◌, ◌≤◌, Bool, true, false, cond, ltb, List, [], ◌∷◌, ◌++◌, length, drop, take, Result, Ok, refl, sym, ap, subst, ◌∙◌, arith}
+use Rattle.std.proofs.Common.{◌≡◌, ℕ, zero, suc, ◌+◌, ◌≤◌, Bool, true, false, cond, List, [], ◌∷◌, ◌++◌, length, drop, take, Ok, sym, ap, subst, ◌∙◌, arith}
 use Rattle.std.specs.Prelude.{◌≢◌, All, filter}
 use Rattle.std.proofs.lemmas.List.Elements.{All-head, All-tail, All-weaker, filter_passes}
 use Rattle.std.proofs.lemmas.List.Sorted.{All-permutation, length_permutation}
@@ -10,7 +10,7 @@ use Rattle.runtime_log.specs.declared.facts.Facts.{Facts}
 use Rattle.runtime_log.specs.declared.packing.Packing.{Packing}
 use Rattle.runtime_log.specs.Facts.{facts_of}
 use Rattle.runtime_log.specs.Imports.{IsImport, trace_file, trace_taken}
-use Rattle.runtime_log.specs.Logs.{LogBlock, logged}
+use Rattle.runtime_log.specs.Logs.{LogBlock}
 use Rattle.runtime_log.specs.Taken.{AreTaken, chosen, first_ones, has_events, is_among, undoubled}
 use Rattle.runtime_log.specs.private.Headers.{header_for, mode_of}
 use Rattle.runtime_log.specs.private.Packings.{HasPacked}
@@ -74,11 +74,11 @@ taken_some said taken are =
 -- there are no more of them than blocks of the log
 filter_few : (blocks : List LogBlock) → length (filter has_events blocks) ≤ length blocks
 filter_few [] = omega arith
-filter_few (b ∷ blocks) = by_test (has_events b)
+filter_few (b ∷ blocks) = by_test (filter_few blocks) (has_events b)
   where
-    by_test : (has : Bool) → length (cond has (b ∷ filter has_events blocks) (filter has_events blocks)) ≤ length (b ∷ blocks)
-    by_test true = omega (arith, filter_few blocks)
-    by_test false = omega (arith, filter_few blocks)
+    by_test : length (filter has_events blocks) ≤ length blocks → (has : Bool) → length (cond has (b ∷ filter has_events blocks) (filter has_events blocks)) ≤ length (b ∷ blocks)
+    by_test few true = omega (arith, few)
+    by_test few false = omega (arith, few)
 
 first_few : (before : List (List ℕ)) (blocks : List LogBlock) → length (first_ones before blocks) ≤ length blocks
 first_few before [] = omega arith

@@ -1,7 +1,7 @@
 -- A file that is written for buffers with events, each of which comes before those behind it, is imported as itself.
-use Rattle.std.proofs.Common.{◌≡◌, ℕ, zero, suc, ◌+◌, ◌-◌, ◌^◌, ◌/◌, ◌%◌, ◌<◌, ◌≤◌, Bool, true, false, cond, List, [], ◌∷◌, ◌++◌, length, drop, map, take, get_or, Option, Some, None, Result, Ok, Err, refl, sym, ap, subst, ◌∙◌, append_assoc, append-nil, length-append, arith}
-use Rattle.std.specs.Prelude.{⊤, ◌||◌, All, AllPairs, IsPermutation, IsTrue, filter, nat_lt, replicate}
-use Rattle.std.specs.List.{AllZip, AllByRecursion, flat_map}
+use Rattle.std.proofs.Common.{◌≡◌, ℕ, suc, ◌+◌, ◌^◌, ◌/◌, ◌%◌, ◌<◌, ◌≤◌, Bool, true, false, cond, List, [], ◌∷◌, ◌++◌, length, drop, map, take, Option, Some, None, Result, Ok, Err, refl, sym, ap, subst, ◌∙◌, append_assoc, append-nil, length-append, arith}
+use Rattle.std.specs.Prelude.{◌||◌, All, IsPermutation, IsTrue, filter, nat_lt, replicate}
+use Rattle.std.specs.List.{AllZip, flat_map}
 use Rattle.std.specs.Str.{bytes_eq}
 use Rattle.std.specs.Cmp.Lexicographic.{bytes_decides, slice_cmp}
 use Rattle.std.specs.declared.cmp.Ordering.{Ordering}
@@ -13,11 +13,10 @@ use Rattle.std.proofs.lemmas.List.{drop_at, map-append, take_at}
 use Rattle.std.proofs.lemmas.List.Concat.{flat_map-append, flat_map-cons}
 use Rattle.std.proofs.lemmas.List.Elements.{All-cons, All-head, All-nil, All-tail}
 use Rattle.std.proofs.lemmas.List.Sorted.{IsPermutation-refl}
-use Rattle.byteorder.specs.Endian.{little_bytes, little_number}
+use Rattle.byteorder.specs.Endian.{little_number}
 use Rattle.byteorder.specs.Numbers.{little_from-bytes}
 use Rattle.xray_io.specs.Rows.{InTurn, ◌>>=◌}
 use Rattle.fdr_record.specs.declared.event.Event.{Event}
-use Rattle.fdr_record.specs.declared.rec.Rec.{Rec}
 use Rattle.fdr_record.specs.declared.rec.Rec.TheVariants.{Extents}
 use Rattle.fdr_record.specs.Records.{record_bytes}
 use Rattle.fdr_buffer.specs.declared.buffer.TheConstants.{LARGEST_SIZE}
@@ -33,9 +32,9 @@ use Rattle.fdr_file.specs.Scanning.{scanned, scanned_ends}
 use Rattle.fdr_file.specs.Traces.{block_length, header_in, trace_of}
 use Rattle.runtime_log.specs.declared.fault.LogFault.{LogFault}
 use Rattle.runtime_log.specs.declared.version.LogVersion.TheVariants.{Three}
-use Rattle.runtime_log.specs.Imports.{IsImport, buffer_for, pieces_of, trace_file, trace_taken}
+use Rattle.runtime_log.specs.Imports.{buffer_for, pieces_of, trace_file, trace_taken}
 use Rattle.runtime_log.specs.Laws.{AreRising, ImportsItself, buffer_key}
-use Rattle.runtime_log.specs.Logs.{Log, LogBlock, block_content, log_block_in, log_block_rows, recorder_blocks}
+use Rattle.runtime_log.specs.Logs.{Log, LogBlock, log_block_in, log_block_rows}
 use Rattle.runtime_log.specs.Taken.{AreTaken, chosen, first_counter, first_ones, has_events, is_among, order_key, undoubled}
 use Rattle.runtime_log.proofs.BlockLists.{Onward, block_first, block_sized}
 use Rattle.runtime_log.proofs.FileOrder.{logged_order}

@@ -1,5 +1,5 @@
 -- The next record of a run of the basic mode, and the next event.
-use Rattle.std.proofs.Common.{◌≡◌, ℕ, zero, suc, ◌+◌, ◌-◌, ◌*◌, ◌/◌, ◌<◌, ◌≤◌, List, [], ◌∷◌, length, drop, take, Result, Ok, Err, refl, ap, ◌∙◌, arith}
+use Rattle.std.proofs.Common.{◌≡◌, ℕ, suc, ◌/◌, ◌<◌, ◌≤◌, List, [], ◌∷◌, length, drop, take, Result, Ok, Err, ap, ◌∙◌, arith}
 use Rattle.std.proofs.lemmas.List.{length-drop}
 use Rattle.runtime_log.specs.declared.basic.BasicRec.{BasicRec}
 use Rattle.runtime_log.specs.declared.fault.LogFault.{LogFault}

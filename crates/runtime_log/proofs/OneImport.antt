@@ -1,6 +1,6 @@
 -- A log is imported in one way, and only in one.
-use Rattle.std.proofs.Common.{◌≡◌, ℕ, ◌+◌, ◌<◌, ◌≤◌, Bool, true, false, cond, List, [], ◌∷◌, length, get_or, map, Result, Ok, refl, sym, ap, subst, ◌∙◌, inl, inr, arith}
-use Rattle.std.specs.Prelude.{⊤, ◌⊎◌, All, IsPermutation, filter}
+use Rattle.std.proofs.Common.{◌≡◌, ℕ, ◌+◌, ◌≤◌, Bool, true, false, cond, List, [], ◌∷◌, length, get_or, Result, Ok, refl, sym, ap, subst, ◌∙◌, inl, inr, arith}
+use Rattle.std.specs.Prelude.{◌⊎◌, All}
 use Rattle.std.specs.List.{AllByRecursion}
 use Rattle.std.specs.declared.cmp.Ordering.TheVariants.{Equal}
 use Rattle.std.specs.Cmp.Lexicographic.{slice_cmp}
@@ -8,12 +8,11 @@ use Rattle.std.specs.Ordering.{nat_cmp}
 use Rattle.std.proofs.lemmas.List.Elements.{All-cons, All-filter, All-head, All-nil, All-tail, All-weaker, recursion_from_All}
 use Rattle.std.proofs.lemmas.List.Sorted.{All-permutation, sum_by-IsPermutation}
 use Rattle.std.proofs.lemmas.Map.Lookups.{exact_bytes}
-use Rattle.runtime_log.specs.declared.facts.Facts.{Facts}
 use Rattle.runtime_log.specs.declared.fault.LogFault.{LogFault}
 use Rattle.runtime_log.specs.Facts.{facts_of}
-use Rattle.runtime_log.specs.Imports.{IsImport, trace_file, trace_taken}
+use Rattle.runtime_log.specs.Imports.{trace_file, trace_taken}
 use Rattle.runtime_log.specs.Laws.{OneImport, SomeImport}
-use Rattle.runtime_log.specs.Logs.{Log, LogBlock, logged}
+use Rattle.runtime_log.specs.Logs.{Log, LogBlock}
 use Rattle.runtime_log.specs.Taken.{AreTaken, chosen, first_ones, has_events, is_among, order_key, undoubled}
 use Rattle.runtime_log.specs.private.Choices.{AreInFileOrder}
 use Rattle.runtime_log.proofs.FileOrder.{logged_order}
@@ -91,13 +90,13 @@ import_is_one bytes file other facts others one another =
     let again = subst (λ (l : Log). AreTaken l.blocks another.taken) (sym log) another.takes in
     let taken : one.taken ≡ another.taken = one_taken (length bytes) one.log.blocks one.taken another.taken (logged_order bytes one.log one.says) one.takes again in (
       another.file_is
-      ∙ ap (λ (l : Log). trace_file (trace_taken l.header another.taken)) (sym log)
-      ∙ ap (λ (bs : List LogBlock). trace_file (trace_taken one.log.header bs)) (sym taken)
-      ∙ sym one.file_is,
+          ∙ ap (λ (l : Log). trace_file (trace_taken l.header another.taken)) (sym log)
+          ∙ ap (λ (bs : List LogBlock). trace_file (trace_taken one.log.header bs)) (sym taken)
+          ∙ sym one.file_is,
       another.facts_are
-      ∙ ap (λ (l : Log). facts_of l.blocks another.taken) (sym log)
-      ∙ ap (λ (bs : List LogBlock). facts_of one.log.blocks bs) (sym taken)
-      ∙ sym one.facts_are,
+          ∙ ap (λ (l : Log). facts_of l.blocks another.taken) (sym log)
+          ∙ ap (λ (bs : List LogBlock). facts_of one.log.blocks bs) (sym taken)
+          ∙ sym one.facts_are,
     )
   where
     same_log : (l m : Log) → ◌≡◌ {A = Result Log LogFault} (Ok l) (Ok m) → l ≡ m

@@ -1,6 +1,6 @@
 -- The file of an import reads as the trace that was taken: its header and its blocks fit what is written.
-use Rattle.std.proofs.Common.{◌≡◌, ℕ, zero, suc, ◌+◌, ◌^◌, ◌<◌, ◌≤◌, Bool, true, false, cond, List, [], ◌∷◌, ◌++◌, length, drop, map, take, Option, Some, None, Result, Ok, Err, refl, sym, ap, subst, ◌∙◌, arith}
-use Rattle.std.specs.Prelude.{⊤, All, IsTrue, not}
+use Rattle.std.proofs.Common.{◌≡◌, ℕ, ◌+◌, ◌^◌, ◌<◌, ◌≤◌, Bool, true, false, cond, List, [], ◌∷◌, ◌++◌, length, drop, map, take, Some, Result, Ok, Err, refl, sym, ap, subst, ◌∙◌, arith}
+use Rattle.std.specs.Prelude.{All, IsTrue, not}
 use Rattle.std.specs.List.{flat_map}
 use Rattle.std.proofs.lemmas.List.Elements.{All-append, All-cons, All-drop, All-head, All-map, All-nil, All-push, All-tail, All-take}
 use Rattle.xray_io.specs.Rows.{First, InTurn, ◌>>=◌}
@@ -8,7 +8,6 @@ use Rattle.xray_io.specs.declared.wall.Wall.{Wall}
 use Rattle.fdr_record.specs.declared.event.Event.{Event}
 use Rattle.fdr_buffer.specs.declared.buffer.TheConstants.{LARGEST_SIZE, LEAST_SIZE}
 use Rattle.fdr_buffer.specs.Filled.{Filled}
-use Rattle.fdr_buffer.specs.Fits.{BufferFits}
 use Rattle.fdr_buffer.specs.Segments.{EventFits, body, has_room, segments}
 use Rattle.fdr_file.specs.declared.fault.TraceFault.{TraceFault}
 use Rattle.fdr_file.specs.declared.fault.TraceFault.TheVariants as traces
@@ -19,7 +18,7 @@ use Rattle.fdr_file.specs.declared.stage.Told.TheVariants.{Nothing, Begun, Noted
 use Rattle.fdr_file.specs.declared.trace.Block.{Block}
 use Rattle.fdr_file.specs.declared.trace.Trace.{Trace}
 use Rattle.fdr_file.specs.Files.{BlockFits, HeaderFits, block_told, file_bytes, trace_told}
-use Rattle.fdr_file.specs.Traces.{block_starts, header_in, trace_of}
+use Rattle.fdr_file.specs.Traces.{block_starts, trace_of}
 use Rattle.runtime_log.specs.declared.basic.BasicRec.{BasicRec}
 use Rattle.runtime_log.specs.declared.basic.BasicRec.TheVariants.{Passed, Argument}
 use Rattle.runtime_log.specs.declared.blocks.Mode.{Mode}
@@ -28,9 +27,9 @@ use Rattle.runtime_log.specs.declared.fault.LogFault.{LogFault}
 use Rattle.runtime_log.specs.declared.fault.LogFault.TheVariants as faults
 use Rattle.runtime_log.specs.declared.version.LogVersion.{LogVersion}
 use Rattle.runtime_log.specs.BasicLogs.{BasicRun, BasicSoFar, basic_places, basic_rows, longer_run, may_follow, no_records, owner_of, runs_with, same_owner, single_run, tagged_rows}
-use Rattle.runtime_log.specs.Imports.{buffer_for, pieces_of, trace_file, trace_taken}
+use Rattle.runtime_log.specs.Imports.{buffer_for, pieces_of}
 use Rattle.runtime_log.specs.Laws.{ImportsRead}
-use Rattle.runtime_log.specs.Logs.{BlockSoFar, Log, LogBlock, as_log, block_content, block_opened, block_with, log_block_in, log_block_rows, log_places, log_record_rows, logged, recorder_blocks, run_block, said_rows}
+use Rattle.runtime_log.specs.Logs.{BlockSoFar, LogBlock, as_log, block_content, block_opened, block_with, log_block_in, log_block_rows, log_places, log_record_rows, recorder_blocks, run_block, said_rows}
 use Rattle.runtime_log.specs.OwnEvents.{log_record_length}
 use Rattle.runtime_log.specs.private.Headers.{header_for}
 use Rattle.runtime_log.specs.private.Readings.{blocks_said}

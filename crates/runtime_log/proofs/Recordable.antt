@@ -1,7 +1,7 @@
 -- The events of a log of the Flight Data Recorder mode fit the records of a trace.
-use Rattle.std.proofs.Common.{◌≡◌, ℕ, zero, suc, ◌+◌, ◌-◌, ◌/◌, ◌%◌, ◌^◌, ◌<◌, ◌≤◌, Bool, true, false, cond, eqb, ltb, List, [], ◌∷◌, ◌++◌, length, drop, slice_index, Option, Some, None, Result, Ok, Err, refl, sym, ap, subst, ◌∙◌, arith}
+use Rattle.std.proofs.Common.{◌≡◌, ℕ, zero, suc, ◌+◌, ◌-◌, ◌%◌, ◌^◌, ◌<◌, Bool, true, false, cond, eqb, ltb, List, [], ◌∷◌, length, Option, Some, None, Result, Ok, Err, refl, subst, arith}
 use Rattle.std.specs.Prelude.{⊤, All, option_to_list, ◌&&◌, not}
-use Rattle.std.proofs.lemmas.List.Elements.{All-append, All-cons, All-head, All-nil, All-tail, All-weaker}
+use Rattle.std.proofs.lemmas.List.Elements.{All-append, All-cons, All-nil, All-tail, All-weaker}
 use Rattle.xray_io.specs.Rows.{First, NeedsPart, ◌>>=◌}
 use Rattle.xray_io.specs.declared.wall.Wall.{Wall}
 use Rattle.fdr_record.specs.declared.event.Event.{Event}
@@ -28,8 +28,8 @@ use Rattle.fdr_file.specs.declared.stage.Told.TheVariants.{Nothing, Begun, Noted
 use Rattle.fdr_file.specs.declared.version.Version.{Version}
 use Rattle.fdr_file.specs.declared.version.Version.TheVariants.{Two, Three}
 use Rattle.fdr_file.specs.Places.{starts}
-use Rattle.fdr_file.specs.Scanning.{after_wall, argument_on, block_span, counted_on, entry_due, entry_with, extents_next, extents_span, function_on, inside_judged, inside_next, record_or, stage_after, stage_judged, stage_within, step_on}
-use Rattle.fdr_file.specs.Traces.{logs_arg, pid_named, preamble_bytes, record_in, size_named, thread_named, wall_named}
+use Rattle.fdr_file.specs.Scanning.{after_wall, argument_on, block_span, entry_due, entry_with, extents_span, function_on, inside_judged, inside_next, record_or, stage_after, stage_judged, stage_within, step_on}
+use Rattle.fdr_file.specs.Traces.{logs_arg, pid_named, preamble_bytes, size_named, thread_named, wall_named}
 use Rattle.runtime_log.specs.declared.own_event.OwnKind.{OwnKind}
 use Rattle.runtime_log.specs.declared.version.LogVersion.{LogVersion}
 use Rattle.runtime_log.specs.Logs.{log_record_rows, unless_faulty}

@@ -1,14 +1,11 @@
 -- The runs of a basic log, and one more record after them.
-use Rattle.std.proofs.Common.{◌≡◌, ℕ, zero, suc, ◌+◌, ◌-◌, ◌*◌, ◌/◌, ◌<◌, ◌≤◌, Bool, true, false, cond, List, [], ◌∷◌, ◌++◌, length, drop, get_or, map, set, take, Option, Some, None, Result, Ok, Err, refl, sym, ap, subst, ◌∙◌, arith}
+use Rattle.std.proofs.Common.{◌≡◌, ℕ, suc, ◌+◌, ◌-◌, ◌*◌, ◌/◌, ◌<◌, ◌≤◌, Bool, true, false, cond, List, [], ◌∷◌, ◌++◌, length, drop, get_or, map, set, take, Option, Some, Result, Ok, Err, refl, sym, ap, subst, ◌∙◌, arith}
 use Rattle.std.specs.Prelude.{not, sum}
 use Rattle.std.specs.List.{AllZip}
 use Rattle.std.specs.Option.{option_or}
 use Rattle.std.proofs.lemmas.List.{drop-drop, length-append, length-drop, length-take-le, set_at, take-append-drop, take-take, take_all, take_more, drop-take}
 use Rattle.xray_io.specs.Rows.{First, InTurn, ◌>>=◌}
-use Rattle.xray_io.specs.declared.wall.Wall.{Wall}
-use Rattle.fdr_record.specs.declared.event.Event.{Event}
 use Rattle.fdr_file.specs.declared.fault.TraceFault.TheVariants as traces
-use Rattle.fdr_file.specs.Places.{starts}
 use Rattle.runtime_log.specs.declared.basic.BasicRec.{BasicRec}
 use Rattle.runtime_log.specs.declared.basic.BasicRec.TheVariants.{Passed, Argument}
 use Rattle.runtime_log.specs.declared.basic.Owner.{Owner}
@@ -17,9 +14,9 @@ use Rattle.runtime_log.specs.declared.blocks.LogBlocks.{LogBlocks}
 use Rattle.runtime_log.specs.declared.blocks.Mode.TheVariants.{Basic}
 use Rattle.runtime_log.specs.declared.fault.LogFault.{LogFault}
 use Rattle.runtime_log.specs.declared.fault.LogFault.TheVariants as faults
-use Rattle.runtime_log.specs.BasicLogs.{BasicRun, BasicSoFar, basic_events, basic_length, basic_places, basic_rows, longer_run, may_follow, no_records, owner_of, runs_with, same_owner, single_run, tagged_rows}
+use Rattle.runtime_log.specs.BasicLogs.{BasicRun, BasicSoFar, basic_events, basic_length, basic_places, basic_rows, longer_run, may_follow, owner_of, runs_with, same_owner, single_run, tagged_rows}
 use Rattle.runtime_log.specs.Logs.{LogBlock, basic_blocks, run_block}
-use Rattle.runtime_log.specs.private.Choices.{AreAt, IsAt, LiesWithin, content_at, counter_first}
+use Rattle.runtime_log.specs.private.Choices.{AreAt, counter_first}
 use Rattle.runtime_log.specs.private.Readings.{AreRuns, BelongsAt, EndsAt, IsRun, RunsRead}
 use Rattle.runtime_log.specs.private.Records.{counter_of, records_in, records_read}
 use Rattle.runtime_log.proofs.Runs.{first_more, read_more, tagged_again}

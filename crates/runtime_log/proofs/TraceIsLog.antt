@@ -26,21 +26,20 @@ use Rattle.fdr_file.specs.declared.trace.Trace.{Trace}
 use Rattle.fdr_file.specs.declared.version.Version.{Version}
 use Rattle.fdr_file.specs.declared.version.Version.TheVariants as versions
 use Rattle.fdr_file.specs.Places.{starts}
-use Rattle.fdr_file.specs.Scanning.{Scanned, block_span, empty_block, extents_next, extents_span, inside_judged, inside_next, last_longer, longer_block, record_or, scan_start, scanned, scanned_ends, scanned_from, scanned_on, scanned_over, stage_after, stage_ends, stage_judged, stage_within, step_on, version_read, with_event, with_told}
+use Rattle.fdr_file.specs.Scanning.{Scanned, block_span, empty_block, extents_next, extents_span, inside_next, last_longer, longer_block, record_or, scan_start, scanned, scanned_ends, scanned_from, scanned_on, scanned_over, stage_after, stage_ends, stage_judged, stage_within, step_on, version_read, with_event, with_told}
 use Rattle.fdr_file.specs.Traces.{block_length, header_in, pid_named, record_in, record_length, size_named, thread_named, trace_of, type_in, version_in, version_of, wall_named}
 use Rattle.runtime_log.specs.declared.blocks.Mode.{Mode}
 use Rattle.runtime_log.specs.declared.blocks.Mode.TheVariants.{Recorder, Basic}
-use Rattle.runtime_log.specs.declared.fault.LogFault.{LogFault}
 use Rattle.runtime_log.specs.declared.version.LogVersion.{LogVersion}
 use Rattle.runtime_log.specs.declared.version.LogVersion.TheVariants.{Three}
 use Rattle.runtime_log.specs.Laws.{TracesAreLogs, said_of}
 use Rattle.runtime_log.specs.Logs.{BlockSoFar, Log, LogBlock, as_log, block_content, block_opened, block_said, block_size_rows, block_with, content_rows, log_block_in, log_block_rows, log_places, log_record_rows, logged, recorder_blocks, recorder_header, said_rows, sized_rows, unless_faulty}
-use Rattle.runtime_log.specs.OwnEvents.{log_record_in, log_record_length, own_kind}
+use Rattle.runtime_log.specs.OwnEvents.{log_record_in, log_record_length}
 use Rattle.runtime_log.specs.Versions.{log_version_of}
 use Rattle.runtime_log.specs.private.Headers.{mode_of}
 use Rattle.runtime_log.proofs.BlockLists.{Onward, block_first, block_sized, size_is}
 use Rattle.runtime_log.proofs.BlockReading.{block_is}
-use Rattle.runtime_log.proofs.RecordCuts.{IsCut, extents_long, long_as, not_own, record_as, record_cut, record_short}
+use Rattle.runtime_log.proofs.RecordCuts.{extents_long, long_as, not_own, record_as, record_cut, record_short}
 use Rattle.runtime_log.proofs.Walking.{places_first, record_some, rows_none, so_with, starts_first, starts_none}
 use Rattle.runtime_log.proofs.WholeLogs.{log_read}
 

@@ -1,18 +1,17 @@
 -- A log and its parts: its mode, its header and its blocks.
-use Rattle.std.proofs.Common.{◌≡◌, ℕ, ◌≤◌, Bool, true, false, eqb, ltb, List, length, Option, Some, None, Result, Ok, Err, refl, sym, ap, ◌∙◌, arith}
+use Rattle.std.proofs.Common.{◌≡◌, ℕ, ◌≤◌, Bool, true, false, eqb, ltb, List, length, Option, Some, None, Result, Ok, Err, refl, sym, ap, ◌∙◌}
 use Rattle.std.specs.Prelude.{not}
 use Rattle.std.proofs.lemmas.Bool.{ltb-false}
 use Rattle.xray_io.specs.Rows.{First, NeedsPart, ◌>>=◌}
 use Rattle.fdr_file.specs.declared.fault.TraceFault.{TraceFault}
 use Rattle.fdr_file.specs.declared.fault.TraceFault.TheVariants as traces
-use Rattle.fdr_file.specs.declared.header.Header.{Header}
 use Rattle.fdr_file.specs.Traces.{type_in, version_in}
 use Rattle.runtime_log.specs.declared.blocks.Mode.{Mode}
 use Rattle.runtime_log.specs.declared.blocks.Mode.TheVariants.{Recorder, Basic}
 use Rattle.runtime_log.specs.declared.fault.LogFault.{LogFault}
 use Rattle.runtime_log.specs.declared.fault.LogFault.TheVariants as faults
 use Rattle.runtime_log.specs.declared.version.LogVersion.{LogVersion}
-use Rattle.runtime_log.specs.Logs.{BlockSoFar, Log, LogBlock, as_log, basic_blocks, basic_header, block_content, block_said, block_size_rows, content_rows, log_block_in, logged, recorder_blocks, recorder_header, typed_rows}
+use Rattle.runtime_log.specs.Logs.{BlockSoFar, Log, LogBlock, as_log, basic_blocks, block_content, block_said, block_size_rows, content_rows, log_block_in, logged, recorder_blocks, typed_rows}
 use Rattle.runtime_log.specs.Versions.{log_version_of}
 use Rattle.runtime_log.specs.private.Headers.{header_for, mode_of}
 use Rattle.runtime_log.specs.private.Readings.{blocks_said}

@@ -1,6 +1,6 @@
 -- The words that a line on err gives for bytes that aren't a log: the name of the refusal and its values, with a blank
 -- between them.
-use Rattle.std.specs.Prelude.{ℕ, List, ◌++◌, Option, Some, None, codes, decimal}
+use Rattle.std.specs.Prelude.{ℕ, List, ◌++◌, Option, Some, codes, decimal}
 use Rattle.trace_words.specs.TraceWords.{trace_words}
 use Rattle.runtime_log.specs.declared.fault.LogFault.{LogFault}
 use Rattle.runtime_log.specs.declared.fault.LogFault.TheVariants.{Trace, Tag, Kind, Function}

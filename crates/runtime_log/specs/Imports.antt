@@ -1,7 +1,6 @@
 -- The trace that a log is imported as.
 use Rattle.std.specs.Prelude.{◌≡◌, ℕ, true, List, map, Ok}
 use Rattle.std.specs.List.{flat_map}
-use Rattle.fdr_record.specs.declared.event.Event.{Event}
 use Rattle.fdr_buffer.specs.declared.buffer.TheConstants.{LARGEST_SIZE}
 use Rattle.fdr_buffer.specs.Filled.{Filled}
 use Rattle.fdr_buffer.specs.Segments.{segments}

@@ -1,18 +1,16 @@
 -- Laws of imports, over what the bytes of a log say.
-use Rattle.std.specs.Prelude.{◌≡◌, ◌<◌, ℕ, List, [], ◌∷◌, map, All, AllPairs, IsTrue, Result, Ok, Err}
+use Rattle.std.specs.Prelude.{◌≡◌, ◌<◌, ℕ, List, [], ◌∷◌, map, All, AllPairs, IsTrue, Ok}
 use Rattle.std.specs.Cmp.Lexicographic.{slice_cmp}
 use Rattle.std.specs.Ordering.{is_lt, nat_cmp}
-use Rattle.fdr_record.specs.declared.event.Event.{Event}
 use Rattle.fdr_buffer.specs.Filled.{Filled, has_event}
 use Rattle.fdr_file.specs.declared.header.Header.{Header}
 use Rattle.fdr_file.specs.declared.trace.Trace.{Trace}
 use Rattle.fdr_file.specs.Files.{BlockFits, HeaderFits, file_bytes}
 use Rattle.fdr_file.specs.Traces.{trace_of}
 use Rattle.runtime_log.specs.declared.facts.Facts.{Facts}
-use Rattle.runtime_log.specs.declared.fault.LogFault.TheVariants as faults
 use Rattle.runtime_log.specs.Imports.{IsImport, trace_taken}
-use Rattle.runtime_log.specs.Logs.{Log, LogBlock, logged}
-use Rattle.runtime_log.specs.Taken.{AreTaken, first_counter}
+use Rattle.runtime_log.specs.Logs.{Log, logged}
+use Rattle.runtime_log.specs.Taken.{first_counter}
 
 -- a log is imported in one way only
 abbrev pub OneImport : Type 0

@@ -1,7 +1,6 @@
 -- What the bytes of a log of LLVM's runtime say.
 use Rattle.std.specs.Prelude.{ℕ, ◌+◌, ◌==◌, not, List, [], ◌∷◌, ◌++◌, length, take, drop, map, nat_lt, option_to_list, Option, Some, None, Result, Ok, Err}
 use Rattle.xray_io.specs.Rows.{First, InTurn, NeedsPart, ◌>>=◌}
-use Rattle.xray_io.specs.declared.wall.Wall.{Wall}
 use Rattle.fdr_record.specs.declared.fault.RecFault.{RecFault}
 use Rattle.fdr_record.specs.declared.rec.Rec.{Rec}
 use Rattle.fdr_record.specs.Records.{metadata_length}

@@ -66,7 +66,7 @@ fn pack_blocks(
         → AreAt bytes.now mode blocks.now taken → All (λ b. b.block.events ≢ []) taken
         → IfOk result (λ made. (made.0.items ≡ trace_file (trace_taken header taken)) × (made.1 ≡ facts_of said taken)) }
 {
-    'blocks: for block in blocks {
+    'adding: for block in blocks {
         packing.add(block, BlockEvents::of(bytes, mode, block))?;
     }
     Ok(packing.finish())

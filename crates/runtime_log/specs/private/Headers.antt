@@ -1,5 +1,5 @@
 -- The header of a log, as it is read.
-use Rattle.std.specs.Prelude.{◌≡◌, ℕ, ◌==◌, not, List, length, nat_lt, Result, Ok, Err}
+use Rattle.std.specs.Prelude.{ℕ, ◌==◌, not, List, length, nat_lt, Result, Ok, Err}
 use Rattle.xray_io.specs.Rows.{First, NeedsPart}
 use Rattle.fdr_file.specs.declared.fault.TraceFault.{TraceFault}
 use Rattle.fdr_file.specs.declared.fault.TraceFault.TheVariants.{Short, Version, Form}

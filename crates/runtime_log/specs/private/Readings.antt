@@ -1,5 +1,5 @@
 -- The blocks of a log, as they are read.
-use Rattle.std.specs.Prelude.{◌≡◌, ◌≤◌, ◌⊎◌, ⊤, ℕ, ◌+◌, ◌*◌, List, [], ◌∷◌, length, drop, map, sum, take, Option, Some, None, Result, Ok, Err}
+use Rattle.std.specs.Prelude.{◌≡◌, ◌≤◌, ◌⊎◌, ⊤, ℕ, ◌+◌, ◌*◌, List, [], ◌∷◌, length, drop, map, sum, take, Option, Result, Ok, Err}
 use Rattle.std.specs.List.{AllZip}
 use Rattle.fdr_file.specs.declared.fault.TraceFault.{TraceFault}
 use Rattle.fdr_file.specs.declared.fault.TraceFault.TheVariants.{NoMemory}

@@ -1,6 +1,5 @@
 -- The records of a run of the basic mode, as they are read again.
 use Rattle.std.specs.Prelude.{ℕ, zero, suc, ◌/◌, List, [], ◌∷◌, length, drop, take, Option, Some, None, Result, Ok, Err}
-use Rattle.fdr_record.specs.declared.event.Event.{Event}
 use Rattle.runtime_log.specs.declared.basic.BasicRec.{BasicRec}
 use Rattle.runtime_log.specs.declared.basic.BasicRec.TheVariants.{Passed, Argument}
 use Rattle.runtime_log.specs.declared.fault.LogFault.{LogFault}

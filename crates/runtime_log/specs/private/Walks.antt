@@ -1,5 +1,5 @@
 -- A way through the records of a block, from one to the next.
-use Rattle.std.specs.Prelude.{◌≡◌, ◌<◌, ◌≤◌, ℕ, ◌+◌, List, [], ◌∷◌, ◌++◌, drop, length, option_to_list, Option, Some, None, Result, Ok, Err}
+use Rattle.std.specs.Prelude.{◌≡◌, ◌<◌, ◌≤◌, ℕ, ◌+◌, List, [], ◌∷◌, ◌++◌, drop, length, option_to_list, Option, Result, Ok, Err}
 use Rattle.fdr_record.specs.declared.event.Event.{Event}
 use Rattle.fdr_record.specs.Records.{metadata_length}
 use Rattle.fdr_file.specs.declared.fault.TraceFault.{TraceFault}

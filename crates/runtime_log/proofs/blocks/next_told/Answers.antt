@@ -1,4 +1,4 @@
-use Rattle.std.proofs.Common.{List, ◌+◌, ◌++◌, ◌<◌, ◌≡◌, ap, append_assoc, arith, length, sym, ◌∙◌}
+use Rattle.std.proofs.Common.{List, ◌++◌, ◌<◌, ap, append_assoc, arith, length, sym, ◌∙◌}
 use Rattle.std.specs.Prelude.{option_to_list}
 use Rattle.std.proofs.lemmas.List.{length-drop}
 use Rattle.fdr_record.specs.declared.event.Event.{Event}

@@ -1,4 +1,4 @@
-use Rattle.std.proofs.Common.{◌≡◌, ℕ, ◌*◌, ◌^◌, ◌≤◌, List, [], take}
+use Rattle.std.proofs.Common.{◌≡◌, ◌*◌, ◌^◌, ◌≤◌, List, [], take}
 use Rattle.std.specs.Prelude.{◌≢◌, All}
 use Rattle.fdr_buffer.specs.declared.buffer.TheConstants.{LARGEST_SIZE}
 use Rattle.fdr_file.specs.declared.header.Header.{Header}
@@ -9,8 +9,8 @@ use Rattle.runtime_log.specs.private.Packings.{HasPacked}
 use Rattle.runtime_log.proofs.import.pack_blocks.Given as goal
 
 -- the blocks so far were packed
-abbrev pub invariant-blocks : goal.invariant-blocks
-invariant-blocks l = record {
+abbrev pub invariant-adding : goal.invariant-adding
+invariant-adding l = record {
   few : AreFew l.packing.notes.facts;
   size : l.packing.buffer.size ≡ LARGEST_SIZE;
   room : l.packing.notes.facts.events ≤ l.block-index * 2 ^ 31;

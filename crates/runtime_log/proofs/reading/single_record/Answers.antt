@@ -1,4 +1,4 @@
-use Rattle.std.proofs.Common.{ℕ, refl, ap}
+use Rattle.std.proofs.Common.{refl, ap}
 use Rattle.runtime_log.specs.declared.basic.Owner.{Owner}
 use Rattle.runtime_log.proofs.RunLists.{single_is_run}
 use Rattle.runtime_log.proofs.reading.single_record.Goals as goal

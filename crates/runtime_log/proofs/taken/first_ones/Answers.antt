@@ -1,4 +1,4 @@
-use Rattle.std.proofs.Common.{Bor, Global, List, ◌+◌, ℕ, Vec, [], ◌∷◌, ◌++◌, ◌||◌, append-nil, ap, arith, drop, length, map, refl, subst, sym, ◌∙◌}
+use Rattle.std.proofs.Common.{Bor, Global, List, ◌+◌, ℕ, Vec, [], ◌++◌, ◌||◌, append-nil, ap, arith, length, map, refl, subst, sym, ◌∙◌}
 use Rattle.std.specs.Prelude.{not}
 use Rattle.std.specs.Str.{bytes_eq}
 use Rattle.std.proofs.lemmas.Bool.{not-true, not-false}
@@ -36,18 +36,18 @@ keeping-preserved c =
     let adds = λ (q : List ℕ). c.in_ok-add_content.ensures.seen q ∙ ap (λ (xs : List ℕ). bytes_eq q xs || is_among seen q) same in
     record {
       few = elim c.if-branch.branch [
-        then-branch+in_ok-push w ↦ omega (arith, i.few, ap (λ (v : Vec Placed Global). length v.items) w.kept-is, ap length w.in_ok-push.ensures.items, length_push {X = Placed})
+        | then-branch+in_ok-push w ↦ omega (arith, i.few, ap (λ (v : Vec Placed Global). length v.items) w.kept-is, ap length w.in_ok-push.ensures.items, length_push {X = Placed})
         | else-branch w ↦ omega (arith, i.few, ap (λ (v : Vec Placed Global). length v.items) w.kept-is)
       ];
       keeps = λ said are.
           let k = i.keeps said are in
           let there = at_index bytes mode c.args.blocks.now said at _ are c.keeping-test.true in
           elim c.if-branch.branch [
-            then-branch+in_ok-push w ↦ subst (λ (v : Vec Placed Global). KeepsFirst bytes mode said (at + 1) v.items (map (λ (x : Bor (List ℕ)). x.now) c.add_content.new.seen.keys)) (sym w.kept-is)
-            (subst (λ (ps : List Placed). KeepsFirst bytes mode said (at + 1) ps (map (λ (x : Bor (List ℕ)). x.now) c.add_content.new.seen.keys)) (sym w.in_ok-push.ensures.items)
-            (keeps_own bytes mode said at kept seen _ _ k there (not-true _ (sym own ∙ w.if-branch.true)) adds))
+            | then-branch+in_ok-push w ↦ subst (λ (v : Vec Placed Global). KeepsFirst bytes mode said (at + 1) v.items (map (λ (x : Bor (List ℕ)). x.now) c.add_content.new.seen.keys)) (sym w.kept-is)
+                (subst (λ (ps : List Placed). KeepsFirst bytes mode said (at + 1) ps (map (λ (x : Bor (List ℕ)). x.now) c.add_content.new.seen.keys)) (sym w.in_ok-push.ensures.items)
+                (keeps_own bytes mode said at kept seen _ _ k there (not-true _ (sym own ∙ w.if-branch.true)) adds))
             | else-branch w ↦ subst (λ (v : Vec Placed Global). KeepsFirst bytes mode said (at + 1) v.items (map (λ (x : Bor (List ℕ)). x.now) c.add_content.new.seen.keys)) (sym w.kept-is)
-            (keeps_doubled bytes mode said at kept seen _ _ k there (not-false _ (sym own ∙ w.if-branch.false)) adds)
+                (keeps_doubled bytes mode said at kept seen _ _ k there (not-false _ (sym own ∙ w.if-branch.false)) adds)
           ];
     }
 

@@ -22,8 +22,7 @@ returns c = λ said are.
     let all = at_length bytes mode c.args.blocks.now said are in
     let first_long = at_length bytes mode first (undoubled said) once in
     let taken_long = at_length bytes mode c.sort_unstable_by.new.self.items o.taken o.at in
-    let chosen_long = length_permutation (chosen said) o.taken o.all in
-    (
+    let chosen_long = length_permutation (chosen said) o.taken o.all in (
       o.taken,
       record { all = o.all; sorted = o.sorted },
       o.at,

@@ -1,8 +1,3 @@
-use Rattle.std.proofs.Common.{List, ap, sym, ◌∙◌}
-use Rattle.runtime_log.specs.declared.blocks.BlockEvents.{BlockEvents}
-use Rattle.runtime_log.specs.BasicLogs.{basic_events}
-use Rattle.runtime_log.specs.private.Coming.{events_to_come, recorder_events}
-use Rattle.runtime_log.specs.private.Records.{records_in}
 use Rattle.runtime_log.proofs.Coming.{gives_some, match_some}
 use Rattle.runtime_log.proofs.blocks.BlockEvents.next.Goals as goal
 

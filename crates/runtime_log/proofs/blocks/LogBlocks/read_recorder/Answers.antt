@@ -1,4 +1,4 @@
-use Rattle.std.proofs.Common.{◌≡◌, Global, List, [], ◌∷◌, ◌++◌, Vec, sym, ap, subst, ◌∙◌, inr}
+use Rattle.std.proofs.Common.{Global, [], ◌∷◌, ◌++◌, Vec, sym, ap, subst, ◌∙◌, inr}
 use Rattle.runtime_log.specs.declared.blocks.LogBlock.{LogBlock as Placed}
 use Rattle.runtime_log.specs.declared.blocks.Mode.{Mode}
 use Rattle.runtime_log.specs.Logs.{as_log}

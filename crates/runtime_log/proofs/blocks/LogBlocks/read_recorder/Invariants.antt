@@ -1,10 +1,4 @@
-use Rattle.std.proofs.Common.{◌≡◌, ℕ, ◌+◌, ◌-◌, ◌≤◌, List, length, drop, map}
-use Rattle.std.specs.Prelude.{sum}
-use Rattle.xray_io.specs.Rows.{InTurn}
-use Rattle.fdr_file.specs.Places.{starts}
-use Rattle.fdr_file.specs.Traces.{block_length}
-use Rattle.runtime_log.specs.Logs.{LogBlock, log_block_rows, recorder_blocks}
-use Rattle.runtime_log.specs.private.Choices.{AreAt, AreInFileOrder}
+use Rattle.std.proofs.Common.{◌≡◌, ◌-◌, ◌≤◌, length}
 use Rattle.runtime_log.specs.private.Readings.{BlocksRead}
 use Rattle.runtime_log.proofs.blocks.LogBlocks.read_recorder.Given as goal
 

@@ -1,4 +1,4 @@
-use Rattle.std.proofs.Common.{◌≡◌, ◌+◌, ◌-◌, ◌≤◌, length}
+use Rattle.std.proofs.Common.{◌≡◌, ◌+◌, ◌≤◌, length}
 use Rattle.runtime_log.specs.Logs.{BlockSoFar}
 use Rattle.runtime_log.specs.private.Readings.{ReadsOn}
 use Rattle.runtime_log.proofs.blocks.LogBlocks.read_records.Given as goal

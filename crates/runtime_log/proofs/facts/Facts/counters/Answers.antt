@@ -1,4 +1,3 @@
-use Rattle.std.proofs.Common.{Some}
 use Rattle.std.specs.Prelude.{codes}
 use Rattle.runtime_log.specs.Facts.{count_line, counter_line}
 use Rattle.runtime_log.proofs.FactTexts.{three_lines}

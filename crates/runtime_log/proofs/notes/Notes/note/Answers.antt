@@ -1,4 +1,4 @@
-use Rattle.std.proofs.Common.{◌≡◌, ℕ, List, subst, sym, ap, ◌∙◌, cond}
+use Rattle.std.proofs.Common.{ℕ, subst, sym, ap, ◌∙◌, cond}
 use Rattle.fdr_record.specs.declared.event.Event.{Event}
 use Rattle.fdr_file.specs.Traces.{logs_arg}
 use Rattle.runtime_log.specs.private.Notes.{NotesCounter}

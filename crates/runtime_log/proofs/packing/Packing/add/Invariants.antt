@@ -1,11 +1,9 @@
-use Rattle.std.proofs.Common.{◌≡◌, ℕ, ◌+◌, List, ◌++◌, length, map}
+use Rattle.std.proofs.Common.{◌≡◌, ◌+◌, length}
 use Rattle.std.specs.Prelude.{All, IsTrue}
 use Rattle.fdr_buffer.specs.declared.buffer.TheConstants.{LARGEST_SIZE}
-use Rattle.fdr_record.specs.declared.event.Event.{Event}
 use Rattle.fdr_record.specs.Recordable.{IsRecordable}
-use Rattle.fdr_file.specs.ThreadEvents.{ThreadEvent}
 use Rattle.runtime_log.specs.private.Coming.{MayGive, events_to_come}
-use Rattle.runtime_log.specs.private.Notes.{AreFew, HasNoted, SameLog}
+use Rattle.runtime_log.specs.private.Notes.{AreFew}
 use Rattle.runtime_log.specs.private.Packings.{Adds}
 use Rattle.runtime_log.proofs.packing.Packing.add.Given as goal
 
