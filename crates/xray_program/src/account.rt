@@ -111,7 +111,8 @@ impl<'a> Work<'a> for Account<'a> {
     ghost use Rattle.std.specs.Prelude.{[], ⊤};
     ghost use Rattle.xray_program.specs.{Account.{account_report}, Outcomes.{Done}};
     ghost use Rattle.xray_program.specs.private.ReportTakes.{ComesOfMeant};
-    ghost use Rattle.command_words.specs.{Views.{source_view}, Words as words};
+    ghost use Rattle.command_words.specs.Views.{source_view};
+    ghost use Rattle.command_words.specs.Words as words;
 
     type Inputs = ReportInputs<AccountRows>;
 

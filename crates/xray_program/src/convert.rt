@@ -38,7 +38,8 @@ pub(crate) struct Convert<'a> {
 }
 
 impl<'a> Work<'a> for Convert<'a> {
-    ghost use Rattle.command_words.specs.{Views.{source_view}, Words as words};
+    ghost use Rattle.command_words.specs.Views.{source_view};
+    ghost use Rattle.command_words.specs.Words as words;
     ghost use Rattle.xray_program.specs.Convert.{ConvertsTo};
     ghost use Rattle.xray_program.specs.private.ReportTakes.{ComesOfMeant};
 

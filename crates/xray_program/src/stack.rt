@@ -89,7 +89,8 @@ pub(crate) struct Stack<'a> {
 }
 
 impl<'a> Work<'a> for Stack<'a> {
-    ghost use Rattle.command_words.specs.{Views.{source_view}, Words as words};
+    ghost use Rattle.command_words.specs.Views.{source_view};
+    ghost use Rattle.command_words.specs.Words as words;
     ghost use Rattle.xray_program.specs.Stack.{StacksCome};
     ghost use Rattle.xray_program.specs.private.ReportTakes.{ComesOfMeant};
 

@@ -11,10 +11,10 @@ use Rattle.trace_forms.specs.BasicLogs.{log_of_bytes, wide_cpu}
 use Rattle.trace_forms.specs.FaultWords.{basic_words}
 use Rattle.trace_forms.specs.TraceEvents.{events_of_bytes}
 use Rattle.trace_words.specs.TraceWords.{trace_words}
-use Rattle.xray_names.specs.declared.log.Log.{Log}
-use Rattle.xray_names.specs.declared.log.Log.TheVariants as logs
-use Rattle.xray_names.specs.declared.log.LogFault.{LogFault}
-use Rattle.xray_names.specs.declared.log.LogFault.TheVariants as faults
+use Rattle.xray_program.specs.declared.log.Log.{Log}
+use Rattle.xray_program.specs.declared.log.Log.TheVariants as logs
+use Rattle.xray_program.specs.declared.log.LogFault.{LogFault}
+use Rattle.xray_program.specs.declared.log.LogFault.TheVariants as faults
 use Rattle.yaml_convert.specs.Yaml.{yaml_of_bytes}
 
 -- bytes of a trace; or a trace whose CPUs fit the byte that a basic log has for them
