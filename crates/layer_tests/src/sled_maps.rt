@@ -162,7 +162,8 @@ fn names_are_texts_of_yaml(rt: HostRuntime) -> Result<(), Fail> {
 }
 
 /// The trace events of one event.
-const EVENTS: &str = "{\"traceEvents\":[{\"cpu\":0,\"name\":\"\\\"café\\\"\\\\u200D\",\"ph\":\"B\",\"pid\":1,\"tid\":1,\"ts\":3}]}\n";
+const EVENTS: &str =
+    "{\"traceEvents\":[{\"cpu\":0,\"name\":\"\\\"café\\\"\\\\u200D\",\"ph\":\"B\",\"pid\":1,\"tid\":1,\"ts\":3}]}\n";
 
 #[test]
 fn names_are_strings_of_json(rt: HostRuntime) -> Result<(), Fail> {

@@ -22,10 +22,7 @@ const NAMED: [(&str, &str); 6] = [
         "funcid,count,min,med,90p,99p,max,sum,entries,exits,function\n\
         1,1,2,2,2,2,2,2,0,0,\"f<char>(café, int)\"\n",
     ),
-    (
-        "stack --map=m t --format=flame",
-        "f<char>(café, int) 2\n",
-    ),
+    ("stack --map=m t --format=flame", "f<char>(café, int) 2\n"),
     ("stack t --map m --format svg", PICTURE),
     (
         "convert t --map m",
