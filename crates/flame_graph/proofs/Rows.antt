@@ -1,4 +1,4 @@
--- Worked rows: names, places and pictures. The pictures are those of `flame_model.py` of whole_runs.
+-- Worked rows: names, places and pictures. The pictures are those of `tools/model/flame_model.py`.
 use Rattle.std.proofs.Common.{◌≡◌, ◌-◌, ◌^◌, ◌++◌, ◌∷◌, ℕ, List, [], refl}
 use Rattle.std.specs.Fmt.{digits}
 use Rattle.std.specs.Prelude.{codes}
