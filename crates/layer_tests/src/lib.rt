@@ -55,6 +55,8 @@ mod pools;
 #[cfg(test)]
 mod replaying;
 #[cfg(test)]
+mod runtime_logs;
+#[cfg(test)]
 mod scripts;
 #[cfg(test)]
 mod setups;
