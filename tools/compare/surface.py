@@ -173,6 +173,12 @@ struct Trace { header: Header, blocks: Vec<Block> }
 enum TraceFault { Short(u64), Version(u16), Form(u16), Order(u64), Extents(u64), Bad(u64, RecFault), NoBase(u64), NoMemory }
 fn write_file(header: &Header, buffers: &[Buffer], sink: &mut S) -> Result<(), WriteFault>
 fn read_trace(bytes: &[u8]) -> Result<Trace, TraceFault>
+trait Taker
+struct TraceScan, EventCursor
+fn Taker::block(&mut self, thread: u32, wall: Wall, pid: u32) -> Result<(), NoMemory>; event(&mut self, event: &Event) -> Result<(), NoMemory>
+fn TraceScan::new() -> TraceScan; feed(&mut self, piece: &[u8], taker: &mut K) -> Result<(), NoMemory>; finish(self) -> Result<Header, TraceFault>
+fn EventCursor::new(bytes: &[u8]) -> EventCursor; next(&mut self) -> Option<(u32, u32, Event)>; header(&self) -> Header
+fn readable(bytes: &[u8]) -> Result<usize, TraceFault>
 
 crate trace_flush
 struct AuditLine { thread: u32, end: End, segments: u32, first: u32 }
@@ -188,6 +194,9 @@ fn pairs(events: &[Event]) -> Result<Vec<Pair>, NoMemory>
 fn thread_events(trace: &Trace, thread: u32) -> Result<Vec<Event>, NoMemory>
 fn stacks(trace: &Trace) -> Result<Vec<StackRow>, StackFault>
 fn write_stack(rows: &[StackRow], image: Option<&Image>, form: StackForm, sink: &mut S) -> Result<(), WriteFault>
+struct StackFold
+impl Taker for StackFold
+fn StackFold::new() -> StackFold; rows(self) -> Result<Vec<StackRow>, StackFault>
 
 crate account_report
 struct AccountRow { func: u32, count: u64, min: u64, med: u64, p90: u64, p99: u64, max: u64, sum: u128, entries: u64, exits: u64 }
@@ -195,9 +204,37 @@ enum SortKey { FuncId, Count, Min, Med, P90, P99, Max, Sum }
 fn account(trace: &Trace) -> Result<Vec<AccountRow>, NoMemory>
 fn order_rows(rows: &mut Vec<AccountRow>, sort: SortKey, descending: bool, top: Option<u32>)
 fn write_account(rows: &[AccountRow], latencies: u64, image: Option<&Image>, csv: bool, sink: &mut S) -> Result<(), WriteFault>
+struct AccountFold
+impl Taker for AccountFold
+fn AccountFold::new() -> AccountFold; rows(self) -> Result<(Vec<AccountRow>, u64), NoMemory>
 
 crate yaml_convert
 fn write_yaml(trace: &Trace, image: Option<&Image>, sink: &mut S) -> Result<(), WriteFault>
+fn write_yaml_bytes(bytes: &[u8], image: Option<&Image>, sink: &mut S) -> Result<(), WriteFault>
+
+crate audit_check
+struct AuditEntry { thread: u32, end: End, passings: u32, recorded: u32, segments: u32, first: u32, marks: Marks }
+struct Audit { setup: Setup, entries: Vec<AuditEntry>, recycled: u64 }
+enum AuditFault { Form(u32), NoMemory }
+enum Verdict { Yes, Ends(u32), Marks(u32), Counts(u32), Recycled, Trace }
+fn read_audit(bytes: &[u8]) -> Result<Audit, AuditFault>
+fn check_audit(image: &Image, script: &Script, audit: &Audit, trace: &[u8]) -> Result<Verdict, NoMemory>
+
+crate call_trie
+struct TrieRecorder
+enum TrieState { Live, Full, Deep }
+impl Recorder for TrieRecorder
+fn TrieRecorder::new(nodes: u32) -> Result<TrieRecorder, NoMemory>; state(&self) -> TrieState
+fn merged(tries: &[TrieRecorder]) -> Result<Vec<StackRow>, NoMemory>
+
+crate trace_forms
+enum EventFault { Many, NoMemory }
+enum BasicFault { Short(u64), Version(u16), Form(u16), Tag(u64, u16), Kind(u64, u8), NoMemory }
+fn event_text(trace: &Trace, image: Option<&Image>) -> Result<Vec<u8>, EventFault>
+fn wide_cpu(trace: &Trace) -> Option<u64>
+fn write_basic(trace: &Trace, sink: &mut S) -> Result<(), WriteFault>
+fn read_basic(bytes: &[u8]) -> Result<Trace, BasicFault>
+fn write_dump(bytes: &[u8], sink: &mut S) -> Result<(), WriteFault>
 
 crate xray_program
 fn soak_inputs(number: u64) -> Result<(Vec<u8>, Vec<u8>, Vec<u8>), NoMemory>
