@@ -4,11 +4,12 @@ ghost use Rattle.std.specs.Prelude.{◌<◌, length};
 
 use crate::checks::{check_same_at, check_same_text};
 use crate::event_traces::{Said, printed, trace_of};
-use account_report::{AccountFormat, AccountText, account, latencies};
+use account_report::{AccountFormat, AccountRow, AccountText, account, latencies};
+use fdr_file::Trace;
 use fdr_record::Kind;
 use function_names::Names;
 use map_names::{MapFault, read_map};
-use stack_rebuild::{StackForm, StackText, stacks};
+use stack_rebuild::{StackForm, StackRow, StackText, stacks};
 use std::alloc::Global;
 use std::test::Fail;
 use trace_forms::EventsText;
@@ -107,17 +108,22 @@ const ACCOUNT: &str = "funcid,count,min,med,90p,99p,max,sum,entries,exits,functi
     4,1,3,3,3,3,3,3,0,0,\"\"\"café\"\"\\u200D\"\n\
     5,1,1,1,1,1,1,1,0,0,#5\n";
 
+/// Rows with these names, as csv.
+fn fields<'a>(rows: &'a [AccountRow], names: Names<'a>) -> AccountText<'a> {
+    AccountText {
+        rows,
+        latencies: latencies(rows),
+        names,
+        format: AccountFormat::Csv,
+    }
+}
+
 #[test]
 fn names_are_fields_of_csv(rt: HostRuntime) -> Result<(), Fail> {
     let alloc = rt.alloc();
     let names = read_map(alloc, MAP)?;
     let rows = account(alloc, &trace_of(alloc, &CALLS)?)?;
-    let text = AccountText {
-        rows: &rows,
-        latencies: latencies(&rows),
-        names: Names::Map(&names),
-        format: AccountFormat::Csv,
-    };
+    let text = fields(&rows, Names::Map(&names));
     check_same_text(&rt, printed(alloc, &text)?.as_str(), ACCOUNT);
     Ok(())
 }
@@ -129,16 +135,21 @@ const PATHS: &str = "a<b, c>(int) const & 2\n\
     a<b, c>(int) const &;a,b;it's [u8: 4];\"café\"\\u200D 2\n\
     a<b, c>(int) const &;a,b;it's [u8: 4];\"café\"\\u200D;#5 1\n";
 
+/// Rows with these names, for FlameGraph's script.
+fn frames<'a>(rows: &'a [StackRow], names: Names<'a>) -> StackText<'a> {
+    StackText {
+        rows,
+        names,
+        form: StackForm::Flame,
+    }
+}
+
 #[test]
 fn names_are_frames_of_paths(rt: HostRuntime) -> Result<(), Fail> {
     let alloc = rt.alloc();
     let names = read_map(alloc, MAP)?;
     let rows = stacks(alloc, &trace_of(alloc, &CALLS)?)?;
-    let text = StackText {
-        rows: &rows,
-        names: Names::Map(&names),
-        form: StackForm::Flame,
-    };
+    let text = frames(&rows, Names::Map(&names));
     check_same_text(&rt, printed(alloc, &text)?.as_str(), PATHS);
     Ok(())
 }
@@ -149,14 +160,17 @@ const DOCUMENT: &str =
     records:\n  - { type: 0, func-id: 3, function: 'it''s [u8; 4]', cpu: 0, thread: 1, process: 1, \
     kind: function-enter, tsc: 2 }\n...\n";
 
+/// A trace with these names, as YAML.
+fn yaml_with<'a>(trace: &'a Trace, names: Names<'a>) -> YamlText<'a> {
+    YamlText { trace, names }
+}
+
 #[test]
 fn names_are_texts_of_yaml(rt: HostRuntime) -> Result<(), Fail> {
     let alloc = rt.alloc();
     let names = read_map(alloc, MAP)?;
-    let text = YamlText {
-        trace: &trace_of(alloc, &CALLS[2..3])?,
-        names: Names::Map(&names),
-    };
+    let trace = trace_of(alloc, &CALLS[2..3])?;
+    let text = yaml_with(&trace, Names::Map(&names));
     check_same_text(&rt, printed(alloc, &text)?.as_str(), DOCUMENT);
     Ok(())
 }
@@ -165,14 +179,17 @@ fn names_are_texts_of_yaml(rt: HostRuntime) -> Result<(), Fail> {
 const EVENTS: &str =
     "{\"traceEvents\":[{\"cpu\":0,\"name\":\"\\\"café\\\"\\\\u200D\",\"ph\":\"B\",\"pid\":1,\"tid\":1,\"ts\":3}]}\n";
 
+/// A trace with these names, as trace events.
+fn events_with<'a>(trace: &'a Trace, names: Names<'a>) -> EventsText<'a> {
+    EventsText { trace, names }
+}
+
 #[test]
 fn names_are_strings_of_json(rt: HostRuntime) -> Result<(), Fail> {
     let alloc = rt.alloc();
     let names = read_map(alloc, MAP)?;
-    let text = EventsText {
-        trace: &trace_of(alloc, &CALLS[3..4])?,
-        names: Names::Map(&names),
-    };
+    let trace = trace_of(alloc, &CALLS[3..4])?;
+    let text = events_with(&trace, Names::Map(&names));
     check_same_text(&rt, printed(alloc, &text)?.as_str(), EVENTS);
     Ok(())
 }
