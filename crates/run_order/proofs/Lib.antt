@@ -1,0 +1,4 @@
+pub mod Counts
+pub mod Joining
+pub mod Replaying
+pub mod Stopping

@@ -1,0 +1,5 @@
+pub mod FreeScripts
+pub mod Places
+pub mod Orders
+pub mod Placed
+pub mod private
