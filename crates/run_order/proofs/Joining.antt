@@ -1,5 +1,5 @@
 -- The lines of a schedule that is being made.
-use Rattle.std.proofs.Common.{◌≡◌, ℕ, zero, suc, List, [], ◌∷◌, ◌++◌, append-nil, refl, sym, ap, ◌∙◌}
+use Rattle.std.proofs.Common.{◌≡◌, ℕ, zero, suc, List, [], ◌++◌, append-nil, refl, sym, ap, ◌∙◌}
 use Rattle.step_sim.specs.declared.turns.Turns.{Turns}
 use Rattle.run_order.specs.declared.lines.ScheduleLines.{ScheduleLines}
 use Rattle.run_order.specs.Orders.{joined}

@@ -1,4 +1,5 @@
 pub mod Counts
+pub mod FreeMicros
 pub mod Joining
 pub mod MergedTurns
 pub mod Replaying

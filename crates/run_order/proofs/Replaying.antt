@@ -1,22 +1,22 @@
 -- A replay along the places of loads: it leaves exactly these loads.
-use Rattle.std.proofs.Common.{◌≡◌, ◌≢◌, inl, inr, ℕ, zero, suc, ◌+◌, ◌-◌, ◌<◌, ◌≤◌, min, List, [], ◌∷◌, ◌++◌, Option, Some, None, refl, sym, ap, subst, ◌∙◌, arith, fold, length, map, take}
+use Rattle.std.proofs.Common.{◌≡◌, inl, inr, ℕ, zero, suc, ◌+◌, ◌-◌, ◌<◌, ◌≤◌, min, List, [], ◌∷◌, ◌++◌, Option, Some, None, refl, sym, ap, subst, ◌∙◌, arith, length, map, take}
 use Rattle.std.specs.Prelude.{slice_get, unwrap_or}
 use Rattle.std.specs.List.{enumerate_from, flat_map}
 use Rattle.std.proofs.lemmas.Bool.{cases_eq}
 use Rattle.std.proofs.lemmas.List.{length-map, take_all}
 use Rattle.std.proofs.lemmas.List.Sums.{fold-append}
-use Rattle.std.proofs.lemmas.Option.{slice_get-get_or, slice_get_within}
+use Rattle.std.proofs.lemmas.Option.{slice_get_within}
 use Rattle.patch_script.specs.CodeAt.{code_at}
 use Rattle.patch_script.specs.Micros.{hold_of, start_of, total_of}
 use Rattle.machine_step.specs.Loads.{Load, next_load}
 use Rattle.step_sim.specs.declared.turns.Turns.{Turns}
 use Rattle.step_sim.specs.declared.turns.Turns.TheVariants.{Thread, Patcher}
-use Rattle.step_sim.specs.Plays.{Plays, Rules, ThreadsRunOut, line_played, lines_played, turns}
+use Rattle.step_sim.specs.Plays.{Plays, ThreadsRunOut, line_played, lines_played, turns}
 use Rattle.step_sim.specs.Replay.{Cast, Moment, first_moment, moment_rules, of_thread, patcher_turn, thread_count, thread_turn, wanted_by}
 use Rattle.step_sim.proofs.Plays.{turns_add}
 use Rattle.step_sim.proofs.TurnLemmas.{turn_own, turns_length, turns_other, turns_place}
 use Rattle.run_order.specs.Orders.{joined, joined_to, ordered, thread_line, turns_at, turns_from}
-use Rattle.run_order.specs.Placed.{ArePlaced, Rise}
+use Rattle.run_order.specs.Placed.{ArePlaced}
 use Rattle.run_order.proofs.Counts.{at, at_places, before, before_all, before_next, before_none}
 
 -- ---- lists

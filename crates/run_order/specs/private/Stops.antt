@@ -6,7 +6,7 @@ use Rattle.step_sim.specs.declared.turns.Turns.{Turns}
 use Rattle.step_sim.specs.declared.turns.Turns.TheVariants.{Patcher}
 use Rattle.run_order.specs.declared.lines.ScheduleLines.{ScheduleLines}
 use Rattle.run_order.specs.declared.stop.Stop.{Stop}
-use Rattle.run_order.specs.Orders.{thread_line, turns_at, turns_from}
+use Rattle.run_order.specs.Orders.{thread_line, turns_from}
 use Rattle.run_order.specs.private.Lines.{HasJoined}
 
 -- the places of their loads

@@ -1,4 +1,4 @@
-use Rattle.std.proofs.Common.{◌≤◌, length}
+use Rattle.std.proofs.Common.{◌≤◌}
 use Rattle.run_order.specs.private.Stops.{ArePassed, HaveAdded}
 use Rattle.run_order.proofs.merging.add_turns.Given as goal
 
