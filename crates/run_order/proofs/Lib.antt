@@ -6,3 +6,4 @@ pub mod MergedTurns
 pub mod Replaying
 pub mod Searching
 pub mod Stopping
+pub mod ThreadLoads
