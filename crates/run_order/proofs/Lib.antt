@@ -1,8 +1,10 @@
 pub mod Counts
 pub mod FreeMicros
+pub mod Gathering
 pub mod Joining
 pub mod Leading
 pub mod MergedTurns
+pub mod Ordered
 pub mod Replaying
 pub mod Searching
 pub mod Stopping

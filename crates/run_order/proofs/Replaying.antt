@@ -60,7 +60,7 @@ line_turns cast m thread (suc loads) = refl
 
 -- ---- lists with one item per thread
 
-of_thread_at : {X : Type 0} (lists : List (List X)) (j : ℕ) (xs : List X) → slice_get lists j ≡ Some xs → of_thread lists (1 + j) ≡ xs
+pub of_thread_at : {X : Type 0} (lists : List (List X)) (j : ℕ) (xs : List X) → slice_get lists j ≡ Some xs → of_thread lists (1 + j) ≡ xs
 of_thread_at {X = X} lists j xs found =
     let back : 1 + j - 1 ≡ j = omega arith in
     let none : List X = [] in
