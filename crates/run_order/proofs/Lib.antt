@@ -3,6 +3,7 @@ pub mod FreeMicros
 pub mod Gathering
 pub mod Joining
 pub mod Leading
+pub mod Leasts
 pub mod MergedTurns
 pub mod Ordered
 pub mod Replaying
