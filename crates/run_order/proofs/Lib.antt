@@ -1,5 +1,7 @@
 pub mod Counts
+pub mod FreeLines
 pub mod FreeMicros
+pub mod FreeWords
 pub mod Gathering
 pub mod Joining
 pub mod Leading

@@ -1,6 +1,6 @@
 -- A script without its waits: its commands, its text, and where its places are.
-use Rattle.std.specs.Prelude.{◌&&◌, ◌+◌, ◌==◌, ◌∷◌, ℕ, List, [], Bool, true, false, not, nat_le, nat_lt, codes, filter, if◌then◌else◌, is_some, length, slice_get, take, unwrap_or}
-use Rattle.std.specs.List.{flat_map}
+use Rattle.std.specs.Prelude.{◌&&◌, ◌+◌, ◌==◌, ◌∷◌, ◌++◌, ℕ, List, [], Bool, true, false, not, nat_le, nat_lt, codes, filter, if◌then◌else◌, is_some, length, slice_get, take, unwrap_or}
+use Rattle.std.specs.List.{flat_map, slice_split}
 use Rattle.std.specs.Str.Lines.{lines}
 use Rattle.text_lines.specs.Keywords.{in_table}
 use Rattle.text_lines.specs.Words.{words_of}
@@ -20,14 +20,15 @@ free_commands script = filter (λ command. not (is_waiting command)) script
 
 -- ---- its text
 
--- the lines of a text, each with the LF that ends it
+-- the parts between LFs, each with the LF that ends it; an empty last part is no line
+abbrev pub whole_of_parts : List (List ℕ) → List (List ℕ)
+whole_of_parts [] = []
+whole_of_parts (part ∷ []) = if length part == 0 then [] else part ∷ []
+whole_of_parts (part ∷ next ∷ later) = (part ++ 10 ∷ []) ∷ whole_of_parts (next ∷ later)
+
+-- the lines of a text, each with what ends it
 abbrev pub whole_lines : List ℕ → List (List ℕ)
-whole_lines [] = []
-whole_lines (byte ∷ bytes) = if byte == 10 then (byte ∷ []) ∷ whole_lines bytes else begun (whole_lines bytes)
-  where
-    begun : List (List ℕ) → List (List ℕ)
-    begun [] = (byte ∷ []) ∷ []
-    begun (line ∷ later) = (byte ∷ line) ∷ later
+whole_lines text = whole_of_parts (slice_split (λ byte. byte == 10) text)
 
 -- the first words of the lines at which a thread or the patcher may wait
 abbrev pub waiting_words : List (List ℕ × Bool)
