@@ -1,6 +1,7 @@
 pub mod Counts
 pub mod FreeLines
 pub mod FreeMicros
+pub mod FreeReading
 pub mod FreeWords
 pub mod Gathering
 pub mod Joining
