@@ -9,6 +9,7 @@ pub mod Leading
 pub mod Leasts
 pub mod MergedTurns
 pub mod Ordered
+pub mod Replayed
 pub mod Replaying
 pub mod Searching
 pub mod Stopping

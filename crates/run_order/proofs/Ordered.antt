@@ -27,7 +27,7 @@ use Rattle.run_order.proofs.Replaying.{of_thread_at, replay_of_places}
 use Rattle.run_order.proofs.Searching.{was_made}
 use Rattle.run_order.proofs.ThreadLoads.{Exist, PlacedIn, thread_placed}
 
-none_there : {X : Type 0} (xs : List X) (i : ℕ) → i < length xs → slice_get xs i ≡ None → ⊥
+pub none_there : {X : Type 0} (xs : List X) (i : ℕ) → i < length xs → slice_get xs i ≡ None → ⊥
 none_there [] i low e = omega (arith, low)
 none_there (x ∷ xs) zero low e = cc
 none_there (x ∷ xs) (suc i) low e = none_there xs i (omega (arith, low)) e
@@ -36,13 +36,13 @@ some_same : (a b : ThreadRun) → ◌≡◌ {A = Option ThreadRun} (Some a) (Som
 some_same a b e = cc
 
 -- the sleds that each thread of a run passes
-abbrev passings_of : List ThreadRun → List (List ℕ)
+abbrev pub passings_of : List ThreadRun → List (List ℕ)
 passings_of runs = map sleds_passed (passed_of runs)
 
-passings_count : (runs : List ThreadRun) → length (passings_of runs) ≡ length runs
+pub passings_count : (runs : List ThreadRun) → length (passings_of runs) ≡ length runs
 passings_count runs = length-map (passed_of runs) sleds_passed ∙ length-map runs (λ (run : ThreadRun). run.passed)
 
-passings_at : (runs : List ThreadRun) (i : ℕ) (run : ThreadRun) → slice_get runs i ≡ Some run
+pub passings_at : (runs : List ThreadRun) (i : ℕ) (run : ThreadRun) → slice_get runs i ≡ Some run
     → slice_get (passings_of runs) i ≡ Some (sleds_passed run.passed)
 passings_at runs i run e =
     slice_get-map sleds_passed (passed_of runs) i

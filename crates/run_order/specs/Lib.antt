@@ -2,4 +2,5 @@ pub mod FreeScripts
 pub mod Places
 pub mod Orders
 pub mod Placed
+pub mod RunOrders
 pub mod private
