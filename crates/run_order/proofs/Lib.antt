@@ -14,3 +14,4 @@ pub mod Replaying
 pub mod Searching
 pub mod Stopping
 pub mod ThreadLoads
+pub mod TurnsOf

@@ -2,8 +2,12 @@
 //! the run.
 #![tactic(auto)]
 
+mod laws;
 mod lines;
 mod merging;
 mod stop;
 
+pub use laws::{
+    a_script_reads_without_its_waits, an_order_leaves_its_run, each_lawful_run_has_one_order,
+};
 pub use stop::Stop;

@@ -1,0 +1,53 @@
+//! Laws of orders. Each law is the contract of a function that does nothing.
+
+ghost use Rattle.std.specs.Prelude.{◌≡◌, ℕ, All, List, None, Ok};
+ghost use Rattle.xray_image.specs.Program.{Program};
+ghost use Rattle.patch_script.specs.{Plans.{Plan, plan_of, waiting_line}, Refusals.{commands_of}};
+ghost use Rattle.machine_step.specs.declared.setup.Setup.{Setup};
+ghost use Rattle.traced_run.specs.{Following.{AllMarksFollow}, Losses.{without_losses}, Runs.{IsRun, ThreadRun}};
+ghost use Rattle.step_sim.specs.declared.turns.Turns.{Turns as Line};
+ghost use Rattle.step_sim.specs.{Replayed.{IsReplayOf}, Schedules.{AreTurnsOf}};
+ghost use Rattle.run_order.specs.{FreeScripts.{free_commands, free_text}, RunOrders.{IsOrderOf}};
+
+use patch_script::awaits_bound_passings;
+use step_sim::buffers_change_no_replay;
+
+/// The text of a script without its lines of `hold`, `release` and `await` reads as the script without
+/// these commands. Nothing waits in it, so it can be replayed.
+pub fn a_script_reads_without_its_waits()
+    ensures { (program : Program) (threads : ℕ) (text : List ℕ) (plan : Plan) → plan_of program threads text ≡ Ok plan
+        → (free : Plan) × (plan_of program threads (free_text text) ≡ Ok free)
+        × (commands_of free.lines ≡ free_commands (commands_of plan.lines)) × (waiting_line free.lines ≡ None) }
+{}
+
+/// The order of a run is a schedule for its threads (`turns`). The replay of this schedule, beside the
+/// script without waits, leaves the run (`leaves`): each thread has the same passings, end, last state
+/// and marks. Only which segments are lost may differ.
+pub fn an_order_leaves_its_run()
+    ensures turns { (program : Program) (text : List ℕ) (plan : Plan) (setup : Setup) (runs : List ThreadRun)
+        (schedule : List Line) → IsRun program setup runs
+        → IsOrderOf program setup.threads (commands_of plan.lines) runs schedule
+        → All (AreTurnsOf setup.threads) schedule }
+    ensures leaves { (program : Program) (text : List ℕ) (plan : Plan) (setup : Setup) (runs : List ThreadRun)
+        (schedule : List Line) → plan_of program setup.threads text ≡ Ok plan → IsRun program setup runs
+        → IsOrderOf program setup.threads (commands_of plan.lines) runs schedule
+        → (replayed : List ThreadRun)
+        × IsReplayOf program (free_commands (commands_of plan.lines)) schedule setup replayed
+        × (without_losses replayed ≡ without_losses runs) }
+{
+    awaits_bound_passings();
+    buffers_change_no_replay();
+}
+
+/// A run whose marks follow a script has an order (`some`), and only one (`one`). With
+/// `an_order_leaves_its_run`, some schedule replays the run. So the marks of all threads together come
+/// from one order of all loads and stores.
+pub fn each_lawful_run_has_one_order()
+    ensures some { (program : Program) (text : List ℕ) (plan : Plan) (setup : Setup) (runs : List ThreadRun)
+        → plan_of program setup.threads text ≡ Ok plan → IsRun program setup runs
+        → AllMarksFollow program setup.threads (commands_of plan.lines) runs
+        → (schedule : List Line) × IsOrderOf program setup.threads (commands_of plan.lines) runs schedule }
+    ensures one { (program : Program) (plan : Plan) (setup : Setup) (runs : List ThreadRun)
+        (schedule other : List Line) → IsOrderOf program setup.threads (commands_of plan.lines) runs schedule
+        → IsOrderOf program setup.threads (commands_of plan.lines) runs other → schedule ≡ other }
+{}
