@@ -7,7 +7,9 @@ pub mod Gathering
 pub mod Joining
 pub mod Leading
 pub mod Leasts
+pub mod LineTexts
 pub mod MergedTurns
+pub mod OneAnswer
 pub mod Ordered
 pub mod Replayed
 pub mod Replaying
@@ -15,3 +17,4 @@ pub mod Searching
 pub mod Stopping
 pub mod ThreadLoads
 pub mod TurnsOf
+pub mod WholeLines

@@ -1,14 +1,20 @@
 //! Laws of orders. Each law is the contract of a function that does nothing.
 
-ghost use Rattle.std.specs.Prelude.{◌≡◌, ℕ, All, List, None, Ok};
-ghost use Rattle.xray_image.specs.Program.{Program};
+ghost use Rattle.std.specs.Prelude.{◌≡◌, ℕ, All, List, None, Ok, Result};
+ghost use Rattle.xray_image.specs.Program.{IsAccepted, Program};
+ghost use Rattle.audit_check.specs.Statements.{MayState, Statement};
+ghost use Rattle.patch_script.specs.declared.command.Command.{Command};
 ghost use Rattle.patch_script.specs.{Plans.{Plan, plan_of, waiting_line}, Refusals.{commands_of}};
 ghost use Rattle.machine_step.specs.declared.setup.Setup.{Setup};
 ghost use Rattle.traced_run.specs.{Following.{AllMarksFollow}, Losses.{without_losses}, Runs.{IsRun, ThreadRun}};
 ghost use Rattle.step_sim.specs.declared.turns.Turns.{Turns as Line};
 ghost use Rattle.step_sim.specs.{Replayed.{IsReplayOf}, Schedules.{AreTurnsOf}};
+ghost use Rattle.run_order.specs.Answers.{IsOrdered};
+ghost use Rattle.run_order.specs.declared.fault.OrderFault.{OrderFault};
 ghost use Rattle.run_order.specs.{FreeScripts.{free_commands, free_text}, RunOrders.{IsOrderOf}};
 
+use audit_check::some_verdict;
+use machine_step::one_end;
 use patch_script::awaits_bound_passings;
 use step_sim::buffers_change_no_replay;
 
@@ -51,3 +57,17 @@ pub fn each_lawful_run_has_one_order()
         (schedule other : List Line) → IsOrderOf program setup.threads (commands_of plan.lines) runs schedule
         → IsOrderOf program setup.threads (commands_of plan.lines) runs other → schedule ≡ other }
 {}
+
+/// There is one answer to what an audit states (`one`), and always some answer (`some`), for an accepted
+/// image and any script.
+pub fn one_order_of_an_audit()
+    ensures one { (bytes : List ℕ) (program : Program) (script : List Command) (statement : Statement)
+        (answer other : Result (List Line) OrderFault) → IsAccepted bytes program
+        → IsOrdered program script statement answer → IsOrdered program script statement other → answer ≡ other }
+    ensures some { (bytes : List ℕ) (program : Program) (script : List Command) (statement : Statement)
+        → IsAccepted bytes program → MayState statement
+        → (answer : Result (List Line) OrderFault) × IsOrdered program script statement answer }
+{
+    one_end();
+    some_verdict();
+}

@@ -2,12 +2,19 @@
 //! the run.
 #![tactic(auto)]
 
+mod fault;
+mod free;
 mod laws;
 mod lines;
 mod merging;
+mod order;
 mod stop;
 
+pub use fault::OrderFault;
+pub use free::FreeText;
 pub use laws::{
     a_script_reads_without_its_waits, an_order_leaves_its_run, each_lawful_run_has_one_order,
+    one_order_of_an_audit,
 };
+pub use order::Order;
 pub use stop::Stop;

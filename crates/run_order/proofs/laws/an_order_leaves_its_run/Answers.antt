@@ -1,4 +1,4 @@
-use Rattle.std.proofs.Common.{◌≡◌, ◌∙◌, ℕ, List, All, arith, subst, sym}
+use Rattle.std.proofs.Common.{List, All, arith, subst, sym}
 use Rattle.step_sim.specs.declared.turns.Turns.{Turns as Line}
 use Rattle.step_sim.specs.Schedules.{AreTurnsOf}
 use Rattle.patch_script.specs.Refusals.{commands_of}
