@@ -9,7 +9,7 @@ use Rattle.step_sim.specs.WrittenSchedules.{schedule_text, turn_words}
 use Rattle.run_order.specs.private.Texts.{line_text}
 
 line_is : (turns : Turns) → written_line (turn_words turns) ++ 10 ∷ [] ≡ line_text turns
-line_is (Thread thread count) = ap (λ (bytes : List ℕ). 116 ∷ 32 ∷ bytes) (append_assoc (decimal thread) (32 ∷ decimal count) (10 ∷ []))
+line_is (Thread thread count) = simp append_assoc
 line_is (Patcher count) = refl
 
 pub lines_text : (turns : List Turns) → flat_map line_text turns ≡ schedule_text turns

@@ -1,7 +1,8 @@
 -- The first line of a text, with what ends it.
 use Rattle.std.proofs.Common.{◌≡◌, ℕ, zero, suc, ◌+◌, ◌<◌, ◌≤◌, Bool, true, false, cond, List, [], ◌∷◌, ◌++◌, append_assoc, Option, Some, None, refl, sym, ap, subst, ◌∙◌, arith, length, take, drop}
-use Rattle.std.specs.Prelude.{◌==◌, All, filter, not, position}
-use Rattle.std.specs.List.{flat_map, position_or_len, slice_split}
+use Rattle.std.specs.Prelude.{◌==◌, All, filter, not, position, slice_get, unwrap_or}
+use Rattle.std.specs.List.{enumerate_from, flat_map, position_or_len, slice_split}
+use Rattle.std.specs.Str.Lines.{lines}
 use Rattle.std.proofs.lemmas.Bool.Decides.{Decides-eqb, nat_tests}
 use Rattle.std.proofs.lemmas.List.Elements.{All-from_get_or}
 use Rattle.std.proofs.lemmas.List.Splits.{length-slice_split, slice_split_first, slice_split_none}
@@ -87,3 +88,22 @@ pub kept_more : (done left line later : List ℕ) → whole_lines left ≡ line 
 kept_more done left line later is =
     append_assoc done (kept_text line) (flat_map kept_text (whole_lines later))
     ∙ ap (λ (ls : List (List ℕ)). done ++ flat_map kept_text ls) (sym is)
+
+-- ---- the line that bytes have
+
+pub first_line_in : (bytes : List ℕ) (number : ℕ) (first : List ℕ) (rest : List (ℕ × List ℕ)) → enumerate_from 1 (lines bytes) ≡ (number, first) ∷ rest
+    → line_in bytes ≡ first
+first_line_in bytes number first rest e = by_lines (lines bytes) e
+  where
+    by_lines : (all : List (List ℕ)) → enumerate_from 1 all ≡ (number, first) ∷ rest → unwrap_or (slice_get all 0) [] ≡ first
+    by_lines [] e = absurd cc
+    by_lines (line ∷ all) e =
+        let same : ◌≡◌ {A = ℕ × List ℕ} (1, line) (number, first) = cc in
+        ap (λ (p : ℕ × List ℕ). p.1) same
+
+pub no_line_in : (bytes : List ℕ) → enumerate_from 1 (lines bytes) ≡ [] → line_in bytes ≡ []
+no_line_in bytes e = by_lines (lines bytes) e
+  where
+    by_lines : (all : List (List ℕ)) → enumerate_from 1 all ≡ [] → unwrap_or (slice_get all 0) [] ≡ []
+    by_lines [] e = refl
+    by_lines (line ∷ all) e = absurd cc

@@ -12,3 +12,6 @@ invariant-lines g l = record {
   whole : done ++ flat_map kept_text (whole_lines l.left) ≡ flat_map kept_text (whole_lines l.fn.self.0.now);
   few : length l.left < 4294967295;
 }
+
+abbrev pub decreases-lines : goal.decreases-lines
+decreases-lines g l = length l.left
