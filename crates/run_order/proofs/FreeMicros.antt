@@ -261,7 +261,7 @@ module _ (program : Program) (threads : ℕ) where
   free_code script place word are apart =
       let steps = micros program threads script in
       let same : filter_map (stored_in word) (take (free_place program threads script place) (micros program threads (free_commands script)))
-          ≡ filter_map (stored_in word) (take place steps) =
+      ≡ filter_map (stored_in word) (take place steps) =
       ap (λ (ss : List Micro). filter_map (stored_in word) (take (free_place program threads script place) ss)) (free_micros script are)
       ∙ ap (filter_map (stored_in word)) (front_stays steps place) ∙ stores_stay word (take place steps) apart in
       ap (λ (vs : List ℕ). unwrap_or (last_or None vs) (initial_value program word)) same

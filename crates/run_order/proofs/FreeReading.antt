@@ -322,22 +322,22 @@ module _ (program : Program) (threads : ℕ) where
       by_waiting false is =
           let own : Lines = free ++ (other, command) ∷ [] in
           let own_commands : commands_of own ≡ free_commands (commands_of mid) =
-              map-append (λ (l : ℕ × Command). l.1) free ((other, command) ∷ [])
-              ∙ ap (λ (cs : List Command). cs ++ command ∷ []) same
-              ∙ sym (ap free_commands mid_commands ∙ free_more (commands_of before) command false is) in
+          map-append (λ (l : ℕ × Command). l.1) free ((other, command) ∷ [])
+          ∙ ap (λ (cs : List Command). cs ++ command ∷ []) same
+          ∙ sym (ap free_commands mid_commands ∙ free_more (commands_of before) command false is) in
           let rest = later (other + 1) own own_commands more in
           let few : length free < 1024 =
-              omega (
-                arith,
-                says.room,
-                ap length same,
-                free_few (commands_of before),
-                length-map free (λ (l : ℕ × Command). l.1),
-                length-map before (λ (l : ℕ × Command). l.1),
-              ) in
+          omega (
+            arith,
+            says.room,
+            ap length same,
+            free_few (commands_of before),
+            length-map free (λ (l : ℕ × Command). l.1),
+            length-map before (λ (l : ℕ × Command). l.1),
+          ) in
           let admitted : IsAdmitted program threads (commands_of free) command =
-              subst (λ (cs : List Command). IsAdmitted program threads cs command) (sym same)
-              (may_follow program threads (commands_of before) command is says.admitted) in
+          subst (λ (cs : List Command). IsAdmitted program threads cs command) (sym same)
+          (may_follow program threads (commands_of before) command is says.admitted) in
           record {
             said = rest.said;
             read =
@@ -360,10 +360,10 @@ module _ (program : Program) (threads : ℕ) where
       elim (line_says before number line parts.0 parts.1) [
         | inl blank ↦
             let rest = freely_read lines (number + 1) (other + 1) parts.0 free all
-                (same ∙ ap (λ (ls : Lines). free_commands (commands_of ls)) blank.1)
-                (subst (λ (ls : Lines). AllRelease threads (commands_of ls)) blank.1 releases) parts.2 in
+            (same ∙ ap (λ (ls : Lines). free_commands (commands_of ls)) blank.1)
+            (subst (λ (ls : Lines). AllRelease threads (commands_of ls)) blank.1 releases) parts.2 in
             let one : with_line program threads free (other, line) ≡ Ok free =
-                ap (λ t. cond t (Ok free) (cond (nat_le 1024 (length free)) (Err (faults.Limit other)) (spoken program threads free other (command_in line)))) blank.0 in
+            ap (λ t. cond t (Ok free) (cond (nat_le 1024 (length free)) (Err (faults.Limit other)) (spoken program threads free other (command_in line)))) blank.0 in
             record {
               said = rest.said;
               read =
@@ -411,10 +411,10 @@ free_plan program threads text plan e =
     let last : ℕ = length (lines (free_text text)) + 1 in
     let goes : has_go (commands_of read.said) ≡ true = ap has_go read.are ∙ any_stays is_go go_stays (commands_of all) ∙ end.0 in
     let held : list_any (holds_for_good (commands_of read.said)) (commands_of read.said) ≡ false =
-        ap (λ (cs : List Command). list_any (holds_for_good (commands_of read.said)) cs) read.are ∙ none_held (commands_of all) (commands_of read.said) in
+    ap (λ (cs : List Command). list_any (holds_for_good (commands_of read.said)) cs) read.are ∙ none_held (commands_of all) (commands_of read.said) in
     let ends : ended last read.said ≡ Ok read.said = rw (goes, held) refl in
     let reads : read_lines program threads [] (numbered_lines (free_text text)) ≡ Ok read.said =
-        ap (λ (ls : List (List ℕ)). read_lines program threads [] (enumerate_from 1 ls)) (free_lines text) ∙ read.read in
+    ap (λ (ls : List (List ℕ)). read_lines program threads [] (enumerate_from 1 ls)) (free_lines text) ∙ read.read in
     record {
       free = record { program = program; threads = threads; lines = read.said };
       reads =

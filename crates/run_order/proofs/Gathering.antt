@@ -49,7 +49,7 @@ marks_are_at cast m marks count each = from_number 1 cast.passings marks count (
         let first : marks_of cast.program (thread_count cast) number (hold_of number cast.script) sleds (of_thread m.loads number) ≡ own =
         subst (λ (t : ℕ). marks_of cast.program (thread_count cast) t (hold_of t cast.script) sleds (of_thread m.loads t) ≡ own) here (each 0 sleds own refl refl) in
         let rest = from_number (number + 1) passings marks (omega (arith, count)) (λ i ss ms found there.
-            let e : number + suc i ≡ number + 1 + i = omega arith in
-            subst (λ (t : ℕ). marks_of cast.program (thread_count cast) t (hold_of t cast.script) ss (of_thread m.loads t) ≡ ms) e (each (suc i) ss ms found there)) in
+        let e : number + suc i ≡ number + 1 + i = omega arith in
+        subst (λ (t : ℕ). marks_of cast.program (thread_count cast) t (hold_of t cast.script) ss (of_thread m.loads t) ≡ ms) e (each (suc i) ss ms found there)) in
         ap (λ (ms : List Mark). ms ∷ map (λ (own : ℕ × List ℕ). marks_of cast.program (thread_count cast) own.0 (hold_of own.0 cast.script) own.1 (of_thread m.loads own.0)) (enumerate_from (number + 1) passings)) first
         ∙ ap (λ (all : List (List Mark)). own ∷ all) rest

@@ -29,8 +29,7 @@ first_least test (suc count) from at passes low high =
         → (first : ℕ) × (cond (test from) (Some from) (first_among test count (from + 1)) ≡ Some first) × (from ≤ first) × (first ≤ at) × (test first ≡ true)
     by_test true is later = (from, ap (λ b. cond b (Some from) (first_among test count (from + 1))) is, omega arith, low, is)
     by_test false is later =
-        let rest = later (λ e. cc (ap test e, passes, is)) in
-        (
+        let rest = later (λ e. cc (ap test e, passes, is)) in (
           rest.0,
           ap (λ b. cond b (Some from) (first_among test count (from + 1))) is ∙ rest.1,
           omega (arith, rest.2),
@@ -352,8 +351,7 @@ passings_least program threads code bound thread hold number from place end (sle
     let first = passing_least program threads code (bound number) thread (is_held_at hold number) sled mark from place at low way in
     let later = passings_least program threads code bound thread hold (number + 1) first.found.0 at end sleds marks first.high rest in
     let next : ℕ × List ℕ → Option (List ℕ) = λ found.
-        option_map (λ (more : List ℕ). found.1 ++ more) (places_from program threads code bound thread hold (number + 1) found.0 sleds marks) in
-    (
+    option_map (λ (more : List ℕ). found.1 ++ more) (places_from program threads code bound thread hold (number + 1) found.0 sleds marks) in (
       first.found.1 ++ later.0,
       ap (option_and_then next) first.is ∙ ap (option_map (λ (more : List ℕ). first.found.1 ++ more)) later.1,
     )

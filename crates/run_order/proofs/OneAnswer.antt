@@ -88,20 +88,20 @@ marks_follow program script s runs names are agree i run e = by_said (slice_get 
         → MarksFollowScript program s.setup.threads script (i + 1) (sleds_passed run.passed) run.marks
     by_said None f =
         let same : slice_get (map (λ (r : ThreadRun). r.marks) runs) i ≡ slice_get (map (λ (t : ThreadAudit). t.marks) s.threads) i =
-            ap (λ (ms : List (List Mark)). slice_get ms i) are.marks in
+        ap (λ (ms : List (List Mark)). slice_get ms i) are.marks in
         let own : Some run.marks ≡ None =
-            sym (slice_get-map (λ (r : ThreadRun). r.marks) runs i ∙ ap (option_map (λ (r : ThreadRun). r.marks)) e) ∙ same
-            ∙ slice_get-map (λ (t : ThreadAudit). t.marks) s.threads i ∙ ap (option_map (λ (t : ThreadAudit). t.marks)) f in
+        sym (slice_get-map (λ (r : ThreadRun). r.marks) runs i ∙ ap (option_map (λ (r : ThreadRun). r.marks)) e) ∙ same
+        ∙ slice_get-map (λ (t : ThreadAudit). t.marks) s.threads i ∙ ap (option_map (λ (t : ThreadAudit). t.marks)) f in
         absurd cc
     by_said (Some said) f =
         let within = slice_get_within runs i run e in
         let back : i + 1 - 1 ≡ i = omega arith in
         let row = agree (i + 1) (omega arith) (omega (arith, within, are.run.count)) said run (ap (slice_get s.threads) back ∙ f) (ap (slice_get runs) back ∙ e) in
         let same : slice_get (map (λ (r : ThreadRun). r.marks) runs) i ≡ slice_get (map (λ (t : ThreadAudit). t.marks) s.threads) i =
-            ap (λ (ms : List (List Mark)). slice_get ms i) are.marks in
+        ap (λ (ms : List (List Mark)). slice_get ms i) are.marks in
         let own : ◌≡◌ {A = Option (List Mark)} (Some run.marks) (Some said.marks) =
-            sym (slice_get-map (λ (r : ThreadRun). r.marks) runs i ∙ ap (option_map (λ (r : ThreadRun). r.marks)) e) ∙ same
-            ∙ slice_get-map (λ (t : ThreadAudit). t.marks) s.threads i ∙ ap (option_map (λ (t : ThreadAudit). t.marks)) f in
+        sym (slice_get-map (λ (r : ThreadRun). r.marks) runs i ∙ ap (option_map (λ (r : ThreadRun). r.marks)) e) ∙ same
+        ∙ slice_get-map (λ (t : ThreadAudit). t.marks) s.threads i ∙ ap (option_map (λ (t : ThreadAudit). t.marks)) f in
         let marks : run.marks ≡ said.marks = cc in
         subst (λ (ms : List Mark). MarksFollowScript program s.setup.threads script (i + 1) (sleds_passed run.passed) ms) (sym marks) row.follow
 

@@ -61,64 +61,63 @@ module _ (program : Program) (script : List Command) (runs : List ThreadRun) (re
     (starts : start_of program (length (passings_of runs)) script ≤ total_of program (length (passings_of runs)) script)
     (places : List (List ℕ)) (have : HavePlaces program script runs places)
   where
-  thread_in : (i : ℕ) → i < length places → (loads : List Load) × (
-    ArePlaced (cast_with program (free_commands script) runs) (i + 1) (of_thread places (i + 1)) loads
-    × ((run : ThreadRun) → slice_get runs i ≡ Some run
-    → marks_of program (length (passings_of runs)) (i + 1) (hold_of (i + 1) (free_commands script)) (of_thread (passings_of runs) (i + 1)) loads ≡ run.marks)
-  )
-  thread_in i low = some_run (slice_get runs i) refl (slice_get places i) refl
-    where
-      some_run : (r : Option ThreadRun) → slice_get runs i ≡ r → (p : Option (List ℕ)) → slice_get places i ≡ p → (loads : List Load) × (
+    thread_in : (i : ℕ) → i < length places → (loads : List Load) × (
         ArePlaced (cast_with program (free_commands script) runs) (i + 1) (of_thread places (i + 1)) loads
         × ((run : ThreadRun) → slice_get runs i ≡ Some run
         → marks_of program (length (passings_of runs)) (i + 1) (hold_of (i + 1) (free_commands script)) (of_thread (passings_of runs) (i + 1)) loads ≡ run.marks)
-      )
-      some_run None e p f = absurd (none_there runs i (omega (arith, low, have.count)) e)
-      some_run (Some run) e None f = absurd (none_there places i low f)
-      some_run (Some run) e (Some own) f =
-          let number : 1 + i ≡ i + 1 = omega arith in
-          let sleds : of_thread (passings_of runs) (i + 1) ≡ sleds_passed run.passed =
-          ap (of_thread (passings_of runs)) (sym number) ∙ of_thread_at (passings_of runs) i (sleds_passed run.passed) (passings_at runs i run e) in
-          let own_places : of_thread places (i + 1) ≡ own = ap (of_thread places) (sym number) ∙ of_thread_at places i own f in
-          let made = was_made (map (free_place program (length (passings_of runs)) script))
-              (load_places program (length (passings_of runs)) script (i + 1) (sleds_passed run.passed) run.marks) own (have.places_are i run own e f) in
-          let placed = thread_placed program script (passings_of runs) releases bounds (i + 1) (sleds_passed run.passed) run.marks made.value sleds (have.exist i run e) made.given_is in
-          (
-            placed.loads,
-            (
-              subst (λ (ps : List ℕ). ArePlaced (cast_with program (free_commands script) runs) (i + 1) ps placed.loads) (made.makes ∙ sym own_places) placed.placed,
-              λ other again.
-                  let same : run ≡ other = some_same run other (sym e ∙ again) in
-                  placed.marks_are ∙ ap (λ (r : ThreadRun). r.marks) same,
-            ),
-          )
+        )
+    thread_in i low = some_run (slice_get runs i) refl (slice_get places i) refl
+      where
+        some_run : (r : Option ThreadRun) → slice_get runs i ≡ r → (p : Option (List ℕ)) → slice_get places i ≡ p → (loads : List Load) × (
+            ArePlaced (cast_with program (free_commands script) runs) (i + 1) (of_thread places (i + 1)) loads
+            × ((run : ThreadRun) → slice_get runs i ≡ Some run
+            → marks_of program (length (passings_of runs)) (i + 1) (hold_of (i + 1) (free_commands script)) (of_thread (passings_of runs) (i + 1)) loads ≡ run.marks)
+            )
+        some_run None e p f = absurd (none_there runs i (omega (arith, low, have.count)) e)
+        some_run (Some run) e None f = absurd (none_there places i low f)
+        some_run (Some run) e (Some own) f =
+            let number : 1 + i ≡ i + 1 = omega arith in
+            let sleds : of_thread (passings_of runs) (i + 1) ≡ sleds_passed run.passed =
+            ap (of_thread (passings_of runs)) (sym number) ∙ of_thread_at (passings_of runs) i (sleds_passed run.passed) (passings_at runs i run e) in
+            let own_places : of_thread places (i + 1) ≡ own = ap (of_thread places) (sym number) ∙ of_thread_at places i own f in
+            let made = was_made (map (free_place program (length (passings_of runs)) script))
+            (load_places program (length (passings_of runs)) script (i + 1) (sleds_passed run.passed) run.marks) own (have.places_are i run own e f) in
+            let placed = thread_placed program script (passings_of runs) releases bounds (i + 1) (sleds_passed run.passed) run.marks made.value sleds (have.exist i run e) made.given_is in (
+              placed.loads,
+              (
+                subst (λ (ps : List ℕ). ArePlaced (cast_with program (free_commands script) runs) (i + 1) ps placed.loads) (made.makes ∙ sym own_places) placed.placed,
+                λ other again.
+                    let same : run ≡ other = some_same run other (sym e ∙ again) in
+                    placed.marks_are ∙ ap (λ (r : ThreadRun). r.marks) same,
+              ),
+            )
 
-  -- the order is a schedule whose replay, beside the script without waits, has the marks of the run
-  pub order_replays : Replay (cast_with program (free_commands script) runs)
-      (ordered (start_of program (length (passings_of runs)) (free_commands script)) (total_of program (length (passings_of runs)) (free_commands script)) places)
-      (map (λ run. run.marks) runs)
-  order_replays =
-      let n : ℕ = length (passings_of runs) in
-      let cast : Cast = cast_with program (free_commands script) runs in
-      let all = gather (length places)
-          (λ i loads. ArePlaced cast (i + 1) (of_thread places (i + 1)) loads
-          × ((run : ThreadRun) → slice_get runs i ≡ Some run
-          → marks_of program n (i + 1) (hold_of (i + 1) (free_commands script)) (of_thread (passings_of runs) (i + 1)) loads ≡ run.marks)) thread_in in
-      let count : length places ≡ n = have.count ∙ sym (passings_count runs) in
-      let own : (thread : ℕ) → 0 < thread → thread - 1 + 1 ≡ thread = λ thread some. omega (arith, some) in
-      let placed : (thread : ℕ) → 0 < thread → thread ≤ n → ArePlaced cast thread (of_thread places thread) (of_thread all.0 thread) = λ thread some high.
-          let its = all.2 (thread - 1) (omega (arith, some, high, count)) in
-          subst (λ (t : ℕ). ArePlaced cast t (of_thread places t) (of_thread all.0 thread)) (own thread some) its.0 in
-      let within : start_of program n (free_commands script) ≤ total_of program n (free_commands script) =
-          omega (arith, free_start program n script releases, free_total program n script releases, places_rise program n script (start_of program n script) (total_of program n script) starts) in
-      let out = replay_of_places cast places all.0 placed count within in
-      let marks : marks_at cast out.0 ≡ map (λ (run : ThreadRun). run.marks) runs =
-          marks_are_at cast out.0 (map (λ (run : ThreadRun). run.marks) runs) (length-map runs (λ (run : ThreadRun). run.marks) ∙ sym (passings_count runs))
-          (λ thread ms some high found.
-              let its = all.2 (thread - 1) (omega (arith, some, high, count)) in
-              let there = was_made (λ (run : ThreadRun). run.marks) (slice_get runs (thread - 1)) ms (sym (slice_get-map (λ (run : ThreadRun). run.marks) runs (thread - 1)) ∙ found) in
-              ap (λ (ls : List Load). marks_of program n thread (hold_of thread (free_commands script)) (of_thread (passings_of runs) thread) ls) (out.2 thread some high)
-              ∙ subst (λ (t : ℕ). marks_of program n t (hold_of t (free_commands script)) (of_thread (passings_of runs) t) (of_thread all.0 thread) ≡ there.value.marks) (own thread some)
-              (its.1 there.value there.given_is)
-              ∙ there.makes) in
-      (out.0, out.1, sym marks)
+    -- the order is a schedule whose replay, beside the script without waits, has the marks of the run
+    pub order_replays : Replay (cast_with program (free_commands script) runs)
+        (ordered (start_of program (length (passings_of runs)) (free_commands script)) (total_of program (length (passings_of runs)) (free_commands script)) places)
+        (map (λ run. run.marks) runs)
+    order_replays =
+        let n : ℕ = length (passings_of runs) in
+        let cast : Cast = cast_with program (free_commands script) runs in
+        let all = gather (length places)
+        (λ i loads. ArePlaced cast (i + 1) (of_thread places (i + 1)) loads
+        × ((run : ThreadRun) → slice_get runs i ≡ Some run
+        → marks_of program n (i + 1) (hold_of (i + 1) (free_commands script)) (of_thread (passings_of runs) (i + 1)) loads ≡ run.marks)) thread_in in
+        let count : length places ≡ n = have.count ∙ sym (passings_count runs) in
+        let own : (thread : ℕ) → 0 < thread → thread - 1 + 1 ≡ thread = λ thread some. omega (arith, some) in
+        let placed : (thread : ℕ) → 0 < thread → thread ≤ n → ArePlaced cast thread (of_thread places thread) (of_thread all.0 thread) = λ thread some high.
+        let its = all.2 (thread - 1) (omega (arith, some, high, count)) in
+        subst (λ (t : ℕ). ArePlaced cast t (of_thread places t) (of_thread all.0 thread)) (own thread some) its.0 in
+        let within : start_of program n (free_commands script) ≤ total_of program n (free_commands script) =
+        omega (arith, free_start program n script releases, free_total program n script releases, places_rise program n script (start_of program n script) (total_of program n script) starts) in
+        let out = replay_of_places cast places all.0 placed count within in
+        let marks : marks_at cast out.0 ≡ map (λ (run : ThreadRun). run.marks) runs =
+        marks_are_at cast out.0 (map (λ (run : ThreadRun). run.marks) runs) (length-map runs (λ (run : ThreadRun). run.marks) ∙ sym (passings_count runs))
+        (λ thread ms some high found.
+        let its = all.2 (thread - 1) (omega (arith, some, high, count)) in
+        let there = was_made (λ (run : ThreadRun). run.marks) (slice_get runs (thread - 1)) ms (sym (slice_get-map (λ (run : ThreadRun). run.marks) runs (thread - 1)) ∙ found) in
+        ap (λ (ls : List Load). marks_of program n thread (hold_of thread (free_commands script)) (of_thread (passings_of runs) thread) ls) (out.2 thread some high)
+        ∙ subst (λ (t : ℕ). marks_of program n t (hold_of t (free_commands script)) (of_thread (passings_of runs) t) (of_thread all.0 thread) ≡ there.value.marks) (own thread some)
+        (its.1 there.value there.given_is)
+        ∙ there.makes) in
+        (out.0, out.1, sym marks)

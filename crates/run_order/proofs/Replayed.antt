@@ -137,8 +137,8 @@ order_leaves buffers bounds program setup script runs schedule is releases order
     let have = have_of program setup script runs order_n.places is order_n.are in
     let cast : Cast = cast_with program (free_commands script) runs in
     let replay : Replay cast schedule (map (λ (run : ThreadRun). run.marks) runs) =
-        subst (λ (s : List Turns). Replay cast s (map (λ (run : ThreadRun). run.marks) runs)) (sym order_n.schedule_is)
-        (order_replays program script runs releases_n (bounds program n script) (starts_within program n script) order_n.places have) in
+    subst (λ (s : List Turns). Replay cast s (map (λ (run : ThreadRun). run.marks) runs)) (sym order_n.schedule_is)
+    (order_replays program script runs releases_n (bounds program n script) (starts_within program n script) order_n.places have) in
     leaves is replay
   where
     leaves : IsRun program setup runs → Replay (cast_with program (free_commands script) runs) schedule (map (λ (run : ThreadRun). run.marks) runs)
@@ -152,8 +152,7 @@ order_leaves buffers bounds program setup script runs schedule is releases order
         let others : List ThreadRun = relost runs lost in
         let passed : passed_of others ≡ passed_of runs = relost_passed runs lost in
         let many : length lost ≡ length runs =
-            length-map (numbers_from 1 setup.threads) (λ thread. segments_among thread last.stock.taken) ∙ count_numbers 1 setup.threads ∙ sym is.count in
-        (
+        length-map (numbers_from 1 setup.threads) (λ thread. segments_among thread last.stock.taken) ∙ count_numbers 1 setup.threads ∙ sym is.count in (
           others,
           record {
             run = record {
@@ -206,12 +205,12 @@ pub some_order : (program : Program) (setup : Setup) (script : List Command) (ru
 some_order program setup script runs is follow =
     let threads : ℕ = setup.threads in
     let all = collect runs (λ i run own. free_places program threads script (i + 1) (sleds_passed run.passed) run.marks ≡ Some own)
-        (λ i run e.
-        let within = slice_get_within runs i run e in
-        let found = following_least program threads (code_at program threads script) (start_of program threads script) (bound_of program threads script (i + 1)) (i + 1)
-            (hold_of (i + 1) script) (sleds_passed run.passed) run.marks (total_of program threads script) (omega arith) (omega (arith, within, is.count))
-            (sleds_all program run.passed (run_exists program setup runs is i run e)) (follow i run e) in
-        (map (free_place program threads script) found.0, ap (option_map (map (free_place program threads script))) found.1)) in
+    (λ i run e.
+    let within = slice_get_within runs i run e in
+    let found = following_least program threads (code_at program threads script) (start_of program threads script) (bound_of program threads script (i + 1)) (i + 1)
+    (hold_of (i + 1) script) (sleds_passed run.passed) run.marks (total_of program threads script) (omega arith) (omega (arith, within, is.count))
+    (sleds_all program run.passed (run_exists program setup runs is i run e)) (follow i run e) in
+    (map (free_place program threads script) found.0, ap (option_map (map (free_place program threads script))) found.1)) in
     let are : AreRunPlaces program threads script runs all.0 = record {
       count = all.1;
       each = λ i run e.
@@ -238,7 +237,7 @@ pub one_order : (program : Program) (threads : ℕ) (script : List Command) (run
     → IsOrderOf program threads script runs schedule → IsOrderOf program threads script runs other → schedule ≡ other
 one_order program threads script runs schedule other a b =
     let same : a.places ≡ b.places =
-        same_lists a.places b.places (a.are.count ∙ sym b.are.count) (λ i low. by_run i (omega (arith, low, a.are.count))) in
+    same_lists a.places b.places (a.are.count ∙ sym b.are.count) (λ i low. by_run i (omega (arith, low, a.are.count))) in
     a.schedule_is
     ∙ ap (λ (ps : List (List ℕ)). ordered (start_of program threads (free_commands script)) (total_of program threads (free_commands script)) ps) same
     ∙ sym b.schedule_is

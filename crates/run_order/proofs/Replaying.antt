@@ -115,145 +115,145 @@ module _ (cast : Cast) (thread : ℕ) (places : List ℕ) (loads : List Load) (p
 module _ (cast : Cast) (places : List (List ℕ)) (loads : List (List Load))
     (placed : (thread : ℕ) → 0 < thread → thread ≤ thread_count cast → ArePlaced cast thread (of_thread places thread) (of_thread loads thread))
   where
-  -- At a place of the script, the threads before a thread have made all loads up to the place, and the others have made
-  -- those before it.
-  record IsAt (place next : ℕ) (m : Moment) : Type 0 where
-    pub place_is : m.place ≡ place
-    pub count : length m.loads ≡ thread_count cast
-    pub made : (thread : ℕ) → 0 < thread → thread < next
-        → of_thread m.loads thread ≡ take (before (place + 1) (of_thread places thread)) (of_thread loads thread)
-    pub left : (thread : ℕ) → 0 < thread → next ≤ thread → thread ≤ thread_count cast
-        → of_thread m.loads thread ≡ take (before place (of_thread places thread)) (of_thread loads thread)
+    -- At a place of the script, the threads before a thread have made all loads up to the place, and the others have made
+    -- those before it.
+    record IsAt (place next : ℕ) (m : Moment) : Type 0 where
+      pub place_is : m.place ≡ place
+      pub count : length m.loads ≡ thread_count cast
+      pub made : (thread : ℕ) → 0 < thread → thread < next
+          → of_thread m.loads thread ≡ take (before (place + 1) (of_thread places thread)) (of_thread loads thread)
+      pub left : (thread : ℕ) → 0 < thread → next ≤ thread → thread ≤ thread_count cast
+          → of_thread m.loads thread ≡ take (before place (of_thread places thread)) (of_thread loads thread)
 
-  -- the next thread makes its loads at the place
-  thread_goes : (place thread : ℕ) (m : Moment) → 0 < thread → thread ≤ thread_count cast → IsAt place thread m
-      → IsAt place (thread + 1) (turns (at place (of_thread places thread)) (thread_turn cast thread) m)
-  thread_goes place thread m some within here = record {
-    place_is = turns_place cast thread n m ∙ here.place_is;
-    count = turns_length cast thread n m ∙ here.count;
-    made = λ other first up. elim (cases_eq other thread) [
-      | inl same ↦
-          subst (λ (t : ℕ). of_thread after.loads t ≡ take (before (place + 1) (of_thread places t)) (of_thread loads t)) (sym same)
-          (own ∙ ap (λ k. take k (of_thread loads thread)) (sym (before_next place (of_thread places thread))))
-      | inr apart ↦ turns_other cast thread other n m some first apart ∙ here.made other first (omega (arith, up, apart))
-    ];
-    left = λ other first low high. turns_other cast thread other n m some first (omega (arith, low)) ∙ here.left other first (omega (arith, low)) high;
-  }
-    where
-      n : ℕ
-      n = at place (of_thread places thread)
-
-      after : Moment
-      after = turns n (thread_turn cast thread) m
-
-      its : ArePlaced cast thread (of_thread places thread) (of_thread loads thread)
-      its = placed thread some within
-
-      own : of_thread after.loads thread ≡ take (before place (of_thread places thread) + n) (of_thread loads thread)
-      own =
-          turns_made cast thread (of_thread places thread) (of_thread loads thread) its n (before place (of_thread places thread)) m some
-          (omega (arith, some, within, here.count)) (here.left thread some (omega arith) within)
-          (λ i low high. at_places _ _ place i (of_thread places thread) its.rise low high ∙ ap Some (sym here.place_is))
-
-  -- all threads from one on make theirs
-  threads_go : (place : ℕ) (owns : List (List ℕ)) (thread : ℕ) (m : Moment) → 0 < thread → thread + length owns ≡ thread_count cast + 1
-      → ((j : ℕ) (own : List ℕ) → slice_get owns j ≡ Some own → of_thread places (thread + j) ≡ own) → IsAt place thread m
-      → IsAt place (thread_count cast + 1)
-      (lines_played (moment_rules cast) m (flat_map (λ own. thread_line own.0 (at place own.1)) (enumerate_from thread owns)))
-  threads_go place [] thread m some all are here =
-      let e : thread ≡ thread_count cast + 1 = omega (arith, all) in
-      subst (λ (t : ℕ). IsAt place t m) e here
-  threads_go place (own ∷ owns) thread m some all are here =
-      let first : of_thread places thread ≡ own = ap (of_thread places) (let e : thread ≡ thread + 0 = omega arith in e) ∙ are 0 own refl in
-      let mid : Moment = turns (at place own) (thread_turn cast thread) m in
-      let goes : IsAt place (thread + 1) mid =
-      subst (λ (ps : List ℕ). IsAt place (thread + 1) (turns (at place ps) (thread_turn cast thread) m)) first
-      (thread_goes place thread m some (omega (arith, all)) here) in
-      let rest : List Turns = flat_map (λ own. thread_line own.0 (at place own.1)) (enumerate_from (thread + 1) owns) in
-      let played : lines_played (moment_rules cast) m (thread_line thread (at place own) ++ rest) ≡ lines_played (moment_rules cast) mid rest =
-      fold-append (line_played (moment_rules cast)) m (thread_line thread (at place own)) rest
-      ∙ ap (λ (n : Moment). lines_played (moment_rules cast) n rest) (line_turns cast m thread (at place own)) in
-      subst (IsAt place (thread_count cast + 1)) (sym played)
-      (threads_go place owns (thread + 1) mid (omega arith) (omega (arith, all))
-      (λ j its found. ap (of_thread places) (let e : thread + 1 + j ≡ thread + suc j = omega arith in e) ∙ are (suc j) its found) goes)
-
-  module _ (each : length places ≡ thread_count cast) where
-    turns_go : (place : ℕ) (m : Moment) → IsAt place 1 m
-        → IsAt place (thread_count cast + 1) (lines_played (moment_rules cast) m (turns_at places place))
-    turns_go place m here =
-        threads_go place places 1 m (omega arith) (omega (arith, each)) (λ j own found. of_thread_at places j own found) here
-
-    -- the patcher goes on
-    patcher_goes : (place : ℕ) (m : Moment) → place < total_of cast.program (thread_count cast) cast.script → IsAt place (thread_count cast + 1) m
-        → IsAt (place + 1) 1 (patcher_turn cast m)
-    patcher_goes place m within here = record {
-      place_is = let e : min (m.place + 1) (total_of cast.program (thread_count cast) cast.script) ≡ place + 1 = omega (arith, here.place_is) in e;
-      count = here.count;
-      made = λ thread some below. absurd (omega (arith, some, below));
-      left = λ thread some low high. here.made thread some (omega (arith, high));
+    -- the next thread makes its loads at the place
+    thread_goes : (place thread : ℕ) (m : Moment) → 0 < thread → thread ≤ thread_count cast → IsAt place thread m
+        → IsAt place (thread + 1) (turns (at place (of_thread places thread)) (thread_turn cast thread) m)
+    thread_goes place thread m some within here = record {
+      place_is = turns_place cast thread n m ∙ here.place_is;
+      count = turns_length cast thread n m ∙ here.count;
+      made = λ other first up. elim (cases_eq other thread) [
+        | inl same ↦
+            subst (λ (t : ℕ). of_thread after.loads t ≡ take (before (place + 1) (of_thread places t)) (of_thread loads t)) (sym same)
+            (own ∙ ap (λ k. take k (of_thread loads thread)) (sym (before_next place (of_thread places thread))))
+        | inr apart ↦ turns_other cast thread other n m some first apart ∙ here.made other first (omega (arith, up, apart))
+      ];
+      left = λ other first low high. turns_other cast thread other n m some first (omega (arith, low)) ∙ here.left other first (omega (arith, low)) high;
     }
+      where
+        n : ℕ
+        n = at place (of_thread places thread)
 
-    -- all places up to the end
-    places_go : (steps place : ℕ) (m : Moment) → place + steps ≡ total_of cast.program (thread_count cast) cast.script → IsAt place 1 m
-        → IsAt (total_of cast.program (thread_count cast) cast.script) (thread_count cast + 1)
-        (lines_played (moment_rules cast) m (turns_from places place steps))
-    places_go zero place m all here =
-        let e : place ≡ total_of cast.program (thread_count cast) cast.script = omega (arith, all) in
-        subst (λ (p : ℕ). IsAt p (thread_count cast + 1) (lines_played (moment_rules cast) m (turns_at places place))) e (turns_go place m here)
-    places_go (suc steps) place m all here =
-        let mid : Moment = lines_played (moment_rules cast) m (turns_at places place) in
-        let next : Moment = patcher_turn cast mid in
-        let played : lines_played (moment_rules cast) m (turns_at places place ++ Patcher 1 ∷ turns_from places (place + 1) steps)
-            ≡ lines_played (moment_rules cast) next (turns_from places (place + 1) steps) =
-        fold-append (line_played (moment_rules cast)) m (turns_at places place) (Patcher 1 ∷ turns_from places (place + 1) steps) in
-        subst (IsAt (total_of cast.program (thread_count cast) cast.script) (thread_count cast + 1)) (sym played)
-        (places_go steps (place + 1) next (omega (arith, all)) (patcher_goes place mid (omega (arith, all)) (turns_go place m here)))
+        after : Moment
+        after = turns n (thread_turn cast thread) m
 
-    -- at first
-    first_at : IsAt (start_of cast.program (thread_count cast) cast.script) 1 (first_moment cast)
-    first_at = record {
-      place_is = refl;
-      count = length-map cast.passings (λ _. let none : List Load = [] in none);
-      made = λ thread some below. absurd (omega (arith, some, below));
-      left = λ thread some low high.
-          none_made cast.passings (thread - 1)
-          ∙ ap (λ n. take n (of_thread loads thread)) (sym (before_none _ _ _ (of_thread places thread) (placed thread some high).rise (omega arith)));
-    }
+        its : ArePlaced cast thread (of_thread places thread) (of_thread loads thread)
+        its = placed thread some within
 
-    -- no thread has a load left
-    all_out : (n thread : ℕ) (m : Moment) → 0 < thread → thread + n ≡ thread_count cast + 1
-        → ((other : ℕ) → 0 < other → other ≤ thread_count cast → of_thread m.loads other ≡ of_thread loads other)
-        → ThreadsRunOut (moment_rules cast) n thread m m
-    all_out zero thread m some all are = refl
-    all_out (suc n) thread m some all are = (
-      m,
-      (
-        0,
-        refl,
-        ap (λ (ls : List Load). next_load cast.program (thread_count cast) thread (hold_of thread cast.script) (of_thread cast.passings thread) ls)
-        (are thread some (omega (arith, all))) ∙ (placed thread some (omega (arith, all))).ended,
-      ),
-      all_out n (thread + 1) m (omega arith) (omega (arith, all)) are,
-    )
+        own : of_thread after.loads thread ≡ take (before place (of_thread places thread) + n) (of_thread loads thread)
+        own =
+            turns_made cast thread (of_thread places thread) (of_thread loads thread) its n (before place (of_thread places thread)) m some
+            (omega (arith, some, within, here.count)) (here.left thread some (omega arith) within)
+            (λ i low high. at_places _ _ place i (of_thread places thread) its.rise low high ∙ ap Some (sym here.place_is))
 
-    -- The schedule of the places leaves exactly these loads, and the patcher at the end of the script.
-    pub replay_of_places : start_of cast.program (thread_count cast) cast.script ≤ total_of cast.program (thread_count cast) cast.script
-        → (last : Moment)
-        × Plays (moment_rules cast) (thread_count cast) (first_moment cast)
-        (ordered (start_of cast.program (thread_count cast) cast.script) (total_of cast.program (thread_count cast) cast.script) places) last
-        × ((thread : ℕ) → 0 < thread → thread ≤ thread_count cast → of_thread last.loads thread ≡ of_thread loads thread)
-    replay_of_places within =
-        let start = start_of cast.program (thread_count cast) cast.script in
-        let total = total_of cast.program (thread_count cast) cast.script in
-        let lines = turns_from places start (total - start) in
-        let last : Moment = lines_played (moment_rules cast) (first_moment cast) (joined lines) in
-        let there : IsAt total (thread_count cast + 1) last =
-        subst (IsAt total (thread_count cast + 1)) (sym (joined_plays cast lines (first_moment cast)))
-        (places_go (total - start) start (first_moment cast) (omega (arith, within)) first_at) in
-        let are : (thread : ℕ) → 0 < thread → thread ≤ thread_count cast → of_thread last.loads thread ≡ of_thread loads thread =
-        λ thread some high.
-            let its = placed thread some high in
-            there.made thread some (omega (arith, high))
-            ∙ ap (λ n. take n (of_thread loads thread)) (before_all _ _ (total + 1) (of_thread places thread) its.rise (omega arith) ∙ its.count)
-            ∙ take_all (length (of_thread loads thread)) (of_thread loads thread) (omega arith) in
-        (last, all_out (thread_count cast) 1 last (omega arith) (omega arith) are, are)
+    -- all threads from one on make theirs
+    threads_go : (place : ℕ) (owns : List (List ℕ)) (thread : ℕ) (m : Moment) → 0 < thread → thread + length owns ≡ thread_count cast + 1
+        → ((j : ℕ) (own : List ℕ) → slice_get owns j ≡ Some own → of_thread places (thread + j) ≡ own) → IsAt place thread m
+        → IsAt place (thread_count cast + 1)
+        (lines_played (moment_rules cast) m (flat_map (λ own. thread_line own.0 (at place own.1)) (enumerate_from thread owns)))
+    threads_go place [] thread m some all are here =
+        let e : thread ≡ thread_count cast + 1 = omega (arith, all) in
+        subst (λ (t : ℕ). IsAt place t m) e here
+    threads_go place (own ∷ owns) thread m some all are here =
+        let first : of_thread places thread ≡ own = ap (of_thread places) (let e : thread ≡ thread + 0 = omega arith in e) ∙ are 0 own refl in
+        let mid : Moment = turns (at place own) (thread_turn cast thread) m in
+        let goes : IsAt place (thread + 1) mid =
+        subst (λ (ps : List ℕ). IsAt place (thread + 1) (turns (at place ps) (thread_turn cast thread) m)) first
+        (thread_goes place thread m some (omega (arith, all)) here) in
+        let rest : List Turns = flat_map (λ own. thread_line own.0 (at place own.1)) (enumerate_from (thread + 1) owns) in
+        let played : lines_played (moment_rules cast) m (thread_line thread (at place own) ++ rest) ≡ lines_played (moment_rules cast) mid rest =
+        fold-append (line_played (moment_rules cast)) m (thread_line thread (at place own)) rest
+        ∙ ap (λ (n : Moment). lines_played (moment_rules cast) n rest) (line_turns cast m thread (at place own)) in
+        subst (IsAt place (thread_count cast + 1)) (sym played)
+        (threads_go place owns (thread + 1) mid (omega arith) (omega (arith, all))
+        (λ j its found. ap (of_thread places) (let e : thread + 1 + j ≡ thread + suc j = omega arith in e) ∙ are (suc j) its found) goes)
+
+    module _ (each : length places ≡ thread_count cast) where
+      turns_go : (place : ℕ) (m : Moment) → IsAt place 1 m
+          → IsAt place (thread_count cast + 1) (lines_played (moment_rules cast) m (turns_at places place))
+      turns_go place m here =
+          threads_go place places 1 m (omega arith) (omega (arith, each)) (λ j own found. of_thread_at places j own found) here
+
+      -- the patcher goes on
+      patcher_goes : (place : ℕ) (m : Moment) → place < total_of cast.program (thread_count cast) cast.script → IsAt place (thread_count cast + 1) m
+          → IsAt (place + 1) 1 (patcher_turn cast m)
+      patcher_goes place m within here = record {
+        place_is = let e : min (m.place + 1) (total_of cast.program (thread_count cast) cast.script) ≡ place + 1 = omega (arith, here.place_is) in e;
+        count = here.count;
+        made = λ thread some below. absurd (omega (arith, some, below));
+        left = λ thread some low high. here.made thread some (omega (arith, high));
+      }
+
+      -- all places up to the end
+      places_go : (steps place : ℕ) (m : Moment) → place + steps ≡ total_of cast.program (thread_count cast) cast.script → IsAt place 1 m
+          → IsAt (total_of cast.program (thread_count cast) cast.script) (thread_count cast + 1)
+          (lines_played (moment_rules cast) m (turns_from places place steps))
+      places_go zero place m all here =
+          let e : place ≡ total_of cast.program (thread_count cast) cast.script = omega (arith, all) in
+          subst (λ (p : ℕ). IsAt p (thread_count cast + 1) (lines_played (moment_rules cast) m (turns_at places place))) e (turns_go place m here)
+      places_go (suc steps) place m all here =
+          let mid : Moment = lines_played (moment_rules cast) m (turns_at places place) in
+          let next : Moment = patcher_turn cast mid in
+          let played : lines_played (moment_rules cast) m (turns_at places place ++ Patcher 1 ∷ turns_from places (place + 1) steps)
+          ≡ lines_played (moment_rules cast) next (turns_from places (place + 1) steps) =
+          fold-append (line_played (moment_rules cast)) m (turns_at places place) (Patcher 1 ∷ turns_from places (place + 1) steps) in
+          subst (IsAt (total_of cast.program (thread_count cast) cast.script) (thread_count cast + 1)) (sym played)
+          (places_go steps (place + 1) next (omega (arith, all)) (patcher_goes place mid (omega (arith, all)) (turns_go place m here)))
+
+      -- at first
+      first_at : IsAt (start_of cast.program (thread_count cast) cast.script) 1 (first_moment cast)
+      first_at = record {
+        place_is = refl;
+        count = length-map cast.passings (λ _. let none : List Load = [] in none);
+        made = λ thread some below. absurd (omega (arith, some, below));
+        left = λ thread some low high.
+            none_made cast.passings (thread - 1)
+            ∙ ap (λ n. take n (of_thread loads thread)) (sym (before_none _ _ _ (of_thread places thread) (placed thread some high).rise (omega arith)));
+      }
+
+      -- no thread has a load left
+      all_out : (n thread : ℕ) (m : Moment) → 0 < thread → thread + n ≡ thread_count cast + 1
+          → ((other : ℕ) → 0 < other → other ≤ thread_count cast → of_thread m.loads other ≡ of_thread loads other)
+          → ThreadsRunOut (moment_rules cast) n thread m m
+      all_out zero thread m some all are = refl
+      all_out (suc n) thread m some all are = (
+        m,
+        (
+          0,
+          refl,
+          ap (λ (ls : List Load). next_load cast.program (thread_count cast) thread (hold_of thread cast.script) (of_thread cast.passings thread) ls)
+              (are thread some (omega (arith, all))) ∙ (placed thread some (omega (arith, all))).ended,
+        ),
+        all_out n (thread + 1) m (omega arith) (omega (arith, all)) are,
+      )
+
+      -- The schedule of the places leaves exactly these loads, and the patcher at the end of the script.
+      pub replay_of_places : start_of cast.program (thread_count cast) cast.script ≤ total_of cast.program (thread_count cast) cast.script
+          → (last : Moment)
+          × Plays (moment_rules cast) (thread_count cast) (first_moment cast)
+          (ordered (start_of cast.program (thread_count cast) cast.script) (total_of cast.program (thread_count cast) cast.script) places) last
+          × ((thread : ℕ) → 0 < thread → thread ≤ thread_count cast → of_thread last.loads thread ≡ of_thread loads thread)
+      replay_of_places within =
+          let start = start_of cast.program (thread_count cast) cast.script in
+          let total = total_of cast.program (thread_count cast) cast.script in
+          let lines = turns_from places start (total - start) in
+          let last : Moment = lines_played (moment_rules cast) (first_moment cast) (joined lines) in
+          let there : IsAt total (thread_count cast + 1) last =
+          subst (IsAt total (thread_count cast + 1)) (sym (joined_plays cast lines (first_moment cast)))
+          (places_go (total - start) start (first_moment cast) (omega (arith, within)) first_at) in
+          let are : (thread : ℕ) → 0 < thread → thread ≤ thread_count cast → of_thread last.loads thread ≡ of_thread loads thread =
+          λ thread some high.
+          let its = placed thread some high in
+          there.made thread some (omega (arith, high))
+          ∙ ap (λ n. take n (of_thread loads thread)) (before_all _ _ (total + 1) (of_thread places thread) its.rise (omega arith) ∙ its.count)
+          ∙ take_all (length (of_thread loads thread)) (of_thread loads thread) (omega arith) in
+          (last, all_out (thread_count cast) 1 last (omega arith) (omega arith) are, are)

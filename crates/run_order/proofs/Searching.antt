@@ -67,7 +67,7 @@ pub found_on : (last from : ℕ) (search : Search) (later : List Search) (found 
     → FoundOn last from search later found
 found_on last from search later found e =
     let next : ℕ → Option (ℕ × List ℕ) = λ at.
-        option_map (λ (rest : ℕ × List ℕ). (rest.0, replicate (search.loads at) at ++ rest.1)) (found_by last at later) in
+    option_map (λ (rest : ℕ × List ℕ). (rest.0, replicate (search.loads at) at ++ rest.1)) (found_by last at later) in
     let went = went_on next (first_place search.test from last) found e in
     let made = was_made (λ (rest : ℕ × List ℕ). let p : ℕ × List ℕ = (rest.0, replicate (search.loads went.value) went.value ++ rest.1) in p) (found_by last went.value later) found went.gives in
     record {
@@ -106,8 +106,7 @@ found_rises last from (search ∷ later) found e within =
     let on = found_on last from search later found e in
     let rest = found_rises last on.at later on.rest on.rest_found on.there.high in
     let rise : Rise from on.rest.0 (replicate (search.loads on.at) on.at ++ on.rest.1) =
-    rise_same from on.rest.0 on.at (search.loads on.at) on.rest.1 on.there.low rest.0 rest.2 in
-    (
+    rise_same from on.rest.0 on.at (search.loads on.at) on.rest.1 on.there.low rest.0 rest.2 in (
       omega (arith, on.there.low, rest.0, on.end_is),
       omega (arith, rest.1, on.end_is),
       subst (λ (n : ℕ). Rise from n found.1) (sym on.end_is) (subst (Rise from on.rest.0) (sym on.places_are) rise),

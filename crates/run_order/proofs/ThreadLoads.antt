@@ -204,6 +204,7 @@ module _ (program : Program) (threads : ℕ) (code : ℕ → ℕ → ℕ) where
         → found_by last from (passing_searches program threads code thread held sled mark) ≡ Some found
         → (from ≤ found.0) × (found.0 ≤ last) × Rise from found.0 found.1
     passing_rises held sled mark last from found e = some_rises (passing_searches program threads code thread held sled mark) (has_search held sled mark) last from found e
+
     pub passings_placed : (bound : ℕ → ℕ) (hold : Option ℕ) (last : ℕ) → ((n : ℕ) → bound n ≤ last) → (number from : ℕ) (sleds : List ℕ) (marks : List Mark)
         (places : List ℕ) → Exist sleds → places_from program threads code bound thread hold number from sleds marks ≡ Some places
         → Placed bound number from last sleds marks places
@@ -215,8 +216,8 @@ module _ (program : Program) (threads : ℕ) (code : ℕ → ℕ → ℕ) where
     passings_placed bound hold last within number from (sled ∷ sleds) (mark ∷ marks) places exist e =
         let searches = passing_searches program threads code thread (is_held_at hold number) sled mark in
         let went = went_on
-            (λ (found : ℕ × List ℕ). option_map (λ (later : List ℕ). found.1 ++ later) (places_from program threads code bound thread hold (number + 1) found.0 sleds marks))
-            (found_by (bound number) from searches) places e in
+        (λ (found : ℕ × List ℕ). option_map (λ (later : List ℕ). found.1 ++ later) (places_from program threads code bound thread hold (number + 1) found.0 sleds marks))
+        (found_by (bound number) from searches) places e in
         let found : ℕ × List ℕ = went.value in
         let made = was_made (λ (later : List ℕ). found.1 ++ later) (places_from program threads code bound thread hold (number + 1) found.0 sleds marks) places went.gives in
         let later : List ℕ = made.value in
@@ -265,39 +266,39 @@ pub record PlacedIn (cast : Cast) (thread : ℕ) (marks : List Mark) (places : L
 module _ (program : Program) (script : List Command) (passings : List (List ℕ)) (releases : AllRelease (length passings) script)
     (bounds : (thread passing : ℕ) → bound_of program (length passings) script thread passing ≤ total_of program (length passings) script)
   where
-  pub thread_placed : (thread : ℕ) (sleds : List ℕ) (marks : List Mark) (places : List ℕ) → of_thread passings thread ≡ sleds
-      → Exist program (length passings) (code_at program (length passings) script) thread sleds
-      → load_places program (length passings) script thread sleds marks ≡ Some places
-      → PlacedIn (record { program = program; script = free_commands script; passings = passings }) thread marks
-      (map (free_place program (length passings) script) places)
-  thread_placed thread sleds marks places own exist e =
-      let n : ℕ = length passings in
-      let f : ℕ → ℕ = free_place program n script in
-      let placed = passings_placed program n (code_at program n script) thread (bound_of program n script thread) (hold_of thread script)
-          (total_of program n script) (bounds thread) 0 (start_of program n script) sleds marks places exist e in
-      let loads : List Load = placed.loads in
-      let next_is : (ls : List Load) → next_load program n thread (hold_of thread (free_commands script)) (of_thread passings thread) ls
-          ≡ next_load program n thread None sleds ls = λ ls.
-          ap (λ (h : Option ℕ). next_load program n thread h (of_thread passings thread) ls) (no_hold thread script)
-          ∙ ap (λ (ss : List ℕ). next_load program n thread None ss ls) own in
-      let mapped : Rise (f (start_of program n script)) (f (total_of program n script)) (map f places) =
-      rise_mapped f (places_rise program n script) (start_of program n script) (total_of program n script) places placed.rise in
-      record {
-        loads = loads;
-        placed = record {
-          count = length-map places f ∙ placed.are.count;
-          rise =
-              subst (λ (a : ℕ). Rise a (total_of program n (free_commands script)) (map f places)) (sym (free_start program n script releases))
-              (subst (λ (b : ℕ). Rise (f (start_of program n script)) b (map f places)) (sym (free_total program n script releases)) mapped);
-          wanted = λ i load found. next_is (take i loads) ∙ placed.are.wanted i load found;
-          values = λ i place load there found.
-              let at = mapped_at f places i place there in
-              let is = placed.are.values i at.0 load at.1 found in
-              is.0 ∙ sym (free_code program n script at.0 load.word releases is.1)
-              ∙ ap (λ (p : ℕ). code_at program n (free_commands script) p load.word) at.2;
-          ended = next_is loads ∙ placed.are.ended;
-        };
-        marks_are =
-            ap (λ (h : Option ℕ). marks_of program n thread h (of_thread passings thread) loads) (no_hold thread script)
-            ∙ ap (λ (ss : List ℕ). marks_of program n thread None ss loads) own ∙ placed.are.marks_are;
-      }
+    pub thread_placed : (thread : ℕ) (sleds : List ℕ) (marks : List Mark) (places : List ℕ) → of_thread passings thread ≡ sleds
+        → Exist program (length passings) (code_at program (length passings) script) thread sleds
+        → load_places program (length passings) script thread sleds marks ≡ Some places
+        → PlacedIn (record { program = program; script = free_commands script; passings = passings }) thread marks
+        (map (free_place program (length passings) script) places)
+    thread_placed thread sleds marks places own exist e =
+        let n : ℕ = length passings in
+        let f : ℕ → ℕ = free_place program n script in
+        let placed = passings_placed program n (code_at program n script) thread (bound_of program n script thread) (hold_of thread script)
+        (total_of program n script) (bounds thread) 0 (start_of program n script) sleds marks places exist e in
+        let loads : List Load = placed.loads in
+        let next_is : (ls : List Load) → next_load program n thread (hold_of thread (free_commands script)) (of_thread passings thread) ls
+        ≡ next_load program n thread None sleds ls = λ ls.
+        ap (λ (h : Option ℕ). next_load program n thread h (of_thread passings thread) ls) (no_hold thread script)
+        ∙ ap (λ (ss : List ℕ). next_load program n thread None ss ls) own in
+        let mapped : Rise (f (start_of program n script)) (f (total_of program n script)) (map f places) =
+        rise_mapped f (places_rise program n script) (start_of program n script) (total_of program n script) places placed.rise in
+        record {
+          loads = loads;
+          placed = record {
+            count = length-map places f ∙ placed.are.count;
+            rise =
+                subst (λ (a : ℕ). Rise a (total_of program n (free_commands script)) (map f places)) (sym (free_start program n script releases))
+                (subst (λ (b : ℕ). Rise (f (start_of program n script)) b (map f places)) (sym (free_total program n script releases)) mapped);
+            wanted = λ i load found. next_is (take i loads) ∙ placed.are.wanted i load found;
+            values = λ i place load there found.
+                let at = mapped_at f places i place there in
+                let is = placed.are.values i at.0 load at.1 found in
+                is.0 ∙ sym (free_code program n script at.0 load.word releases is.1)
+                ∙ ap (λ (p : ℕ). code_at program n (free_commands script) p load.word) at.2;
+            ended = next_is loads ∙ placed.are.ended;
+          };
+          marks_are =
+              ap (λ (h : Option ℕ). marks_of program n thread h (of_thread passings thread) loads) (no_hold thread script)
+              ∙ ap (λ (ss : List ℕ). marks_of program n thread None ss loads) own ∙ placed.are.marks_are;
+        }

@@ -1,13 +1,23 @@
 //! The order of a run, as a schedule.
 
-ghost use Rattle.std.specs.Prelude.{◌≡◌, ◌++◌, ◌∷◌, [], List};
+ghost use Rattle.std.specs.Prelude.{◌≡◌, ◌≤◌, All, Err, IfOk, false, length, map, true};
 ghost use Rattle.std.specs.List.{flat_map};
 ghost use Rattle.xray_io.specs.Text.{AddsText};
-ghost use Rattle.run_order.specs.private.Texts.{line_text};
+ghost use Rattle.patch_script.specs.Limits.{most_micros};
+ghost use Rattle.run_order.specs.declared.fault.OrderFault.TheVariants.{Long};
+ghost use Rattle.run_order.specs.Orders.{is_long, ordered};
+ghost use Rattle.run_order.specs.private.{Stops.{AreStops, places_of}, Texts.{line_text}};
 
+use crate::fault::OrderFault;
+use crate::merging::schedule_lines;
+use crate::stop::Stop;
+use std::alloc::Global;
 use std::marker::Model;
 use step_sim::Turns;
 use xray_io::{Piece, Printed, Sink, Text, WriteFault};
+
+/// The most lines that a schedule may have.
+const MOST_LINES: usize = 1_048_576;
 
 /// The order of all loads and stores of a finished run: a schedule for the script without waits. Its
 /// replay has the marks of the run. In contracts it is the list of its turns.
@@ -26,11 +36,28 @@ impl Model for Order {
 }
 
 impl Order {
-    /// The order of these lines.
-    pub(crate) fn of_lines(lines: Vec<Turns>) -> Self
-        ensures { result ≡ lines.items }
+    /// The order of the loads of threads, thread 1 first, from the place at which the threads start up to
+    /// the script's end. `Long` comes exactly when it has more lines than a schedule may have.
+    pub(crate) fn of_stops(
+        alloc: Global,
+        threads: &[Vec<Stop>],
+        start: u32,
+        total: u32,
+    ) -> Result<Order, OrderFault>
+        requires few { length threads.now ≤ 16 }
+        requires start { start ≤ total }
+        requires total { total ≤ most_micros }
+        requires stops { All (λ stops. AreStops start stops.items) threads.now }
+        ensures order { IfOk result (λ order. order ≡ ordered start total (map (λ stops. places_of stops.items) threads.now)) }
+        ensures short { IfOk result (λ order. is_long order ≡ false) }
+        ensures long { result ≡ Err Long
+            → is_long (ordered start total (map (λ stops. places_of stops.items) threads.now)) ≡ true }
     {
-        Order { lines }
+        let lines = schedule_lines(alloc, threads, start, total)?;
+        if lines.len() > MOST_LINES {
+            return Err(OrderFault::Long);
+        }
+        Ok(Order { lines })
     }
 
     /// The turns, in order.

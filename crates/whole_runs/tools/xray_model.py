@@ -2,7 +2,7 @@
 
 It is written from docs/formats and docs/COMMANDS.md alone, and shares nothing with the program or its definitions. It is made to
 be read, not to be fast. Other modules have its parts: images (image_model), plain runs (machine_model), scripts and replays
-(replay_model), runs beside a script (run_model), verdicts on what runs leave (check_model), profiles of such runs
+(replay_model), runs beside a script (run_model), verdicts on what runs leave (check_model), their orders (order_model), profiles of such runs
 (profile_model), traces (trace_model), reports on them (report_model) and soaks (soak_model).
 What `asm` makes from a text is passed in: crates/asm_text/tools/random_texts.py has a model of that. What `run` shows of its
 order is passed in too.
@@ -13,6 +13,7 @@ import posixpath
 import re
 
 import check_model
+import order_model
 import profile_model
 import run_model
 import soak_model
@@ -134,11 +135,12 @@ FORMS = {
     "convert": Form(TRACE_AND_IMAGE, (), {"format": Choice("yaml", "trace-event", "basic"), "input": Choice("fdr", "basic")}),
     "fdr-dump": Form(range(1, 2), (), {}),
     "check": Form(range(4, 5), (), {}),
+    "order": Form(range(5, 6), (3, 4), {}),
     "soak": Form(range(1, 2), (), {}, {0: Numbers(0, LARGEST_64, None)}),
     "profile": Form(range(2, 3), (), PROFILE_OPTIONS),
 }
 # Commands that a program may lack.
-LATER = ("sim", "run", "account", "stack", "convert", "fdr-dump", "check", "soak", "profile")
+LATER = ("sim", "run", "account", "stack", "convert", "fdr-dump", "check", "order", "soak", "profile")
 # `sim` of a program that writes no traces: it only prints the state texts.
 REPLAY = Form(range(3, 4), (), RUN_OPTIONS)
 
@@ -339,6 +341,19 @@ def check(world, names):
     return check_model.verdict(image, commands, audit, trace) + "\n"
 
 
+def order(world, names):
+    """The files that `order` writes. Its inputs are taken in another order than that of their names."""
+    image_name, script_name, audit_name, free_name, schedule_name = names
+    image = taken_image(world, image_name)
+    audit = taken(world, audit_name, "audit", AUDIT_LIMIT, check_model.audit_of)
+    commands = taken_script(world, script_name, image, audit.options["threads"])
+    try:
+        schedule = order_model.schedule_text(image, commands, audit)
+    except Refused as refused:
+        raise Failed(2, f"{audit_name}: audit {refused.reason}")
+    return {free_name: order_model.free_text(world.files[script_name], commands), schedule_name: schedule}
+
+
 def audit_line(thread, recorded):
     marks = runs_text(thread.marks)
     count = sum(mark in RECORDED for mark in thread.marks)
@@ -392,6 +407,8 @@ def results(command, names, options, world, assemble):
             return dict(zip(names[2:], [comes.trace, comes.audit])), comes.states
         case "check":
             return {}, check(world, names)
+        case "order":
+            return order(world, names), ""
         case "fdr-dump":
             return {}, taken(world, names[0], "trace", TRACE_LIMIT, dump_text)
         case "soak":

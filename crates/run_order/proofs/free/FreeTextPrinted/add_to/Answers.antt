@@ -27,8 +27,8 @@ returns g c =
     let done : List ℕ = c.lines.invariant.done in
     let none : left ≡ [] = nil_from_length left ((Decides-eqb (length left) 0).0 (sym c.lines-test.ensures)) in
     let whole : done ≡ free_text c.args.self.now.0.now =
-        sym (append-nil done) ∙ ap (λ (bytes : List ℕ). done ++ flat_map kept_text (whole_lines bytes)) (sym none)
-        ∙ c.lines.invariant.whole ∙ sym (kept_texts c.args.self.now.0.now) in
+    sym (append-nil done) ∙ ap (λ (bytes : List ℕ). done ++ flat_map kept_text (whole_lines bytes)) (sym none)
+    ∙ c.lines.invariant.whole ∙ sym (kept_texts c.args.self.now.0.now) in
     record {
       adds =
           subst (λ (bytes : List ℕ). AddsText g.S.Sink.written g.S.Sink.faults g.S.Sink.along c.args.to.now c.lines.to bytes (Ok tt)) whole
@@ -38,9 +38,9 @@ returns g c =
 pub returns-in_err-add_kept : goal.returns-in_err-add_kept
 returns-in_err-add_kept g c =
     let whole : (c.lines.invariant.done ++ kept_text c.split_line.result.0.now) ++ flat_map kept_text (whole_lines c.split_line.result.1.now)
-            ≡ free_text c.args.self.now.0.now =
-        kept_more c.lines.invariant.done c.lines.left.now c.split_line.result.0.now c.split_line.result.1.now c.split_line.ensures.lines
-        ∙ c.lines.invariant.whole ∙ sym (kept_texts c.args.self.now.0.now) in
+    ≡ free_text c.args.self.now.0.now =
+    kept_more c.lines.invariant.done c.lines.left.now c.split_line.result.0.now c.split_line.result.1.now c.split_line.ensures.lines
+    ∙ c.lines.invariant.whole ∙ sym (kept_texts c.args.self.now.0.now) in
     record {
       adds =
           adds_failed

@@ -8,5 +8,5 @@ pub returns : goal.returns
 returns g c = record {
   adds =
       subst (λ (bytes : List ℕ). AddsText g.S.Sink.written g.S.Sink.faults g.S.Sink.along c.args.to.now c.add_lines.new.to bytes c.add_lines.result)
-      (lines_text c.deref.result.now ∙ ap schedule_text c.deref.ensures.value) c.add_lines.ensures;
+      (lines_text c.deref.result.now ∙ ap schedule_text (c.deref.ensures.value ∙ c.self.view_is)) c.add_lines.ensures;
 }
