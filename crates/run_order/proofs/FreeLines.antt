@@ -1,12 +1,12 @@
 -- The lines of a text without its waits.
-use Rattle.std.proofs.Common.{◌≡◌, ℕ, zero, suc, ◌+◌, ◌<◌, ◌≤◌, Bool, true, false, cond, List, [], ◌∷◌, ◌++◌, append-nil, append_assoc, Option, Some, None, refl, sym, ap, subst, ◌∙◌, arith, length}
+use Rattle.std.proofs.Common.{◌≡◌, ℕ, ◌<◌, Bool, true, false, cond, List, [], ◌∷◌, ◌++◌, append-nil, append_assoc, refl, sym, ap, ◌∙◌, arith, length}
 use Rattle.std.specs.Prelude.{◌==◌, All, filter, not, slice_get, unwrap_or}
 use Rattle.std.specs.List.{flat_map, onto_first, slice_split}
 use Rattle.std.specs.Str.Lines.{lines, lines_of_parts, strip_carriage_return}
 use Rattle.std.proofs.lemmas.List.Elements.{All-cons, All-nil}
 use Rattle.std.proofs.lemmas.List.Splits.{length-slice_split, slice_split_at, slice_split_none}
 use Rattle.text_lines.specs.Words.{words_of}
-use Rattle.run_order.specs.FreeScripts.{begins_wait, free_text, line_in, whole_lines, whole_of_parts}
+use Rattle.run_order.specs.FreeScripts.{begins_wait, free_text, line_in, whole_of_parts}
 
 -- the byte ends a line
 abbrev ends : ℕ → Bool

@@ -1,18 +1,17 @@
 -- The loads of a passing, at the places that its searches find.
-use Rattle.std.proofs.Common.{◌≡◌, inl, inr, ℕ, zero, suc, ◌+◌, ◌*◌, ◌<◌, ◌≤◌, Bool, true, false, cond, List, [], ◌∷◌, ◌++◌, Option, Some, None, refl, sym, ap, subst, ◌∙◌, arith, length, take}
-use Rattle.std.specs.Prelude.{◌==◌, ◌||◌, not, replicate, slice_get}
+use Rattle.std.proofs.Common.{◌≡◌, ℕ, ◌<◌, ◌≤◌, Bool, true, false, cond, List, [], ◌∷◌, ◌++◌, Some, refl, sym, ap, subst, ◌∙◌, arith, length}
+use Rattle.std.specs.Prelude.{◌==◌, ◌||◌, not, replicate}
 use Rattle.std.proofs.lemmas.Bool.Decides.{nat_tests}
 use Rattle.xray_image.specs.Program.{Program}
 use Rattle.handler_word.specs.declared.mark.Mark.{Mark}
 use Rattle.handler_word.specs.declared.mark.Mark.TheVariants.{Skipped, NoHandler, NotLogging, Recorded, RecordedArg}
 use Rattle.sled_words.specs.declared.part.Part.{Part}
 use Rattle.sled_words.specs.declared.part.Part.TheVariants.{Head, Id, Opcode, Offset}
-use Rattle.sled_words.specs.Parts.{patched_head}
 use Rattle.sled_words.specs.Words.{arg_handler_word, handler_word, release_word, state_word, word_of}
 use Rattle.machine_step.specs.Loads.{Load, Reading, Wants, Marked, from_arg_handler, from_handler, from_handlers, from_head, from_id, from_offset, from_opcode, from_state, sled_logs_args}
 use Rattle.run_order.specs.FreeScripts.{is_release_word}
 use Rattle.run_order.specs.Places.{Search, found_by, handler_searches, has_arg_handler, has_handler, either_handler, head_searches, is_patched, is_set, log_records, passing_searches, patched_search}
-use Rattle.run_order.proofs.Searching.{FoundOn, found_none, found_on}
+use Rattle.run_order.proofs.Searching.{found_none, found_on}
 
 -- ---- loads that lead to a mark
 

@@ -1,5 +1,5 @@
 -- If marks follow a script, searches find places for the loads.
-use Rattle.std.proofs.Common.{◌≡◌, ◌≢◌, inl, inr, ℕ, zero, suc, ◌+◌, ◌-◌, ◌<◌, ◌≤◌, Bool, true, false, cond, List, [], ◌∷◌, ◌++◌, Option, Some, None, refl, sym, ap, subst, ◌∙◌, arith, length}
+use Rattle.std.proofs.Common.{◌≡◌, ◌≢◌, inl, inr, ℕ, zero, suc, ◌+◌, ◌-◌, ◌<◌, ◌≤◌, Bool, true, false, cond, List, [], ◌∷◌, ◌++◌, Option, Some, refl, sym, ap, subst, ◌∙◌, arith, length}
 use Rattle.std.specs.Prelude.{◌==◌, ◌||◌, ◌⊎◌, All, not, option_and_then, option_map, replicate}
 use Rattle.std.proofs.lemmas.Bool.{ne_eqb}
 use Rattle.xray_image.specs.Program.{Program}
@@ -10,11 +10,10 @@ use Rattle.sled_words.specs.Parts.{patched_head}
 use Rattle.sled_words.specs.Words.{arg_handler_word, handler_word, release_word, state_word, word_of}
 use Rattle.machine_step.specs.Follows.{MarksFollow}
 use Rattle.machine_step.specs.Loads.{is_held_at, sled_logs_args}
-use Rattle.audit_check.specs.private.Ways.{Leaf, Passes, Reaches, Tree, arg_handler_tree, handler_tree, handlers_tree, head_tree, id_tree, passing_tree, state_tree, trees_of}
+use Rattle.audit_check.specs.private.Ways.{Leaf, Passes, Reaches, Tree, arg_handler_tree, handler_tree, head_tree, id_tree, passing_tree, state_tree, trees_of}
 use Rattle.audit_check.proofs.FollowWays.{marks_pass}
 use Rattle.audit_check.proofs.Owning.{trees_own}
-use Rattle.audit_check.proofs.Walking.{passes_earlier}
-use Rattle.run_order.specs.Places.{Search, either_handler, first_among, first_place, found_by, handler_searches, has_arg_handler, has_handler, head_searches, is_patched, is_set, log_records, passing_searches, patched_search, places_from}
+use Rattle.run_order.specs.Places.{Search, either_handler, first_among, found_by, handler_searches, has_arg_handler, has_handler, head_searches, is_patched, is_set, log_records, passing_searches, patched_search, places_from}
 
 -- ---- the first place is the least
 

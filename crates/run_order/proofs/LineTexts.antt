@@ -1,6 +1,5 @@
 -- The text of an order is that of its lines.
 use Rattle.std.proofs.Common.{◌≡◌, ℕ, List, [], ◌∷◌, ◌++◌, append_assoc, refl, sym, ap, ◌∙◌}
-use Rattle.std.specs.Prelude.{decimal}
 use Rattle.std.specs.List.{flat_map}
 use Rattle.text_lines.specs.Written.{written_line}
 use Rattle.step_sim.specs.declared.turns.Turns.{Turns}

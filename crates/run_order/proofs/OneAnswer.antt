@@ -1,5 +1,5 @@
 -- There is one answer to an audit, and always some answer.
-use Rattle.std.proofs.Common.{◌≡◌, inl, inr, ℕ, ◌+◌, ◌-◌, ◌<◌, ◌≤◌, Bool, true, false, List, [], ◌∷◌, Some, None, Option, refl, sym, ap, subst, ◌∙◌, arith, length, map}
+use Rattle.std.proofs.Common.{◌≡◌, inl, inr, ℕ, ◌+◌, ◌-◌, Bool, true, false, List, [], Some, None, Option, refl, sym, ap, subst, ◌∙◌, arith, map}
 use Rattle.std.specs.Prelude.{Result, Ok, Err, option_map, slice_get}
 use Rattle.std.proofs.lemmas.Option.{slice_get-map, slice_get_within}
 use Rattle.xray_image.specs.Program.{Program}
@@ -7,7 +7,7 @@ use Rattle.handler_word.specs.declared.mark.Mark.{Mark}
 use Rattle.patch_script.specs.declared.command.Command.{Command}
 use Rattle.machine_step.specs.Traced.{sleds_passed}
 use Rattle.traced_run.specs.Following.{AllMarksFollow, MarksFollowScript}
-use Rattle.traced_run.specs.Runs.{IsRun, ThreadRun}
+use Rattle.traced_run.specs.Runs.{ThreadRun}
 use Rattle.trace_flush.specs.Audit.{ThreadAudit}
 use Rattle.step_sim.specs.declared.turns.Turns.{Turns}
 use Rattle.audit_check.specs.declared.verdict.Verdict.{Verdict}

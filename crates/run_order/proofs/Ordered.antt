@@ -1,21 +1,17 @@
 -- The replay of the order of a run has the marks of the run.
-use Rattle.std.proofs.Common.{◌≡◌, ℕ, zero, suc, ◌+◌, ◌-◌, ◌<◌, ◌≤◌, List, [], ◌∷◌, ◌++◌, Option, Some, None, refl, sym, ap, subst, ◌∙◌, arith, length, map}
-use Rattle.std.specs.Prelude.{All, option_map, slice_get, unwrap_or}
+use Rattle.std.proofs.Common.{◌≡◌, ℕ, zero, suc, ◌+◌, ◌-◌, ◌<◌, ◌≤◌, List, [], ◌∷◌, Option, Some, None, refl, sym, ap, subst, ◌∙◌, arith, length, map}
+use Rattle.std.specs.Prelude.{option_map, slice_get}
 use Rattle.std.proofs.lemmas.List.{length-map}
-use Rattle.std.proofs.lemmas.Option.{slice_get-get_or, slice_get-map, slice_get_within}
-use Rattle.std.proofs.Common.{get_or}
+use Rattle.std.proofs.lemmas.Option.{slice_get-map}
 use Rattle.xray_image.specs.Program.{Program}
-use Rattle.handler_word.specs.declared.mark.Mark.{Mark}
 use Rattle.patch_script.specs.declared.command.Command.{Command}
 use Rattle.patch_script.specs.Bounds.{bound_of}
 use Rattle.patch_script.specs.CodeAt.{code_at}
 use Rattle.patch_script.specs.Micros.{hold_of, start_of, total_of}
 use Rattle.machine_step.specs.Loads.{Load, marks_of}
-use Rattle.machine_step.specs.PlainStep.{Passing}
 use Rattle.machine_step.specs.Traced.{sleds_passed}
 use Rattle.traced_run.specs.Runs.{ThreadRun}
-use Rattle.step_sim.specs.Plays.{Plays}
-use Rattle.step_sim.specs.Replay.{Cast, Moment, Replay, first_moment, marks_at, moment_rules, of_thread, thread_count}
+use Rattle.step_sim.specs.Replay.{Cast, Replay, marks_at, of_thread}
 use Rattle.step_sim.specs.Replayed.{cast_with, passed_of}
 use Rattle.run_order.specs.FreeScripts.{free_commands, free_place}
 use Rattle.run_order.specs.Orders.{ordered}
@@ -25,7 +21,7 @@ use Rattle.run_order.proofs.FreeMicros.{AllRelease, free_start, free_total, plac
 use Rattle.run_order.proofs.Gathering.{gather, marks_are_at}
 use Rattle.run_order.proofs.Replaying.{of_thread_at, replay_of_places}
 use Rattle.run_order.proofs.Searching.{was_made}
-use Rattle.run_order.proofs.ThreadLoads.{Exist, PlacedIn, thread_placed}
+use Rattle.run_order.proofs.ThreadLoads.{Exist, thread_placed}
 
 pub none_there : {X : Type 0} (xs : List X) (i : ℕ) → i < length xs → slice_get xs i ≡ None → ⊥
 none_there [] i low e = omega (arith, low)

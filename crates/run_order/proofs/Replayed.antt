@@ -1,5 +1,5 @@
 -- The order of a run leaves the run, but for its losses.
-use Rattle.std.proofs.Common.{◌≡◌, inl, inr, ℕ, zero, suc, ◌+◌, ◌-◌, ◌<◌, ◌≤◌, List, [], ◌∷◌, ◌++◌, Option, Some, None, refl, sym, ap, subst, ◌∙◌, arith, length, map}
+use Rattle.std.proofs.Common.{◌≡◌, ℕ, zero, suc, ◌+◌, ◌-◌, ◌<◌, ◌≤◌, List, [], ◌∷◌, Option, Some, None, refl, sym, ap, subst, ◌∙◌, arith, length, map}
 use Rattle.std.specs.Prelude.{All, not, option_map, slice_get}
 use Rattle.std.specs.List.{prefix_len}
 use Rattle.std.proofs.lemmas.List.{length-map}
@@ -12,7 +12,6 @@ use Rattle.patch_script.specs.Bounds.{bound_of}
 use Rattle.patch_script.specs.CodeAt.{code_at}
 use Rattle.patch_script.specs.Micros.{hold_of, is_go, start_of, total_of}
 use Rattle.machine_step.specs.declared.end.End.{End}
-use Rattle.machine_step.specs.declared.limits.Limits.{Limits}
 use Rattle.machine_step.specs.declared.setup.Setup.{Setup}
 use Rattle.machine_step.specs.Buffers.{spare_of}
 use Rattle.machine_step.specs.PlainStep.{Passing, PlainRun, State, opening}
@@ -20,7 +19,7 @@ use Rattle.machine_step.specs.Traced.{sleds_passed}
 use Rattle.machine_step.proofs.SomeMarks.{IsSled, run_sleds}
 use Rattle.traced_run.specs.Following.{AllMarksFollow}
 use Rattle.traced_run.specs.Losses.{without_losses}
-use Rattle.traced_run.specs.Runs.{EachThread, IsRun, ThreadRun}
+use Rattle.traced_run.specs.Runs.{IsRun, ThreadRun}
 use Rattle.step_sim.specs.declared.turns.Turns.{Turns}
 use Rattle.step_sim.specs.Pool.{Pooled, PooledReplay, Pooling, segments_among}
 use Rattle.step_sim.specs.Recorded.{numbers_from, pooling_of}
@@ -29,7 +28,7 @@ use Rattle.step_sim.specs.Replayed.{IsReplayOf, cast_of, cast_with, passed_of}
 use Rattle.step_sim.proofs.ReplayAlong.{front_steps}
 use Rattle.run_order.specs.FreeScripts.{free_commands, free_place}
 use Rattle.run_order.specs.Orders.{ordered}
-use Rattle.run_order.specs.Places.{free_places, load_places}
+use Rattle.run_order.specs.Places.{free_places}
 use Rattle.run_order.specs.RunOrders.{AreRunPlaces, IsOrderOf}
 use Rattle.run_order.proofs.FreeMicros.{AllRelease}
 use Rattle.run_order.proofs.Leasts.{following_least}

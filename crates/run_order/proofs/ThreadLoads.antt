@@ -10,13 +10,13 @@ use Rattle.patch_script.specs.declared.command.Command.TheVariants as commands
 use Rattle.patch_script.specs.Bounds.{bound_of}
 use Rattle.patch_script.specs.CodeAt.{code_at}
 use Rattle.patch_script.specs.Micros.{hold_of, start_of, total_of}
-use Rattle.machine_step.specs.Loads.{Load, Marked, Reading, Wants, from_head, is_held_at, marks_from, marks_of, next_from, next_load, sled_logs_args}
+use Rattle.machine_step.specs.Loads.{Load, Marked, Reading, Wants, from_head, is_held_at, marks_from, marks_of, next_from, next_load}
 use Rattle.step_sim.specs.Replay.{Cast, of_thread, thread_count}
 use Rattle.run_order.specs.FreeScripts.{free_commands, free_place}
 use Rattle.run_order.specs.Placed.{ArePlaced, Rise}
-use Rattle.run_order.specs.Places.{Search, found_by, handler_searches, head_searches, load_places, passing_searches, patched_search, places_from}
+use Rattle.run_order.specs.Places.{Search, found_by, load_places, passing_searches, places_from}
 use Rattle.run_order.proofs.FreeMicros.{AllRelease, free_code, free_start, free_total, places_rise}
-use Rattle.run_order.proofs.Leading.{IsLoadAt, Leads, Led, passing_led}
+use Rattle.run_order.proofs.Leading.{IsLoadAt, Leads, passing_led}
 use Rattle.run_order.proofs.Searching.{found_on, found_rises, was_made, went_on}
 
 -- ---- lists

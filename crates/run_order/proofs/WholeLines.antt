@@ -1,5 +1,5 @@
 -- The first line of a text, with what ends it.
-use Rattle.std.proofs.Common.{◌≡◌, ℕ, zero, suc, ◌+◌, ◌<◌, ◌≤◌, Bool, true, false, cond, List, [], ◌∷◌, ◌++◌, append_assoc, Option, Some, None, refl, sym, ap, subst, ◌∙◌, arith, length, take, drop}
+use Rattle.std.proofs.Common.{◌≡◌, ℕ, suc, ◌+◌, ◌<◌, Bool, true, false, cond, List, [], ◌∷◌, ◌++◌, append_assoc, Some, None, refl, sym, ap, subst, ◌∙◌, arith, length, take, drop}
 use Rattle.std.specs.Prelude.{◌==◌, All, filter, not, position, slice_get, unwrap_or}
 use Rattle.std.specs.List.{enumerate_from, flat_map, position_or_len, slice_split}
 use Rattle.std.specs.Str.Lines.{lines}
