@@ -14,6 +14,7 @@ pub mod Ordered
 pub mod Replayed
 pub mod Replaying
 pub mod Searching
+pub mod Short
 pub mod Stopping
 pub mod ThreadLoads
 pub mod TurnsOf

@@ -1,6 +1,6 @@
 //! Laws of orders. Each law is the contract of a function that does nothing.
 
-ghost use Rattle.std.specs.Prelude.{◌≡◌, ℕ, All, List, None, Ok, Result};
+ghost use Rattle.std.specs.Prelude.{◌≡◌, ◌≤◌, ℕ, All, List, None, Ok, Result, false, length};
 ghost use Rattle.xray_image.specs.Program.{IsAccepted, Program};
 ghost use Rattle.audit_check.specs.Statements.{MayState, Statement};
 ghost use Rattle.patch_script.specs.declared.command.Command.{Command};
@@ -8,15 +8,16 @@ ghost use Rattle.patch_script.specs.{Plans.{Plan, plan_of, waiting_line}, Refusa
 ghost use Rattle.machine_step.specs.declared.setup.Setup.{Setup};
 ghost use Rattle.traced_run.specs.{Following.{AllMarksFollow}, Losses.{without_losses}, Runs.{IsRun, ThreadRun}};
 ghost use Rattle.step_sim.specs.declared.turns.Turns.{Turns as Line};
-ghost use Rattle.step_sim.specs.{Replayed.{IsReplayOf}, Schedules.{AreTurnsOf}};
+ghost use Rattle.step_sim.specs.{Replayed.{IsReplayOf}, Schedules.{AreTurnsOf, schedule_of}};
+ghost use Rattle.step_sim.specs.WrittenSchedules.{HasWords, schedule_text};
 ghost use Rattle.run_order.specs.Answers.{IsOrdered};
 ghost use Rattle.run_order.specs.declared.fault.OrderFault.{OrderFault};
-ghost use Rattle.run_order.specs.{FreeScripts.{free_commands, free_text}, RunOrders.{IsOrderOf}};
+ghost use Rattle.run_order.specs.{FreeScripts.{free_commands, free_text}, Orders.{is_long}, RunOrders.{IsOrderOf}};
 
 use audit_check::some_verdict;
 use machine_step::one_end;
 use patch_script::awaits_bound_passings;
-use step_sim::buffers_change_no_replay;
+use step_sim::{a_written_schedule_is_read, buffers_change_no_replay};
 
 /// The text of a script without its lines of `hold`, `release` and `await` reads as the script without
 /// these commands. Nothing waits in it, so it can be replayed.
@@ -70,4 +71,16 @@ pub fn one_order_of_an_audit()
 {
     one_end();
     some_verdict();
+}
+
+/// The text of an order reads as the order (`reads`), if the order isn't long and its numbers fit 32 bits.
+/// The text has at most as many bytes as a schedule may have (`short`).
+pub fn an_order_is_a_schedule()
+    ensures reads { (threads : ℕ) (schedule : List Line) → threads ≤ 16 → All (AreTurnsOf threads) schedule
+        → All HasWords schedule → is_long schedule ≡ false
+        → schedule_of threads (schedule_text schedule) ≡ Ok schedule }
+    ensures short { (threads : ℕ) (schedule : List Line) → threads ≤ 16 → All (AreTurnsOf threads) schedule
+        → All HasWords schedule → is_long schedule ≡ false → length (schedule_text schedule) ≤ 16777216 }
+{
+    a_written_schedule_is_read();
 }
