@@ -20,16 +20,22 @@ short_count n h = length-decimal-le 10 n (omega arith) (omega (arith, h)) (omega
 short_thread : (n : ℕ) → n ≤ 16 → length (decimal n) ≤ 2
 short_thread n h = length-decimal-le 2 n (omega arith) (omega (arith, h)) (omega (arith, h))
 
+thread_size : (a b : List ℕ) → length (codes "t " ++ a ++ codes " " ++ b ++ 10 ∷ []) ≡ length a + length b + 4
+thread_size a b = simp length-append (omega arith)
+
+patcher_size : (a : List ℕ) → length (codes "p " ++ a ++ 10 ∷ []) ≡ length a + 3
+patcher_size a = simp length-append (omega arith)
+
 line_short : (threads : ℕ) (turns : Turns) → threads ≤ 16 → AreTurnsOf threads turns → HasWords turns → length (line_text turns) ≤ 16
 line_short threads (Thread thread count) few are words =
-    omega (
-      arith,
-      length-append (decimal thread) (codes " " ++ decimal count ++ 10 ∷ []),
-      length-append (decimal count) (10 ∷ []),
-      short_thread thread (omega (arith, few, are.1)),
-      short_count count words,
-    )
-line_short threads (Patcher count) few are words = omega (arith, length-append (decimal count) (10 ∷ []), short_count count words)
+    let own = short_thread thread (omega (arith, few, are.1)) in
+    let loads = short_count count words in
+    let small : length (decimal thread) + length (decimal count) + 4 ≤ 16 = omega (arith, own, loads) in
+    subst (λ n. n ≤ 16) (sym (thread_size (decimal thread) (decimal count))) small
+line_short threads (Patcher count) few are words =
+    let steps = short_count count words in
+    let small : length (decimal count) + 3 ≤ 16 = omega (arith, steps) in
+    subst (λ n. n ≤ 16) (sym (patcher_size (decimal count))) small
 
 lines_short : (threads : ℕ) (lines : List Turns) → threads ≤ 16 → All (AreTurnsOf threads) lines → All HasWords lines
     → length (flat_map line_text lines) ≤ 16 * length lines
