@@ -1,12 +1,13 @@
 #!/usr/bin/env python3
 """Runs commands one at a time, and reports the time and the memory that each of them took by itself.
 
-The system counts the memory of the process that starts a command as the command's own, and a bench may hold a lot. So this
-file runs as a separate process that holds little, and starts the command. It holds about 16 MB; no peak below that is reported.
+The system counts the memory of the process that starts a command as the command's own, and a bench may hold a lot. So
+this file runs as a separate process that holds little, and starts the command. It holds about 16 MB; no peak below that
+is reported.
 """
 import dataclasses
 import os
-import pathlib
+import resource
 import subprocess
 import sys
 import time
@@ -56,9 +57,21 @@ def run_alone(writing, words):
     os.write(writing, f"{process.returncode} {used.ru_utime + used.ru_stime} {elapsed} {used.ru_maxrss * 1024}".encode())
 
 
-def built_program():
-    """The program that a bench measures if none is named."""
-    return pathlib.Path(__file__).resolve().parent.parent / "crates/xray/out/xray"
+def timed(words, folder=None):
+    """The elapsed time of a run, its processor time, and what it printed. A run that fails ends the bench."""
+    begin, before = time.perf_counter(), resource.getrusage(resource.RUSAGE_CHILDREN)
+    run = subprocess.run([str(word) for word in words], cwd=folder, capture_output=True)
+    elapsed, after = time.perf_counter() - begin, resource.getrusage(resource.RUSAGE_CHILDREN)
+    if run.returncode != 0:
+        sys.exit(f"unexpected: {words}: status {run.returncode}, {run.stderr[:300]!r}")
+    return elapsed, after.ru_utime + after.ru_stime - before.ru_utime - before.ru_stime, run.stdout
+
+
+def built_by_rustc(source, folder):
+    """The program that `rustc -O` builds of a source, in a folder."""
+    made = folder / source.stem
+    subprocess.run(["rustc", "--edition", "2021", "-O", "-o", made, source], check=True)
+    return made
 
 
 if __name__ == "__main__":

@@ -1,8 +1,10 @@
 -- The text of an account.
-use Rattle.std.specs.Prelude.{◌-◌, ◌==◌, ◌++◌, Bool, true, false, not, ℕ, List, [], ◌∷◌, length, replicate, codes, count_by, decimal, Option, if◌then◌else◌}
+use Rattle.std.specs.Prelude.{◌-◌, ◌==◌, ◌++◌, Bool, true, false, not, ℕ, List, [], ◌∷◌, length, replicate, codes, count_by, decimal, if◌then◌else◌}
 use Rattle.std.specs.List.{flat_map}
-use Rattle.xray_image.specs.Program.{Program}
+use Rattle.map_names.specs.Naming.{Naming}
 use Rattle.function_names.specs.Name.{name_text}
+use Rattle.function_names.specs.declared.form.NameForm.{NameForm}
+use Rattle.function_names.specs.declared.form.NameForm.TheVariants.{Plain, Field}
 use Rattle.account_report.specs.declared.row.AccountRow.{AccountRow}
 use Rattle.account_report.specs.declared.text.AccountFormat.{AccountFormat}
 use Rattle.account_report.specs.declared.text.AccountFormat.TheVariants.{Text, Csv}
@@ -55,9 +57,14 @@ column_text format word = in_column format word ++ separator_text format
 abbrev pub line_text : AccountFormat → List (List ℕ) → List ℕ → List ℕ
 line_text format words name = flat_map (column_text format) words ++ name ++ codes "\n"
 
--- the line of a row, with the name of its function in a program
-abbrev pub function_row_text : AccountFormat → Option Program → AccountRow → List ℕ
-function_row_text format program row = line_text format (column_words row) (name_text program row.func)
+-- how a function is named in a row
+abbrev pub name_form : AccountFormat → NameForm
+name_form Text = Plain
+name_form Csv = Field
+
+-- the line of a row, with the name of its function
+abbrev pub function_row_text : AccountFormat → Naming → AccountRow → List ℕ
+function_row_text format names row = line_text format (column_words row) (name_text (name_form format) names row.func)
 
 -- the first line, which csv doesn't have
 abbrev pub first_line : AccountFormat → ℕ → List ℕ
@@ -65,6 +72,6 @@ first_line Text latencies = codes "Functions with latencies: " ++ decimal latenc
 first_line Csv latencies = []
 
 -- the first line, the head line, and a line for each row
-abbrev pub account_text : AccountFormat → ℕ → Option Program → List AccountRow → List ℕ
-account_text format latencies program rows =
-    first_line format latencies ++ line_text format head_words (codes "function") ++ flat_map (function_row_text format program) rows
+abbrev pub account_text : AccountFormat → ℕ → Naming → List AccountRow → List ℕ
+account_text format latencies names rows =
+    first_line format latencies ++ line_text format head_words (codes "function") ++ flat_map (function_row_text format names) rows

@@ -101,6 +101,7 @@ impl AccountFold {
     }
 
     /// Takes an event of the thread at hand.
+    #[inline(always)]
     fn add(&mut self, event: &Event) -> Result<(), NoMemory>
         ensures added { OnOk result ((blocks : List Block) (last : Block)
             → Folds self.old (blocks ++ last ∷ [])
@@ -124,6 +125,7 @@ impl Taker for AccountFold {
         answer
     }
 
+    #[inline(always)]
     fn event(&mut self, event: &Event) -> Result<(), NoMemory> {
         let answer = self.add(event);
         self.refused = counted(self.refused, answer);

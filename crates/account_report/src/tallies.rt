@@ -36,6 +36,7 @@ impl Tallies {
     }
 
     /// Takes one more event, and the pair that it makes.
+    #[inline(always)]
     pub(crate) fn add(
         &mut self,
         alloc: Global,
@@ -100,6 +101,7 @@ fn id_at(place: usize) -> Result<u32, NoMemory>
 }
 
 /// Takes an event of a function with an id below `FEW`.
+#[inline(always)]
 fn add_first(
     alloc: Global,
     first: &mut Vec<Tally>,
@@ -134,6 +136,7 @@ fn reach(alloc: Global, first: &mut Vec<Tally>, at: usize) -> Result<(), NoMemor
 }
 
 /// Takes an event of a function of the table.
+#[inline(never)]
 fn add_other(
     alloc: Global,
     others: &mut HashMap<u32, Tally>,

@@ -2,11 +2,12 @@
 
 ghost use Rattle.std.specs.Prelude.{◌≡◌, ◌++◌, ◌==◌, ⊤, codes, decimal, if◌then◌else◌};
 ghost use Rattle.std.specs.{List.{flat_map}, Option.{option_map}};
+ghost use Rattle.function_names.specs.Name.{image_names, name_text, naming};
 ghost use Rattle.xray_io.specs.{Piece.{piece_text}, Text.{AddsText}, Writes.{WritesText}};
-ghost use Rattle.account_report.specs.AccountText.{account_text, column_text, duration_word, first_line, format_for, head_words, line_text, in_column, function_row_text, separator_text, column_words};
+ghost use Rattle.account_report.specs.AccountText.{account_text, column_text, duration_word, first_line, format_for, head_words, line_text, in_column, function_row_text, name_form, separator_text, column_words};
 
 use crate::row::AccountRow;
-use function_names::add_name;
+use function_names::{NameForm, Names, add_name};
 use xray_image::Image;
 use xray_io::{Piece, Printed, Sink, Text, WriteFault, write_text};
 
@@ -32,23 +33,22 @@ pub struct AccountText<'a> {
     /// The number in the first line: how many functions have a pair, whether or not they have a
     /// row.
     pub latencies: u64,
-    /// The image that names the functions of the rows. If it has no name for one, or if there is no
-    /// image, `#` and the id are printed.
-    pub image: Option<&'a Image>,
+    /// What names the functions of the rows. If a name isn't known, `#` and the id are printed.
+    pub names: Names<'a>,
     /// The form.
     pub format: AccountFormat,
 }
 
 impl Printed for AccountText<'_> {
     ghost text = { λ account. account_text account.format account.latencies
-        (option_map (λ image. image.now) account.image) account.rows.now };
+        (naming account.names) account.rows.now };
 
     ghost ready = { λ _. ⊤ };
 
     fn add_to<S: Sink>(&self, to: &mut Text<S>) -> Result<(), WriteFault> {
         add_first_line(to, self.latencies, self.format)?;
         to.bytes(head_line(self.format))?;
-        add_rows(to, self.rows, self.image, self.format)
+        add_rows(to, self.rows, self.names, self.format)
     }
 }
 
@@ -63,13 +63,13 @@ pub fn write_account<S: Sink>(
     sink: &mut S,
 ) -> Result<(), WriteFault>
     ensures writes { WritesText S.written S.faults S.along sink.old sink.new
-        (account_text (format_for csv) latencies (option_map (λ image. image.now) image.entry) rows.now)
+        (account_text (format_for csv) latencies (image_names (option_map (λ image. image.now) image.entry)) rows.now)
         result }
 {
     let text = AccountText {
         rows,
         latencies,
-        image,
+        names: Names::of_image(image),
         format: format_of(csv),
     };
     write_text(&text, sink)
@@ -120,14 +120,14 @@ fn head_line(format: AccountFormat) -> &'static [u8]
 fn add_rows<S: Sink>(
     text: &mut Text<S>,
     rows: &[AccountRow],
-    image: Option<&Image>,
+    names: Names,
     format: AccountFormat,
 ) -> Result<(), WriteFault>
     ensures { AddsText S.written S.faults S.along text.old text.new
-        (flat_map (function_row_text format (option_map (λ image. image.now) image.entry)) rows.now) result }
+        (flat_map (function_row_text format (naming names.entry)) rows.now) result }
 {
     'rows: for row in rows {
-        add_row(text, row, image, format)?;
+        add_row(text, row, names, format)?;
     }
     Ok(())
 }
@@ -136,15 +136,38 @@ fn add_rows<S: Sink>(
 fn add_row<S: Sink>(
     text: &mut Text<S>,
     row: &AccountRow,
-    image: Option<&Image>,
+    names: Names,
     format: AccountFormat,
 ) -> Result<(), WriteFault>
     ensures { AddsText S.written S.faults S.along text.old text.new
-        (function_row_text format (option_map (λ image. image.now) image.entry) row.now) result }
+        (function_row_text format (naming names.entry) row.now) result }
 {
     add_columns(text, row, format)?;
-    add_name(text, image, row.func)?;
+    add_row_name(text, row, names, format)?;
     text.bytes(b"\n")
+}
+
+/// Adds the name of a row's function.
+fn add_row_name<S: Sink>(
+    text: &mut Text<S>,
+    row: &AccountRow,
+    names: Names,
+    format: AccountFormat,
+) -> Result<(), WriteFault>
+    ensures { AddsText S.written S.faults S.along text.old text.new
+        (name_text (name_form format) (naming names.entry) row.now.func) result }
+{
+    add_name(text, names, name_form(format), row.func)
+}
+
+/// How a function is named in a row.
+fn name_form(format: AccountFormat) -> NameForm
+    ensures { result ≡ name_form format }
+{
+    match format {
+        AccountFormat::Text => NameForm::Plain,
+        AccountFormat::Csv => NameForm::Field,
+    }
 }
 
 /// Adds the columns of a row, each with what follows it.

@@ -2,10 +2,11 @@
 use Rattle.std.proofs.Common.{◌≡◌, ℕ, true, false, List, [], ◌∷◌, Option, Some, None, refl}
 use Rattle.std.specs.Prelude.{codes, option_map}
 use Rattle.xray_io.specs.declared.wall.Wall.{Wall}
+use Rattle.command_words.specs.Reports.{ByIds, ByImage, ByMap}
 use Rattle.command_words.specs.declared.report_options.ConvertFormat.TheVariants as formats
 use Rattle.command_words.specs.declared.report_options.InputForm.TheVariants as inputs
 use Rattle.command_words.specs.declared.report_options.StackFormat.TheVariants as stacks
-use Rattle.command_words.specs.Words.{Command, Sim, Plain, Extract, Asm, Convert, Dump, Check, Profile, Soak, outputs_of, reading}
+use Rattle.command_words.specs.Words.{Command, Sim, Plain, Extract, Asm, Stack, Convert, Dump, Check, Profile, Soak, Import, outputs_of, reading}
 
 -- a wall time that is passed in
 noon : Wall
@@ -96,11 +97,11 @@ one_output = refl
 
 -- a trace is converted to YAML unless another form is named, and it is a trace file unless it is said to be a log
 to_yaml : says (codes "convert" ∷ codes "t" ∷ [])
-    ≡ Some (Convert (codes "t") None (record { format = formats.Yaml; input = inputs.Fdr }))
+    ≡ Some (Convert (codes "t") ByIds (record { format = formats.Yaml; input = inputs.Fdr }))
 to_yaml = refl
 
 from_a_log : says (codes "convert" ∷ codes "--input=basic" ∷ codes "t" ∷ codes "i" ∷ codes "--format" ∷ codes "trace-event" ∷ [])
-    ≡ Some (Convert (codes "t") (Some (codes "i")) (record { format = formats.TraceEvents; input = inputs.Basic }))
+    ≡ Some (Convert (codes "t") (ByImage (codes "i")) (record { format = formats.TraceEvents; input = inputs.Basic }))
 from_a_log = refl
 
 no_such_form : says (codes "convert" ∷ codes "t" ∷ codes "--format=trace_event" ∷ []) ≡ None
@@ -142,3 +143,17 @@ seed_of_65_bits = refl
 
 no_seed : says (codes "soak" ∷ []) ≡ None
 no_seed = refl
+
+-- a sled map names the functions of a trace in place of an image, and not beside one
+by_map : says (codes "stack" ∷ codes "--map=m" ∷ codes "t" ∷ []) ≡ Some (Stack (codes "t") (ByMap (codes "m")) stacks.Human)
+by_map = refl
+
+by_both : says (codes "convert" ∷ codes "t" ∷ codes "i" ∷ codes "--map" ∷ codes "m" ∷ []) ≡ None
+by_both = refl
+
+-- a log and the trace that is made of it
+imported : says (codes "import" ∷ codes "l" ∷ codes "t" ∷ []) ≡ Some (Import (codes "l") (codes "t"))
+imported = refl
+
+onto_the_log : says (codes "import" ∷ codes "l" ∷ codes "l" ∷ []) ≡ None
+onto_the_log = refl

@@ -9,7 +9,7 @@ use Rattle.command_words.specs.declared.run_options.Buffers.{Buffers}
 use Rattle.command_words.specs.declared.run_options.RunOptions.{RunOptions}
 use Rattle.command_words.specs.declared.run_options.Stamps.{Stamps}
 use Rattle.command_words.specs.Limits.{most_cpus, most_fuel, most_nodes, most_passings, most_pid, most_stay, most_threads, trace_limit}
-use Rattle.command_words.specs.Words.{Command, Sim, Run, Plain, Extract, Asm, Account, Stack, Convert, Dump, Check, Profile, Soak}
+use Rattle.command_words.specs.Words.{Command, Sim, Run, Plain, Extract, Asm, Account, Stack, Convert, Dump, Check, Profile, Soak, Import}
 
 -- there may be this many threads: at least one, and at most `most_threads`
 abbrev pub IsThreadCount : ℕ → Type 0
@@ -57,10 +57,11 @@ HasRanges (Run image script trace audit options) = AreRunOptions options × (tra
 HasRanges (Plain image bounds) = AreBounds bounds
 HasRanges (Extract image) = Unit {0}
 HasRanges (Asm text image threshold relative) = threshold ≤ 4294967295
-HasRanges (Account trace image options) = IfSome options.top (λ top. top ≤ 4294967295)
-HasRanges (Stack trace image format) = Unit {0}
-HasRanges (Convert trace image options) = Unit {0}
+HasRanges (Account trace names options) = IfSome options.top (λ top. top ≤ 4294967295)
+HasRanges (Stack trace names format) = Unit {0}
+HasRanges (Convert trace names options) = Unit {0}
 HasRanges (Dump trace) = Unit {0}
 HasRanges (Check image script trace audit) = Unit {0}
 HasRanges (Profile image script options) = AreProfileOptions options
 HasRanges (Soak number) = number < 2 ^ 64
+HasRanges (Import log trace) = Unit {0}

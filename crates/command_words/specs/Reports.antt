@@ -4,7 +4,7 @@ use Rattle.std.specs.Option.{option_map_or}
 use Rattle.command_words.specs.Lines.{Line, number_in, value_in}
 use Rattle.command_words.specs.Numbers.{number_of}
 use Rattle.command_words.specs.Rows.{OptionRow}
-use Rattle.command_words.specs.Tables.{account_format_option, convert_format_option, input_option, sort_option, sort_order_option, top_option}
+use Rattle.command_words.specs.Tables.{account_format_option, convert_format_option, input_option, map_option, sort_option, sort_order_option, top_option}
 use Rattle.command_words.specs.declared.report_options.AccountFormat.{AccountFormat}
 use Rattle.command_words.specs.declared.report_options.AccountFormat.TheVariants.{Text, Csv}
 use Rattle.command_words.specs.declared.report_options.AccountOptions.{AccountOptions}
@@ -21,11 +21,21 @@ use Rattle.command_words.specs.declared.report_options.SortOrder.TheVariants.{As
 use Rattle.command_words.specs.declared.report_options.StackFormat.{StackFormat}
 use Rattle.command_words.specs.declared.report_options.StackFormat.TheVariants.{Human, Flame, Svg}
 
--- a trace, and an image if one is named
-abbrev pub report_files_in : List (List ℕ) → Option (List ℕ × Option (List ℕ))
-report_files_in (trace ∷ []) = Some (trace, None)
-report_files_in (trace ∷ image ∷ []) = Some (trace, Some image)
-report_files_in files = None
+-- what names the functions of a trace: nothing but their ids, the image file of this name, or the sled map of this name
+pub data NameSource : Type 0 where
+  ByIds : NameSource
+  ByImage : (name : List ℕ) → NameSource
+  ByMap : (name : List ℕ) → NameSource
+
+-- A trace, and what names its functions: the image after it, or the sled map of the option. A line that has both says
+-- nothing.
+abbrev pub report_files_in : Line → Option (List ℕ × NameSource)
+report_files_in line = of_parts line.files (value_in map_option.name line)
+  where
+    of_parts : (files : List (List ℕ)) → (map : Option (List ℕ)) → Option (List ℕ × NameSource)
+    of_parts (trace ∷ []) map = Some (trace, option_map_or ByMap map ByIds)
+    of_parts (trace ∷ image ∷ []) None = Some (trace, ByImage image)
+    of_parts _ _ = None
 
 -- one of these choices: the one at the place of the word that is given, or of the default
 abbrev pub choice_in : {X : Type 0} → OptionRow → (choices : List X) → Line → Option X

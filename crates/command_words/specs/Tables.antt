@@ -2,7 +2,7 @@
 use Rattle.std.specs.Prelude.{ℕ, List, [], ◌∷◌, Some, None, codes}
 use Rattle.fdr_buffer.specs.declared.buffer.TheConstants.{LARGEST_SIZE, LEAST_SIZE, MOST_BUFFERS}
 use Rattle.command_words.specs.Limits.{most_cpus, most_fuel, most_nodes, most_passings, most_pid, most_stay, most_threads}
-use Rattle.command_words.specs.Numbers.{Values, Number, OneOf, Listed}
+use Rattle.command_words.specs.Numbers.{Values, Number, OneOf, Listed, FileName}
 use Rattle.command_words.specs.Rows.{CommandRow, FileRow, OptionRow}
 use Rattle.command_words.specs.declared.rows.Role.TheVariants.{Input, OptionalInput, Output}
 use Rattle.command_words.specs.declared.rows.Role.TheVariants as roles
@@ -112,6 +112,10 @@ input_option = record { name = codes "input"; values = Listed (codes "fdr" ∷ c
 abbrev pub nodes_option : OptionRow
 nodes_option = record { name = codes "nodes"; values = Number 1 most_nodes; default = Some 4096 }
 
+-- the sled map that names the functions of a trace
+abbrev pub map_option : OptionRow
+map_option = record { name = codes "map"; values = FileName; default = None }
+
 -- ---- the commands
 
 -- the options of a plain run
@@ -175,14 +179,14 @@ abbrev pub account_row : CommandRow
 account_row = record {
   word = codes "account";
   files = report_files;
-  options = sort_option ∷ sort_order_option ∷ top_option ∷ account_format_option ∷ [];
+  options = sort_option ∷ sort_order_option ∷ top_option ∷ account_format_option ∷ map_option ∷ [];
 }
 
 abbrev pub stack_row : CommandRow
-stack_row = record { word = codes "stack"; files = report_files; options = stack_format_option ∷ [] }
+stack_row = record { word = codes "stack"; files = report_files; options = stack_format_option ∷ map_option ∷ [] }
 
 abbrev pub convert_row : CommandRow
-convert_row = record { word = codes "convert"; files = report_files; options = convert_format_option ∷ input_option ∷ [] }
+convert_row = record { word = codes "convert"; files = report_files; options = convert_format_option ∷ input_option ∷ map_option ∷ [] }
 
 abbrev pub dump_row : CommandRow
 dump_row = record { word = codes "fdr-dump"; files = record { label = codes "trace"; role = Input } ∷ []; options = [] }
@@ -200,6 +204,13 @@ profile_row = record {
   word = codes "profile";
   files = record { label = codes "image"; role = Input } ∷ record { label = codes "script"; role = Input } ∷ [];
   options = profile_options;
+}
+
+abbrev pub import_row : CommandRow
+import_row = record {
+  word = codes "import";
+  files = record { label = codes "log"; role = Input } ∷ record { label = codes "trace"; role = Output } ∷ [];
+  options = [];
 }
 
 -- ---- the number that inputs are drawn from

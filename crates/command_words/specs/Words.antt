@@ -7,9 +7,9 @@ use Rattle.command_words.specs.Items.{items_of}
 use Rattle.command_words.specs.Limits.{trace_limit}
 use Rattle.command_words.specs.Lines.{Line, line_of, number_in, value_in}
 use Rattle.command_words.specs.Numbers.{number_of}
-use Rattle.command_words.specs.Reports.{account_options_in, choice_in, convert_options_in, report_files_in, stack_formats}
+use Rattle.command_words.specs.Reports.{NameSource, account_options_in, choice_in, convert_options_in, report_files_in, stack_formats}
 use Rattle.command_words.specs.Tables.{account_row, asm_row, check_row, convert_row, dump_row, extract_row, plain_row, run_row, sim_row}
-use Rattle.command_words.specs.Tables.{profile_row, seeds, soak_row, stack_row}
+use Rattle.command_words.specs.Tables.{import_row, profile_row, seeds, soak_row, stack_row}
 use Rattle.command_words.specs.Tables.{map_version_option, nodes_option, relative_map, stack_format_option}
 use Rattle.command_words.specs.Tables.{threads_option, fuel_option, passings_option, buffer_size_option, buffer_max_option, threshold_option}
 use Rattle.command_words.specs.Tables.{tick_option, tsc_option, frequency_option, cpus_option, migrate_option, pid_option, wall_option}
@@ -28,13 +28,14 @@ pub data Command : Type 0 where
   Plain : (image : List ℕ) → (bounds : Bounds) → Command
   Extract : (image : List ℕ) → Command
   Asm : (text image : List ℕ) → (threshold : ℕ) → (relative : Bool) → Command
-  Account : (trace : List ℕ) → (image : Option (List ℕ)) → (options : AccountOptions) → Command
-  Stack : (trace : List ℕ) → (image : Option (List ℕ)) → (format : StackFormat) → Command
-  Convert : (trace : List ℕ) → (image : Option (List ℕ)) → (options : ConvertOptions) → Command
+  Account : (trace : List ℕ) → (names : NameSource) → (options : AccountOptions) → Command
+  Stack : (trace : List ℕ) → (names : NameSource) → (format : StackFormat) → Command
+  Convert : (trace : List ℕ) → (names : NameSource) → (options : ConvertOptions) → Command
   Dump : (trace : List ℕ) → Command
   Check : (image script trace audit : List ℕ) → Command
   Profile : (image script : List ℕ) → (options : ProfileOptions) → Command
   Soak : (number : ℕ) → Command
+  Import : (log trace : List ℕ) → Command
 
 -- ---- the options of the commands that run threads
 
@@ -144,22 +145,22 @@ asm_in line = of_parts line.files (number_in threshold_option line) (number_in m
     of_parts (text ∷ image ∷ []) (Some threshold) (Some version) = Some (Asm text image threshold (version == relative_map))
     of_parts _ _ _ = None
 
--- a report by these names, on a trace and an image, with what its options say
-abbrev pub report_by : {X : Type 0} → (make : List ℕ → Option (List ℕ) → X → Command) → List (List ℕ) → Option X → Option Command
-report_by {X} make names options = of_parts (report_files_in names) options
+-- a report on the files of a line, with what its options say
+abbrev pub report_by : {X : Type 0} → (make : List ℕ → NameSource → X → Command) → Line → Option X → Option Command
+report_by {X} make line options = of_parts (report_files_in line) options
   where
-    of_parts : Option (List ℕ × Option (List ℕ)) → Option X → Option Command
+    of_parts : Option (List ℕ × NameSource) → Option X → Option Command
     of_parts (Some files) (Some options) = Some (make files.0 files.1 options)
     of_parts _ _ = None
 
 abbrev pub account_in : Line → Option Command
-account_in line = report_by Account line.files (account_options_in line)
+account_in line = report_by Account line (account_options_in line)
 
 abbrev pub stack_in : Line → Option Command
-stack_in line = report_by Stack line.files (choice_in stack_format_option stack_formats line)
+stack_in line = report_by Stack line (choice_in stack_format_option stack_formats line)
 
 abbrev pub convert_in : Line → Option Command
-convert_in line = report_by Convert line.files (convert_options_in line)
+convert_in line = report_by Convert line (convert_options_in line)
 
 abbrev pub dump_in : Line → Option Command
 dump_in line = of_files line.files
@@ -189,6 +190,13 @@ soak_in line = of_files line.files
     of_files (seed ∷ []) = option_map Soak (number_of seeds seed)
     of_files _ = None
 
+abbrev pub import_in : Line → Option Command
+import_in line = of_files line.files
+  where
+    of_files : List (List ℕ) → Option Command
+    of_files (log ∷ trace ∷ []) = Some (Import log trace)
+    of_files _ = None
+
 -- the command that words say at this wall time, if they say one
 abbrev pub reading : Wall → List (List ℕ) → Option Command
 reading wall [] = None
@@ -206,6 +214,7 @@ reading wall (word ∷ words) =
     else if bytes_eq word check_row.word then option_and_then check_in (line_of check_row items)
     else if bytes_eq word profile_row.word then option_and_then profile_in (line_of profile_row items)
     else if bytes_eq word soak_row.word then option_and_then soak_in (line_of soak_row items)
+    else if bytes_eq word import_row.word then option_and_then import_in (line_of import_row items)
     else None
 
 -- ---- the outputs
@@ -217,10 +226,11 @@ outputs_of (Run image script trace audit options) = trace ∷ audit ∷ []
 outputs_of (Plain image bounds) = []
 outputs_of (Extract image) = []
 outputs_of (Asm text image threshold relative) = image ∷ []
-outputs_of (Account trace image options) = []
-outputs_of (Stack trace image format) = []
-outputs_of (Convert trace image options) = []
+outputs_of (Account trace names options) = []
+outputs_of (Stack trace names format) = []
+outputs_of (Convert trace names options) = []
 outputs_of (Dump trace) = []
 outputs_of (Check image script trace audit) = []
 outputs_of (Profile image script options) = []
 outputs_of (Soak number) = []
+outputs_of (Import log trace) = trace ∷ []

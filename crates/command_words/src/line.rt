@@ -58,6 +58,7 @@ impl Values {
             Values::Number { least, most } => number_within(*least, *most, value),
             Values::OneOf(numbers) => number_among(numbers, value),
             Values::Listed(words) => place_of(value, words),
+            Values::FileName => None,
         }
     }
 }

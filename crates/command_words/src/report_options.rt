@@ -1,21 +1,35 @@
 //! The files and options of the commands that report on a trace.
-ghost use Rattle.std.specs.Prelude.{◌≡◌, ◌≤◌, IfSome, option_map};
+ghost use Rattle.std.specs.{Prelude.{◌≡◌, ◌≤◌, IfSome, option_map}, Option.{option_map_or}};
 ghost use Rattle.command_words.specs.Reports.{account_formats, choice_in, columns, convert_formats, input_forms, orders, stack_formats};
-ghost use Rattle.command_words.specs.Reports.{account_options_in, convert_options_in, report_files_in, top_in};
+ghost use Rattle.command_words.specs.Reports.{ByIds, ByMap, account_options_in, convert_options_in, report_files_in, top_in};
 ghost use Rattle.command_words.specs.Tables.{account_format_option, sort_option, sort_order_option};
 ghost use Rattle.command_words.specs.Tables.{convert_format_option, input_option, stack_format_option};
+ghost use Rattle.command_words.specs.Views.{source_view};
 ghost use Rattle.command_words.specs.private.CodeViews.{files_view, line_view};
 
 use crate::line::Line;
-use crate::tables::{ACCOUNT_FORMAT, CONVERT_FORMAT, INPUT, SORT, SORT_ORDER, STACK_FORMAT, TOP};
+use crate::tables::{
+    ACCOUNT_FORMAT, CONVERT_FORMAT, INPUT, MAP, SORT, SORT_ORDER, STACK_FORMAT, TOP,
+};
 
 /// The files of a report.
 #[derive(Clone, Copy)]
 pub(crate) struct ReportFiles<'a> {
     /// The trace.
     pub(crate) trace: &'a str,
-    /// The image that names the functions, if the words name one.
-    pub(crate) image: Option<&'a str>,
+    /// What names its functions.
+    pub(crate) names: NameSource<'a>,
+}
+
+/// What names the functions of a trace.
+#[derive(Clone, Copy, Debug)]
+pub enum NameSource<'a> {
+    /// Nothing: a function is named by its id.
+    Ids,
+    /// The image file of this name.
+    Image(&'a str),
+    /// The sled map of this name.
+    Map(&'a str),
 }
 
 /// The column by which the rows of an account are sorted.
@@ -110,16 +124,34 @@ pub struct ConvertOptions {
     pub input: InputForm,
 }
 
-/// The files of a report. `None` unless there are one or two.
-pub(crate) fn report_files_in<'a>(line: &Line<'a>) -> Option<ReportFiles<'a>>
-    ensures { option_map files_view result ≡ report_files_in (line_view line.now).files }
+/// What names functions if no image does: the sled map of this name, if there is one.
+fn names_by(map: Option<&str>) -> NameSource<'_>
+    ensures { source_view result ≡ option_map_or ByMap (option_map (λ m. m.now) map.entry) ByIds }
 {
+    match map {
+        Some(map) => NameSource::Map(map),
+        None => NameSource::Ids,
+    }
+}
+
+/// The files of a report. `None` unless there are a trace and at most one file that names its
+/// functions.
+pub(crate) fn report_files_in<'a>(line: &Line<'a>) -> Option<ReportFiles<'a>>
+    ensures { option_map files_view result ≡ report_files_in (line_view line.now) }
+{
+    let map = line.value(MAP.name);
     match line.files.as_slice() {
-        [trace] => Some(ReportFiles { trace, image: None }),
-        [trace, image] => Some(ReportFiles {
+        [trace] => Some(ReportFiles {
             trace,
-            image: Some(image),
+            names: names_by(map),
         }),
+        [trace, image] => match map {
+            None => Some(ReportFiles {
+                trace,
+                names: NameSource::Image(image),
+            }),
+            Some(_) => None,
+        },
         _ => None,
     }
 }

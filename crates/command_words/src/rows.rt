@@ -16,6 +16,8 @@ pub(crate) enum Values {
     OneOf(&'static [u64]),
     /// One of these words. It stands for its place among them, counted from 0.
     Listed(&'static [&'static str]),
+    /// Any word: the name of a file, which is read.
+    FileName,
 }
 
 /// An option, which takes one value.

@@ -211,6 +211,13 @@ pub(crate) const NODES: OptionRow = OptionRow {
     default: Some(4_096),
 };
 
+/// The sled map that names the functions of a trace.
+pub(crate) const MAP: OptionRow = OptionRow {
+    name: "map",
+    values: Values::FileName,
+    default: None,
+};
+
 /// The options of a plain run.
 const BOUNDS_OPTIONS: &[OptionRow] = &[THREADS, FUEL, PASSINGS];
 
@@ -320,21 +327,21 @@ pub(crate) const SEEDS: Values = Values::Number {
 pub(crate) const ACCOUNT: CommandRow = CommandRow {
     word: "account",
     files: &[TRACE, NAMING_IMAGE],
-    options: &[SORT, SORT_ORDER, TOP, ACCOUNT_FORMAT],
+    options: &[SORT, SORT_ORDER, TOP, ACCOUNT_FORMAT, MAP],
 };
 
 /// `stack TRACE [IMAGE]`: prints how often each stack of a trace occurred, and for how long.
 pub(crate) const STACK: CommandRow = CommandRow {
     word: "stack",
     files: &[TRACE, NAMING_IMAGE],
-    options: &[STACK_FORMAT],
+    options: &[STACK_FORMAT, MAP],
 };
 
 /// `convert TRACE [IMAGE]`: prints a trace in another form.
 pub(crate) const CONVERT: CommandRow = CommandRow {
     word: "convert",
     files: &[TRACE, NAMING_IMAGE],
-    options: &[CONVERT_FORMAT, INPUT],
+    options: &[CONVERT_FORMAT, INPUT, MAP],
 };
 
 /// `fdr-dump TRACE`: prints the records of a trace.
@@ -395,6 +402,19 @@ pub(crate) const RUN: CommandRow = CommandRow {
     word: "run",
     files: &[IMAGE, SCRIPT, MADE_TRACE, MADE_AUDIT],
     options: RUN_OPTIONS,
+};
+
+/// A log of LLVM's runtime.
+const LOG: FileRow = FileRow {
+    label: "log",
+    role: Role::Input,
+};
+
+/// `import LOG TRACE`: writes a log of LLVM's runtime as a trace, and prints what was taken.
+pub(crate) const IMPORT: CommandRow = CommandRow {
+    word: "import",
+    files: &[LOG, MADE_TRACE],
+    options: &[],
 };
 
 /// `soak SEED`: replays a schedule over a large image and a script, all drawn from a number, and

@@ -1,23 +1,23 @@
 //! The command that a command line says.
-ghost use Rattle.std.specs.Prelude.{◌≡◌, IfOk, IfSome, option_map, true};
+ghost use Rattle.std.specs.Prelude.{◌≡◌, IfOk, IfSome, find, option_map, true};
 ghost use Rattle.fdr_buffer.specs.Times.{IsTime};
 ghost use Rattle.command_words.specs.{Items.{texts}, Lines.{outputs_differ}, Ranges.{HasRanges}};
 ghost use Rattle.command_words.specs.{Tables.{run_row, sim_row}, Views.{command_view}, Words.{asm_in, check_in, profile_in, reading, run_in, sim_in}};
 ghost use Rattle.command_words.specs.private.CodeViews.{line_view, row_view};
-ghost use Rattle.command_words.specs.private.Verbs.{command_by, report_said, row_by, verb_of};
+ghost use Rattle.command_words.specs.private.Verbs.{command_by, is_word_of, report_said, row_by, verb_of};
 
 use crate::cutting::cut_line;
 use crate::line::Line;
 use crate::profile_options::{ProfileOptions, profile_options_in};
 use crate::report_options::{
-    AccountOptions, ConvertOptions, ReportFiles, StackFormat, account_options_in,
+    AccountOptions, ConvertOptions, NameSource, ReportFiles, StackFormat, account_options_in,
     convert_options_in, report_files_in, stack_format_in,
 };
 use crate::rows::CommandRow;
 use crate::run_options::{Bounds, RunOptions, bounds_in, run_options_in};
 use crate::tables::{
-    ACCOUNT, ASM, CHECK, CONVERT, DUMP, EXTRACT, MAP_VERSION, PLAIN, PROFILE, RELATIVE_MAP, RUN,
-    SEEDS, SIM, SOAK, STACK, THRESHOLD,
+    ACCOUNT, ASM, CHECK, CONVERT, DUMP, EXTRACT, IMPORT, MAP_VERSION, PLAIN, PROFILE, RELATIVE_MAP,
+    RUN, SEEDS, SIM, SOAK, STACK, THRESHOLD,
 };
 use std::alloc::{AllocError, Global};
 use xray_io::Wall;
@@ -81,8 +81,8 @@ pub enum Command<'a> {
     Account {
         /// The trace.
         trace: &'a str,
-        /// The image that names the functions, if there is one.
-        image: Option<&'a str>,
+        /// What names its functions.
+        names: NameSource<'a>,
         /// How the account is printed.
         options: AccountOptions,
     },
@@ -90,8 +90,8 @@ pub enum Command<'a> {
     Stack {
         /// The trace.
         trace: &'a str,
-        /// The image that names the functions, if there is one.
-        image: Option<&'a str>,
+        /// What names its functions.
+        names: NameSource<'a>,
         /// The form in which the stacks are printed.
         format: StackFormat,
     },
@@ -99,8 +99,8 @@ pub enum Command<'a> {
     Convert {
         /// The trace.
         trace: &'a str,
-        /// The image that names the functions, if there is one.
-        image: Option<&'a str>,
+        /// What names its functions.
+        names: NameSource<'a>,
         /// The form that it is converted to, and the form that it has.
         options: ConvertOptions,
     },
@@ -135,6 +135,13 @@ pub enum Command<'a> {
     Soak {
         /// The number.
         number: u64,
+    },
+    /// Writes a log of LLVM's runtime as a trace, and prints what was taken.
+    Import {
+        /// The log.
+        log: &'a str,
+        /// The trace, which is written.
+        trace: &'a str,
     },
 }
 
@@ -188,6 +195,8 @@ enum Verb {
     Profile,
     /// `soak SEED`.
     Soak,
+    /// `import LOG TRACE`.
+    Import,
 }
 
 /// A report on a trace.
@@ -201,38 +210,36 @@ enum Report {
     Convert,
 }
 
+/// All verbs.
+const VERBS: [Verb; 13] = [
+    Verb::Plain,
+    Verb::Extract,
+    Verb::Sim,
+    Verb::Run,
+    Verb::Asm,
+    Verb::Report(Report::Account),
+    Verb::Report(Report::Stack),
+    Verb::Report(Report::Convert),
+    Verb::Dump,
+    Verb::Check,
+    Verb::Profile,
+    Verb::Soak,
+    Verb::Import,
+];
+
 impl Verb {
     /// The verb of a word. `None` if no command has the word.
     fn of(word: &str) -> Option<Verb>
         ensures { result ≡ verb_of word.now }
     {
-        if word == PLAIN.word {
-            Some(Verb::Plain)
-        } else if word == EXTRACT.word {
-            Some(Verb::Extract)
-        } else if word == SIM.word {
-            Some(Verb::Sim)
-        } else if word == RUN.word {
-            Some(Verb::Run)
-        } else if word == ASM.word {
-            Some(Verb::Asm)
-        } else if word == ACCOUNT.word {
-            Some(Verb::Report(Report::Account))
-        } else if word == STACK.word {
-            Some(Verb::Report(Report::Stack))
-        } else if word == CONVERT.word {
-            Some(Verb::Report(Report::Convert))
-        } else if word == DUMP.word {
-            Some(Verb::Dump)
-        } else if word == CHECK.word {
-            Some(Verb::Check)
-        } else if word == PROFILE.word {
-            Some(Verb::Profile)
-        } else if word == SOAK.word {
-            Some(Verb::Soak)
-        } else {
-            None
-        }
+        verb_in(&VERBS, word)
+    }
+
+    /// Whether its command has this word.
+    fn has_word(self, word: &str) -> bool
+        ensures { result ≡ is_word_of word.now self }
+    {
+        word == self.row().word
     }
 
     /// Its row in the table.
@@ -252,8 +259,16 @@ impl Verb {
             Verb::Check => CHECK,
             Verb::Profile => PROFILE,
             Verb::Soak => SOAK,
+            Verb::Import => IMPORT,
         }
     }
+}
+
+/// The first of these verbs whose command has a word. `None` if no command of them has it.
+fn verb_in(verbs: &[Verb], word: &str) -> Option<Verb>
+    ensures { result ≡ find (is_word_of word.now) verbs.now }
+{
+    verbs.iter().find(|verb| verb.has_word(word)).copied()
 }
 
 /// The command that a line of the verb says. `None` if it lacks a file, or if a value isn't allowed.
@@ -291,6 +306,10 @@ fn command_in<'a>(verb: Verb, wall: Wall, line: &Line<'a>) -> Option<Command<'a>
                 let number = SEEDS.number_of(seed)?;
                 Some(Command::Soak { number })
             }
+            _ => None,
+        },
+        Verb::Import => match files {
+            [log, trace] => Some(Command::Import { log, trace }),
             _ => None,
         },
     }
@@ -387,21 +406,21 @@ fn report_in<'a>(report: Report, line: &Line<'a>) -> Option<Command<'a>>
     ensures reads { option_map command_view result ≡ report_said report (line_view line.now) }
     ensures ranges { IfSome (option_map command_view result) HasRanges }
 {
-    let ReportFiles { trace, image } = report_files_in(line)?;
+    let ReportFiles { trace, names } = report_files_in(line)?;
     match report {
         Report::Account => Some(Command::Account {
             trace,
-            image,
+            names,
             options: account_options_in(line)?,
         }),
         Report::Stack => Some(Command::Stack {
             trace,
-            image,
+            names,
             format: stack_format_in(line)?,
         }),
         Report::Convert => Some(Command::Convert {
             trace,
-            image,
+            names,
             options: convert_options_in(line)?,
         }),
     }

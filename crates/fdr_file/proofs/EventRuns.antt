@@ -17,10 +17,10 @@ use Rattle.fdr_file.specs.declared.stage.Stage.TheVariants.{Within}
 use Rattle.fdr_file.specs.declared.stage.Told.{Told}
 use Rattle.fdr_file.specs.declared.stage.Told.TheVariants.{Noted}
 use Rattle.fdr_file.specs.declared.version.Version.{Version}
-use Rattle.fdr_file.specs.Scanning.{blocks_given, record_or, stage_after, stage_judged, stage_within, step_on, with_told}
+use Rattle.fdr_file.specs.Scanning.{event_on, blocks_given, record_or, stage_after, stage_judged, stage_within, step_on, with_told}
 use Rattle.fdr_file.specs.Traces.{record_in, record_length}
 use Rattle.fdr_file.specs.Streams.{Scans}
-use Rattle.fdr_file.specs.private.Scan.{Advances, CanTell, EventsNext, among_events, event_on, record_advanced}
+use Rattle.fdr_file.specs.private.Scan.{Advances, CanTell, EventsNext, among_events, record_advanced}
 use Rattle.fdr_file.proofs.Following.{record_advances}
 
 -- a record among the events of a block

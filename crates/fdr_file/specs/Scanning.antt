@@ -137,6 +137,10 @@ step_on ends at (WallTime wall) base = Err (faults.Order at)
 step_on ends at (Pid pid) base = Err (faults.Order at)
 step_on ends at (Extents size) base = Err (faults.Order at)
 
+-- what is known after the record that bytes begin with, and the events that it settles; it may end its block
+abbrev pub event_on : Bool → ℕ → Base → List ℕ → Result (Base × Option Event × Option Event) TraceFault
+event_on ends at base bytes = record_or at (record_in bytes) >>= λ r. step_on ends at r (Some base)
+
 -- what a record within a block says, after those before it; the block may end with it
 abbrev pub inside_next : Version → Inside → Bool → ℕ → Rec → Result (Inside × Told) TraceFault
 inside_next version insides.Opened ends at r =

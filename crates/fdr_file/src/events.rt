@@ -2,8 +2,7 @@
 
 ghost use Rattle.std.specs.Prelude.{◌≡◌, ◌≤◌, ◌<◌, ◌+◌, ◌==◌, ◌++◌, length, drop, None, Ok, IfSome, OnOk, option_to_list};
 ghost use Rattle.fdr_file.specs.private.Reading.{Gives, events_on};
-ghost use Rattle.fdr_file.specs.private.Scan.{event_on};
-ghost use Rattle.fdr_file.specs.Scanning.{argument_on, counted_on, entry_with, function_on, step_on};
+ghost use Rattle.fdr_file.specs.Scanning.{argument_on, counted_on, entry_with, event_on, function_on, step_on};
 ghost use Rattle.fdr_file.specs.Traces.{logs_arg, record_length, standings};
 
 use crate::records::{record_at, taken_at};
@@ -14,26 +13,32 @@ use xray_io::NoMemory;
 
 /// Whether the next record may be an argument.
 #[derive(Clone, Copy)]
-pub(crate) enum Argument {
+pub enum Argument {
     /// It may not.
     Barred,
     /// It may. The last record is an entry of this function, which logs its argument.
-    Awaited { func: u32 },
+    Awaited {
+        /// The function's id.
+        func: u32,
+    },
     /// It may, but it has no meaning, since another argument stands before it.
     Known,
 }
 
 /// The CPU and the counter by the records so far, and whether an argument may follow them.
 #[derive(Clone, Copy)]
-pub(crate) struct Base {
-    cpu: u16,
-    tsc: u64,
-    argument: Argument,
+pub struct Base {
+    /// The number of the CPU.
+    pub cpu: u16,
+    /// The counter at the last record, in cycles.
+    pub tsc: u64,
+    /// Whether an argument may follow.
+    pub argument: Argument,
 }
 
 /// What is known after a record, and the events that it settles: the entry before it, whose argument
 /// it may have, and its own event.
-pub(crate) type Step = (Base, Option<Event>, Option<Event>);
+pub type Step = (Base, Option<Event>, Option<Event>);
 
 /// The entry whose argument the next record may be, with this argument.
 fn entry_with(base: Option<Base>, arg: u64) -> Option<Event>
@@ -136,7 +141,8 @@ pub(crate) fn step(ends: bool, at: u64, rec: Rec, base: Option<Base>) -> Result<
 /// The record at a place of a block's bytes, after a record with a CPU and a counter: what is known
 /// after it, the events that it settles, and the place after it. `None` if it isn't whole, or may not
 /// stand there. `place` is its place in the file. The block ends at the place `end` of the bytes.
-pub(crate) fn take_step(
+#[inline(always)]
+pub fn take_step(
     bytes: &[u8],
     at: usize,
     place: u64,

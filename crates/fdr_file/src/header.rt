@@ -3,12 +3,13 @@
 ghost use Rattle.std.specs.Prelude.{◌≡◌, ◌≤◌, ◌+◌, length, drop};
 ghost use Rattle.byteorder.specs.Endian.{little_number};
 ghost use Rattle.fdr_file.specs.Scanning.{header_on};
+ghost use Rattle.fdr_file.specs.Traces.{header_in};
 
 use crate::{TraceFault, Version};
 use byteorder::{ByteOrder, LittleEndian};
 
 /// The length of a header in bytes.
-pub(crate) const HEADER_BYTES: usize = 32;
+pub const HEADER_BYTES: usize = 32;
 
 /// The type of files of the Flight Data Recorder mode.
 pub(crate) const FDR: u16 = 1;
@@ -77,8 +78,24 @@ fn u64_at(bytes: &[u8], at: usize) -> u64
     LittleEndian::read_u64(bytes.split_at(at).1)
 }
 
-/// The version of a file and its header, or the first fault of the header.
+/// What a header says about its file. Whether the version and the type are those of a trace isn't
+/// looked at.
 #[tactic(auto, using(crate::proofs::Flags::first_flag, crate::proofs::Flags::second_flag))]
+pub fn header_fields(bytes: &[u8]) -> Header
+    requires { 32 ≤ length bytes.now }
+    ensures { result ≡ header_in bytes.now }
+{
+    let flags = u32_at(bytes, FLAGS_AT);
+    Header {
+        version: u16_at(bytes, VERSION_AT),
+        constant: flags & CONSTANT != 0,
+        nonstop: flags & NONSTOP != 0,
+        frequency: u64_at(bytes, FREQUENCY_AT),
+        size: u64_at(bytes, SIZE_AT),
+    }
+}
+
+/// The version of a file and its header, or the first fault of the header.
 pub(crate) fn read_header(bytes: &[u8]) -> Result<(Version, Header), TraceFault>
     ensures { result ≡ header_on bytes.now }
 {
@@ -93,13 +110,5 @@ pub(crate) fn read_header(bytes: &[u8]) -> Result<(Version, Header), TraceFault>
     if form != FDR {
         return Err(TraceFault::Form(form));
     }
-    let flags = u32_at(bytes, FLAGS_AT);
-    let header = Header {
-        version: number,
-        constant: flags & CONSTANT != 0,
-        nonstop: flags & NONSTOP != 0,
-        frequency: u64_at(bytes, FREQUENCY_AT),
-        size: u64_at(bytes, SIZE_AT),
-    };
-    Ok((version, header))
+    Ok((version, header_fields(bytes)))
 }

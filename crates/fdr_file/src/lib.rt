@@ -22,16 +22,19 @@ mod version;
 mod writing;
 
 pub use cursor::EventCursor;
+pub use events::{Argument, Base, Step, take_step};
 pub use fault::TraceFault;
-pub use header::Header;
+pub use header::{HEADER_BYTES, Header, header_fields};
 pub use laws::{
     a_block_may_follow, a_file_is_read_by_records, a_file_reads_back, a_place_is_decoded,
     a_trace_is_read, no_bytes_are_out_of_memory, prefixes_end_with_blocks, what_is_read_is_a_trace,
 };
 pub use longest::readable;
 pub use reading::read_trace;
+pub use records::{record_len, record_of};
 pub use scan::TraceScan;
+pub use stage::{Inside, Span, Stage, Told, judge, within_events};
 pub use taker::{KeepNothing, Taker};
 pub use trace::{Block, Blocks, Events, Items, Trace};
 pub use version::{VERSION, Version};
-pub use writing::{TraceFile, write_file};
+pub use writing::{TraceFile, extents, write_file};

@@ -28,7 +28,7 @@ fn length_of_first(first: u8) -> usize
 }
 
 /// The length of the record that bytes begin with, by the first of them.
-pub(crate) fn record_len(bytes: &[u8]) -> usize
+pub fn record_len(bytes: &[u8]) -> usize
     requires { 0 < length bytes.now }
     ensures { result ≡ record_length bytes.now }
 {
@@ -36,7 +36,7 @@ pub(crate) fn record_len(bytes: &[u8]) -> usize
 }
 
 /// The record that bytes begin with.
-pub(crate) fn record_of(bytes: &[u8]) -> Result<Rec, RecFault>
+pub fn record_of(bytes: &[u8]) -> Result<Rec, RecFault>
     ensures { result ≡ record_in bytes.now }
 {
     match taken_at(bytes, 0) {

@@ -53,6 +53,7 @@ fn len_within(span: Span, at: u64, len: usize) -> usize
 }
 
 /// Gives a taker an event, if there is one.
+#[inline(always)]
 fn note<K: Taker>(taker: &mut K, event: Option<Event>) -> Result<(), NoMemory>
     requires { (blocks : List Block) × K.took taker.old blocks × HasLast blocks }
     ensures took { OnOk result ((blocks : List Block) → K.took taker.old blocks
@@ -67,6 +68,7 @@ fn note<K: Taker>(taker: &mut K, event: Option<Event>) -> Result<(), NoMemory>
 }
 
 /// Tells a taker what a record says.
+#[inline(always)]
 fn tell<K: Taker>(taker: &mut K, told: Told) -> Result<(), NoMemory>
     requires { (blocks : List Block) × K.took taker.old blocks × CanTell told blocks }
     ensures took { OnOk result ((blocks : List Block) → K.took taker.old blocks

@@ -11,58 +11,86 @@ use xray_io::Wall;
 
 /// A block's place, and the place after the block.
 #[derive(Clone, Copy)]
-pub(crate) struct Span {
-    pub(crate) begin: u64,
-    pub(crate) end: u128,
+pub struct Span {
+    /// The place of its extents.
+    pub begin: u64,
+    /// The place after it, which may be beyond the file.
+    pub end: u128,
 }
 
 /// What the records of a block have said so far.
 #[derive(Clone, Copy)]
-pub(crate) enum Inside {
+pub enum Inside {
     /// Nothing. The thread is next.
     Opened,
     /// The thread. The wall time is next.
-    Thread { thread: u32 },
+    Thread {
+        /// The thread's id.
+        thread: u32,
+    },
     /// The thread and the wall time, in version 3. The process is next.
-    Wall { thread: u32, wall: Wall },
+    Wall {
+        /// The thread's id.
+        thread: u32,
+        /// When the buffer was begun.
+        wall: Wall,
+    },
     /// The preamble, and a CPU and a counter if one was named. CPUs, counters, functions and
     /// arguments are next.
-    Events { base: Option<Base> },
+    Events {
+        /// The CPU and the counter.
+        base: Option<Base>,
+    },
 }
 
 /// Where the reading stands.
 #[derive(Clone, Copy)]
-pub(crate) enum Stage {
+pub enum Stage {
     /// A block is next.
     Due,
     /// Within a block.
-    Within { span: Span, inside: Inside },
+    Within {
+        /// The block's place.
+        span: Span,
+        /// What its records have said.
+        inside: Inside,
+    },
     /// After a fault. It is the fault of the bytes if the block is whole.
-    Faulty { span: Span, fault: TraceFault },
+    Faulty {
+        /// The block's place.
+        span: Span,
+        /// The fault.
+        fault: TraceFault,
+    },
 }
 
 /// What a record says of the blocks.
 #[derive(Clone, Copy)]
-pub(crate) enum Told {
+pub enum Told {
     /// Nothing yet.
     Nothing,
     /// A block begins.
     Begun {
+        /// Its thread.
         thread: u32,
+        /// When its buffer was begun.
         wall: Wall,
+        /// The process of the thread.
         pid: u32,
     },
     /// The last block has these events more: that of an entry before the record, and that of the
     /// record.
     Noted {
+        /// The entry before the record, whose argument it may have.
         entry: Option<Event>,
+        /// The event of the record.
         event: Option<Event>,
     },
 }
 
 /// The place of the block, and the CPU and the counter, if a record among the events of a block is
 /// next, and a CPU was named before.
-pub(crate) fn within_events(stage: Stage) -> Option<(Span, Base)>
+pub fn within_events(stage: Stage) -> Option<(Span, Base)>
     ensures { IfSome result (λ x. stage ≡ Stage.Within x.0 (Inside.Events (Some x.1))) }
 {
     let Stage::Within { span, inside } = stage else {
@@ -231,8 +259,10 @@ fn after(
 }
 
 /// The stage after what is at a place, and what it says of the blocks. `len` is the length of a
-/// record with this first byte.
-pub(crate) fn judge(
+/// record with this first byte. A form of the file may have other records between those of a trace.
+/// What such a record does to the counter is said by the record `found` that it stands for, and its
+/// length by `len`.
+pub fn judge(
     version: Version,
     stage: Stage,
     at: u64,

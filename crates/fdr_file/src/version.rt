@@ -36,7 +36,7 @@ impl Version {
     }
 
     /// The length in bytes of the records that a block begins with.
-    pub(crate) fn preamble_bytes(self) -> u64
+    pub fn preamble_bytes(self) -> u64
         ensures { result ≡ preamble_bytes self }
     {
         let records = match self {

@@ -23,7 +23,7 @@ fn flags(header: &Header) -> u32
 }
 
 /// The extents of a block that has `size` bytes after them.
-fn extents(size: u64) -> [u8; METADATA_BYTES]
+pub fn extents(size: u64) -> [u8; METADATA_BYTES]
     ensures { result ≡ record_bytes (Extents size) }
 {
     let mut bytes = [0; METADATA_BYTES];

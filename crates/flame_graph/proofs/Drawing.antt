@@ -1,9 +1,9 @@
 -- Whether a frame is drawn, and where.
 use Rattle.std.proofs.Common.{◌≡◌, ◌∙◌, ◌<◌, ◌≤◌, ◌+◌, ◌^◌, Bool, true, false, cond, ℕ, List, [], length, ap, sym, arith, leb}
-use Rattle.std.specs.Prelude.{Err, Ok, OnOk, Option, Result}
+use Rattle.std.specs.Prelude.{Err, Ok, OnOk, Result}
 use Rattle.std.proofs.lemmas.Bool.{and_from, and_left, and_right, cond-false, cond-true, le-leb, lt-leb}
-use Rattle.xray_image.specs.Program.{Program}
-use Rattle.function_names.specs.Name.{name_text}
+use Rattle.map_names.specs.Naming.{Naming}
+use Rattle.function_names.specs.Name.{plain_name}
 use Rattle.stack_rebuild.specs.Stacks.{PathRow}
 use Rattle.flame_graph.specs.declared.frame.Calls.{Calls}
 use Rattle.flame_graph.specs.FlameText.{frame_text, func_of, line_text, top_of}
@@ -22,16 +22,16 @@ is_wide rows frame few wide =
     and_from (leb (length frame) most_levels) (leb least_width (width_of rows frame)) (le-leb (length frame) most_levels few) (le-leb least_width (width_of rows frame) wide)
 
 -- what is printed of it
-pub text_none : (program : Option Program) (rows : List PathRow) (frame : List ℕ) → is_drawn rows frame ≡ false → frame_text program rows frame ≡ []
-text_none program rows frame misses =
+pub text_none : (names : Naming) (rows : List PathRow) (frame : List ℕ) → is_drawn rows frame ≡ false → frame_text names rows frame ≡ []
+text_none names rows frame misses =
     cond-false (is_drawn rows frame)
-    (line_text (left_of rows frame) (width_of rows frame) (top_of (levels_of rows) (length frame)) (func_of frame) (name_text program (func_of frame)) (calls_of rows frame)) [] misses
+    (line_text (left_of rows frame) (width_of rows frame) (top_of (levels_of rows) (length frame)) (func_of frame) (plain_name names (func_of frame)) (calls_of rows frame)) [] misses
 
-pub text_line : (program : Option Program) (rows : List PathRow) (frame : List ℕ) → is_drawn rows frame ≡ true
-    → frame_text program rows frame ≡ line_text (left_of rows frame) (width_of rows frame) (top_of (levels_of rows) (length frame)) (func_of frame) (name_text program (func_of frame)) (calls_of rows frame)
-text_line program rows frame is =
+pub text_line : (names : Naming) (rows : List PathRow) (frame : List ℕ) → is_drawn rows frame ≡ true
+    → frame_text names rows frame ≡ line_text (left_of rows frame) (width_of rows frame) (top_of (levels_of rows) (length frame)) (func_of frame) (plain_name names (func_of frame)) (calls_of rows frame)
+text_line names rows frame is =
     cond-true (is_drawn rows frame)
-    (line_text (left_of rows frame) (width_of rows frame) (top_of (levels_of rows) (length frame)) (func_of frame) (name_text program (func_of frame)) (calls_of rows frame)) [] is
+    (line_text (left_of rows frame) (width_of rows frame) (top_of (levels_of rows) (length frame)) (func_of frame) (plain_name names (func_of frame)) (calls_of rows frame)) [] is
 
 -- it is within all rows
 pub start_within : (rows : List PathRow) (frame : List ℕ) → start_of rows frame ≤ total_of rows
@@ -50,14 +50,14 @@ on_ok_from (Ok value) is = is
 on_ok_from (Err error) is = tt
 
 -- the line with the frame's own place and calls is its text
-pub line_drawn : (program : Option Program) (rows : List PathRow) (frame : List ℕ) (left width top : ℕ) (calls : Calls) → is_drawn rows frame ≡ true → left ≡ left_of rows frame
+pub line_drawn : (names : Naming) (rows : List PathRow) (frame : List ℕ) (left width top : ℕ) (calls : Calls) → is_drawn rows frame ≡ true → left ≡ left_of rows frame
     → width ≡ width_of rows frame → top ≡ top_of (levels_of rows) (length frame) → calls ≡ calls_of rows frame
-    → line_text left width top (func_of frame) (name_text program (func_of frame)) calls ≡ frame_text program rows frame
-line_drawn program rows frame left width top calls is lefts widths tops all =
+    → line_text left width top (func_of frame) (plain_name names (func_of frame)) calls ≡ frame_text names rows frame
+line_drawn names rows frame left width top calls is lefts widths tops all =
     let func : ℕ = func_of frame in
-    let name : List ℕ = name_text program func in
+    let name : List ℕ = plain_name names func in
     ap (λ (n : ℕ). line_text n width top func name calls) lefts
     ∙ (ap (λ (n : ℕ). line_text (left_of rows frame) n top func name calls) widths
     ∙ (ap (λ (n : ℕ). line_text (left_of rows frame) (width_of rows frame) n func name calls) tops
     ∙ (ap (λ (some : Calls). line_text (left_of rows frame) (width_of rows frame) (top_of (levels_of rows) (length frame)) func name some) all
-    ∙ sym (text_line program rows frame is))))
+    ∙ sym (text_line names rows frame is))))

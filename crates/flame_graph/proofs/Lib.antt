@@ -2,9 +2,11 @@ pub mod Drawing
 pub mod Endings
 pub mod Lowest
 pub mod Measures
+pub mod NameTexts
 pub mod Orders
 pub mod Rows
 pub mod Scales
 pub mod Sorted
 pub mod Spans
+pub mod Splitting
 pub mod Within

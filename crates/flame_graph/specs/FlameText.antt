@@ -1,34 +1,57 @@
 -- The text of a flame graph: a picture in SVG, with a line for each frame that is drawn.
-use Rattle.std.specs.Prelude.{◌+◌, ◌-◌, ◌*◌, ◌/◌, ◌%◌, ◌==◌, ◌&&◌, ℕ, List, [], ◌∷◌, ◌++◌, codes, decimal, length, nat_le, nat_lt, slice_index, take, Option, if◌then◌else◌}
+use Rattle.std.specs.Prelude.{◌+◌, ◌-◌, ◌*◌, ◌/◌, ◌%◌, ◌==◌, ◌&&◌, ◌||◌, Bool, ℕ, List, [], ◌∷◌, ◌++◌, codes, decimal, length, nat_le, nat_lt, slice_index, take, if◌then◌else◌}
 use Rattle.std.specs.List.{flat_map}
-use Rattle.xray_image.specs.Program.{Program}
-use Rattle.function_names.specs.Name.{name_text}
+use Rattle.std.specs.Str.{bytes_eq}
+use Rattle.map_names.specs.Naming.{Naming}
+use Rattle.function_names.specs.Name.{plain_name}
 use Rattle.stack_rebuild.specs.Stacks.{PathRow}
+use Rattle.flame_graph.specs.Characters.{characters}
 use Rattle.flame_graph.specs.Frames.{calls_of, frames, total_of}
 use Rattle.flame_graph.specs.Picture.{is_drawn, left_of, left_out, levels_of, width_of}
 use Rattle.flame_graph.specs.declared.frame.Calls.{Calls}
 
 -- ---- names
 
--- A byte of a name in a text of XML. One that isn't a printable character of ASCII is replaced by U+FFFD.
+-- U+FFFD, which stands for what has no place in a text of XML
+abbrev pub replacement : List ℕ
+replacement = 239 ∷ 191 ∷ 189 ∷ []
+
+-- A character of one byte. If it isn't a printable character of ASCII, it is replaced.
 abbrev pub xml_byte : ℕ → List ℕ
 xml_byte byte =
     if byte == 38 then codes "&amp;" else if byte == 60 then codes "&lt;" else if byte == 62 then codes "&gt;"
-    else if byte == 34 then codes "&quot;" else if nat_le 32 byte && nat_le byte 126 then byte ∷ [] else 239 ∷ 191 ∷ 189 ∷ []
+    else if byte == 34 then codes "&quot;" else if nat_le 32 byte && nat_le byte 126 then byte ∷ [] else replacement
 
+-- whether a character is U+FFFE or U+FFFF, which no text of XML has
+abbrev pub is_outside : List ℕ → Bool
+is_outside character = bytes_eq character (239 ∷ 191 ∷ 190 ∷ []) || bytes_eq character (239 ∷ 191 ∷ 191 ∷ [])
+
+-- a character of several bytes
+abbrev pub xml_wide : List ℕ → List ℕ
+xml_wide character = if is_outside character then replacement else character
+
+abbrev pub xml_character : List ℕ → List ℕ
+xml_character character = if length character == 1 then xml_byte (slice_index character 0) else xml_wide character
+
+-- characters, one after the other
+abbrev pub xml_characters : List (List ℕ) → List ℕ
+xml_characters characters = flat_map xml_character characters
+
+-- a name in a text of XML
 abbrev pub xml_text : List ℕ → List ℕ
-xml_text bytes = flat_map xml_byte bytes
+xml_text name = xml_characters (characters name)
 
 -- how many characters fit into a width in thousandths of a pixel: each takes 7.3 pixels, and 6 pixels are left free
 abbrev pub fitting : ℕ → ℕ
 fitting width = (width - 6000) / 7300
 
--- the part of a name that has room for this many characters: the whole name, or its first characters and two dots
-abbrev pub cut_text : List ℕ → List ℕ
-cut_text start = xml_text start ++ codes ".."
+-- the first characters of a name, and two dots
+abbrev pub cut_text : (most : ℕ) → List ℕ → List ℕ
+cut_text most name = xml_characters (take most (characters name)) ++ codes ".."
 
+-- the part of a name that has room for this many characters: the whole name, or its first characters and two dots
 abbrev pub shortened : (room : ℕ) → List ℕ → List ℕ
-shortened room name = if nat_le (length name) room then xml_text name else cut_text (take (room - 2) name)
+shortened room name = if nat_le (length (characters name)) room then xml_text name else cut_text (room - 2) name
 
 -- ---- numbers
 
@@ -98,10 +121,10 @@ abbrev pub func_of : List ℕ → ℕ
 func_of frame = slice_index frame (length frame - 1)
 
 -- the line of a frame of rows, if it is drawn
-abbrev pub frame_text : Option Program → List PathRow → List ℕ → List ℕ
-frame_text program rows frame =
+abbrev pub frame_text : Naming → List PathRow → List ℕ → List ℕ
+frame_text names rows frame =
     if is_drawn rows frame then
-    line_text (left_of rows frame) (width_of rows frame) (top_of (levels_of rows) (length frame)) (func_of frame) (name_text program (func_of frame)) (calls_of rows frame)
+    line_text (left_of rows frame) (width_of rows frame) (top_of (levels_of rows) (length frame)) (func_of frame) (plain_name names (func_of frame)) (calls_of rows frame)
     else []
 
 -- ---- the picture
@@ -123,6 +146,6 @@ foot_text levels left =
     codes "<text x=\"10\" y=\"" ++ decimal (68 + levels * 16) ++ codes "\">Frames narrower than 0.1 pixels, which are left out: " ++ decimal left ++ codes "</text>\n</svg>\n"
 
 -- the flame graph of rows
-abbrev pub flame_text : (frequency : ℕ) → Option Program → List PathRow → List ℕ
-flame_text frequency program rows =
-    head_text frequency (levels_of rows) (total_of rows) ++ flat_map (frame_text program rows) (frames rows) ++ foot_text (levels_of rows) (left_out rows)
+abbrev pub flame_text : (frequency : ℕ) → Naming → List PathRow → List ℕ
+flame_text frequency names rows =
+    head_text frequency (levels_of rows) (total_of rows) ++ flat_map (frame_text names rows) (frames rows) ++ foot_text (levels_of rows) (left_out rows)

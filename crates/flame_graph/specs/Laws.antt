@@ -1,6 +1,8 @@
 -- What is true of every flame graph. Lengths are in thousandths of a pixel, as they are printed.
 use Rattle.std.specs.Prelude.{◌≡◌, ◌+◌, ◌-◌, ◌<◌, ◌≤◌, ◌==◌, All, Bool, ℕ, List, length, take, filter, sum_by}
+use Rattle.std.specs.Str.{IsUtf8}
 use Rattle.stack_rebuild.specs.Stacks.{PathRow}
+use Rattle.flame_graph.specs.FlameText.{shortened, xml_text}
 use Rattle.flame_graph.specs.Frames.{frames, own_sum}
 use Rattle.flame_graph.specs.Picture.{across, left_of, width_of}
 
@@ -25,3 +27,7 @@ is_lowest frame = length frame == 1
 -- if any time was spent, the widths of the lowest row add up to the whole
 abbrev pub LowestAddUp : List PathRow → Type 0
 LowestAddUp rows = 0 < own_sum rows → sum_by (width_of rows) (filter is_lowest (frames rows)) ≡ across
+
+-- what is shown of a name, under the pointer and as a label that has room for this many characters, is UTF-8
+abbrev pub NamesAreText : Type 0
+NamesAreText = (name : List ℕ) (room : ℕ) → IsUtf8 (xml_text name) × IsUtf8 (shortened room name)

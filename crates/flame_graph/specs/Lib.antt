@@ -1,3 +1,4 @@
+pub mod Characters
 pub mod Frames
 pub mod FlameText
 pub mod Laws

@@ -1,2 +1,3 @@
 -- What the contracts of private functions cite. No promise of this crate rests on it.
 pub mod Walking
+pub mod Left

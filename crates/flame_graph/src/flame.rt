@@ -1,6 +1,7 @@
 //! The picture.
 
 ghost use Rattle.std.specs.{Prelude.{◌≡◌, ◌^◌, ◌<◌, ◌≤◌, map}, Option.{option_map}};
+ghost use Rattle.function_names.specs.Name.{image_names, naming};
 ghost use Rattle.stack_rebuild.specs.Stacks.{told};
 ghost use Rattle.xray_io.specs.{Text.{AddsText}, Writes.{WritesText}};
 ghost use Rattle.flame_graph.specs.FlameText.{flame_text, foot_text, head_text, seconds_text, start_text, total_text};
@@ -8,6 +9,7 @@ ghost use Rattle.flame_graph.specs.{Frames.{AreStacks}, Laws.{LowestAddUp, NoneS
 
 use crate::sums::{levels_of, total_of};
 use crate::walk::{LEVEL, Picture, add_frames};
+use function_names::Names;
 use stack_rebuild::StackRow;
 use xray_image::Image;
 use xray_io::{Piece, Printed, Sink, Text, WriteFault, write_text};
@@ -25,16 +27,15 @@ use xray_io::{Piece, Printed, Sink, Text, WriteFault, write_text};
 pub struct FlameGraph<'a> {
     /// The rows.
     pub rows: &'a [StackRow],
-    /// The image that names the functions of the paths. If it has no name for one, or if there is no
-    /// image, `#` and the id are printed.
-    pub image: Option<&'a Image>,
+    /// What names the functions of the paths. If a name isn't known, `#` and the id are printed.
+    pub names: Names<'a>,
     /// How often the counter advances, in cycles a second, as the header of the trace has it. If it
     /// is 0, the total is printed in cycles, and otherwise in seconds.
     pub frequency: u64,
 }
 
 impl Printed for FlameGraph<'_> {
-    ghost text = { λ flame. flame_text flame.frequency (option_map (λ image. image.now) flame.image)
+    ghost text = { λ flame. flame_text flame.frequency (naming flame.names)
         (map told flame.rows.now) };
 
     ghost ready = { λ flame. AreStacks (map told flame.rows.now) };
@@ -42,7 +43,7 @@ impl Printed for FlameGraph<'_> {
     fn add_to<S: Sink>(&self, to: &mut Text<S>) -> Result<(), WriteFault> {
         let picture = Picture {
             rows: self.rows,
-            image: self.image,
+            names: self.names,
             total: total_of(self.rows),
             levels: levels_of(self.rows),
         };
@@ -64,14 +65,15 @@ pub fn write_flame_graph<S: Sink>(
 ) -> Result<(), WriteFault>
     requires { AreStacks (map told rows.now) }
     ensures writes { WritesText S.written S.faults S.along sink.old sink.new
-        (flame_text frequency (option_map (λ image. image.now) image.entry) (map told rows.now)) result }
+        (flame_text frequency (image_names (option_map (λ image. image.now) image.entry))
+        (map told rows.now)) result }
     ensures within { NoneSticksOut (map told rows.now) }
     ensures adds_up { LowestAddUp (map told rows.now) }
 {
     write_text(
         &FlameGraph {
             rows,
-            image,
+            names: Names::of_image(image),
             frequency,
         },
         sink,

@@ -4,7 +4,7 @@ ghost use Rattle.std.specs.Prelude.{List};
 ghost use Rattle.fdr_file.specs.declared.trace.Block.{Block};
 ghost use Rattle.fdr_record.specs.declared.event.Event.{Event};
 ghost use Rattle.stack_rebuild.specs.Stacks.{PathRow, stack_of, stack_of_threads};
-ghost use Rattle.flame_graph.specs.{Frames.{AreStacks}, Laws.{LowestAddUp, NoneSticksOut}};
+ghost use Rattle.flame_graph.specs.{Frames.{AreStacks}, Laws.{LowestAddUp, NamesAreText, NoneSticksOut}};
 
 /// The stacks of blocks are in ascending order of their paths, each path once and with a function.
 /// So a flame graph can be drawn of them.
@@ -27,4 +27,9 @@ pub fn no_frame_sticks_out()
 /// what is printed, with the frames that are left out.
 pub fn the_lowest_frames_add_up()
     ensures { (rows : List PathRow) → AreStacks rows → LowestAddUp rows }
+{}
+
+/// What is shown of a name is UTF-8, whatever its bytes are, and wherever it is cut.
+pub fn names_are_text()
+    ensures { NamesAreText }
 {}

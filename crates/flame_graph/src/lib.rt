@@ -2,9 +2,10 @@
 //!
 //! `flame` prints the picture. `walk` goes through the rows once and keeps the frames that are open;
 //! `open_frames` opens them. `sums` has the totals, `scale` places, `line` the line of a frame, and
-//! `names` its name. `laws` says what is true of every picture.
+//! `names` its name, whose `characters` may have several bytes. `laws` says what is true of every picture.
 #![tactic(auto)]
 
+mod characters;
 mod flame;
 mod frame;
 mod laws;
@@ -18,6 +19,6 @@ mod walk;
 pub use flame::{FlameGraph, write_flame_graph};
 pub use frame::Calls;
 pub use laws::{
-    no_frame_sticks_out, stacks_can_be_drawn, stacks_of_threads_can_be_drawn,
+    names_are_text, no_frame_sticks_out, stacks_can_be_drawn, stacks_of_threads_can_be_drawn,
     the_lowest_frames_add_up,
 };

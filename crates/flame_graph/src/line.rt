@@ -1,13 +1,13 @@
 //! The line of a frame.
 
-ghost use Rattle.std.specs.{Prelude.{◌≡◌, ◌<◌, ◌^◌}, Option.{option_map}};
-ghost use Rattle.function_names.specs.Name.{name_text};
+ghost use Rattle.std.specs.Prelude.{◌≡◌, ◌<◌, ◌^◌};
+ghost use Rattle.function_names.specs.Name.{naming, plain_name};
 ghost use Rattle.xray_io.specs.Text.{AddsText};
 ghost use Rattle.flame_graph.specs.FlameText.{baseline_text, box_text, calls_text, colour_text, corner_text, fitting, hint_text, label_text, line_text, room_text, size_text};
 
 use crate::frame::Calls;
 use crate::names::{ROOM, add_shortened, add_xml, put_number};
-use xray_image::Image;
+use function_names::Names;
 use xray_io::{Piece, Sink, Text, WriteFault};
 
 /// Where a frame is drawn, and how wide: `left` and `width` in thousandths of a pixel, from the left
@@ -19,12 +19,12 @@ pub(crate) struct Place {
     pub(crate) top: u128,
 }
 
-/// Adds the line of a frame, with the name that an image gives to its function.
+/// Adds the line of a frame, with the name of its function.
 pub(crate) fn add_frame_line<S: Sink>(
     to: &mut Text<S>,
     place: &Place,
     func: u32,
-    image: Option<&Image>,
+    names: Names,
     calls: &Calls,
 ) -> Result<(), WriteFault>
     requires left { place.now.left < 2 ^ 64 }
@@ -32,12 +32,10 @@ pub(crate) fn add_frame_line<S: Sink>(
     requires top { place.now.top < 2 ^ 64 }
     ensures { AddsText S.written S.faults S.along to.old to.new
         (line_text place.now.left place.now.width place.now.top func
-        (name_text (option_map (λ image. image.now) image.entry) func) calls.now) result }
+        (plain_name (naming names.entry) func) calls.now) result }
 {
-    if let Some(image) = image {
-        if let Some(name) = image.name_of(func) {
-            return add_line(to, place, func, name.as_bytes(), calls);
-        }
+    if let Some(name) = names.name_of(func) {
+        return add_line(to, place, func, name, calls);
     }
     let mut word = [0; ROOM];
     let start = put_number(&mut word, func);

@@ -1,7 +1,8 @@
 //! The lines of all frames.
 
 ghost use Rattle.std.specs.Prelude.{◌≡◌, ◌+◌, ◌-◌, ◌^◌, ◌<◌, ◌≤◌, length, map, slice_index_or, suc, if◌then◌else◌, OnOk};
-ghost use Rattle.std.specs.{List.{flat_map}, Option.{option_map}};
+ghost use Rattle.std.specs.List.{flat_map};
+ghost use Rattle.function_names.specs.Name.{naming};
 ghost use Rattle.stack_rebuild.specs.Stacks.{told};
 ghost use Rattle.xray_io.specs.Text.{AddsText};
 ghost use Rattle.flame_graph.specs.FlameText.{frame_text, top_of};
@@ -14,8 +15,8 @@ use crate::line::{Place, add_frame_line};
 use crate::open_frames::open_frames;
 use crate::scale::thousandths_at;
 use crate::sums::{MOST_LEVELS, shared};
+use function_names::Names;
 use stack_rebuild::StackRow;
-use xray_image::Image;
 use xray_io::{Sink, Text, WriteFault};
 
 /// The least width that is drawn, in thousandths of a pixel.
@@ -31,7 +32,7 @@ const ABOVE: u128 = 48;
 #[derive(Drop)]
 pub(crate) struct Picture<'a> {
     pub(crate) rows: &'a [StackRow],
-    pub(crate) image: Option<&'a Image>,
+    pub(crate) names: Names<'a>,
     /// Where the rows end, in cycles.
     pub(crate) total: u128,
     /// How many rows of frames are drawn.
@@ -66,7 +67,7 @@ pub(crate) fn add_frames<S: Sink>(
     requires ascending { AreAscending (map told picture.now.rows.now) }
     requires none { left.old ≡ 0 }
     ensures adds { AddsText S.written S.faults S.along to.old to.new
-        (flat_map (frame_text (option_map (λ image. image.now) picture.now.image)
+        (flat_map (frame_text (naming picture.now.names)
         (map told picture.now.rows.now)) (frames (map told picture.now.rows.now))) result }
     ensures left { OnOk result (left.new ≡ left_out (map told picture.now.rows.now)) }
 {
@@ -93,7 +94,7 @@ fn add_row<S: Sink>(
     requires within { at < length picture.now.rows.now }
     requires stands { Stands (map told picture.now.rows.now) at walk.old }
     ensures adds { AddsText S.written S.faults S.along to.old to.new
-        (flat_map (frame_text (option_map (λ image. image.now) picture.now.image)
+        (flat_map (frame_text (naming picture.now.names)
         (map told picture.now.rows.now)) (ended_at (map told picture.now.rows.now) at)) result }
     ensures left { OnOk result (left.new ≡ capped (left.old
         + count_left (map told picture.now.rows.now) (ended_at (map told picture.now.rows.now) at))) }
@@ -141,7 +142,7 @@ fn add_ended<S: Sink>(
     requires opened { IsOpen (map told picture.now.rows.now) at walk.now }
     requires standing { walk.now.standing ≡ shared_at (map told picture.now.rows.now) (suc at) }
     ensures adds { AddsText S.written S.faults S.along to.old to.new
-        (flat_map (frame_text (option_map (λ image. image.now) picture.now.image)
+        (flat_map (frame_text (naming picture.now.names)
         (map told picture.now.rows.now)) (ended_at (map told picture.now.rows.now) at)) result }
     ensures left { OnOk result (left.new ≡ capped (left.old
         + count_left (map told picture.now.rows.now) (ended_at (map told picture.now.rows.now) at))) }
@@ -167,7 +168,7 @@ fn add_frame<S: Sink>(
         (slice_index_or walk.now.openings (length frame.now - 1) no_opening) }
     requires end { walk.now.place ≡ end_of (map told picture.now.rows.now) frame.now }
     ensures adds { AddsText S.written S.faults S.along to.old to.new
-        (frame_text (option_map (λ image. image.now) picture.now.image)
+        (frame_text (naming picture.now.names)
         (map told picture.now.rows.now) frame.now) result }
     ensures left { OnOk result (left.new ≡ capped (left.old
         + (if is_drawn (map told picture.now.rows.now) frame.now then 0 else 1))) }
@@ -184,7 +185,7 @@ fn add_frame<S: Sink>(
         return Ok(());
     }
     let func = frame[frame.len() - 1];
-    add_frame_line(to, &place, func, picture.image, &opening.calls)
+    add_frame_line(to, &place, func, picture.names, &opening.calls)
 }
 
 /// Where a frame is drawn that begins and ends at these places.

@@ -1,11 +1,13 @@
 //! The name of the function with an id.
 
-ghost use Rattle.std.specs.{Prelude.{◌≡◌, ◌<◌, ◌≤◌, ◌++◌, codes, drop}, Option.{option_map}};
+ghost use Rattle.std.specs.Prelude.{◌≡◌, ◌<◌, ◌++◌, codes, drop};
 ghost use Rattle.xray_io.specs.Text.{AddsText};
-ghost use Rattle.function_names.specs.Name.{name_in, name_text, number_text};
+ghost use Rattle.function_names.specs.Name.{name_text, naming, number_text, spelled};
+ghost use Rattle.function_names.specs.declared.form.NameForm.TheVariants.{Frame};
 
+use crate::form::{NameForm, add_spelled};
+use crate::names::Names;
 use itoa::write_digits;
-use xray_image::Image;
 use xray_io::{Sink, Text, WriteFault};
 
 /// What stands before an id.
@@ -17,30 +19,21 @@ const SEPARATOR: u8 = b';';
 /// The length of a separator, a mark and the longest id.
 const ROOM: usize = 12;
 
-/// Adds the name of the function with an id, as the image has it. If there is no image, or if the
-/// image has no such id, adds `#` and the id in decimal digits.
+/// Adds the name of the function with an id, in a form. If the name isn't known, adds `#` and the id in
+/// decimal digits.
 ///
 /// On `WriteFault` a prefix of what the text was given is written, and the sink counted a fault.
 pub fn add_name<S: Sink>(
     text: &mut Text<S>,
-    image: Option<&Image>,
+    names: Names,
+    form: NameForm,
     id: u32,
 ) -> Result<(), WriteFault>
     ensures { AddsText S.written S.faults S.along text.old text.new
-        (name_text (option_map (λ image. image.now) image.entry) id) result }
+        (name_text form (naming names.entry) id) result }
 {
-    match image {
-        Some(image) => add_name_in(text, image, id),
-        None => add_number(text, id),
-    }
-}
-
-/// Adds the name that a function has in an image.
-fn add_name_in<S: Sink>(text: &mut Text<S>, image: &Image, id: u32) -> Result<(), WriteFault>
-    ensures { AddsText S.written S.faults S.along text.old text.new (name_in image.now id) result }
-{
-    match image.name_of(id) {
-        Some(name) => text.bytes(name.as_bytes()),
+    match names.name_of(id) {
+        Some(name) => add_spelled(text, form, name),
         None => add_number(text, id),
     }
 }
@@ -54,24 +47,26 @@ fn add_number<S: Sink>(text: &mut Text<S>, id: u32) -> Result<(), WriteFault>
     text.bytes(&word[start..])
 }
 
-/// Adds `;` and the name of a callee. In a path it stands after the name of its caller.
+/// Adds `;` and the name of a callee, as a frame. In a path it stands after the name of its caller.
 ///
 /// On `WriteFault` a prefix of what the text was given is written, and the sink counted a fault.
-pub fn add_callee_name<S: Sink>(
-    text: &mut Text<S>,
-    image: Option<&Image>,
-    id: u32,
-) -> Result<(), WriteFault>
+pub fn add_callee_name<S: Sink>(text: &mut Text<S>, names: Names, id: u32) -> Result<(), WriteFault>
     ensures { AddsText S.written S.faults S.along text.old text.new
-        (codes ";" ++ name_text (option_map (λ image. image.now) image.entry) id) result }
+        (codes ";" ++ name_text Frame (naming names.entry) id) result }
 {
-    match image {
-        Some(_) => {
-            text.bytes(&[SEPARATOR])?;
-            add_name(text, image, id)
-        }
+    match names.name_of(id) {
+        Some(name) => add_callee_spelled(text, name),
         None => add_callee_number(text, id),
     }
+}
+
+/// Adds `;` and a name as a frame.
+fn add_callee_spelled<S: Sink>(text: &mut Text<S>, name: &[u8]) -> Result<(), WriteFault>
+    ensures { AddsText S.written S.faults S.along text.old text.new
+        (codes ";" ++ spelled Frame name.now) result }
+{
+    text.bytes(&[SEPARATOR])?;
+    add_spelled(text, NameForm::Frame, name)
 }
 
 /// Adds `;` and the text for a name that isn't known, in one piece.

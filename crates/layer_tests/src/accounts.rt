@@ -7,6 +7,7 @@ use crate::fed_traces::{Refuser, feed_pieces, file_of};
 use account_report::*;
 use fdr_file::read_trace;
 use fdr_record::Kind;
+use function_names::Names;
 use stack_rebuild::{Pair, StackForm, pairs, stacks, thread_events, write_stack};
 use std::alloc::Global;
 use std::process::Abort;
@@ -19,7 +20,7 @@ fn text_of(alloc: Global, rows: &[AccountRow], format: AccountFormat) -> Result<
     let text = AccountText {
         rows,
         latencies: latencies(rows),
-        image: None,
+        names: Names::Ids,
         format,
     };
     printed(alloc, &text)

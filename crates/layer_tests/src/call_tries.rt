@@ -9,6 +9,7 @@ use crate::draws::draw;
 use crate::event_traces::{NESTED, Said, printed, trace_of};
 use call_trie::{MOST_NODES, TrieRecorder, TrieState, merged};
 use fdr_record::{Event, Kind, Recorder};
+use function_names::Names;
 use stack_rebuild::{MOST_OPEN, StackForm, StackRow, StackText, stacks};
 use std::alloc::Global;
 use std::process::Abort;
@@ -68,7 +69,7 @@ impl Noted {
 fn text_of(alloc: Global, rows: &[StackRow]) -> Result<String, Fail> {
     let text = StackText {
         rows,
-        image: None,
+        names: Names::Ids,
         form: StackForm::Human,
     };
     printed(alloc, &text)

@@ -105,10 +105,15 @@ run|i|s|t|a|--wall=7|--threads|2 => run [i] [s] [t] [a] 2 10000000 1048576 16384
 run|i|s|c|t|a => none
 run|i|s|t|t => none
 run|i|s|s|a => none
-account|t => account [t] None FuncId Ascending None Text
-account|t|t|--sort|funcid => account [t] Some(\"t\") FuncId Ascending None Text
-account|--sort=sum|t|i|--sortorder=desc|--top=0|--format|csv => account [t] Some(\"i\") Sum Descending Some(0) Csv
-account|t|--sort|99p|--top|4294967295 => account [t] None P99 Ascending Some(4294967295) Text
+account|t => account [t] Ids FuncId Ascending None Text
+account|t|t|--sort|funcid => account [t] Image(\"t\") FuncId Ascending None Text
+account|--sort=sum|t|i|--sortorder=desc|--top=0|--format|csv => account [t] Image(\"i\") Sum Descending Some(0) Csv
+account|t|--sort|99p|--top|4294967295 => account [t] Ids P99 Ascending Some(4294967295) Text
+account|t|--map|m|--top=3 => account [t] Map(\"m\") FuncId Ascending Some(3) Text
+account|--map=|t => account [t] Map(\"\") FuncId Ascending None Text
+account|--map=m|t|i => none
+account|t|--map=m|--map=m => none
+account|t|--map => none
 account|t|--sort=90 => none
 account|t|--sort= => none
 account|t|--sort=0 => none
@@ -117,14 +122,18 @@ account|t|--top=4294967296 => none
 account|t|i|j => none
 account|t|--sort=sum|--sort=sum => none
 account => none
-stack|t => stack [t] None Human
-stack|t|i|--format=flame => stack [t] Some(\"i\") Flame
-stack|--format|svg|t => stack [t] None Svg
+stack|t => stack [t] Ids Human
+stack|t|i|--format=flame => stack [t] Image(\"i\") Flame
+stack|--format|svg|t => stack [t] Ids Svg
+stack|--map=t|t => stack [t] Map(\"t\") Human
+stack|t|--map=m|i => none
 stack|t|--format=yaml => none
-convert|t => convert [t] None Yaml Fdr
-convert|t|i|--format|yaml => convert [t] Some(\"i\") Yaml Fdr
-convert|t|--format=trace-event|--input=fdr => convert [t] None TraceEvents Fdr
-convert|--input=basic|t|--format|basic => convert [t] None Basic Basic
+convert|t => convert [t] Ids Yaml Fdr
+convert|t|i|--format|yaml => convert [t] Image(\"i\") Yaml Fdr
+convert|t|--format=trace-event|--input=fdr => convert [t] Ids TraceEvents Fdr
+convert|--input=basic|t|--format|basic => convert [t] Ids Basic Basic
+convert|t|--map|m|--format|trace-event => convert [t] Map(\"m\") TraceEvents Fdr
+convert|t|i|--map|m => none
 convert|t|--format=human => none
 convert|t|--input=yaml => none
 fdr-dump|t => dump [t]
@@ -151,6 +160,13 @@ soak|18446744073709551616 => none
 soak|-1 => none
 soak|1|2 => none
 soak|1|--threads|4 => none
+plain|i|--map=m => none
+profile|i|s|--map=m => none
+import|l|t => import [l] [t]
+import|l|l => none
+import|l => none
+import|l|t|u => none
+import|l|t|--map=m => none
 ";
 
 /// Words as a program gets them, from a line with bars between the words.
@@ -185,24 +201,24 @@ fn shown_command(alloc: Global, command: Command) -> Result<String, AllocError> 
         } => format!(in alloc; "asm [{text}] [{image}] {threshold} {relative}"),
         Command::Account {
             trace,
-            image,
+            names,
             options,
         } => {
             let options = shown_account(alloc, options)?;
-            format!(in alloc; "account [{trace}] {image:?} {options}")
+            format!(in alloc; "account [{trace}] {names:?} {options}")
         }
         Command::Stack {
             trace,
-            image,
+            names,
             format,
-        } => format!(in alloc; "stack [{trace}] {image:?} {format:?}"),
+        } => format!(in alloc; "stack [{trace}] {names:?} {format:?}"),
         Command::Convert {
             trace,
-            image,
+            names,
             options,
         } => {
             let ConvertOptions { format, input } = options;
-            format!(in alloc; "convert [{trace}] {image:?} {format:?} {input:?}")
+            format!(in alloc; "convert [{trace}] {names:?} {format:?} {input:?}")
         }
         Command::Dump { trace } => format!(in alloc; "dump [{trace}]"),
         Command::Check {
@@ -220,6 +236,7 @@ fn shown_command(alloc: Global, command: Command) -> Result<String, AllocError> 
             format!(in alloc; "profile [{image}] [{script}] {options}")
         }
         Command::Soak { number } => format!(in alloc; "soak {number}"),
+        Command::Import { log, trace } => format!(in alloc; "import [{log}] [{trace}]"),
         Command::Run {
             image,
             script,
@@ -309,7 +326,7 @@ fn command_lines_say_what_the_rows_say(rt: HostRuntime) -> Result<(), Fail> {
             rows = rows.wrapping_add(1);
         }
     }
-    check_same(&rt, &rows, &132);
+    check_same(&rt, &rows, &148);
     Ok(())
 }
 

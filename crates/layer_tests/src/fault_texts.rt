@@ -5,6 +5,7 @@ use asm_text::AsmFault;
 use fdr_file::TraceFault;
 use fdr_record::RecFault;
 use patch_script::ScriptFault;
+use runtime_log::LogFault;
 use stack_rebuild::StackFault;
 use std::fmt::Display;
 use std::process::Abort;
@@ -151,6 +152,19 @@ const OF_STACKS: [(StackFault, &str); 2] = [
     (StackFault::NoMemory, "out of memory"),
 ];
 
+const OF_LOGS: [(LogFault, &str); 4] = [
+    (
+        LogFault::Trace(TraceFault::Version(6)),
+        "version 6 isn't read",
+    ),
+    (LogFault::Tag(32, 2), "the record at 32 begins with 2"),
+    (LogFault::Kind(64, 4), "the record at 64 is of the kind 4"),
+    (
+        LogFault::Function(96, 268435456),
+        "the record at 96 is of the function 268435456",
+    ),
+];
+
 /// Checks that each fault prints its text.
 fn check_texts<R: Abort + AllocGlobal, F: Display>(rt: &R, rows: &[(F, &str)]) -> Result<(), Fail> {
     for (fault, text) in rows {
@@ -171,5 +185,6 @@ fn each_fault_prints_its_text(rt: HostRuntime) -> Result<(), Fail> {
     check_texts(&rt, &OF_RECORDS)?;
     check_texts(&rt, &OF_TRACES)?;
     check_texts(&rt, &OF_STACKS)?;
+    check_texts(&rt, &OF_LOGS)?;
     Ok(())
 }

@@ -66,14 +66,15 @@ end 128\n",
     ),
 ];
 
-/// How many first bytes of the log are read, and why they are refused, if they are.
-const CUTS: [(usize, Option<BasicFault>); 6] = [
-    (0, Some(BasicFault::Short(0))),
-    (31, Some(BasicFault::Short(0))),
-    (33, Some(BasicFault::Short(32))),
-    (63, Some(BasicFault::Short(32))),
-    (64, None),
-    (95, Some(BasicFault::Short(64))),
+/// The least number of first bytes of the log, and one more than the greatest, and why so many are
+/// refused, if they are. Together they are all numbers from 0 to the length of the log.
+const CUTS: [(usize, usize, Option<BasicFault>); 6] = [
+    (0, 32, Some(BasicFault::Short(0))),
+    (32, 33, None),
+    (33, 64, Some(BasicFault::Short(32))),
+    (64, 65, None),
+    (65, 96, Some(BasicFault::Short(64))),
+    (96, 97, None),
 ];
 
 /// A byte of the log, what it is changed to, and the fault.
@@ -163,11 +164,25 @@ fn a_file_is_dumped(rt: HostRuntime) -> Result<(), Fail> {
     Ok(())
 }
 
+/// Checks what is answered to the log if it is cut to each length from `least` on and below `end`.
+fn check_cuts(
+    rt: &impl Abort,
+    alloc: Global,
+    least: usize,
+    end: usize,
+    fault: Option<BasicFault>,
+) -> Result<(), Fail> {
+    for read in least..end {
+        let log = read_basic(alloc, LOG.get(..read).ok_or("bytes")?);
+        check_same_at(rt, &log.err(), &fault, &read);
+    }
+    Ok(())
+}
+
 #[test]
 fn a_log_that_is_cut_is_short(rt: HostRuntime) -> Result<(), Fail> {
-    for (read, fault) in &CUTS {
-        let log = read_basic(rt.alloc(), LOG.get(..*read).ok_or("bytes")?);
-        check_same_at(&rt, &log.err(), fault, read);
+    for (least, end, fault) in &CUTS {
+        check_cuts(&rt, rt.alloc(), *least, *end, *fault)?;
     }
     Ok(())
 }

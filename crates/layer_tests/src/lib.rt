@@ -55,9 +55,13 @@ mod pools;
 #[cfg(test)]
 mod replaying;
 #[cfg(test)]
+mod runtime_logs;
+#[cfg(test)]
 mod scripts;
 #[cfg(test)]
 mod setups;
+#[cfg(test)]
+mod sled_maps;
 #[cfg(test)]
 mod sled_values;
 #[cfg(test)]

@@ -4,6 +4,7 @@ use crate::checks::{check_same, check_same_text};
 use crate::event_traces::{NESTED, Said, printed};
 use crate::fed_traces::{feed_pieces, file_of};
 use fdr_record::Kind;
+use function_names::Names;
 use stack_rebuild::{MOST_OPEN, StackFault, StackFold, StackForm, StackRow, StackText};
 use std::alloc::Global;
 use std::process::Abort;
@@ -24,7 +25,7 @@ fn check_stacks(rt: &impl Abort, alloc: Global, events: &[Said], wanted: &str) -
     let rows = stacks_of(alloc, events)??;
     let text = StackText {
         rows: &rows,
-        image: None,
+        names: Names::Ids,
         form: StackForm::Flame,
     };
     check_same_text(rt, printed(alloc, &text)?.as_str(), wanted);

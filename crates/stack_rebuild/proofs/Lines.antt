@@ -3,8 +3,9 @@ use Rattle.std.proofs.Common.{◌≡◌, ◌≤◌, ◌-◌, ◌++◌, arith, Op
 use Rattle.std.specs.Prelude.{codes}
 use Rattle.std.specs.List.{flat_map}
 use Rattle.std.proofs.lemmas.List.{take_all}
-use Rattle.xray_image.specs.Program.{Program}
+use Rattle.map_names.specs.Naming.{Naming}
 use Rattle.function_names.specs.Name.{name_text}
+use Rattle.function_names.specs.declared.form.NameForm.TheVariants.{Frame}
 use Rattle.stack_rebuild.specs.StackText.{path_text}
 
 -- texts of what items are mapped to
@@ -17,7 +18,7 @@ after_first : {X : Type 0} (x : X) (xs : List X) → take (length (x ∷ xs) - 1
 after_first x xs = take_all (length (x ∷ xs) - 1) xs (omega arith)
 
 -- the text of a path, from its first function and the others
-pub path_from : (program : Option Program) (path : List ℕ) → 1 ≤ length path
-    → name_text program (get_or path 0 0) ++ flat_map (λ f. codes ";" ++ name_text program f) (take (length path - 1) (drop 1 path)) ≡ path_text program path
-path_from program [] some = absurd (omega (arith, some))
-path_from program (func ∷ inner) some = ap (λ (fs : List ℕ). name_text program func ++ flat_map (λ f. codes ";" ++ name_text program f) fs) (after_first func inner)
+pub path_from : (names : Naming) (path : List ℕ) → 1 ≤ length path
+    → name_text Frame names (get_or path 0 0) ++ flat_map (λ f. codes ";" ++ name_text Frame names f) (take (length path - 1) (drop 1 path)) ≡ path_text names path
+path_from names [] some = absurd (omega (arith, some))
+path_from names (func ∷ inner) some = ap (λ (fs : List ℕ). name_text Frame names func ++ flat_map (λ f. codes ";" ++ name_text Frame names f) fs) (after_first func inner)

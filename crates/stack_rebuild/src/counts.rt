@@ -24,6 +24,7 @@ pub(crate) fn count_up(counts: &mut HashMap<u32, usize>, func: u32) -> Result<()
 }
 
 /// Counts one call of a function fewer.
+#[inline(never)]
 pub(crate) fn count_down(counts: &mut HashMap<u32, usize>, func: u32)
     requires { 0 < count_in counts.old func }
     ensures { (other : ℕ) → count_in counts.old other

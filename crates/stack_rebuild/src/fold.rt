@@ -125,6 +125,7 @@ impl StackFold {
     }
 
     /// Takes an event of the last block.
+    #[inline(always)]
     fn add(&mut self, event: &Event) -> Result<(), NoMemory>
         requires { (blocks : List Block) × (last : Block) × Folds self.old (blocks ++ last ∷ []) }
         ensures added { OnOk result ((blocks : List Block) (last : Block)
@@ -172,6 +173,7 @@ impl Taker for StackFold {
         taken
     }
 
+    #[inline(always)]
     fn event(&mut self, event: &Event) -> Result<(), NoMemory> {
         let taken = self.add(event);
         refuse(&mut self.refused, taken);

@@ -66,7 +66,7 @@ impl OpenCalls {
     }
 
     /// Ends the innermost open call of a function, and all calls that were made in it.
-    #[inline]
+    #[inline(always)]
     pub(crate) fn end_call(&mut self, func: u32) -> Result<Option<Call>, NoMemory>
         ensures { IfOk result (λ ended. MatchOption ended
             ((from_innermost func (reverse self.old) ≡ []) × (self.new ≡ self.old))
@@ -92,7 +92,7 @@ impl OpenCalls {
     }
 
     /// Ends the innermost call.
-    #[inline]
+    #[inline(always)]
     fn end_innermost(&mut self) -> Option<Call>
         ensures { MatchOption result ((self.old ≡ []) × (self.new ≡ []))
             (λ call. self.old ≡ self.new ++ call ∷ []) }
@@ -106,6 +106,7 @@ impl OpenCalls {
     }
 
     /// Ends the innermost calls, up to one of a function.
+    #[inline(never)]
     fn end_calls_to(&mut self, func: u32) -> Option<Call>
         requires { 0 < count_by (is_of func) self.old }
         ensures { MatchOption result ⊥
@@ -120,6 +121,7 @@ impl OpenCalls {
     }
 
     /// Whether a call of a function is open. Counts the calls that aren't counted.
+    #[inline(never)]
     fn has_open(&mut self, func: u32) -> Result<bool, NoMemory>
         ensures found { IfOk result (λ is. is ≡ nat_lt 0 (count_by (is_of func) self.old)) }
         ensures same { self.new ≡ self.old }

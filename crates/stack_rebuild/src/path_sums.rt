@@ -57,6 +57,7 @@ impl PathSums {
 
     /// The number of a path with one more function. `parent` is the number of the path without it.
     /// `NoMemory` means that an allocation was refused. The sums are then as they were.
+    #[inline(always)]
     pub fn number_of(&mut self, parent: usize, func: u32) -> Result<usize, NoMemory>
         requires { parent < length self.old.paths }
         ensures number { IfOk result (λ n.
@@ -74,6 +75,7 @@ impl PathSums {
 
     /// The number of a step's path, if it is among those that are looked at: the first that went on
     /// from its parent, and the latest ones.
+    #[inline(always)]
     fn among_first(&self, step: Step) -> Option<usize>
         ensures { IfSome result (λ n.
             HasNumber (path_by self.now.paths step) n self.now.paths self.now.paths) }
@@ -103,6 +105,7 @@ impl PathSums {
     }
 
     /// The number of a step's path.
+    #[inline(never)]
     fn number_of_step(&mut self, step: Step) -> Result<usize, NoMemory>
         requires { step.parent < length self.old.paths }
         ensures number { IfOk result (λ n.

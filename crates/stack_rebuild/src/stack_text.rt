@@ -2,13 +2,14 @@
 
 ghost use Rattle.std.specs.{Prelude.{◌≡◌, ◌++◌, ⊤, codes, map}, List.{flat_map}};
 ghost use Rattle.std.specs.Option.{option_map};
-ghost use Rattle.function_names.specs.Name.{name_text};
+ghost use Rattle.function_names.specs.Name.{image_names, name_text, naming};
+ghost use Rattle.function_names.specs.declared.form.NameForm.TheVariants.{Frame};
 ghost use Rattle.xray_io.specs.{Piece.{piece_text, right_aligned}, Text.{AddsText}, Writes.{WritesText}};
 ghost use Rattle.stack_rebuild.specs.Stacks.{told};
 ghost use Rattle.stack_rebuild.specs.StackText.{columns_text, head_text, path_text, path_row_text, stack_text, weight_text};
 
 use crate::stack_row::StackRow;
-use function_names::{add_callee_name, add_name};
+use function_names::{NameForm, Names, add_callee_name, add_name};
 use xray_image::Image;
 use xray_io::{Piece, Printed, Sink, Text, WriteFault, write_text};
 
@@ -34,22 +35,21 @@ pub enum StackForm {
 pub struct StackText<'a> {
     /// The rows.
     pub rows: &'a [StackRow],
-    /// The image that names the functions of the paths. If it has no name for one, or if there is no
-    /// image, `#` and the id are printed.
-    pub image: Option<&'a Image>,
+    /// What names the functions of the paths. If a name isn't known, `#` and the id are printed.
+    pub names: Names<'a>,
     /// The form.
     pub form: StackForm,
 }
 
 impl Printed for StackText<'_> {
-    ghost text = { λ stacks. stack_text stacks.form (option_map (λ image. image.now) stacks.image)
+    ghost text = { λ stacks. stack_text stacks.form (naming stacks.names)
         (map told stacks.rows.now) };
 
     ghost ready = { λ _. ⊤ };
 
     fn add_to<S: Sink>(&self, to: &mut Text<S>) -> Result<(), WriteFault> {
         to.bytes(head_line(self.form))?;
-        add_rows(to, self.rows, self.image, self.form)
+        add_rows(to, self.rows, self.names, self.form)
     }
 }
 
@@ -63,9 +63,14 @@ pub fn write_stack<S: Sink>(
     sink: &mut S,
 ) -> Result<(), WriteFault>
     ensures writes { WritesText S.written S.faults S.along sink.old sink.new
-        (stack_text form (option_map (λ image. image.now) image.entry) (map told rows.now)) result }
+        (stack_text form (image_names (option_map (λ image. image.now) image.entry)) (map told rows.now)) result }
 {
-    write_text(&StackText { rows, image, form }, sink)
+    let text = StackText {
+        rows,
+        names: Names::of_image(image),
+        form,
+    };
+    write_text(&text, sink)
 }
 
 /// The head line.
@@ -82,15 +87,15 @@ fn head_line(form: StackForm) -> &'static [u8]
 fn add_rows<S: Sink>(
     text: &mut Text<S>,
     rows: &[StackRow],
-    image: Option<&Image>,
+    names: Names,
     form: StackForm,
 ) -> Result<(), WriteFault>
     ensures { AddsText S.written S.faults S.along text.old text.new
-        (flat_map (λ row. path_row_text form (option_map (λ image. image.now) image.entry) (told row))
+        (flat_map (λ row. path_row_text form (naming names.entry) (told row))
         rows.now) result }
 {
     'rows: for row in rows {
-        add_row(text, row, image, form)?;
+        add_row(text, row, names, form)?;
     }
     Ok(())
 }
@@ -99,14 +104,14 @@ fn add_rows<S: Sink>(
 fn add_row<S: Sink>(
     text: &mut Text<S>,
     row: &StackRow,
-    image: Option<&Image>,
+    names: Names,
     form: StackForm,
 ) -> Result<(), WriteFault>
     ensures { AddsText S.written S.faults S.along text.old text.new
-        (path_row_text form (option_map (λ image. image.now) image.entry) (told row.now)) result }
+        (path_row_text form (naming names.entry) (told row.now)) result }
 {
     add_columns(text, row, form)?;
-    add_path(text, row.path.as_slice(), image)?;
+    add_path(text, row.path.as_slice(), names)?;
     add_weight(text, row, form)
 }
 
@@ -162,35 +167,27 @@ fn add_weight<S: Sink>(
 }
 
 /// Adds the names of a path.
-fn add_path<S: Sink>(
-    text: &mut Text<S>,
-    path: &[u32],
-    image: Option<&Image>,
-) -> Result<(), WriteFault>
+fn add_path<S: Sink>(text: &mut Text<S>, path: &[u32], names: Names) -> Result<(), WriteFault>
     ensures { AddsText S.written S.faults S.along text.old text.new
-        (path_text (option_map (λ image. image.now) image.entry) path.now) result }
+        (path_text (naming names.entry) path.now) result }
 {
     match path {
         [] => text.bytes(b""),
         [outermost, inner @ ..] => {
-            add_name(text, image, *outermost)?;
-            add_inner(text, inner, image)
+            add_name(text, names, NameForm::Frame, *outermost)?;
+            add_inner(text, inner, names)
         }
     }
 }
 
 /// Adds the names of a path's functions after the first one.
-fn add_inner<S: Sink>(
-    text: &mut Text<S>,
-    inner: &[u32],
-    image: Option<&Image>,
-) -> Result<(), WriteFault>
+fn add_inner<S: Sink>(text: &mut Text<S>, inner: &[u32], names: Names) -> Result<(), WriteFault>
     ensures { AddsText S.written S.faults S.along text.old text.new
-        (flat_map (λ f. codes ";" ++ name_text (option_map (λ image. image.now) image.entry) f)
+        (flat_map (λ f. codes ";" ++ name_text Frame (naming names.entry) f)
         inner.now) result }
 {
     'inner: for func in inner {
-        add_callee_name(text, image, *func)?;
+        add_callee_name(text, names, *func)?;
     }
     Ok(())
 }

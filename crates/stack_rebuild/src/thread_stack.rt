@@ -54,6 +54,7 @@ impl ThreadStack {
     }
 
     /// Takes the thread's next event.
+    #[inline(always)]
     pub(crate) fn take(&mut self, sums: &mut PathSums, event: &Event) -> Result<(), NoMemory>
         requires { AreWithin sums.old.paths self.old.frames.items }
         ensures within { OnOk result (AreWithin sums.new.paths self.new.frames.items) }
@@ -78,6 +79,7 @@ impl ThreadStack {
 }
 
 /// Opens a frame for a call of a function, inside the innermost one.
+#[inline(always)]
 fn open_frame(frames: &mut Vec<Frame>, sums: &mut PathSums, func: u32) -> Result<(), NoMemory>
     requires { AreWithin sums.old.paths frames.old.items }
     ensures within { OnOk result (AreWithin sums.new.paths frames.new.items) }
@@ -103,6 +105,7 @@ fn innermost(frames: &[Frame]) -> usize
 }
 
 /// Ends the frames from a depth on. The outermost of them has a pair, with this duration.
+#[inline(always)]
 fn end_frame(
     frames: &mut Vec<Frame>,
     sums: &mut PathSums,

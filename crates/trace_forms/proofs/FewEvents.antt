@@ -1,5 +1,5 @@
 -- A trace has at most as many events as bytes.
-use Rattle.std.proofs.Common.{◌≡◌, ℕ, zero, suc, ◌+◌, ◌-◌, ◌≤◌, ◌∙◌, ◌++◌, Bool, true, false, List, [], ◌∷◌, length, take, drop, refl, sym, arith, ap}
+use Rattle.std.proofs.Common.{◌≡◌, ℕ, zero, suc, ◌+◌, ◌-◌, ◌≤◌, ◌∙◌, ◌++◌, Bool, true, false, List, [], ◌∷◌, length, take, drop, refl, arith, ap}
 use Rattle.std.specs.Prelude.{◌==◌, not, nat_lt, Option, Some, None, Result, Ok, Err}
 use Rattle.std.proofs.lemmas.List.{length-append, length-drop, length-map, length-take}
 use Rattle.std.proofs.lemmas.List.Concat.{flat_map-append}

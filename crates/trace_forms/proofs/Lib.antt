@@ -6,6 +6,7 @@ pub mod Logs
 pub mod Escapes
 pub mod JsonTexts
 pub mod Pieces
+pub mod Rows
 pub mod Lines
 pub mod Sources
 pub mod GivenTexts

@@ -7,8 +7,6 @@ use Rattle.std.proofs.lemmas.Bool.{cases_Bool}
 use Rattle.std.proofs.lemmas.List.{append-nil, drop-drop, length-drop}
 use Rattle.std.specs.List.{flat_map}
 use Rattle.std.specs.Option.{option_map, unwrap_or}
-use Rattle.fdr_record.specs.declared.event.Kind.{Kind}
-use Rattle.fdr_record.specs.declared.rec.Rec.TheVariants.{Function}
 use Rattle.fdr_file.specs.declared.fault.TraceFault.{TraceFault}
 use Rattle.fdr_file.specs.declared.header.Header.{Header}
 use Rattle.fdr_file.specs.declared.trace.Block.{Block}
@@ -21,7 +19,7 @@ use Rattle.fault_words.specs.Words.{words_text}
 use Rattle.fault_words.specs.declared.words.Words.{Words}
 use Rattle.trace_words.specs.TraceWords.{trace_words}
 use Rattle.xray_io.specs.Piece.{piece_text}
-use Rattle.trace_forms.specs.Dumps.{fault_of, header_line, kind_word, record_lines, record_text, standing_line}
+use Rattle.trace_forms.specs.Dumps.{fault_of, header_line, record_lines, standing_line}
 use Rattle.trace_forms.proofs.Places.{starts_first, starts_none}
 
 -- the lines of the records from a place on
@@ -111,30 +109,3 @@ words_of words fault told =
   where
     regroup : (a b c d : List ℕ) → a ++ (b ++ (c ++ (d ++ []))) ≡ a ++ b ++ c ++ d
     regroup a b c d = simp (append_assoc, append-nil)
-
--- a name and a number
-pub one_field : (name : List ℕ) (n number : ℕ) → n ≡ number → name ++ (decimal n ++ []) ≡ name ++ decimal number
-one_field name n number same =
-    ap (λ (m : ℕ). name ++ (decimal m ++ [])) same ∙ ap (λ (t : List ℕ). name ++ t) (append-nil (decimal number))
-
-regroup_two : (name a between b : List ℕ) → name ++ (a ++ (between ++ (b ++ []))) ≡ name ++ a ++ between ++ b
-regroup_two name a between b = simp (append_assoc, append-nil)
-
--- a name and two numbers
-pub two_fields : (name between : List ℕ) (m first n second : ℕ) → m ≡ first → n ≡ second
-    → name ++ (decimal m ++ (between ++ (decimal n ++ []))) ≡ name ++ decimal first ++ between ++ decimal second
-two_fields name between m first n second same_first same_second =
-    ap₂ (λ (i j : ℕ). name ++ (decimal i ++ (between ++ (decimal j ++ [])))) same_first same_second
-    ∙ regroup_two name (decimal first) between (decimal second)
-
-regroup_function : (name kind between a delta b : List ℕ)
-    → name ++ (kind ++ (between ++ (a ++ (delta ++ (b ++ []))))) ≡ name ++ kind ++ between ++ a ++ delta ++ b
-regroup_function name kind between a delta b = simp (append_assoc, append-nil)
-
--- a function record
-pub function_fields : (kind : Kind) (m func n delta : ℕ) (word : List ℕ) → word ≡ kind_word kind → m ≡ func → n ≡ delta
-    → codes "function " ++ (word ++ (codes " " ++ (decimal m ++ (codes " delta " ++ (decimal n ++ []))))) ≡ record_text (Function kind func delta)
-function_fields kind m func n delta word same_word same_func same_delta =
-    ap (λ (w : List ℕ). codes "function " ++ (w ++ (codes " " ++ (decimal m ++ (codes " delta " ++ (decimal n ++ [])))))) same_word
-    ∙ (ap₂ (λ (i j : ℕ). codes "function " ++ (kind_word kind ++ (codes " " ++ (decimal i ++ (codes " delta " ++ (decimal j ++ [])))))) same_func same_delta
-    ∙ regroup_function (codes "function ") (kind_word kind) (codes " ") (decimal func) (codes " delta ") (decimal delta))

@@ -1,18 +1,20 @@
 //! Dumps of traces.
 
-ghost use Rattle.std.specs.{Prelude.{◌≡◌, ◌++◌, ℕ, [], Ok, decimal}, Option.{unwrap_or}};
+ghost use Rattle.std.specs.{Prelude.{◌≡◌, ℕ, [], Ok}, Option.{unwrap_or}};
 ghost use Rattle.fdr_file.specs.declared.trace.Trace.{Trace};
 ghost use Rattle.fdr_file.specs.{Prefixes.{IsReadable}, Traces.{record_in, trace_of}};
 ghost use Rattle.trace_words.specs.TraceWords.{trace_words};
-ghost use Rattle.xray_io.specs.{Piece.{piece_text}, Text.{AddsText}, Writes.{WritesText}};
-ghost use Rattle.trace_forms.specs.Dumps.{dump_text, fault_in as first_fault, header_line, kind_word, last_line, record_line, record_lines, record_text, standing_line};
+ghost use Rattle.xray_io.specs.{Text.{AddsText}, Writes.{WritesText}};
+ghost use Rattle.trace_forms.specs.Dumps.{dump_text, fault_in as first_fault, header_line, last_line, record_line, record_lines, standing_line};
 
+use crate::record_row::put_line;
 use crate::records::{record_len, record_of};
+use crate::row::Row;
 use fault_words::Fault;
 use fdr_file::{
     EventCursor, KeepNothing, TraceFault, TraceScan, a_file_is_read_by_records, readable,
 };
-use fdr_record::{Kind, Rec};
+use fdr_record::Rec;
 use trace_words::TraceRefusal;
 use xray_io::{Piece, Printed, Sink, Text, WriteFault, write_text};
 
@@ -40,7 +42,7 @@ impl Printed for DumpText<'_> {
         let prefix = &self.bytes[..self.end];
         add_header(to, prefix)?;
         add_records(to, prefix)?;
-        add_last(to, self.end, fault_in(self.bytes))
+        add_last(to, self.end, fault_after(self.bytes, self.end))
     }
 }
 
@@ -58,7 +60,19 @@ pub fn write_dump<S: Sink>(bytes: &[u8], sink: &mut S) -> Result<(), WriteFault>
     }
 }
 
-/// The first fault of bytes, if they aren't a trace.
+/// The first fault of bytes, if they aren't a trace. `end` is the length of their longest prefix that
+/// is one. If that is all of them, they aren't read again.
+fn fault_after(bytes: &[u8], end: usize) -> Option<TraceFault>
+    requires { IsReadable bytes.now end }
+    ensures { result ≡ first_fault bytes.now }
+{
+    if end == bytes.len() {
+        return None;
+    }
+    fault_in(bytes)
+}
+
+/// The same, of any bytes.
 fn fault_in(bytes: &[u8]) -> Option<TraceFault>
     ensures { result ≡ first_fault bytes.now }
 {
@@ -97,6 +111,7 @@ fn add_records<S: Sink>(text: &mut Text<S>, bytes: &[u8]) -> Result<(), WriteFau
 }
 
 /// Adds the line of what is at a place, if it is a record. `rest` has the bytes from there on.
+#[inline(always)]
 fn add_standing<S: Sink>(text: &mut Text<S>, at: usize, rest: &[u8]) -> Result<(), WriteFault>
     ensures { AddsText S.written S.faults S.along text.old text.new
         (standing_line (at, record_in rest.now)) result }
@@ -108,94 +123,14 @@ fn add_standing<S: Sink>(text: &mut Text<S>, at: usize, rest: &[u8]) -> Result<(
 }
 
 /// Adds the line of the record at a place.
+#[inline(always)]
 fn add_record<S: Sink>(text: &mut Text<S>, at: usize, rec: &Rec) -> Result<(), WriteFault>
     ensures { AddsText S.written S.faults S.along text.old text.new
         (record_line at rec.now) result }
 {
-    text.pieces(&[Piece::Number(at as u128), Piece::Bytes(b" ")])?;
-    add_fields(text, rec)?;
-    text.bytes(b"\n")
-}
-
-/// Adds the name of a record, and its fields.
-fn add_fields<S: Sink>(text: &mut Text<S>, rec: &Rec) -> Result<(), WriteFault>
-    ensures { AddsText S.written S.faults S.along text.old text.new (record_text rec.now) result }
-{
-    match *rec {
-        Rec::Extents { size } => add_field(text, b"extents ", size),
-        Rec::NewBuffer { thread } => add_field(text, b"new-buffer ", u64::from(thread)),
-        Rec::WallTime { wall } => add_fields_of(
-            text,
-            b"wall-time ",
-            wall.secs,
-            b".",
-            u64::from(wall.micros),
-        ),
-        Rec::Pid { pid } => add_field(text, b"pid ", u64::from(pid)),
-        Rec::NewCpu { cpu, tsc } => add_fields_of(text, b"new-cpu ", u64::from(cpu), b" ", tsc),
-        Rec::TscWrap { tsc } => add_field(text, b"tsc-wrap ", tsc),
-        Rec::CallArg { value } => add_field(text, b"call-argument ", value),
-        Rec::Function { kind, func, delta } => add_function(text, kind, func, delta),
-    }
-}
-
-/// Adds a name and a number.
-fn add_field<S: Sink>(text: &mut Text<S>, name: &[u8], number: u64) -> Result<(), WriteFault>
-    ensures { AddsText S.written S.faults S.along text.old text.new
-        (name.now ++ decimal number) result }
-{
-    text.pieces(&[Piece::Bytes(name), Piece::Number(u128::from(number))])
-}
-
-/// Adds a name and two numbers, with something between them.
-fn add_fields_of<'a, S: Sink>(
-    text: &mut Text<S>,
-    name: &'a [u8],
-    first: u64,
-    between: &'a [u8],
-    second: u64,
-) -> Result<(), WriteFault>
-    ensures { AddsText S.written S.faults S.along text.old text.new
-        (name.now ++ decimal first ++ between.now ++ decimal second) result }
-{
-    text.pieces(&[
-        Piece::Bytes(name),
-        Piece::Number(u128::from(first)),
-        Piece::Bytes(between),
-        Piece::Number(u128::from(second)),
-    ])
-}
-
-/// Adds a function record.
-fn add_function<S: Sink>(
-    text: &mut Text<S>,
-    kind: Kind,
-    func: u32,
-    delta: u32,
-) -> Result<(), WriteFault>
-    ensures { AddsText S.written S.faults S.along text.old text.new
-        (record_text (Rec.Function kind func delta)) result }
-{
-    text.pieces(&[
-        Piece::Bytes(b"function "),
-        word(kind),
-        Piece::Bytes(b" "),
-        Piece::Number(u128::from(func)),
-        Piece::Bytes(b" delta "),
-        Piece::Number(u128::from(delta)),
-    ])
-}
-
-/// The word for a kind of function records.
-fn word(kind: Kind) -> Piece<'static>
-    ensures { piece_text result ≡ kind_word kind }
-{
-    match kind {
-        Kind::Entry => Piece::Bytes(b"enter"),
-        Kind::Exit => Piece::Bytes(b"exit"),
-        Kind::TailExit => Piece::Bytes(b"tail-exit"),
-        Kind::EntryArgs => Piece::Bytes(b"enter-arg"),
-    }
+    let mut row = Row::new();
+    put_line(&mut row, at, rec);
+    text.bytes(row.as_slice())
 }
 
 /// Adds the last line: where the file ends, or where the prefix ends, and the fault of the file.

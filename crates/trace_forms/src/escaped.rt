@@ -1,13 +1,12 @@
 //! Names within the strings of JSON.
 
-ghost use Rattle.std.specs.{Prelude.{◌≡◌, ◌<◌, IfSome}, List.{list_all}, Option.{option_map, option_map_or}};
+ghost use Rattle.std.specs.{Prelude.{◌≡◌, ◌<◌, IfSome}, List.{list_all}, Option.{option_map_or}};
 ghost use Rattle.json.specs.Print.{escape, escape_byte, escape_letter as short_escape};
 ghost use Rattle.xray_io.specs.Text.{AddsText};
-ghost use Rattle.function_names.specs.Name.{name_in, name_text, number_text};
+ghost use Rattle.function_names.specs.Name.{naming, number_text, plain_name};
 ghost use Rattle.trace_forms.specs.private.Texts.{is_plain_byte};
 
-use function_names::add_name;
-use xray_image::Image;
+use function_names::{NameForm, Names, add_name};
 use xray_io::{Piece, Sink, Text, WriteFault};
 
 /// The first byte that may stand in a string as it is.
@@ -98,29 +97,14 @@ fn add_each<S: Sink>(text: &mut Text<S>, bytes: &[u8]) -> Result<(), WriteFault>
 /// Adds the name of the function with an id, as it stands in a string.
 pub(crate) fn add_escaped_name<S: Sink>(
     text: &mut Text<S>,
-    image: Option<&Image>,
+    names: Names,
     id: u32,
 ) -> Result<(), WriteFault>
     ensures { AddsText S.written S.faults S.along text.old text.new
-        (escape (name_text (option_map (λ image. image.now) image.entry) id)) result }
+        (escape (plain_name (naming names.entry) id)) result }
 {
-    match image {
-        Some(image) => add_escaped_name_in(text, image, id),
-        None => add_number(text, id),
-    }
-}
-
-/// Adds the name that a function has in an image, as it stands in a string.
-fn add_escaped_name_in<S: Sink>(
-    text: &mut Text<S>,
-    image: &Image,
-    id: u32,
-) -> Result<(), WriteFault>
-    ensures { AddsText S.written S.faults S.along text.old text.new
-        (escape (name_in image.now id)) result }
-{
-    match image.name_of(id) {
-        Some(name) => add_escaped(text, name.as_bytes()),
+    match names.name_of(id) {
+        Some(name) => add_escaped(text, name),
         None => add_number(text, id),
     }
 }
@@ -130,5 +114,5 @@ fn add_number<S: Sink>(text: &mut Text<S>, id: u32) -> Result<(), WriteFault>
     ensures { AddsText S.written S.faults S.along text.old text.new
         (escape (number_text id)) result }
 {
-    add_name(text, None, id)
+    add_name(text, Names::Ids, NameForm::Plain, id)
 }

@@ -8,7 +8,7 @@ ghost use Rattle.trace_forms.specs.BasicLogs.{wide_cpu as first_wide};
 use crate::basic_text::{add_log, find_wide};
 use crate::trace_events::add_events;
 use fdr_file::EventCursor;
-use xray_image::Image;
+use function_names::Names;
 use xray_io::{Printed, Sink, Text, WriteFault};
 
 /// The events of the trace that bytes read as, as the text that [`EventsText`](crate::EventsText)
@@ -19,21 +19,20 @@ use xray_io::{Printed, Sink, Text, WriteFault};
 pub struct EventsBytes<'a> {
     /// The bytes of the file.
     pub bytes: &'a [u8],
-    /// The image that names the functions of the events. If it has no name for one, or if there is no
-    /// image, the name is `#` and the id.
-    pub image: Option<&'a Image>,
+    /// What names the functions of the events. If a name isn't known, it is `#` and the id.
+    pub names: Names<'a>,
 }
 
 impl Printed for EventsBytes<'_> {
-    ghost use Rattle.std.specs.Option.{option_map};
+    ghost use Rattle.function_names.specs.Name.{naming};
     ghost use Rattle.trace_forms.specs.TraceEvents.{events_of_bytes};
 
-    ghost text = { λ t. events_of_bytes (option_map (λ image. image.now) t.image) t.bytes.now };
+    ghost text = { λ t. events_of_bytes (naming t.names) t.bytes.now };
 
     ghost ready = { λ t. ReadsAsTrace t.bytes.now };
 
     fn add_to<S: Sink>(&self, to: &mut Text<S>) -> Result<(), WriteFault> {
-        add_events(to, &mut EventCursor::new(self.bytes), self.image)
+        add_events(to, &mut EventCursor::new(self.bytes), self.names)
     }
 }
 

@@ -1,23 +1,35 @@
 //! Trace events as JSON.
 
-ghost use Rattle.std.specs.{Prelude.{◌≡◌, ◌+◌, ◌<◌, ◌↔◌, [], ⊤, Err, IfOk, IfSome, IsTrue, MatchBool, length}, Option.{option_map}};
+ghost use Rattle.std.specs.{Prelude.{◌≡◌, ◌+◌, ◌<◌, ◌≤◌, ◌↔◌, [], ◌++◌, ⊤, Err, IfOk, IfSome, IsTrue, MatchBool, length}, Option.{option_map}};
 ghost use Rattle.fdr_file.specs.ThreadEvents.{event_given, thread_events};
-ghost use Rattle.xray_io.specs.{Piece.{piece_text}, Text.{AddsText}};
+ghost use Rattle.function_names.specs.Name.{image_names, naming};
+ghost use Rattle.xray_io.specs.Text.{AddsText};
 ghost use Rattle.trace_forms.specs.TraceEvents.{events_text, most_events, phase_text, trace_events_text};
-ghost use Rattle.trace_forms.specs.private.Texts.{arg_shown, event_end, event_json, event_start, later_json, list_json, next_json};
+ghost use Rattle.trace_forms.specs.private.Texts.{arg_shown, arg_start, event_end, event_json, event_start, later_json, list_json};
 
 use crate::escaped::add_escaped_name;
 use crate::gathered::Gathered;
+use crate::row::{ROOM, Row};
 use crate::source::{EventSource, TraceCursor};
 use fdr_file::Trace;
 use fdr_record::{Event, Kind};
+use function_names::Names;
 use std::alloc::Global;
 use thiserror::Error;
 use xray_image::Image;
-use xray_io::{Piece, Printed, Sink, Text, WriteFault, write_text};
+use xray_io::{Printed, Sink, Text, WriteFault, write_text};
 
 /// The most events that a text of trace events may have.
 pub const MOST_EVENTS: u32 = 1_048_576;
+
+/// The length of the longest text between two objects.
+const MOST_BEFORE: usize = 1;
+
+/// The length of the longest start of an object up to the CPU of its event.
+const MOST_OF_ARG: usize = 43;
+
+/// The length of the letter for a kind of events.
+const MOST_OF_PHASE: usize = 1;
 
 /// Why a trace has no text of trace events.
 #[derive(Clone, Copy, Debug, PartialEq, Eq, Error)]
@@ -41,18 +53,17 @@ pub enum EventFault {
 pub struct EventsText<'a> {
     /// The trace.
     pub trace: &'a Trace,
-    /// The image that names the functions of the events. If it has no name for one, or if there is no
-    /// image, the name is `#` and the id.
-    pub image: Option<&'a Image>,
+    /// What names the functions of the events. If a name isn't known, it is `#` and the id.
+    pub names: Names<'a>,
 }
 
 impl Printed for EventsText<'_> {
-    ghost text = { λ t. trace_events_text (option_map (λ image. image.now) t.image) t.trace.now };
+    ghost text = { λ t. trace_events_text (naming t.names) t.trace.now };
 
     ghost ready = { λ _. ⊤ };
 
     fn add_to<S: Sink>(&self, to: &mut Text<S>) -> Result<(), WriteFault> {
-        add_events(to, &mut TraceCursor::new(self.trace), self.image)
+        add_events(to, &mut TraceCursor::new(self.trace), self.names)
     }
 }
 
@@ -87,14 +98,15 @@ pub fn event_text(
     image: Option<&Image>,
 ) -> Result<Vec<u8>, EventFault>
     ensures text { IfOk result (λ text. text.items
-        ≡ trace_events_text (option_map (λ image. image.now) image.entry) trace.now) }
+        ≡ trace_events_text (image_names (option_map (λ image. image.now) image.entry)) trace.now) }
     ensures many { (result ≡ Err EventFault.Many)
         ↔ (most_events < length (thread_events trace.now.blocks)) }
 {
     if has_too_many(&mut TraceCursor::new(trace)) {
         return Err(EventFault::Many);
     }
-    match gather(alloc, &EventsText { trace, image }) {
+    let names = Names::of_image(image);
+    match gather(alloc, &EventsText { trace, names }) {
         Some(text) => Ok(text),
         None => Err(EventFault::NoMemory),
     }
@@ -103,7 +115,7 @@ pub fn event_text(
 /// The text of these events, if memory isn't refused.
 fn gather(alloc: Global, events: &EventsText) -> Option<Vec<u8>>
     ensures { IfSome result (λ text. text.items
-        ≡ trace_events_text (option_map (λ image. image.now) events.now.image) events.now.trace.now) }
+        ≡ trace_events_text (naming events.now.names) events.now.trace.now) }
 {
     let mut sink = Gathered::new(alloc);
     match write_text(events, &mut sink) {
@@ -116,13 +128,13 @@ fn gather(alloc: Global, events: &EventsText) -> Option<Vec<u8>>
 pub(crate) fn add_events<S: Sink, E: EventSource>(
     text: &mut Text<S>,
     events: &mut E,
-    image: Option<&Image>,
+    names: Names,
 ) -> Result<(), WriteFault>
     ensures { AddsText S.written S.faults S.along text.old text.new
-        (events_text (option_map (λ image. image.now) image.entry) (E.left events.old)) result }
+        (events_text (naming names.entry) (E.left events.old)) result }
 {
     text.bytes(b"{\"traceEvents\":[")?;
-    add_list(text, events, image)?;
+    add_list(text, events, names)?;
     text.bytes(b"]}\n")
 }
 
@@ -130,16 +142,16 @@ pub(crate) fn add_events<S: Sink, E: EventSource>(
 fn add_list<S: Sink, E: EventSource>(
     text: &mut Text<S>,
     events: &mut E,
-    image: Option<&Image>,
+    names: Names,
 ) -> Result<(), WriteFault>
     ensures { AddsText S.written S.faults S.along text.old text.new
-        (list_json (option_map (λ image. image.now) image.entry) (E.left events.old)) result }
+        (list_json (naming names.entry) (E.left events.old)) result }
 {
     match events.next_event() {
         None => Ok(()),
         Some((thread, pid, event)) => {
-            add_event(text, image, thread, pid, &event)?;
-            add_later(text, events, image)
+            add_event(text, b"", names, thread, pid, &event)?;
+            add_later(text, events, names)
         }
     }
 }
@@ -148,80 +160,41 @@ fn add_list<S: Sink, E: EventSource>(
 fn add_later<S: Sink, E: EventSource>(
     text: &mut Text<S>,
     events: &mut E,
-    image: Option<&Image>,
+    names: Names,
 ) -> Result<(), WriteFault>
     ensures { AddsText S.written S.faults S.along text.old text.new
-        (later_json (option_map (λ image. image.now) image.entry) (E.left events.old)) result }
+        (later_json (naming names.entry) (E.left events.old)) result }
 {
     'objects: while let Some((thread, pid, event)) = events.next_event() {
-        add_next(text, image, thread, pid, &event)?;
+        add_event(text, b",", names, thread, pid, &event)?;
     }
     Ok(())
 }
 
-/// Adds the object of an event, with a comma before it.
-fn add_next<S: Sink>(
-    text: &mut Text<S>,
-    image: Option<&Image>,
-    thread: u32,
-    pid: u32,
-    event: &Event,
-) -> Result<(), WriteFault>
-    ensures { AddsText S.written S.faults S.along text.old text.new
-        (next_json (option_map (λ image. image.now) image.entry)
-        (event_given (thread, pid, event.now))) result }
-{
-    text.bytes(b",")?;
-    add_event(text, image, thread, pid, event)
-}
-
-/// Adds the object of an event.
+/// Adds the object of an event, after a comma or after nothing.
+#[inline(always)]
 fn add_event<S: Sink>(
     text: &mut Text<S>,
-    image: Option<&Image>,
+    before: &[u8],
+    names: Names,
     thread: u32,
     pid: u32,
     event: &Event,
 ) -> Result<(), WriteFault>
+    requires { length before.now ≤ MOST_BEFORE }
     ensures { AddsText S.written S.faults S.along text.old text.new
-        (event_json (option_map (λ image. image.now) image.entry)
+        (before.now ++ event_json (naming names.entry)
         (event_given (thread, pid, event.now))) result }
 {
-    add_start(text, event)?;
-    text.pieces(&[
-        Piece::Number(u128::from(event.cpu)),
-        Piece::Bytes(b",\"name\":\""),
-    ])?;
-    add_escaped_name(text, image, event.func)?;
+    let mut row = Row::new();
+    put_start(&mut row, before, event);
+    text.bytes(row.as_slice())?;
+    add_escaped_name(text, names, event.func)?;
     add_end(text, thread, pid, event)
 }
 
-/// Adds the object of an event up to its CPU. It begins with the argument, if the event logs one.
-fn add_start<S: Sink>(text: &mut Text<S>, event: &Event) -> Result<(), WriteFault>
-    ensures { AddsText S.written S.faults S.along text.old text.new
-        (event_start (arg_shown event.now.kind event.now.arg)) result }
-{
-    match arg_of(event) {
-        None => text.bytes(b"{\"cpu\":"),
-        Some(arg) => text.pieces(&[
-            Piece::Bytes(b"{\"args\":{\"arg\":"),
-            Piece::Number(u128::from(arg)),
-            Piece::Bytes(b"},\"cpu\":"),
-        ]),
-    }
-}
-
-/// The argument of an event, if it logs one.
-fn arg_of(event: &Event) -> Option<u64>
-    ensures { result ≡ arg_shown event.now.kind event.now.arg }
-{
-    match event.kind {
-        Kind::Entry | Kind::Exit | Kind::TailExit => None,
-        Kind::EntryArgs => Some(event.arg),
-    }
-}
-
 /// Adds the object of an event from the end of its name on.
+#[inline(always)]
 fn add_end<S: Sink>(
     text: &mut Text<S>,
     thread: u32,
@@ -231,25 +204,79 @@ fn add_end<S: Sink>(
     ensures { AddsText S.written S.faults S.along text.old text.new
         (event_end (event_given (thread, pid, event.now))) result }
 {
-    text.pieces(&[
-        Piece::Bytes(b"\",\"ph\":\""),
-        phase(event.kind),
-        Piece::Bytes(b"\",\"pid\":"),
-        Piece::Number(u128::from(pid)),
-        Piece::Bytes(b",\"tid\":"),
-        Piece::Number(u128::from(thread)),
-        Piece::Bytes(b",\"ts\":"),
-        Piece::Number(u128::from(event.tsc)),
-        Piece::Bytes(b"}"),
-    ])
+    let mut row = Row::new();
+    put_end(&mut row, thread, pid, event);
+    text.bytes(row.as_slice())
 }
 
-/// The letter for a kind of events: `B` begins a call, and `E` ends one.
-fn phase(kind: Kind) -> Piece<'static>
-    ensures { piece_text result ≡ phase_text kind }
+/// Puts the object of an event up to its name into an empty row, after a comma or after nothing.
+#[inline(always)]
+fn put_start(row: &mut Row, before: &[u8], event: &Event)
+    requires none { row.old ≡ [] }
+    requires few { length before.now ≤ MOST_BEFORE }
+    ensures { row.new ≡ before.now ++ event_start event.now }
+{
+    row.put(b",\"name\":\"");
+    row.put_number(u64::from(event.cpu));
+    put_arg(row, event);
+    row.put(before);
+}
+
+/// Puts the start of an object up to the CPU of its event before the row. It begins with the
+/// argument, if the event logs one.
+#[inline(always)]
+fn put_arg(row: &mut Row, event: &Event)
+    requires { MOST_OF_ARG + length row.old ≤ ROOM }
+    ensures text { row.new ≡ arg_start (arg_shown event.now.kind event.now.arg) ++ row.old }
+    ensures short { length row.new ≤ MOST_OF_ARG + length row.old }
+{
+    match arg_of(event) {
+        None => row.put(b"{\"cpu\":"),
+        Some(arg) => {
+            row.put(b"},\"cpu\":");
+            row.put_number(arg);
+            row.put(b"{\"args\":{\"arg\":");
+        }
+    }
+}
+
+/// The argument of an event, if it logs one.
+#[inline(always)]
+fn arg_of(event: &Event) -> Option<u64>
+    ensures { result ≡ arg_shown event.now.kind event.now.arg }
+{
+    match event.kind {
+        Kind::Entry | Kind::Exit | Kind::TailExit => None,
+        Kind::EntryArgs => Some(event.arg),
+    }
+}
+
+/// Puts the object of an event from the end of its name on into an empty row.
+#[inline(always)]
+fn put_end(row: &mut Row, thread: u32, pid: u32, event: &Event)
+    requires { row.old ≡ [] }
+    ensures { row.new ≡ event_end (event_given (thread, pid, event.now)) }
+{
+    row.put(b"}");
+    row.put_number(event.tsc);
+    row.put(b",\"ts\":");
+    row.put_number(u64::from(thread));
+    row.put(b",\"tid\":");
+    row.put_number(u64::from(pid));
+    row.put(b"\",\"pid\":");
+    put_phase(row, event.kind);
+    row.put(b"\",\"ph\":\"");
+}
+
+/// Puts the letter for a kind of events before the row: `B` begins a call, and `E` ends one.
+#[inline(always)]
+fn put_phase(row: &mut Row, kind: Kind)
+    requires { MOST_OF_PHASE + length row.old ≤ ROOM }
+    ensures text { row.new ≡ phase_text kind ++ row.old }
+    ensures short { length row.new ≤ MOST_OF_PHASE + length row.old }
 {
     match kind {
-        Kind::Entry | Kind::EntryArgs => Piece::Bytes(b"B"),
-        Kind::Exit | Kind::TailExit => Piece::Bytes(b"E"),
+        Kind::Entry | Kind::EntryArgs => row.put(b"B"),
+        Kind::Exit | Kind::TailExit => row.put(b"E"),
     }
 }

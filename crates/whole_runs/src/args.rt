@@ -103,7 +103,7 @@ fn either_handler_changes_between_two_loads_of_a_passing(rt: HostRuntime) -> Res
 }
 
 /// A function that logs its argument is called with 20 and with 7, and changes the register before it returns.
-const TWO_CALLS: &str =
+pub const TWO_CALLS: &str =
     "base 0x1000\nentry main\nfn main never\nmov edi, 20\ncall f\nmov edi, 7\ncall f\nret\n\
     fn f args\nmov edi, 9\nret\n";
 
@@ -113,7 +113,7 @@ const LARGEST: &str =
     fn f args\nret\n";
 
 /// Both handlers are set.
-const BOTH: &str = "patch\nset_handler\nset_arg_handler\ninit\ngo";
+pub const BOTH: &str = "patch\nset_handler\nset_arg_handler\ninit\ngo";
 
 /// An entry of function 1 at the first counter of a buffer, with an argument that follows, and one 3 cycles on.
 const ENTRY_ARGS: &[u8] = b"\x16\0\0\0\0\0\0\0";

@@ -4,7 +4,7 @@ use crate::runs::{
 };
 use std::test::Fail;
 
-const BAD_LINES: [&str; 59] = [
+const BAD_LINES: [&str; 69] = [
     // No words, and commands with too few or too many names, or with an output named twice.
     "",
     "sim i s",
@@ -66,11 +66,23 @@ const BAD_LINES: [&str; 59] = [
     "convert t --format flame",
     "convert t --format=yaml --format yaml",
     "convert",
+    // A sled map that names functions.
+    "account t i --map m",
+    "stack --map=m t i",
+    "convert t --map",
+    "convert t --map=m --map=m",
+    "extract i --map m",
+    "profile i s --map m",
     // `soak`.
     "soak",
     "soak x",
     "soak 18446744073709551616",
     "soak 1 2",
+    // `import`.
+    "import l",
+    "import l l",
+    "import l t u",
+    "import l t --map m",
 ];
 
 #[test]

@@ -46,8 +46,16 @@ const A: Input = (
     ],
 );
 
+/// A sled map that names function 1.
+const M: Input = (
+    "m",
+    &[
+        b"---\n- { id: 1, address: 0x1, function: 0x1, kind: function-enter, always-instrument: true, function-name: f }\n...\n",
+    ],
+);
+
 /// The commands. Another command is another row.
-const COMMANDS: [Command; 15] = [
+const COMMANDS: [Command; 17] = [
     Command {
         words: "asm x o",
         inputs: &[X],
@@ -104,6 +112,11 @@ const COMMANDS: [Command; 15] = [
         outputs: &[],
     },
     Command {
+        words: "stack t --map m",
+        inputs: &[("t", &RECURSION), M],
+        outputs: &[],
+    },
+    Command {
         words: "convert t i --format trace-event",
         inputs: &[("t", &ONE_CALL), I],
         outputs: &[],
@@ -123,6 +136,11 @@ const COMMANDS: [Command; 15] = [
         inputs: &[],
         outputs: &[],
     },
+    Command {
+        words: "import l t",
+        inputs: &[("l", &RECURSION)],
+        outputs: &["t"],
+    },
 ];
 
 /// What each output holds before, and a name that no command has.
@@ -139,6 +157,45 @@ struct Failing<'f> {
     desk: &'f [u64],
     out: &'f [u64],
     err: &'f [u64],
+}
+
+/// A device whose calls fail in turn.
+#[derive(Clone, Copy)]
+enum Device {
+    Desk,
+    Out,
+    Err,
+}
+
+/// The failures of these calls of a device. Calls of err fail beside them, or, for err itself, the first call of the desk and
+/// of out.
+fn failures_of<'f>(device: Device, calls: &'f [u64], of_err: &'f [u64]) -> Failing<'f> {
+    match device {
+        Device::Desk => Failing {
+            desk: calls,
+            out: &[],
+            err: of_err,
+        },
+        Device::Out => Failing {
+            desk: &[],
+            out: calls,
+            err: of_err,
+        },
+        Device::Err => Failing {
+            desk: &[0],
+            out: &[0],
+            err: calls,
+        },
+    }
+}
+
+/// Whether a call of a device failed.
+fn has_failed(device: Device, left: &Left) -> bool {
+    match device {
+        Device::Desk => left.desk.fault().is_some(),
+        Device::Out => left.out.has_failed(),
+        Device::Err => left.err.has_failed(),
+    }
 }
 
 /// What a run left, and its status.
@@ -301,99 +358,32 @@ fn tried<R: Abort + Threads + Wait + Sync + AllocGlobal>(
     Ok(left)
 }
 
-/// Fails each call of the desk in turn, until a run has no fault. Then the same with the next call
-/// and err failing too.
-fn try_each_desk_call<R: Abort + Threads + Wait + Sync + AllocGlobal>(
+/// Tries a command with the failures of each call in turn, until a call of the device that should have failed isn't made. Then
+/// the same with the next call and err failing too.
+fn try_each_call<R: Abort + Threads + Wait + Sync + AllocGlobal>(
     rt: &R,
     command: &Command,
     whole: &Whole,
+    device: Device,
 ) -> Result<(), Fail> {
     for call in 0..ENDLESS {
-        let one = Failing {
-            desk: &[call],
-            out: &[],
-            err: &[],
-        };
-        let two = Failing {
-            desk: &[call, call.saturating_add(1)],
-            out: &[],
-            err: &[0],
-        };
-        let left = tried(rt, command, whole, one)?;
-        tried(rt, command, whole, two)?;
-        if left.desk.fault().is_none() {
+        let left = tried(rt, command, whole, failures_of(device, &[call], &[]))?;
+        let two = [call, call.saturating_add(1)];
+        tried(rt, command, whole, failures_of(device, &two, &[0]))?;
+        if !has_failed(device, &left) {
             return Ok(());
         }
     }
-    Err("the calls of the desk have no end".into())
+    Err("the calls have no end".into())
 }
 
-/// The same with the calls of out.
-fn try_each_out_call<R: Abort + Threads + Wait + Sync + AllocGlobal>(
-    rt: &R,
-    command: &Command,
-    whole: &Whole,
-) -> Result<(), Fail> {
-    for call in 0..ENDLESS {
-        let one = Failing {
-            desk: &[],
-            out: &[call],
-            err: &[],
-        };
-        let two = Failing {
-            desk: &[],
-            out: &[call, call.saturating_add(1)],
-            err: &[0],
-        };
-        let left = tried(rt, command, whole, one)?;
-        tried(rt, command, whole, two)?;
-        if !left.out.has_failed() {
-            return Ok(());
+#[test]
+fn each_call_may_fail(rt: HostRuntime) -> Result<(), Fail> {
+    for command in &COMMANDS {
+        let whole = whole_of(&rt, command)?;
+        for device in &[Device::Desk, Device::Out, Device::Err] {
+            try_each_call(&rt, command, &whole, *device)?;
         }
-    }
-    Err("the calls of out have no end".into())
-}
-
-/// Fails each call of err in turn, while the first call of the desk or of out fails too.
-fn try_each_err_call<R: Abort + Threads + Wait + Sync + AllocGlobal>(
-    rt: &R,
-    command: &Command,
-    whole: &Whole,
-) -> Result<(), Fail> {
-    for call in 0..ENDLESS {
-        let failing = Failing {
-            desk: &[0],
-            out: &[0],
-            err: &[call],
-        };
-        let left = tried(rt, command, whole, failing)?;
-        if !left.err.has_failed() {
-            return Ok(());
-        }
-    }
-    Err("the calls of err have no end".into())
-}
-
-#[test]
-fn each_call_of_the_desk_may_fail(rt: HostRuntime) -> Result<(), Fail> {
-    for command in &COMMANDS {
-        try_each_desk_call(&rt, command, &whole_of(&rt, command)?)?;
-    }
-    Ok(())
-}
-
-#[test]
-fn each_call_of_out_may_fail(rt: HostRuntime) -> Result<(), Fail> {
-    for command in &COMMANDS {
-        try_each_out_call(&rt, command, &whole_of(&rt, command)?)?;
-    }
-    Ok(())
-}
-
-#[test]
-fn each_call_of_err_may_fail(rt: HostRuntime) -> Result<(), Fail> {
-    for command in &COMMANDS {
-        try_each_err_call(&rt, command, &whole_of(&rt, command)?)?;
     }
     Ok(())
 }

@@ -27,6 +27,8 @@ mod gate_calls;
 #[cfg(test)]
 mod gates;
 #[cfg(test)]
+mod imports;
+#[cfg(test)]
 mod pieces;
 #[cfg(test)]
 mod plain;
@@ -38,6 +40,8 @@ mod run;
 mod runs;
 #[cfg(test)]
 mod sim;
+#[cfg(test)]
+mod sled_maps;
 #[cfg(test)]
 mod soak;
 #[cfg(test)]

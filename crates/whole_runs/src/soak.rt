@@ -7,7 +7,7 @@ use std::thread::Threads;
 use xray_io::MemDesk;
 use xray_program::soak_inputs;
 
-/// What the model of `tools/soak_runs.py` prints for seed 1.
+/// What `tools/model/soak_model.py` says for seed 1.
 const SUMMARY_OF_1: &str = "soak 1\n\
     thread 1 returned passings 37324 recorded 402 first 0\n\
     thread 2 returned passings 37324 recorded 492 first 0\n\

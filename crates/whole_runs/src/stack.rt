@@ -22,7 +22,7 @@ const YAML_WITHOUT_PROCESS: &str = "---\nheader:\n  version: 2\n  type: 1\n  con
     - { type: 0, func-id: 1, function: 'main', cpu: 0, thread: 1, process: 0, kind: function-enter, tsc: 0 }\n  \
     - { type: 0, func-id: 1, function: 'main', cpu: 0, thread: 1, process: 0, kind: function-exit, tsc: 2 }\n...\n";
 
-/// The flame graph of no row, as `flame_model.py` has it.
+/// The flame graph of no row, as `tools/model/flame_model.py` has it.
 const PICTURE_OF_NONE: &str = "\
     <svg xmlns=\"http://www.w3.org/2000/svg\" width=\"1200\" height=\"80\" viewBox=\"0 0 1200 80\" \
     font-family=\"monospace\" font-size=\"12\">\n\

@@ -8,12 +8,19 @@ use Rattle.command_words.specs.declared.report_options.AccountOptions.{AccountOp
 use Rattle.command_words.specs.declared.report_options.ConvertFormat.{ConvertFormat}
 use Rattle.command_words.specs.declared.report_options.StackFormat.{StackFormat}
 use Rattle.command_words.specs.declared.run_options.Bounds.{Bounds}
-use Rattle.command_words.specs.Words.{Command, Sim, Run, Plain, Extract, Asm, Account, Stack, Convert, Dump, Check, Profile, Soak}
+use Rattle.command_words.specs.Words.{Command, Sim, Run, Plain, Extract, Asm, Account, Stack, Convert, Dump, Check, Profile, Soak, Import}
+use Rattle.command_words.specs.Reports.{NameSource, ByIds, ByImage, ByMap}
+use Rattle.function_names.specs.Name.{program_names}
+use Rattle.map_names.specs.FaultWords.{map_words}
+use Rattle.map_names.specs.Maps.{map_naming}
+use Rattle.map_names.specs.Naming.{Naming, no_names}
 use Rattle.machine_step.specs.declared.setup.Setup.{Setup}
 use Rattle.asm_text.specs.Assembling.{assembled}
 use Rattle.asm_text.specs.FaultWords.{asm_words}
 use Rattle.patch_script.specs.FaultWords.{script_words}
 use Rattle.patch_script.specs.Plans.{Plan, plan_of, waiting_line}
+use Rattle.runtime_log.specs.Facts.{facts_text}
+use Rattle.runtime_log.specs.declared.facts.Facts.{Facts}
 use Rattle.stack_rebuild.specs.FaultWords.{deep_words}
 use Rattle.stack_rebuild.specs.Stacks.{deep_in, most_open}
 use Rattle.step_sim.specs.FaultWords.{schedule_words, waits_words}
@@ -24,23 +31,23 @@ use Rattle.xray_image.specs.Program.{Program}
 use Rattle.trace_forms.specs.Dumps.{dump_text}
 use Rattle.xray_io.specs.Desk.{Entry, Absent, Holds}
 use Rattle.xray_io.specs.World.{World}
-use Rattle.xray_program.specs.Accepted.{AreAccepted, CountsNoFault, HoldsImage, HoldsInput, HoldsReport}
+use Rattle.xray_program.specs.Accepted.{AreAccepted, CountsNoFault, HoldsInput, HoldsNames, HoldsReport}
 use Rattle.xray_program.specs.Answers.{IsAnswer}
 use Rattle.xray_program.specs.Check.{Judges}
 use Rattle.xray_program.specs.Commands.{IsProfile, Means}
-use Rattle.xray_program.specs.Inputs.{Readable, audit_form, image_form, readable_form, schedule_form, schedule_limit, script_form, script_limit, text_form, text_limit, trace_form, unread_trace_form}
+use Rattle.xray_program.specs.Inputs.{Readable, audit_form, image_form, imported_form, map_form, map_limit, readable_form, schedule_form, schedule_limit, script_form, script_limit, text_form, text_limit, trace_form, unread_trace_form}
 use Rattle.xray_program.specs.Outcomes.{Outcome, Done, status_of}
 use Rattle.xray_program.specs.Account.{account_report}
 use Rattle.xray_program.specs.Convert.{ConvertsTo, converted, log_form, no_text_for}
 use Rattle.xray_program.specs.Plain.{PlainPrints}
 use Rattle.xray_program.specs.Profile.{Profiles}
-use Rattle.xray_program.specs.Reports.{TakeReport}
+use Rattle.xray_program.specs.Reports.{TakeNames, TakeReport}
 use Rattle.xray_program.specs.Run.{FollowsPlan}
 use Rattle.xray_program.specs.Setups.{setup_of}
 use Rattle.xray_program.specs.Sim.{Replayed, Replays}
 use Rattle.xray_program.specs.Soak.{IsSummary}
 use Rattle.xray_program.specs.Stack.{StacksCome, stacks_text}
-use Rattle.xray_program.specs.Taking.{Form, Leaves, Prints, RefuseIf, Sound, Take, TakeMaybe, ended_by}
+use Rattle.xray_program.specs.Taking.{Form, Leaves, Prints, RefuseIf, Sound, Take, ended_by}
 use Rattle.xray_program.specs.Traced.{Traces}
 use Rattle.xray_program.proofs.ConvertLaws.{converts_done}
 use Rattle.xray_program.proofs.DumpLaws.{readable_decided}
@@ -78,13 +85,13 @@ accepted_take : {X : Type 0} (form : Form X) → IsDecided form → (held : List
 accepted_take form is held name next value at done =
     accepted_leads (λ outcome. status_of outcome ≡ 0) form is held name next value at done
 
-accepted_maybe : IsDecided image_form → (held : List ℕ → Entry) (name : Option (List ℕ)) (next : Option Program → Outcome → Type 0)
-    (value : Option Program) → HoldsImage held name value → IsDone (next value) → IsDone (TakeMaybe image_form Sound held name next)
-accepted_maybe is held None next None at done = done
-accepted_maybe is held None next (Some program) at done = absurd at
-accepted_maybe is held (Some name) next None at done = absurd at
-accepted_maybe is held (Some name) next (Some program) at done =
-    accepted_take image_form is held name (λ v. next (Some v)) program at done
+accepted_names : IsDecided image_form → (held : List ℕ → Entry) (names : NameSource) (next : Naming → Outcome → Type 0)
+    → HoldsNames held names → ((naming : Naming) → IsDone (next naming)) → IsDone (TakeNames Sound held names next)
+accepted_names is held ByIds next at done = done no_names
+accepted_names is held (ByImage name) next (program, at) done =
+    accepted_take image_form is held name (λ p. next (program_names p)) program at (done (program_names program))
+accepted_names is held (ByMap name) next (naming, at) done =
+    accepted_take map_form (decided_by (codes "map") map_limit map_naming map_words) held name next naming at (done naming)
 
 -- what is left is done
 left_done : (Are : List (List ℕ × List ℕ) → List ℕ → Type 0) → IsDone (Leaves Are)
@@ -100,13 +107,12 @@ unrefused {L} words (Some refusal) name kind next none done = absurd (never refu
     never l e = cc
 
 -- a report whose inputs are accepted
-report_done : (form : Form Trace) → IsDecided form → IsDecided image_form → (held : List ℕ → Entry) (trace : List ℕ) (image : Option (List ℕ))
-    (Is : Trace → Type 0) (next : Trace → Option Program → Outcome → Type 0) → HoldsReport form held trace image Is
-    → ((t : Trace) (program : Option Program) → Is t → IsDone (next t program)) → IsDone (TakeReport form Sound held trace image next)
-report_done form of_trace is held trace image Is next (t, program, at, of_image, so) done =
-    accepted_take form of_trace held trace
-    (λ u. TakeMaybe image_form Sound held image (λ p. next u p)) t at
-    (accepted_maybe is held image (λ p. next t p) program of_image (done t program so))
+report_done : (form : Form Trace) → IsDecided form → IsDecided image_form → (held : List ℕ → Entry) (trace : List ℕ) (names : NameSource)
+    (Is : Trace → Type 0) (next : Trace → Naming → Outcome → Type 0) → HoldsReport form held trace names Is
+    → ((t : Trace) (naming : Naming) → Is t → IsDone (next t naming)) → IsDone (TakeReport form Sound held trace names next)
+report_done form of_trace is held trace names Is next (t, at, of_names, so) done =
+    accepted_take form of_trace held trace (λ u. TakeNames Sound held names (next u)) t at
+    (accepted_names is held names (next t) of_names (λ naming. done t naming so))
 
 -- what is left once all was written: nothing was wrong, or something was
 abbrev IsDoneOrFell : Outcome → Type 0
@@ -124,6 +130,9 @@ EndsWell _ comes = IsDone comes
 
 -- what follows the inputs of a command
 
+abbrev import_next : List ℕ → List ℕ × Facts → Outcome → Type 0
+import_next trace made outcome = outcome ≡ Done ((trace, made.0) ∷ []) (facts_text made.1)
+
 abbrev sim_next : (s t a : List ℕ) → Setup → Program → Plan → List Turns → Outcome → Type 0
 sim_next s t a setup program plan turns = Leaves (Traces (Replayed program plan turns setup) program setup t a)
 
@@ -139,14 +148,14 @@ extract_next program outcome = outcome ≡ Done [] (extract_text program)
 abbrev asm_next : List ℕ → List ℕ → Outcome → Type 0
 asm_next image file outcome = outcome ≡ Done ((image, file) ∷ []) []
 
-abbrev account_next : AccountOptions → Trace → Option Program → Outcome → Type 0
-account_next options t program outcome = outcome ≡ Done [] (account_report options t program)
+abbrev account_next : AccountOptions → Trace → Naming → Outcome → Type 0
+account_next options t naming outcome = outcome ≡ Done [] (account_report options t naming)
 
-abbrev stack_next : StackFormat → Trace → Option Program → Outcome → Type 0
-stack_next format t program outcome = outcome ≡ Done [] (stacks_text format program t)
+abbrev stack_next : StackFormat → Trace → Naming → Outcome → Type 0
+stack_next format t naming outcome = outcome ≡ Done [] (stacks_text format naming t)
 
-abbrev convert_next : ConvertFormat → Trace → Option Program → Outcome → Type 0
-convert_next format t program outcome = outcome ≡ Done [] (converted format program t)
+abbrev convert_next : ConvertFormat → Trace → Naming → Outcome → Type 0
+convert_next format t naming outcome = outcome ≡ Done [] (converted format naming t)
 
 abbrev dump_next : Readable → Outcome → Type 0
 dump_next t outcome = outcome ≡ Done [] (dump_text t.bytes t.len)
@@ -166,9 +175,9 @@ check_script held s t program statement =
 abbrev check_audit : (List ℕ → Entry) → (s t a : List ℕ) → Program → Outcome → Type 0
 check_audit held s t a program = Take audit_form Sound held a (λ statement. check_script held s t program statement)
 
-accepted_done : IsDecided image_form → IsDecided audit_form → (held : List ℕ → Entry) (command : Command) → AreAccepted held command
+accepted_done : IsDecided image_form → IsDecided audit_form → IsDecided imported_form → (held : List ℕ → Entry) (command : Command) → AreAccepted held command
     → EndsWell command (Means (Some command) held)
-accepted_done is audits held (Sim i s c t a options) (program, plan, turns, at, of_script, of_schedule, still) =
+accepted_done is audits logs held (Sim i s c t a options) (program, plan, turns, at, of_script, of_schedule, still) =
     let setup = setup_of options in
     accepted_take image_form is held i
     (λ p. Take (script_form p setup.threads) Sound held s (λ l. Take (schedule_form setup.threads) Sound held c (Replays s t a setup p l))) program at
@@ -178,29 +187,29 @@ accepted_done is audits held (Sim i s c t a options) (program, plan, turns, at, 
     (Replays s t a setup program plan) turns of_schedule
     (unrefused waits_words (waiting_line plan.lines) s (codes "script") (sim_next s t a setup program plan turns) still
     (left_done (Traces (Replayed program plan turns setup) program setup t a)))))
-accepted_done is audits held (Run i s t a options) (program, plan, at, of_script) =
+accepted_done is audits logs held (Run i s t a options) (program, plan, at, of_script) =
     let setup = setup_of options in
     accepted_take image_form is held i (λ p. Take (script_form p setup.threads) Sound held s (λ l. run_next t a setup p l)) program at
     (accepted_take (script_form program setup.threads) (decided_by (codes "script") script_limit (plan_of program setup.threads) script_words) held s
     (λ l. run_next t a setup program l) plan of_script (left_done (Traces (FollowsPlan setup program plan) program setup t a)))
-accepted_done is audits held (Plain i bounds) (program, at) =
+accepted_done is audits logs held (Plain i bounds) (program, at) =
     accepted_take image_form is held i (plain_next bounds) program at (left_done (λ outputs text. (outputs ≡ []) × PlainPrints program bounds text))
-accepted_done is audits held (Extract i) (program, at) = accepted_take image_form is held i extract_next program at (λ outcome same. ap status_of same)
-accepted_done is audits held (Asm t i threshold relative) (file, at) =
+accepted_done is audits logs held (Extract i) (program, at) = accepted_take image_form is held i extract_next program at (λ outcome same. ap status_of same)
+accepted_done is audits logs held (Asm t i threshold relative) (file, at) =
     accepted_take (text_form threshold relative) (decided_by (codes "text") text_limit (λ bytes. assembled bytes threshold relative) asm_words) held t (asm_next i) file at
     (λ outcome same. ap status_of same)
-accepted_done is audits held (Account t i options) at =
-    report_done trace_form trace_decided is held t i (λ u. ⊤) (account_next options) at (λ u program so outcome same. ap status_of same)
-accepted_done is audits held (Stack t i format) at =
-    report_done trace_form trace_decided is held t i (λ u. deep_in most_open u.blocks ≡ None) (λ u program. StacksCome t format u program) at
-    (λ u program shallow. unrefused deep_words (deep_in most_open u.blocks) t (codes "trace") (stack_next format u program) shallow
+accepted_done is audits logs held (Account t names options) at =
+    report_done trace_form trace_decided is held t names (λ u. ⊤) (account_next options) at (λ u naming so outcome same. ap status_of same)
+accepted_done is audits logs held (Stack t names format) at =
+    report_done trace_form trace_decided is held t names (λ u. deep_in most_open u.blocks ≡ None) (λ u naming. StacksCome t format u naming) at
+    (λ u naming shallow. unrefused deep_words (deep_in most_open u.blocks) t (codes "trace") (stack_next format u naming) shallow
     (λ outcome same. ap status_of same))
-accepted_done is audits held (Convert t i options) at =
-    report_done (log_form options.input) (log_decided options.input) is held t i (λ u. no_text_for options.format u ≡ None)
+accepted_done is audits logs held (Convert t names options) at =
+    report_done (log_form options.input) (log_decided options.input) is held t names (λ u. no_text_for options.format u ≡ None)
     (ConvertsTo t options.format) at
-    (λ u program none outcome comes. ap status_of (converts_done t options.format u program outcome none comes))
-accepted_done is audits held (Dump t) (file, at) = accepted_take readable_form readable_decided held t dump_next file at (λ outcome same. ap status_of same)
-accepted_done is audits held (Check i s t a) (program, statement, plan, bytes, at, of_audit, of_script, of_trace) =
+    (λ u naming none outcome comes. ap status_of (converts_done t options.format u naming outcome none comes))
+accepted_done is audits logs held (Dump t) (file, at) = accepted_take readable_form readable_decided held t dump_next file at (λ outcome same. ap status_of same)
+accepted_done is audits logs held (Check i s t a) (program, statement, plan, bytes, at, of_audit, of_script, of_trace) =
     let threads : ℕ = statement.setup.threads in
     accepted_take image_form is held i (check_audit held s t a) program at
     (accepted_take audit_form audits held a (check_script held s t program) statement of_audit
@@ -208,12 +217,14 @@ accepted_done is audits held (Check i s t a) (program, statement, plan, bytes, a
     (check_trace held t program statement) plan of_script
     (accepted_take unread_trace_form (any_decided (codes "trace") trace_limit) held t (λ b. Judges program plan statement b) bytes of_trace
     (judged_done program plan statement bytes))))
-accepted_done is audits held (Profile i s options) (program, plan, at, of_script) =
+accepted_done is audits logs held (Profile i s options) (program, plan, at, of_script) =
     let threads = options.bounds.threads in
     accepted_leads IsDoneOrFell image_form is held i (λ p. Take (script_form p threads) Sound held s (Profiles options p)) program at
     (accepted_leads IsDoneOrFell (script_form program threads) (decided_by (codes "script") script_limit (plan_of program threads) script_words) held s
     (Profiles options program) plan of_script (λ outcome comes. ended_well _ _ _ outcome comes.2))
-accepted_done is audits held (Soak number) at = left_done (λ outputs text. (outputs ≡ []) × IsSummary number text)
+accepted_done is audits logs held (Soak number) at = left_done (λ outputs text. (outputs ≡ []) × IsSummary number text)
+accepted_done is audits logs held (Import log trace) (made, at) =
+    accepted_take imported_form logs held log (import_next trace) made at (λ outcome same. ap status_of same)
 
 -- so the status is 0, or it is the 7 of a profile
 well : (command : Command) (held : List ℕ → Entry) (outcome : Outcome) → EndsWell command (Means (Some command) held) → Means (Some command) held outcome
@@ -223,9 +234,9 @@ well (Run i s t a options) held outcome ends is = inl (ends outcome is)
 well (Plain i bounds) held outcome ends is = inl (ends outcome is)
 well (Extract i) held outcome ends is = inl (ends outcome is)
 well (Asm t i threshold relative) held outcome ends is = inl (ends outcome is)
-well (Account t i options) held outcome ends is = inl (ends outcome is)
-well (Stack t i format) held outcome ends is = inl (ends outcome is)
-well (Convert t i options) held outcome ends is = inl (ends outcome is)
+well (Account t names options) held outcome ends is = inl (ends outcome is)
+well (Stack t names format) held outcome ends is = inl (ends outcome is)
+well (Convert t names options) held outcome ends is = inl (ends outcome is)
 well (Dump t) held outcome ends is = inl (ends outcome is)
 well (Check i s t a) held outcome ends is = inl (ends outcome is)
 well (Profile i s options) held outcome ends is = elim (ends outcome is) [
@@ -233,19 +244,20 @@ well (Profile i s options) held outcome ends is = elim (ends outcome is) [
   | inr fell ↦ inr (fell, (i, s, options, refl))
 ]
 well (Soak number) held outcome ends is = inl (ends outcome is)
+well (Import log trace) held outcome ends is = inl (ends outcome is)
 
-pub done_or_memory : IsDecided image_form → IsDecided audit_form → (command : Command) (before after : World) (status : ℕ) → AreAccepted before.desk.held command
+pub done_or_memory : IsDecided image_form → IsDecided audit_form → IsDecided imported_form → (command : Command) (before after : World) (status : ℕ) → AreAccepted before.desk.held command
     → CountsNoFault before after → IsAnswer (Some command) before after status
     → (status ≡ 0) ⊎ (status ≡ 5) ⊎ ((status ≡ 7) × IsProfile command)
-done_or_memory is audits command before after status accepted calm (inl (outcome, meant, same)) =
-    elim (well command before.desk.held outcome (accepted_done is audits before.desk.held command accepted) meant) [
+done_or_memory is audits logs command before after status accepted calm (inl (outcome, meant, same)) =
+    elim (well command before.desk.held outcome (accepted_done is audits logs before.desk.held command accepted) meant) [
       | inl done ↦ inl (sym same ∙ done)
       | inr (seven, of_profile) ↦ inr (inr (sym same ∙ seven, of_profile))
     ]
-done_or_memory is audits command before after status accepted calm (inr (inl memory)) = inr (inl memory)
-done_or_memory is audits command before after status accepted calm (inr (inr (inl (three, rose)))) = absurd (calm.reads rose)
-done_or_memory is audits command before after status accepted calm (inr (inr (inr (four, inl rose)))) = absurd (calm.writes rose)
-done_or_memory is audits command before after status accepted calm (inr (inr (inr (four, inr rose)))) = absurd (calm.out rose)
+done_or_memory is audits logs command before after status accepted calm (inr (inl memory)) = inr (inl memory)
+done_or_memory is audits logs command before after status accepted calm (inr (inr (inl (three, rose)))) = absurd (calm.reads rose)
+done_or_memory is audits logs command before after status accepted calm (inr (inr (inr (four, inl rose)))) = absurd (calm.writes rose)
+done_or_memory is audits logs command before after status accepted calm (inr (inr (inr (four, inr rose)))) = absurd (calm.out rose)
 
 -- ---- none but those of a profile have status 7
 
@@ -264,10 +276,11 @@ take_not_7 form held name next later outcome (inr (bytes, may, inr (within, inl 
     other_status outcome _ 2 is refl (λ e. omega arith)
 take_not_7 form held name next later outcome (inr (bytes, may, inr (within, inr (value, reads, comes)))) = later value outcome comes
 
-maybe_not_7 : (held : List ℕ → Entry) (name : Option (List ℕ)) (next : Option Program → Outcome → Type 0)
-    → ((value : Option Program) → IsNot7 (next value)) → IsNot7 (TakeMaybe image_form Sound held name next)
-maybe_not_7 held None next later = later None
-maybe_not_7 held (Some name) next later = take_not_7 image_form held name (λ v. next (Some v)) (λ v. later (Some v))
+names_not_7 : (held : List ℕ → Entry) (names : NameSource) (next : Naming → Outcome → Type 0)
+    → ((naming : Naming) → IsNot7 (next naming)) → IsNot7 (TakeNames Sound held names next)
+names_not_7 held ByIds next later = later no_names
+names_not_7 held (ByImage name) next later = take_not_7 image_form held name (λ p. next (program_names p)) (λ p. later (program_names p))
+names_not_7 held (ByMap name) next later = take_not_7 map_form held name next later
 
 done_not_7 : (comes : Outcome → Type 0) → IsDone comes → IsNot7 comes
 done_not_7 comes done outcome is seven = let zero_is : ◌≡◌ {A = ℕ} 0 7 = sym (done outcome is) ∙ seven in omega arith
@@ -276,11 +289,10 @@ refused_not_7 : (reason : Option (List ℕ)) (name kind : List ℕ) (next : Outc
 refused_not_7 None name kind next later outcome is = later outcome is
 refused_not_7 (Some refusal) name kind next later outcome is = other_status outcome _ 2 is refl (λ e. omega arith)
 
-report_not_7 : (form : Form Trace) (held : List ℕ → Entry) (trace : List ℕ) (image : Option (List ℕ)) (next : Trace → Option Program → Outcome → Type 0)
-    → ((t : Trace) (program : Option Program) → IsNot7 (next t program)) → IsNot7 (TakeReport form Sound held trace image next)
-report_not_7 form held trace image next later =
-    take_not_7 form held trace (λ t. TakeMaybe image_form Sound held image (λ p. next t p))
-    (λ t. maybe_not_7 held image (λ p. next t p) (later t))
+report_not_7 : (form : Form Trace) (held : List ℕ → Entry) (trace : List ℕ) (names : NameSource) (next : Trace → Naming → Outcome → Type 0)
+    → ((t : Trace) (naming : Naming) → IsNot7 (next t naming)) → IsNot7 (TakeReport form Sound held trace names next)
+report_not_7 form held trace names next later =
+    take_not_7 form held trace (λ t. TakeNames Sound held names (next t)) (λ t. names_not_7 held names (next t) (later t))
 
 abbrev OnlyProfiles7 : Command → (Outcome → Type 0) → Type 0
 OnlyProfiles7 (Profile image script options) comes = Unit {0}
@@ -306,16 +318,16 @@ not_7 held (Plain i bounds) =
 not_7 held (Extract i) = take_not_7 image_form held i extract_next (λ p. done_not_7 (extract_next p) (λ outcome same. ap status_of same))
 not_7 held (Asm t i threshold relative) =
     take_not_7 (text_form threshold relative) held t (asm_next i) (λ file. done_not_7 (asm_next i file) (λ outcome same. ap status_of same))
-not_7 held (Account t i options) =
-    report_not_7 trace_form held t i (account_next options) (λ u program. done_not_7 (account_next options u program) (λ outcome same. ap status_of same))
-not_7 held (Stack t i format) =
-    report_not_7 trace_form held t i (λ u program. StacksCome t format u program)
-    (λ u program. refused_not_7 (option_map deep_words (deep_in most_open u.blocks)) t (codes "trace") (stack_next format u program)
-    (done_not_7 (stack_next format u program) (λ outcome same. ap status_of same)))
-not_7 held (Convert t i options) =
-    report_not_7 (log_form options.input) held t i (ConvertsTo t options.format)
-    (λ u program. refused_not_7 (no_text_for options.format u) t (codes "trace") (convert_next options.format u program)
-    (done_not_7 (convert_next options.format u program) (λ outcome same. ap status_of same)))
+not_7 held (Account t names options) =
+    report_not_7 trace_form held t names (account_next options) (λ u naming. done_not_7 (account_next options u naming) (λ outcome same. ap status_of same))
+not_7 held (Stack t names format) =
+    report_not_7 trace_form held t names (λ u naming. StacksCome t format u naming)
+    (λ u naming. refused_not_7 (option_map deep_words (deep_in most_open u.blocks)) t (codes "trace") (stack_next format u naming)
+    (done_not_7 (stack_next format u naming) (λ outcome same. ap status_of same)))
+not_7 held (Convert t names options) =
+    report_not_7 (log_form options.input) held t names (ConvertsTo t options.format)
+    (λ u naming. refused_not_7 (no_text_for options.format u) t (codes "trace") (convert_next options.format u naming)
+    (done_not_7 (convert_next options.format u naming) (λ outcome same. ap status_of same)))
 not_7 held (Dump t) = take_not_7 readable_form held t dump_next (λ file. done_not_7 (dump_next file) (λ outcome same. ap status_of same))
 not_7 held (Check i s t a) =
     take_not_7 image_form held i (check_audit held s t a)
@@ -326,6 +338,8 @@ not_7 held (Check i s t a) =
 not_7 held (Profile i s options) = tt
 not_7 held (Soak number) =
     done_not_7 (λ outcome. Means (Some (Soak number)) held outcome) (left_done (λ outputs text. (outputs ≡ []) × IsSummary number text))
+not_7 held (Import log trace) =
+    take_not_7 imported_form held log (import_next trace) (λ made. done_not_7 (import_next trace made) (λ outcome same. ap status_of same))
 
 seven : (command : Command) (held : List ℕ → Entry) (outcome : Outcome) → OnlyProfiles7 command (Means (Some command) held)
     → Means (Some command) held outcome → status_of outcome ≡ 7 → IsProfile command
@@ -334,13 +348,14 @@ seven (Run i s t a options) held outcome not is e = absurd (not outcome is e)
 seven (Plain i bounds) held outcome not is e = absurd (not outcome is e)
 seven (Extract i) held outcome not is e = absurd (not outcome is e)
 seven (Asm t i threshold relative) held outcome not is e = absurd (not outcome is e)
-seven (Account t i options) held outcome not is e = absurd (not outcome is e)
-seven (Stack t i format) held outcome not is e = absurd (not outcome is e)
-seven (Convert t i options) held outcome not is e = absurd (not outcome is e)
+seven (Account t names options) held outcome not is e = absurd (not outcome is e)
+seven (Stack t names format) held outcome not is e = absurd (not outcome is e)
+seven (Convert t names options) held outcome not is e = absurd (not outcome is e)
 seven (Dump t) held outcome not is e = absurd (not outcome is e)
 seven (Check i s t a) held outcome not is e = absurd (not outcome is e)
 seven (Profile i s options) held outcome not is e = (i, s, options, refl)
 seven (Soak number) held outcome not is e = absurd (not outcome is e)
+seven (Import log trace) held outcome not is e = absurd (not outcome is e)
 
 pub only_profiles_fall : (said : Option Command) (held : List ℕ → Entry) (outcome : Outcome) → Means said held outcome → status_of outcome ≡ 7
     → (command : Command) × (said ≡ Some command) × IsProfile command

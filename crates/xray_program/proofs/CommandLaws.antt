@@ -1,16 +1,17 @@
 -- What words mean: only one thing if they are decided, a refusal and nothing else, and something in any case. Each
 -- command has a line.
-use Rattle.std.proofs.Common.{◌≡◌, ◌∙◌, ℕ, List, [], ◌∷◌, map, Option, Some, None, true, codes, refl, sym}
+use Rattle.std.proofs.Common.{◌≡◌, ◌∙◌, ◌++◌, ℕ, List, [], ◌∷◌, map, Option, Some, None, true, codes, refl, sym}
 use Rattle.std.specs.Prelude.{IsPermutation}
 use Rattle.std.proofs.lemmas.List.Sorted.{IsPermutation-cons, IsPermutation-refl, IsPermutation-to_front}
-use Rattle.command_words.specs.Files.{AreOfTheirRows, inputs_in, names_of, row_of}
+use Rattle.command_words.specs.Files.{AreOfTheirRows, inputs_in, names_given, names_of, row_of}
+use Rattle.command_words.specs.Reports.{ByIds, ByImage, ByMap}
 use Rattle.xray_io.specs.Desk.{Entry}
 use Rattle.xray_io.specs.declared.wall.Wall.{Wall}
 use Rattle.xray_program.specs.Commands.{Comes, IsDecided, IsStill, Means, TellsAll, inputs_of, is_decided}
 use Rattle.xray_program.specs.Outcomes.{Outcome, BadLine, written_by}
 use Rattle.xray_program.specs.Setups.{setup_of}
 use Rattle.xray_program.specs.Taking.{Sound}
-use Rattle.command_words.specs.Words.{Command, Sim, Run, Plain, Extract, Asm, Account, Stack, Convert, Dump, Check, Profile, Soak, reading}
+use Rattle.command_words.specs.Words.{Command, Sim, Run, Plain, Extract, Asm, Account, Stack, Convert, Dump, Check, Profile, Soak, Import, reading}
 use Rattle.xray_program.proofs.AccountLaws.{account_alone, account_some}
 use Rattle.xray_program.proofs.AsmLaws.{asm_alone, asm_some}
 use Rattle.xray_program.proofs.Audits.{OneReading, SomeReading}
@@ -18,7 +19,10 @@ use Rattle.xray_program.proofs.CheckLaws.{OneJudgement, SomeJudgement, check_alo
 use Rattle.xray_program.proofs.ConvertLaws.{convert_alone, convert_some}
 use Rattle.xray_program.proofs.DumpLaws.{dump_alone, dump_some}
 use Rattle.xray_program.proofs.ExtractLaws.{extract_alone, extract_some}
+use Rattle.runtime_log.specs.Laws.{OneImport, SomeImport}
 use Rattle.xray_program.proofs.Images.{Accepts, OneVerdict, SomeVerdict, image_decided, image_judged}
+use Rattle.xray_program.proofs.ImportLaws.{import_alone, import_some}
+use Rattle.xray_program.proofs.Logs.{imported_decided, imported_judged}
 use Rattle.xray_program.proofs.Meanings.{AnyOutcome, HoldsBytes, IsAlone, IsRefusal, SomeOutcome, refusal_alone}
 use Rattle.xray_program.proofs.PlainLaws.{OneEnd, SomeEnd, plain_alone, plain_some}
 use Rattle.xray_program.proofs.ProfileLaws.{profile_refuses, profile_some}
@@ -36,6 +40,7 @@ pub record Laws : Type 0 where
   pub run : OneRun
   pub audit : OneReading
   pub judged : OneJudgement
+  pub imports : OneImport
 
 pub record Existence : Type 0 where
   pub verdict : SomeVerdict
@@ -48,6 +53,7 @@ pub record Existence : Type 0 where
   pub drawn : DrawnLaws
   pub audit : SomeReading
   pub judged : SomeJudgement
+  pub imports : SomeImport
 
 -- ---- a line for each command
 
@@ -66,6 +72,7 @@ command_alone laws held told (Dump t) decided = dump_alone held t told
 command_alone laws held told (Check i s t a) decided = check_alone (image_decided laws.verdict laws.accepts) laws.audit laws.judged held i s t a told
 command_alone laws held told (Profile i s options) decided = absurd cc
 command_alone laws held told (Soak number) decided = soak_alone (image_decided laws.verdict laws.accepts) laws.run number
+command_alone laws held told (Import log trace) decided = import_alone (imported_decided laws.imports) held log trace told
 
 -- if a refusal comes of a command, nothing else does
 command_refuses : Laws → (held : List ℕ → Entry) → TellsAll held → (command : Command) → IsAlone IsRefusal (Comes Sound held command)
@@ -81,6 +88,7 @@ command_refuses laws held told (Dump t) = refusal_alone _ (command_alone laws he
 command_refuses laws held told (Check i s t a) = refusal_alone _ (command_alone laws held told (Check i s t a) refl)
 command_refuses laws held told (Profile i s options) = profile_refuses (image_decided laws.verdict laws.accepts) held i s options told
 command_refuses laws held told (Soak number) = refusal_alone _ (command_alone laws held told (Soak number) refl)
+command_refuses laws held told (Import log trace) = refusal_alone _ (command_alone laws held told (Import log trace) refl)
 
 -- each command comes to something
 command_some : Existence → (held : List ℕ → Entry) → TellsAll held → HoldsBytes held → (command : Command) → SomeOutcome (Comes Sound held command)
@@ -97,6 +105,7 @@ command_some laws held told holds (Check i s t a) = check_some (image_judged law
 command_some laws held told holds (Profile i s options) =
     profile_some (image_judged laws.verdict laws.accepts) (some_runs laws.end laws.lets laws.marks laws.losses) held i s options told holds
 command_some laws held told holds (Soak number) = soak_some laws.run laws.drawn number
+command_some laws held told holds (Import log trace) = import_some (imported_judged laws.imports) held log trace told holds
 
 -- only `run` and `profile` may wait
 pub still_by_word : AreOfTheirRows → (wall : Wall) (word : List ℕ) (words : List (List ℕ)) → (word ≡ codes "run" → ⊥)
@@ -110,13 +119,14 @@ still_by_word rows wall word words other another = by_said (reading wall (word �
     by_said (Some (Plain image bounds)) is = refl
     by_said (Some (Extract image)) is = refl
     by_said (Some (Asm text image threshold relative)) is = refl
-    by_said (Some (Account trace image options)) is = refl
-    by_said (Some (Stack trace image format)) is = refl
-    by_said (Some (Convert trace image options)) is = refl
+    by_said (Some (Account trace names options)) is = refl
+    by_said (Some (Stack trace names format)) is = refl
+    by_said (Some (Convert trace names options)) is = refl
     by_said (Some (Dump trace)) is = refl
     by_said (Some (Check image script trace audit)) is = refl
     by_said (Some (Profile image script options)) is = absurd (another (rows wall word words (Profile image script options) is).word_is)
     by_said (Some (Soak number)) is = refl
+    by_said (Some (Import log trace)) is = refl
 
 -- ---- words
 
@@ -144,19 +154,23 @@ audit_first image script trace audit =
 
 -- the inputs are those of the row, and but for `check` in its order
 pub inputs_of_row : (command : Command)
-    → IsPermutation (inputs_in (row_of command).files (names_of command)) (map (λ input. input.0) (inputs_of command))
+    → IsPermutation (inputs_in (row_of command).files (names_of command) ++ names_given command) (map (λ input. input.0) (inputs_of command))
 inputs_of_row (Sim i s c t a options) = IsPermutation-refl (i ∷ s ∷ c ∷ [])
 inputs_of_row (Run i s t a options) = IsPermutation-refl (i ∷ s ∷ [])
 inputs_of_row (Plain i bounds) = IsPermutation-refl (i ∷ [])
 inputs_of_row (Extract i) = IsPermutation-refl (i ∷ [])
 inputs_of_row (Asm t i threshold relative) = IsPermutation-refl (t ∷ [])
-inputs_of_row (Account t None options) = IsPermutation-refl (t ∷ [])
-inputs_of_row (Account t (Some i) options) = IsPermutation-refl (t ∷ i ∷ [])
-inputs_of_row (Stack t None format) = IsPermutation-refl (t ∷ [])
-inputs_of_row (Stack t (Some i) format) = IsPermutation-refl (t ∷ i ∷ [])
-inputs_of_row (Convert t None options) = IsPermutation-refl (t ∷ [])
-inputs_of_row (Convert t (Some i) options) = IsPermutation-refl (t ∷ i ∷ [])
+inputs_of_row (Account t ByIds options) = IsPermutation-refl (t ∷ [])
+inputs_of_row (Account t (ByImage name) options) = IsPermutation-refl (t ∷ name ∷ [])
+inputs_of_row (Account t (ByMap name) options) = IsPermutation-refl (t ∷ name ∷ [])
+inputs_of_row (Stack t ByIds format) = IsPermutation-refl (t ∷ [])
+inputs_of_row (Stack t (ByImage name) format) = IsPermutation-refl (t ∷ name ∷ [])
+inputs_of_row (Stack t (ByMap name) format) = IsPermutation-refl (t ∷ name ∷ [])
+inputs_of_row (Convert t ByIds options) = IsPermutation-refl (t ∷ [])
+inputs_of_row (Convert t (ByImage name) options) = IsPermutation-refl (t ∷ name ∷ [])
+inputs_of_row (Convert t (ByMap name) options) = IsPermutation-refl (t ∷ name ∷ [])
 inputs_of_row (Dump t) = IsPermutation-refl (t ∷ [])
 inputs_of_row (Check i s t a) = audit_first i s t a
 inputs_of_row (Profile i s options) = IsPermutation-refl (i ∷ s ∷ [])
 inputs_of_row (Soak number) = IsPermutation-refl []
+inputs_of_row (Import log trace) = IsPermutation-refl (log ∷ [])

@@ -4,12 +4,13 @@ use Rattle.std.specs.declared.alloc.Global.{Global}
 use Rattle.command_words.specs.declared.report_options.ConvertFormat.{ConvertFormat}
 use Rattle.command_words.specs.declared.report_options.ConvertFormat.TheVariants.{Yaml, TraceEvents, Basic}
 use Rattle.command_words.specs.declared.report_options.ConvertOptions.{ConvertOptions}
+use Rattle.command_words.specs.Reports.{NameSource}
 use Rattle.fdr_file.specs.declared.trace.Trace.{Trace}
 use Rattle.fdr_file.specs.ThreadEvents.{thread_events}
 use Rattle.fdr_file.specs.Traces.{trace_of}
+use Rattle.map_names.specs.Naming.{Naming}
 use Rattle.trace_forms.specs.BasicLogs.{log_read, wide_cpu}
 use Rattle.trace_forms.specs.TraceEvents.{events_read}
-use Rattle.xray_image.specs.Program.{Program}
 use Rattle.xray_io.specs.Desk.{Entry}
 use Rattle.xray_program.specs.Commands.{TellsAll}
 use Rattle.xray_program.specs.Convert.{ConvertComes, ConvertsTo, converted, cpu_words, log_form, no_text_for}
@@ -24,43 +25,43 @@ use Rattle.xray_program.proofs.Meanings.{AnyOutcome, HoldsBytes, IsAlone, IsDeci
 use Rattle.xray_program.proofs.Reports.{report_alone, report_some}
 use Rattle.yaml_convert.specs.Yaml.{yaml_read}
 
-abbrev pub printed : ConvertFormat → Trace → Option Program → Outcome → Type 0
-printed format t program outcome = outcome ≡ Done [] (converted format program t)
+abbrev pub printed : ConvertFormat → Trace → Naming → Outcome → Type 0
+printed format t names outcome = outcome ≡ Done [] (converted format names t)
 
-pub convert_alone : IsDecided image_form → (held : List ℕ → Entry) (trace : List ℕ) (image : Option (List ℕ)) (options : ConvertOptions)
-    → TellsAll held → IsAlone AnyOutcome (ConvertComes Sound held trace image options)
-convert_alone is held trace image options told =
-    report_alone (log_form options.input) (log_decided options.input) is AnyOutcome held trace image (ConvertsTo trace options.format) told
-    (λ t program. refuse_alone AnyOutcome (no_text_for options.format t) trace (codes "trace") (printed options.format t program) (λ a b sort x y. y ∙ sym x))
+pub convert_alone : IsDecided image_form → (held : List ℕ → Entry) (trace : List ℕ) (source : NameSource) (options : ConvertOptions)
+    → TellsAll held → IsAlone AnyOutcome (ConvertComes Sound held trace source options)
+convert_alone is held trace source options told =
+    report_alone (log_form options.input) (log_decided options.input) is AnyOutcome held trace source (ConvertsTo trace options.format) told
+    (λ t names. refuse_alone AnyOutcome (no_text_for options.format t) trace (codes "trace") (printed options.format t names) (λ a b sort x y. y ∙ sym x))
 
-pub convert_some : IsJudged image_form → (held : List ℕ → Entry) (trace : List ℕ) (image : Option (List ℕ)) (options : ConvertOptions)
-    → TellsAll held → HoldsBytes held → SomeOutcome (ConvertComes Sound held trace image options)
-convert_some is held trace image options told holds =
-    report_some (log_form options.input) (log_judged options.input) is held trace image (ConvertsTo trace options.format) told holds
-    (λ t program. some_refuse (no_text_for options.format t) trace (codes "trace") (printed options.format t program)
-    (λ none. (Done [] (converted options.format program t), refl)))
+pub convert_some : IsJudged image_form → (held : List ℕ → Entry) (trace : List ℕ) (source : NameSource) (options : ConvertOptions)
+    → TellsAll held → HoldsBytes held → SomeOutcome (ConvertComes Sound held trace source options)
+convert_some is held trace source options told holds =
+    report_some (log_form options.input) (log_judged options.input) is held trace source (ConvertsTo trace options.format) told holds
+    (λ t names. some_refuse (no_text_for options.format t) trace (codes "trace") (printed options.format t names)
+    (λ none. (Done [] (converted options.format names t), refl)))
 
 -- if nothing refuses a trace, its text comes
-pub convert_prints : (trace : List ℕ) (format : ConvertFormat) (t : Trace) (program : Option Program) (outcome : Outcome)
-    → no_text_for format t ≡ None → printed format t program outcome → ConvertsTo trace format t program outcome
-convert_prints trace format t program outcome none is = rw none is
+pub convert_prints : (trace : List ℕ) (format : ConvertFormat) (t : Trace) (names : Naming) (outcome : Outcome)
+    → no_text_for format t ≡ None → printed format t names outcome → ConvertsTo trace format t names outcome
+convert_prints trace format t names outcome none is = rw none is
 
 -- and nothing else
-pub converts_done : (trace : List ℕ) (format : ConvertFormat) (t : Trace) (program : Option Program) (outcome : Outcome)
-    → no_text_for format t ≡ None → ConvertsTo trace format t program outcome → printed format t program outcome
-converts_done trace format t program outcome none is = rw none at is
+pub converts_done : (trace : List ℕ) (format : ConvertFormat) (t : Trace) (names : Naming) (outcome : Outcome)
+    → no_text_for format t ≡ None → ConvertsTo trace format t names outcome → printed format t names outcome
+converts_done trace format t names outcome none is = rw none at is
 
 -- if something does, the refusal comes
-pub convert_refuses : (trace : List ℕ) (format : ConvertFormat) (t : Trace) (program : Option Program) (refusal : List ℕ)
-    → no_text_for format t ≡ Some refusal → ConvertsTo trace format t program (Refused trace (codes "trace") refusal)
-convert_refuses trace format t program refusal some = rw some refl
+pub convert_refuses : (trace : List ℕ) (format : ConvertFormat) (t : Trace) (names : Naming) (refusal : List ℕ)
+    → no_text_for format t ≡ Some refusal → ConvertsTo trace format t names (Refused trace (codes "trace") refusal)
+convert_refuses trace format t names refusal some = rw some refl
 
 -- the text of bytes is that of the trace that they read as
-pub bytes_say : (format : ConvertFormat) (program : Option Program) (bytes : List ℕ) (t : Trace) → trace_of bytes ≡ Ok t
-    → bytes_text format program bytes ≡ converted format program t
-bytes_say Yaml program bytes t read = ap (yaml_read program) read
-bytes_say TraceEvents program bytes t read = ap (events_read program) read
-bytes_say Basic program bytes t read = ap log_read read
+pub bytes_say : (format : ConvertFormat) (names : Naming) (bytes : List ℕ) (t : Trace) → trace_of bytes ≡ Ok t
+    → bytes_text format names bytes ≡ converted format names t
+bytes_say Yaml names bytes t read = ap (yaml_read names) read
+bytes_say TraceEvents names bytes t read = ap (events_read names) read
+bytes_say Basic names bytes t read = ap log_read read
 
 no_wide : (number : Option ℕ) → option_map cpu_words number ≡ None → number ≡ None
 no_wide None none = refl

@@ -1,16 +1,23 @@
 -- What the readers of inputs answer.
 use Rattle.std.specs.Prelude.{IfErr}
-use Rattle.std.proofs.Common.{◌≡◌, ◌⊎◌, ◌<◌, ◌≤◌, ℕ, List, [], ◌∷◌, length, Some, Ok, Err, inl, inr, sym, ap, arith, subst}
+use Rattle.std.proofs.Common.{◌≡◌, ◌⊎◌, ◌<◌, ◌≤◌, ℕ, List, [], ◌∷◌, length, Result, Some, Ok, Err, inl, inr, sym, ap, arith, subst}
 use Rattle.std.specs.Prelude.{◌==◌}
 use Rattle.std.specs.List.{slice_split}
 use Rattle.std.specs.Str.Lines.{lines, lines_of_parts}
 use Rattle.std.proofs.lemmas.List.Splits.{length-slice_split}
 use Rattle.std.proofs.lemmas.List.Sums.{count_by-le-length}
+use Rattle.map_names.specs.FaultWords.{map_words}
+use Rattle.map_names.specs.MapNames.{IsReading}
+use Rattle.map_names.specs.Maps.{map_naming}
+use Rattle.map_names.specs.declared.fault.MapFault.{MapFault}
+use Rattle.map_names.specs.declared.fault.MapFault.TheVariants as maps
+use Rattle.map_names.specs.declared.naming.MapNames.{MapNames}
 use Rattle.xray_image.specs.FaultWords.{image_words}
 use Rattle.xray_image.specs.Table.{Verdict, ReadsAs}
 use Rattle.xray_image.specs.declared.fault.ImageFault.{ImageFault}
 use Rattle.xray_image.specs.declared.fault.ImageFault.TheVariants as faults
 use Rattle.xray_program.specs.Inputs.{image_form, refused_for}
+use Rattle.xray_program.specs.private.NamesTaken.{kept_map_form}
 
 -- a text has at most one more line than bytes
 lines_of_few : (parts : List (List ℕ)) → length (lines_of_parts parts) ≤ length parts
@@ -43,3 +50,16 @@ image_refuses bytes (Err fault) (inl wanting) = λ refusal is. absurd (none refu
     none : (refusal : List ℕ) (f : ImageFault) → f ≡ faults.NoMemory → image_words f ≡ Some refusal → ⊥
     none refusal f e is = never refusal (subst (λ h. image_words h ≡ Some refusal) e is)
 image_refuses bytes (Err fault) (inr reads) = λ refusal is. (fault, reads, ap refused_for (sym is))
+
+-- a text that isn't a sled map is refused for its fault
+pub map_refuses : (bytes : List ℕ) (result : Result MapNames MapFault) → IsReading (map_naming bytes) result
+    → IfErr result (λ fault. (refusal : List ℕ) → map_words fault ≡ Some refusal → kept_map_form.Refuses bytes refusal)
+map_refuses bytes (Ok map) reads = tt
+map_refuses bytes (Err fault) (inl wanting) = λ refusal is. absurd (none refusal fault wanting is)
+  where
+    never : (refusal : List ℕ) → map_words maps.NoMemory ≡ Some refusal → ⊥
+    never refusal e = cc
+
+    none : (refusal : List ℕ) (f : MapFault) → f ≡ maps.NoMemory → map_words f ≡ Some refusal → ⊥
+    none refusal f e is = never refusal (subst (λ h. map_words h ≡ Some refusal) e is)
+map_refuses bytes (Err fault) (inr says) = λ refusal is. (fault, says, ap refused_for (sym is))

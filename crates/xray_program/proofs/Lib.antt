@@ -14,9 +14,12 @@ pub mod Endings
 pub mod ExtractLaws
 pub mod Headline
 pub mod Images
+pub mod ImportLaws
 pub mod Judging
 pub mod LogForms
+pub mod Logs
 pub mod Meanings
+pub mod NamesTaken
 pub mod Ordering
 pub mod Outputting
 pub mod PlainLaws

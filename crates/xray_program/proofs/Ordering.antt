@@ -1,12 +1,11 @@
 -- The calls of a desk, in their order.
-use Rattle.std.proofs.Common.{◌≡◌, ◌++◌, ◌∙◌, ℕ, List, [], ◌∷◌, length, Option, Some, None, Result, Ok, Err, refl, sym, ap, subst, append_assoc}
+use Rattle.std.proofs.Common.{◌≡◌, ◌++◌, ◌∙◌, ℕ, List, [], ◌∷◌, length, Result, Ok, Err, refl, sym, ap, subst, append_assoc}
 use Rattle.std.proofs.lemmas.List.{append-nil}
 use Rattle.std.specs.Prelude.{IsErrAnd, ⊤}
 use Rattle.xray_io.specs.Calls.{Call, Composes, HoldsOfNone, Went, went_on}
 use Rattle.xray_program.specs.Order.{ReadsAll, ReadsWhole}
 use Rattle.xray_io.specs.World.{DeskView}
-use Rattle.xray_program.specs.Inputs.{optional_input}
-use Rattle.xray_program.specs.private.Takes.{AreTakings, IsMaybeTaken, IsMaybeTaking, IsNamed, IsTaken, IsTaking, StopsTaking, StopsTakings}
+use Rattle.xray_program.specs.private.Takes.{AreTakings, IsNamed, IsTaken, IsTaking, StopsTaking, StopsTakings}
 use Rattle.xray_program.specs.Taking.{Form}
 use Rattle.xray_program.specs.declared.stop.Stop.{Stop}
 use Rattle.xray_program.specs.Accepted.{AcceptsInput}
@@ -102,31 +101,3 @@ pub first_handed : {S X Y : Type 0} (along : S → S → List Call → Type 0) �
     → Went (along first second) (AreTakings Accepts inputs result)
 first_handed along both none first second form before after inputs later name result stop Accepts no_input is turn taken went =
     stop_handed along both first first second form before after inputs [] later name result stop Accepts no_input is turn taken (no_reads along none first) went
-
--- ---- an input that the words may leave out, after these
-
--- it was read whole, or none was
-pub maybe_read : {S X : Type 0} (along : S → S → List Call → Type 0) → Composes along → (first second third : S) (earlier : List (List ℕ × ℕ))
-    (name : Option (List ℕ)) (limit : ℕ) (value : X) → Went (along first second) (ReadsAll earlier)
-    → (let result : Result X Stop = Ok value in Went (along second third) (IsMaybeTaking name limit result))
-    → Went (along first third) (ReadsAll (earlier ++ optional_input name limit))
-maybe_read along both first second third earlier None limit value went then =
-    went_on along both first second third (ReadsAll earlier) (λ calls. calls ≡ []) (ReadsAll (earlier ++ [])) went then
-    (λ calls later p none. rw (none, append-nil calls, append-nil earlier) p)
-maybe_read along both first second third earlier (Some name) limit value went then =
-    read_on along both first second third earlier name limit went then
-
--- the stop that a `?` passes on, of such an input
-pub maybe_handed : {S X Y : Type 0} (along : S → S → List Call → Type 0) → Composes along → (first second third : S) (form : Form X) (before after : DeskView)
-    (earlier : List (List ℕ × ℕ)) (name : Option (List ℕ)) (result : Result Y Stop) (stop : Stop) (Accepts : ℕ → Type 0)
-    → Accepts (length earlier) → IsErrAnd result (λ s. s ≡ stop) → IsMaybeTaken form name before after (Err stop)
-    → Went (along first second) (ReadsAll earlier)
-    → (let taken : Result (Option X) Stop = Err stop in Went (along second third) (IsMaybeTaking name form.limit taken))
-    → Went (along first third) (AreTakings Accepts (earlier ++ optional_input name form.limit) result)
-maybe_handed {S} {X} along both first second third form before after earlier None result stop Accepts accepted is taken went then = absurd (never taken)
-  where
-    never : (let one : Result (Option X) Stop = Err stop in let other : Result (Option X) Stop = Ok None in one ≡ other) → ⊥
-    never e = cc
-maybe_handed along both first second third form before after earlier (Some name) result stop Accepts accepted is taken went then =
-    stop_handed along both first second third form before after (earlier ++ (name, form.limit) ∷ []) earlier [] name result stop Accepts accepted is refl
-    taken went then

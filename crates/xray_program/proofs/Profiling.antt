@@ -1,7 +1,7 @@
 -- What threads leave that were profiled, and what comes of it.
 use Rattle.std.proofs.Common.{◌≡◌, ◌<◌, ◌+◌, ◌++◌, ◌∙◌, ℕ, zero, suc, List, [], ◌∷◌, Option, Some, None, length, map, refl, sym, ap, arith, subst}
 use Rattle.std.specs.Prelude.{◌≤◌, All, slice_get}
-use Rattle.std.proofs.lemmas.List.{append-nil, length-map}
+use Rattle.std.proofs.lemmas.List.{length-map}
 use Rattle.std.proofs.lemmas.List.Elements.{All-cons, All-nil}
 use Rattle.std.proofs.lemmas.Option.{get_or_from_slice_get, slice_get_within}
 use Rattle.call_trie.specs.Merging.{AllStandFor}
@@ -24,8 +24,9 @@ use Rattle.thread_run.proofs.Each.{there_is}
 use Rattle.traced_run.specs.Following.{MarksFollowScript}
 use Rattle.traced_run.specs.Runs.{ThreadRun, events_of}
 use Rattle.xray_image.specs.Program.{Program}
+use Rattle.function_names.specs.Name.{program_names}
 use Rattle.xray_program.specs.Outcomes.{Outcome, Done, Fell}
-use Rattle.xray_program.specs.Profile.{profile_of, report_unless, trouble_of}
+use Rattle.xray_program.specs.Profile.{printed_of, profile_of, states_before, trouble_of}
 use Rattle.xray_program.specs.private.Profiled.{HaveProfiled}
 use Rattle.xray_program.specs.Setups.{limits_of}
 use Rattle.xray_program.specs.Stack.{rows_text}
@@ -122,7 +123,7 @@ all_live thread (trie ∷ tries) none = by_state trie.state refl (all_live (thre
 module _ (options : ProfileOptions) (program : Program) (runs : List ThreadRun) where
   -- with this trouble
   abbrev ended_with : Option (List ℕ) → Outcome
-  ended_with trouble = ended_by [] (state_texts 1 runs ++ report_unless trouble options.format program (map events_of runs)) trouble
+  ended_with trouble = ended_by [] (printed_of trouble options.format program (state_texts 1 runs) (map events_of runs)) trouble
 
   abbrev trouble_is : Option (List ℕ) → Type 0
   trouble_is trouble = trouble ≡ trouble_of 1 (map (state_after options.nodes) (map events_of runs))
@@ -130,8 +131,9 @@ module _ (options : ProfileOptions) (program : Program) (runs : List ThreadRun) 
   pub profile_fell : (text trouble : List ℕ) → text ≡ state_texts 1 runs → trouble_is (Some trouble)
       → ended_by [] text (Some trouble) ≡ profile_of options program runs
   profile_fell text trouble is wrong =
-      ap (λ (t : List ℕ). Fell [] t trouble) (is ∙ sym (append-nil (state_texts 1 runs))) ∙ ap ended_with wrong
+      ap (λ (t : List ℕ). Fell [] t trouble) is ∙ ap ended_with wrong
 
-  pub profile_done : (text : List ℕ) → text ≡ state_texts 1 runs ++ rows_text options.format 0 (Some program) (stack_of_threads (map events_of runs))
+  pub profile_done : (text : List ℕ)
+      → text ≡ states_before options.format (state_texts 1 runs) ++ rows_text options.format 0 (program_names program) (stack_of_threads (map events_of runs))
       → trouble_is None → ended_by [] text None ≡ profile_of options program runs
   profile_done text is none = ap (λ (t : List ℕ). Done [] t) is ∙ ap ended_with none

@@ -1,6 +1,6 @@
 -- Inputs in their turn, and what comes of a command by these.
 use Rattle.std.specs.Prelude.{IsErrAnd}
-use Rattle.std.proofs.Common.{◌≡◌, ◌≢◌, ◌⊎◌, ◌<◌, ◌≤◌, ◌+◌, ◌∙◌, ℕ, List, length, replicate, Option, Some, None, Result, Ok, Err, inl, inr, refl, sym, ap, arith, le_refl, subst}
+use Rattle.std.proofs.Common.{◌≡◌, ◌≢◌, ◌⊎◌, ◌<◌, ◌≤◌, ◌+◌, ◌∙◌, ℕ, List, length, replicate, Option, Some, Result, Ok, Err, inl, inr, refl, sym, ap, arith, le_refl, subst}
 use Rattle.std.proofs.lemmas.List.{length-replicate}
 use Rattle.fault_words.specs.Words.{words_text}
 use Rattle.xray_io.specs.Desk.{Entry, Untold, Absent, Holds}
@@ -8,8 +8,8 @@ use Rattle.xray_io.specs.Faults.{Rose}
 use Rattle.xray_io.specs.declared.faults.ReadError.{ReadError}
 use Rattle.xray_io.specs.declared.faults.ReadError.TheVariants as errors
 use Rattle.xray_program.specs.Outcomes.{Outcome, Unread, TooLong, Refused}
-use Rattle.xray_program.specs.private.Takes.{AreTaken, IsFaultStop, IsLost, IsMaybeTaken, IsReadStop, IsStopAtInput, IsTaken, IsTakenAs, IsTooLong}
-use Rattle.xray_program.specs.Taking.{DeskReads, Sound, Faulty, Form, MayHold, Take, TakeMaybe, IsAcceptedAs}
+use Rattle.xray_program.specs.private.Takes.{AreTaken, IsFaultStop, IsLost, IsReadStop, IsStopAtInput, IsTaken, IsTakenAs, IsTooLong}
+use Rattle.xray_program.specs.Taking.{DeskReads, Sound, Faulty, Form, MayHold, Take, IsAcceptedAs}
 use Rattle.xray_io.specs.World.{DeskView}
 use Rattle.xray_program.specs.declared.stop.Stop.{Stop}
 use Rattle.xray_program.specs.declared.stop.Stop.TheVariants as stops
@@ -149,40 +149,3 @@ only_taken form name next before after (Ok value) taken =
 only_taken form name next before after (Err stop) taken =
     stops_at form (λ reads. Take form reads before.held name next) before before after name (λ reads. next) stop
     (leads (λ reads. Take form reads before.held name next)) refl (le_refl _) taken
-
--- ---- an input that the words may leave out
-
--- it gave a value, or none was taken
-pub maybe_leads_on : {X : Type 0} (form : Form X) (comes : DeskReads → Outcome → Type 0) (before mid after : DeskView) (name : Option (List ℕ))
-    (next : DeskReads → Option X → Outcome → Type 0) (value : Option X) → Leads comes (λ reads. TakeMaybe form reads before.held name (next reads))
-    → mid.held ≡ before.held → IsMaybeTaken form name mid after (Ok value) → Leads comes (λ reads. next reads value)
-maybe_leads_on {X} form comes before mid after None next value leads same taken reads outcome later =
-    leads reads outcome (subst (λ v. next reads v outcome) (none value taken) later)
-  where
-    none : (v : Option X) → (let one : Result (Option X) Stop = Ok v in let other : Result (Option X) Stop = Ok None in one ≡ other) → v ≡ None
-    none v e = cc
-maybe_leads_on form comes before mid after (Some name) next None leads same taken reads outcome later = absurd taken
-maybe_leads_on form comes before mid after (Some name) next (Some value) leads same taken reads outcome later =
-    leads_on form comes before.held name (λ reads v. next reads (Some v)) value leads
-    (subst (λ (h : List ℕ → Entry). IsAcceptedAs form (h name) value) same taken) reads outcome later
-
--- it was a stop
-pub maybe_stops_at : {X : Type 0} (form : Form X) (comes : DeskReads → Outcome → Type 0) (before mid after : DeskView) (name : Option (List ℕ))
-    (next : DeskReads → Option X → Outcome → Type 0) (stop : Stop) → Leads comes (λ reads. TakeMaybe form reads before.held name (next reads))
-    → mid.held ≡ before.held → before.read_faults ≤ mid.read_faults → IsMaybeTaken form name mid after (Err stop)
-    → IsStopAtInput comes before after stop
-maybe_stops_at {X} form comes before mid after None next stop leads same up taken = absurd (never taken)
-  where
-    never : (let one : Result (Option X) Stop = Err stop in let other : Result (Option X) Stop = Ok None in one ≡ other) → ⊥
-    never e = cc
-maybe_stops_at form comes before mid after (Some name) next stop leads same up taken =
-    stops_at form comes before mid after name (λ reads v. next reads (Some v)) stop leads same up taken
-
--- so the stop that a `?` passes on
-pub maybe_stop : {X Y : Type 0} (form : Form X) (comes : DeskReads → Outcome → Type 0) (yields : Y → Outcome → Type 0)
-    (before mid after : DeskView) (name : Option (List ℕ)) (next : DeskReads → Option X → Outcome → Type 0) (result : Result Y Stop) (stop : Stop)
-    → IsErrAnd result (λ s. s ≡ stop) → Leads comes (λ reads. TakeMaybe form reads before.held name (next reads))
-    → mid.held ≡ before.held → before.read_faults ≤ mid.read_faults → IsMaybeTaken form name mid after (Err stop)
-    → AreTaken comes yields before after result
-maybe_stop form comes yields before mid after name next result stop is leads same up taken =
-    handed_on comes yields before after result stop is (maybe_stops_at form comes before mid after name next stop leads same up taken)

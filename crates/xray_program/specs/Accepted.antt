@@ -1,8 +1,11 @@
 -- When the inputs of a command are accepted, and nothing else is wrong with them.
-use Rattle.std.specs.Prelude.{◌≡◌, ◌≤◌, ℕ, zero, suc, List, length, Option, Some, None, ⊤}
+use Rattle.std.specs.Prelude.{◌≡◌, ◌≤◌, ℕ, zero, suc, List, length, None, ⊤}
 use Rattle.audit_check.specs.Statements.{Statement}
+use Rattle.command_words.specs.Reports.{NameSource, ByIds, ByImage, ByMap}
 use Rattle.fdr_file.specs.declared.trace.Trace.{Trace}
+use Rattle.map_names.specs.Naming.{Naming}
 use Rattle.patch_script.specs.Plans.{Plan, waiting_line}
+use Rattle.runtime_log.specs.declared.facts.Facts.{Facts}
 use Rattle.stack_rebuild.specs.Stacks.{deep_in, most_open}
 use Rattle.step_sim.specs.declared.turns.Turns.{Turns}
 use Rattle.xray_image.specs.Program.{Program}
@@ -10,9 +13,9 @@ use Rattle.xray_io.specs.Desk.{Entry, Holds}
 use Rattle.xray_io.specs.Faults.{Rose}
 use Rattle.xray_io.specs.World.{World}
 use Rattle.xray_program.specs.Convert.{log_form, no_text_for}
-use Rattle.xray_program.specs.Inputs.{Readable, audit_form, image_form, readable_form, schedule_form, script_form, text_form, trace_form, unread_trace_form}
+use Rattle.xray_program.specs.Inputs.{Readable, audit_form, image_form, imported_form, map_form, readable_form, schedule_form, script_form, text_form, trace_form, unread_trace_form}
 use Rattle.xray_program.specs.Taking.{Form, IsAcceptedAs}
-use Rattle.command_words.specs.Words.{Command, Sim, Run, Plain, Extract, Asm, Account, Stack, Convert, Dump, Check, Profile, Soak}
+use Rattle.command_words.specs.Words.{Command, Sim, Run, Plain, Extract, Asm, Account, Stack, Convert, Dump, Check, Profile, Soak, Import}
 
 -- the desk reports that a name holds bytes of this kind, within its limit, which read as this value
 pub record HoldsInput {X : Type 0} (form : Form X) (entry : Entry) (value : X) : Type 0 where
@@ -21,22 +24,20 @@ pub record HoldsInput {X : Type 0} (form : Form X) (entry : Entry) (value : X) :
   pub within : length bytes ≤ form.limit
   pub reads : form.Reads bytes value
 
--- so does the name of an image, if the words name one
-abbrev pub HoldsImage : (List ℕ → Entry) → Option (List ℕ) → Option Program → Type 0
-HoldsImage held None None = ⊤
-HoldsImage held None (Some program) = ⊥
-HoldsImage held (Some name) None = ⊥
-HoldsImage held (Some name) (Some program) = HoldsInput image_form (held name) program
+-- so does the name of what names functions, if the words name an image or a sled map
+abbrev pub HoldsNames : (List ℕ → Entry) → NameSource → Type 0
+HoldsNames held ByIds = ⊤
+HoldsNames held (ByImage name) = (program : Program) × HoldsInput image_form (held name) program
+HoldsNames held (ByMap name) = (naming : Naming) × HoldsInput map_form (held name) naming
 
 -- the inputs are an image, and a script for it and for this many threads
 abbrev pub HoldsScript : (List ℕ → Entry) → (image script : List ℕ) → (threads : ℕ) → Type 0
 HoldsScript held image script threads =
     (program : Program) × (plan : Plan) × HoldsInput image_form (held image) program × HoldsInput (script_form program threads) (held script) plan
 
--- the inputs of a report are a trace in this form, of which this holds, and an image
-abbrev pub HoldsReport : Form Trace → (List ℕ → Entry) → (trace : List ℕ) → (image : Option (List ℕ)) → (Trace → Type 0) → Type 0
-HoldsReport form held trace image Is =
-    (t : Trace) × (program : Option Program) × HoldsInput form (held trace) t × HoldsImage held image program × Is t
+-- the inputs of a report are a trace in this form, of which this holds, and what names its functions
+abbrev pub HoldsReport : Form Trace → (List ℕ → Entry) → (trace : List ℕ) → NameSource → (Trace → Type 0) → Type 0
+HoldsReport form held trace names Is = (t : Trace) × HoldsInput form (held trace) t × HoldsNames held names × Is t
 
 -- The desk holds each input of a command, within its limit, and each is accepted. No other cause of refusal applies: for
 -- `sim` nobody waits in the script, for `stack` no thread of the trace has too many calls open at once, and for `convert`
@@ -50,10 +51,10 @@ AreAccepted held (Run image script trace audit options) = HoldsScript held image
 AreAccepted held (Plain image bounds) = (program : Program) × HoldsInput image_form (held image) program
 AreAccepted held (Extract image) = (program : Program) × HoldsInput image_form (held image) program
 AreAccepted held (Asm text image threshold relative) = (file : List ℕ) × HoldsInput (text_form threshold relative) (held text) file
-AreAccepted held (Account trace image options) = HoldsReport trace_form held trace image (λ t. ⊤)
-AreAccepted held (Stack trace image format) = HoldsReport trace_form held trace image (λ t. deep_in most_open t.blocks ≡ None)
-AreAccepted held (Convert trace image options) =
-    HoldsReport (log_form options.input) held trace image (λ t. no_text_for options.format t ≡ None)
+AreAccepted held (Account trace names options) = HoldsReport trace_form held trace names (λ t. ⊤)
+AreAccepted held (Stack trace names format) = HoldsReport trace_form held trace names (λ t. deep_in most_open t.blocks ≡ None)
+AreAccepted held (Convert trace names options) =
+    HoldsReport (log_form options.input) held trace names (λ t. no_text_for options.format t ≡ None)
 AreAccepted held (Dump trace) = (t : Readable) × HoldsInput readable_form (held trace) t
 AreAccepted held (Check image script trace audit) =
     (program : Program) × (statement : Statement) × (plan : Plan) × (bytes : List ℕ) × HoldsInput image_form (held image) program
@@ -61,6 +62,7 @@ AreAccepted held (Check image script trace audit) =
     × HoldsInput unread_trace_form (held trace) bytes
 AreAccepted held (Profile image script options) = HoldsScript held image script options.bounds.threads
 AreAccepted held (Soak number) = ⊤
+AreAccepted held (Import log trace) = (made : List ℕ × Facts) × HoldsInput imported_form (held log) made
 
 -- ---- the first inputs, in the order in which they are taken
 
@@ -70,14 +72,15 @@ abbrev pub AcceptsInput : {X : Type 0} → Form X → (List ℕ → Entry) → L
 AcceptsInput form held name next zero = ⊤
 AcceptsInput {X} form held name next (suc count) = (value : X) × IsAcceptedAs form (held name) value × next value count
 
--- so of the image of a report, if the words name one
-abbrev pub AcceptsImage : (List ℕ → Entry) → Option (List ℕ) → (count : ℕ) → Type 0
-AcceptsImage held None count = ⊤
-AcceptsImage held (Some name) count = AcceptsInput image_form held name (λ program later. ⊤) count
+-- so of what names the functions of a report
+abbrev pub AcceptsNames : (List ℕ → Entry) → NameSource → (count : ℕ) → Type 0
+AcceptsNames held ByIds count = ⊤
+AcceptsNames held (ByImage name) count = AcceptsInput image_form held name (λ program later. ⊤) count
+AcceptsNames held (ByMap name) count = AcceptsInput map_form held name (λ naming later. ⊤) count
 
 -- and of the inputs of a report
-abbrev pub AcceptsReport : {X : Type 0} → Form X → (List ℕ → Entry) → (log : List ℕ) → (image : Option (List ℕ)) → (count : ℕ) → Type 0
-AcceptsReport form held log image count = AcceptsInput form held log (λ value later. AcceptsImage held image later) count
+abbrev pub AcceptsReport : {X : Type 0} → Form X → (List ℕ → Entry) → (log : List ℕ) → NameSource → (count : ℕ) → Type 0
+AcceptsReport form held log names count = AcceptsInput form held log (λ value later. AcceptsNames held names later) count
 
 -- and of an image and a script
 abbrev pub AcceptsScript : (List ℕ → Entry) → (image script : List ℕ) → (threads count : ℕ) → Type 0
@@ -95,9 +98,9 @@ AcceptsInputs held (Run image script trace audit options) count = AcceptsScript 
 AcceptsInputs held (Plain image bounds) count = AcceptsInput image_form held image (λ program later. ⊤) count
 AcceptsInputs held (Extract image) count = AcceptsInput image_form held image (λ program later. ⊤) count
 AcceptsInputs held (Asm text image threshold relative) count = AcceptsInput (text_form threshold relative) held text (λ file later. ⊤) count
-AcceptsInputs held (Account trace image options) count = AcceptsReport trace_form held trace image count
-AcceptsInputs held (Stack trace image format) count = AcceptsReport trace_form held trace image count
-AcceptsInputs held (Convert trace image options) count = AcceptsReport (log_form options.input) held trace image count
+AcceptsInputs held (Account trace names options) count = AcceptsReport trace_form held trace names count
+AcceptsInputs held (Stack trace names format) count = AcceptsReport trace_form held trace names count
+AcceptsInputs held (Convert trace names options) count = AcceptsReport (log_form options.input) held trace names count
 AcceptsInputs held (Dump trace) count = AcceptsInput readable_form held trace (λ t later. ⊤) count
 AcceptsInputs held (Check image script trace audit) count =
     AcceptsInput image_form held image (λ program.
@@ -106,6 +109,7 @@ AcceptsInputs held (Check image script trace audit) count =
     AcceptsInput unread_trace_form held trace (λ bytes later. ⊤)))) count
 AcceptsInputs held (Profile image script options) count = AcceptsScript held image script options.bounds.threads count
 AcceptsInputs held (Soak number) count = ⊤
+AcceptsInputs held (Import log trace) count = AcceptsInput imported_form held log (λ made later. ⊤) count
 
 -- no fault of the desk or of out is counted in a call
 pub record CountsNoFault (before after : World) : Type 0 where

@@ -1,5 +1,5 @@
 -- `account`: how often the functions of a trace were called, and for how long.
-use Rattle.std.specs.Prelude.{◌≡◌, ℕ, List, [], Bool, true, false, Option}
+use Rattle.std.specs.Prelude.{◌≡◌, ℕ, List, [], Bool, true, false}
 use Rattle.account_report.specs.Account.{account_of}
 use Rattle.account_report.specs.AccountText.{account_text, latencies_of}
 use Rattle.account_report.specs.Ordered.{arranged}
@@ -14,8 +14,9 @@ use Rattle.command_words.specs.declared.report_options.SortColumn.{SortColumn}
 use Rattle.command_words.specs.declared.report_options.SortColumn.TheVariants.{FuncId, Count, Min, Med, P90, P99, Max, Sum}
 use Rattle.command_words.specs.declared.report_options.SortOrder.{SortOrder}
 use Rattle.command_words.specs.declared.report_options.SortOrder.TheVariants.{Ascending, Descending}
+use Rattle.command_words.specs.Reports.{NameSource}
 use Rattle.fdr_file.specs.declared.trace.Trace.{Trace}
-use Rattle.xray_image.specs.Program.{Program}
+use Rattle.map_names.specs.Naming.{Naming}
 use Rattle.xray_io.specs.Desk.{Entry}
 use Rattle.xray_program.specs.Inputs.{trace_form}
 use Rattle.xray_program.specs.Outcomes.{Outcome, Done}
@@ -45,14 +46,14 @@ format_of Csv = formats.Csv
 -- ---- the report
 
 -- The account of a trace, in the order that the words ask for, and with as many rows as they ask for. The functions
--- that have a pair are counted over all rows. A program names the functions, if there is one.
-abbrev pub account_report : AccountOptions → Trace → Option Program → List ℕ
-account_report options trace program =
+-- that have a pair are counted over all rows. The names are those that are given to functions.
+abbrev pub account_report : AccountOptions → Trace → Naming → List ℕ
+account_report options trace names =
     let rows = account_of trace.blocks in
-    account_text (format_of options.format) (latencies_of rows) program
+    account_text (format_of options.format) (latencies_of rows) names
     (arranged (key_of options.sort) (is_descending options.order) options.top rows)
 
 -- what comes of the command
-abbrev pub AccountComes : DeskReads → (List ℕ → Entry) → (trace : List ℕ) → (image : Option (List ℕ)) → AccountOptions → Outcome → Type 0
-AccountComes reads held trace image options =
-    TakeReport trace_form reads held trace image (λ t program outcome. outcome ≡ Done [] (account_report options t program))
+abbrev pub AccountComes : DeskReads → (List ℕ → Entry) → (trace : List ℕ) → NameSource → AccountOptions → Outcome → Type 0
+AccountComes reads held trace source options =
+    TakeReport trace_form reads held trace source (λ t names outcome. outcome ≡ Done [] (account_report options t names))

@@ -10,6 +10,7 @@ use Rattle.xray_program.specs.Check.{CheckComes}
 use Rattle.xray_program.specs.Convert.{ConvertComes}
 use Rattle.xray_program.specs.Dump.{DumpComes}
 use Rattle.xray_program.specs.Extract.{ExtractComes}
+use Rattle.xray_program.specs.Import.{ImportComes}
 use Rattle.xray_program.specs.Inputs.{audit_limit, image_limit, text_limit, script_limit, schedule_limit}
 use Rattle.xray_program.specs.Outcomes.{Outcome, BadLine, Unread}
 use Rattle.xray_program.specs.Plain.{PlainComes}
@@ -22,7 +23,7 @@ use Rattle.xray_program.specs.Sim.{SimComes}
 use Rattle.xray_program.specs.Soak.{SoakComes}
 use Rattle.xray_program.specs.Stack.{StackComes}
 use Rattle.xray_program.specs.Taking.{DeskReads, Sound, Faulty}
-use Rattle.command_words.specs.Words.{Command, Sim, Run, Plain, Extract, Asm, Account, Stack, Convert, Dump, Check, Profile, Soak, outputs_of}
+use Rattle.command_words.specs.Words.{Command, Sim, Run, Plain, Extract, Asm, Account, Stack, Convert, Dump, Check, Profile, Soak, Import, outputs_of}
 
 -- ---- a line for each command
 
@@ -34,13 +35,14 @@ inputs_of (Run image script trace audit options) = script_inputs image script
 inputs_of (Plain image bounds) = (image, image_limit) ∷ []
 inputs_of (Extract image) = (image, image_limit) ∷ []
 inputs_of (Asm text image threshold relative) = (text, text_limit) ∷ []
-inputs_of (Account trace image options) = report_inputs trace trace_limit image
-inputs_of (Stack trace image format) = report_inputs trace trace_limit image
-inputs_of (Convert trace image options) = report_inputs trace trace_limit image
+inputs_of (Account trace names options) = report_inputs trace trace_limit names
+inputs_of (Stack trace names format) = report_inputs trace trace_limit names
+inputs_of (Convert trace names options) = report_inputs trace trace_limit names
 inputs_of (Dump trace) = (trace, trace_limit) ∷ []
 inputs_of (Check image script trace audit) = (image, image_limit) ∷ (audit, audit_limit) ∷ (script, script_limit) ∷ (trace, trace_limit) ∷ []
 inputs_of (Profile image script options) = script_inputs image script
 inputs_of (Soak number) = []
+inputs_of (Import log trace) = (log, trace_limit) ∷ []
 
 -- what comes of it
 abbrev pub Comes : DeskReads → (List ℕ → Entry) → Command → Outcome → Type 0
@@ -49,13 +51,14 @@ Comes reads held (Run image script trace audit options) = RunComes reads held im
 Comes reads held (Plain image bounds) = PlainComes reads held image bounds
 Comes reads held (Extract image) = ExtractComes reads held image
 Comes reads held (Asm text image threshold relative) = AsmComes reads held text image threshold relative
-Comes reads held (Account trace image options) = AccountComes reads held trace image options
-Comes reads held (Stack trace image format) = StackComes reads held trace image format
-Comes reads held (Convert trace image options) = ConvertComes reads held trace image options
+Comes reads held (Account trace names options) = AccountComes reads held trace names options
+Comes reads held (Stack trace names format) = StackComes reads held trace names format
+Comes reads held (Convert trace names options) = ConvertComes reads held trace names options
 Comes reads held (Dump trace) = DumpComes reads held trace
 Comes reads held (Check image script trace audit) = CheckComes reads held image script trace audit
 Comes reads held (Profile image script options) = ProfileComes reads held image script options
 Comes reads held (Soak number) = SoakComes number
+Comes reads held (Import log trace) = ImportComes reads held log trace
 
 -- whether only one outcome comes of it, over what a desk holds; this fails if threads run in an order of their own
 abbrev pub is_decided : Command → Bool
@@ -64,13 +67,14 @@ is_decided (Run image script trace audit options) = false
 is_decided (Plain image bounds) = true
 is_decided (Extract image) = true
 is_decided (Asm text image threshold relative) = true
-is_decided (Account trace image options) = true
-is_decided (Stack trace image format) = true
-is_decided (Convert trace image options) = true
+is_decided (Account trace names options) = true
+is_decided (Stack trace names format) = true
+is_decided (Convert trace names options) = true
 is_decided (Dump trace) = true
 is_decided (Check image script trace audit) = true
 is_decided (Profile image script options) = false
 is_decided (Soak number) = true
+is_decided (Import log trace) = true
 
 -- whether it waits for nobody, and starts no thread
 abbrev pub is_still : Command → Bool
@@ -79,13 +83,14 @@ is_still (Run image script trace audit options) = false
 is_still (Plain image bounds) = true
 is_still (Extract image) = true
 is_still (Asm text image threshold relative) = true
-is_still (Account trace image options) = true
-is_still (Stack trace image format) = true
-is_still (Convert trace image options) = true
+is_still (Account trace names options) = true
+is_still (Stack trace names format) = true
+is_still (Convert trace names options) = true
 is_still (Dump trace) = true
 is_still (Check image script trace audit) = true
 is_still (Profile image script options) = false
 is_still (Soak number) = true
+is_still (Import log trace) = true
 
 -- whether it reports on a trace
 abbrev pub is_report : Command → Bool
@@ -94,13 +99,14 @@ is_report (Run image script trace audit options) = false
 is_report (Plain image bounds) = false
 is_report (Extract image) = false
 is_report (Asm text image threshold relative) = false
-is_report (Account trace image options) = true
-is_report (Stack trace image format) = true
-is_report (Convert trace image options) = true
+is_report (Account trace names options) = true
+is_report (Stack trace names format) = true
+is_report (Convert trace names options) = true
 is_report (Dump trace) = false
 is_report (Check image script trace audit) = false
 is_report (Profile image script options) = false
 is_report (Soak number) = false
+is_report (Import log trace) = false
 
 -- it is a profile: only of this may an outcome come that has status 7
 abbrev pub IsProfile : Command → Type 0

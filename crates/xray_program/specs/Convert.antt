@@ -1,5 +1,6 @@
 -- `convert`: a trace or a basic log in another form.
 use Rattle.std.specs.Prelude.{◌≡◌, ◌++◌, ℕ, List, [], Option, Some, None, codes, decimal, if◌then◌else◌, length, nat_lt, option_map}
+use Rattle.command_words.specs.Reports.{NameSource}
 use Rattle.command_words.specs.declared.report_options.ConvertFormat.{ConvertFormat}
 use Rattle.command_words.specs.declared.report_options.ConvertFormat.TheVariants as formats
 use Rattle.command_words.specs.declared.report_options.ConvertOptions.{ConvertOptions}
@@ -9,7 +10,7 @@ use Rattle.fdr_file.specs.declared.trace.Trace.{Trace}
 use Rattle.fdr_file.specs.ThreadEvents.{ThreadEvent, thread_events}
 use Rattle.trace_forms.specs.BasicLogs.{basic_bytes, wide_cpu}
 use Rattle.trace_forms.specs.TraceEvents.{most_events, trace_events_text}
-use Rattle.xray_image.specs.Program.{Program}
+use Rattle.map_names.specs.Naming.{Naming}
 use Rattle.xray_io.specs.Desk.{Entry}
 use Rattle.xray_program.specs.Inputs.{basic_form, trace_form}
 use Rattle.xray_program.specs.Outcomes.{Outcome, Done}
@@ -36,18 +37,18 @@ no_text_for formats.Yaml t = None
 no_text_for formats.TraceEvents t = too_many (thread_events t.blocks)
 no_text_for formats.Basic t = option_map cpu_words (wide_cpu (thread_events t.blocks))
 
--- a trace in a form; a program names its functions, if there is one
-abbrev pub converted : ConvertFormat → Option Program → Trace → List ℕ
-converted formats.Yaml program t = yaml_text program t
-converted formats.TraceEvents program t = trace_events_text program t
-converted formats.Basic program t = basic_bytes t
+-- a trace in a form, with the names that are given to its functions
+abbrev pub converted : ConvertFormat → Naming → Trace → List ℕ
+converted formats.Yaml names t = yaml_text names t
+converted formats.TraceEvents names t = trace_events_text names t
+converted formats.Basic names t = basic_bytes t
 
 -- what comes of the judged inputs: the trace is refused if it can't be converted, and printed in its new form otherwise
-abbrev pub ConvertsTo : (trace : List ℕ) → ConvertFormat → Trace → Option Program → Outcome → Type 0
-ConvertsTo trace format t program =
-    RefuseIf (no_text_for format t) trace (codes "trace") (λ outcome. outcome ≡ Done [] (converted format program t))
+abbrev pub ConvertsTo : (trace : List ℕ) → ConvertFormat → Trace → Naming → Outcome → Type 0
+ConvertsTo trace format t names =
+    RefuseIf (no_text_for format t) trace (codes "trace") (λ outcome. outcome ≡ Done [] (converted format names t))
 
 -- what comes of the command
-abbrev pub ConvertComes : DeskReads → (List ℕ → Entry) → (trace : List ℕ) → (image : Option (List ℕ)) → ConvertOptions → Outcome → Type 0
-ConvertComes reads held trace image options =
-    TakeReport (log_form options.input) reads held trace image (λ t program. ConvertsTo trace options.format t program)
+abbrev pub ConvertComes : DeskReads → (List ℕ → Entry) → (trace : List ℕ) → NameSource → ConvertOptions → Outcome → Type 0
+ConvertComes reads held trace source options =
+    TakeReport (log_form options.input) reads held trace source (λ t names. ConvertsTo trace options.format t names)

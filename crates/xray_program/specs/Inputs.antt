@@ -1,5 +1,5 @@
 -- The kinds of input.
-use Rattle.std.specs.Prelude.{◌≡◌, ◌≤◌, Result, Ok, Err, ℕ, Bool, List, [], ◌∷◌, Option, Some, None, codes, length, take, unwrap_or}
+use Rattle.std.specs.Prelude.{◌≡◌, ◌≤◌, Result, Ok, Err, ℕ, Bool, List, [], Option, codes, length, take, unwrap_or}
 use Rattle.command_words.specs.Limits.{trace_limit}
 use Rattle.xray_image.specs.Program.{Program, IsAccepted}
 use Rattle.xray_image.specs.declared.fault.ImageFault.{ImageFault}
@@ -17,6 +17,14 @@ use Rattle.fdr_file.specs.declared.trace.Trace.{Trace}
 use Rattle.fdr_file.specs.Prefixes.{IsReadable, ReadsAsTrace}
 use Rattle.fdr_file.specs.Traces.{trace_of}
 use Rattle.trace_words.specs.TraceWords.{trace_words}
+use Rattle.map_names.specs.FaultWords.{map_words}
+use Rattle.map_names.specs.Maps.{map_naming}
+use Rattle.map_names.specs.Naming.{Naming}
+use Rattle.runtime_log.specs.declared.facts.Facts.{Facts}
+use Rattle.runtime_log.specs.declared.fault.LogFault.{LogFault}
+use Rattle.runtime_log.specs.FaultWords.{log_words}
+use Rattle.runtime_log.specs.Imports.{IsImport}
+use Rattle.runtime_log.specs.Logs.{logged}
 use Rattle.trace_forms.specs.BasicLogs.{basic_of}
 use Rattle.trace_forms.specs.FaultWords.{basic_words}
 use Rattle.audit_check.specs.declared.fault.AuditFault.{AuditFault}
@@ -42,10 +50,8 @@ schedule_limit = 16777216
 abbrev pub audit_limit : ℕ
 audit_limit = 67108864
 
--- an input that the words may leave out, with the most bytes that it may have: a list of one input, or of none
-abbrev pub optional_input : (name : Option (List ℕ)) → (limit : ℕ) → List (List ℕ × ℕ)
-optional_input None limit = []
-optional_input (Some name) limit = (name, limit) ∷ []
+abbrev pub map_limit : ℕ
+map_limit = 67108864
 
 -- ---- the kinds
 
@@ -95,6 +101,19 @@ unread_trace_form = any_bytes (codes "trace") trace_limit
 -- a basic log, which reads as a trace
 abbrev pub basic_form : Form Trace
 basic_form = form_by (codes "trace") trace_limit basic_of basic_words
+
+-- a sled map, which reads as the names that it gives to functions
+abbrev pub map_form : Form Naming
+map_form = form_by (codes "map") map_limit map_naming map_words
+
+-- a log of LLVM's runtime, which reads as the file of the trace that is made of it, with the facts that are printed
+abbrev pub imported_form : Form (List ℕ × Facts)
+imported_form = record {
+  kind = codes "log";
+  limit = trace_limit;
+  Reads = λ bytes made. IsImport bytes made.0 made.1;
+  Refuses = λ bytes refusal. (fault : LogFault) × (logged bytes ≡ Err fault) × (refusal ≡ refused_for (log_words fault));
+}
 
 -- bytes of which a prefix is a trace, and the length of the longest
 pub record Readable : Type 0 where

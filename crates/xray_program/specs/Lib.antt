@@ -18,6 +18,7 @@ pub mod Profile
 pub mod Convert
 pub mod Dump
 pub mod Check
+pub mod Import
 pub mod Commands
 pub mod Accepted
 pub mod Answers

@@ -5,6 +5,8 @@ use Rattle.call_trie.specs.declared.state.TrieState.TheVariants.{Live, Full, Dee
 use Rattle.call_trie.specs.Tries.{state_after}
 use Rattle.command_words.specs.declared.profile_options.ProfileOptions.{ProfileOptions}
 use Rattle.command_words.specs.declared.report_options.StackFormat.{StackFormat}
+use Rattle.command_words.specs.declared.report_options.StackFormat.TheVariants.{Human, Flame, Svg}
+use Rattle.function_names.specs.Name.{program_names}
 use Rattle.fdr_record.specs.declared.event.Event.{Event}
 use Rattle.machine_step.specs.PlainStep.{PlainRun}
 use Rattle.patch_script.specs.Plans.{Plan}
@@ -37,10 +39,19 @@ abbrev pub trouble_of : (thread : ℕ) → List TrieState → Option (List ℕ)
 trouble_of thread [] = None
 trouble_of thread (state ∷ states) = first_trouble (trouble_in state thread) (trouble_of (thread + 1) states)
 
--- the report on the events of threads, unless there is trouble; no words say which frequency the counter has
-abbrev pub report_unless : Option (List ℕ) → StackFormat → Program → List (List Event) → List ℕ
-report_unless None format program threads = rows_text format 0 (Some program) (stack_of_threads threads)
-report_unless (Some trouble) format program threads = []
+-- The state texts as they stand before a report in this format. Before a picture they are a comment of XML, so that all
+-- that is printed is one file of SVG.
+abbrev pub states_before : StackFormat → List ℕ → List ℕ
+states_before Human states = states
+states_before Flame states = states
+states_before Svg states = codes "<!--\n" ++ states ++ codes "-->\n"
+
+-- The state texts of threads, and the report on their events. If there is trouble, the state texts alone. No words say
+-- which frequency the counter has.
+abbrev pub printed_of : Option (List ℕ) → StackFormat → Program → (states : List ℕ) → List (List Event) → List ℕ
+printed_of None format program states threads =
+    states_before format states ++ rows_text format 0 (program_names program) (stack_of_threads threads)
+printed_of (Some trouble) format program states threads = states
 
 -- What comes of these runs. Their state texts are printed, and then the stacks of the events that their marks record. If
 -- the recorder of a thread has stopped, only the state texts are printed, and the least such thread is named.
@@ -48,7 +59,7 @@ abbrev pub profile_of : ProfileOptions → Program → List ThreadRun → Outcom
 profile_of options program runs =
     let threads = map events_of runs in
     let trouble = trouble_of 1 (map (state_after options.nodes) threads) in
-    ended_by [] (state_texts 1 runs ++ report_unless trouble options.format program threads) trouble
+    ended_by [] (printed_of trouble options.format program (state_texts 1 runs) threads) trouble
 
 -- the threads have run, each as its plain run does, and their marks follow the script
 pub record AreProfiled (options : ProfileOptions) (program : Program) (plan : Plan) (runs : List ThreadRun) : Type 0 where

@@ -63,11 +63,6 @@ Take form reads held name next outcome =
     (IsUnreadable reads (held name) × (outcome ≡ Unread name))
     ⊎ ((bytes : List ℕ) × MayHold (held name) bytes × Judge form reads name bytes next outcome)
 
--- an input that the words may leave out; if they name none, none is taken
-abbrev pub TakeMaybe : {X : Type 0} → Form X → DeskReads → (List ℕ → Entry) → Option (List ℕ) → (Option X → Outcome → Type 0) → Outcome → Type 0
-TakeMaybe form reads held None next outcome = next None outcome
-TakeMaybe form reads held (Some name) next outcome = Take form reads held name (λ value. next (Some value)) outcome
-
 -- after all inputs: the one of this name is refused if there is a reason; otherwise the work goes on
 abbrev pub RefuseIf : Option (List ℕ) → (name kind : List ℕ) → (Outcome → Type 0) → Outcome → Type 0
 RefuseIf None name kind next outcome = next outcome

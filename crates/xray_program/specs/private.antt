@@ -5,6 +5,7 @@ pub mod Drawn
 pub mod Ends
 pub mod Logs
 pub mod Meant
+pub mod NamesTaken
 pub mod Profiled
 pub mod ReportTakes
 pub mod RunInputs

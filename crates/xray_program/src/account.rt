@@ -1,5 +1,5 @@
 //! `account`: how often the functions of a trace were called, and for how long.
-ghost use Rattle.std.specs.Prelude.{◌≡◌, List, IfErr, IfOk, None, option_map};
+ghost use Rattle.std.specs.Prelude.{◌≡◌, List, IfErr, IfOk, None};
 ghost use Rattle.account_report.specs.{Account.{account_of}, AccountText.{latencies_of}, Ordered.{arranged}};
 ghost use Rattle.fdr_file.specs.declared.trace.{Block.{Block}, Trace.{Trace}};
 ghost use Rattle.trace_words.specs.TraceWords.{trace_words};
@@ -15,7 +15,7 @@ use crate::stream::StreamKind;
 use crate::trace_feed::TraceFeed;
 use crate::work::Work;
 use account_report::{AccountFold, AccountRow, AccountText, order_rows};
-use command_words::{AccountOptions, TRACE_LIMIT};
+use command_words::{AccountOptions, NameSource, TRACE_LIMIT};
 use fdr_file::{Taker, Trace, TraceFault};
 use std::alloc::Global;
 use trace_words::TraceRefusal;
@@ -101,8 +101,8 @@ fn account_rows(fold: AccountFold, options: AccountOptions) -> Result<AccountRow
 pub(crate) struct Account<'a> {
     /// The trace's name.
     pub(crate) trace: &'a str,
-    /// The name of the image that names the functions, if the words name one.
-    pub(crate) image: Option<&'a str>,
+    /// What names its functions.
+    pub(crate) names: NameSource<'a>,
     /// The rows that are printed, their order, and their form.
     pub(crate) options: AccountOptions,
 }
@@ -111,14 +111,15 @@ impl<'a> Work<'a> for Account<'a> {
     ghost use Rattle.std.specs.Prelude.{[], ⊤};
     ghost use Rattle.xray_program.specs.{Account.{account_report}, Outcomes.{Done}};
     ghost use Rattle.xray_program.specs.private.ReportTakes.{ComesOfMeant};
+    ghost use Rattle.command_words.specs.Views.{source_view};
     ghost use Rattle.command_words.specs.Words as words;
 
     type Inputs = ReportInputs<AccountRows>;
 
-    ghost says = { λ a. words.Account a.trace.now (option_map (λ n. n.now) a.image) a.options };
+    ghost says = { λ a. words.Account a.trace.now (source_view a.names) a.options };
 
     ghost yields = { λ a. ComesOfMeant (AccountMeans a.options)
-        (λ trace program outcome. outcome ≡ Done [] (account_report a.options trace program)) };
+        (λ trace names outcome. outcome ≡ Done [] (account_report a.options trace names)) };
 
     ghost fits = { λ _ _. ⊤ };
 
@@ -130,7 +131,7 @@ impl<'a> Work<'a> for Account<'a> {
         let kind = AccountKind {
             options: self.options,
         };
-        take_report(alloc, desk, self.trace, &kind, self.image)
+        take_report(alloc, desk, self.trace, &kind, self.names)
     }
 
     fn finish<D: Desk, O: Sink>(
@@ -143,7 +144,7 @@ impl<'a> Work<'a> for Account<'a> {
         let text = AccountText {
             rows: &inputs.log.rows,
             latencies: inputs.log.latencies,
-            image: inputs.image.as_ref(),
+            names: inputs.names.as_names(),
             format: format_of(self.options.format),
         };
         deliver(desk, out, &NoOutputs, &text, None)

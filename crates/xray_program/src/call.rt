@@ -15,6 +15,7 @@ use crate::check::Check;
 use crate::convert::Convert;
 use crate::dump::Dump;
 use crate::extract::Extract;
+use crate::import::Import;
 use crate::plain::Plain;
 use crate::profile::perform_profile;
 use crate::run::perform_run;
@@ -353,6 +354,7 @@ fn perform_other<'a, D: Desk, O: Sink>(
             perform(alloc, &check, desk, out)
         }
         Command::Soak { number } => perform(alloc, &Soak { number }, desk, out),
+        Command::Import { log, trace } => perform(alloc, &Import { log, trace }, desk, out),
         report => perform_report(alloc, report, desk, out),
     }
 }
@@ -373,36 +375,36 @@ fn perform_report<'a, D: Desk, O: Sink>(
     match command {
         Command::Account {
             trace,
-            image,
+            names,
             options,
         } => {
             let account = Account {
                 trace,
-                image,
+                names,
                 options,
             };
             perform(alloc, &account, desk, out)
         }
         Command::Stack {
             trace,
-            image,
+            names,
             format,
         } => {
             let stack = Stack {
                 trace,
-                image,
+                names,
                 format,
             };
             perform(alloc, &stack, desk, out)
         }
         Command::Convert {
             trace,
-            image,
+            names,
             options,
         } => {
             let convert = Convert {
                 trace,
-                image,
+                names,
                 options,
             };
             perform(alloc, &convert, desk, out)

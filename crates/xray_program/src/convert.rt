@@ -3,6 +3,7 @@ ghost use Rattle.std.specs.Prelude.{◌≡◌, None, Ok, option_map};
 ghost use Rattle.fault_words.specs.Words.{words_text};
 ghost use Rattle.fdr_file.specs.declared.trace.Trace.{Trace};
 ghost use Rattle.fdr_file.specs.{Prefixes.{ReadsAsTrace}, ThreadEvents.{thread_events}, Traces.{trace_of}};
+ghost use Rattle.function_names.specs.Name.{naming};
 ghost use Rattle.trace_forms.specs.BasicLogs.{wide_cpu};
 ghost use Rattle.xray_program.specs.Convert.{cpu_words, no_text_for, too_many};
 ghost use Rattle.xray_program.specs.private.Logs.{LogMeans};
@@ -13,15 +14,15 @@ use crate::log::{Log, LogKind};
 use crate::report_inputs::{ReportInputs, take_report};
 use crate::stop::Stop;
 use crate::work::Work;
-use command_words::{ConvertFormat, ConvertOptions};
+use command_words::{ConvertFormat, ConvertOptions, NameSource};
 use fault_words::Words;
 use fdr_file::{EventCursor, Trace};
+use function_names::Names;
 use std::alloc::Global;
 use trace_forms::{
     BasicBytes, BasicText, EventSource, EventsBytes, EventsText, TraceCursor, has_too_many,
     wide_cpu_of_bytes,
 };
-use xray_image::Image;
 use xray_io::{Desk, Piece, Printed, Sink, Text, WriteFault};
 use yaml_convert::{YamlBytes, YamlText};
 
@@ -30,20 +31,21 @@ use yaml_convert::{YamlBytes, YamlText};
 pub(crate) struct Convert<'a> {
     /// The trace's name.
     pub(crate) trace: &'a str,
-    /// The name of the image that names the functions, if the words name one.
-    pub(crate) image: Option<&'a str>,
+    /// What names its functions.
+    pub(crate) names: NameSource<'a>,
     /// The form that the trace has, and the form in which it is printed.
     pub(crate) options: ConvertOptions,
 }
 
 impl<'a> Work<'a> for Convert<'a> {
+    ghost use Rattle.command_words.specs.Views.{source_view};
     ghost use Rattle.command_words.specs.Words as words;
     ghost use Rattle.xray_program.specs.Convert.{ConvertsTo};
     ghost use Rattle.xray_program.specs.private.ReportTakes.{ComesOfMeant};
 
     type Inputs = ReportInputs<Log>;
 
-    ghost says = { λ c. words.Convert c.trace.now (option_map (λ n. n.now) c.image) c.options };
+    ghost says = { λ c. words.Convert c.trace.now (source_view c.names) c.options };
 
     ghost yields = { λ c. ComesOfMeant LogMeans (ConvertsTo c.trace.now c.options.format) };
 
@@ -53,7 +55,7 @@ impl<'a> Work<'a> for Convert<'a> {
         let kind = LogKind {
             form: self.options.input,
         };
-        take_report(alloc, desk, self.trace, &kind, self.image)
+        take_report(alloc, desk, self.trace, &kind, self.names)
     }
 
     fn finish<D: Desk, O: Sink>(
@@ -64,7 +66,7 @@ impl<'a> Work<'a> for Convert<'a> {
         out: &mut O,
     ) -> Result<(), Stop<'a>> {
         let format = self.options.format;
-        let image = inputs.image.as_ref();
+        let names = inputs.names.as_names();
         match refusal_of(format, &inputs.log) {
             Some(words) => Err(Stop::Refused {
                 name: self.trace,
@@ -75,7 +77,7 @@ impl<'a> Work<'a> for Convert<'a> {
                 Log::Fdr(bytes) => {
                     let text = BytesReport {
                         bytes,
-                        image,
+                        names,
                         format,
                     };
                     deliver(desk, out, &NoOutputs, &text, None)
@@ -83,7 +85,7 @@ impl<'a> Work<'a> for Convert<'a> {
                 Log::Basic(trace) => {
                     let text = TraceReport {
                         trace,
-                        image,
+                        names,
                         format,
                     };
                     deliver(desk, out, &NoOutputs, &text, None)
@@ -154,23 +156,23 @@ fn wide_of(number: Option<u64>) -> Option<Words<'static>>
 #[derive(Clone, Copy)]
 struct BytesReport<'a> {
     bytes: &'a [u8],
-    image: Option<&'a Image>,
+    names: Names<'a>,
     format: ConvertFormat,
 }
 
 impl Printed for BytesReport<'_> {
     ghost use Rattle.xray_program.specs.private.Logs.{BytesFit, bytes_text};
 
-    ghost text = { λ t. bytes_text t.format (option_map (λ image. image.now) t.image) t.bytes.now };
+    ghost text = { λ t. bytes_text t.format (naming t.names) t.bytes.now };
 
     ghost ready = { λ t. BytesFit t.format t.bytes.now };
 
     fn add_to<S: Sink>(&self, to: &mut Text<S>) -> Result<(), WriteFault> {
         let bytes = self.bytes;
-        let image = self.image;
+        let names = self.names;
         match self.format {
-            ConvertFormat::Yaml => YamlBytes { bytes, image }.add_to(to),
-            ConvertFormat::TraceEvents => EventsBytes { bytes, image }.add_to(to),
+            ConvertFormat::Yaml => YamlBytes { bytes, names }.add_to(to),
+            ConvertFormat::TraceEvents => EventsBytes { bytes, names }.add_to(to),
             ConvertFormat::Basic => BasicBytes { bytes }.add_to(to),
         }
     }
@@ -180,7 +182,7 @@ impl Printed for BytesReport<'_> {
 #[derive(Clone, Copy)]
 struct TraceReport<'a> {
     trace: &'a Trace,
-    image: Option<&'a Image>,
+    names: Names<'a>,
     format: ConvertFormat,
 }
 
@@ -188,16 +190,16 @@ impl Printed for TraceReport<'_> {
     ghost use Rattle.xray_program.specs.Convert.{converted};
     ghost use Rattle.xray_program.specs.private.Logs.{TraceFits};
 
-    ghost text = { λ t. converted t.format (option_map (λ image. image.now) t.image) t.trace.now };
+    ghost text = { λ t. converted t.format (naming t.names) t.trace.now };
 
     ghost ready = { λ t. TraceFits t.format t.trace.now };
 
     fn add_to<S: Sink>(&self, to: &mut Text<S>) -> Result<(), WriteFault> {
         let trace = self.trace;
-        let image = self.image;
+        let names = self.names;
         match self.format {
-            ConvertFormat::Yaml => YamlText { trace, image }.add_to(to),
-            ConvertFormat::TraceEvents => EventsText { trace, image }.add_to(to),
+            ConvertFormat::Yaml => YamlText { trace, names }.add_to(to),
+            ConvertFormat::TraceEvents => EventsText { trace, names }.add_to(to),
             ConvertFormat::Basic => BasicText { trace }.add_to(to),
         }
     }

@@ -1,9 +1,8 @@
 //! An input in its turn: it is read, measured and judged before the next one is opened.
 //! Here it is kept whole for that; `stream` has inputs that are taken piece by piece.
-ghost use Rattle.std.specs.Prelude.{◌≡◌, ◌≤◌, ℕ, List, Some, length, option_map, IfOk, IfErr, OnOk};
+ghost use Rattle.std.specs.Prelude.{◌≡◌, ◌≤◌, ℕ, List, Some, length, IfOk, IfErr, OnOk};
 ghost use Rattle.xray_io.specs.{Calls.{Went}, World.{desk_view}};
-ghost use Rattle.xray_program.specs.private.Takes.{IsFaultStop, IsReadStop};
-ghost use Rattle.xray_program.specs.private.Takes.{IsMaybeTaken, IsMaybeTaking, IsTaken, IsTaking};
+ghost use Rattle.xray_program.specs.private.Takes.{IsFaultStop, IsReadStop, IsTaken, IsTaking};
 ghost use Rattle.xray_program.specs.Taking.{Form, any_bytes};
 
 use crate::file_bytes::FileBytes;
@@ -87,28 +86,6 @@ pub(crate) fn take_bytes<'a, D: Desk>(
     match read_whole(alloc, desk, name, limit) {
         Ok(bytes) => Ok(FileBytes { bytes }),
         Err(error) => Err(read_stop(name, error)),
-    }
-}
-
-/// Takes an input that the words may leave out.
-pub(crate) fn take_maybe<'a, K: Kind, D: Desk>(
-    alloc: Global,
-    desk: &mut D,
-    name: Option<&'a str>,
-    kind: &K,
-) -> Result<Option<K::Value>, Stop<'a>>
-    ensures taken { let seen = desk_view D.held D.read_faults D.write_faults in
-        IsMaybeTaken (K.form kind.now) (option_map (λ n. n.now) name.entry) (seen desk.old) (seen desk.new) result }
-    ensures held { D.held desk.new ≡ D.held desk.old }
-    ensures later { D.read_faults desk.old ≤ D.read_faults desk.new }
-    ensures writes { D.write_faults desk.new ≡ D.write_faults desk.old }
-    ensures calm { OnOk result (D.read_faults desk.new ≡ D.read_faults desk.old) }
-    ensures calls { Went (D.along desk.old desk.new)
-        (IsMaybeTaking (option_map (λ n. n.now) name.entry) (K.form kind.now).limit result) }
-{
-    match name {
-        Some(name) => Ok(Some(take(alloc, desk, name, kind)?)),
-        None => Ok(None),
     }
 }
 

@@ -6,7 +6,10 @@ use crate::input::Kind;
 use crate::stated_audit::StatedAudit;
 use asm_text::{AsmFault, assemble};
 use audit_check::{AuditFault, read_audit};
+use command_words::TRACE_LIMIT;
+use map_names::{MapFault, MapNames, read_map};
 use patch_script::{Script, ScriptFault, read_script};
+use runtime_log::{ImportedLog, LogFault, import_log};
 use std::alloc::Global;
 use step_sim::{Schedule, ScheduleFault, read_schedule};
 use xray_image::{Image, ImageFault, read_image};
@@ -25,6 +28,9 @@ const SCHEDULE_LIMIT: u64 = 16_777_216;
 
 /// The most bytes of an audit.
 const AUDIT_LIMIT: u64 = 67_108_864;
+
+/// The most bytes of a sled map.
+const MAP_LIMIT: u64 = 67_108_864;
 
 /// The word for a script in a line on err.
 pub(crate) const SCRIPT: &str = "script";
@@ -58,6 +64,64 @@ impl Kind for ImageKind {
 
     fn judge(&self, alloc: Global, bytes: &[u8]) -> Result<Image, ImageFault> {
         read_image(alloc, bytes)
+    }
+}
+
+/// A sled map. Its value is the names that it gives to functions.
+#[derive(Drop)]
+pub(crate) struct MapKind;
+
+impl Kind for MapKind {
+    ghost use Rattle.std.specs.Prelude.{⊤};
+    ghost use Rattle.xray_program.specs.private.NamesTaken.{kept_map_form};
+
+    type Value = MapNames;
+
+    type Refusal = MapFault;
+
+    ghost form = { λ _. kept_map_form };
+
+    ghost fits = { λ _ _. ⊤ };
+
+    fn word(&self) -> &'static str {
+        "map"
+    }
+
+    fn limit(&self) -> u64 {
+        MAP_LIMIT
+    }
+
+    fn judge(&self, alloc: Global, bytes: &[u8]) -> Result<MapNames, MapFault> {
+        read_map(alloc, bytes)
+    }
+}
+
+/// A log of LLVM's runtime. Its value is the trace that is made of it.
+#[derive(Drop)]
+pub(crate) struct RuntimeLogKind;
+
+impl Kind for RuntimeLogKind {
+    ghost use Rattle.std.specs.Prelude.{⊤};
+    ghost use Rattle.xray_program.specs.Inputs.{imported_form};
+
+    type Value = ImportedLog;
+
+    type Refusal = LogFault;
+
+    ghost form = { λ _. imported_form };
+
+    ghost fits = { λ _ _. ⊤ };
+
+    fn word(&self) -> &'static str {
+        "log"
+    }
+
+    fn limit(&self) -> u64 {
+        TRACE_LIMIT
+    }
+
+    fn judge(&self, alloc: Global, bytes: &[u8]) -> Result<ImportedLog, LogFault> {
+        import_log(alloc, bytes)
     }
 }
 

@@ -1,8 +1,8 @@
 //! Laws of what the program means. Each law is the contract of a function that does nothing.
-ghost use Rattle.std.specs.Prelude.{◌≡◌, ◌≢◌, ◌<◌, ◌⊎◌, ◌∷◌, [], ℕ, List, Option, None, Some, All, IsPermutation, map};
+ghost use Rattle.std.specs.Prelude.{◌≡◌, ◌≢◌, ◌<◌, ◌⊎◌, ◌∷◌, ◌++◌, [], ℕ, List, Option, None, Some, All, IsPermutation, map};
 ghost use Rattle.audit_check.specs.Texts.{verdict_text};
 ghost use Rattle.audit_check.specs.declared.verdict.Verdict.TheVariants.{Yes};
-ghost use Rattle.command_words.specs.Files.{inputs_in, names_of, row_of};
+ghost use Rattle.command_words.specs.Files.{inputs_in, names_given, names_of, row_of};
 ghost use Rattle.machine_step.specs.Buffers.{spare_of};
 ghost use Rattle.machine_step.specs.declared.setup.Setup.{Setup};
 ghost use Rattle.traced_run.specs.{Losses.{AreLost}, Runs.{IsRun, ThreadRun}};
@@ -27,6 +27,7 @@ use fdr_file::a_trace_is_read;
 use flame_graph::{no_frame_sticks_out, stacks_can_be_drawn, the_lowest_frames_add_up};
 use machine_step::{one_end, some_end, some_marks_follow};
 use patch_script::each_script_lets_threads_end;
+use runtime_log::{one_import, some_import};
 use step_sim::{a_replay_loses_few, marks_of_a_replay_follow, one_run, some_run};
 use trace_flush::{a_run_is_traced, a_trace_is_short};
 use traced_run::some_losses_are_of_a_queue;
@@ -43,6 +44,7 @@ pub fn one_meaning()
     one_run();
     one_reading();
     audit_check::one_verdict();
+    one_import();
 }
 
 /// If words mean an outcome that writes nothing, they mean nothing else, over a desk that reports
@@ -57,6 +59,7 @@ pub fn refusal_is_the_only_meaning()
     one_run();
     one_reading();
     audit_check::one_verdict();
+    one_import();
 }
 
 /// Words mean something over a desk that reports every name, whatever bytes the names hold. For
@@ -80,12 +83,15 @@ pub fn some_meaning()
     a_trace_is_read();
     some_reading();
     audit_check::some_verdict();
+    some_import();
 }
 
 /// The inputs of a command, whose turns come one after another, are the files that are read by its
-/// row in the table of commands. They may be taken in another order than that of their names.
+/// row in the table of commands, and those that its options name. They may be taken in another order
+/// than that of their names.
 pub fn inputs_follow_the_rows()
-    ensures { (command : Command) → IsPermutation (inputs_in (row_of command).files (names_of command))
+    ensures { (command : Command)
+        → IsPermutation (inputs_in (row_of command).files (names_of command) ++ names_given command)
         (map (λ input. input.0) (inputs_of command)) }
 {}
 
@@ -101,6 +107,7 @@ pub fn accepted_inputs_mean_done()
 {
     one_verdict();
     one_reading();
+    one_import();
 }
 
 /// Only the words of a `profile` mean an outcome with status 7, whatever the desk holds.

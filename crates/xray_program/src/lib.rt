@@ -1,7 +1,8 @@
 //! The top call: all that the program does, from the words of its command line to what it writes.
 //!
 //! The words are read first, together with the wall time (`command_words`). A command is one module
-//! (`sim`, `plain`, `extract`, `asm`, `account`, `stack`, `convert`, `dump`, `check`, `soak`), which implements
+//! (`sim`, `plain`, `extract`, `asm`, `account`, `stack`, `convert`, `dump`, `check`, `soak`,
+//! `import`), which implements
 //! `Work`, or starts threads (`run`, `profile`). It takes its inputs in their order (`inputs_of`, `input`). Each is read, measured and
 //! judged before the next is opened, so the first that fails decides. Then it does its work, and
 //! writes its outputs and its text (`delivery`). What is written of traced threads is in `traced`.
@@ -26,10 +27,12 @@ mod drawn;
 mod dump;
 mod extract;
 mod file_bytes;
+mod import;
 mod input;
 mod inputs;
 mod laws;
 mod log;
+mod names;
 mod plain;
 mod profile;
 mod readable_file;

@@ -7,10 +7,11 @@ ghost use Rattle.command_words.specs.Ranges.{AreProfileOptions};
 ghost use Rattle.command_words.specs.Words.{outputs_of};
 ghost use Rattle.fault_words.specs.Words.{words_text};
 ghost use Rattle.flame_graph.specs.Frames.{AreStacks};
+ghost use Rattle.function_names.specs.Name.{program_names};
 ghost use Rattle.machine_step.specs.{EndedText.{thread_text}, Traced.{IsDone}};
 ghost use Rattle.stack_rebuild.specs.Stacks.{told};
 ghost use Rattle.xray_io.specs.World.{desk_view, sink_view};
-ghost use Rattle.xray_program.specs.Profile.{trouble_in, trouble_of};
+ghost use Rattle.xray_program.specs.Profile.{states_before, trouble_in, trouble_of};
 ghost use Rattle.xray_program.specs.private.Profiled.{comes_of, said_by, HaveProfiled};
 ghost use Rattle.xray_program.specs.private.RunInputs.{IsReadFor};
 ghost use Rattle.xray_program.specs.private.Stops.{answer_of, told_of};
@@ -27,6 +28,7 @@ use call_trie::{MOST_NODES, TrieRecorder, TrieState, merged};
 use command_words::{ProfileOptions, StackFormat};
 use fault_words::Words;
 use flame_graph::stacks_of_threads_can_be_drawn;
+use function_names::Names;
 use machine_step::{Cpu, Steps};
 use patch_script::Script;
 use sled_patch::run_prefix;
@@ -38,7 +40,7 @@ use std::sync::Wait;
 use std::thread::Threads;
 use thread_run::{RecordedEnd, run_recorded};
 use xray_image::Image;
-use xray_io::{Desk, Each, Gate, NoMemory, Sink};
+use xray_io::{Desk, Each, Gate, NoMemory, Piece, Printed, Sink, Text, WriteFault};
 
 /// Does all of `profile`, and leaves err as it is. The threads start through `rt`. They and the patcher
 /// pass `gate`. No clause says that the call returns: threads may wait for the patcher.
@@ -124,15 +126,16 @@ fn deliver_report<'a, D: Desk, O: Sink>(
     requires rows { AreStacks (map told rows.now) }
     ensures delivers { let seen = desk_view D.held D.read_faults D.write_faults in
         let got = sink_view O.written O.faults in
-        Delivers [] (flat_map thread_text cpus.now ++ rows_text format 0 (Some image.now) (map told rows.now)) None
+        Delivers [] (states_before format (flat_map thread_text cpus.now)
+        ++ rows_text format 0 (program_names image.now) (map told rows.now)) None
         (seen desk.old) (seen desk.new) (got out.old) (got out.new) (D.along desk.old desk.new) result }
     ensures others { let seen = desk_view D.held D.read_faults D.write_faults in
         KeepsOthers [] (seen desk.old) (seen desk.new) }
 {
-    let states = Each(cpus);
+    let states = StatesBefore { cpus, format };
     let stacks = StackReport {
         rows,
-        image: Some(image),
+        names: Names::Image(image),
         frequency: 0,
         format,
     };
@@ -141,6 +144,43 @@ fn deliver_report<'a, D: Desk, O: Sink>(
         second: &stacks,
     };
     deliver(desk, out, &NoOutputs, &text, None)
+}
+
+/// The state texts of threads that are done, as they stand before a report in a format.
+#[derive(Clone, Copy)]
+struct StatesBefore<'c, 's> {
+    cpus: &'c [Cpu<'s>],
+    format: StackFormat,
+}
+
+impl Printed for StatesBefore<'_, '_> {
+    ghost use Rattle.std.specs.List.{All, flat_map};
+    ghost use Rattle.machine_step.specs.{EndedText.{thread_text}, Traced.{IsDone}};
+    ghost use Rattle.xray_program.specs.Profile.{states_before};
+
+    ghost text = { λ states. states_before states.format (flat_map thread_text states.cpus.now) };
+
+    ghost ready = { λ states. All (λ cpu. IsDone cpu.want) states.cpus.now };
+
+    fn add_to<S: Sink>(&self, to: &mut Text<S>) -> Result<(), WriteFault> {
+        let states = Each(self.cpus);
+        match self.format {
+            StackFormat::Human | StackFormat::Flame => states.add_to(to),
+            StackFormat::Svg => {
+                let close = Piece::Bytes(b"-->\n");
+                let closed = Both {
+                    first: &states,
+                    second: &close,
+                };
+                let open = Piece::Bytes(b"<!--\n");
+                let comment = Both {
+                    first: &open,
+                    second: &closed,
+                };
+                comment.add_to(to)
+            }
+        }
+    }
 }
 
 /// Runs all threads over an image's steps, and a script beside them. Each thread has a recorder of its

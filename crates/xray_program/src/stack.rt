@@ -1,5 +1,6 @@
 //! `stack`: on which paths the functions of a trace were called, and for how long.
-ghost use Rattle.std.specs.Prelude.{◌≡◌, map, option_map};
+ghost use Rattle.std.specs.Prelude.{◌≡◌, map};
+ghost use Rattle.function_names.specs.Name.{naming};
 ghost use Rattle.stack_rebuild.specs.Stacks.{told};
 ghost use Rattle.fdr_file.specs.declared.trace.Trace.{Trace};
 ghost use Rattle.xray_program.specs.private.Meant.{StacksMean};
@@ -12,13 +13,13 @@ use crate::stop::Stop;
 use crate::stream::StreamKind;
 use crate::trace_feed::TraceFeed;
 use crate::work::Work;
-use command_words::{StackFormat, TRACE_LIMIT};
+use command_words::{NameSource, StackFormat, TRACE_LIMIT};
 use fdr_file::Trace;
 use flame_graph::{FlameGraph, stacks_can_be_drawn};
+use function_names::Names;
 use stack_rebuild::{StackFault, StackFold, StackForm, StackRow, StackText};
 use std::alloc::Global;
 use trace_words::TraceRefusal;
-use xray_image::Image;
 use xray_io::{Desk, Printed, Sink, Text, WriteFault};
 
 /// The stacks of a trace.
@@ -81,20 +82,21 @@ impl StreamKind for StackKind {
 pub(crate) struct Stack<'a> {
     /// The trace's name.
     pub(crate) trace: &'a str,
-    /// The name of the image that names the functions, if the words name one.
-    pub(crate) image: Option<&'a str>,
+    /// What names its functions.
+    pub(crate) names: NameSource<'a>,
     /// How the stacks are printed.
     pub(crate) format: StackFormat,
 }
 
 impl<'a> Work<'a> for Stack<'a> {
+    ghost use Rattle.command_words.specs.Views.{source_view};
     ghost use Rattle.command_words.specs.Words as words;
     ghost use Rattle.xray_program.specs.Stack.{StacksCome};
     ghost use Rattle.xray_program.specs.private.ReportTakes.{ComesOfMeant};
 
     type Inputs = ReportInputs<TraceStacks>;
 
-    ghost says = { λ s. words.Stack s.trace.now (option_map (λ n. n.now) s.image) s.format };
+    ghost says = { λ s. words.Stack s.trace.now (source_view s.names) s.format };
 
     ghost yields = { λ s. ComesOfMeant StacksMean (StacksCome s.trace.now s.format) };
 
@@ -105,7 +107,7 @@ impl<'a> Work<'a> for Stack<'a> {
         alloc: Global,
         desk: &mut D,
     ) -> Result<ReportInputs<TraceStacks>, Stop<'a>> {
-        take_report(alloc, desk, self.trace, &StackKind, self.image)
+        take_report(alloc, desk, self.trace, &StackKind, self.names)
     }
 
     fn finish<D: Desk, O: Sink>(
@@ -120,7 +122,7 @@ impl<'a> Work<'a> for Stack<'a> {
                 stacks_can_be_drawn();
                 let text = StackReport {
                     rows,
-                    image: inputs.image.as_ref(),
+                    names: inputs.names.as_names(),
                     frequency: inputs.log.frequency,
                     format: self.format,
                 };
@@ -135,8 +137,8 @@ impl<'a> Work<'a> for Stack<'a> {
 #[derive(Clone, Copy)]
 pub(crate) struct StackReport<'a> {
     pub(crate) rows: &'a [StackRow],
-    /// The image that names the functions, if there is one.
-    pub(crate) image: Option<&'a Image>,
+    /// What names the functions.
+    pub(crate) names: Names<'a>,
     /// How often the counter advances, in cycles a second, or 0.
     pub(crate) frequency: u64,
     pub(crate) format: StackFormat,
@@ -147,7 +149,7 @@ impl Printed for StackReport<'_> {
     ghost use Rattle.xray_program.specs.Stack.{rows_text};
 
     ghost text = { λ report. rows_text report.format report.frequency
-        (option_map (λ image. image.now) report.image) (map told report.rows.now) };
+        (naming report.names) (map told report.rows.now) };
 
     ghost ready = { λ report. AreStacks (map told report.rows.now) };
 
@@ -157,7 +159,7 @@ impl Printed for StackReport<'_> {
             StackFormat::Flame => self.in_lines(StackForm::Flame).add_to(to),
             StackFormat::Svg => FlameGraph {
                 rows: self.rows,
-                image: self.image,
+                names: self.names,
                 frequency: self.frequency,
             }
             .add_to(to),
@@ -170,12 +172,11 @@ impl<'a> StackReport<'a> {
     fn in_lines(&self, form: StackForm) -> StackText<'a>
         ensures form { result.form ≡ form }
         ensures rows { result.rows.now ≡ self.now.rows.now }
-        ensures image { option_map (λ image. image.now) result.image
-            ≡ option_map (λ image. image.now) self.now.image }
+        ensures names { naming result.names ≡ naming self.now.names }
     {
         StackText {
             rows: self.rows,
-            image: self.image,
+            names: self.names,
             form,
         }
     }

@@ -12,7 +12,7 @@ use Rattle.fdr_file.specs.declared.trace.Block.{Block}
 use Rattle.fdr_file.specs.declared.trace.Trace.{Trace}
 use Rattle.fdr_file.specs.ThreadEvents.{ThreadEvent, block_events, thread_events}
 use Rattle.fdr_file.specs.Traces.{trace_of}
-use Rattle.xray_image.specs.Program.{Program}
+use Rattle.map_names.specs.Naming.{Naming}
 use Rattle.yaml_convert.specs.private.Stamps.{happened_text, stamp_text}
 use Rattle.yaml_convert.specs.Yaml.{arg_text, event_counter, event_end, event_line, event_start, header_text, kind_text, records_start, records_text, truth_text, yaml_of_bytes, yaml_read, yaml_text}
 
@@ -80,29 +80,29 @@ records_begin (block ∷ later) b is = by_events block.events refl (records_begi
 -- ---- lines of blocks
 
 -- the lines of a block are those of its events
-pub of_block : (program : Option Program) (block : Block)
-    → flat_map (λ event. event_line program (record { thread = block.thread; pid = block.pid; event = event })) block.events
-    ≡ flat_map (event_line program) (block_events block)
-of_block program block =
-    sym (flat_map-map (event_line program) (λ (event : Event). let e : ThreadEvent = record { thread = block.thread; pid = block.pid; event = event } in e) block.events)
+pub of_block : (names : Naming) (block : Block)
+    → flat_map (λ event. event_line names (record { thread = block.thread; pid = block.pid; event = event })) block.events
+    ≡ flat_map (event_line names) (block_events block)
+of_block names block =
+    sym (flat_map-map (event_line names) (λ (event : Event). let e : ThreadEvent = record { thread = block.thread; pid = block.pid; event = event } in e) block.events)
 
 -- the lines of blocks are those of all events
-pub of_blocks : (program : Option Program) (blocks : List Block)
-    → flat_map (λ block. flat_map (event_line program) (block_events block)) blocks ≡ flat_map (event_line program) (thread_events blocks)
-of_blocks program [] = refl
-of_blocks program (block ∷ later) =
-    ap (λ (t : List ℕ). flat_map (event_line program) (block_events block) ++ t) (of_blocks program later)
-    ∙ sym (flat_map-append (event_line program) (block_events block) (thread_events later))
+pub of_blocks : (names : Naming) (blocks : List Block)
+    → flat_map (λ block. flat_map (event_line names) (block_events block)) blocks ≡ flat_map (event_line names) (thread_events blocks)
+of_blocks names [] = refl
+of_blocks names (block ∷ later) =
+    ap (λ (t : List ℕ). flat_map (event_line names) (block_events block) ++ t) (of_blocks names later)
+    ∙ sym (flat_map-append (event_line names) (block_events block) (thread_events later))
 
 -- ---- the whole document
 
-pub whole_yaml_left : (program : Option Program) (trace : Trace)
-    → (header_text trace.header ++ records_text program (thread_events trace.blocks)) ++ codes "...\n" ≡ yaml_text program trace
-whole_yaml_left program trace = refl
+pub whole_yaml_left : (names : Naming) (trace : Trace)
+    → (header_text trace.header ++ records_text names (thread_events trace.blocks)) ++ codes "...\n" ≡ yaml_text names trace
+whole_yaml_left names trace = refl
 
-pub whole_yaml : (program : Option Program) (trace : Trace)
-    → header_text trace.header ++ (records_text program (thread_events trace.blocks) ++ codes "...\n") ≡ yaml_text program trace
-whole_yaml program trace = sym (append_assoc (header_text trace.header) (records_text program (thread_events trace.blocks)) (codes "...\n"))
+pub whole_yaml : (names : Naming) (trace : Trace)
+    → header_text trace.header ++ (records_text names (thread_events trace.blocks) ++ codes "...\n") ≡ yaml_text names trace
+whole_yaml names trace = sym (append_assoc (header_text trace.header) (records_text names (thread_events trace.blocks)) (codes "...\n"))
 
 -- ---- lines of events that are given one after the other
 
@@ -112,39 +112,39 @@ one_given all given left later e before is =
     before ∙ (ap (λ (es : List ThreadEvent). given ++ es) is ∙ sym (append_assoc given (e ∷ []) later))
 
 -- its line comes after theirs
-pub one_line : (program : Option Program) (given : List ThreadEvent) (e : ThreadEvent)
-    → flat_map (event_line program) given ++ event_line program e ≡ flat_map (event_line program) (given ++ e ∷ [])
-one_line program given e =
-    sym (flat_map-append (event_line program) given (e ∷ []) ∙ ap (λ (t : List ℕ). flat_map (event_line program) given ++ t) (append-nil (event_line program e)))
+pub one_line : (names : Naming) (given : List ThreadEvent) (e : ThreadEvent)
+    → flat_map (event_line names) given ++ event_line names e ≡ flat_map (event_line names) (given ++ e ∷ [])
+one_line names given e =
+    sym (flat_map-append (event_line names) given (e ∷ []) ∙ ap (λ (t : List ℕ). flat_map (event_line names) given ++ t) (append-nil (event_line names e)))
 
 -- the lines of all of them
-pub all_lines : (program : Option Program) (all given left later : List ThreadEvent) (e : ThreadEvent) → all ≡ given ++ left → left ≡ e ∷ later
-    → (flat_map (event_line program) given ++ event_line program e) ++ flat_map (event_line program) later ≡ flat_map (event_line program) all
-all_lines program all given left later e before is =
-    ap (λ (t : List ℕ). t ++ flat_map (event_line program) later) (one_line program given e)
-    ∙ (sym (flat_map-append (event_line program) (given ++ e ∷ []) later)
-    ∙ ap (flat_map (event_line program)) (sym (one_given all given left later e before is)))
+pub all_lines : (names : Naming) (all given left later : List ThreadEvent) (e : ThreadEvent) → all ≡ given ++ left → left ≡ e ∷ later
+    → (flat_map (event_line names) given ++ event_line names e) ++ flat_map (event_line names) later ≡ flat_map (event_line names) all
+all_lines names all given left later e before is =
+    ap (λ (t : List ℕ). t ++ flat_map (event_line names) later) (one_line names given e)
+    ∙ (sym (flat_map-append (event_line names) (given ++ e ∷ []) later)
+    ∙ ap (flat_map (event_line names)) (sym (one_given all given left later e before is)))
 
 -- no more of them are given
 pub none_left : (all given left : List ThreadEvent) → all ≡ given ++ left → left ≡ [] → given ≡ all
 none_left all given left before is = sym (before ∙ (ap (λ (es : List ThreadEvent). given ++ es) is ∙ append-nil given))
 
 -- the records, of which the first is given
-pub first_line : (program : Option Program) (all later : List ThreadEvent) (e : ThreadEvent) → all ≡ e ∷ later
-    → (codes "records:\n" ++ event_line program e) ++ flat_map (event_line program) later ≡ records_text program all
-first_line program all later e is =
-    append_assoc (codes "records:\n") (event_line program e) (flat_map (event_line program) later) ∙ ap (records_text program) (sym is)
+pub first_line : (names : Naming) (all later : List ThreadEvent) (e : ThreadEvent) → all ≡ e ∷ later
+    → (codes "records:\n" ++ event_line names e) ++ flat_map (event_line names) later ≡ records_text names all
+first_line names all later e is =
+    append_assoc (codes "records:\n") (event_line names e) (flat_map (event_line names) later) ∙ ap (records_text names) (sym is)
 
 -- ---- the document of bytes
 
-pub yaml_of_read : (program : Option Program) (bytes : List ℕ) (trace : Trace) → trace_of bytes ≡ Ok trace → yaml_text program trace ≡ yaml_of_bytes program bytes
-yaml_of_read program bytes trace read = ap (yaml_read program) (sym read)
+pub yaml_of_read : (names : Naming) (bytes : List ℕ) (trace : Trace) → trace_of bytes ≡ Ok trace → yaml_text names trace ≡ yaml_of_bytes names bytes
+yaml_of_read names bytes trace read = ap (yaml_read names) (sym read)
 
 -- the document is put together of its header and its records
-pub yaml_of_parts : (program : Option Program) (bytes : List ℕ) (trace : Trace) (header : Header) (events : List ThreadEvent) → trace_of bytes ≡ Ok trace
+pub yaml_of_parts : (names : Naming) (bytes : List ℕ) (trace : Trace) (header : Header) (events : List ThreadEvent) → trace_of bytes ≡ Ok trace
     → header ≡ trace.header → events ≡ thread_events trace.blocks
-    → (header_text header ++ records_text program events) ++ codes "...\n" ≡ yaml_of_bytes program bytes
-yaml_of_parts program bytes trace header events read same_header same_events =
-    ap (λ (h : Header). (header_text h ++ records_text program events) ++ codes "...\n") same_header
-    ∙ (ap (λ (es : List ThreadEvent). (header_text trace.header ++ records_text program es) ++ codes "...\n") same_events
-    ∙ yaml_of_read program bytes trace read)
+    → (header_text header ++ records_text names events) ++ codes "...\n" ≡ yaml_of_bytes names bytes
+yaml_of_parts names bytes trace header events read same_header same_events =
+    ap (λ (h : Header). (header_text h ++ records_text names events) ++ codes "...\n") same_header
+    ∙ (ap (λ (es : List ThreadEvent). (header_text trace.header ++ records_text names es) ++ codes "...\n") same_events
+    ∙ yaml_of_read names bytes trace read)

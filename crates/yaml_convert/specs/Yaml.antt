@@ -1,5 +1,5 @@
 -- The YAML text of a trace.
-use Rattle.std.specs.Prelude.{◌++◌, Bool, true, false, ℕ, List, [], ◌∷◌, codes, decimal, Option, Result, Ok, Err}
+use Rattle.std.specs.Prelude.{◌++◌, Bool, true, false, ℕ, List, [], ◌∷◌, codes, decimal, Result, Ok, Err}
 use Rattle.std.specs.List.{flat_map}
 use Rattle.fdr_record.specs.declared.event.Event.{Event}
 use Rattle.fdr_record.specs.declared.event.Kind.{Kind}
@@ -9,8 +9,9 @@ use Rattle.fdr_file.specs.declared.header.Header.{Header}
 use Rattle.fdr_file.specs.declared.trace.Trace.{Trace}
 use Rattle.fdr_file.specs.ThreadEvents.{ThreadEvent, thread_events}
 use Rattle.fdr_file.specs.Traces.{trace_of}
-use Rattle.xray_image.specs.Program.{Program}
+use Rattle.map_names.specs.Naming.{Naming}
 use Rattle.function_names.specs.Name.{name_text}
+use Rattle.function_names.specs.declared.form.NameForm.TheVariants.{Quoted}
 
 abbrev pub truth_text : Bool → List ℕ
 truth_text true = codes "true"
@@ -51,8 +52,8 @@ event_counter event = codes ", tsc: " ++ decimal event.tsc ++ codes " }\n"
 abbrev pub event_end : ThreadEvent → List ℕ
 event_end e = event_stamp e ++ arg_text e.event.kind e.event.arg ++ event_counter e.event
 
-abbrev pub event_line : Option Program → ThreadEvent → List ℕ
-event_line program e = event_start e.event ++ name_text program e.event.func ++ event_end e
+abbrev pub event_line : Naming → ThreadEvent → List ℕ
+event_line names e = event_start e.event ++ name_text Quoted names e.event.func ++ event_end e
 
 -- the text that the records begin with; an empty list is on the same line
 abbrev pub records_start : List ThreadEvent → List ℕ
@@ -60,18 +61,18 @@ records_start [] = codes "records: []\n"
 records_start (e ∷ later) = codes "records:\n"
 
 -- the records: a line for each event
-abbrev pub records_text : Option Program → List ThreadEvent → List ℕ
-records_text program events = records_start events ++ flat_map (event_line program) events
+abbrev pub records_text : Naming → List ThreadEvent → List ℕ
+records_text names events = records_start events ++ flat_map (event_line names) events
 
 -- the header and a line for each event, block by block, between the marks of a YAML document
-abbrev pub yaml_text : Option Program → Trace → List ℕ
-yaml_text program trace = header_text trace.header ++ records_text program (thread_events trace.blocks) ++ codes "...\n"
+abbrev pub yaml_text : Naming → Trace → List ℕ
+yaml_text names trace = header_text trace.header ++ records_text names (thread_events trace.blocks) ++ codes "...\n"
 
 -- the same for the trace that was read, if there is one
-abbrev pub yaml_read : Option Program → Result Trace TraceFault → List ℕ
-yaml_read program (Ok trace) = yaml_text program trace
-yaml_read program (Err fault) = []
+abbrev pub yaml_read : Naming → Result Trace TraceFault → List ℕ
+yaml_read names (Ok trace) = yaml_text names trace
+yaml_read names (Err fault) = []
 
 -- the trace that bytes read as
-abbrev pub yaml_of_bytes : Option Program → List ℕ → List ℕ
-yaml_of_bytes program bytes = yaml_read program (trace_of bytes)
+abbrev pub yaml_of_bytes : Naming → List ℕ → List ℕ
+yaml_of_bytes names bytes = yaml_read names (trace_of bytes)

@@ -1,5 +1,6 @@
 //! The line of an event.
-ghost use Rattle.std.specs.{Prelude.{◌≡◌, ◌+◌, ◌≤◌, [], ◌++◌, length}, Option.{option_map}};
+ghost use Rattle.std.specs.Prelude.{◌≡◌, ◌+◌, ◌≤◌, [], ◌++◌, length};
+ghost use Rattle.function_names.specs.Name.{naming};
 ghost use Rattle.xray_io.specs.Text.{AddsText};
 ghost use Rattle.yaml_convert.specs.Yaml.{arg_text, event_end, event_line, event_start, kind_text};
 ghost use Rattle.yaml_convert.specs.private.Stamps.{happened_text};
@@ -7,8 +8,7 @@ ghost use Rattle.yaml_convert.specs.private.Stamps.{happened_text};
 use crate::row::{ROOM, Row};
 use crate::stamp::Stamp;
 use fdr_record::{Event, Kind};
-use function_names::add_name;
-use xray_image::Image;
+use function_names::{NameForm, Names, add_name};
 use xray_io::{Sink, Text, WriteFault};
 
 /// The length of the longest argument, with its key.
@@ -24,16 +24,16 @@ pub(crate) fn add_event<S: Sink>(
     thread: u32,
     pid: u32,
     event: &Event,
-    image: Option<&Image>,
+    names: Names,
 ) -> Result<(), WriteFault>
     ensures { AddsText S.written S.faults S.along text.old text.new
-        (event_line (option_map (λ image. image.now) image.entry)
+        (event_line (naming names.entry)
         (record { thread = thread; pid = pid; event = event.now })) result }
 {
     let mut row = Row::new();
     put_start(&mut row, event);
     text.bytes(row.as_slice())?;
-    add_name(text, image, event.func)?;
+    add_name(text, names, NameForm::Quoted, event.func)?;
     add_end(text, stamp, thread, pid, event)
 }
 

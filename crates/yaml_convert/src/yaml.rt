@@ -2,6 +2,7 @@
 
 ghost use Rattle.std.specs.{Prelude.{◌≡◌, ⊤, length, nat_lt}, List.{flat_map, list_any}, Option.{option_map}};
 ghost use Rattle.fdr_file.specs.ThreadEvents.{block_events, thread_events};
+ghost use Rattle.function_names.specs.Name.{image_names, naming};
 ghost use Rattle.xray_io.specs.{Piece.{piece_text}, Text.{AddsText}, Writes.{WritesText}};
 ghost use Rattle.yaml_convert.specs.Yaml.{event_line, header_text, records_start, records_text, truth_text, yaml_text};
 
@@ -9,6 +10,7 @@ use crate::line::add_event;
 use crate::stamp::Stamp;
 use fdr_file::{Block, Header, Trace};
 use fdr_record::Event;
+use function_names::Names;
 use xray_image::Image;
 use xray_io::{Piece, Printed, Sink, Text, WriteFault, write_text};
 
@@ -23,13 +25,12 @@ use xray_io::{Piece, Printed, Sink, Text, WriteFault, write_text};
 pub struct YamlText<'a> {
     /// The trace.
     pub trace: &'a Trace,
-    /// The image that names the functions of the events. If it has no name for one, or if there is no
-    /// image, `#` and the id are printed.
-    pub image: Option<&'a Image>,
+    /// What names the functions of the events. If a name isn't known, `#` and the id are printed.
+    pub names: Names<'a>,
 }
 
 impl Printed for YamlText<'_> {
-    ghost text = { λ yaml. yaml_text (option_map (λ image. image.now) yaml.image) yaml.trace.now };
+    ghost text = { λ yaml. yaml_text (naming yaml.names) yaml.trace.now };
 
     ghost ready = { λ _. ⊤ };
 
@@ -49,9 +50,10 @@ pub fn write_yaml<S: Sink>(
     sink: &mut S,
 ) -> Result<(), WriteFault>
     ensures writes { WritesText S.written S.faults S.along sink.old sink.new
-        (yaml_text (option_map (λ image. image.now) image.entry) trace.now) result }
+        (yaml_text (image_names (option_map (λ image. image.now) image.entry)) trace.now) result }
 {
-    write_text(&YamlText { trace, image }, sink)
+    let names = Names::of_image(image);
+    write_text(&YamlText { trace, names }, sink)
 }
 
 /// Adds the header.
@@ -75,12 +77,12 @@ pub(crate) fn add_header<S: Sink>(text: &mut Text<S>, header: &Header) -> Result
 /// Adds the records.
 fn add_records<S: Sink>(text: &mut Text<S>, yaml: &YamlText) -> Result<(), WriteFault>
     ensures { AddsText S.written S.faults S.along text.old text.new
-        (records_text (option_map (λ image. image.now) yaml.now.image)
+        (records_text (naming yaml.now.names)
         (thread_events yaml.now.trace.now.blocks)) result }
 {
     let blocks = yaml.trace.blocks.as_slice();
     text.bytes(records_line(blocks))?;
-    add_blocks(text, &mut Stamp::new(0, 0, 0), blocks, yaml.image)
+    add_blocks(text, &mut Stamp::new(0, 0, 0), blocks, yaml.names)
 }
 
 /// The text that the records begin with.
@@ -113,14 +115,14 @@ fn add_blocks<S: Sink>(
     text: &mut Text<S>,
     stamp: &mut Stamp,
     blocks: &[Block],
-    image: Option<&Image>,
+    names: Names,
 ) -> Result<(), WriteFault>
     ensures { AddsText S.written S.faults S.along text.old text.new
-        (flat_map (λ block. flat_map (event_line (option_map (λ image. image.now) image.entry))
+        (flat_map (λ block. flat_map (event_line (naming names.entry))
         (block_events block)) blocks.now) result }
 {
     'lines: for block in blocks {
-        add_block(text, stamp, block, image)?;
+        add_block(text, stamp, block, names)?;
     }
     Ok(())
 }
@@ -130,10 +132,10 @@ fn add_block<S: Sink>(
     text: &mut Text<S>,
     stamp: &mut Stamp,
     block: &Block,
-    image: Option<&Image>,
+    names: Names,
 ) -> Result<(), WriteFault>
     ensures { AddsText S.written S.faults S.along text.old text.new
-        (flat_map (event_line (option_map (λ image. image.now) image.entry))
+        (flat_map (event_line (naming names.entry))
         (block_events block.now)) result }
 {
     add_events(
@@ -142,7 +144,7 @@ fn add_block<S: Sink>(
         block.thread,
         block.pid,
         block.events.as_slice(),
-        image,
+        names,
     )
 }
 
@@ -153,14 +155,14 @@ fn add_events<S: Sink>(
     thread: u32,
     pid: u32,
     events: &[Event],
-    image: Option<&Image>,
+    names: Names,
 ) -> Result<(), WriteFault>
     ensures { AddsText S.written S.faults S.along text.old text.new
-        (flat_map (λ event. event_line (option_map (λ image. image.now) image.entry)
+        (flat_map (λ event. event_line (naming names.entry)
         (record { thread = thread; pid = pid; event = event })) events.now) result }
 {
     'lines: for event in events {
-        add_event(text, stamp, thread, pid, event, image)?;
+        add_event(text, stamp, thread, pid, event, names)?;
     }
     Ok(())
 }

@@ -4,6 +4,7 @@ ghost use Rattle.std.specs.{Prelude.{◌≡◌, List, Ok}, List.{flat_map}, Opti
 ghost use Rattle.fdr_file.specs.declared.trace.Trace.{Trace};
 ghost use Rattle.fdr_file.specs.Traces.{trace_of};
 ghost use Rattle.fdr_file.specs.EventsLeft.{events_left};
+ghost use Rattle.function_names.specs.Name.{image_names, naming};
 ghost use Rattle.xray_io.specs.{Text.{AddsText}, Writes.{WritesText}};
 ghost use Rattle.yaml_convert.specs.Yaml.{event_line, records_text, yaml_of_bytes, yaml_text};
 
@@ -11,6 +12,7 @@ use crate::line::add_event;
 use crate::stamp::Stamp;
 use crate::yaml::add_header;
 use fdr_file::EventCursor;
+use function_names::Names;
 use xray_image::Image;
 use xray_io::{Printed, Sink, Text, WriteFault, write_text};
 
@@ -22,20 +24,19 @@ use xray_io::{Printed, Sink, Text, WriteFault, write_text};
 pub struct YamlBytes<'a> {
     /// The bytes of the file.
     pub bytes: &'a [u8],
-    /// The image that names the functions of the events. If it has no name for one, or if there is no
-    /// image, `#` and the id are printed.
-    pub image: Option<&'a Image>,
+    /// What names the functions of the events. If a name isn't known, `#` and the id are printed.
+    pub names: Names<'a>,
 }
 
 impl Printed for YamlBytes<'_> {
-    ghost text = { λ yaml. yaml_of_bytes (option_map (λ image. image.now) yaml.image) yaml.bytes.now };
+    ghost text = { λ yaml. yaml_of_bytes (naming yaml.names) yaml.bytes.now };
 
     ghost ready = { λ yaml. (trace : Trace) × (trace_of yaml.bytes.now ≡ Ok trace) };
 
     fn add_to<S: Sink>(&self, to: &mut Text<S>) -> Result<(), WriteFault> {
         let mut cursor = EventCursor::new(self.bytes);
         add_header(to, &cursor.header())?;
-        add_given(to, &mut cursor, self.image)?;
+        add_given(to, &mut cursor, self.names)?;
         to.bytes(b"...\n")
     }
 }
@@ -51,19 +52,20 @@ pub fn write_yaml_bytes<S: Sink>(
     requires { (trace : Trace) × (trace_of bytes.now ≡ Ok trace) }
     ensures writes { (trace : Trace) → trace_of bytes.now ≡ Ok trace
         → WritesText S.written S.faults S.along sink.old sink.new
-        (yaml_text (option_map (λ image. image.now) image.entry) trace) result }
+        (yaml_text (image_names (option_map (λ image. image.now) image.entry)) trace) result }
 {
-    write_text(&YamlBytes { bytes, image }, sink)
+    let names = Names::of_image(image);
+    write_text(&YamlBytes { bytes, names }, sink)
 }
 
 /// Adds the records of the events that a cursor has still to give.
 fn add_given<S: Sink>(
     text: &mut Text<S>,
     cursor: &mut EventCursor,
-    image: Option<&Image>,
+    names: Names,
 ) -> Result<(), WriteFault>
     ensures { AddsText S.written S.faults S.along text.old text.new
-        (records_text (option_map (λ image. image.now) image.entry) (events_left cursor.old))
+        (records_text (naming names.entry) (events_left cursor.old))
         result }
 {
     match cursor.next() {
@@ -71,8 +73,8 @@ fn add_given<S: Sink>(
         Some((thread, pid, event)) => {
             text.bytes(b"records:\n")?;
             let mut stamp = Stamp::new(event.cpu, thread, pid);
-            add_event(text, &mut stamp, thread, pid, &event, image)?;
-            add_lines(text, &mut stamp, cursor, image)
+            add_event(text, &mut stamp, thread, pid, &event, names)?;
+            add_lines(text, &mut stamp, cursor, names)
         }
     }
 }
@@ -82,14 +84,14 @@ fn add_lines<S: Sink>(
     text: &mut Text<S>,
     stamp: &mut Stamp,
     cursor: &mut EventCursor,
-    image: Option<&Image>,
+    names: Names,
 ) -> Result<(), WriteFault>
     ensures { AddsText S.written S.faults S.along text.old text.new
-        (flat_map (event_line (option_map (λ image. image.now) image.entry))
+        (flat_map (event_line (naming names.entry))
         (events_left cursor.old)) result }
 {
     'lines: while let Some((thread, pid, event)) = cursor.next() {
-        add_event(text, stamp, thread, pid, &event, image)?;
+        add_event(text, stamp, thread, pid, &event, names)?;
     }
     Ok(())
 }

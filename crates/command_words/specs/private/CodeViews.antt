@@ -1,5 +1,5 @@
 -- The tables and the lines of the code, as those of the definitions. Texts are their bytes.
-use Rattle.std.specs.Prelude.{ℕ, List, Option, map, option_map}
+use Rattle.std.specs.Prelude.{ℕ, List, map}
 use Rattle.command_words.specs.declared.line.Line as line
 use Rattle.command_words.specs.declared.report_options.ReportFiles as report_files
 use Rattle.command_words.specs.declared.rows.CommandRow as command_row
@@ -8,13 +8,16 @@ use Rattle.command_words.specs.declared.rows.OptionRow as option_row
 use Rattle.command_words.specs.declared.rows.Values as values
 use Rattle.command_words.specs.declared.rows.Values.TheVariants as values_of
 use Rattle.command_words.specs.Lines.{Line}
-use Rattle.command_words.specs.Numbers.{Values, Number, OneOf, Listed}
+use Rattle.command_words.specs.Numbers.{Values, Number, OneOf, Listed, FileName}
+use Rattle.command_words.specs.Reports.{NameSource}
 use Rattle.command_words.specs.Rows.{CommandRow, FileRow, OptionRow}
+use Rattle.command_words.specs.Views.{source_view}
 
 abbrev pub values_view : values.Values → Values
 values_view (values_of.Number least most) = Number least most
 values_view (values_of.OneOf numbers) = OneOf numbers.now
 values_view (values_of.Listed words) = Listed (map (λ word. word.now) words.now)
+values_view values_of.FileName = FileName
 
 abbrev pub option_view : option_row.OptionRow → OptionRow
 option_view option = record { name = option.name.now; values = values_view option.values; default = option.default }
@@ -28,5 +31,5 @@ row_view row = record { word = row.word.now; files = map file_view row.files.now
 abbrev pub line_view : line.Line → Line
 line_view line = record { files = map (λ name. name.now) line.files.items; given = map (λ given. (given.0.now, given.1.now)) line.given.items }
 
-abbrev pub files_view : report_files.ReportFiles → List ℕ × Option (List ℕ)
-files_view files = (files.trace.now, option_map (λ image. image.now) files.image)
+abbrev pub files_view : report_files.ReportFiles → List ℕ × NameSource
+files_view files = (files.trace.now, source_view files.names)

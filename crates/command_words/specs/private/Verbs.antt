@@ -1,33 +1,16 @@
 -- What a command does, as its first word says.
-use Rattle.std.specs.Prelude.{ℕ, List, Option, Some, None, if◌then◌else◌}
+use Rattle.std.specs.Prelude.{ℕ, Bool, List, [], ◌∷◌, Option, find}
 use Rattle.std.specs.Str.{bytes_eq}
 use Rattle.xray_io.specs.declared.wall.Wall.{Wall}
 use Rattle.command_words.specs.Lines.{Line}
 use Rattle.command_words.specs.Rows.{CommandRow}
 use Rattle.command_words.specs.Tables.{account_row, asm_row, check_row, convert_row, dump_row, extract_row, plain_row, run_row, sim_row}
-use Rattle.command_words.specs.Tables.{profile_row, soak_row, stack_row}
-use Rattle.command_words.specs.Words.{Command, account_in, asm_in, check_in, convert_in, dump_in, extract_in, plain_in, profile_in, run_in, sim_in, soak_in, stack_in}
+use Rattle.command_words.specs.Tables.{import_row, profile_row, soak_row, stack_row}
+use Rattle.command_words.specs.Words.{Command, account_in, asm_in, check_in, convert_in, dump_in, extract_in, import_in, plain_in, profile_in, run_in, sim_in, soak_in, stack_in}
 use Rattle.command_words.specs.declared.words.Report.{Report}
 use Rattle.command_words.specs.declared.words.Report.TheVariants as reports
 use Rattle.command_words.specs.declared.words.Verb.{Verb}
 use Rattle.command_words.specs.declared.words.Verb.TheVariants as verbs
-
--- the verb of a word, if a command has the word
-abbrev pub verb_of : List ℕ → Option Verb
-verb_of word =
-    if bytes_eq word plain_row.word then Some verbs.Plain
-    else if bytes_eq word extract_row.word then Some verbs.Extract
-    else if bytes_eq word sim_row.word then Some verbs.Sim
-    else if bytes_eq word run_row.word then Some verbs.Run
-    else if bytes_eq word asm_row.word then Some verbs.Asm
-    else if bytes_eq word account_row.word then Some (verbs.Report reports.Account)
-    else if bytes_eq word stack_row.word then Some (verbs.Report reports.Stack)
-    else if bytes_eq word convert_row.word then Some (verbs.Report reports.Convert)
-    else if bytes_eq word dump_row.word then Some verbs.Dump
-    else if bytes_eq word check_row.word then Some verbs.Check
-    else if bytes_eq word profile_row.word then Some verbs.Profile
-    else if bytes_eq word soak_row.word then Some verbs.Soak
-    else None
 
 -- its row in the table
 abbrev pub row_by : Verb → CommandRow
@@ -43,6 +26,21 @@ row_by verbs.Dump = dump_row
 row_by verbs.Check = check_row
 row_by verbs.Profile = profile_row
 row_by verbs.Soak = soak_row
+row_by verbs.Import = import_row
+
+-- the verbs, in the order in which a reading tries their words
+abbrev pub all_verbs : List Verb
+all_verbs =
+    verbs.Plain ∷ verbs.Extract ∷ verbs.Sim ∷ verbs.Run ∷ verbs.Asm ∷ verbs.Report reports.Account ∷ verbs.Report reports.Stack
+    ∷ verbs.Report reports.Convert ∷ verbs.Dump ∷ verbs.Check ∷ verbs.Profile ∷ verbs.Soak ∷ verbs.Import ∷ []
+
+-- whether a verb's command has this word
+abbrev pub is_word_of : List ℕ → Verb → Bool
+is_word_of word verb = bytes_eq word (row_by verb).word
+
+-- the verb of a word, if a command has the word
+abbrev pub verb_of : List ℕ → Option Verb
+verb_of word = find (is_word_of word) all_verbs
 
 -- the report that a line asks for
 abbrev pub report_said : Report → Line → Option Command
@@ -62,3 +60,4 @@ command_by verbs.Dump wall = dump_in
 command_by verbs.Check wall = check_in
 command_by verbs.Profile wall = profile_in
 command_by verbs.Soak wall = soak_in
+command_by verbs.Import wall = import_in

@@ -74,10 +74,6 @@ pub record EventsNext (scan : TraceScan) (span : Span) (base : Base) : Type 0 wh
   pub stage : scan.stage ≡ Within span (insides.Events (Some base))
   pub none : scan.prefix ≡ []
 
--- what is known after the record that bytes begin with, and the events that it settles; it may end its block
-abbrev pub event_on : Bool → ℕ → Base → List ℕ → Result (Base × Option Event × Option Event) TraceFault
-event_on ends at base bytes = record_or at (record_in bytes) >>= λ r. step_on ends at r (Some base)
-
 -- after a record of a block's events that ends at this place, with this CPU and counter
 abbrev pub among_events : TraceScan → Span → ℕ → Base → TraceScan
 among_events scan span at base = record scan { stage = stage_after span at (insides.Events (Some base)); at = at }

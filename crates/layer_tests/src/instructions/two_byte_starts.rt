@@ -1,4 +1,4 @@
-//! What each pair of bytes begins. `tools/two_byte_starts.py` of `subset_decode` made the table from
+//! What each pair of bytes begins. `tools/values/two_byte_starts.py` made the table from
 //! a list of all encodings.
 
 /// What two bytes begin.

@@ -6,11 +6,11 @@ use Rattle.fdr_file.specs.declared.trace.Trace.{Trace}
 use Rattle.fdr_file.specs.Prefixes.{ReadsAsTrace}
 use Rattle.fdr_file.specs.ThreadEvents.{thread_events}
 use Rattle.fdr_file.specs.Traces.{trace_of}
+use Rattle.map_names.specs.Naming.{Naming}
 use Rattle.trace_forms.specs.BasicLogs.{log_of_bytes, wide_cpu}
 use Rattle.trace_forms.specs.FaultWords.{basic_words}
 use Rattle.trace_forms.specs.TraceEvents.{events_of_bytes}
 use Rattle.trace_words.specs.TraceWords.{trace_words}
-use Rattle.xray_image.specs.Program.{Program}
 use Rattle.xray_program.specs.declared.log.Log.{Log}
 use Rattle.xray_program.specs.declared.log.Log.TheVariants as logs
 use Rattle.xray_program.specs.declared.log.LogFault.{LogFault}
@@ -28,10 +28,10 @@ log_words (faults.Fdr fault) = trace_words fault
 log_words (faults.Basic fault) = basic_words fault
 
 -- the text of bytes in a form, and when they have one
-abbrev pub bytes_text : ConvertFormat → Option Program → List ℕ → List ℕ
-bytes_text formats.Yaml program bytes = yaml_of_bytes program bytes
-bytes_text formats.TraceEvents program bytes = events_of_bytes program bytes
-bytes_text formats.Basic program bytes = log_of_bytes bytes
+abbrev pub bytes_text : ConvertFormat → Naming → List ℕ → List ℕ
+bytes_text formats.Yaml names bytes = yaml_of_bytes names bytes
+bytes_text formats.TraceEvents names bytes = events_of_bytes names bytes
+bytes_text formats.Basic names bytes = log_of_bytes bytes
 
 abbrev pub BytesFit : ConvertFormat → List ℕ → Type 0
 BytesFit formats.Yaml bytes = ReadsAsTrace bytes

@@ -46,13 +46,6 @@ abbrev pub IsTakenAs : {V X : Type 0} → Form X → (means : V → X → Type 0
 IsTakenAs {V} {X} form means name before after (Ok value) = (meant : X) × means value meant × IsAcceptedAs form (before.held name) meant
 IsTakenAs form means name before after (Err stop) = IsTaken form name before after (Err stop)
 
--- the turn of an input that the words may leave out
-abbrev pub IsMaybeTaken : {X : Type 0} → Form X → Option (List ℕ) → (before after : DeskView) → Result (Option X) Stop → Type 0
-IsMaybeTaken form None before after result = result ≡ Ok None
-IsMaybeTaken form (Some name) before after (Ok None) = ⊥
-IsMaybeTaken form (Some name) before after (Ok (Some value)) = IsTaken form name before after (Ok value)
-IsMaybeTaken form (Some name) before after (Err stop) = IsTaken form name before after (Err stop)
-
 -- A stop at one of the inputs of which this comes: an outcome that comes. If the input can't be read, reads failed or
 -- that is meant too.
 abbrev pub IsStopAtInput : (DeskReads → Outcome → Type 0) → (before after : DeskView) → Stop → Type 0
@@ -98,11 +91,6 @@ StopsTaking name limit stop calls = ⊥
 abbrev pub IsTaking : {X : Type 0} → List ℕ → (limit : ℕ) → Result X Stop → List Call → Type 0
 IsTaking name limit (Ok value) calls = ReadsWhole name limit calls
 IsTaking name limit (Err stop) calls = StopsTaking name limit stop calls
-
--- the calls of the turn of an input that the words may leave out; there are none if they do
-abbrev pub IsMaybeTaking : {X : Type 0} → Option (List ℕ) → (limit : ℕ) → Result X Stop → List Call → Type 0
-IsMaybeTaking None limit result calls = calls ≡ []
-IsMaybeTaking (Some name) limit result calls = IsTaking name limit result calls
 
 -- a stop names this input, unless memory ran out
 abbrev pub IsNamed : List ℕ → Stop → Type 0

@@ -10,7 +10,7 @@ use Rattle.xray_program.specs.Order.{FailsAtOutput, InOrder, IsNoCall, IsUnmade,
 use Rattle.xray_program.specs.Outcomes.{Outcome, BadLine, Unread, Refused, Done, Fell, Ending, With, Unwritten, NoMemory, status_at, err_line_at, written_by}
 use Rattle.xray_program.specs.Outputs.{OutputsAreWhole, FailsAt, FailsWriting, NoFault, WritesNothing}
 use Rattle.command_words.specs.Ranges.{HasRanges}
-use Rattle.command_words.specs.Words.{Command, Sim, Run, Plain, Extract, Asm, Account, Stack, Convert, Dump, Check, Profile, Soak}
+use Rattle.command_words.specs.Words.{Command, Sim, Run, Plain, Extract, Asm, Account, Stack, Convert, Dump, Check, Profile, Soak, Import}
 use Rattle.xray_io.specs.World.{DeskView, SinkView}
 use Rattle.xray_program.specs.declared.stop.Stop.{Stop}
 use Rattle.xray_program.specs.declared.stop.Stop.TheVariants as stops
@@ -122,13 +122,14 @@ IsOther (Run image script trace audit options) = ⊥
 IsOther (Plain image bounds) = Unit {0}
 IsOther (Extract image) = Unit {0}
 IsOther (Asm text image threshold relative) = Unit {0}
-IsOther (Account trace image options) = Unit {0}
-IsOther (Stack trace image format) = Unit {0}
-IsOther (Convert trace image options) = Unit {0}
+IsOther (Account trace names options) = Unit {0}
+IsOther (Stack trace names format) = Unit {0}
+IsOther (Convert trace names options) = Unit {0}
 IsOther (Dump trace) = Unit {0}
 IsOther (Check image script trace audit) = Unit {0}
 IsOther (Profile image script options) = ⊥
 IsOther (Soak number) = Unit {0}
+IsOther (Import log trace) = Unit {0}
 
 -- what words say is in its ranges
 abbrev pub SaidHasRanges : Option Command → Type 0

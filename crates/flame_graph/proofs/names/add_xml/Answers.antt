@@ -1,14 +1,10 @@
-use Rattle.std.proofs.Common.{refl}
-use Rattle.xray_io.proofs.ItemTexts.{adds_broken, adds_next}
-use Rattle.flame_graph.specs.FlameText.{xml_byte}
+use Rattle.std.proofs.Common.{ℕ, List, ap, subst}
+use Rattle.xray_io.specs.Text.{AddsText}
+use Rattle.flame_graph.specs.FlameText.{xml_characters}
+use Rattle.flame_graph.proofs.Splitting.{all_taken}
 use Rattle.flame_graph.proofs.names.add_xml.Goals as goal
 
-pub bytes-preserved : goal.bytes-preserved
-bytes-preserved g c =
-    adds_next g.met.S.Sink.along_both xml_byte c.args.name.now c.bytes.byte-index _ _ c.bytes-test.true refl
-    c.bytes.invariant c.in_ok-add_xml_byte.ensures
-
-pub returns-in_err-add_xml_byte : goal.returns-in_err-add_xml_byte
-returns-in_err-add_xml_byte g c =
-    adds_broken g.met.S.Sink.along_both xml_byte c.args.name.now c.bytes.byte-index _ _ c.bytes-test.true refl
-    c.bytes.invariant c.in_err-add_xml_byte.ensures c.from_residual.result c.from_residual.ensures.1
+pub returns : goal.returns
+returns g c =
+    let P : List ℕ → Type 0 = λ t. AddsText g.S.Sink.written g.S.Sink.faults g.S.Sink.along c.args.to.now c.add_first.new.to t c.add_first.result in
+    subst P (ap xml_characters (all_taken c.args.name.now)) c.add_first.ensures

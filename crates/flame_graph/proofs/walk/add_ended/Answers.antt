@@ -1,6 +1,6 @@
 use Rattle.std.proofs.Common.{◌≡◌, ◌∙◌, ◌+◌, ◌-◌, ◌<◌, ◌≤◌, List, [], ℕ, Ok, ap, arith, get_or, length, map, subst, suc, sym, take}
 use Rattle.std.specs.List.{flat_map}
-use Rattle.std.specs.Option.{option_map}
+use Rattle.function_names.specs.Name.{naming}
 use Rattle.std.proofs.lemmas.List.{length-map, length-take-le, take_all}
 use Rattle.xray_io.proofs.ItemTexts.{adds_broken, adds_next}
 use Rattle.xray_io.specs.Text.{AddsText, adds_nothing}
@@ -17,7 +17,7 @@ use Rattle.flame_graph.proofs.walk.add_ended.Goals as goal
 pub frames-init : goal.frames-init
 frames-init g c =
     let rows = map told c.args.picture.now.rows.now in
-    let text = frame_text (option_map (λ image. image.now) c.args.picture.now.image) rows in
+    let text = frame_text (naming c.args.picture.now.names) rows in
     let some = ended_at rows c.args.at in
     let zero : c.args.walk.now.standing - c.args.walk.now.standing ≡ 0 = omega arith in
     let none : take (c.args.walk.now.standing - c.args.walk.now.standing) some ≡ [] = ap (λ (k : ℕ). take k some) zero in
@@ -62,7 +62,7 @@ pub returns-in_err-add_frame-clause-adds : goal.returns-in_err-add_frame-clause-
 returns-in_err-add_frame-clause-adds g c =
     let all = c.args.picture.now.rows.now in
     let rows = map told all in
-    let text = frame_text (option_map (λ image. image.now) c.args.picture.now.image) rows in
+    let text = frame_text (naming c.args.picture.now.names) rows in
     let some = ended_at rows c.args.at in
     let cut = c.as_slice-path.result.now in
     let outer = c.frames.outer in
@@ -83,7 +83,7 @@ pub frames-preserved : goal.frames-preserved
 frames-preserved g c =
     let all = c.args.picture.now.rows.now in
     let rows = map told all in
-    let text = frame_text (option_map (λ image. image.now) c.args.picture.now.image) rows in
+    let text = frame_text (naming c.args.picture.now.names) rows in
     let some = ended_at rows c.args.at in
     let cut = c.as_slice-path.result.now in
     let outer = c.frames.outer in
@@ -109,7 +109,7 @@ pub returns-clause-adds : goal.returns-clause-adds
 returns-clause-adds g c =
     let all = c.args.picture.now.rows.now in
     let rows = map told all in
-    let text = frame_text (option_map (λ image. image.now) c.args.picture.now.image) rows in
+    let text = frame_text (naming c.args.picture.now.names) rows in
     let some = ended_at rows c.args.at in
     let same : c.as_slice-path.result.now ≡ path_at rows c.args.at = c.as_slice-path.ensures.value
     ∙ (ap (λ (r : StackRow). r.path.items) (sym c.index-picture-at.is) ∙ sym (path_told all c.args.at c.index-picture-at.result c.requires.within c.index-picture-at.is)) in

@@ -1,5 +1,5 @@
 use Rattle.std.proofs.Common.{◌<◌, ◌≤◌, List, ℕ, Ok, arith, length, map, subst, sym}
-use Rattle.std.specs.Option.{option_map}
+use Rattle.function_names.specs.Name.{naming}
 use Rattle.xray_io.specs.Text.{AddsText, adds_nothing}
 use Rattle.stack_rebuild.specs.Stacks.{told}
 use Rattle.flame_graph.specs.Picture.{least_width, most_levels, width_of}
@@ -9,29 +9,29 @@ use Rattle.flame_graph.proofs.walk.add_frame.Goals as goal
 pub returns-then-frame-gt-MOST_LEVELS-clause-adds : goal.returns-then-frame-gt-MOST_LEVELS-clause-adds
 returns-then-frame-gt-MOST_LEVELS-clause-adds g c =
     let rows = map told c.args.picture.now.rows.now in
-    let program = option_map (λ image. image.now) c.args.picture.now.image in
+    let names = naming c.args.picture.now.names in
     let long : most_levels < length c.args.frame.now = omega arith in
     let P : List ℕ → Type 0 = λ t. AddsText g.S.Sink.written g.S.Sink.faults g.S.Sink.along c.args.to.now c.args.to.now t (Ok tt) in
-    subst P (sym (text_none program rows c.args.frame.now (too_long rows c.args.frame.now long))) (adds_nothing g.met.S.Sink.along_none c.args.to.now)
+    subst P (sym (text_none names rows c.args.frame.now (too_long rows c.args.frame.now long))) (adds_nothing g.met.S.Sink.along_none c.args.to.now)
 
 pub returns-then-place-lt-LEAST_WIDTH-clause-adds : goal.returns-then-place-lt-LEAST_WIDTH-clause-adds
 returns-then-place-lt-LEAST_WIDTH-clause-adds g c =
     let rows = map told c.args.picture.now.rows.now in
-    let program = option_map (λ image. image.now) c.args.picture.now.image in
+    let names = naming c.args.picture.now.names in
     let thin : width_of rows c.args.frame.now < least_width = omega (arith, c.if-place-lt-LEAST_WIDTH.true, c.place_of-place.ensures.width) in
     let P : List ℕ → Type 0 = λ t. AddsText g.S.Sink.written g.S.Sink.faults g.S.Sink.along c.args.to.now c.args.to.now t (Ok tt) in
-    subst P (sym (text_none program rows c.args.frame.now (too_thin rows c.args.frame.now thin))) (adds_nothing g.met.S.Sink.along_none c.args.to.now)
+    subst P (sym (text_none names rows c.args.frame.now (too_thin rows c.args.frame.now thin))) (adds_nothing g.met.S.Sink.along_none c.args.to.now)
 
 pub returns-clause-adds : goal.returns-clause-adds
 returns-clause-adds g c =
     let rows = map told c.args.picture.now.rows.now in
-    let program = option_map (λ image. image.now) c.args.picture.now.image in
+    let names = naming c.args.picture.now.names in
     let frame = c.args.frame.now in
     let few : length frame ≤ most_levels = omega arith in
     let wide : least_width ≤ width_of rows frame = omega (arith, c.if-place-lt-LEAST_WIDTH.false, c.place_of-place.ensures.width) in
     let place = c.place_of-place.ensures in
     let P : List ℕ → Type 0 = λ t. AddsText g.S.Sink.written g.S.Sink.faults g.S.Sink.along c.args.to.now c.add_frame_line.new.to t c.add_frame_line.result in
-    subst P (line_drawn program rows frame _ _ _ _ (is_wide rows frame few wide) place.left place.width place.top (c.requires.kept few).calls) c.add_frame_line.ensures
+    subst P (line_drawn names rows frame _ _ _ _ (is_wide rows frame few wide) place.left place.width place.top (c.requires.kept few).calls) c.add_frame_line.ensures
 
 pub returns-clause-left : goal.returns-clause-left
 returns-clause-left g c =

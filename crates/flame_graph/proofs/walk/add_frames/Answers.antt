@@ -1,6 +1,6 @@
 use Rattle.std.proofs.Common.{◌++◌, ◌<◌, ◌≤◌, List, ℕ, [], Ok, ap, arith, length, rules, map, refl, subst, sym, ◌∙◌}
 use Rattle.std.specs.List.{flat_map}
-use Rattle.std.specs.Option.{option_map}
+use Rattle.function_names.specs.Name.{naming}
 use Rattle.std.proofs.lemmas.Grind.{flat_map-append}
 use Rattle.std.proofs.lemmas.List.{length-map}
 use Rattle.xray_io.specs.Text.{AddsText, adds_failed, adds_more, adds_nothing, adds_within}
@@ -20,7 +20,7 @@ rows-init g c =
 pub rows-preserved : goal.rows-preserved
 rows-preserved g c =
     let rows = map told c.args.picture.now.rows.now in
-    let text = frame_text (option_map (λ image. image.now) c.args.picture.now.image) rows in
+    let text = frame_text (naming c.args.picture.now.names) rows in
     let done = c.rows.invariant.0 in
     let at = c.rows.at in
     let within : at < length rows = omega (arith, c.rows-test.true, length-map c.args.picture.now.rows.now told) in (
@@ -36,7 +36,7 @@ pub returns-in_err-add_row : goal.returns-in_err-add_row
 returns-in_err-add_row g c = record {
   adds =
       let rows = map told c.args.picture.now.rows.now in
-      let text = frame_text (option_map (λ image. image.now) c.args.picture.now.image) rows in
+      let text = frame_text (naming c.args.picture.now.names) rows in
       let done = c.rows.invariant.0 in
       let at = c.rows.at in
       let within : at < length rows = omega (arith, c.rows-test.true, length-map c.args.picture.now.rows.now told) in
@@ -49,7 +49,7 @@ returns-in_err-add_row g c = record {
 pub returns : goal.returns
 returns g c =
     let rows = map told c.args.picture.now.rows.now in
-    let text = frame_text (option_map (λ image. image.now) c.args.picture.now.image) rows in
+    let text = frame_text (naming c.args.picture.now.names) rows in
     let after : length rows ≤ c.rows.at = omega (arith, c.rows-test.false, length-map c.args.picture.now.rows.now told) in
     let all = frames_done rows c.rows.at c.rows.invariant.0 after c.rows.invariant.1 in record {
       adds =

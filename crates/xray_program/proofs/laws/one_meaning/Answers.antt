@@ -11,5 +11,6 @@ returns c said held one other told decided a b =
       run = c.one_run.ensures;
       audit = c.one_reading.ensures;
       judged = c.one_verdict-2.ensures;
+      imports = c.one_import.ensures;
     })
     said held one other told decided a b

@@ -19,5 +19,6 @@ returns c said held told holds =
       };
       audit = c.some_reading.ensures;
       judged = c.some_verdict-2.ensures;
+      imports = c.some_import.ensures;
     })
     said held told holds

@@ -4,6 +4,7 @@ use Rattle.call_trie.specs.Merging.{AllStandFor}
 use Rattle.call_trie.specs.Tries.{Trie}
 use Rattle.fault_words.specs.Words.{words_text}
 use Rattle.flame_graph.specs.Frames.{AreStacks}
+use Rattle.function_names.specs.Name.{program_names}
 use Rattle.machine_step.specs.EndedText.{thread_text}
 use Rattle.machine_step.specs.Traced.{IsDone, Traced}
 use Rattle.stack_rebuild.specs.Stacks.{PathRow, stack_of_threads, told}
@@ -11,7 +12,7 @@ use Rattle.traced_run.specs.Runs.{events_of}
 use Rattle.xray_image.specs.Program.{Program}
 use Rattle.xray_io.specs.World.{desk_view, sink_view}
 use Rattle.xray_program.specs.private.Profiled.{HaveProfiled, comes_of}
-use Rattle.xray_program.specs.Profile.{trouble_of}
+use Rattle.xray_program.specs.Profile.{states_before, trouble_of}
 use Rattle.xray_program.specs.Stack.{rows_text}
 use Rattle.xray_program.specs.Traced.{state_texts}
 use Rattle.xray_program.specs.declared.stop.Stop.TheVariants as stops
@@ -107,11 +108,12 @@ returns-clause-finishes g c =
     let stand = subst (λ (ts : List Trie). AllStandFor ts threads) (sym c.deref-in-None.ensures.value) have.stand in
     let rows : map told c.deref-in-None-3.result.now ≡ stack_of_threads threads =
     ap (map told) c.deref-in-None-3.ensures.value ∙ c.in_ok-rows-in-None.ensures threads stand in
-    let shown : List PathRow → List ℕ = λ rs. rows_text s.options.format 0 (Some program) rs in
-    let text = states ++ shown (map told c.deref-in-None-3.result.now) in
-    let is : text ≡ state_texts 1 have.runs ++ shown (stack_of_threads threads) =
-    ap (λ (t : List ℕ). t ++ shown (map told c.deref-in-None-3.result.now)) printed
-    ∙ ap (λ (rs : List PathRow). state_texts 1 have.runs ++ shown rs) rows in
+    let shown : List PathRow → List ℕ = λ rs. rows_text s.options.format 0 (program_names program) rs in
+    let before : List ℕ → List ℕ = λ t. states_before s.options.format t in
+    let text = before states ++ shown (map told c.deref-in-None-3.result.now) in
+    let is : text ≡ before (state_texts 1 have.runs) ++ shown (stack_of_threads threads) =
+    ap (λ (t : List ℕ). before t ++ shown (map told c.deref-in-None-3.result.now)) printed
+    ∙ ap (λ (rs : List PathRow). before (state_texts 1 have.runs) ++ shown rs) rows in
     let none : None ≡ trouble_of 1 (map (λ (t : Trie). t.state) c.deref.result.now) = ap (option_map words_text) (sym c.in-None.is) ∙ c.trouble_of.ensures in
     finishes (comes_of s c.args.inputs) [] text None (seen c.args.desk.now) (seen c.deliver_report.new.desk) (got c.args.out.now)
     (got c.deliver_report.new.out) (g.D.Desk.along c.args.desk.now c.deliver_report.new.desk) c.deliver_report.result (

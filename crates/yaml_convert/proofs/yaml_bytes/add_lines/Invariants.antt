@@ -1,16 +1,16 @@
 use Rattle.std.proofs.Common.{◌≡◌, ◌++◌, List, Ok, length}
 use Rattle.std.specs.List.{flat_map}
-use Rattle.std.specs.Option.{option_map}
 use Rattle.xray_io.specs.Text.{AddsText}
 use Rattle.fdr_file.specs.ThreadEvents.{ThreadEvent}
 use Rattle.fdr_file.specs.EventsLeft.{events_left}
 use Rattle.yaml_convert.specs.Yaml.{event_line}
+use Rattle.function_names.specs.Name.{naming}
 use Rattle.yaml_convert.proofs.yaml_bytes.add_lines.Given as goal
 
 abbrev pub invariant-lines : goal.invariant-lines
 invariant-lines g l = (given : List ThreadEvent) × (events_left l.fn.cursor ≡ given ++ events_left l.cursor)
     × AddsText g.S.Sink.written g.S.Sink.faults g.S.Sink.along l.fn.text l.text
-    (flat_map (event_line (option_map (λ image. image.now) l.image)) given) (Ok tt)
+    (flat_map (event_line (naming l.names)) given) (Ok tt)
 
 abbrev pub decreases-lines : goal.decreases-lines
 decreases-lines g l = length (events_left l.cursor)

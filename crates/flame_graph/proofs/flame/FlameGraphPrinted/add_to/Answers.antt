@@ -1,6 +1,6 @@
 use Rattle.std.proofs.Common.{◌++◌, append_assoc, map, refl, sym}
 use Rattle.std.specs.List.{flat_map}
-use Rattle.std.specs.Option.{option_map}
+use Rattle.function_names.specs.Name.{naming}
 use Rattle.xray_io.specs.Text.{adds_failed, adds_more, adds_stop, adds_within}
 use Rattle.stack_rebuild.specs.Stacks.{told}
 use Rattle.flame_graph.specs.FlameText.{foot_text, frame_text, head_text}
@@ -12,7 +12,7 @@ pub returns-in_err-add_head : goal.returns-in_err-add_head
 returns-in_err-add_head g c =
     let rows = map told c.args.self.now.rows.now in
     let head = head_text c.args.self.now.frequency c.levels_of.result c.total_of.result in
-    let middle = flat_map (frame_text (option_map (λ image. image.now) c.args.self.now.image) rows) (frames rows) in
+    let middle = flat_map (frame_text (naming c.args.self.now.names) rows) (frames rows) in
     let foot = foot_text (levels_of rows) (left_out rows) in
     record {
       adds = adds_failed (rw (c.levels_of.ensures, c.total_of.ensures) at (rw (sym (append_assoc head middle foot)) at (adds_stop (middle ++ foot) c.in_err-add_head.ensures)))

@@ -32,6 +32,6 @@ returns g c = record {
   adds =
       let dump = c.args.self.now in
       subst (λ (fault : Option TraceFault). AddsText g.S.Sink.written g.S.Sink.faults g.S.Sink.along c.args.to.now c.add_last.new.text
-      (lines_of (take dump.end dump.bytes.now) dump.end fault) c.add_last.result) c.fault_in.ensures
+      (lines_of (take dump.end dump.bytes.now) dump.end fault) c.add_last.result) c.fault_after.ensures
       (adds_more g.met.S.Sink.along_both (adds_more g.met.S.Sink.along_both c.in_ok-add_header.ensures c.in_ok-add_records.ensures) c.add_last.ensures);
 }

@@ -1,4 +1,4 @@
-use Rattle.std.proofs.Common.{◌≡◌, ◌∙◌, List, ℕ, ap, ap₂, subst, sym}
+use Rattle.std.proofs.Common.{◌∙◌, List, ℕ, ap, ap₂, subst, sym}
 use Rattle.xray_io.specs.Text.{AddsText}
 use Rattle.trace_forms.specs.BasicLogs.{log_bytes, log_read, wide_cpu}
 use Rattle.trace_forms.proofs.of_bytes.BasicBytesPrinted.add_to.Goals as goal

@@ -1,5 +1,5 @@
 use Rattle.std.proofs.Common.{List, subst}
-use Rattle.std.specs.Option.{option_map}
+use Rattle.function_names.specs.Name.{naming}
 use Rattle.fdr_file.specs.ThreadEvents.{ThreadEvent}
 use Rattle.xray_io.specs.Text.{AddsText}
 use Rattle.trace_forms.specs.TraceEvents.{events_text}
@@ -8,7 +8,7 @@ use Rattle.trace_forms.proofs.trace_events.EventsTextPrinted.add_to.Goals as goa
 pub returns : goal.returns
 returns g c = record {
   adds =
-      let program = option_map (λ image. image.now) c.args.self.now.image in
-      subst (λ (events : List ThreadEvent). AddsText g.S.Sink.written g.S.Sink.faults g.S.Sink.along c.args.to.now c.add_events.new.text (events_text program events) c.add_events.result)
+      let names = naming c.args.self.now.names in
+      subst (λ (events : List ThreadEvent). AddsText g.S.Sink.written g.S.Sink.faults g.S.Sink.along c.args.to.now c.add_events.new.text (events_text names events) c.add_events.result)
       c.new.ensures c.add_events.ensures;
 }

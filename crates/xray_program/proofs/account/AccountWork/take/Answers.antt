@@ -1,4 +1,5 @@
-use Rattle.std.proofs.Common.{◌≡◌, [], option_map}
+use Rattle.std.proofs.Common.{◌≡◌, []}
+use Rattle.command_words.specs.Views.{source_view}
 use Rattle.xray_io.specs.World.{desk_view}
 use Rattle.xray_program.specs.Account.{account_report}
 use Rattle.xray_program.specs.Outcomes.{Done}
@@ -11,7 +12,7 @@ pub returns-clause-taken : goal.returns-clause-taken
 returns-clause-taken g c =
     let seen = desk_view g.D.Desk.held g.D.Desk.read_faults g.D.Desk.write_faults in
     let s = c.args.self.now in
-    report_taken trace_form (AccountMeans s.options) s.trace.now (option_map (λ n. n.now) s.image) (λ t program outcome. outcome ≡ Done [] (account_report s.options t program))
+    report_taken trace_form (AccountMeans s.options) s.trace.now (source_view s.names) (λ t names outcome. outcome ≡ Done [] (account_report s.options t names))
     (seen c.args.desk.now) (seen c.take_report.new.desk) c.take_report.result c.take_report.ensures.taken
 
 pub returns-clause-calls : goal.returns-clause-calls

@@ -1,10 +1,12 @@
-use Rattle.std.proofs.Common.{◌≡◌, ◌∙◌, ℕ, List, [], None, Option, option_map, ap, sym}
+use Rattle.std.proofs.Common.{◌≡◌, ◌∙◌, ℕ, List, [], None, ap, sym}
 use Rattle.fdr_file.specs.declared.trace.Trace.{Trace}
-use Rattle.xray_image.specs.Program.{Program}
+use Rattle.function_names.specs.Name.{naming}
+use Rattle.map_names.specs.Naming.{Naming}
 use Rattle.xray_io.specs.World.{desk_view, sink_view}
 use Rattle.xray_program.specs.Convert.{ConvertsTo, converted}
 use Rattle.xray_program.specs.Outcomes.{Done}
 use Rattle.xray_program.specs.private.Logs.{LogMeans, bytes_text}
+use Rattle.xray_program.specs.private.NamesTaken.{named_by}
 use Rattle.xray_program.specs.private.ReportTakes.{ComesOfMeant}
 use Rattle.xray_program.proofs.ConvertLaws.{bytes_kept, bytes_say, convert_prints, trace_kept}
 use Rattle.xray_program.proofs.Endings.{finishes}
@@ -18,17 +20,18 @@ returns-in-Fdr-clause-finishes g c =
     let format = s.options.format in
     let inputs = c.args.inputs.now in
     let bytes = c.in-Fdr.bytes in
-    let shown = option_map (λ image. image.now) c.as_ref-image.result in
+    let names = named_by inputs.names in
+    let shown = naming c.as_names-names.result in
     let text = bytes_text format shown c.deref.result.now in
-    let same : (trace : Trace) → LogMeans inputs.log trace → text ≡ converted format inputs.image trace =
+    let same : (trace : Trace) → LogMeans inputs.log trace → text ≡ converted format names trace =
     λ trace means.
-    ap (λ (program : Option Program). bytes_text format program c.deref.result.now) c.as_ref-image.ensures.value
-    ∙ (ap (λ (b : List ℕ). bytes_text format inputs.image b) c.deref.ensures.value
-    ∙ bytes_say format inputs.image bytes.items trace (bytes_kept inputs.log bytes trace c.in-Fdr.is means)) in
+    ap (λ (given : Naming). bytes_text format given c.deref.result.now) c.as_names-names.ensures
+    ∙ (ap (λ (b : List ℕ). bytes_text format names b) c.deref.ensures.value
+    ∙ bytes_say format names bytes.items trace (bytes_kept inputs.log bytes trace c.in-Fdr.is means)) in
     finishes (ComesOfMeant LogMeans (ConvertsTo s.trace.now format) inputs) [] text None (seen c.args.desk.now) (seen c.deliver.new.desk)
     (got c.args.out.now) (got c.deliver.new.out) (g.D.Desk.along c.args.desk.now c.deliver.new.desk) c.deliver.result
     (λ trace means.
-    convert_prints s.trace.now format trace inputs.image _ (sym (c.in-None.ensures trace means)) (ap (Done []) (same trace means))) c.deliver.ensures.delivers
+    convert_prints s.trace.now format trace names _ (sym (c.in-None.ensures trace means)) (ap (Done []) (same trace means))) c.deliver.ensures.delivers
 
 pub returns-in-Basic-clause-finishes : goal.returns-in-Basic-clause-finishes
 returns-in-Basic-clause-finishes g c =
@@ -38,14 +41,15 @@ returns-in-Basic-clause-finishes g c =
     let format = s.options.format in
     let inputs = c.args.inputs.now in
     let read = c.in-Basic.trace in
-    let shown = option_map (λ image. image.now) c.as_ref-image.result in
+    let names = named_by inputs.names in
+    let shown = naming c.as_names-names.result in
     let text = converted format shown read in
-    let same : (trace : Trace) → LogMeans inputs.log trace → text ≡ converted format inputs.image trace =
+    let same : (trace : Trace) → LogMeans inputs.log trace → text ≡ converted format names trace =
     λ trace means.
-    ap (λ (program : Option Program). converted format program read) c.as_ref-image.ensures.value
-    ∙ ap (λ (t : Trace). converted format inputs.image t) (trace_kept inputs.log read trace c.in-Basic.is means) in
+    ap (λ (given : Naming). converted format given read) c.as_names-names.ensures
+    ∙ ap (λ (t : Trace). converted format names t) (trace_kept inputs.log read trace c.in-Basic.is means) in
     finishes (ComesOfMeant LogMeans (ConvertsTo s.trace.now format) inputs) [] text None (seen c.args.desk.now) (seen c.deliver-in-Basic.new.desk)
     (got c.args.out.now) (got c.deliver-in-Basic.new.out) (g.D.Desk.along c.args.desk.now c.deliver-in-Basic.new.desk) c.deliver-in-Basic.result
     (λ trace means.
-    convert_prints s.trace.now format trace inputs.image _ (sym (c.in-None.ensures trace means)) (ap (Done []) (same trace means)))
+    convert_prints s.trace.now format trace names _ (sym (c.in-None.ensures trace means)) (ap (Done []) (same trace means)))
     c.deliver-in-Basic.ensures.delivers

@@ -1,13 +1,15 @@
-use Rattle.std.proofs.Common.{◌≡◌, ◌∙◌, ℕ, List, [], None, Option, map, option_map, ap, refl, sym, subst}
+use Rattle.std.proofs.Common.{◌≡◌, ◌∙◌, ℕ, List, [], None, map, ap, refl, sym, subst}
 use Rattle.fdr_file.specs.declared.trace.Trace.{Trace}
 use Rattle.flame_graph.specs.Frames.{AreStacks}
 use Rattle.stack_rebuild.specs.declared.stack_row.StackRow.{StackRow}
 use Rattle.stack_rebuild.specs.Stacks.{PathRow, stack_of, told}
-use Rattle.xray_image.specs.Program.{Program}
+use Rattle.function_names.specs.Name.{naming}
+use Rattle.map_names.specs.Naming.{Naming}
 use Rattle.xray_io.specs.World.{desk_view, sink_view}
 use Rattle.xray_program.specs.Outcomes.{Done}
 use Rattle.xray_program.specs.Stack.{StacksCome, rows_text, stacks_text}
 use Rattle.xray_program.specs.private.Meant.{StacksMean}
+use Rattle.xray_program.specs.private.NamesTaken.{named_by}
 use Rattle.xray_program.specs.private.ReportTakes.{ComesOfMeant}
 use Rattle.xray_program.proofs.Endings.{finishes}
 use Rattle.xray_program.proofs.StackLaws.{stack_prints, stacks_told}
@@ -19,19 +21,20 @@ returns-in-Ok-clause-finishes g c =
     let got = sink_view g.O.Sink.written g.O.Sink.faults in
     let s = c.args.self.now in
     let inputs = c.args.inputs.now in
-    let shown = option_map (λ image. image.now) c.as_ref.result in
+    let names = named_by inputs.names in
+    let shown = naming c.as_names.result in
     let rows = map told c.deref.result.now in
     let text = rows_text s.format inputs.log.frequency shown rows in
-    let same : (trace : Trace) → rows ≡ stack_of trace.blocks → inputs.log.frequency ≡ trace.header.frequency → text ≡ stacks_text s.format inputs.image trace =
+    let same : (trace : Trace) → rows ≡ stack_of trace.blocks → inputs.log.frequency ≡ trace.header.frequency → text ≡ stacks_text s.format names trace =
     λ trace are often.
-    ap (λ (program : Option Program). rows_text s.format inputs.log.frequency program rows) c.as_ref.ensures.value
-    ∙ (ap (λ (frequency : ℕ). rows_text s.format frequency inputs.image rows) often
-    ∙ ap (λ (all : List PathRow). rows_text s.format trace.header.frequency inputs.image all) are) in
+    ap (λ (given : Naming). rows_text s.format inputs.log.frequency given rows) c.as_names.ensures
+    ∙ (ap (λ (frequency : ℕ). rows_text s.format frequency names rows) often
+    ∙ ap (λ (all : List PathRow). rows_text s.format trace.header.frequency names all) are) in
     finishes (ComesOfMeant StacksMean (StacksCome s.trace.now s.format) inputs) [] text None (seen c.args.desk.now)
     (seen c.deliver.new.desk) (got c.args.out.now) (got c.deliver.new.out) (g.D.Desk.along c.args.desk.now c.deliver.new.desk) c.deliver.result
     (λ trace means.
     let told_so = stacks_told inputs.log.rows c.in-Ok.rows trace c.in-Ok.is means.rows in
-    stack_prints s.trace.now s.format trace inputs.image _ told_so.1
+    stack_prints s.trace.now s.format trace names _ told_so.1
     (ap (Done []) (same trace (ap (λ (rs : List StackRow). map told rs) c.deref.ensures.value ∙ told_so.0) means.frequency))) c.deliver.ensures.delivers
 
 pub deliver-requires : goal.deliver-requires

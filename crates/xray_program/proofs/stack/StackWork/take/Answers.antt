@@ -1,4 +1,4 @@
-use Rattle.std.proofs.Common.{option_map}
+use Rattle.command_words.specs.Views.{source_view}
 use Rattle.xray_io.specs.World.{desk_view}
 use Rattle.xray_program.specs.Stack.{StacksCome}
 use Rattle.xray_program.specs.Inputs.{trace_form}
@@ -10,7 +10,7 @@ pub returns-clause-taken : goal.returns-clause-taken
 returns-clause-taken g c =
     let seen = desk_view g.D.Desk.held g.D.Desk.read_faults g.D.Desk.write_faults in
     let s = c.args.self.now in
-    report_taken trace_form StacksMean s.trace.now (option_map (λ n. n.now) s.image) (λ t program. StacksCome s.trace.now s.format t program)
+    report_taken trace_form StacksMean s.trace.now (source_view s.names) (λ t names. StacksCome s.trace.now s.format t names)
     (seen c.args.desk.now) (seen c.take_report.new.desk) c.take_report.result c.take_report.ensures.taken
 
 pub returns-clause-calls : goal.returns-clause-calls

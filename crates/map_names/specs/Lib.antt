@@ -1,0 +1,6 @@
+pub mod Naming
+pub mod Entries
+pub mod Maps
+pub mod MapNames
+pub mod FaultWords
+pub mod private

@@ -1,0 +1,20 @@
+use Rattle.std.proofs.Common.{◌≡◌, ◌*◌, ◌^◌, ◌≤◌, List, [], take}
+use Rattle.std.specs.Prelude.{◌≢◌, All}
+use Rattle.fdr_buffer.specs.declared.buffer.TheConstants.{LARGEST_SIZE}
+use Rattle.fdr_file.specs.declared.header.Header.{Header}
+use Rattle.runtime_log.specs.Logs.{LogBlock}
+use Rattle.runtime_log.specs.private.Choices.{AreAt}
+use Rattle.runtime_log.specs.private.Notes.{AreFew}
+use Rattle.runtime_log.specs.private.Packings.{HasPacked}
+use Rattle.runtime_log.proofs.import.pack_blocks.Given as goal
+
+-- the blocks so far were packed
+abbrev pub invariant-adding : goal.invariant-adding
+invariant-adding l = record {
+  few : AreFew l.packing.notes.facts;
+  size : l.packing.buffer.size ≡ LARGEST_SIZE;
+  room : l.packing.notes.facts.events ≤ l.block-index * 2 ^ 31;
+  count : l.packing.notes.facts.blocks ≡ l.block-index;
+  packed : (header : Header) (said taken : List LogBlock) → HasPacked header said [] l.initial.packing
+      → AreAt l.bytes l.mode l.blocks taken → All (λ b. b.block.events ≢ []) taken → HasPacked header said (take l.block-index taken) l.packing;
+}

@@ -1,0 +1,47 @@
+-- The trace that a log is imported as.
+use Rattle.std.specs.Prelude.{◌≡◌, ℕ, true, List, map, Ok}
+use Rattle.std.specs.List.{flat_map}
+use Rattle.fdr_buffer.specs.declared.buffer.TheConstants.{LARGEST_SIZE}
+use Rattle.fdr_buffer.specs.Filled.{Filled}
+use Rattle.fdr_buffer.specs.Segments.{segments}
+use Rattle.fdr_file.specs.declared.header.Header.{Header}
+use Rattle.fdr_file.specs.declared.trace.Block.{Block}
+use Rattle.fdr_file.specs.declared.trace.Trace.{Trace}
+use Rattle.fdr_file.specs.Files.{file_bytes}
+use Rattle.runtime_log.specs.declared.facts.Facts.{Facts}
+use Rattle.runtime_log.specs.Facts.{facts_of}
+use Rattle.runtime_log.specs.Logs.{Log, LogBlock, logged}
+use Rattle.runtime_log.specs.Taken.{AreTaken}
+
+-- the blocks of a block: its events, cut where they need more bytes than a buffer may have
+abbrev pub pieces_of : Block → List Block
+pieces_of block = map (λ events. record block { events = events }) (segments LARGEST_SIZE block.events)
+
+-- the trace of blocks that are taken
+abbrev pub trace_taken : Header → List LogBlock → Trace
+trace_taken header taken = record { header = header; blocks = flat_map (λ b. pieces_of b.block) taken }
+
+-- a block as the buffer that it is written from
+abbrev pub buffer_for : Block → Filled
+buffer_for block = record {
+  size = LARGEST_SIZE;
+  begun = true;
+  thread = block.thread;
+  serial = 0;
+  wall = block.wall;
+  pid = block.pid;
+  events = block.events;
+}
+
+-- the bytes of the file that is written for a trace
+abbrev pub trace_file : Trace → List ℕ
+trace_file trace = file_bytes trace.header (map buffer_for trace.blocks)
+
+-- The bytes are a log, of which this file is made, and of which this is printed.
+pub record IsImport (bytes file : List ℕ) (facts : Facts) : Type 0 where
+  pub log : Log
+  pub says : logged bytes ≡ Ok log
+  pub taken : List LogBlock
+  pub takes : AreTaken log.blocks taken
+  pub file_is : file ≡ trace_file (trace_taken log.header taken)
+  pub facts_are : facts ≡ facts_of log.blocks taken

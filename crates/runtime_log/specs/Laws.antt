@@ -1,0 +1,56 @@
+-- Laws of imports, over what the bytes of a log say.
+use Rattle.std.specs.Prelude.{◌≡◌, ◌<◌, ℕ, List, [], ◌∷◌, map, All, AllPairs, IsTrue, Ok}
+use Rattle.std.specs.Cmp.Lexicographic.{slice_cmp}
+use Rattle.std.specs.Ordering.{is_lt, nat_cmp}
+use Rattle.fdr_buffer.specs.Filled.{Filled, has_event}
+use Rattle.fdr_file.specs.declared.header.Header.{Header}
+use Rattle.fdr_file.specs.declared.trace.Trace.{Trace}
+use Rattle.fdr_file.specs.Files.{BlockFits, HeaderFits, file_bytes}
+use Rattle.fdr_file.specs.Traces.{trace_of}
+use Rattle.runtime_log.specs.declared.facts.Facts.{Facts}
+use Rattle.runtime_log.specs.Imports.{IsImport, trace_taken}
+use Rattle.runtime_log.specs.Logs.{Log, logged}
+use Rattle.runtime_log.specs.Taken.{first_counter}
+
+-- a log is imported in one way only
+abbrev pub OneImport : Type 0
+OneImport = (bytes file other : List ℕ) (facts others : Facts) → IsImport bytes file facts → IsImport bytes other others
+    → (other ≡ file) × (others ≡ facts)
+
+-- and in some way
+abbrev pub SomeImport : Type 0
+SomeImport = (bytes : List ℕ) (log : Log) → logged bytes ≡ Ok log → (file : List ℕ) × (facts : Facts) × IsImport bytes file facts
+
+-- The file of an import reads as the trace of the blocks that are taken: exactly their events, in this order.
+abbrev pub ImportsRead : Type 0
+ImportsRead = (bytes file : List ℕ) (facts : Facts) → All (λ b. b < 256) bytes → (made : IsImport bytes file facts)
+    → trace_of file ≡ Ok (trace_taken made.log.header made.taken)
+
+-- ---- traces are logs
+
+-- what a log says as a trace
+abbrev pub said_of : Log → Trace
+said_of log = record { header = log.header; blocks = map (λ b. b.block) log.blocks }
+
+-- A trace of version 3 is a log, which says the trace. So one grammar serves both.
+abbrev pub TracesAreLogs : Type 0
+TracesAreLogs = (bytes : List ℕ) (trace : Trace) → trace_of bytes ≡ Ok trace → trace.header.version ≡ 3
+    → (log : Log) × (logged bytes ≡ Ok log) × (said_of log ≡ trace)
+
+-- ---- traces that are imported as themselves
+
+-- where a buffer stands in the order of blocks
+abbrev pub buffer_key : Filled → List ℕ
+buffer_key buffer = buffer.thread ∷ buffer.wall.secs ∷ buffer.wall.micros ∷ first_counter buffer.events ∷ []
+
+-- Each buffer comes before those behind it: by its thread, its wall time, or its first counter. The buffers of a run are so
+-- if the counter rises from each event of a thread to the next. With `--tick 0` it doesn't rise, and two segments of a thread
+-- may have the same bytes, so that one is left out.
+abbrev pub AreRising : List Filled → Type 0
+AreRising buffers = AllPairs (λ buffer later. IsTrue (is_lt (slice_cmp nat_cmp (buffer_key buffer) (buffer_key later)))) buffers
+
+-- A file that is written for buffers with events, in this order, is imported as itself.
+abbrev pub ImportsItself : Type 0
+ImportsItself = (header : Header) (buffers : List Filled) (file : List ℕ) (facts : Facts) → HeaderFits header → All BlockFits buffers
+    → All (λ buffer. IsTrue (has_event buffer)) buffers → AreRising buffers → IsImport (file_bytes header buffers) file facts
+    → file ≡ file_bytes header buffers

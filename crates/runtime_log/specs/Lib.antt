@@ -1,0 +1,10 @@
+pub mod Versions
+pub mod OwnEvents
+pub mod BasicLogs
+pub mod Logs
+pub mod Taken
+pub mod Imports
+pub mod Facts
+pub mod FaultWords
+pub mod Laws
+pub mod private

@@ -1,0 +1,188 @@
+-- What the bytes of a log of LLVM's runtime say.
+use Rattle.std.specs.Prelude.{ℕ, ◌+◌, ◌==◌, not, List, [], ◌∷◌, ◌++◌, length, take, drop, map, nat_lt, option_to_list, Option, Some, None, Result, Ok, Err}
+use Rattle.xray_io.specs.Rows.{First, InTurn, NeedsPart, ◌>>=◌}
+use Rattle.fdr_record.specs.declared.fault.RecFault.{RecFault}
+use Rattle.fdr_record.specs.declared.rec.Rec.{Rec}
+use Rattle.fdr_record.specs.Records.{metadata_length}
+use Rattle.fdr_file.specs.declared.fault.TraceFault.{TraceFault}
+use Rattle.fdr_file.specs.declared.fault.TraceFault.TheVariants as traces
+use Rattle.fdr_file.specs.declared.header.Header.{Header}
+use Rattle.fdr_file.specs.declared.stage.Inside.TheVariants.{Opened}
+use Rattle.fdr_file.specs.declared.stage.Stage.{Stage}
+use Rattle.fdr_file.specs.declared.stage.Stage.TheVariants.{Due, Within, Faulty}
+use Rattle.fdr_file.specs.declared.stage.Told.{Told}
+use Rattle.fdr_file.specs.declared.stage.Told.TheVariants.{Nothing, Begun, Noted}
+use Rattle.fdr_file.specs.declared.trace.Block.{Block}
+use Rattle.fdr_file.specs.Places.{starts}
+use Rattle.fdr_file.specs.Scanning.{block_span, empty_block, stage_judged}
+use Rattle.fdr_file.specs.Traces.{block_starts, header_in, preamble_bytes, size_named, type_in, version_in}
+use Rattle.runtime_log.specs.declared.fault.LogFault.{LogFault}
+use Rattle.runtime_log.specs.declared.fault.LogFault.TheVariants as faults
+use Rattle.runtime_log.specs.declared.own_event.OwnKind.{OwnKind}
+use Rattle.runtime_log.specs.declared.own_event.OwnKind.TheVariants.{Custom, Typed}
+use Rattle.runtime_log.specs.declared.version.LogVersion.{LogVersion}
+use Rattle.runtime_log.specs.BasicLogs.{BasicRun, basic_events, basic_places, basic_rows, no_records}
+use Rattle.runtime_log.specs.OwnEvents.{log_record_in, log_record_length, own_kind}
+use Rattle.runtime_log.specs.Versions.{log_version_of, trace_version}
+
+-- A block of a log: where it begins; its bytes, which another block may have too; what it says, as a block of a trace; and
+-- how many events of the program's own it has, of each kind.
+pub record LogBlock : Type 0 where
+  pub place : ℕ
+  pub content : List ℕ
+  pub block : Block
+  pub custom : ℕ
+  pub typed : ℕ
+
+-- a log: what it says about itself, as the header of a trace, and its blocks in the order of the file
+pub record Log : Type 0 where
+  pub header : Header
+  pub blocks : List LogBlock
+
+-- ---- a block of the Flight Data Recorder mode
+
+-- where the reading of a block stands, and what its records so far have said: the block, and how many events of the
+-- program's own there were, of each kind
+pub record BlockSoFar : Type 0 where
+  pub stage : Stage
+  pub block : Block
+  pub custom : ℕ
+  pub typed : ℕ
+
+-- before its first record
+abbrev pub block_opened : ℕ → ℕ → BlockSoFar
+block_opened at size = record {
+  stage = Within (block_span at size) Opened;
+  block = empty_block 0 (record { secs = 0; micros = 0 }) 0;
+  custom = 0;
+  typed = 0;
+}
+
+-- a block, with what a record says
+abbrev pub block_with : Told → Block → Block
+block_with Nothing block = block
+block_with (Begun thread wall pid) block = record block { thread = thread; wall = wall; pid = pid }
+block_with (Noted entry event) block = record block { events = block.events ++ (option_to_list entry ++ option_to_list event) }
+
+-- 1 for an event of the program's own of this kind, and 0 for another record
+abbrev pub one_custom : Option OwnKind → ℕ
+one_custom None = 0
+one_custom (Some Custom) = 1
+one_custom (Some Typed) = 0
+
+abbrev pub one_typed : Option OwnKind → ℕ
+one_typed None = 0
+one_typed (Some Custom) = 0
+one_typed (Some Typed) = 1
+
+-- a stage that is no fault, with what was said
+abbrev pub unless_faulty : Stage × Told → Result (Stage × Told) TraceFault
+unless_faulty (Due, told) = Ok (Due, told)
+unless_faulty (Within span inside, told) = Ok (Within span inside, told)
+unless_faulty (Faulty span fault, told) = Err fault
+
+-- What is at a place of a block: the record ends within the block, and is one that a trace may have there. It leads to a
+-- stage, and says something of the block.
+abbrev pub log_record_rows : LogVersion → Stage → ℕ × List ℕ → Result (Stage × Told) TraceFault
+log_record_rows version stage (at, bytes) =
+    First (nat_lt (length bytes) (log_record_length version bytes)) (Err (traces.Extents at))
+    (unless_faulty (stage_judged (trace_version version) stage at (log_record_length version bytes) (log_record_in version stage bytes)))
+
+-- the same, after what the records before it said
+abbrev pub said_rows : LogVersion → BlockSoFar → ℕ × List ℕ → Result BlockSoFar TraceFault
+said_rows version so (at, bytes) =
+    log_record_rows version so.stage (at, bytes) >>= λ said. Ok (record {
+      stage = said.0;
+      block = block_with said.1 so.block;
+      custom = so.custom + one_custom (own_kind version bytes);
+      typed = so.typed + one_typed (own_kind version bytes);
+    })
+
+-- what a block has after its extents, which begin at a place and name this many bytes
+abbrev pub block_content : ℕ → List ℕ → List ℕ
+block_content size bytes = take size (drop metadata_length bytes)
+
+-- each place of a block's content where a record begins, with the bytes from there to the block's end
+abbrev pub log_places : LogVersion → ℕ → List ℕ → List (ℕ × List ℕ)
+log_places version at bytes = starts (log_record_length version) 0 at bytes
+
+-- how many bytes the block that begins at a place has after its extents, by its first record
+abbrev pub sized_rows : LogVersion → ℕ × List ℕ → Result Rec RecFault → Result ℕ TraceFault
+sized_rows version (at, bytes) (Ok r) =
+    NeedsPart (size_named r) (Err (traces.Order at)) λ size.
+    First (nat_lt size (preamble_bytes (trace_version version))) (Err (traces.Extents at))
+    (First (nat_lt (length bytes) (metadata_length + size)) (Err (traces.Short at)) (Ok size))
+sized_rows version (at, bytes) (Err fault) = Err (traces.Bad at fault)
+
+abbrev pub block_size_rows : LogVersion → ℕ × List ℕ → Result ℕ TraceFault
+block_size_rows version (at, bytes) =
+    First (nat_lt (length bytes) metadata_length) (Err (traces.Short at))
+    (sized_rows version (at, bytes) (log_record_in version Due bytes))
+
+-- the records of a block of this size, in turn
+abbrev pub content_rows : LogVersion → ℕ → ℕ → List ℕ → Result BlockSoFar TraceFault
+content_rows version at size bytes =
+    InTurn (said_rows version) (block_opened at size) (log_places version (at + metadata_length) (block_content size bytes))
+
+-- the block of a log that begins at a place, with what its records said
+abbrev pub block_said : ℕ → List ℕ → BlockSoFar → LogBlock
+block_said at content so = record { place = at; content = content; block = so.block; custom = so.custom; typed = so.typed }
+
+abbrev pub log_block_in : LogVersion → ℕ × List ℕ → Result LogBlock TraceFault
+log_block_in version (at, bytes) =
+    block_size_rows version (at, bytes) >>= λ size. content_rows version at size bytes >>= λ so. Ok (block_said at (block_content size bytes) so)
+
+-- the same, after the blocks before it
+abbrev pub log_block_rows : LogVersion → List LogBlock → ℕ × List ℕ → Result (List LogBlock) TraceFault
+log_block_rows version before start = log_block_in version start >>= λ b. Ok (before ++ b ∷ [])
+
+-- the blocks of a log of this version
+abbrev pub recorder_blocks : LogVersion → List ℕ → Result (List LogBlock) TraceFault
+recorder_blocks version bytes = InTurn (log_block_rows version) [] (block_starts bytes)
+
+-- ---- the blocks of the basic mode
+
+-- a run is a block, which was begun at the wall time 0
+abbrev pub run_block : BasicRun → LogBlock
+run_block run = record {
+  place = run.place;
+  content = run.content;
+  block = record { thread = run.owner.thread; wall = record { secs = 0; micros = 0 }; pid = run.owner.pid; events = basic_events run.records };
+  custom = 0;
+  typed = 0;
+}
+
+abbrev pub basic_blocks : List ℕ → Result (List LogBlock) LogFault
+basic_blocks bytes =
+    InTurn basic_rows no_records (basic_places 32 (drop 32 bytes)) >>= λ so. Ok (map run_block so.runs)
+
+-- ---- a log
+
+-- a result whose refusals are those of a trace
+abbrev pub as_log : {A : Type 0} → Result A TraceFault → Result A LogFault
+as_log (Ok value) = Ok value
+as_log (Err fault) = Err (faults.Trace fault)
+
+-- the header of a trace of this log; the header of a basic log says the size of no buffer
+abbrev pub recorder_header : List ℕ → Header
+recorder_header bytes = record (header_in bytes) { version = 3 }
+
+abbrev pub basic_header : List ℕ → Header
+basic_header bytes = record (header_in bytes) { version = 3; size = 0 }
+
+-- A log of the type 1 is one of the Flight Data Recorder mode, of version 2 to 5. One of the type 0 is a basic log, of
+-- version 3. A header is refused for its version first, if no log has that version.
+abbrev pub typed_rows : LogVersion → List ℕ → Result Log LogFault
+typed_rows version bytes =
+    First (type_in bytes == 1)
+    (as_log (recorder_blocks version bytes) >>= λ blocks. Ok (record { header = recorder_header bytes; blocks = blocks }))
+    (First (not (type_in bytes == 0)) (Err (faults.Trace (traces.Form (type_in bytes))))
+    (First (not (version_in bytes == 3)) (Err (faults.Trace (traces.Version (version_in bytes))))
+    (basic_blocks bytes >>= λ blocks. Ok (record { header = basic_header bytes; blocks = blocks }))))
+
+-- the log that bytes are, or the fault of the first place that has one
+abbrev pub logged : List ℕ → Result Log LogFault
+logged bytes =
+    First (nat_lt (length bytes) 32) (Err (faults.Trace (traces.Short 0)))
+    (NeedsPart (log_version_of (version_in bytes)) (Err (faults.Trace (traces.Version (version_in bytes)))) λ version.
+    typed_rows version bytes)

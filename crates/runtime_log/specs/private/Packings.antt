@@ -1,0 +1,76 @@
+-- The file of a trace, as it grows by the blocks that are taken.
+use Rattle.std.specs.Prelude.{◌≡◌, ℕ, ◌+◌, ◌-◌, ◌==◌, true, List, [], ◌∷◌, ◌++◌, map, length, sum, count_by, None}
+use Rattle.std.specs.List.{flat_map}
+use Rattle.fdr_buffer.specs.declared.buffer.TheConstants.{LARGEST_SIZE}
+use Rattle.fdr_buffer.specs.Filled.{Filled}
+use Rattle.fdr_buffer.specs.Segments.{segments}
+use Rattle.fdr_file.specs.declared.header.Header.{Header}
+use Rattle.fdr_file.specs.Files.{block_bytes}
+use Rattle.fdr_record.specs.declared.event.Event.{Event}
+use Rattle.fdr_file.specs.ThreadEvents.{ThreadEvent}
+use Rattle.runtime_log.specs.declared.blocks.BlockEvents.{BlockEvents}
+use Rattle.runtime_log.specs.declared.blocks.LogBlock.{LogBlock as Placed}
+use Rattle.runtime_log.specs.declared.facts.Facts.{Facts}
+use Rattle.runtime_log.specs.declared.packing.Packing.{Packing}
+use Rattle.runtime_log.specs.Facts.{taken_events}
+use Rattle.runtime_log.specs.Imports.{trace_file, trace_taken}
+use Rattle.runtime_log.specs.Logs.{LogBlock}
+use Rattle.runtime_log.specs.Taken.{undoubled}
+use Rattle.runtime_log.specs.private.Coming.{events_to_come}
+use Rattle.runtime_log.specs.private.Notes.{AreFew, HasNoted}
+
+-- no event was noted
+pub record NoEvents (facts : Facts) : Type 0 where
+  pub blocks : facts.blocks ≡ 0
+  pub threads : facts.threads ≡ 0
+  pub events : facts.events ≡ 0
+  pub arguments : facts.arguments ≡ 0
+  pub first : facts.first ≡ None
+  pub last : facts.last ≡ None
+  pub back : facts.back ≡ 0
+
+-- what is said of all blocks of the log
+pub record SaysOfLog (blocks : List LogBlock) (facts : Facts) : Type 0 where
+  pub custom : facts.custom ≡ sum (map (λ b. b.custom) blocks)
+  pub typed : facts.typed ≡ sum (map (λ b. b.typed) blocks)
+  pub doubled : facts.doubled ≡ length blocks - length (undoubled blocks)
+  pub empty : facts.empty ≡ count_by (λ b. length b.block.events == 0) (undoubled blocks)
+
+-- a buffer that was begun for a block, with these events
+abbrev pub filled_for : Placed → List Event → Filled
+filled_for placed events = record {
+  size = LARGEST_SIZE;
+  begun = true;
+  thread = placed.thread;
+  serial = 0;
+  wall = placed.wall;
+  pid = placed.pid;
+  events = events;
+}
+
+-- These events of a block are in the file behind what was there before, and in the buffer.
+pub record Fills (placed : Placed) (file : List ℕ) (events : List Event) (packing : Packing) : Type 0 where
+  pub whole : List (List Event)
+  pub opened : List Event
+  pub cut : segments LARGEST_SIZE events ≡ whole ++ opened ∷ []
+  pub written : packing.file.items ≡ file ++ flat_map (λ s. block_bytes (filled_for placed s)) whole
+  pub buffer : packing.buffer ≡ filled_for placed opened
+
+-- it is the file of these blocks, which are taken of those of a log
+pub record HasPacked (header : Header) (blocks taken : List LogBlock) (packing : Packing) : Type 0 where
+  pub file : packing.file.items ≡ trace_file (trace_taken header taken)
+  pub size : packing.buffer.size ≡ LARGEST_SIZE
+  pub notes : HasNoted (taken_events taken) packing.notes
+  pub few : AreFew packing.notes.facts
+  pub count : packing.notes.facts.blocks ≡ length taken
+  pub log : SaysOfLog blocks packing.notes.facts
+
+-- The first events of a block were added to a packing: they are filled in, and noted.
+pub record Adds (placed : Placed) (old : Packing) (all left : BlockEvents) (new : Packing) : Type 0 where
+  pub done : List Event
+  pub parts : events_to_come all ≡ done ++ events_to_come left
+  pub fills : Fills placed old.file.items done new
+  pub notes : (before : List ThreadEvent) (pid : ℕ) → HasNoted before old.notes
+      → HasNoted (before ++ map (λ event. record { thread = placed.thread; pid = pid; event = event }) done) new.notes
+  pub count : new.notes.facts.blocks ≡ old.notes.facts.blocks + 1
+  pub log : (blocks : List LogBlock) → SaysOfLog blocks old.notes.facts → SaysOfLog blocks new.notes.facts

@@ -1,0 +1,174 @@
+//! The blocks of a log, by their places.
+ghost use Rattle.std.specs.Prelude.{◌≡◌, ◌<◌, ◌+◌, ◌++◌, ◌^◌, All, IfSome, None, [], ◌∷◌, length, option_to_list};
+ghost use Rattle.fdr_record.specs.Recordable.{IsRecordable};
+ghost use Rattle.runtime_log.specs.Logs.{LogBlock as SaidBlock};
+ghost use Rattle.runtime_log.specs.private.{Choices.{IsAt, LiesWithin, head_length}, Coming.{MayGive, events_to_come, recorder_events}, Walks.{settled, walk_events}};
+
+use crate::basic::BasicEvents;
+use crate::version::LogVersion;
+use crate::walk::BlockWalk;
+use fdr_file::Told;
+use fdr_record::Event;
+use xray_io::Wall;
+
+/// The mode that a log was written in.
+#[derive(Clone, Copy, Debug, PartialEq, Eq)]
+pub(crate) enum Mode {
+    /// The Flight Data Recorder mode, in a version.
+    Recorder(LogVersion),
+    /// The basic mode, in which a block is a run of records of one thread and one process.
+    Basic,
+}
+
+impl Mode {
+    /// The length of what stands before the bytes of a block.
+    pub(crate) fn head_bytes(self) -> usize
+        ensures { result ≡ head_length self }
+    {
+        match self {
+            Mode::Recorder(_) => fdr_record::METADATA_BYTES,
+            Mode::Basic => 0,
+        }
+    }
+}
+
+/// A block: where it is, and what it says without its events.
+#[derive(Clone, Copy, Debug, PartialEq, Eq)]
+pub(crate) struct LogBlock {
+    /// The place where it begins.
+    pub(crate) begin: usize,
+    /// The place after it.
+    pub(crate) end: usize,
+    /// The thread.
+    pub(crate) thread: u32,
+    /// The process.
+    pub(crate) pid: u32,
+    /// When it was begun.
+    pub(crate) wall: Wall,
+    /// The counter of its first event, if it has events.
+    pub(crate) first: Option<u64>,
+}
+
+/// The blocks of a log, in the order of the file, and how many events of the program's own they have.
+#[derive(Drop)]
+pub(crate) struct LogBlocks {
+    pub(crate) mode: Mode,
+    pub(crate) blocks: Vec<LogBlock>,
+    pub(crate) custom: u64,
+    pub(crate) typed: u64,
+}
+
+/// The events of a block of the Flight Data Recorder mode, one after the other.
+#[derive(Clone, Copy)]
+pub(crate) struct RecorderEvents<'a> {
+    /// The way through the records that are left.
+    walk: BlockWalk<'a>,
+    /// The event that comes before theirs.
+    pending: Option<Event>,
+}
+
+/// The events of a block of a log that was read, one after the other.
+#[derive(Clone, Copy)]
+pub(crate) enum BlockEvents<'a> {
+    /// Of the Flight Data Recorder mode.
+    Recorder(RecorderEvents<'a>),
+    /// Of the basic mode.
+    Basic(BasicEvents<'a>),
+    /// None is left.
+    Done,
+}
+
+/// The first event that a record settles, and the one after it.
+fn settled(told: Told) -> (Option<Event>, Option<Event>)
+    ensures events { settled told ≡ option_to_list result.0 ++ option_to_list result.1 }
+    ensures none { result.0 ≡ None → result.1 ≡ None }
+{
+    match told {
+        Told::Nothing | Told::Begun { .. } => (None, None),
+        Told::Noted { entry, event } => {
+            if entry.is_some() {
+                (entry, event)
+            } else {
+                (event, None)
+            }
+        }
+    }
+}
+
+/// The next event of a block's records, and the one after it if it is known.
+fn next_told(walk: &mut BlockWalk) -> (Option<Event>, Option<Event>)
+    requires few { walk.old.at + length walk.old.rest.now < 2 ^ 32 }
+    ensures few { walk.new.at + length walk.new.rest.now < 2 ^ 32 }
+    ensures gives { walk_events walk.old
+        ≡ option_to_list result.0 ++ (option_to_list result.1 ++ walk_events walk.new) }
+    ensures ends { result.0 ≡ None → walk_events walk.old ≡ [] }
+{
+    'records: while walk.left() > 0 {
+        let told = match walk.step() {
+            Ok((told, _)) => told,
+            Err(_) => return (None, None),
+        };
+        let (first, later) = settled(told);
+        if first.is_some() {
+            return (first, later);
+        }
+    }
+    (None, None)
+}
+
+impl RecorderEvents<'_> {
+    /// The next event.
+    fn next(&mut self) -> Option<Event>
+        requires few { self.old.walk.at + length self.old.walk.rest.now < 2 ^ 32 }
+        ensures few { self.new.walk.at + length self.new.walk.rest.now < 2 ^ 32 }
+        ensures gives { recorder_events self.old ≡ option_to_list result ++ recorder_events self.new }
+        ensures ends { result ≡ None → recorder_events self.old ≡ [] }
+    {
+        if let Some(event) = self.pending.take() {
+            return Some(event);
+        }
+        let (event, later) = next_told(&mut self.walk);
+        self.pending = later;
+        event
+    }
+}
+
+impl<'a> BlockEvents<'a> {
+    /// All events of a block.
+    pub(crate) fn of(bytes: &'a [u8], mode: Mode, block: &LogBlock) -> BlockEvents<'a>
+        requires few { length bytes.now < 2 ^ 30 }
+        requires within { LiesWithin bytes.now mode block.now }
+        ensures may { MayGive result }
+        ensures all { (b : SaidBlock) → IsAt bytes.entry.now mode block.now b
+            → events_to_come result ≡ b.block.events }
+        ensures recordable { All IsRecordable (events_to_come result) }
+        ensures few { length (events_to_come result) < 2 ^ 31 }
+    {
+        match mode {
+            Mode::Recorder(version) => {
+                match BlockWalk::open(version, block.begin as u64, &bytes[block.begin..]) {
+                    Ok(walk) => BlockEvents::Recorder(RecorderEvents {
+                        walk,
+                        pending: None,
+                    }),
+                    Err(_) => BlockEvents::Done,
+                }
+            }
+            Mode::Basic => BlockEvents::Basic(BasicEvents::new(&bytes[block.begin..block.end])),
+        }
+    }
+
+    /// The next event.
+    pub(crate) fn next(&mut self) -> Option<Event>
+        requires may { MayGive self.old }
+        ensures may { MayGive self.new }
+        ensures gives { IfSome result (λ event. events_to_come self.old ≡ event ∷ events_to_come self.new) }
+        ensures ends { result ≡ None → events_to_come self.old ≡ [] }
+    {
+        match self {
+            BlockEvents::Recorder(events) => events.next(),
+            BlockEvents::Basic(events) => events.next(),
+            BlockEvents::Done => None,
+        }
+    }
+}

@@ -1,0 +1,43 @@
+//! Laws of imports. Each law is the contract of a function that does nothing.
+ghost use Rattle.runtime_log.specs.Laws.{ImportsItself, ImportsRead, OneImport, SomeImport, TracesAreLogs};
+
+use fdr_buffer::{a_body_has_room, segments_hold_all};
+use fdr_file::{a_file_is_read_by_records, a_file_reads_back};
+
+/// A log is imported in one way only: as one file, with one text.
+pub fn one_import()
+    ensures { OneImport }
+{}
+
+/// Each log is imported in some way.
+pub fn some_import()
+    ensures { SomeImport }
+{}
+
+/// The file of an import reads as the trace of the blocks that are taken of the log: it has exactly
+/// their events, in their order.
+pub fn an_import_reads_back()
+    ensures { ImportsRead }
+{
+    a_file_reads_back();
+    segments_hold_all();
+    a_body_has_room();
+}
+
+/// A trace of version 3 is a log, which says the same blocks.
+pub fn traces_are_logs()
+    ensures { TracesAreLogs }
+{
+    a_file_is_read_by_records();
+}
+
+/// A trace is imported as itself, byte for byte, if it was written for buffers with events, and each
+/// buffer comes before those behind it: by its thread, its wall time or its first counter. The trace
+/// that `sim` or `run` wrote is such a one if the counter rises from each event of a thread to the
+/// next.
+pub fn a_trace_in_order_is_imported_as_itself()
+    ensures { ImportsItself }
+{
+    a_file_reads_back();
+    a_file_is_read_by_records();
+}

@@ -1,0 +1,34 @@
+//! Logs that LLVM's runtime writes of a program compiled with `-fxray-instrument`, and the traces
+//! that they are imported as. `import_log` reads a log of either mode and makes the file of a trace.
+//! The formats are those of `xray_fdr_log_records.h`, `xray_fdr_logging.cpp` and
+//! `xray_basic_logging.cpp` of LLVM's compiler-rt.
+//!
+//! `version` and `own_event` have what differs from one version to the next. `walk` goes through the
+//! records of a block of the Flight Data Recorder mode, over the step of `fdr_file`. `basic` reads the
+//! records of the basic mode. `reading` makes a list of all blocks, `taken` chooses and orders those
+//! that are taken, `packing` writes their events as blocks of a trace, `notes` takes what they say, and
+//! `facts` is what is said of all this.
+#![tactic(auto)]
+
+mod basic;
+mod blocks;
+mod facts;
+mod fault;
+mod import;
+mod laws;
+mod notes;
+mod own_event;
+mod packing;
+mod reading;
+mod refusal;
+mod taken;
+mod version;
+mod walk;
+
+pub use facts::Facts;
+pub use fault::LogFault;
+pub use import::{ImportedLog, import_log};
+pub use laws::{
+    a_trace_in_order_is_imported_as_itself, an_import_reads_back, one_import, some_import,
+    traces_are_logs,
+};

@@ -1,0 +1,174 @@
+//! The events of blocks as the file of a trace.
+ghost use Rattle.std.specs.Prelude.{◌≡◌, ◌≢◌, ◌<◌, ◌+◌, ◌++◌, ◌^◌, ℕ, All, IsTrue, List, [], ◌∷◌, IfOk, OnOk, length, map, sum};
+ghost use Rattle.fdr_buffer.specs.declared.buffer.TheConstants.{LARGEST_SIZE};
+ghost use Rattle.fdr_file.specs.Files.{block_bytes, file_bytes};
+ghost use Rattle.fdr_file.specs.declared.header.Header.{Header as TheHeader};
+ghost use Rattle.fdr_record.specs.declared.event.Event.{Event as TheEvent};
+ghost use Rattle.fdr_record.specs.Recordable.{IsRecordable};
+ghost use Rattle.runtime_log.specs.Logs.{LogBlock as SaidBlock};
+ghost use Rattle.runtime_log.specs.private.{Choices.{AreLeftOut, Shows}, Coming.{MayGive, events_to_come}, Notes.{AreFew}, Packings.{Fills, HasPacked, NoEvents, SaysOfLog, filled_for}};
+
+use crate::blocks::{BlockEvents, LogBlock};
+use crate::facts::Facts;
+use crate::notes::Notes;
+use crate::taken::LeftOut;
+use fdr_buffer::{Buffer, LARGEST_SIZE, a_segment_grows, one_event_fits};
+use fdr_file::{Header, extents, write_file};
+use fdr_record::Event;
+use std::alloc::Global;
+use xray_io::{MemSink, NoMemory};
+
+/// The file of a trace, as it grows.
+#[derive(Drop)]
+pub(crate) struct Packing {
+    /// The bytes so far.
+    file: Vec<u8>,
+    /// The block that is being filled.
+    buffer: Buffer,
+    /// What the events so far say.
+    notes: Notes,
+}
+
+/// The facts before any block is taken, by how many events of the program's own the log has.
+pub(crate) fn log_facts(custom: u64, typed: u64, left: LeftOut) -> Facts
+    ensures none { NoEvents result }
+    ensures log { (said : List SaidBlock) → custom ≡ sum (map (λ b. b.custom) said)
+        → typed ≡ sum (map (λ b. b.typed) said) → AreLeftOut said left → SaysOfLog said result }
+{
+    Facts {
+        blocks: 0,
+        threads: 0,
+        events: 0,
+        arguments: 0,
+        custom,
+        typed,
+        doubled: left.doubled,
+        empty: left.empty,
+        first: None,
+        last: None,
+        back: 0,
+    }
+}
+
+/// Adds the bytes of a header.
+fn add_header(alloc: Global, file: &mut Vec<u8>, header: &Header) -> Result<(), NoMemory>
+    requires { header.now.version ≡ 3 }
+    ensures { OnOk result (file.new.items ≡ file.old.items ++ file_bytes header.now []) }
+{
+    let mut sink = MemSink::new(alloc, Vec::new(alloc));
+    match write_file(header, &[], &mut sink) {
+        Ok(()) => {
+            file.extend_from_slice(sink.bytes())?;
+            Ok(())
+        }
+        Err(_) => Err(NoMemory),
+    }
+}
+
+impl Packing {
+    /// The file of no block. It is given room for so many bytes.
+    pub(crate) fn new(
+        alloc: Global,
+        header: &Header,
+        room: usize,
+        facts: Facts,
+    ) -> Result<Packing, NoMemory>
+        requires version { header.now.version ≡ 3 }
+        requires none { NoEvents facts }
+        ensures packs { (said : List SaidBlock) → SaysOfLog said facts
+            → IfOk result (λ packing. HasPacked header.now said [] packing) }
+        ensures none { IfOk result (λ packing. (packing.notes.facts.events ≡ 0)
+            × (packing.notes.facts.blocks ≡ 0) × AreFew packing.notes.facts
+            × (packing.buffer.size ≡ LARGEST_SIZE)) }
+    {
+        let mut file = Vec::with_capacity(alloc, room)?;
+        add_header(alloc, &mut file, header)?;
+        Ok(Packing {
+            file,
+            buffer: Buffer::new(alloc, LARGEST_SIZE)?,
+            notes: Notes::new(facts),
+        })
+    }
+
+    /// The file and the facts.
+    pub(crate) fn finish(self) -> (Vec<u8>, Facts)
+        ensures file { result.0.items ≡ self.file.items }
+        ensures facts { result.1 ≡ self.notes.facts }
+    {
+        (self.file, self.notes.facts)
+    }
+
+    /// Adds the buffer as a block.
+    fn flush(&mut self) -> Result<(), NoMemory>
+        requires { IsTrue self.old.buffer.begun }
+        ensures file { OnOk result (self.new.file.items ≡ self.old.file.items ++ block_bytes self.old.buffer) }
+        ensures others { (self.new.buffer ≡ self.old.buffer) × (self.new.notes ≡ self.old.notes) }
+    {
+        let bytes = self.buffer.bytes();
+        let head = extents(bytes.len() as u64);
+        self.file.extend_from_slice(&head)?;
+        self.file.extend_from_slice(bytes)?;
+        Ok(())
+    }
+
+    /// Begins a buffer for a block, with an event.
+    fn begin(&mut self, block: &LogBlock, event: &Event)
+        requires recordable { IsRecordable event.now }
+        requires size { self.old.buffer.size ≡ LARGEST_SIZE }
+        ensures buffer { self.new.buffer ≡ filled_for block.now (event.now ∷ []) }
+        ensures others { (self.new.file ≡ self.old.file) × (self.new.notes ≡ self.old.notes) }
+    {
+        one_event_fits();
+        self.buffer.begin(block.thread, 0, block.wall, block.pid);
+        self.buffer.put(event);
+    }
+
+    /// Adds an event of a block, which has events before it.
+    fn put(&mut self, block: &LogBlock, event: &Event) -> Result<(), NoMemory>
+        requires recordable { IsRecordable event.now }
+        requires begun { IsTrue self.old.buffer.begun × (self.old.buffer.size ≡ LARGEST_SIZE) }
+        ensures fills { (file : List ℕ) (events : List TheEvent) → Fills block.now file events self.old
+            → OnOk result (Fills block.now file (events ++ event.now ∷ []) self.new) }
+        ensures begun { IsTrue self.new.buffer.begun × (self.new.buffer.size ≡ LARGEST_SIZE) }
+        ensures notes { self.new.notes ≡ self.old.notes }
+    {
+        a_segment_grows();
+        if self.buffer.fits(event) {
+            self.buffer.put(event);
+        } else {
+            self.flush()?;
+            self.begin(block, event);
+        }
+        Ok(())
+    }
+
+    /// Adds the events of a block, as one block or as several. It has events.
+    pub(crate) fn add(&mut self, block: &LogBlock, mut events: BlockEvents) -> Result<(), NoMemory>
+        requires may { MayGive events }
+        requires recordable { All IsRecordable (events_to_come events) }
+        requires room { self.old.notes.facts.events + length (events_to_come events) < 2 ^ 63 }
+        requires few { (self.old.notes.facts.blocks < 2 ^ 32) × AreFew self.old.notes.facts }
+        requires size { self.old.buffer.size ≡ LARGEST_SIZE }
+        ensures packs { (header : TheHeader) (said taken : List SaidBlock) (b : SaidBlock)
+            → HasPacked header said taken self.old → Shows block.now b.block
+            → b.block.events ≢ [] → events_to_come events.entry ≡ b.block.events
+            → OnOk result (HasPacked header said (taken ++ b ∷ []) self.new) }
+        ensures room { OnOk result (self.new.notes.facts.events
+            ≡ self.old.notes.facts.events + length (events_to_come events.entry)) }
+        ensures blocks { OnOk result (self.new.notes.facts.blocks ≡ self.old.notes.facts.blocks + 1) }
+        ensures few { AreFew self.new.notes.facts }
+        ensures size { self.new.buffer.size ≡ LARGEST_SIZE }
+    {
+        self.notes.facts.blocks += 1;
+        let Some(first) = events.next() else {
+            return Ok(());
+        };
+        self.notes.note(block.thread, &first);
+        self.begin(block, &first);
+        'events: while let Some(event) = events.next() {
+            self.notes.note(block.thread, &event);
+            self.put(block, &event)?;
+        }
+        self.flush()
+    }
+}

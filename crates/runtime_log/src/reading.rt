@@ -1,0 +1,338 @@
+//! All blocks of a log, in the order of the file.
+ghost use Rattle.std.specs.Prelude.{◌≡◌, ◌⊎◌, ◌<◌, ◌≤◌, ◌+◌, ◌++◌, ◌^◌, ℕ, [], List, Ok, Err, IfErr, IfOk, OnOk, drop, length, option_to_list, take};
+ghost use Rattle.fdr_file.specs.declared.fault.TraceFault.TheVariants.{NoMemory as NoRoom};
+ghost use Rattle.fdr_file.specs.declared.trace.Block.{Block as TheBlock};
+ghost use Rattle.fdr_file.specs.Scanning.{empty_block};
+ghost use Rattle.fdr_file.specs.Traces.{block_length};
+ghost use Rattle.runtime_log.specs.declared.fault.LogFault.TheVariants.{Trace};
+ghost use Rattle.runtime_log.specs.Logs.{BlockSoFar, LogBlock as SaidBlock, block_with, log_block_in, one_custom, one_typed};
+ghost use Rattle.runtime_log.specs.BasicLogs.{BasicRun, runs_with, single_run, tagged_rows};
+ghost use Rattle.runtime_log.specs.private.Choices.{IsAt, Shows, counter_first};
+ghost use Rattle.runtime_log.specs.private.Records.{counter_of};
+ghost use Rattle.runtime_log.specs.private.Headers.{header_for, mode_of};
+ghost use Rattle.runtime_log.specs.private.Readings.{AreRead, AreRuns, BelongsAt, HasRead, IsRun, RecordsRead, blocks_said, walk_reads};
+
+use crate::basic::{BasicRec, Owner, RECORD_BYTES, may_follow, record_in, same_owner};
+use crate::blocks::{LogBlock, LogBlocks, Mode};
+use crate::fault::LogFault;
+use crate::own_event::OwnKind;
+use crate::version::LogVersion;
+use crate::walk::BlockWalk;
+use byteorder::{ByteOrder, LittleEndian};
+use fdr_file::{HEADER_BYTES, Header, Told, TraceFault, VERSION, header_fields};
+use fdr_record::Event;
+use std::alloc::Global;
+use xray_io::{NoMemory, Wall};
+
+/// The place of the type in a header.
+const TYPE_AT: usize = 2;
+
+/// The types of logs.
+const BASIC: u16 = 0;
+
+const RECORDER: u16 = 1;
+
+/// The version of basic logs.
+const BASIC_VERSION: u16 = 3;
+
+/// The mode of a log, or why its header isn't that of one.
+pub(crate) fn read_mode(bytes: &[u8]) -> Result<Mode, TraceFault>
+    ensures reads { result ≡ mode_of bytes.now }
+    ensures whole { OnOk result (32 ≤ length bytes.now) }
+{
+    if bytes.len() < HEADER_BYTES {
+        return Err(TraceFault::Short(0));
+    }
+    let number = LittleEndian::read_u16(bytes);
+    let Some(version) = LogVersion::of(number) else {
+        return Err(TraceFault::Version(number));
+    };
+    match LittleEndian::read_u16(&bytes[TYPE_AT..]) {
+        RECORDER => Ok(Mode::Recorder(version)),
+        BASIC => {
+            if number == BASIC_VERSION {
+                Ok(Mode::Basic)
+            } else {
+                Err(TraceFault::Version(number))
+            }
+        }
+        form => Err(TraceFault::Form(form)),
+    }
+}
+
+/// The header of the trace of a log. A basic log says the size of no buffer.
+pub(crate) fn trace_header(bytes: &[u8], mode: Mode) -> Header
+    requires { 32 ≤ length bytes.now }
+    ensures { result ≡ header_for mode bytes.now }
+{
+    let fields = header_fields(bytes);
+    let size = match mode {
+        Mode::Recorder(_) => fields.size,
+        Mode::Basic => 0,
+    };
+    Header {
+        version: VERSION,
+        size,
+        ..fields
+    }
+}
+
+/// The counter of the first of two events, if there are any.
+fn first_counter(entry: Option<Event>, event: Option<Event>) -> Option<u64>
+    ensures { result ≡ counter_first (option_to_list entry ++ option_to_list event) }
+{
+    match (entry, event) {
+        (Some(entry), _) => Some(entry.tsc),
+        (None, Some(event)) => Some(event.tsc),
+        (None, None) => None,
+    }
+}
+
+/// The bytes of the record that bytes of a basic log begin with, or all of them if it isn't whole.
+fn record_bytes(rest: &[u8]) -> &[u8]
+    ensures { result.now ≡ take 32 rest.entry.now }
+{
+    if rest.len() < RECORD_BYTES {
+        rest
+    } else {
+        &rest[..RECORD_BYTES]
+    }
+}
+
+/// The counter of a record's event, if it is a passing.
+fn counter_in(rec: BasicRec) -> Option<u64>
+    ensures { result ≡ counter_of rec }
+{
+    match rec {
+        BasicRec::Passed { event, .. } => Some(event.tsc),
+        BasicRec::Argument { .. } => None,
+    }
+}
+
+/// A block of one record of a basic log, which is at a place.
+fn single_record(at: usize, rec: BasicRec) -> LogBlock
+    requires few { at + 32 < 2 ^ 64 }
+    ensures run { (bytes : List ℕ) → BelongsAt bytes at rec → IsRun bytes result (single_run (at, drop at bytes) rec) }
+    ensures place { (result.begin ≡ at) × (result.end ≡ at + 32) }
+    ensures first { result.first ≡ counter_of rec }
+{
+    let owner = rec.owner();
+    LogBlock {
+        begin: at,
+        end: at + RECORD_BYTES,
+        thread: owner.thread,
+        pid: owner.pid,
+        wall: Wall { secs: 0, micros: 0 },
+        first: counter_in(rec),
+    }
+}
+
+/// A block that begins at a place, before any record.
+fn opened(at: usize) -> LogBlock
+    ensures begin { result.begin ≡ at }
+    ensures shows { Shows result (empty_block 0 (record { secs = 0; micros = 0 }) 0) }
+{
+    LogBlock {
+        begin: at,
+        end: at,
+        thread: 0,
+        pid: 0,
+        wall: Wall { secs: 0, micros: 0 },
+        first: None,
+    }
+}
+
+impl LogBlock {
+    /// The thread and the process.
+    fn owner(&self) -> Owner
+        ensures { (result.thread ≡ self.now.thread) × (result.pid ≡ self.now.pid) }
+    {
+        Owner {
+            thread: self.thread,
+            pid: self.pid,
+        }
+    }
+
+    /// Takes what a record says of the block.
+    fn hear(&mut self, told: Told)
+        ensures shows { (b : TheBlock) → Shows self.old b → Shows self.new (block_with told b) }
+        ensures places { (self.new.begin ≡ self.old.begin) × (self.new.end ≡ self.old.end) }
+    {
+        match told {
+            Told::Nothing => (),
+            Told::Begun { thread, wall, pid } => {
+                self.thread = thread;
+                self.wall = wall;
+                self.pid = pid;
+            }
+            Told::Noted { entry, event } => {
+                self.first = self.first.or(first_counter(entry, event));
+            }
+        }
+    }
+}
+
+impl LogBlocks {
+    /// No block.
+    fn new(alloc: Global, mode: Mode) -> LogBlocks
+        ensures { (result.mode ≡ mode) × (result.blocks.items ≡ []) × (result.custom ≡ 0) × (result.typed ≡ 0) }
+    {
+        LogBlocks {
+            mode,
+            blocks: Vec::new(alloc),
+            custom: 0,
+            typed: 0,
+        }
+    }
+
+    /// Counts an event of the program's own, if it is one. A log has fewer than 2^32.
+    fn count(&mut self, own: Option<OwnKind>)
+        requires few { (self.old.custom < 2 ^ 32) × (self.old.typed < 2 ^ 32) }
+        ensures custom { self.new.custom ≡ self.old.custom + one_custom own }
+        ensures typed { self.new.typed ≡ self.old.typed + one_typed own }
+        ensures others { (self.new.blocks ≡ self.old.blocks) × (self.new.mode ≡ self.old.mode) }
+    {
+        match own {
+            Some(OwnKind::Custom) => self.custom += 1,
+            Some(OwnKind::Typed) => self.typed += 1,
+            None => (),
+        }
+    }
+
+    /// Takes the records of a block that are left.
+    fn read_records(&mut self, mut walk: BlockWalk, block: &mut LogBlock) -> Result<(), TraceFault>
+        requires few { walk.at + length walk.rest.now < 2 ^ 32 }
+        requires counts { (self.old.custom ≤ walk.at) × (self.old.typed ≤ walk.at) }
+        ensures reads { (so : BlockSoFar) → walk.entry.stage ≡ so.stage → Shows block.old so.block
+            → OnOk result (RecordsRead self.old self.new so block.new (walk_reads walk.entry so)) }
+        ensures refuses { (so : BlockSoFar) → walk.entry.stage ≡ so.stage
+            → IfErr result (λ fault. walk_reads walk.entry so ≡ Err fault) }
+        ensures counts { OnOk result ((self.new.custom ≤ walk.entry.at + length walk.entry.rest.now)
+            × (self.new.typed ≤ walk.entry.at + length walk.entry.rest.now)) }
+        ensures places { OnOk result ((block.new.begin ≡ block.old.begin)
+            × (block.new.end ≡ walk.entry.at + length walk.entry.rest.now)) }
+        ensures others { (self.new.blocks ≡ self.old.blocks) × (self.new.mode ≡ self.old.mode) }
+    {
+        'records: while walk.left() > 0 {
+            let (told, own) = walk.step()?;
+            self.count(own);
+            block.hear(told);
+        }
+        block.end = walk.at() as usize;
+        Ok(())
+    }
+
+    /// The block that begins at a place of a log of the Flight Data Recorder mode.
+    fn read_block(
+        &mut self,
+        version: LogVersion,
+        bytes: &[u8],
+        at: usize,
+    ) -> Result<LogBlock, TraceFault>
+        requires few { length bytes.now < 2 ^ 32 }
+        requires within { at ≤ length bytes.now }
+        requires counts { (self.old.custom ≤ at) × (self.old.typed ≤ at) }
+        ensures reads { IfOk result (λ placed. (b : SaidBlock) × (log_block_in version (at, drop at bytes.now) ≡ Ok b)
+            × IsAt bytes.now (Mode.Recorder version) placed b
+            × (self.new.custom ≡ self.old.custom + b.custom) × (self.new.typed ≡ self.old.typed + b.typed)) }
+        ensures refuses { IfErr result (λ fault. log_block_in version (at, drop at bytes.now) ≡ Err fault) }
+        ensures counts { IfOk result (λ placed. (self.new.custom ≤ placed.end) × (self.new.typed ≤ placed.end)) }
+        ensures places { IfOk result (λ placed. (placed.begin ≡ at) × (placed.end ≡ at + block_length (drop at bytes.now))) }
+        ensures others { (self.new.blocks ≡ self.old.blocks) × (self.new.mode ≡ self.old.mode) }
+    {
+        let walk = BlockWalk::open(version, at as u64, &bytes[at..])?;
+        let mut block = opened(at);
+        self.read_records(walk, &mut block)?;
+        Ok(block)
+    }
+
+    /// The blocks of a log of the Flight Data Recorder mode.
+    fn read_recorder(&mut self, version: LogVersion, bytes: &[u8]) -> Result<(), LogFault>
+        requires few { (32 ≤ length bytes.now) × (length bytes.now < 2 ^ 32) }
+        requires none { (self.old.blocks.items ≡ []) × (self.old.custom ≡ 0) × (self.old.typed ≡ 0) }
+        requires mode { self.old.mode ≡ Mode.Recorder version }
+        ensures reads { HasRead bytes.now self.new result }
+        ensures mode { self.new.mode ≡ self.old.mode }
+    {
+        let mut at = HEADER_BYTES;
+        'reading: while at < bytes.len() {
+            let block = match self.read_block(version, bytes, at) {
+                Ok(block) => block,
+                Err(fault) => return Err(LogFault::Trace(fault)),
+            };
+            at = block.end;
+            self.blocks.push(block)?;
+        }
+        Ok(())
+    }
+
+    /// Takes a record of a basic log, which is at this place. It goes on with the last block if it is
+    /// of the same thread and process.
+    fn add_record(&mut self, at: usize, rec: BasicRec) -> Result<(), NoMemory>
+        requires few { at + 32 < 2 ^ 64 }
+        ensures adds { (bytes : List ℕ) (runs : List BasicRun) → AreRuns bytes at runs self.old.blocks.items
+            → BelongsAt bytes at rec → OnOk result (AreRuns bytes (at + 32)
+            (runs_with runs (at, drop at bytes) rec) self.new.blocks.items) }
+        ensures others { (self.new.custom ≡ self.old.custom) × (self.new.typed ≡ self.old.typed)
+            × (self.new.mode ≡ self.old.mode) }
+    {
+        let single = single_record(at, rec);
+        if let Some(last) = self.blocks.last_mut() {
+            if same_owner(last.owner(), rec.owner()) {
+                last.end = single.end;
+                last.first = last.first.or(single.first);
+                return Ok(());
+            }
+        }
+        self.blocks.push(single)?;
+        Ok(())
+    }
+
+    /// The blocks of a basic log.
+    fn read_basic(&mut self, bytes: &[u8]) -> Result<(), LogFault>
+        requires few { (32 ≤ length bytes.now) × (length bytes.now < 2 ^ 32) }
+        requires none { (self.old.blocks.items ≡ []) × (self.old.custom ≡ 0) × (self.old.typed ≡ 0) }
+        requires mode { self.old.mode ≡ Mode.Basic }
+        ensures reads { HasRead bytes.now self.new result }
+        ensures mode { self.new.mode ≡ self.old.mode }
+    {
+        let mut at = HEADER_BYTES;
+        let mut before = None;
+        'records: while at < bytes.len() {
+            let rec = record_in(at as u64, record_bytes(&bytes[at..]))?;
+            if !may_follow(before, rec) {
+                return Err(LogFault::Trace(TraceFault::Order(at as u64)));
+            }
+            self.add_record(at, rec)?;
+            before = Some(rec);
+            at += RECORD_BYTES;
+        }
+        Ok(())
+    }
+
+    /// The blocks of a log of either mode.
+    fn read_all(&mut self, bytes: &[u8]) -> Result<(), LogFault>
+        requires few { (32 ≤ length bytes.now) × (length bytes.now < 2 ^ 32) }
+        requires none { (self.old.blocks.items ≡ []) × (self.old.custom ≡ 0) × (self.old.typed ≡ 0) }
+        ensures reads { HasRead bytes.now self.new result }
+        ensures mode { self.new.mode ≡ self.old.mode }
+    {
+        match self.mode {
+            Mode::Recorder(version) => self.read_recorder(version, bytes),
+            Mode::Basic => self.read_basic(bytes),
+        }
+    }
+
+    /// All blocks of a log of this mode.
+    pub(crate) fn read(alloc: Global, bytes: &[u8], mode: Mode) -> Result<LogBlocks, LogFault>
+        requires few { (32 ≤ length bytes.now) × (length bytes.now < 2 ^ 32) }
+        ensures mode { IfOk result (λ blocks. blocks.mode ≡ mode) }
+        ensures reads { IfOk result (λ blocks. (said : List SaidBlock) × (blocks_said mode bytes.now ≡ Ok said)
+            × AreRead bytes.now said blocks) }
+        ensures refuses { IfErr result (λ fault. (fault ≡ Trace NoRoom) ⊎ (blocks_said mode bytes.now ≡ Err fault)) }
+    {
+        let mut blocks = LogBlocks::new(alloc, mode);
+        blocks.read_all(bytes)?;
+        Ok(blocks)
+    }
+}

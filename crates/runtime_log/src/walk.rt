@@ -1,0 +1,172 @@
+//! The records of a block of the Flight Data Recorder mode.
+ghost use Rattle.std.specs.Prelude.{◌≡◌, ◌<◌, ◌≤◌, ◌+◌, ◌^◌, IfOk, OnOk, drop, length};
+ghost use Rattle.runtime_log.specs.Logs.{block_size_rows, log_record_rows};
+ghost use Rattle.runtime_log.specs.OwnEvents.{counter_inside, counter_so_far, log_record_in, log_record_length, own_kind};
+ghost use Rattle.runtime_log.specs.private.Walks.{OpensTo, StepsTo};
+
+use crate::own_event::{OwnKind, own_delta, own_kind, own_size};
+use crate::version::LogVersion;
+use fdr_file::{Inside, Span, Stage, Told, TraceFault, judge, record_len, record_of};
+use fdr_record::{METADATA_BYTES, Rec, RecFault};
+
+/// A way through the records of a block, from one to the next. A record of the program's own stands
+/// for the record of a trace that says the counter at it.
+#[derive(Clone, Copy)]
+pub(crate) struct BlockWalk<'a> {
+    version: LogVersion,
+    /// The bytes of the block from the next record on.
+    rest: &'a [u8],
+    /// The place of the next record.
+    at: u64,
+    stage: Stage,
+}
+
+/// What is at a place: its length, the record that it stands for, and its kind if it is an event of
+/// the program's own.
+#[derive(Clone, Copy)]
+struct Found {
+    len: usize,
+    rec: Result<Rec, RecFault>,
+    own: Option<OwnKind>,
+}
+
+/// The counter of the last record, if a CPU was named; otherwise 0.
+fn counter_inside(inside: Inside) -> u64
+    ensures { result ≡ counter_inside inside }
+{
+    match inside {
+        Inside::Opened | Inside::Thread { .. } | Inside::Wall { .. } => 0,
+        Inside::Events { base } => match base {
+            Some(base) => base.tsc,
+            None => 0,
+        },
+    }
+}
+
+/// The same, where the reading of a block stands.
+fn counter_so_far(stage: Stage) -> u64
+    ensures { result ≡ counter_so_far stage }
+{
+    match stage {
+        Stage::Within { inside, .. } => counter_inside(inside),
+        Stage::Due | Stage::Faulty { .. } => 0,
+    }
+}
+
+/// What bytes begin with, at this stage.
+fn found_in(version: LogVersion, stage: Stage, bytes: &[u8]) -> Found
+    requires { 0 < length bytes.now }
+    ensures len { result.len ≡ log_record_length version bytes.now }
+    ensures some { 0 < result.len }
+    ensures rec { result.rec ≡ log_record_in version stage bytes.now }
+    ensures own { result.own ≡ own_kind version bytes.now }
+{
+    let own = own_kind(version, bytes);
+    if own.is_none() {
+        return Found {
+            len: record_len(bytes),
+            rec: record_of(bytes),
+            own,
+        };
+    }
+    let delta = u64::from(own_delta(version, bytes));
+    let tsc = counter_so_far(stage).wrapping_add(delta);
+    Found {
+        len: METADATA_BYTES + own_size(bytes) as usize,
+        rec: Ok(Rec::TscWrap { tsc }),
+        own,
+    }
+}
+
+/// How many bytes the block at a place has after its extents, which these bytes begin with.
+fn block_size(version: LogVersion, at: u64, bytes: &[u8]) -> Result<usize, TraceFault>
+    requires { length bytes.now < 2 ^ 32 }
+    ensures size { result ≡ block_size_rows version (at, bytes.now) }
+    ensures whole { OnOk result (16 ≤ length bytes.now) }
+    ensures fits { IfOk result (λ size. 16 + size ≤ length bytes.now) }
+{
+    if bytes.len() < METADATA_BYTES {
+        return Err(TraceFault::Short(at));
+    }
+    let rec = match found_in(version, Stage::Due, bytes).rec {
+        Ok(rec) => rec,
+        Err(fault) => return Err(TraceFault::Bad(at, fault)),
+    };
+    let Rec::Extents { size } = rec else {
+        return Err(TraceFault::Order(at));
+    };
+    if size < version.as_trace().preamble_bytes() {
+        return Err(TraceFault::Extents(at));
+    }
+    if (bytes.len() as u128) < METADATA_BYTES as u128 + u128::from(size) {
+        return Err(TraceFault::Short(at));
+    }
+    Ok(size as usize)
+}
+
+impl<'a> BlockWalk<'a> {
+    /// Before the first record of the block at a place, whose extents these bytes begin with.
+    pub(crate) fn open(
+        version: LogVersion,
+        at: u64,
+        bytes: &'a [u8],
+    ) -> Result<BlockWalk<'a>, TraceFault>
+        requires few { at + length bytes.now < 2 ^ 32 }
+        ensures { OpensTo version at bytes.entry.now result }
+    {
+        let size = block_size(version, at, bytes)?;
+        let content = &bytes[METADATA_BYTES..];
+        let end = u128::from(at) + (METADATA_BYTES + size) as u128;
+        let span = Span { begin: at, end };
+        Ok(BlockWalk {
+            version,
+            rest: &content[..size],
+            at: at + METADATA_BYTES as u64,
+            stage: Stage::Within {
+                span,
+                inside: Inside::Opened,
+            },
+        })
+    }
+
+    /// The place of the next record, or that after the block.
+    pub(crate) fn at(&self) -> u64
+        ensures { result ≡ self.now.at }
+    {
+        self.at
+    }
+
+    /// How many bytes of the block are left.
+    pub(crate) fn left(&self) -> usize
+        ensures { result ≡ length self.now.rest.now }
+    {
+        self.rest.len()
+    }
+
+    /// Goes past the next record. Returns what it says, and its kind if it is an event of the
+    /// program's own.
+    pub(crate) fn step(&mut self) -> Result<(Told, Option<OwnKind>), TraceFault>
+        requires few { self.old.at + length self.old.rest.now < 2 ^ 32 }
+        requires left { 0 < length self.old.rest.now }
+        ensures { StepsTo self.old self.new result }
+    {
+        let found = found_in(self.version, self.stage, self.rest);
+        if self.rest.len() < found.len {
+            return Err(TraceFault::Extents(self.at));
+        }
+        let (stage, told) = judge(
+            self.version.as_trace(),
+            self.stage,
+            self.at,
+            found.len,
+            found.rec,
+        );
+        if let Stage::Faulty { fault, .. } = stage {
+            return Err(fault);
+        }
+        self.rest = &self.rest[found.len..];
+        self.at += found.len as u64;
+        self.stage = stage;
+        Ok((told, found.own))
+    }
+}

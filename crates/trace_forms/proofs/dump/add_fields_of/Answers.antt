@@ -1,9 +1,0 @@
-use Rattle.std.proofs.Common.{List, ℕ, subst}
-use Rattle.xray_io.specs.Text.{AddsText}
-use Rattle.trace_forms.proofs.Lines.{two_fields}
-use Rattle.trace_forms.proofs.dump.add_fields_of.Goals as goal
-
-pub returns : goal.returns
-returns g c =
-    subst (λ (t : List ℕ). AddsText g.S.Sink.written g.S.Sink.faults g.S.Sink.along c.args.text.now c.pieces.new.self t c.pieces.result)
-    (two_fields c.args.name.now c.args.between.now c.from.result c.args.first c.from-2.result c.args.second c.from.ensures c.from-2.ensures) c.pieces.ensures.adds

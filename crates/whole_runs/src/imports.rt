@@ -1,0 +1,298 @@
+//! `import`.
+use crate::runs::{assert_held, assert_left, assert_stopped, run_line};
+use crate::trace_bytes::{
+    CPU, CPU_AT_2, ENTRY, EXIT, EXIT_AFTER_2, EXTENTS_64, EXTENTS_72, EXTENTS_80, HEADER,
+    HEADER_OF_2, PREAMBLE, PREAMBLE_OF_2, THREAD_1, WALL_0, file,
+};
+use std::alloc::Global;
+use std::test::Fail;
+use xray_io::MemDesk;
+
+/// A header of version 5, which is otherwise that of the other traces.
+const HEADER_OF_5: &[u8] =
+    b"\x05\0\x01\0\x03\0\0\0\0\0\0\0\0\0\0\0\0\x40\0\0\0\0\0\0\0\0\0\0\0\0\0\0";
+
+/// The same of version 4.
+const HEADER_OF_4: &[u8] =
+    b"\x04\0\x01\0\x03\0\0\0\0\0\0\0\0\0\0\0\0\x40\0\0\0\0\0\0\0\0\0\0\0\0\0\0";
+
+/// The same of version 6.
+const HEADER_OF_6: &[u8] =
+    b"\x06\0\x01\0\x03\0\0\0\0\0\0\0\0\0\0\0\0\x40\0\0\0\0\0\0\0\0\0\0\0\0\0\0";
+
+/// Process 0.
+const PROCESS_0: &[u8] = b"\x13\0\0\0\0\0\0\0\0\0\0\0\0\0\0\0";
+
+/// Extents of 48 bytes, and of 101.
+const EXTENTS_48: &[u8] = b"\x0F\x30\0\0\0\0\0\0\0\0\0\0\0\0\0\0";
+
+const EXTENTS_101: &[u8] = b"\x0F\x65\0\0\0\0\0\0\0\0\0\0\0\0\0\0";
+
+/// A custom event of 5 bytes, 3 cycles on, in version 5. Its fillers aren't 0.
+const CUSTOM: &[u8] = b"\x0B\x05\0\0\0\x03\0\0\0\xAA\xAA\xAA\xAA\xAA\xAA\xAA\x10\0\0\0\0";
+
+/// A typed event of 5 bytes, 3 cycles on, of type 7.
+const TYPED: &[u8] = b"\x11\x05\0\0\0\x03\0\0\0\x07\0\xAA\xAA\xAA\xAA\xAA\x10\0\0\0\0";
+
+/// A custom event of 5 bytes in version 4: a counter of 3, and CPU 9. It moves no counter.
+const CUSTOM_OF_4: &[u8] = b"\x0B\x05\0\0\0\x03\0\0\0\0\0\0\0\x09\0\0\x10\0\0\0\0";
+
+/// An exit of function 1, 5 cycles on.
+const EXIT_AFTER_5: &[u8] = b"\x12\0\0\0\x05\0\0\0";
+
+/// A header of a basic log, whose flags have more bits.
+const BASIC_HEADER: &[u8] =
+    b"\x03\0\0\0\xF3\x01\0\0\x09\0\0\0\0\0\0\0\0\x40\0\0\0\0\0\0\0\0\0\0\0\0\0\0";
+
+/// The header of its trace: the frequency 9, and no size of buffers.
+const HEADER_OF_BASIC: &[u8] =
+    b"\x03\0\x01\0\x03\0\0\0\x09\0\0\0\0\0\0\0\0\0\0\0\0\0\0\0\0\0\0\0\0\0\0\0";
+
+/// Records of thread 1 and process 1: an entry of function 1 on CPU 0 at counter 0 that logs an
+/// argument, the argument 77, and an exit at 2.
+const BASIC_ENTRY: &[u8] =
+    b"\0\0\0\x03\x01\0\0\0\0\0\0\0\0\0\0\0\x01\0\0\0\x01\0\0\0\xEE\xEE\xEE\xEE\xEE\xEE\xEE\xEE";
+
+const BASIC_ARGUMENT: &[u8] =
+    b"\x01\0\xBB\xBB\x01\0\0\0\x01\0\0\0\x01\0\0\0\x4D\0\0\0\0\0\0\0\xEE\xEE\xEE\xEE\xEE\xEE\xEE\xEE";
+
+const BASIC_EXIT: &[u8] =
+    b"\0\0\0\x01\x01\0\0\0\x02\0\0\0\0\0\0\0\x01\0\0\0\x01\0\0\0\0\0\0\0\0\0\0\0";
+
+/// An entry of function 1 that logs its argument, the argument 77, and extents of 96 bytes.
+const ENTRY_WITH_ARGUMENT: &[u8] = b"\x16\0\0\0\0\0\0\0";
+
+const ARGUMENT_77: &[u8] = b"\x0D\x4D\0\0\0\0\0\0\0\0\0\0\0\0\0\0";
+
+const EXTENTS_96: &[u8] = b"\x0F\x60\0\0\0\0\0\0\0\0\0\0\0\0\0\0";
+
+/// What is printed after each number.
+const FACTS: [&str; 11] = [
+    "blocks",
+    "threads",
+    "events",
+    "entries with arguments",
+    "custom events left out",
+    "typed events left out",
+    "doubled blocks left out",
+    "empty blocks left out",
+    "first counter",
+    "last counter",
+    "threads whose counter goes back",
+];
+
+/// The text of facts, from their numbers with blanks between them.
+fn text_of(alloc: Global, numbers: &str) -> Result<String, Fail> {
+    let mut text = String::new(alloc);
+    for (number, what) in numbers.split_whitespace().zip(FACTS.iter()) {
+        let line = format!(in alloc; "{number:>20} {what}\n")?;
+        text.push_str(&line)?;
+    }
+    Ok(text)
+}
+
+/// The parts of a log, the numbers that are printed, and the parts of the trace.
+type Import = (
+    &'static [&'static [u8]],
+    &'static str,
+    &'static [&'static [u8]],
+);
+
+/// Logs, and what is made of them.
+const IMPORTS: [Import; 8] = [
+    // A trace is imported as itself.
+    (
+        &[HEADER, EXTENTS_80, PREAMBLE, CPU, ENTRY, EXIT_AFTER_2],
+        "1 1 2 0 0 0 0 0 0 2 0",
+        &[HEADER, EXTENTS_80, PREAMBLE, CPU, ENTRY, EXIT_AFTER_2],
+    ),
+    // Without a process it is 0.
+    (
+        &[
+            HEADER_OF_2,
+            EXTENTS_64,
+            THREAD_1,
+            WALL_0,
+            CPU,
+            ENTRY,
+            EXIT_AFTER_2,
+        ],
+        "1 1 2 0 0 0 0 0 0 2 0",
+        &[
+            HEADER,
+            EXTENTS_80,
+            THREAD_1,
+            WALL_0,
+            PROCESS_0,
+            CPU,
+            ENTRY,
+            EXIT_AFTER_2,
+        ],
+    ),
+    // Events of the program are passed over, and their deltas count.
+    (
+        &[
+            HEADER_OF_5,
+            EXTENTS_101,
+            PREAMBLE,
+            CPU,
+            ENTRY,
+            CUSTOM,
+            EXIT_AFTER_2,
+        ],
+        "1 1 2 0 1 0 0 0 0 5 0",
+        &[HEADER, EXTENTS_80, PREAMBLE, CPU, ENTRY, EXIT_AFTER_5],
+    ),
+    (
+        &[
+            HEADER_OF_5,
+            EXTENTS_101,
+            PREAMBLE,
+            CPU,
+            ENTRY,
+            TYPED,
+            EXIT_AFTER_2,
+        ],
+        "1 1 2 0 0 1 0 0 0 5 0",
+        &[HEADER, EXTENTS_80, PREAMBLE, CPU, ENTRY, EXIT_AFTER_5],
+    ),
+    (
+        &[
+            HEADER_OF_4,
+            EXTENTS_101,
+            PREAMBLE,
+            CPU,
+            ENTRY,
+            CUSTOM_OF_4,
+            EXIT_AFTER_2,
+        ],
+        "1 1 2 0 1 0 0 0 0 2 0",
+        &[HEADER, EXTENTS_80, PREAMBLE, CPU, ENTRY, EXIT_AFTER_2],
+    ),
+    // Blocks of a thread come in the order of time, and threads ascend. A block counts once, and one without events not at all.
+    (
+        &[
+            HEADER,
+            EXTENTS_72,
+            PREAMBLE_OF_2,
+            CPU,
+            ENTRY,
+            EXTENTS_72,
+            PREAMBLE,
+            CPU_AT_2,
+            EXIT,
+            EXTENTS_48,
+            PREAMBLE,
+            EXTENTS_72,
+            PREAMBLE,
+            CPU,
+            ENTRY,
+            EXTENTS_72,
+            PREAMBLE,
+            CPU_AT_2,
+            EXIT,
+        ],
+        "3 2 3 0 0 0 1 1 0 2 0",
+        &[
+            HEADER,
+            EXTENTS_72,
+            PREAMBLE,
+            CPU,
+            ENTRY,
+            EXTENTS_72,
+            PREAMBLE,
+            CPU_AT_2,
+            EXIT,
+            EXTENTS_72,
+            PREAMBLE_OF_2,
+            CPU,
+            ENTRY,
+        ],
+    ),
+    // A basic log.
+    (
+        &[BASIC_HEADER, BASIC_ENTRY, BASIC_ARGUMENT, BASIC_EXIT],
+        "1 1 2 1 0 0 0 0 0 2 0",
+        &[
+            HEADER_OF_BASIC,
+            EXTENTS_96,
+            PREAMBLE,
+            CPU,
+            ENTRY_WITH_ARGUMENT,
+            ARGUMENT_77,
+            EXIT_AFTER_2,
+        ],
+    ),
+    // No block.
+    (&[HEADER_OF_5], "0 0 0 0 0 0 0 0 - - 0", &[HEADER]),
+];
+
+#[test]
+fn a_log_is_a_trace_of_its_events(rt: HostRuntime) -> Result<(), Fail> {
+    let alloc = rt.alloc();
+    for (log, numbers, trace) in &IMPORTS {
+        let mut desk = log_desk(alloc, log)?;
+        let run = run_line(&rt, "import l t", &mut desk)?;
+        assert_left(&rt, &run, 0, &text_of(alloc, numbers)?, "");
+        assert_held(&rt, desk.get("t"), &file(alloc, trace)?);
+    }
+    Ok(())
+}
+
+/// A desk that holds a log of these parts as `l`.
+fn log_desk(alloc: Global, parts: &[&[u8]]) -> Result<MemDesk, Fail> {
+    let mut desk = MemDesk::new(alloc, Vec::new(alloc));
+    desk.put("l", &file(alloc, parts)?)?;
+    Ok(desk)
+}
+
+/// The parts of a log, and the line on err.
+type Refusal = (&'static [&'static [u8]], &'static str);
+
+/// Logs that are refused.
+const REFUSED: [Refusal; 12] = [
+    (&[], "xray: l: log Short 0\n"),
+    (&[HEADER_OF_6], "xray: l: log Version 6\n"),
+    (&[b"\x02\0\0\0", &[0; 28]], "xray: l: log Version 2\n"),
+    (&[b"\x05\0\x02\0", &[0; 28]], "xray: l: log Form 2\n"),
+    (&[HEADER_OF_5, CPU], "xray: l: log Order 32\n"),
+    (&[HEADER_OF_5, TYPED], "xray: l: log Order 32\n"),
+    (&[HEADER_OF_4, TYPED], "xray: l: log Bad 32 Kind 8\n"),
+    (
+        &[
+            HEADER_OF_5,
+            EXTENTS_80,
+            PREAMBLE,
+            CUSTOM,
+            b"\0\0\0\0\0\0\0\0\0\0\0",
+        ],
+        "xray: l: log NoBase 96\n",
+    ),
+    (
+        &[HEADER_OF_5, EXTENTS_80, PREAMBLE, CPU, CUSTOM],
+        "xray: l: log Extents 112\n",
+    ),
+    (
+        &[BASIC_HEADER, BASIC_EXIT, BASIC_ARGUMENT],
+        "xray: l: log Order 64\n",
+    ),
+    (
+        &[BASIC_HEADER, b"\x02\0", &[0; 30]],
+        "xray: l: log Tag 32 2\n",
+    ),
+    (
+        &[BASIC_HEADER, b"\0\0\0\0\0\0\0\x10", &[0; 24]],
+        "xray: l: log Function 32 268435456\n",
+    ),
+];
+
+#[test]
+fn what_is_no_log_is_refused(rt: HostRuntime) -> Result<(), Fail> {
+    for (log, line) in &REFUSED {
+        let mut desk = log_desk(rt.alloc(), log)?;
+        let run = run_line(&rt, "import l t", &mut desk)?;
+        assert_stopped(&rt, &run, 2, line);
+        assert!(rt; desk.get("t").is_none());
+    }
+    Ok(())
+}

@@ -1,0 +1,5 @@
+use Rattle.xray_program.proofs.Judging.{map_refuses}
+use Rattle.xray_program.proofs.inputs.MapKindKind.judge.Goals as goal
+
+pub returns-clause-refuses : goal.returns-clause-refuses
+returns-clause-refuses c = map_refuses c.args.bytes.now c.read_map.result c.read_map.ensures.reads

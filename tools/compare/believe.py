@@ -1,0 +1,261 @@
+#!/usr/bin/env python3
+"""Lists the definitions that the contract of the top call reaches, and compares the list with docs/BELIEVE.md.
+
+usage: tools/compare/believe.py [--write] [ROOT]
+    --write: writes docs/BELIEVE.md
+    ROOT: the folder of the repository, that of this file if left out
+
+A contract is worth no more than its definitions. They are in crates/*/specs. From CONTRACT this goes on to each
+definition that one of them names, through the `use` lines of its file. Types of the code, which the logic sees as they
+are declared in src, are listed apart. The definitions of the standard library aren't listed.
+
+If the page differs from the sources, the first lines that differ are reported, and the status is 1.
+"""
+import difflib
+import pathlib
+import re
+import sys
+
+sys.dont_write_bytecode = True  # the modules are in the repository, and their compiled forms aren't
+sys.path.insert(0, str(pathlib.Path(__file__).resolve().parents[1]))
+from command_line import ROOT, CommandLine  # noqa: E402
+
+PAGE = "docs/BELIEVE.md"
+CONTRACT = ("xray_program", "Answers", "Answered")
+HEADLINE = [("xray_program", "Answers", "SimIsTraced"), ("xray_program", "Answers", "RunIsTraced")]
+OPENS = re.compile(r"(?:abbrev |unfoldable )?(?:pub )?(?:(record|data) )?([^\s:(]+)")
+WORD = re.compile(r"[^\s(){}\[\],;\"λ]+")
+USE = re.compile(r"^use (Rattle\.[^\s]+?)(?:\.\{(.*)\})?(?: as (\S+))?$")
+INTRO = """# What has to be believed
+
+The prover checks that the program meets its contract. Only a reader can say whether the contract is what a user wants.
+The contract is the record `Answered`, which both top calls promise ([call.rt](../crates/xray_program/src/call.rt)).
+Below are all definitions of this repository that it reaches. Whoever has read them has read all that is promised. A
+file comes before the files whose definitions it uses. So you can read from the top, and stop where a name says enough.
+[MODEL.md](MODEL.md) says the same in words.
+
+`tools/compare/believe.py` makes this page from the sources, and the gate compares them. Lines are those of the
+definitions, with the comments above them. A definition in **bold** is one that the headline reaches: what `sim` and
+`run` promise about threads, marks and traces (`SimIsTraced` and `RunIsTraced`).
+"""
+
+
+def split_uses(text):
+    """The names in the braces of a `use` line, with the parts of the module before each."""
+    parts, depth, start = [], 0, 0
+    for at, char in enumerate(text):
+        if char == "{":
+            depth += 1
+        elif char == "}":
+            depth -= 1
+        elif char == "," and depth == 0:
+            parts.append(text[start:at].strip())
+            start = at + 1
+    parts.append(text[start:].strip())
+    for part in parts:
+        nested = re.match(r"(\S+?)\.\{(.*)\}$", part)
+        if nested:
+            for before, name in split_uses(nested[2]):
+                yield f"{nested[1]}.{before}".rstrip("."), name
+        elif part:
+            yield "", part
+
+
+class File:
+    """A file of definitions: what it uses, and its definitions with their lines."""
+
+    def __init__(self, crate, path, root):
+        self.crate = crate
+        self.module = ".".join(path.relative_to(root / "crates" / crate / "specs").with_suffix("").parts)
+        self.place = path.relative_to(root)
+        self.uses, self.others, self.items = {}, {}, {}
+        lines = path.read_text(encoding="utf-8").split("\n")
+        self.read(lines)
+
+    def read(self, lines):
+        above, current = [], None
+        for line in lines:
+            if line.startswith("use "):
+                self.read_use(line)
+                above, current = [], None
+            elif line.startswith("--"):
+                above, current = above + [line], None
+            elif not line.strip():
+                above, current = [], None
+            elif line.startswith(("pub mod ", "mod ", "infix", "pub use ")):
+                above, current = [], None
+            elif line.startswith((" ", "\t")):
+                if current:
+                    self.items[current].append(line)
+            else:
+                opened = OPENS.match(line)
+                name = opened[2] if opened else current
+                if name in self.items:
+                    self.items[name].append(line)
+                else:
+                    self.items[name] = above + [line]
+                above, current = [], name
+
+    def read_use(self, line):
+        found = USE.match(line.strip())
+        if not found:
+            return
+        module, names, alias = found.groups()
+        if names is None:
+            self.others[alias or module.rsplit(".", 1)[1]] = module
+            return
+        for before, name in split_uses(names):
+            real, _, new = name.partition(" as ")
+            self.uses[(new or real).strip()] = (f"{module}.{before}".rstrip("."), real.strip())
+
+    def constructors(self):
+        """The name of each constructor of a `data`, and the type that it makes."""
+        made = {}
+        for name, lines in self.items.items():
+            if any(re.match(r"pub data ", line) for line in lines):
+                for line in lines:
+                    found = re.match(r"  (\S+) : ", line)
+                    if found:
+                        made[found[1]] = name
+        return made
+
+
+class Book:
+    """All files of definitions."""
+
+    def __init__(self, root):
+        self.root = root
+        self.crates = sorted(path.name for path in (root / "crates").iterdir() if (path / "specs").is_dir())
+        self.files = {}
+        for crate in self.crates:
+            for path in sorted((root / "crates" / crate / "specs").rglob("*.antt")):
+                file = File(crate, path, root)
+                self.files[crate, file.module] = file
+        self.made = {key: file.constructors() for key, file in self.files.items()}
+
+    def home(self, module, name):
+        """Where a name of a module is defined: a definition, or a type that is declared in the code."""
+        parts = module.split(".")
+        if len(parts) < 3 or parts[0] != "Rattle" or parts[2] != "specs" or parts[1] not in self.crates:
+            return None
+        crate, rest = parts[1], parts[3:]
+        if rest[:1] == ["declared"]:
+            return ("declared", crate, tuple(part for part in rest[1:] if part not in ("TheVariants", "TheConstants")), name)
+        file = self.files.get((crate, ".".join(rest)))
+        if file is None:
+            return None
+        return self.within(file, name)
+
+    def within(self, file, name):
+        if name in file.items:
+            return (file.crate, file.module, name)
+        made = self.made[file.crate, file.module].get(name)
+        if made:
+            return (file.crate, file.module, made)
+        if name in file.uses:
+            return self.home(*file.uses[name])
+        return None
+
+    def cited(self, key):
+        """The definitions that one names, in the order of the text."""
+        crate, module, name = key
+        file = self.files[crate, module]
+        for line in file.items[name]:
+            if line.startswith("--"):
+                continue
+            code = re.sub(r'"(?:[^"\\]|\\.)*"', " ", line.split(" -- ")[0])
+            for word in WORD.findall(code):
+                for part in {word, word.split(".")[0]}:
+                    found = self.within(file, part)
+                    if found is None and part in file.others and "." in word:
+                        found = self.home(file.others[part], word.split(".")[1])
+                    if found and found != key:
+                        yield found
+
+    def closure(self, roots):
+        """All definitions that some reach, and types that are declared in the code, in the order in which they are reached."""
+        seen, declared, ahead = {}, {}, list(roots)
+        while ahead:
+            key = ahead.pop(0)
+            if key[0] == "declared":
+                declared.setdefault(key)
+            elif key not in seen:
+                seen[key] = list(dict.fromkeys(self.cited(key)))
+                ahead += seen[key]
+        return seen, declared
+
+    def lines(self, key):
+        return len(self.files[key[:2]].items[key[2]])
+
+
+def reading_order(seen):
+    """The files of some definitions, each before the files whose definitions it uses."""
+    uses = {}
+    for key, cited in seen.items():
+        at = uses.setdefault(key[:2], [])
+        at += [other[:2] for other in cited if other[0] != "declared" and other[:2] != key[:2]]
+    order, state = [], {}
+
+    def visit(file):
+        state[file] = True
+        for other in reversed(list(dict.fromkeys(uses[file]))):
+            if other not in state:
+                visit(other)
+        order.append(file)
+
+    for file in list(uses):
+        if file not in state:
+            visit(file)
+    return order[::-1]
+
+
+def declared_rows(declared):
+    """The types that are declared in the code, by crate and file."""
+    rows = {}
+    for _, crate, parts, name in declared:
+        module, kind = ("/".join(parts[:-1]), parts[-1]) if parts and parts[-1][:1].isupper() else ("/".join(parts), name)
+        rows.setdefault((crate, module), []).append(kind)
+    return {key: list(dict.fromkeys(kinds)) for key, kinds in rows.items()}
+
+
+def page(book):
+    seen, declared = book.closure([CONTRACT])
+    headline, _ = book.closure(HEADLINE)
+    order = reading_order(seen)
+    counted = lambda keys: f"{len(keys)} definitions in {len({key[:2] for key in keys})} files, {sum(map(book.lines, keys)):,} lines"
+    text = [INTRO, f"- all: {counted(list(seen))}", f"- the headline: {counted([key for key in headline if key in seen])}", ""]
+    text += ["## Definitions", "", "| File | Lines | Definitions |", "|---|---|---|"]
+    for file in order:
+        keys = [key for key in seen if key[:2] == file]
+        keys.sort(key=lambda key: list(book.files[file].items).index(key[2]))
+        names = ", ".join(f"**`{key[2]}`**" if key in headline else f"`{key[2]}`" for key in keys)
+        place = book.files[file].place
+        text.append(f"| [{file[0]}: {file[1]}](../{place}) | {sum(map(book.lines, keys))} | {names} |")
+    text += ["", "## Types of the code", "", "The logic sees them as they are declared.", "", "| File | Types and constants |", "|---|---|"]
+    for (crate, module), kinds in sorted(declared_rows(declared).items()):
+        source = f"crates/{crate}/src/{module}.rt" if module else f"crates/{crate}/src/lib.rt"
+        text.append(f"| [{crate}: {module or 'lib'}](../{source}) | {', '.join(f'`{kind}`' for kind in kinds)} |")
+    return "\n".join(text) + "\n"
+
+
+def main():
+    parser = CommandLine(__doc__)
+    parser.add_argument("--write", action="store_true")
+    parser.add_argument("root", nargs="?", type=pathlib.Path, default=ROOT, metavar="ROOT")
+    given = parser.parse_args()
+    made = page(Book(given.root))
+    place = given.root / PAGE
+    if given.write:
+        place.write_text(made, encoding="utf-8")
+        return 0
+    was = place.read_text(encoding="utf-8") if place.is_file() else ""
+    changes = list(difflib.unified_diff(was.splitlines(), made.splitlines(), PAGE, "the sources", lineterm="", n=0))
+    if changes:
+        print(f"{PAGE} differs from the sources; tools/compare/believe.py --write makes it anew:")
+        print("\n".join(line[:300] for line in changes[:20]))
+        return 1
+    return 0
+
+
+if __name__ == "__main__":
+    sys.exit(main())

@@ -1,0 +1,38 @@
+// Three threads that still run while the log is flushed: the runtime writes one block twice.
+#include <pthread.h>
+#include <unistd.h>
+#include "xray/xray_interface.h"
+#include "xray/xray_log_interface.h"
+
+static volatile int stop = 0;
+
+__attribute__((noinline)) int leaf(int n) {
+  volatile int kept = n;
+  return kept + 1;
+}
+
+__attribute__((noinline)) int fib(int n) { return n < 2 ? leaf(n) : fib(n - 1) + fib(n - 2); }
+
+__attribute__((noinline)) int serve(int n) { return fib(n) + 1; }
+
+static void *work(void *) {
+  long sum = 0;
+  while (!stop)
+    sum += serve(12);
+  return (void *)sum;
+}
+
+[[clang::xray_never_instrument]] int main() {
+  __xray_log_select_mode("xray-fdr");
+  __xray_log_init_mode("xray-fdr", "buffer_size=16384:buffer_max=40:grace_period_ms=0:func_duration_threshold_us=0");
+  __xray_patch();
+  pthread_t threads[3];
+  for (pthread_t &thread : threads)
+    pthread_create(&thread, 0, work, 0);
+  usleep(200000);
+  __xray_log_finalize();
+  __xray_log_flushLog();
+  stop = 1;
+  for (pthread_t thread : threads)
+    pthread_join(thread, 0);
+}

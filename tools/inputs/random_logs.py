@@ -1,0 +1,94 @@
+"""Random logs of LLVM's runtime: traces with events of the program's own between their records, of each version, in any order of
+their blocks, with doubled and empty blocks; and basic logs. Many are damaged.
+"""
+import dataclasses
+import struct
+
+from model.trace_model import FLIGHT_DATA_RECORDER, FUNCTION, METADATA_LENGTH, NEW_CPU, WORD_32, WORD_64
+
+from . import random_traces
+from .random_traces import Record
+
+CUSTOM, TYPED = 5, 8
+CUSTOM_FIELDS = {2: "<IQ", 3: "<IQ", 4: "<IQH", 5: "<II"}
+
+
+@dataclasses.dataclass
+class OwnEvent:
+    """An event of the program's own. `more` is added to the size that its record names."""
+
+    kind: int
+    form: str
+    fields: tuple
+    payload: bytes
+    more: int = 0
+
+    def raw(self):
+        size = (len(self.payload) + self.more) % WORD_32
+        named = bytes([2 * self.kind + 1]) + struct.pack(self.form, size, *self.fields)
+        return named.ljust(METADATA_LENGTH, b"\xA5") + self.payload
+
+
+def own_event(draw, version):
+    payload = draw.randbytes(draw.choice([0, 1, 7, 8, 16, 16, 200]))
+    if draw.random() < 0.3:
+        payload = Record(FUNCTION, (1, 0, 1)).raw() * 3
+    delta = draw.choice([0, 1, 10, draw.randrange(100), WORD_32 - 1])
+    if draw.random() < 0.4 and (version == 5 or draw.random() < 0.1):
+        return OwnEvent(TYPED, "<IIH", (delta, draw.randrange(1 << 16)), payload)
+    fields = {2: (delta,), 3: (delta,), 4: (delta, 3), 5: (delta,)}[version]
+    return OwnEvent(CUSTOM, CUSTOM_FIELDS[version], fields, payload)
+
+
+def with_own_events(draw, version, records):
+    """The records of a block with events of the program's own, mostly behind its first CPU."""
+    first = next((at for at, record in enumerate(records) if record.kind == NEW_CPU), len(records))
+    for _ in range(draw.choice([0, 1, 1, 2, 5])):
+        at = draw.randint(min(first + 1, len(records)), len(records)) if draw.random() < 0.95 else draw.randint(0, len(records))
+        event = own_event(draw, version)
+        if draw.random() < 0.03:
+            event.more = draw.choice([-1, 1, 8, 1000, WORD_32 - 1])
+        records.insert(at, event)
+    return records
+
+
+def recorder_log(draw):
+    version = draw.choice([5, 5, 5, 5, 2, 3, 4])
+    threads = random_traces.Threads(draw, 2 if version == 2 else 3)
+    blocks = [threads.block() for _ in range(draw.choice([0, 1, 2, 3, 6, 12]))]
+    blocks = [[with_own_events(draw, version, records), more] for records, more in blocks]
+    if blocks and draw.random() < 0.3:
+        blocks += draw.choices(blocks, k=draw.choice([1, 2]))
+    draw.shuffle(blocks)
+    header = [version, FLIGHT_DATA_RECORDER, draw.choice([3, 1, 0xFFFFFFFC]), draw.choice([0, draw.randrange(WORD_64)]), 16_384, 0]
+    draft = random_traces.Draft(header, blocks)
+    if draw.random() < 0.25:
+        draw.choice([random_traces.other_header, random_traces.other_extents, random_traces.other_records])(draw, draft)
+        if draw.random() < 0.3:
+            draft.header[0] = draw.choice([1, 6, 5, 4])
+    return draft.file()
+
+
+def basic_log(draw):
+    version = draw.choice([3, 3, 3, 3, 3, 3, 2, 4, 5])
+    content = struct.pack("<HHIQQQ", version, 0, draw.choice([3, draw.randrange(WORD_32)]), draw.randrange(WORD_64), 0, 0)
+    owners = [(1, 1), (2, 1), (1, 2)]
+    owner = owners[0]
+    for _ in range(draw.choice([0, 1, 3, 10, 40])):
+        if draw.random() < 0.3:
+            owner = draw.choice(owners)
+        thread, process = owner
+        kind = draw.choice([0, 1, 0, 1, 2, 3, 3]) if draw.random() < 0.98 else draw.choice([4, 5, 255])
+        function = draw.choice([1, 2, 3, 0, (1 << 28) - 1]) if draw.random() < 0.98 else draw.choice([1 << 28, WORD_32 - 1])
+        tag = 0 if draw.random() < 0.99 else draw.choice([2, 65_535])
+        counter = random_traces.counter(draw)
+        content += struct.pack("<HBBIQIIQ", tag, draw.randrange(256), kind, function, counter, thread, process, draw.randrange(WORD_64))
+        for _ in range(draw.choice([1, 1, 0, 2]) if kind == 3 else draw.random() < 0.01):
+            other = function if draw.random() < 0.97 else function + 1
+            content += struct.pack("<HHIIIQQ", 1, draw.randrange(9), other % WORD_32, thread, process, draw.randrange(WORD_64), 0)
+    return content
+
+
+def random_log(draw):
+    content = basic_log(draw) if draw.random() < 0.3 else recorder_log(draw)
+    return random_traces.other_file(draw, content) if draw.random() < 0.15 else content
