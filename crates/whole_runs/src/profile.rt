@@ -221,7 +221,8 @@ const TOLD: [Told; 4] = [
 
 #[test]
 fn events_of_each_kind_are_profiled(rt: HostRuntime) -> Result<(), Fail> {
-    for (text, script, options, [instructions, passings], registers, marks, rows) in &TOLD {
+    for (text, script, options, counts, registers, marks, rows) in &TOLD {
+        let [instructions, passings] = *counts;
         let mut desk = desk_with(&rt, text, script)?;
         let line = format!(in rt.alloc(); "profile i s --format flame{options}")?;
         let run = run_line(&rt, line.as_str(), &mut desk)?;
@@ -243,16 +244,31 @@ fn a_picture_of_a_profile_is_one_file(rt: HostRuntime) -> Result<(), Fail> {
     Ok(())
 }
 
+/// The numbers of sixteen threads, in decimal and in hexadecimal digits.
+const NUMBERS: [(&str, &str); 16] = [
+    ("1", "1"),
+    ("2", "2"),
+    ("3", "3"),
+    ("4", "4"),
+    ("5", "5"),
+    ("6", "6"),
+    ("7", "7"),
+    ("8", "8"),
+    ("9", "9"),
+    ("10", "a"),
+    ("11", "b"),
+    ("12", "c"),
+    ("13", "d"),
+    ("14", "e"),
+    ("15", "f"),
+    ("16", "10"),
+];
+
 #[test]
 fn sixteen_threads_are_profiled(rt: HostRuntime) -> Result<(), Fail> {
     let alloc = rt.alloc();
-    let numbers = [
-        "1", "2", "3", "4", "5", "6", "7", "8", "9", "a", "b", "c", "d", "e", "f", "10",
-    ];
     let mut wanted = String::new(alloc);
-    let mut thread = 0;
-    for number in &numbers {
-        thread += 1;
+    for (thread, number) in &NUMBERS {
         let state = format!(in alloc;
             "thread {thread} returned instructions 3 passings 4\n\
             rax=0 rcx=0 rdx=0 rbx=0 rbp=0 rsi=0 rdi={number} r8=0 r9=0 r11=0 r12=0 r13=0 r14=0 r15=0 zf=0\n\
