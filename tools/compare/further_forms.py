@@ -8,8 +8,8 @@ usage: tools/compare/further_forms.py [PROGRAM] [--traces N] [--seed N] [--llvm-
     --llvm-xray: LLVM's program, llvm-xray-14 if left out; without it only the others are compared
 
 About half of the traces are damaged. Each is given to `convert` with `--format trace-event` and `--format basic`, and to `fdr-dump`.
-A basic log is given to `convert --input basic`, and so is a damaged one. The status, both streams and the text have to be those of
-the model. Then the answers are read again:
+A basic log is given to `convert --input basic`, and so is a damaged one. Two more traces have as many trace events as there may
+be, and one more. The status, both streams and the text have to be those of the model. Then what was printed is read again:
     trace events   Python's json gives the events of the trace, in order, each with its fields
     basic log      `llvm-xray convert` gives the same events, except for arguments, which it reads from records of another kind
     dump           `llvm-xray fdr-dump` gives the same records; of a damaged trace, the records up to the line `stop` come first
@@ -154,6 +154,16 @@ def check_trace(draw, program, content, llvm_xray):
     return counted
 
 
+def check_limit(program):
+    """Compares the trace events of a trace with as many events as there may be, and of one with one event more."""
+    events = [trace_model.Event(0, 1 + tsc % 2, trace_model.ENTRY, tsc) for tsc in range(forms_model.MOST_EVENTS)]
+    for more, is_printed in ([], True), ([trace_model.Event(0, 1, trace_model.EXIT, forms_model.MOST_EVENTS)], False):
+        trace = trace_model.Trace(trace_model.Header(0, 1_048_576), [trace_model.Block(1, (0, 0), 1, events + more)])
+        text = program.prints(["convert", "t", "--format", "trace-event"], {"t": trace_model.file_bytes(trace)})
+        if (text is not None) != is_printed:
+            raise Differs(f"{len(events + more):,} trace events: printed is {text is not None}")
+
+
 def check_basic(draw, program, log, llvm_xray, counted):
     """Reads a basic log again, and a damaged one."""
     again = program.prints(["convert", "log", "--input", "basic", "--format", "basic"], {"log": log})
@@ -186,6 +196,11 @@ def main():
     counted, differ = collections.Counter(), 0
     with tempfile.TemporaryDirectory(prefix="further_forms.") as folder:
         program = Program(given.program, pathlib.Path(folder))
+        try:
+            check_limit(program)
+        except Differs as differs:
+            differ += 1
+            print(f"differs: {differs}")
         for number in range(1, given.traces + 1):
             draw = random.Random(f"{given.seed} {number}")
             content = random_trace(draw)
