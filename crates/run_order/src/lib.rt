@@ -8,6 +8,7 @@ mod laws;
 mod lines;
 mod merging;
 mod order;
+mod ordering;
 mod stop;
 
 pub use fault::OrderFault;
@@ -17,4 +18,5 @@ pub use laws::{
     each_lawful_run_has_one_order, one_order_of_an_audit,
 };
 pub use order::Order;
+pub use ordering::order_run;
 pub use stop::Stop;
