@@ -20,6 +20,8 @@ pub mod LogForms
 pub mod Logs
 pub mod Meanings
 pub mod NamesTaken
+pub mod OrderLaws
+pub mod OrderTurns
 pub mod Ordering
 pub mod Outputting
 pub mod PlainLaws

@@ -19,6 +19,7 @@ pub mod Convert
 pub mod Dump
 pub mod Check
 pub mod Import
+pub mod LoadOrder
 pub mod Commands
 pub mod Accepted
 pub mod Answers

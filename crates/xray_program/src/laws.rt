@@ -27,6 +27,7 @@ use fdr_file::a_trace_is_read;
 use flame_graph::{no_frame_sticks_out, stacks_can_be_drawn, the_lowest_frames_add_up};
 use machine_step::{one_end, some_end, some_marks_follow};
 use patch_script::each_script_lets_threads_end;
+use run_order::one_order_of_an_audit;
 use runtime_log::{one_import, some_import};
 use step_sim::{a_replay_loses_few, marks_of_a_replay_follow, one_run, some_run};
 use trace_flush::{a_run_is_traced, a_trace_is_short};
@@ -44,6 +45,7 @@ pub fn one_meaning()
     one_run();
     one_reading();
     audit_check::one_verdict();
+    one_order_of_an_audit();
     one_import();
 }
 
@@ -59,13 +61,15 @@ pub fn refusal_is_the_only_meaning()
     one_run();
     one_reading();
     audit_check::one_verdict();
+    one_order_of_an_audit();
     one_import();
 }
 
 /// Words mean something over a desk that reports every name, whatever bytes the names hold. For
 /// `run` and `profile` this says that each script that is read has lawful runs: its awaits and holds
 /// leave a place for each load of each thread. For `check` it says that bytes are an audit or are
-/// refused at a line, and that there is a verdict on any audit and any trace.
+/// refused at a line, and that there is a verdict on any audit and any trace. For `order` it says that
+/// the run of an audit has an order, or is refused.
 pub fn some_meaning()
     ensures { (said : Option Command) (held : List ℕ → Entry) → TellsAll held
         → ((name bytes : List ℕ) → held name ≡ Holds bytes → All (λ b. b < 256) bytes)
@@ -83,6 +87,7 @@ pub fn some_meaning()
     a_trace_is_read();
     some_reading();
     audit_check::some_verdict();
+    one_order_of_an_audit();
     some_import();
 }
 
@@ -107,6 +112,7 @@ pub fn accepted_inputs_mean_done()
 {
     one_verdict();
     one_reading();
+    one_order_of_an_audit();
     one_import();
 }
 
