@@ -1,4 +1,6 @@
 pub mod Counts
+pub mod FewLoads
+pub mod FreeLengths
 pub mod FreeLines
 pub mod FreeMicros
 pub mod FreeReading
@@ -10,9 +12,12 @@ pub mod Leasts
 pub mod LineTexts
 pub mod MergedTurns
 pub mod OneAnswer
+pub mod OrderText
+pub mod OrderWords
 pub mod Ordered
 pub mod Replayed
 pub mod Replaying
+pub mod ScriptSizes
 pub mod Searching
 pub mod Short
 pub mod Stopping
