@@ -21,6 +21,7 @@ pub mod Logs
 pub mod Meanings
 pub mod NamesTaken
 pub mod OrderLaws
+pub mod OrderReplays
 pub mod OrderTurns
 pub mod Ordering
 pub mod Outputting

@@ -20,6 +20,7 @@ pub mod Dump
 pub mod Check
 pub mod Import
 pub mod LoadOrder
+pub mod OrderReplays
 pub mod Commands
 pub mod Accepted
 pub mod Answers
