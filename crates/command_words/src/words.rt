@@ -16,8 +16,8 @@ use crate::report_options::{
 use crate::rows::CommandRow;
 use crate::run_options::{Bounds, RunOptions, bounds_in, run_options_in};
 use crate::tables::{
-    ACCOUNT, ASM, CHECK, CONVERT, DUMP, EXTRACT, IMPORT, MAP_VERSION, ORDER, PLAIN, PROFILE, RELATIVE_MAP,
-    RUN, SEEDS, SIM, SOAK, STACK, THRESHOLD,
+    ACCOUNT, ASM, CHECK, CONVERT, DUMP, EXTRACT, IMPORT, MAP_VERSION, ORDER, PLAIN, PROFILE,
+    RELATIVE_MAP, RUN, SEEDS, SIM, SOAK, STACK, THRESHOLD,
 };
 use std::alloc::{AllocError, Global};
 use xray_io::Wall;

@@ -136,5 +136,5 @@ free_few program threads script thread sleds marks places e = by_places (load_pl
           ap length same,
           length-map found (free_place program threads script),
           thread_few program threads (code_at program threads script) (bound_of program threads script thread) thread (hold_of thread script) 0
-          (start_of program threads script) sleds marks found is,
+              (start_of program threads script) sleds marks found is,
         )

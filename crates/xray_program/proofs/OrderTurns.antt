@@ -1,13 +1,15 @@
 -- `order`: the turns of its three inputs, and an audit that has no order.
-use Rattle.std.proofs.Common.{◌≡◌, ◌⊎◌, ℕ, List, Some, None, Err, inl, inr, ap, refl, subst, sym, codes}
+use Rattle.std.proofs.Common.{◌≡◌, ◌⊎◌, ◌∙◌, ℕ, List, Some, None, Result, Ok, Err, inl, inr, ap, refl, subst, sym, codes}
 use Rattle.audit_check.specs.Statements.{Statement}
 use Rattle.command_words.specs.Words as words
 use Rattle.fault_words.specs.Words.{words_text}
+use Rattle.patch_script.specs.Plans.{Plan}
 use Rattle.patch_script.specs.Refusals.{commands_of}
 use Rattle.run_order.specs.Answers.{IsOrdered}
 use Rattle.run_order.specs.FaultWords.{order_words}
 use Rattle.run_order.specs.declared.fault.OrderFault.{OrderFault}
 use Rattle.run_order.specs.declared.fault.OrderFault.TheVariants as ordering
+use Rattle.step_sim.specs.declared.turns.Turns.{Turns}
 use Rattle.xray_image.specs.Program.{Program}
 use Rattle.xray_io.specs.Calls.{Call, Went}
 use Rattle.xray_io.specs.Desk.{Entry}
@@ -68,6 +70,28 @@ module _ (held : List ℕ → Entry) (o : LoadOrder) (program : Program) (image 
 pub accepted_for : (program : Program) (n m : ℕ) (entry : Entry) (whole : WholeScript) → n ≡ m → IsAcceptedAs (whole_script_form program n) entry whole
     → IsAcceptedAs (whole_script_form program m) entry whole
 accepted_for program n m entry whole same = subst (λ (k : ℕ). IsAcceptedAs (whole_script_form program k) entry whole) same
+
+-- what was answered, or memory ran out
+abbrev Answers : (Result (List Turns) OrderFault → Type 0) → Result (List Turns) OrderFault → Type 0
+Answers Is answer = (answer ≡ Err ordering.NoMemory) ⊎ Is answer
+
+pub is_answer : (answer : Result (List Turns) OrderFault) (turns : List Turns) (Is : Result (List Turns) OrderFault → Type 0)
+    → answer ≡ Ok turns → Answers Is answer → Is (Ok turns)
+is_answer answer turns Is e (inl memory) = absurd (never (sym e ∙ memory))
+  where
+    never : (let v : Result (List Turns) OrderFault = Ok turns in let w : Result (List Turns) OrderFault = Err ordering.NoMemory in v ≡ w) → ⊥
+    never e = cc
+is_answer answer turns Is e (inr is) = subst Is e is
+
+pub is_refused : (program : Program) (plan given : Plan) (statement said : Statement) (answer : Result (List Turns) OrderFault) (fault : OrderFault)
+    → given ≡ plan → said ≡ statement → answer ≡ Err fault → Answers (IsOrdered program (commands_of given.lines) said) answer
+    → (fault ≡ ordering.NoMemory) ⊎ IsOrdered program (commands_of plan.lines) statement (Err fault)
+is_refused program plan given statement said answer fault of_plan of_statement e (inl memory) = inl (same (sym e ∙ memory))
+  where
+    same : (let v : Result (List Turns) OrderFault = Err fault in let w : Result (List Turns) OrderFault = Err ordering.NoMemory in v ≡ w) → fault ≡ ordering.NoMemory
+    same e = cc
+is_refused program plan given statement said answer fault of_plan of_statement e (inr is) =
+    inr (rw (sym of_plan, sym of_statement, sym e) is)
 
 -- an audit that has no order is refused, and if memory runs out nothing is written
 pub order_refuses : (a f o : List ℕ) (program : Program) (statement : Statement) (whole : WholeScript) (desk : DeskView) (out : SinkView)
