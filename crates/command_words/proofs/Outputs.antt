@@ -73,4 +73,6 @@ pub order_differ : (names : List (Bor (List ℕ))) (none : Bor (List ℕ)) → 5
     → outputs_differ order_row.files (map (λ name. name.now) names) ≡ true
     → (slice_index_or names 3 none).now ≢ (slice_index_or names 4 none).now
 order_differ [] none least most differ = absurd (omega (arith, least))
-order_differ (first ∷ names) none least most differ = sim_differ (first ∷ names) none least most differ
+order_differ (first ∷ names) none least most differ =
+    let all = four names (omega (arith, least)) (omega (arith, most)) in
+    rw all.4 (apart (first.now ∷ all.0.now ∷ all.1.now ∷ []) all.2.now all.3.now (and_parts _ _ (rw all.4 at differ)).0)
