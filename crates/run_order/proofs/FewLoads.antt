@@ -16,7 +16,7 @@ use Rattle.run_order.specs.Places.{Search, first_place, found_by, free_places, h
 -- ---- a search
 
 -- each makes at most four loads
-AreFew : List Search → Type 0
+abbrev AreFew : List Search → Type 0
 AreFew [] = Unit {0}
 AreFew (search ∷ later) = ((at : ℕ) → search.loads at ≤ 4) × AreFew later
 
@@ -27,13 +27,18 @@ found_few last from [] found few e =
     let same : (from, []) ≡ found = cc in
     let none : length found.1 ≡ 0 = ap (λ (p : ℕ × List ℕ). length p.1) (sym same) in
     omega (arith, none)
-found_few last from (search ∷ later) found few e = by_place (first_place search.test from last) e
+found_few last from (search ∷ later) found few e =
+    by_place (λ at rest is. found_few last at later rest few.1 is) (first_place search.test from last) e
   where
-    by_later : (at : ℕ) (rest : Option (ℕ × List ℕ)) → found_by last at later ≡ rest
+    -- of the searches that follow
+    abbrev Again : Type 0
+    Again = (at : ℕ) (rest : ℕ × List ℕ) → found_by last at later ≡ Some rest → length rest.1 ≤ 4 * length later
+
+    by_later : Again → (at : ℕ) (rest : Option (ℕ × List ℕ)) → found_by last at later ≡ rest
         → option_map (λ (r : ℕ × List ℕ). let p : ℕ × List ℕ = (r.0, replicate (search.loads at) at ++ r.1) in p) rest ≡ Some found
         → length found.1 ≤ 4 * length (search ∷ later)
-    by_later at None is e = absurd cc
-    by_later at (Some rest) is e =
+    by_later again at None is e = absurd cc
+    by_later again at (Some rest) is e =
         let made : ℕ × List ℕ = (rest.0, replicate (search.loads at) at ++ rest.1) in
         let same : made ≡ found = cc in
         let count : length (replicate (search.loads at) at ++ rest.1) ≡ length found.1 = ap (λ (p : ℕ × List ℕ). length p.1) same in
@@ -43,14 +48,14 @@ found_few last from (search ∷ later) found few e = by_place (first_place searc
           length-append (replicate (search.loads at) at) rest.1,
           length-replicate (search.loads at) at,
           few.0 at,
-          found_few last at later rest few.1 is,
+          again at rest is,
         )
 
-    by_place : (first : Option ℕ)
+    by_place : Again → (first : Option ℕ)
         → option_and_then (λ (at : ℕ). option_map (λ (r : ℕ × List ℕ). let p : ℕ × List ℕ = (r.0, replicate (search.loads at) at ++ r.1) in p) (found_by last at later)) first ≡ Some found
         → length found.1 ≤ 4 * length (search ∷ later)
-    by_place None e = absurd cc
-    by_place (Some at) e = by_later at (found_by last at later) refl e
+    by_place again None e = absurd cc
+    by_place again (Some at) e = by_later again at (found_by last at later) refl e
 
 -- ---- a passing
 
@@ -63,13 +68,13 @@ module _ (program : Program) (threads : ℕ) (code : ℕ → ℕ → ℕ) where
   handler_few : (logs : Bool) (mark : Mark) → AreFew (handler_searches program threads code logs mark) × (length (handler_searches program threads code logs mark) ≤ 3)
   handler_few true Skipped = ((λ at. omega arith, tt), omega arith)
   handler_few false Skipped = ((λ at. omega arith, tt), omega arith)
-  handler_few true NoHandler = ((λ at. omega arith, λ at. omega arith, tt), omega arith)
+  handler_few true NoHandler = ((λ at. omega arith, (λ at. omega arith, tt)), omega arith)
   handler_few false NoHandler = ((λ at. omega arith, tt), omega arith)
-  handler_few true NotLogging = ((λ at. either_few at (has_arg_handler program threads code at), λ at. omega arith, tt), omega arith)
-  handler_few false NotLogging = ((λ at. omega arith, λ at. omega arith, tt), omega arith)
-  handler_few true Recorded = ((λ at. omega arith, λ at. omega arith, λ at. omega arith, tt), omega arith)
-  handler_few false Recorded = ((λ at. omega arith, λ at. omega arith, tt), omega arith)
-  handler_few true RecordedArg = ((λ at. omega arith, λ at. omega arith, tt), omega arith)
+  handler_few true NotLogging = ((λ at. either_few at (has_arg_handler program threads code at), (λ at. omega arith, tt)), omega arith)
+  handler_few false NotLogging = ((λ at. omega arith, (λ at. omega arith, tt)), omega arith)
+  handler_few true Recorded = ((λ at. omega arith, (λ at. omega arith, (λ at. omega arith, tt))), omega arith)
+  handler_few false Recorded = ((λ at. omega arith, (λ at. omega arith, tt)), omega arith)
+  handler_few true RecordedArg = ((λ at. omega arith, (λ at. omega arith, tt)), omega arith)
   handler_few false RecordedArg = ((λ at. omega arith, tt), omega arith)
 
   head_few : (sled : ℕ) (mark : Mark) → AreFew (head_searches program threads code sled mark) × (length (head_searches program threads code sled mark) ≤ 4)
@@ -93,33 +98,33 @@ module _ (program : Program) (threads : ℕ) (code : ℕ → ℕ → ℕ) where
       omega (arith, ap length (sym same))
   thread_few bound thread hold number from [] (mark ∷ marks) places e = absurd cc
   thread_few bound thread hold number from (sled ∷ sleds) [] places e = absurd cc
-  thread_few bound thread hold number from (sled ∷ sleds) (mark ∷ marks) places e = by_found (found_by (bound number) from searches) refl e
+  thread_few bound thread hold number from (sled ∷ sleds) (mark ∷ marks) places e =
+      by_found (λ at later is. thread_few bound thread hold (number + 1) at sleds marks later is) (found_by (bound number) from searches) refl e
     where
       searches : List Search
       searches = passing_searches program threads code thread (is_held_at hold number) sled mark
 
-      by_rest : (found : ℕ × List ℕ) → length found.1 ≤ 20 → (rest : Option (List ℕ))
+      -- of the passings that follow
+      abbrev Again : Type 0
+      Again = (at : ℕ) (later : List ℕ) → places_from program threads code bound thread hold (number + 1) at sleds marks ≡ Some later
+          → length later ≤ 20 * length marks
+
+      by_rest : Again → (found : ℕ × List ℕ) → length found.1 ≤ 20 → (rest : Option (List ℕ))
           → places_from program threads code bound thread hold (number + 1) found.0 sleds marks ≡ rest
           → option_map (λ (later : List ℕ). found.1 ++ later) rest ≡ Some places → length places ≤ 20 * length (mark ∷ marks)
-      by_rest found few None is e = absurd cc
-      by_rest found few (Some later) is e =
+      by_rest again found few None is e = absurd cc
+      by_rest again found few (Some later) is e =
           let same : found.1 ++ later ≡ places = cc in
-          omega (
-            arith,
-            ap length same,
-            length-append found.1 later,
-            few,
-            thread_few bound thread hold (number + 1) found.0 sleds marks later is,
-          )
+          omega (arith, ap length same, length-append found.1 later, few, again found.0 later is)
 
-      by_found : (found : Option (ℕ × List ℕ)) → found_by (bound number) from searches ≡ found
+      by_found : Again → (found : Option (ℕ × List ℕ)) → found_by (bound number) from searches ≡ found
           → option_and_then (λ (f : ℕ × List ℕ). option_map (λ (later : List ℕ). f.1 ++ later) (places_from program threads code bound thread hold (number + 1) f.0 sleds marks)) found ≡ Some places
           → length places ≤ 20 * length (mark ∷ marks)
-      by_found None is e = absurd cc
-      by_found (Some found) is e =
+      by_found again None is e = absurd cc
+      by_found again (Some found) is e =
           let few = passing_few thread (is_held_at hold number) sled mark in
           let loads = found_few (bound number) from searches found few.0 is in
-          by_rest found (omega (arith, loads, few.1)) (places_from program threads code bound thread hold (number + 1) found.0 sleds marks) refl e
+          by_rest again found (omega (arith, loads, few.1)) (places_from program threads code bound thread hold (number + 1) found.0 sleds marks) refl e
 
 -- so in the script without waits
 pub free_few : (program : Program) (threads : ℕ) (script : List Command) (thread : ℕ) (sleds : List ℕ) (marks : List Mark) (places : List ℕ)
