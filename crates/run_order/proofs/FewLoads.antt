@@ -30,11 +30,8 @@ found_few last from [] found few e =
 found_few last from (search ∷ later) found few e =
     by_place (λ at rest is. found_few last at later rest few.1 is) (first_place search.test from last) e
   where
-    -- of the searches that follow
-    abbrev Again : Type 0
-    Again = (at : ℕ) (rest : ℕ × List ℕ) → found_by last at later ≡ Some rest → length rest.1 ≤ 4 * length later
-
-    by_later : Again → (at : ℕ) (rest : Option (ℕ × List ℕ)) → found_by last at later ≡ rest
+    by_later : ((k : ℕ) (r : ℕ × List ℕ) → found_by last k later ≡ Some r → length r.1 ≤ 4 * length later)
+        → (at : ℕ) (rest : Option (ℕ × List ℕ)) → found_by last at later ≡ rest
         → option_map (λ (r : ℕ × List ℕ). let p : ℕ × List ℕ = (r.0, replicate (search.loads at) at ++ r.1) in p) rest ≡ Some found
         → length found.1 ≤ 4 * length (search ∷ later)
     by_later again at None is e = absurd cc
@@ -51,7 +48,8 @@ found_few last from (search ∷ later) found few e =
           again at rest is,
         )
 
-    by_place : Again → (first : Option ℕ)
+    by_place : ((k : ℕ) (r : ℕ × List ℕ) → found_by last k later ≡ Some r → length r.1 ≤ 4 * length later)
+        → (first : Option ℕ)
         → option_and_then (λ (at : ℕ). option_map (λ (r : ℕ × List ℕ). let p : ℕ × List ℕ = (r.0, replicate (search.loads at) at ++ r.1) in p) (found_by last at later)) first ≡ Some found
         → length found.1 ≤ 4 * length (search ∷ later)
     by_place again None e = absurd cc
@@ -104,12 +102,8 @@ module _ (program : Program) (threads : ℕ) (code : ℕ → ℕ → ℕ) where
       searches : List Search
       searches = passing_searches program threads code thread (is_held_at hold number) sled mark
 
-      -- of the passings that follow
-      abbrev Again : Type 0
-      Again = (at : ℕ) (later : List ℕ) → places_from program threads code bound thread hold (number + 1) at sleds marks ≡ Some later
-          → length later ≤ 20 * length marks
-
-      by_rest : Again → (found : ℕ × List ℕ) → length found.1 ≤ 20 → (rest : Option (List ℕ))
+      by_rest : ((k : ℕ) (ps : List ℕ) → places_from program threads code bound thread hold (number + 1) k sleds marks ≡ Some ps → length ps ≤ 20 * length marks)
+          → (found : ℕ × List ℕ) → length found.1 ≤ 20 → (rest : Option (List ℕ))
           → places_from program threads code bound thread hold (number + 1) found.0 sleds marks ≡ rest
           → option_map (λ (later : List ℕ). found.1 ++ later) rest ≡ Some places → length places ≤ 20 * length (mark ∷ marks)
       by_rest again found few None is e = absurd cc
@@ -117,7 +111,8 @@ module _ (program : Program) (threads : ℕ) (code : ℕ → ℕ → ℕ) where
           let same : found.1 ++ later ≡ places = cc in
           omega (arith, ap length same, length-append found.1 later, few, again found.0 later is)
 
-      by_found : Again → (found : Option (ℕ × List ℕ)) → found_by (bound number) from searches ≡ found
+      by_found : ((k : ℕ) (ps : List ℕ) → places_from program threads code bound thread hold (number + 1) k sleds marks ≡ Some ps → length ps ≤ 20 * length marks)
+          → (found : Option (ℕ × List ℕ)) → found_by (bound number) from searches ≡ found
           → option_and_then (λ (f : ℕ × List ℕ). option_map (λ (later : List ℕ). f.1 ++ later) (places_from program threads code bound thread hold (number + 1) f.0 sleds marks)) found ≡ Some places
           → length places ≤ 20 * length (mark ∷ marks)
       by_found again None is e = absurd cc

@@ -63,11 +63,8 @@ several_count {X} item zero bytes found e =
     ap (λ (f : List X × List ℕ). length f.0) (sym same)
 several_count {X} item (suc n) bytes found e = by_first (λ later others is. several_count item n later others is) (item bytes) e
   where
-    -- of the items that follow
-    abbrev Again : Type 0
-    Again = (later : List ℕ) (others : List X × List ℕ) → several item n later ≡ Some others → length others.0 ≡ n
-
-    by_others : Again → (first : X × List ℕ) (others : Option (List X × List ℕ)) → several item n first.1 ≡ others
+    by_others : ((later : List ℕ) (rest : List X × List ℕ) → several item n later ≡ Some rest → length rest.0 ≡ n)
+        → (first : X × List ℕ) (others : Option (List X × List ℕ)) → several item n first.1 ≡ others
         → option_map (λ (o : List X × List ℕ). let p : List X × List ℕ = (first.0 ∷ o.0, o.1) in p) others ≡ Some found → length found.0 ≡ suc n
     by_others again first None is e = absurd cc
     by_others again first (Some others) is e =
@@ -76,7 +73,8 @@ several_count {X} item (suc n) bytes found e = by_first (λ later others is. sev
         let count = again first.1 others is in
         ap (λ (f : List X × List ℕ). length f.0) (sym same) ∙ ap suc count
 
-    by_first : Again → (first : Option (X × List ℕ))
+    by_first : ((later : List ℕ) (rest : List X × List ℕ) → several item n later ≡ Some rest → length rest.0 ≡ n)
+        → (first : Option (X × List ℕ))
         → option_and_then (λ (f : X × List ℕ). option_map (λ (o : List X × List ℕ). let p : List X × List ℕ = (f.0 ∷ o.0, o.1) in p) (several item n f.1)) first ≡ Some found
         → length found.0 ≡ suc n
     by_first again None e = absurd cc
