@@ -1,5 +1,5 @@
 use Rattle.std.proofs.Common.{◌≡◌, ℕ, List, [], ◌∷◌, None, Ok, refl, ap, subst}
-use Rattle.audit_check.specs.Statements.{Statement}
+use Rattle.audit_check.specs.Statements.{Statement, statement_of}
 use Rattle.patch_script.specs.Plans.{Plan}
 use Rattle.patch_script.specs.Refusals.{commands_of}
 use Rattle.run_order.specs.Answers.{IsOrdered}
@@ -20,7 +20,7 @@ returns-in-Ok-clause-finishes g c =
     let inputs = c.args.inputs.now in
     let order = c.in-Ok.order in
     let text = c.text.result.now in
-    let given = is_answer c.order_run.result order _ c.in-Ok.is c.order_run.ensures in
+    let given = is_answer c.order_run.result order (IsOrdered inputs.image (commands_of c.script.result.now.lines) (statement_of c.audit-audit.result.now)) c.in-Ok.is c.order_run.ensures in
     let stated = subst (λ (st : Statement). IsOrdered inputs.image (commands_of c.script.result.now.lines) st (Ok order)) c.audit-audit.ensures given in
     let ordered = subst (λ (plan : Plan). IsOrdered inputs.image (commands_of plan.lines) inputs.audit (Ok order)) c.script.ensures stated in
     finishes (Orders s.audit.now s.free.now s.schedule.now inputs.image inputs.audit inputs.script)
@@ -33,8 +33,8 @@ returns-in-Ok-clause-finishes g c =
     })
     c.deliver.ensures.delivers
 
-pub returns-clause-finishes : goal.returns-clause-finishes
-returns-clause-finishes g c =
+pub returns-in-Err-clause-finishes : goal.returns-in-Err-clause-finishes
+returns-in-Err-clause-finishes g c =
     let seen = desk_view g.D.Desk.held g.D.Desk.read_faults g.D.Desk.write_faults in
     let got = sink_view g.O.Sink.written g.O.Sink.faults in
     let s = c.args.self.now in
@@ -42,5 +42,5 @@ returns-clause-finishes g c =
     order_refuses s.audit.now s.free.now s.schedule.now inputs.image inputs.audit inputs.script (seen c.args.desk.now) (got c.args.out.now)
     (g.D.Desk.along c.args.desk.now c.args.desk.now) (record { calls = []; way = g.met.D.Desk.along_none c.args.desk.now; are = refl })
     c.in-Err.fault c.fault_stop.result
-    (is_refused inputs.image inputs.script.plan c.script.result.now inputs.audit _ c.order_run.result c.in-Err.fault c.script.ensures c.audit-audit.ensures
+    (is_refused inputs.image inputs.script.plan c.script.result.now inputs.audit (statement_of c.audit-audit.result.now) c.order_run.result c.in-Err.fault c.script.ensures c.audit-audit.ensures
     c.in-Err.is c.order_run.ensures) c.fault_stop.ensures
