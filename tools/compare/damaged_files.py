@@ -78,6 +78,7 @@ COMMANDS = [
     ["convert", "trace", "--input=basic"],
     ["fdr-dump", "trace"],
     ["check", "image", "script", "trace", "audit"],
+    ["order", "image", "script", "audit", "made", "made.audit"],
 ]
 LIMITS = {
     "image": model.IMAGE_LIMIT,

@@ -72,6 +72,8 @@ COMMANDS = {
     "fdr-dump": "fdr-dump calls.trace",
     "check": "check main.xrim traced.script main.trace main.audit",
     "check of two threads": "check call.xrim live.script call.trace call.audit",
+    "order": "order main.xrim traced.script main.audit free schedule",
+    "order of two threads over old outputs": "order call.xrim live.script call.audit old.trace old.audit",
     "profile": "profile main.xrim traced.script",
     "profile of two threads": "profile call.xrim traced.script --threads 2 --format svg",
     "profile whose recorders stop": "profile call.xrim traced.script --nodes 1",

@@ -7,7 +7,7 @@ from .random_cases import Case
 from .random_images import ENTRY_SLED, EXIT_SLED
 
 PATCH = b"patch\ngo\nunpatch\n"
-PUSH, OUT, ALIGNMENT = b"\x50", b"\xE6\x01", b"\x90"
+PUSH, OUT, JMP, ALIGNMENT = b"\x50", b"\xE6\x01", b"\xE9", b"\x90"
 DISPLACEMENT = bytes(4)
 
 
@@ -240,6 +240,26 @@ def largest_recycled_count(past):
     return checked(recycled=model.LARGEST_64 + past)
 
 
+def full_order(past):
+    """An order with two lines for each passing. One past the limit, a store follows the last passing.
+
+    A thread passes 1,024 sleds again and again. Each one is patched or unpatched just before it is passed.
+    """
+    sleds, rounds = 1024, 256
+    count = 2 * rounds * sleds
+    code = (ENTRY_SLED + DISPLACEMENT + ALIGNMENT) * sleds
+    code += JMP + (-len(code) - 5).to_bytes(4, "little", signed=True)
+    setup = SETUP.replace(b"fuel=9 passings=9", b"fuel=1000 passings=%d" % count)
+    marks = " ".join([f"n{sleds} .{sleds}"] * rounds)
+    lines = f"thread 1 passings passings {count} recorded 0 segments 0 first 0\nmarks {marks}\nrecycled 0\n"
+    files = {
+        b"i": image_file(code, sleds=[(12 * sled, 0, 0) for sled in range(sleds)]),
+        b"s": b"go\n" + b"patch\nunpatch\n" * rounds + b"set_handler\n" * past,
+        b"a": setup + lines.encode(),
+    }
+    return Case([b"order", b"i", b"s", b"a", b"f", b"o"], files)
+
+
 LIMITS = [
     full_code, full_function_list, full_sled_map, full_image_file, full_outputs, full_script, full_command_list,
     full_micro_step_list, full_schedule, full_schedule_lines, full_turns, full_wait, no_fuel, full_fuel, no_passings,
@@ -249,7 +269,7 @@ TRACE_LIMITS = [
     least_buffer_size, largest_buffer_size, largest_trace, a_buffer_each, full_buffer_list, latest_wall, last_counter, last_cpu,
     last_pid, full_trace_file, deepest_calls, most_rows, most_trace_events, last_basic_cpu, largest_seed,
 ]  # fmt: skip
-CHECK_LIMITS = [full_audit, full_mark_list, full_mark_runs, largest_count, largest_recycled_count]
+CHECK_LIMITS = [full_audit, full_mark_list, full_mark_runs, largest_count, largest_recycled_count, full_order]
 
 
 # Limits that a run beside the script also has.

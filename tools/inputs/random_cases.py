@@ -256,6 +256,9 @@ def random_contents(draw, command, threads):
             return [image, live_script(draw, id_count(image), threads)]
         case "check":
             return check_contents(draw, threads)
+        case "order":
+            image, script, _, audit = check_contents(draw, threads)
+            return [image, script, audit]
         case "account" | "stack" | "convert":
             images = [random_image(draw, KINDS["names"], 0.2)] if draw.random() < 0.4 else []
             return [random_log(draw) if command == "convert" and draw.random() < 0.3 else random_trace(draw), *images]

@@ -25,6 +25,7 @@ NAMES = {
     "fdr-dump": [b"t"],
     "import": [b"t", b"new"],
     "check": [b"i", b"s", b"t", b"a"],
+    "order": [b"i", b"s", b"a", b"new", b"new 2"],
     "soak": [b"1"],
     "profile": [b"i", b"s"],
 }

@@ -3,8 +3,8 @@
 It is written from docs alone, and shares nothing with the program or its definitions. It is made to be read, not to be
 fast. Other modules have its parts: image files (image_container, image_model), texts (asm_model), plain runs
 (machine_model), scripts and replays (replay_model), runs beside a script (run_model), verdicts on what runs leave
-(check_model), profiles of such runs (profile_model), traces (trace_model), reports on them (report_model, flame_model,
-forms_model), and soaks (soak_inputs, soak_model). What `run` shows of its order is passed in.
+(check_model), their orders (order_model), profiles of such runs (profile_model), traces (trace_model), reports on
+them (report_model, flame_model, forms_model), and soaks (soak_inputs, soak_model). What `run` shows of its order is passed in.
 
 worked_runs.py and worked_traces.py of tools/compare compare the model with results that were worked by hand.
 """
@@ -12,7 +12,7 @@ import dataclasses
 import posixpath
 import re
 
-from . import check_model, import_model, map_model, profile_model, run_model, soak_model
+from . import check_model, import_model, map_model, order_model, profile_model, run_model, soak_model
 from .asm_model import assembled
 from .forms_model import basic_bytes, basic_trace, dump_text, events_text
 from .image_container import RELATIVE_VERSION
@@ -149,11 +149,12 @@ FORMS = {
     "fdr-dump": Form(range(1, 2), (), {}),
     "import": Form(range(2, 3), (1,), {}),
     "check": Form(range(4, 5), (), {}),
+    "order": Form(range(5, 6), (3, 4), {}),
     "soak": Form(range(1, 2), (), {}, {0: Numbers(0, LARGEST_64, None)}),
     "profile": Form(range(2, 3), (), PROFILE_OPTIONS),
 }
 # Commands that a program may lack.
-LATER = ("sim", "run", "account", "stack", "convert", "fdr-dump", "check", "import", "soak", "profile")
+LATER = ("sim", "run", "account", "stack", "convert", "fdr-dump", "check", "order", "import", "soak", "profile")
 # `sim` of a program that writes no traces: it only prints the state texts.
 REPLAY = Form(range(3, 4), (), RUN_OPTIONS)
 
@@ -357,6 +358,19 @@ def check(world, names):
     return check_model.verdict(image, commands, audit, trace) + "\n"
 
 
+def order(world, names):
+    """The files that `order` writes. Its inputs are taken in another order than that of their names."""
+    image_name, script_name, audit_name, free_name, schedule_name = names
+    image = taken_image(world, image_name)
+    audit = taken(world, audit_name, "audit", AUDIT_LIMIT, check_model.audit_of)
+    commands = taken_script(world, script_name, image, audit.options["threads"])
+    try:
+        schedule = order_model.schedule_text(image, commands, audit)
+    except Refused as refused:
+        raise Failed(2, f"{audit_name}: audit {refused.reason}")
+    return {free_name: order_model.free_text(world.files[script_name], commands), schedule_name: schedule}
+
+
 def audit_line(thread, recorded):
     marks = runs_text(thread.marks)
     count = sum(mark in RECORDED for mark in thread.marks)
@@ -417,6 +431,8 @@ def results(command, names, options, world):
             return dict(zip(names[2:], [comes.trace, comes.audit])), comes.states
         case "check":
             return {}, check(world, names)
+        case "order":
+            return order(world, names), ""
         case "fdr-dump":
             return {}, taken(world, names[0], "trace", TRACE_LIMIT, dump_text)
         case "import":

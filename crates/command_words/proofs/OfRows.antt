@@ -12,9 +12,9 @@ use Rattle.command_words.specs.Numbers.{number_of}
 use Rattle.command_words.specs.Reports.{NameSource, ByIds, ByImage, ByMap, account_options_in, choice_in, convert_options_in, stack_formats}
 use Rattle.command_words.specs.Rows.{CommandRow}
 use Rattle.command_words.specs.Tables.{account_row, asm_row, check_row, convert_row, dump_row, extract_row, plain_row, run_row, sim_row}
-use Rattle.command_words.specs.Tables.{import_row, map_option, map_version_option, profile_row, relative_map, seeds, soak_row, stack_format_option, stack_row, threshold_option}
-use Rattle.command_words.specs.Words.{Command, Sim, Run, Plain, Extract, Asm, Account, Stack, Convert, Dump, Check, Profile, Soak, Import}
-use Rattle.command_words.specs.Words.{account_in, asm_in, bounds_in, check_in, convert_in, dump_in, extract_in, import_in, plain_in, profile_in, profile_options_in, report_by, run_in, run_options_in, sim_in, soak_in, stack_in}
+use Rattle.command_words.specs.Tables.{import_row, map_option, map_version_option, order_row, profile_row, relative_map, seeds, soak_row, stack_format_option, stack_row, threshold_option}
+use Rattle.command_words.specs.Words.{Command, Sim, Run, Plain, Extract, Asm, Account, Stack, Convert, Dump, Check, Order, Profile, Soak, Import}
+use Rattle.command_words.specs.Words.{account_in, asm_in, bounds_in, check_in, convert_in, dump_in, extract_in, import_in, order_in, plain_in, profile_in, profile_options_in, report_by, run_in, run_options_in, sim_in, soak_in, stack_in}
 use Rattle.command_words.specs.declared.profile_options.ProfileOptions.{ProfileOptions}
 use Rattle.command_words.specs.declared.report_options.AccountOptions.{AccountOptions}
 use Rattle.command_words.specs.declared.report_options.ConvertOptions.{ConvertOptions}
@@ -181,6 +181,20 @@ check_of line command says = go line.files refl
     go (a ∷ b ∷ c ∷ []) e = absurd (never command (rw e at says))
     go (a ∷ b ∷ c ∷ d ∷ g ∷ names) e = absurd (never command (rw e at says))
 
+order_of : (line : Line) (command : Command) → order_in line ≡ Some command → IsOfLine order_row line command
+order_of line command says = go line.files refl
+  where
+    go : (names : List (List ℕ)) → line.files ≡ names → IsOfLine order_row line command
+    go (image ∷ script ∷ audit ∷ free ∷ schedule ∷ []) e =
+        let is : Order image script audit free schedule ≡ command = same _ _ (rw e at says) in
+        rw (sym is, e) (record { row_is = refl; names_are = refl; given_are = refl })
+    go [] e = absurd (never command (rw e at says))
+    go (a ∷ []) e = absurd (never command (rw e at says))
+    go (a ∷ b ∷ []) e = absurd (never command (rw e at says))
+    go (a ∷ b ∷ c ∷ []) e = absurd (never command (rw e at says))
+    go (a ∷ b ∷ c ∷ d ∷ []) e = absurd (never command (rw e at says))
+    go (a ∷ b ∷ c ∷ d ∷ g ∷ h ∷ names) e = absurd (never command (rw e at says))
+
 profile_of : (line : Line) (command : Command) → profile_in line ≡ Some command → IsOfLine profile_row line command
 profile_of line command says = go line.files (profile_options_in line) refl refl
   where
@@ -271,7 +285,8 @@ of_their_rows wall word words command says =
     (branch word words command convert_row _ _ (of_line convert_in convert_row items command (λ line. convert_of line command))
     (branch word words command dump_row _ _ (of_line dump_in dump_row items command (λ line. dump_of line command))
     (branch word words command check_row _ _ (of_line check_in check_row items command (λ line. check_of line command))
+    (branch word words command order_row _ _ (of_line order_in order_row items command (λ line. order_of line command))
     (branch word words command profile_row _ _ (of_line profile_in profile_row items command (λ line. profile_of line command))
     (branch word words command soak_row _ _ (of_line soak_in soak_row items command (λ line. soak_of line command))
     (branch word words command import_row _ _ (of_line import_in import_row items command (λ line. import_of line command))
-    (λ no. absurd (never command no)))))))))))))) says
+    (λ no. absurd (never command no))))))))))))))) says

@@ -10,7 +10,7 @@ use Rattle.std.proofs.lemmas.Slice.Eq.{bytes_eq-Decides}
 use Rattle.command_words.specs.Items.{Item, files_of}
 use Rattle.command_words.specs.Lines.{Line, is_cut, line_by, line_of, outputs_differ}
 use Rattle.command_words.specs.Rows.{CommandRow}
-use Rattle.command_words.specs.Tables.{run_row, sim_row}
+use Rattle.command_words.specs.Tables.{order_row, run_row, sim_row}
 use Rattle.command_words.proofs.Texts.{and_parts, same_text}
 
 -- in a line that words say, no output has the name of another file
@@ -65,5 +65,14 @@ pub sim_differ : (names : List (Bor (List ℕ))) (none : Bor (List ℕ)) → 5 �
     → (slice_index_or names 3 none).now ≢ (slice_index_or names 4 none).now
 sim_differ [] none least most differ = absurd (omega (arith, least))
 sim_differ (first ∷ names) none least most differ =
+    let all = four names (omega (arith, least)) (omega (arith, most)) in
+    rw all.4 (apart (first.now ∷ all.0.now ∷ all.1.now ∷ []) all.2.now all.3.now (and_parts _ _ (rw all.4 at differ)).0)
+
+-- and those of `order`, which stand at the same places
+pub order_differ : (names : List (Bor (List ℕ))) (none : Bor (List ℕ)) → 5 ≤ length names → length names < 6
+    → outputs_differ order_row.files (map (λ name. name.now) names) ≡ true
+    → (slice_index_or names 3 none).now ≢ (slice_index_or names 4 none).now
+order_differ [] none least most differ = absurd (omega (arith, least))
+order_differ (first ∷ names) none least most differ =
     let all = four names (omega (arith, least)) (omega (arith, most)) in
     rw all.4 (apart (first.now ∷ all.0.now ∷ all.1.now ∷ []) all.2.now all.3.now (and_parts _ _ (rw all.4 at differ)).0)

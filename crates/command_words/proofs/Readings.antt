@@ -39,7 +39,7 @@ read_by_verb wall word words =
     (or_other said _ verbs.Run _ _ (or_other said _ verbs.Asm _ _ (or_other said _ (verbs.Report reports.Account) _ _
     (or_other said _ (verbs.Report reports.Stack) _ _ (or_other said _ (verbs.Report reports.Convert) _ _
     (or_other said _ verbs.Dump _ _ (or_other said _ verbs.Check _ _
-    (or_other said _ verbs.Profile _ _ (or_other said _ verbs.Soak _ _ (or_other said _ verbs.Import _ _ refl))))))))))))
+    (or_other said _ verbs.Order _ _ (or_other said _ verbs.Profile _ _ (or_other said _ verbs.Soak _ _ (or_other said _ verbs.Import _ _ refl)))))))))))))
 
 -- what all words say, by the verb of the first one and the line that the others are cut into
 pub read_line : (wall : Wall) (word : List ℕ) (words all : List (List ℕ)) (verb : Verb) (found : Option Verb) (row : CommandRow) (cut now : Option code.Line)

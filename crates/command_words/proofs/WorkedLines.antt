@@ -6,7 +6,7 @@ use Rattle.command_words.specs.Reports.{ByIds, ByImage, ByMap}
 use Rattle.command_words.specs.declared.report_options.ConvertFormat.TheVariants as formats
 use Rattle.command_words.specs.declared.report_options.InputForm.TheVariants as inputs
 use Rattle.command_words.specs.declared.report_options.StackFormat.TheVariants as stacks
-use Rattle.command_words.specs.Words.{Command, Sim, Plain, Extract, Asm, Stack, Convert, Dump, Check, Profile, Soak, Import, outputs_of, reading}
+use Rattle.command_words.specs.Words.{Command, Sim, Plain, Extract, Asm, Stack, Convert, Dump, Check, Order, Profile, Soak, Import, outputs_of, reading}
 
 -- a wall time that is passed in
 noon : Wall
@@ -117,6 +117,18 @@ checked = refl
 
 check_makes_nothing : option_map outputs_of (says (codes "check" ∷ codes "i" ∷ codes "s" ∷ codes "t" ∷ codes "a" ∷ [])) ≡ Some []
 check_makes_nothing = refl
+
+-- an order has two outputs, which have different names
+ordered : says (codes "order" ∷ codes "i" ∷ codes "s" ∷ codes "a" ∷ codes "f" ∷ codes "o" ∷ [])
+    ≡ Some (Order (codes "i") (codes "s") (codes "a") (codes "f") (codes "o"))
+ordered = refl
+
+onto_the_script : says (codes "order" ∷ codes "i" ∷ codes "s" ∷ codes "a" ∷ codes "s" ∷ codes "o" ∷ []) ≡ None
+onto_the_script = refl
+
+order_makes_both : option_map outputs_of (says (codes "order" ∷ codes "i" ∷ codes "s" ∷ codes "a" ∷ codes "f" ∷ codes "o" ∷ []))
+    ≡ Some (codes "f" ∷ codes "o" ∷ [])
+order_makes_both = refl
 
 -- a profile takes those options of a run that say how threads run and how their passings are stamped
 profiled : says (codes "profile" ∷ codes "i" ∷ codes "--nodes=1" ∷ codes "s" ∷ codes "--format" ∷ codes "flame" ∷ codes "--cpus=2" ∷ [])

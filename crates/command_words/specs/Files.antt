@@ -8,8 +8,8 @@ use Rattle.command_words.specs.Numbers.{is_file_name}
 use Rattle.command_words.specs.Reports.{NameSource, ByIds, ByImage, ByMap}
 use Rattle.command_words.specs.Rows.{CommandRow, FileRow, OptionRow, is_output, names_file}
 use Rattle.command_words.specs.Tables.{account_row, asm_row, check_row, convert_row, dump_row, extract_row, plain_row, run_row, sim_row}
-use Rattle.command_words.specs.Tables.{import_row, profile_row, soak_row, stack_row}
-use Rattle.command_words.specs.Words.{Command, Sim, Run, Plain, Extract, Asm, Account, Stack, Convert, Dump, Check, Profile, Soak, Import, outputs_of, reading}
+use Rattle.command_words.specs.Tables.{import_row, order_row, profile_row, soak_row, stack_row}
+use Rattle.command_words.specs.Words.{Command, Sim, Run, Plain, Extract, Asm, Account, Stack, Convert, Dump, Check, Order, Profile, Soak, Import, outputs_of, reading}
 
 -- ---- a line for each command
 
@@ -25,6 +25,7 @@ row_of (Stack trace names format) = stack_row
 row_of (Convert trace names options) = convert_row
 row_of (Dump trace) = dump_row
 row_of (Check image script trace audit) = check_row
+row_of (Order image script audit free schedule) = order_row
 row_of (Profile image script options) = profile_row
 row_of (Soak number) = soak_row
 row_of (Import log trace) = import_row
@@ -52,6 +53,7 @@ names_of (Stack trace names format) = trace ∷ image_named names
 names_of (Convert trace names options) = trace ∷ image_named names
 names_of (Dump trace) = trace ∷ []
 names_of (Check image script trace audit) = image ∷ script ∷ trace ∷ audit ∷ []
+names_of (Order image script audit free schedule) = image ∷ script ∷ audit ∷ free ∷ schedule ∷ []
 names_of (Profile image script options) = image ∷ script ∷ []
 names_of (Soak number) = []
 names_of (Import log trace) = log ∷ trace ∷ []

@@ -9,7 +9,7 @@ use Rattle.command_words.specs.declared.run_options.Buffers.{Buffers}
 use Rattle.command_words.specs.declared.run_options.RunOptions.{RunOptions}
 use Rattle.command_words.specs.declared.run_options.Stamps.{Stamps}
 use Rattle.command_words.specs.Limits.{most_cpus, most_fuel, most_nodes, most_passings, most_pid, most_stay, most_threads, trace_limit}
-use Rattle.command_words.specs.Words.{Command, Sim, Run, Plain, Extract, Asm, Account, Stack, Convert, Dump, Check, Profile, Soak, Import}
+use Rattle.command_words.specs.Words.{Command, Sim, Run, Plain, Extract, Asm, Account, Stack, Convert, Dump, Check, Order, Profile, Soak, Import}
 
 -- there may be this many threads: at least one, and at most `most_threads`
 abbrev pub IsThreadCount : ℕ → Type 0
@@ -62,6 +62,7 @@ HasRanges (Stack trace names format) = Unit {0}
 HasRanges (Convert trace names options) = Unit {0}
 HasRanges (Dump trace) = Unit {0}
 HasRanges (Check image script trace audit) = Unit {0}
+HasRanges (Order image script audit free schedule) = free ≢ schedule
 HasRanges (Profile image script options) = AreProfileOptions options
 HasRanges (Soak number) = number < 2 ^ 64
 HasRanges (Import log trace) = Unit {0}

@@ -199,6 +199,15 @@ check_row = record {
   options = [];
 }
 
+abbrev pub order_row : CommandRow
+order_row = record {
+  word = codes "order";
+  files = record { label = codes "image"; role = Input } ∷ record { label = codes "script"; role = Input }
+      ∷ record { label = codes "audit"; role = Input } ∷ record { label = codes "free"; role = Output }
+      ∷ record { label = codes "schedule"; role = Output } ∷ [];
+  options = [];
+}
+
 abbrev pub profile_row : CommandRow
 profile_row = record {
   word = codes "profile";

@@ -9,7 +9,7 @@ use Rattle.command_words.specs.Lines.{Line, line_of, number_in, value_in}
 use Rattle.command_words.specs.Numbers.{number_of}
 use Rattle.command_words.specs.Reports.{NameSource, account_options_in, choice_in, convert_options_in, report_files_in, stack_formats}
 use Rattle.command_words.specs.Tables.{account_row, asm_row, check_row, convert_row, dump_row, extract_row, plain_row, run_row, sim_row}
-use Rattle.command_words.specs.Tables.{import_row, profile_row, seeds, soak_row, stack_row}
+use Rattle.command_words.specs.Tables.{import_row, order_row, profile_row, seeds, soak_row, stack_row}
 use Rattle.command_words.specs.Tables.{map_version_option, nodes_option, relative_map, stack_format_option}
 use Rattle.command_words.specs.Tables.{threads_option, fuel_option, passings_option, buffer_size_option, buffer_max_option, threshold_option}
 use Rattle.command_words.specs.Tables.{tick_option, tsc_option, frequency_option, cpus_option, migrate_option, pid_option, wall_option}
@@ -33,6 +33,7 @@ pub data Command : Type 0 where
   Convert : (trace : List ℕ) → (names : NameSource) → (options : ConvertOptions) → Command
   Dump : (trace : List ℕ) → Command
   Check : (image script trace audit : List ℕ) → Command
+  Order : (image script audit free schedule : List ℕ) → Command
   Profile : (image script : List ℕ) → (options : ProfileOptions) → Command
   Soak : (number : ℕ) → Command
   Import : (log trace : List ℕ) → Command
@@ -176,6 +177,13 @@ check_in line = of_files line.files
     of_files (image ∷ script ∷ trace ∷ audit ∷ []) = Some (Check image script trace audit)
     of_files _ = None
 
+abbrev pub order_in : Line → Option Command
+order_in line = of_files line.files
+  where
+    of_files : List (List ℕ) → Option Command
+    of_files (image ∷ script ∷ audit ∷ free ∷ schedule ∷ []) = Some (Order image script audit free schedule)
+    of_files _ = None
+
 abbrev pub profile_in : Line → Option Command
 profile_in line = of_parts line.files (profile_options_in line)
   where
@@ -212,6 +220,7 @@ reading wall (word ∷ words) =
     else if bytes_eq word convert_row.word then option_and_then convert_in (line_of convert_row items)
     else if bytes_eq word dump_row.word then option_and_then dump_in (line_of dump_row items)
     else if bytes_eq word check_row.word then option_and_then check_in (line_of check_row items)
+    else if bytes_eq word order_row.word then option_and_then order_in (line_of order_row items)
     else if bytes_eq word profile_row.word then option_and_then profile_in (line_of profile_row items)
     else if bytes_eq word soak_row.word then option_and_then soak_in (line_of soak_row items)
     else if bytes_eq word import_row.word then option_and_then import_in (line_of import_row items)
@@ -231,6 +240,7 @@ outputs_of (Stack trace names format) = []
 outputs_of (Convert trace names options) = []
 outputs_of (Dump trace) = []
 outputs_of (Check image script trace audit) = []
+outputs_of (Order image script audit free schedule) = free ∷ schedule ∷ []
 outputs_of (Profile image script options) = []
 outputs_of (Soak number) = []
 outputs_of (Import log trace) = trace ∷ []

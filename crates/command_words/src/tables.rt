@@ -359,6 +359,26 @@ pub(crate) const CHECK: CommandRow = CommandRow {
     options: &[],
 };
 
+/// A script that is written: one without its waits.
+const FREE_SCRIPT: FileRow = FileRow {
+    label: "free",
+    role: Role::Output,
+};
+
+/// A schedule that is written.
+const MADE_SCHEDULE: FileRow = FileRow {
+    label: "schedule",
+    role: Role::Output,
+};
+
+/// `order IMAGE SCRIPT AUDIT FREE SCHEDULE`: writes the order of a finished run as a schedule, and its script
+/// without its waits.
+pub(crate) const ORDER: CommandRow = CommandRow {
+    word: "order",
+    files: &[IMAGE, SCRIPT, AUDIT, FREE_SCRIPT, MADE_SCHEDULE],
+    options: &[],
+};
+
 /// `profile IMAGE SCRIPT`: runs threads over an image while a script patches it, and prints how often each stack
 /// occurred, and for how long.
 pub(crate) const PROFILE: CommandRow = CommandRow {

@@ -2,7 +2,7 @@
 ghost use Rattle.std.specs.Prelude.{◌≡◌, IfOk, IfSome, find, option_map, true};
 ghost use Rattle.fdr_buffer.specs.Times.{IsTime};
 ghost use Rattle.command_words.specs.{Items.{texts}, Lines.{outputs_differ}, Ranges.{HasRanges}};
-ghost use Rattle.command_words.specs.{Tables.{run_row, sim_row}, Views.{command_view}, Words.{asm_in, check_in, profile_in, reading, run_in, sim_in}};
+ghost use Rattle.command_words.specs.{Tables.{order_row, run_row, sim_row}, Views.{command_view}, Words.{asm_in, check_in, order_in, profile_in, reading, run_in, sim_in}};
 ghost use Rattle.command_words.specs.private.CodeViews.{line_view, row_view};
 ghost use Rattle.command_words.specs.private.Verbs.{command_by, is_word_of, report_said, row_by, verb_of};
 
@@ -16,8 +16,8 @@ use crate::report_options::{
 use crate::rows::CommandRow;
 use crate::run_options::{Bounds, RunOptions, bounds_in, run_options_in};
 use crate::tables::{
-    ACCOUNT, ASM, CHECK, CONVERT, DUMP, EXTRACT, IMPORT, MAP_VERSION, PLAIN, PROFILE, RELATIVE_MAP,
-    RUN, SEEDS, SIM, SOAK, STACK, THRESHOLD,
+    ACCOUNT, ASM, CHECK, CONVERT, DUMP, EXTRACT, IMPORT, MAP_VERSION, ORDER, PLAIN, PROFILE,
+    RELATIVE_MAP, RUN, SEEDS, SIM, SOAK, STACK, THRESHOLD,
 };
 use std::alloc::{AllocError, Global};
 use xray_io::Wall;
@@ -120,6 +120,19 @@ pub enum Command<'a> {
         /// The audit, which is read.
         audit: &'a str,
     },
+    /// Writes the order of a finished run as a schedule, and its script without its waits.
+    Order {
+        /// The image file.
+        image: &'a str,
+        /// The script of the patcher.
+        script: &'a str,
+        /// The audit, which is read.
+        audit: &'a str,
+        /// The script without its waits, an output.
+        free: &'a str,
+        /// The schedule, an output with another name.
+        schedule: &'a str,
+    },
     /// Runs threads over an image while a script patches it, and prints how often each stack
     /// occurred, and for how long.
     Profile {
@@ -191,6 +204,8 @@ enum Verb {
     Dump,
     /// `check IMAGE SCRIPT TRACE AUDIT`.
     Check,
+    /// `order IMAGE SCRIPT AUDIT FREE SCHEDULE`.
+    Order,
     /// `profile IMAGE SCRIPT`.
     Profile,
     /// `soak SEED`.
@@ -211,7 +226,7 @@ enum Report {
 }
 
 /// All verbs.
-const VERBS: [Verb; 13] = [
+const VERBS: [Verb; 14] = [
     Verb::Plain,
     Verb::Extract,
     Verb::Sim,
@@ -222,6 +237,7 @@ const VERBS: [Verb; 13] = [
     Verb::Report(Report::Convert),
     Verb::Dump,
     Verb::Check,
+    Verb::Order,
     Verb::Profile,
     Verb::Soak,
     Verb::Import,
@@ -257,6 +273,7 @@ impl Verb {
             Verb::Report(Report::Convert) => CONVERT,
             Verb::Dump => DUMP,
             Verb::Check => CHECK,
+            Verb::Order => ORDER,
             Verb::Profile => PROFILE,
             Verb::Soak => SOAK,
             Verb::Import => IMPORT,
@@ -300,6 +317,7 @@ fn command_in<'a>(verb: Verb, wall: Wall, line: &Line<'a>) -> Option<Command<'a>
             _ => None,
         },
         Verb::Check => check_in(line),
+        Verb::Order => order_in(line),
         Verb::Profile => profile_in(line),
         Verb::Soak => match files {
             [seed] => {
@@ -381,6 +399,24 @@ fn check_in<'a>(line: &Line<'a>) -> Option<Command<'a>>
             script,
             trace,
             audit,
+        }),
+        _ => None,
+    }
+}
+
+/// The ordering that a line asks for. `None` if it lacks a file.
+fn order_in<'a>(line: &Line<'a>) -> Option<Command<'a>>
+    requires outputs { outputs_differ order_row.files (line_view line.now).files ≡ true }
+    ensures reads { option_map command_view result ≡ order_in (line_view line.now) }
+    ensures ranges { IfSome (option_map command_view result) HasRanges }
+{
+    match line.files.as_slice() {
+        [image, script, audit, free, schedule] => Some(Command::Order {
+            image,
+            script,
+            audit,
+            free,
+            schedule,
         }),
         _ => None,
     }

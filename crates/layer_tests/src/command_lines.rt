@@ -143,6 +143,12 @@ check|i|s|t|a => check [i] [s] [t] [a]
 check|i|i|i|i => check [i] [i] [i] [i]
 check|i|s|t => none
 check|i|s|t|a|--threads=1 => none
+order|i|s|a|f|o => order [i] [s] [a] [f] [o]
+order|i|i|i|f|o => order [i] [i] [i] [f] [o]
+order|i|s|a|f|f => none
+order|i|s|a|s|o => none
+order|i|s|a|f => none
+order|i|s|a|f|o|--threads=1 => none
 profile|i|s => profile [i] [s] 1 10000000 1048576 1 0 1 1048576 4096 Human
 profile|i|s|--threads=2|--fuel=3|--passings=4|--tick=5|--tsc=6|--cpus=7|--migrate=8|--nodes=262144|--format=svg \
 => profile [i] [s] 2 3 4 5 6 7 8 262144 Svg
@@ -227,6 +233,13 @@ fn shown_command(alloc: Global, command: Command) -> Result<String, AllocError> 
             trace,
             audit,
         } => format!(in alloc; "check [{image}] [{script}] [{trace}] [{audit}]"),
+        Command::Order {
+            image,
+            script,
+            audit,
+            free,
+            schedule,
+        } => format!(in alloc; "order [{image}] [{script}] [{audit}] [{free}] [{schedule}]"),
         Command::Profile {
             image,
             script,
@@ -326,7 +339,7 @@ fn command_lines_say_what_the_rows_say(rt: HostRuntime) -> Result<(), Fail> {
             rows = rows.wrapping_add(1);
         }
     }
-    check_same(&rt, &rows, &148);
+    check_same(&rt, &rows, &154);
     Ok(())
 }
 

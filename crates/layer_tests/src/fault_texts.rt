@@ -5,6 +5,7 @@ use asm_text::AsmFault;
 use fdr_file::TraceFault;
 use fdr_record::RecFault;
 use patch_script::ScriptFault;
+use run_order::OrderFault;
 use runtime_log::LogFault;
 use stack_rebuild::StackFault;
 use std::fmt::Display;
@@ -106,6 +107,22 @@ const OF_REPLAYS: [(SimFault, &str); 2] = [
     (SimFault::NoMemory, "out of memory"),
 ];
 
+const OF_ORDERS: [(OrderFault, &str); 4] = [
+    (
+        OrderFault::Ends(16),
+        "thread 16 doesn't end as it is said to",
+    ),
+    (
+        OrderFault::Marks(1),
+        "the marks of thread 1 don't follow the script",
+    ),
+    (
+        OrderFault::Long,
+        "the order has too many lines for a schedule",
+    ),
+    (OrderFault::NoMemory, "out of memory"),
+];
+
 const OF_RECORDS: [(RecFault, &str); 3] = [
     (RecFault::Short, "the record is cut off"),
     (RecFault::Action(4), "no function record has the action 4"),
@@ -182,6 +199,7 @@ fn each_fault_prints_its_text(rt: HostRuntime) -> Result<(), Fail> {
     check_texts(&rt, &OF_SCRIPTS)?;
     check_texts(&rt, &OF_SCHEDULES)?;
     check_texts(&rt, &OF_REPLAYS)?;
+    check_texts(&rt, &OF_ORDERS)?;
     check_texts(&rt, &OF_RECORDS)?;
     check_texts(&rt, &OF_TRACES)?;
     check_texts(&rt, &OF_STACKS)?;

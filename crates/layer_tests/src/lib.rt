@@ -47,6 +47,8 @@ mod machine;
 #[cfg(test)]
 mod marks;
 #[cfg(test)]
+mod orders;
+#[cfg(test)]
 mod passings;
 #[cfg(test)]
 mod patching;

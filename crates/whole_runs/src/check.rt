@@ -70,7 +70,7 @@ const RECORDED: &str = "thread 1 returned passings 2 recorded 2 segments 1 first
 
 /// A desk with an image of one function, a script that traces it from before the start, a trace, and an
 /// audit with these lines after its setup.
-fn desk_for(alloc: Global, lines: &str, trace: &[&[u8]]) -> Result<MemDesk, Fail> {
+pub fn desk_for(alloc: Global, lines: &str, trace: &[&[u8]]) -> Result<MemDesk, Fail> {
     let mut desk = image_desk(alloc, &IMAGE)?;
     desk.put("s", TRACED.as_bytes())?;
     desk.put("t", &file(alloc, trace)?)?;

@@ -55,7 +55,7 @@ const M: Input = (
 );
 
 /// The commands. Another command is another row.
-const COMMANDS: [Command; 17] = [
+const COMMANDS: [Command; 18] = [
     Command {
         words: "asm x o",
         inputs: &[X],
@@ -110,6 +110,11 @@ const COMMANDS: [Command; 17] = [
         words: "check i s t a",
         inputs: &[I, A, S, ("t", &ONE_CALL)],
         outputs: &[],
+    },
+    Command {
+        words: "order i s a f o",
+        inputs: &[I, A, S],
+        outputs: &["f", "o"],
     },
     Command {
         words: "stack t --map m",

@@ -29,6 +29,8 @@ mod gates;
 #[cfg(test)]
 mod imports;
 #[cfg(test)]
+mod order;
+#[cfg(test)]
 mod pieces;
 #[cfg(test)]
 mod plain;

@@ -1,5 +1,5 @@
 -- If each input of a command is accepted, all is done; and only outcomes of `profile` have status 7.
-use Rattle.std.proofs.Common.{◌≡◌, ◌≢◌, ◌⊎◌, ◌∙◌, ℕ, List, [], length, Option, Some, None, option_map, ◌∷◌, inl, inr, refl, sym, ap, subst, arith, codes}
+use Rattle.std.proofs.Common.{◌≡◌, ◌≢◌, ◌⊎◌, ◌∙◌, ℕ, List, [], length, Option, Some, None, option_map, Result, Ok, Err, ◌∷◌, inl, inr, refl, sym, ap, subst, arith, codes}
 use Rattle.std.specs.Prelude.{⊤}
 use Rattle.audit_check.specs.Statements.{Statement}
 use Rattle.fdr_file.specs.declared.trace.Trace.{Trace}
@@ -8,7 +8,7 @@ use Rattle.command_words.specs.declared.report_options.AccountOptions.{AccountOp
 use Rattle.command_words.specs.declared.report_options.ConvertFormat.{ConvertFormat}
 use Rattle.command_words.specs.declared.report_options.StackFormat.{StackFormat}
 use Rattle.command_words.specs.declared.run_options.Bounds.{Bounds}
-use Rattle.command_words.specs.Words.{Command, Sim, Run, Plain, Extract, Asm, Account, Stack, Convert, Dump, Check, Profile, Soak, Import}
+use Rattle.command_words.specs.Words.{Command, Sim, Run, Plain, Extract, Asm, Account, Stack, Convert, Dump, Check, Order, Profile, Soak, Import}
 use Rattle.command_words.specs.Reports.{NameSource, ByIds, ByImage, ByMap}
 use Rattle.function_names.specs.Name.{program_names}
 use Rattle.map_names.specs.FaultWords.{map_words}
@@ -19,6 +19,9 @@ use Rattle.asm_text.specs.Assembling.{assembled}
 use Rattle.asm_text.specs.FaultWords.{asm_words}
 use Rattle.patch_script.specs.FaultWords.{script_words}
 use Rattle.patch_script.specs.Plans.{Plan, plan_of, waiting_line}
+use Rattle.patch_script.specs.Refusals.{commands_of}
+use Rattle.run_order.specs.Answers.{IsOrdered}
+use Rattle.run_order.specs.declared.fault.OrderFault.{OrderFault}
 use Rattle.runtime_log.specs.Facts.{facts_text}
 use Rattle.runtime_log.specs.declared.facts.Facts.{Facts}
 use Rattle.stack_rebuild.specs.FaultWords.{deep_words}
@@ -27,7 +30,7 @@ use Rattle.step_sim.specs.FaultWords.{schedule_words, waits_words}
 use Rattle.step_sim.specs.Schedules.{schedule_of}
 use Rattle.step_sim.specs.declared.turns.Turns.{Turns}
 use Rattle.xray_image.specs.Extract.{extract_text}
-use Rattle.xray_image.specs.Program.{Program}
+use Rattle.xray_image.specs.Program.{IsAccepted, Program}
 use Rattle.trace_forms.specs.Dumps.{dump_text}
 use Rattle.xray_io.specs.Desk.{Entry, Absent, Holds}
 use Rattle.xray_io.specs.World.{World}
@@ -35,7 +38,8 @@ use Rattle.xray_program.specs.Accepted.{AreAccepted, CountsNoFault, HoldsInput, 
 use Rattle.xray_program.specs.Answers.{IsAnswer}
 use Rattle.xray_program.specs.Check.{Judges}
 use Rattle.xray_program.specs.Commands.{IsProfile, Means}
-use Rattle.xray_program.specs.Inputs.{Readable, audit_form, image_form, imported_form, map_form, map_limit, readable_form, schedule_form, schedule_limit, script_form, script_limit, text_form, text_limit, trace_form, unread_trace_form}
+use Rattle.xray_program.specs.Inputs.{Readable, WholeScript, audit_form, image_form, imported_form, map_form, map_limit, readable_form, schedule_form, schedule_limit, script_form, script_limit, text_form, text_limit, trace_form, unread_trace_form, whole_script_form}
+use Rattle.xray_program.specs.LoadOrder.{Orders, order_outcome}
 use Rattle.xray_program.specs.Outcomes.{Outcome, Done, status_of}
 use Rattle.xray_program.specs.Account.{account_report}
 use Rattle.xray_program.specs.Convert.{ConvertsTo, converted, log_form, no_text_for}
@@ -53,6 +57,7 @@ use Rattle.xray_program.proofs.ConvertLaws.{converts_done}
 use Rattle.xray_program.proofs.DumpLaws.{readable_decided}
 use Rattle.xray_program.proofs.LogForms.{log_decided}
 use Rattle.xray_program.proofs.Meanings.{IsDecided, any_decided, decided_by}
+use Rattle.xray_program.proofs.OrderLaws.{AfterAudit as OrderAfterAudit, AfterImage as OrderAfterImage, OneOrder, whole_decided}
 use Rattle.xray_program.proofs.Reports.{trace_decided}
 
 -- ---- all is done
@@ -164,6 +169,13 @@ dump_next t outcome = outcome ≡ Done [] (dump_text t.bytes t.len)
 judged_done : (program : Program) (plan : Plan) (statement : Statement) (bytes : List ℕ) → IsDone (Judges program plan statement bytes)
 judged_done program plan statement bytes outcome judges = ap status_of judges.outcome_is
 
+-- the order of a run is written
+ordered_done : OneOrder → (a f o image : List ℕ) (program : Program) (statement : Statement) (whole : WholeScript) (turns : List Turns)
+    → IsAccepted image program → IsOrdered program (commands_of whole.plan.lines) statement (Ok turns) → IsDone (Orders a f o program statement whole)
+ordered_done one a f o image program statement whole turns accepted ordered outcome is =
+    let same = one image program (commands_of whole.plan.lines) statement is.answer (Ok turns) accepted is.ordered ordered in
+    ap status_of (is.outcome_is ∙ ap (order_outcome a f o whole.text) same)
+
 -- what follows the inputs of `check`, one after another
 abbrev check_trace : (List ℕ → Entry) → (t : List ℕ) → Program → Statement → Plan → Outcome → Type 0
 check_trace held t program statement plan = Take unread_trace_form Sound held t (λ bytes. Judges program plan statement bytes)
@@ -175,9 +187,9 @@ check_script held s t program statement =
 abbrev check_audit : (List ℕ → Entry) → (s t a : List ℕ) → Program → Outcome → Type 0
 check_audit held s t a program = Take audit_form Sound held a (λ statement. check_script held s t program statement)
 
-accepted_done : IsDecided image_form → IsDecided audit_form → IsDecided imported_form → (held : List ℕ → Entry) (command : Command) → AreAccepted held command
+accepted_done : IsDecided image_form → IsDecided audit_form → IsDecided imported_form → OneOrder → (held : List ℕ → Entry) (command : Command) → AreAccepted held command
     → EndsWell command (Means (Some command) held)
-accepted_done is audits logs held (Sim i s c t a options) (program, plan, turns, at, of_script, of_schedule, still) =
+accepted_done is audits logs orders held (Sim i s c t a options) (program, plan, turns, at, of_script, of_schedule, still) =
     let setup = setup_of options in
     accepted_take image_form is held i
     (λ p. Take (script_form p setup.threads) Sound held s (λ l. Take (schedule_form setup.threads) Sound held c (Replays s t a setup p l))) program at
@@ -187,29 +199,29 @@ accepted_done is audits logs held (Sim i s c t a options) (program, plan, turns,
     (Replays s t a setup program plan) turns of_schedule
     (unrefused waits_words (waiting_line plan.lines) s (codes "script") (sim_next s t a setup program plan turns) still
     (left_done (Traces (Replayed program plan turns setup) program setup t a)))))
-accepted_done is audits logs held (Run i s t a options) (program, plan, at, of_script) =
+accepted_done is audits logs orders held (Run i s t a options) (program, plan, at, of_script) =
     let setup = setup_of options in
     accepted_take image_form is held i (λ p. Take (script_form p setup.threads) Sound held s (λ l. run_next t a setup p l)) program at
     (accepted_take (script_form program setup.threads) (decided_by (codes "script") script_limit (plan_of program setup.threads) script_words) held s
     (λ l. run_next t a setup program l) plan of_script (left_done (Traces (FollowsPlan setup program plan) program setup t a)))
-accepted_done is audits logs held (Plain i bounds) (program, at) =
+accepted_done is audits logs orders held (Plain i bounds) (program, at) =
     accepted_take image_form is held i (plain_next bounds) program at (left_done (λ outputs text. (outputs ≡ []) × PlainPrints program bounds text))
-accepted_done is audits logs held (Extract i) (program, at) = accepted_take image_form is held i extract_next program at (λ outcome same. ap status_of same)
-accepted_done is audits logs held (Asm t i threshold relative) (file, at) =
+accepted_done is audits logs orders held (Extract i) (program, at) = accepted_take image_form is held i extract_next program at (λ outcome same. ap status_of same)
+accepted_done is audits logs orders held (Asm t i threshold relative) (file, at) =
     accepted_take (text_form threshold relative) (decided_by (codes "text") text_limit (λ bytes. assembled bytes threshold relative) asm_words) held t (asm_next i) file at
     (λ outcome same. ap status_of same)
-accepted_done is audits logs held (Account t names options) at =
+accepted_done is audits logs orders held (Account t names options) at =
     report_done trace_form trace_decided is held t names (λ u. ⊤) (account_next options) at (λ u naming so outcome same. ap status_of same)
-accepted_done is audits logs held (Stack t names format) at =
+accepted_done is audits logs orders held (Stack t names format) at =
     report_done trace_form trace_decided is held t names (λ u. deep_in most_open u.blocks ≡ None) (λ u naming. StacksCome t format u naming) at
     (λ u naming shallow. unrefused deep_words (deep_in most_open u.blocks) t (codes "trace") (stack_next format u naming) shallow
     (λ outcome same. ap status_of same))
-accepted_done is audits logs held (Convert t names options) at =
+accepted_done is audits logs orders held (Convert t names options) at =
     report_done (log_form options.input) (log_decided options.input) is held t names (λ u. no_text_for options.format u ≡ None)
     (ConvertsTo t options.format) at
     (λ u naming none outcome comes. ap status_of (converts_done t options.format u naming outcome none comes))
-accepted_done is audits logs held (Dump t) (file, at) = accepted_take readable_form readable_decided held t dump_next file at (λ outcome same. ap status_of same)
-accepted_done is audits logs held (Check i s t a) (program, statement, plan, bytes, at, of_audit, of_script, of_trace) =
+accepted_done is audits logs orders held (Dump t) (file, at) = accepted_take readable_form readable_decided held t dump_next file at (λ outcome same. ap status_of same)
+accepted_done is audits logs orders held (Check i s t a) (program, statement, plan, bytes, at, of_audit, of_script, of_trace) =
     let threads : ℕ = statement.setup.threads in
     accepted_take image_form is held i (check_audit held s t a) program at
     (accepted_take audit_form audits held a (check_script held s t program) statement of_audit
@@ -217,13 +229,19 @@ accepted_done is audits logs held (Check i s t a) (program, statement, plan, byt
     (check_trace held t program statement) plan of_script
     (accepted_take unread_trace_form (any_decided (codes "trace") trace_limit) held t (λ b. Judges program plan statement b) bytes of_trace
     (judged_done program plan statement bytes))))
-accepted_done is audits logs held (Profile i s options) (program, plan, at, of_script) =
+accepted_done is audits logs orders held (Order i s a f o) (program, statement, whole, turns, at, of_audit, of_script, ordered) =
+    let threads : ℕ = statement.setup.threads in
+    accepted_take image_form is held i (OrderAfterImage held s a f o) program at
+    (accepted_take audit_form audits held a (OrderAfterAudit held s a f o program) statement of_audit
+    (accepted_take (whole_script_form program threads) (whole_decided program threads) held s (λ w. Orders a f o program statement w) whole of_script
+    (ordered_done orders a f o at.bytes program statement whole turns at.reads ordered)))
+accepted_done is audits logs orders held (Profile i s options) (program, plan, at, of_script) =
     let threads = options.bounds.threads in
     accepted_leads IsDoneOrFell image_form is held i (λ p. Take (script_form p threads) Sound held s (Profiles options p)) program at
     (accepted_leads IsDoneOrFell (script_form program threads) (decided_by (codes "script") script_limit (plan_of program threads) script_words) held s
     (Profiles options program) plan of_script (λ outcome comes. ended_well _ _ _ outcome comes.2))
-accepted_done is audits logs held (Soak number) at = left_done (λ outputs text. (outputs ≡ []) × IsSummary number text)
-accepted_done is audits logs held (Import log trace) (made, at) =
+accepted_done is audits logs orders held (Soak number) at = left_done (λ outputs text. (outputs ≡ []) × IsSummary number text)
+accepted_done is audits logs orders held (Import log trace) (made, at) =
     accepted_take imported_form logs held log (import_next trace) made at (λ outcome same. ap status_of same)
 
 -- so the status is 0, or it is the 7 of a profile
@@ -239,6 +257,7 @@ well (Stack t names format) held outcome ends is = inl (ends outcome is)
 well (Convert t names options) held outcome ends is = inl (ends outcome is)
 well (Dump t) held outcome ends is = inl (ends outcome is)
 well (Check i s t a) held outcome ends is = inl (ends outcome is)
+well (Order i s a f o) held outcome ends is = inl (ends outcome is)
 well (Profile i s options) held outcome ends is = elim (ends outcome is) [
   | inl done ↦ inl done
   | inr fell ↦ inr (fell, (i, s, options, refl))
@@ -246,18 +265,18 @@ well (Profile i s options) held outcome ends is = elim (ends outcome is) [
 well (Soak number) held outcome ends is = inl (ends outcome is)
 well (Import log trace) held outcome ends is = inl (ends outcome is)
 
-pub done_or_memory : IsDecided image_form → IsDecided audit_form → IsDecided imported_form → (command : Command) (before after : World) (status : ℕ) → AreAccepted before.desk.held command
+pub done_or_memory : IsDecided image_form → IsDecided audit_form → IsDecided imported_form → OneOrder → (command : Command) (before after : World) (status : ℕ) → AreAccepted before.desk.held command
     → CountsNoFault before after → IsAnswer (Some command) before after status
     → (status ≡ 0) ⊎ (status ≡ 5) ⊎ ((status ≡ 7) × IsProfile command)
-done_or_memory is audits logs command before after status accepted calm (inl (outcome, meant, same)) =
-    elim (well command before.desk.held outcome (accepted_done is audits logs before.desk.held command accepted) meant) [
+done_or_memory is audits logs orders command before after status accepted calm (inl (outcome, meant, same)) =
+    elim (well command before.desk.held outcome (accepted_done is audits logs orders before.desk.held command accepted) meant) [
       | inl done ↦ inl (sym same ∙ done)
       | inr (seven, of_profile) ↦ inr (inr (sym same ∙ seven, of_profile))
     ]
-done_or_memory is audits logs command before after status accepted calm (inr (inl memory)) = inr (inl memory)
-done_or_memory is audits logs command before after status accepted calm (inr (inr (inl (three, rose)))) = absurd (calm.reads rose)
-done_or_memory is audits logs command before after status accepted calm (inr (inr (inr (four, inl rose)))) = absurd (calm.writes rose)
-done_or_memory is audits logs command before after status accepted calm (inr (inr (inr (four, inr rose)))) = absurd (calm.out rose)
+done_or_memory is audits logs orders command before after status accepted calm (inr (inl memory)) = inr (inl memory)
+done_or_memory is audits logs orders command before after status accepted calm (inr (inr (inl (three, rose)))) = absurd (calm.reads rose)
+done_or_memory is audits logs orders command before after status accepted calm (inr (inr (inr (four, inl rose)))) = absurd (calm.writes rose)
+done_or_memory is audits logs orders command before after status accepted calm (inr (inr (inr (four, inr rose)))) = absurd (calm.out rose)
 
 -- ---- none but those of a profile have status 7
 
@@ -293,6 +312,13 @@ report_not_7 : (form : Form Trace) (held : List ℕ → Entry) (trace : List ℕ
     → ((t : Trace) (naming : Naming) → IsNot7 (next t naming)) → IsNot7 (TakeReport form Sound held trace names next)
 report_not_7 form held trace names next later =
     take_not_7 form held trace (λ t. TakeNames Sound held names (next t)) (λ t. names_not_7 held names (next t) (later t))
+
+ordered_not_7 : (a f o : List ℕ) (program : Program) (statement : Statement) (whole : WholeScript) → IsNot7 (Orders a f o program statement whole)
+ordered_not_7 a f o program statement whole outcome is = by_answer is.answer is.outcome_is
+  where
+    by_answer : (answer : Result (List Turns) OrderFault) → outcome ≡ order_outcome a f o whole.text answer → status_of outcome ≢ 7
+    by_answer (Ok turns) same = other_status outcome _ 0 same refl (λ e. omega arith)
+    by_answer (Err fault) same = other_status outcome _ 2 same refl (λ e. omega arith)
 
 abbrev OnlyProfiles7 : Command → (Outcome → Type 0) → Type 0
 OnlyProfiles7 (Profile image script options) comes = Unit {0}
@@ -335,6 +361,11 @@ not_7 held (Check i s t a) =
     (λ statement. take_not_7 (script_form program statement.setup.threads) held s (check_trace held t program statement)
     (λ plan. take_not_7 unread_trace_form held t (λ bytes. Judges program plan statement bytes)
     (λ bytes. done_not_7 (Judges program plan statement bytes) (judged_done program plan statement bytes)))))
+not_7 held (Order i s a f o) =
+    take_not_7 image_form held i (OrderAfterImage held s a f o)
+    (λ program. take_not_7 audit_form held a (OrderAfterAudit held s a f o program)
+    (λ statement. take_not_7 (whole_script_form program statement.setup.threads) held s (λ w. Orders a f o program statement w)
+    (λ w. ordered_not_7 a f o program statement w)))
 not_7 held (Profile i s options) = tt
 not_7 held (Soak number) =
     done_not_7 (λ outcome. Means (Some (Soak number)) held outcome) (left_done (λ outputs text. (outputs ≡ []) × IsSummary number text))
@@ -353,6 +384,7 @@ seven (Stack t names format) held outcome not is e = absurd (not outcome is e)
 seven (Convert t names options) held outcome not is e = absurd (not outcome is e)
 seven (Dump t) held outcome not is e = absurd (not outcome is e)
 seven (Check i s t a) held outcome not is e = absurd (not outcome is e)
+seven (Order i s a f o) held outcome not is e = absurd (not outcome is e)
 seven (Profile i s options) held outcome not is e = (i, s, options, refl)
 seven (Soak number) held outcome not is e = absurd (not outcome is e)
 seven (Import log trace) held outcome not is e = absurd (not outcome is e)

@@ -82,12 +82,12 @@ unrefused (Some line) name kind next outputs text is = absurd (never is)
 
 -- ---- what is taken again
 
-again : {X : Type 0} (form : Form X) (held : List ℕ → Entry) (name : List ℕ) (next : X → Outcome → Type 0) (value : X) (outcome : Outcome)
+pub again : {X : Type 0} (form : Form X) (held : List ℕ → Entry) (name : List ℕ) (next : X → Outcome → Type 0) (value : X) (outcome : Outcome)
     → IsAcceptedAs form (held name) value → next value outcome → Take form Sound held name next outcome
 again form held name next value outcome given comes = inr (given.bytes, given.held, inr (given.within, inr (value, given.reads, comes)))
 
 -- bytes that a name holds
-holding : {X : Type 0} (form : Form X) (entry : Entry) (bytes : List ℕ) (value : X) → entry ≡ Holds bytes → length bytes ≤ form.limit → form.Reads bytes value
+pub holding : {X : Type 0} (form : Form X) (entry : Entry) (bytes : List ℕ) (value : X) → entry ≡ Holds bytes → length bytes ≤ form.limit → form.Reads bytes value
     → IsAcceptedAs form entry value
 holding form entry bytes value held within reads = record {
   bytes = bytes;
@@ -97,7 +97,7 @@ holding form entry bytes value held within reads = record {
 }
 
 -- the outputs are what they are called
-outputs_same : (t a x y p q : List ℕ) → ◌≡◌ {A = List (List ℕ × List ℕ)} ((t, x) ∷ (a, y) ∷ []) ((t, p) ∷ (a, q) ∷ []) → (x ≡ p) × (y ≡ q)
+pub outputs_same : (t a x y p q : List ℕ) → ◌≡◌ {A = List (List ℕ × List ℕ)} ((t, x) ∷ (a, y) ∷ []) ((t, p) ∷ (a, q) ∷ []) → (x ≡ p) × (y ≡ q)
 outputs_same t a x y p q e =
     let one : ◌≡◌ {A = List ℕ × List ℕ} (t, x) (t, p) = cc in
     let two : ◌≡◌ {A = List ℕ × List ℕ} (a, y) (a, q) = cc in

@@ -11,7 +11,7 @@ use Rattle.xray_program.specs.Commands.{Comes, IsDecided, IsStill, Means, TellsA
 use Rattle.xray_program.specs.Outcomes.{Outcome, BadLine, written_by}
 use Rattle.xray_program.specs.Setups.{setup_of}
 use Rattle.xray_program.specs.Taking.{Sound}
-use Rattle.command_words.specs.Words.{Command, Sim, Run, Plain, Extract, Asm, Account, Stack, Convert, Dump, Check, Profile, Soak, Import, reading}
+use Rattle.command_words.specs.Words.{Command, Sim, Run, Plain, Extract, Asm, Account, Stack, Convert, Dump, Check, Order, Profile, Soak, Import, reading}
 use Rattle.xray_program.proofs.AccountLaws.{account_alone, account_some}
 use Rattle.xray_program.proofs.AsmLaws.{asm_alone, asm_some}
 use Rattle.xray_program.proofs.Audits.{OneReading, SomeReading}
@@ -24,6 +24,7 @@ use Rattle.xray_program.proofs.Images.{Accepts, OneVerdict, SomeVerdict, image_d
 use Rattle.xray_program.proofs.ImportLaws.{import_alone, import_some}
 use Rattle.xray_program.proofs.Logs.{imported_decided, imported_judged}
 use Rattle.xray_program.proofs.Meanings.{AnyOutcome, HoldsBytes, IsAlone, IsRefusal, SomeOutcome, refusal_alone}
+use Rattle.xray_program.proofs.OrderLaws.{OneOrder, SomeOrder, order_alone, order_some}
 use Rattle.xray_program.proofs.PlainLaws.{OneEnd, SomeEnd, plain_alone, plain_some}
 use Rattle.xray_program.proofs.ProfileLaws.{profile_refuses, profile_some}
 use Rattle.xray_program.proofs.RunExists.{ScriptLetsEnd, SomeLosses, SomeMarks, some_runs}
@@ -40,6 +41,7 @@ pub record Laws : Type 0 where
   pub run : OneRun
   pub audit : OneReading
   pub judged : OneJudgement
+  pub orders : OneOrder
   pub imports : OneImport
 
 pub record Existence : Type 0 where
@@ -53,6 +55,7 @@ pub record Existence : Type 0 where
   pub drawn : DrawnLaws
   pub audit : SomeReading
   pub judged : SomeJudgement
+  pub orders : SomeOrder
   pub imports : SomeImport
 
 -- ---- a line for each command
@@ -70,6 +73,7 @@ command_alone laws held told (Stack t i format) decided = stack_alone (image_dec
 command_alone laws held told (Convert t i options) decided = convert_alone (image_decided laws.verdict laws.accepts) held t i options told
 command_alone laws held told (Dump t) decided = dump_alone held t told
 command_alone laws held told (Check i s t a) decided = check_alone (image_decided laws.verdict laws.accepts) laws.audit laws.judged held i s t a told
+command_alone laws held told (Order i s a f o) decided = order_alone (image_decided laws.verdict laws.accepts) laws.audit laws.orders held i s a f o told
 command_alone laws held told (Profile i s options) decided = absurd cc
 command_alone laws held told (Soak number) decided = soak_alone (image_decided laws.verdict laws.accepts) laws.run number
 command_alone laws held told (Import log trace) decided = import_alone (imported_decided laws.imports) held log trace told
@@ -86,6 +90,7 @@ command_refuses laws held told (Stack t i format) = refusal_alone _ (command_alo
 command_refuses laws held told (Convert t i options) = refusal_alone _ (command_alone laws held told (Convert t i options) refl)
 command_refuses laws held told (Dump t) = refusal_alone _ (command_alone laws held told (Dump t) refl)
 command_refuses laws held told (Check i s t a) = refusal_alone _ (command_alone laws held told (Check i s t a) refl)
+command_refuses laws held told (Order i s a f o) = refusal_alone _ (command_alone laws held told (Order i s a f o) refl)
 command_refuses laws held told (Profile i s options) = profile_refuses (image_decided laws.verdict laws.accepts) held i s options told
 command_refuses laws held told (Soak number) = refusal_alone _ (command_alone laws held told (Soak number) refl)
 command_refuses laws held told (Import log trace) = refusal_alone _ (command_alone laws held told (Import log trace) refl)
@@ -102,6 +107,7 @@ command_some laws held told holds (Stack t i format) = stack_some (image_judged 
 command_some laws held told holds (Convert t i options) = convert_some (image_judged laws.verdict laws.accepts) held t i options told holds
 command_some laws held told holds (Dump t) = dump_some held t told holds
 command_some laws held told holds (Check i s t a) = check_some (image_judged laws.verdict laws.accepts) laws.audit laws.judged held i s t a told holds
+command_some laws held told holds (Order i s a f o) = order_some (image_judged laws.verdict laws.accepts) laws.audit laws.orders held i s a f o told holds
 command_some laws held told holds (Profile i s options) =
     profile_some (image_judged laws.verdict laws.accepts) (some_runs laws.end laws.lets laws.marks laws.losses) held i s options told holds
 command_some laws held told holds (Soak number) = soak_some laws.run laws.drawn number
@@ -124,6 +130,7 @@ still_by_word rows wall word words other another = by_said (reading wall (word �
     by_said (Some (Convert trace names options)) is = refl
     by_said (Some (Dump trace)) is = refl
     by_said (Some (Check image script trace audit)) is = refl
+    by_said (Some (Order image script audit free schedule)) is = refl
     by_said (Some (Profile image script options)) is = absurd (another (rows wall word words (Profile image script options) is).word_is)
     by_said (Some (Soak number)) is = refl
     by_said (Some (Import log trace)) is = refl
@@ -152,7 +159,11 @@ audit_first : (image script trace audit : List ℕ) → IsPermutation (image ∷
 audit_first image script trace audit =
     IsPermutation-cons image (script ∷ trace ∷ audit ∷ []) (audit ∷ script ∷ trace ∷ []) (IsPermutation-to_front (script ∷ trace ∷ []) audit)
 
--- the inputs are those of the row, and but for `check` in its order
+-- so is that of `order` before its script
+audit_second : (image script audit : List ℕ) → IsPermutation (image ∷ script ∷ audit ∷ []) (image ∷ audit ∷ script ∷ [])
+audit_second image script audit = IsPermutation-cons image (script ∷ audit ∷ []) (audit ∷ script ∷ []) (IsPermutation-to_front (script ∷ []) audit)
+
+-- the inputs are those of the row, and but for `check` and `order` in its order
 pub inputs_of_row : (command : Command)
     → IsPermutation (inputs_in (row_of command).files (names_of command) ++ names_given command) (map (λ input. input.0) (inputs_of command))
 inputs_of_row (Sim i s c t a options) = IsPermutation-refl (i ∷ s ∷ c ∷ [])
@@ -171,6 +182,7 @@ inputs_of_row (Convert t (ByImage name) options) = IsPermutation-refl (t ∷ nam
 inputs_of_row (Convert t (ByMap name) options) = IsPermutation-refl (t ∷ name ∷ [])
 inputs_of_row (Dump t) = IsPermutation-refl (t ∷ [])
 inputs_of_row (Check i s t a) = audit_first i s t a
+inputs_of_row (Order i s a f o) = audit_second i s a
 inputs_of_row (Profile i s options) = IsPermutation-refl (i ∷ s ∷ [])
 inputs_of_row (Soak number) = IsPermutation-refl []
 inputs_of_row (Import log trace) = IsPermutation-refl (log ∷ [])

@@ -20,6 +20,9 @@ pub mod LogForms
 pub mod Logs
 pub mod Meanings
 pub mod NamesTaken
+pub mod OrderLaws
+pub mod OrderReplays
+pub mod OrderTurns
 pub mod Ordering
 pub mod Outputting
 pub mod PlainLaws

@@ -1,10 +1,12 @@
 -- When the inputs of a command are accepted, and nothing else is wrong with them.
-use Rattle.std.specs.Prelude.{◌≡◌, ◌≤◌, ℕ, zero, suc, List, length, None, ⊤}
+use Rattle.std.specs.Prelude.{◌≡◌, ◌≤◌, ℕ, zero, suc, List, length, None, Ok, ⊤}
 use Rattle.audit_check.specs.Statements.{Statement}
 use Rattle.command_words.specs.Reports.{NameSource, ByIds, ByImage, ByMap}
 use Rattle.fdr_file.specs.declared.trace.Trace.{Trace}
 use Rattle.map_names.specs.Naming.{Naming}
 use Rattle.patch_script.specs.Plans.{Plan, waiting_line}
+use Rattle.patch_script.specs.Refusals.{commands_of}
+use Rattle.run_order.specs.Answers.{IsOrdered}
 use Rattle.runtime_log.specs.declared.facts.Facts.{Facts}
 use Rattle.stack_rebuild.specs.Stacks.{deep_in, most_open}
 use Rattle.step_sim.specs.declared.turns.Turns.{Turns}
@@ -13,9 +15,9 @@ use Rattle.xray_io.specs.Desk.{Entry, Holds}
 use Rattle.xray_io.specs.Faults.{Rose}
 use Rattle.xray_io.specs.World.{World}
 use Rattle.xray_program.specs.Convert.{log_form, no_text_for}
-use Rattle.xray_program.specs.Inputs.{Readable, audit_form, image_form, imported_form, map_form, readable_form, schedule_form, script_form, text_form, trace_form, unread_trace_form}
+use Rattle.xray_program.specs.Inputs.{Readable, WholeScript, audit_form, image_form, imported_form, map_form, readable_form, schedule_form, script_form, text_form, trace_form, unread_trace_form, whole_script_form}
 use Rattle.xray_program.specs.Taking.{Form, IsAcceptedAs}
-use Rattle.command_words.specs.Words.{Command, Sim, Run, Plain, Extract, Asm, Account, Stack, Convert, Dump, Check, Profile, Soak, Import}
+use Rattle.command_words.specs.Words.{Command, Sim, Run, Plain, Extract, Asm, Account, Stack, Convert, Dump, Check, Order, Profile, Soak, Import}
 
 -- the desk reports that a name holds bytes of this kind, within its limit, which read as this value
 pub record HoldsInput {X : Type 0} (form : Form X) (entry : Entry) (value : X) : Type 0 where
@@ -40,8 +42,8 @@ abbrev pub HoldsReport : Form Trace → (List ℕ → Entry) → (trace : List �
 HoldsReport form held trace names Is = (t : Trace) × HoldsInput form (held trace) t × HoldsNames held names × Is t
 
 -- The desk holds each input of a command, within its limit, and each is accepted. No other cause of refusal applies: for
--- `sim` nobody waits in the script, for `stack` no thread of the trace has too many calls open at once, and for `convert`
--- the trace can be written in the new form.
+-- `sim` nobody waits in the script, for `stack` no thread of the trace has too many calls open at once, for `convert` the
+-- trace can be written in the new form, and for `order` the run of the audit has an order that is no longer than a schedule.
 abbrev pub AreAccepted : (List ℕ → Entry) → Command → Type 0
 AreAccepted held (Sim image script schedule trace audit options) =
     (program : Program) × (plan : Plan) × (turns : List Turns) × HoldsInput image_form (held image) program
@@ -60,6 +62,10 @@ AreAccepted held (Check image script trace audit) =
     (program : Program) × (statement : Statement) × (plan : Plan) × (bytes : List ℕ) × HoldsInput image_form (held image) program
     × HoldsInput audit_form (held audit) statement × HoldsInput (script_form program statement.setup.threads) (held script) plan
     × HoldsInput unread_trace_form (held trace) bytes
+AreAccepted held (Order image script audit free schedule) =
+    (program : Program) × (statement : Statement) × (whole : WholeScript) × (turns : List Turns) × HoldsInput image_form (held image) program
+    × HoldsInput audit_form (held audit) statement × HoldsInput (whole_script_form program statement.setup.threads) (held script) whole
+    × IsOrdered program (commands_of whole.plan.lines) statement (Ok turns)
 AreAccepted held (Profile image script options) = HoldsScript held image script options.bounds.threads
 AreAccepted held (Soak number) = ⊤
 AreAccepted held (Import log trace) = (made : List ℕ × Facts) × HoldsInput imported_form (held log) made
@@ -107,6 +113,10 @@ AcceptsInputs held (Check image script trace audit) count =
     AcceptsInput audit_form held audit (λ statement.
     AcceptsInput (script_form program statement.setup.threads) held script (λ plan.
     AcceptsInput unread_trace_form held trace (λ bytes later. ⊤)))) count
+AcceptsInputs held (Order image script audit free schedule) count =
+    AcceptsInput image_form held image (λ program.
+    AcceptsInput audit_form held audit (λ statement.
+    AcceptsInput (whole_script_form program statement.setup.threads) held script (λ whole later. ⊤))) count
 AcceptsInputs held (Profile image script options) count = AcceptsScript held image script options.bounds.threads count
 AcceptsInputs held (Soak number) count = ⊤
 AcceptsInputs held (Import log trace) count = AcceptsInput imported_form held log (λ made later. ⊤) count

@@ -12,6 +12,7 @@ use Rattle.xray_program.specs.Dump.{DumpComes}
 use Rattle.xray_program.specs.Extract.{ExtractComes}
 use Rattle.xray_program.specs.Import.{ImportComes}
 use Rattle.xray_program.specs.Inputs.{audit_limit, image_limit, text_limit, script_limit, schedule_limit}
+use Rattle.xray_program.specs.LoadOrder.{OrderComes}
 use Rattle.xray_program.specs.Outcomes.{Outcome, BadLine, Unread}
 use Rattle.xray_program.specs.Plain.{PlainComes}
 use Rattle.xray_program.specs.Profile.{ProfileComes}
@@ -23,7 +24,7 @@ use Rattle.xray_program.specs.Sim.{SimComes}
 use Rattle.xray_program.specs.Soak.{SoakComes}
 use Rattle.xray_program.specs.Stack.{StackComes}
 use Rattle.xray_program.specs.Taking.{DeskReads, Sound, Faulty}
-use Rattle.command_words.specs.Words.{Command, Sim, Run, Plain, Extract, Asm, Account, Stack, Convert, Dump, Check, Profile, Soak, Import, outputs_of}
+use Rattle.command_words.specs.Words.{Command, Sim, Run, Plain, Extract, Asm, Account, Stack, Convert, Dump, Check, Order, Profile, Soak, Import, outputs_of}
 
 -- ---- a line for each command
 
@@ -40,6 +41,7 @@ inputs_of (Stack trace names format) = report_inputs trace trace_limit names
 inputs_of (Convert trace names options) = report_inputs trace trace_limit names
 inputs_of (Dump trace) = (trace, trace_limit) ∷ []
 inputs_of (Check image script trace audit) = (image, image_limit) ∷ (audit, audit_limit) ∷ (script, script_limit) ∷ (trace, trace_limit) ∷ []
+inputs_of (Order image script audit free schedule) = (image, image_limit) ∷ (audit, audit_limit) ∷ (script, script_limit) ∷ []
 inputs_of (Profile image script options) = script_inputs image script
 inputs_of (Soak number) = []
 inputs_of (Import log trace) = (log, trace_limit) ∷ []
@@ -56,6 +58,7 @@ Comes reads held (Stack trace names format) = StackComes reads held trace names 
 Comes reads held (Convert trace names options) = ConvertComes reads held trace names options
 Comes reads held (Dump trace) = DumpComes reads held trace
 Comes reads held (Check image script trace audit) = CheckComes reads held image script trace audit
+Comes reads held (Order image script audit free schedule) = OrderComes reads held image script audit free schedule
 Comes reads held (Profile image script options) = ProfileComes reads held image script options
 Comes reads held (Soak number) = SoakComes number
 Comes reads held (Import log trace) = ImportComes reads held log trace
@@ -72,6 +75,7 @@ is_decided (Stack trace names format) = true
 is_decided (Convert trace names options) = true
 is_decided (Dump trace) = true
 is_decided (Check image script trace audit) = true
+is_decided (Order image script audit free schedule) = true
 is_decided (Profile image script options) = false
 is_decided (Soak number) = true
 is_decided (Import log trace) = true
@@ -88,6 +92,7 @@ is_still (Stack trace names format) = true
 is_still (Convert trace names options) = true
 is_still (Dump trace) = true
 is_still (Check image script trace audit) = true
+is_still (Order image script audit free schedule) = true
 is_still (Profile image script options) = false
 is_still (Soak number) = true
 is_still (Import log trace) = true
@@ -104,6 +109,7 @@ is_report (Stack trace names format) = true
 is_report (Convert trace names options) = true
 is_report (Dump trace) = false
 is_report (Check image script trace audit) = false
+is_report (Order image script audit free schedule) = false
 is_report (Profile image script options) = false
 is_report (Soak number) = false
 is_report (Import log trace) = false

@@ -86,6 +86,20 @@ text_form threshold relative = form_by (codes "text") text_limit (λ bytes. asse
 abbrev pub script_form : Program → ℕ → Form Plan
 script_form program threads = form_by (codes "script") script_limit (plan_of program threads) script_words
 
+-- a script with its text
+pub record WholeScript : Type 0 where
+  pub text : List ℕ
+  pub plan : Plan
+
+-- the script of a run whose text is needed too; it is refused as any script is
+abbrev pub whole_script_form : Program → ℕ → Form WholeScript
+whole_script_form program threads = record {
+  kind = codes "script";
+  limit = script_limit;
+  Reads = λ bytes script. (script.text ≡ bytes) × (plan_of program threads bytes ≡ Ok script.plan);
+  Refuses = (script_form program threads).Refuses;
+}
+
 -- the schedule of a replay, for a number of threads
 abbrev pub schedule_form : ℕ → Form (List Turns)
 schedule_form threads = form_by (codes "schedule") schedule_limit (schedule_of threads) schedule_words

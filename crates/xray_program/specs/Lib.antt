@@ -19,6 +19,8 @@ pub mod Convert
 pub mod Dump
 pub mod Check
 pub mod Import
+pub mod LoadOrder
+pub mod OrderReplays
 pub mod Commands
 pub mod Accepted
 pub mod Answers

@@ -1,6 +1,7 @@
 -- What the contracts of private functions cite. No promise of this crate rests on it.
 pub mod CallLaws
 pub mod CheckInputs
+pub mod OrderInputs
 pub mod Drawn
 pub mod Ends
 pub mod Logs

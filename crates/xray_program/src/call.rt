@@ -16,6 +16,7 @@ use crate::convert::Convert;
 use crate::dump::Dump;
 use crate::extract::Extract;
 use crate::import::Import;
+use crate::load_order::LoadOrder;
 use crate::plain::Plain;
 use crate::profile::perform_profile;
 use crate::run::perform_run;
@@ -302,12 +303,28 @@ fn perform_command<'a, D: Desk, O: Sink>(
             };
             perform(alloc, &sim, desk, out)
         }
+        Command::Order {
+            image,
+            script,
+            audit,
+            free,
+            schedule,
+        } => {
+            let order = LoadOrder {
+                image,
+                script,
+                audit,
+                free,
+                schedule,
+            };
+            perform(alloc, &order, desk, out)
+        }
         Command::Run { .. } | Command::Profile { .. } => unreachable!(),
         other => perform_other(alloc, other, desk, out),
     }
 }
 
-/// Does what a command says that writes no trace and no audit.
+/// Does what a command says that waits for nobody and has at most one output.
 fn perform_other<'a, D: Desk, O: Sink>(
     alloc: Global,
     command: Command<'a>,
@@ -321,7 +338,10 @@ fn perform_other<'a, D: Desk, O: Sink>(
         (D.along desk.old desk.new) (answer_of result) (told_of result) }
 {
     match command {
-        Command::Sim { .. } | Command::Run { .. } | Command::Profile { .. } => unreachable!(),
+        Command::Sim { .. }
+        | Command::Run { .. }
+        | Command::Order { .. }
+        | Command::Profile { .. } => unreachable!(),
         Command::Plain { image, bounds } => perform(alloc, &Plain { image, bounds }, desk, out),
         Command::Extract { image } => perform(alloc, &Extract { image }, desk, out),
         Command::Asm {

@@ -3,6 +3,7 @@ ghost use Rattle.command_words.specs.Ranges.{IsThreadCount};
 
 use crate::file_bytes::FileBytes;
 use crate::input::Kind;
+use crate::script_file::ScriptFile;
 use crate::stated_audit::StatedAudit;
 use asm_text::{AsmFault, assemble};
 use audit_check::{AuditFault, read_audit};
@@ -34,6 +35,9 @@ const MAP_LIMIT: u64 = 67_108_864;
 
 /// The word for a script in a line on err.
 pub(crate) const SCRIPT: &str = "script";
+
+/// The word for an audit in a line on err.
+pub(crate) const AUDIT: &str = "audit";
 
 /// The word for a trace in a line on err.
 pub(crate) const TRACE: &str = "trace";
@@ -197,6 +201,41 @@ impl Kind for ScriptKind<'_> {
     }
 }
 
+/// A script whose text is kept, for an image and a number of threads.
+#[derive(Drop)]
+pub(crate) struct ScriptFileKind<'i> {
+    /// What the text has to be.
+    pub(crate) script: ScriptKind<'i>,
+}
+
+impl Kind for ScriptFileKind<'_> {
+    ghost use Rattle.std.specs.Prelude.{◌≡◌, ◌≤◌, length};
+    ghost use Rattle.xray_program.specs.Inputs.{script_limit, whole_script_form};
+
+    type Value = ScriptFile;
+
+    type Refusal = ScriptFault;
+
+    ghost form = { λ k. whole_script_form k.script.image.now k.script.threads };
+
+    ghost fits = { λ k file. (file.plan.program ≡ k.script.image.now) × (file.plan.threads ≡ k.script.threads)
+        × (length file.text ≤ script_limit) };
+
+    fn word(&self) -> &'static str {
+        SCRIPT
+    }
+
+    fn limit(&self) -> u64 {
+        SCRIPT_LIMIT
+    }
+
+    fn judge(&self, alloc: Global, bytes: &[u8]) -> Result<ScriptFile, ScriptFault> {
+        let script = self.script.judge(alloc, bytes)?;
+        let text = Vec::from_slice(alloc, bytes)?;
+        Ok(ScriptFile { text, script })
+    }
+}
+
 /// A schedule, for a number of threads.
 #[derive(Drop)]
 pub(crate) struct ScheduleKind {
@@ -248,7 +287,7 @@ impl Kind for AuditKind {
     ghost fits = { λ _. NamesThreads };
 
     fn word(&self) -> &'static str {
-        "audit"
+        AUDIT
     }
 
     fn limit(&self) -> u64 {

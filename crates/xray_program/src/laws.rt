@@ -1,5 +1,6 @@
 //! Laws of what the program means. Each law is the contract of a function that does nothing.
-ghost use Rattle.std.specs.Prelude.{◌≡◌, ◌≢◌, ◌<◌, ◌⊎◌, ◌∷◌, ◌++◌, [], ℕ, List, Option, None, Some, All, IsPermutation, map};
+ghost use Rattle.std.specs.Prelude.{◌≡◌, ◌≢◌, ◌<◌, ◌⊎◌, ◌∷◌, ◌++◌, [], ℕ, List, Option, None, Some, Ok, All, IsPermutation, map};
+ghost use Rattle.audit_check.specs.{Reading.{ReadsAs}, Statements.{Statement}};
 ghost use Rattle.audit_check.specs.Texts.{verdict_text};
 ghost use Rattle.audit_check.specs.declared.verdict.Verdict.TheVariants.{Yes};
 ghost use Rattle.command_words.specs.Files.{inputs_in, names_given, names_of, row_of};
@@ -11,11 +12,12 @@ ghost use Rattle.xray_io.specs.Desk.{Entry, Holds};
 ghost use Rattle.xray_io.specs.World.{World};
 ghost use Rattle.xray_program.specs.{Accepted.{AreAccepted, CountsNoFault}, Answers.{IsAnswer}};
 ghost use Rattle.xray_program.specs.Commands.{IsDecided, IsProfile, Means, TellsAll, inputs_of};
+ghost use Rattle.xray_program.specs.{OrderReplays.{LeavesRunsOf}, Setups.{setup_of}};
 ghost use Rattle.xray_program.specs.Outcomes.{Done, Outcome, status_of, written_by};
 ghost use Rattle.machine_step.specs.Setups.{IsSetup};
 ghost use Rattle.xray_program.specs.Traced.{IsReported};
 ghost use Rattle.command_words.specs.Ranges.{AreRunOptions};
-ghost use Rattle.command_words.specs.Words.{Check, Command, Run, Sim};
+ghost use Rattle.command_words.specs.Words.{Check, Command, Order, Run, Sim};
 ghost use Rattle.command_words.specs.declared.run_options.RunOptions.{RunOptions};
 ghost use Rattle.fdr_file.specs.declared.trace.Trace.{Trace};
 ghost use Rattle.flame_graph.specs.Laws.{LowestAddUp, NoneSticksOut};
@@ -27,6 +29,10 @@ use fdr_file::a_trace_is_read;
 use flame_graph::{no_frame_sticks_out, stacks_can_be_drawn, the_lowest_frames_add_up};
 use machine_step::{one_end, some_end, some_marks_follow};
 use patch_script::each_script_lets_threads_end;
+use run_order::{
+    a_script_reads_without_its_waits, an_order_is_a_schedule, an_order_leaves_its_run,
+    one_order_of_an_audit,
+};
 use runtime_log::{one_import, some_import};
 use step_sim::{a_replay_loses_few, marks_of_a_replay_follow, one_run, some_run};
 use trace_flush::{a_run_is_traced, a_trace_is_short};
@@ -44,6 +50,7 @@ pub fn one_meaning()
     one_run();
     one_reading();
     audit_check::one_verdict();
+    one_order_of_an_audit();
     one_import();
 }
 
@@ -59,13 +66,15 @@ pub fn refusal_is_the_only_meaning()
     one_run();
     one_reading();
     audit_check::one_verdict();
+    one_order_of_an_audit();
     one_import();
 }
 
 /// Words mean something over a desk that reports every name, whatever bytes the names hold. For
 /// `run` and `profile` this says that each script that is read has lawful runs: its awaits and holds
 /// leave a place for each load of each thread. For `check` it says that bytes are an audit or are
-/// refused at a line, and that there is a verdict on any audit and any trace.
+/// refused at a line, and that there is a verdict on any audit and any trace. For `order` it says that
+/// the run of an audit has an order, or is refused.
 pub fn some_meaning()
     ensures { (said : Option Command) (held : List ℕ → Entry) → TellsAll held
         → ((name bytes : List ℕ) → held name ≡ Holds bytes → All (λ b. b < 256) bytes)
@@ -83,6 +92,7 @@ pub fn some_meaning()
     a_trace_is_read();
     some_reading();
     audit_check::some_verdict();
+    one_order_of_an_audit();
     some_import();
 }
 
@@ -107,6 +117,7 @@ pub fn accepted_inputs_mean_done()
 {
     one_verdict();
     one_reading();
+    one_order_of_an_audit();
     one_import();
 }
 
@@ -146,6 +157,25 @@ pub fn what_is_left_is_accepted()
     a_trace_is_short();
     a_replay_loses_few();
     marks_of_a_replay_follow();
+}
+
+/// What `order` writes is replayed. If a desk holds the script without waits and the schedule that `order`
+/// means to leave of an audit, beside the same image, then `sim` of these three with the options of the
+/// audit means to leave the runs of which the audit speaks. So it prints their state texts, and its audit
+/// has their ends and marks. Only which segments are lost may differ.
+pub fn what_is_ordered_is_replayed()
+    ensures { (held after : List ℕ → Entry) (i s a f o t b : List ℕ) (options : RunOptions)
+        (audit free schedule : List ℕ) (statement : Statement)
+        → held a ≡ Holds audit → ReadsAs audit (Ok statement) → setup_of options ≡ statement.setup
+        → Means (Some (Order i s a f o)) held (Done ((f, free) ∷ (o, schedule) ∷ []) [])
+        → after i ≡ held i → after f ≡ Holds free → after o ≡ Holds schedule
+        → (program : Program)
+        × LeavesRunsOf (Means (Some (Sim i f o t b options)) after) t b program statement }
+{
+    one_reading();
+    a_script_reads_without_its_waits();
+    an_order_leaves_its_run();
+    an_order_is_a_schedule();
 }
 
 /// In the picture that `stack --format svg` prints of a trace, no frame sticks out of that of its

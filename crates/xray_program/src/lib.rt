@@ -2,10 +2,10 @@
 //!
 //! The words are read first, together with the wall time (`command_words`). A command is one module
 //! (`sim`, `plain`, `extract`, `asm`, `account`, `stack`, `convert`, `dump`, `check`, `soak`,
-//! `import`), which implements
-//! `Work`, or starts threads (`run`, `profile`). It takes its inputs in their order (`inputs_of`, `input`). Each is read, measured and
-//! judged before the next is opened, so the first that fails decides. Then it does its work, and
-//! writes its outputs and its text (`delivery`). What is written of traced threads is in `traced`.
+//! `import`, `load_order` of `order`), which implements `Work`, or starts threads (`run`, `profile`).
+//! It takes its inputs in their order (`inputs_of`, `input`). Each is read, measured and judged before
+//! the next is opened, so the first that fails decides. Then it does its work, and writes its outputs
+//! and its text (`delivery`). What is written of traced threads is in `traced`.
 //! The inputs of `soak` are `drawn`, and its text is a `summary`. Last, if something stopped the
 //! call, a line on err says what (`stop`).
 //!
@@ -31,14 +31,17 @@ mod import;
 mod input;
 mod inputs;
 mod laws;
+mod load_order;
 mod log;
 mod names;
+mod order_inputs;
 mod plain;
 mod profile;
 mod readable_file;
 mod report_inputs;
 mod run;
 mod run_inputs;
+mod script_file;
 mod script_inputs;
 mod setups;
 mod sim;
@@ -58,5 +61,5 @@ pub use drawn::soak_inputs;
 pub use laws::{
     accepted_inputs_mean_done, inputs_follow_the_rows, one_meaning, only_profiles_mean_7,
     pictures_add_up, refusal_is_the_only_meaning, reports_take_a_run, some_meaning,
-    what_is_left_is_accepted,
+    what_is_left_is_accepted, what_is_ordered_is_replayed,
 };

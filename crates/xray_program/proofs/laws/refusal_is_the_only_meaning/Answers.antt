@@ -11,6 +11,7 @@ returns c said held refusal other told none a b =
       run = c.one_run.ensures;
       audit = c.one_reading.ensures;
       judged = c.one_verdict-2.ensures;
+      orders = c.one_order_of_an_audit.ensures.one;
       imports = c.one_import.ensures;
     })
     said held refusal other told none a b

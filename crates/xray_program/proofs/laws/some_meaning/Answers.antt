@@ -19,6 +19,7 @@ returns c said held told holds =
       };
       audit = c.some_reading.ensures;
       judged = c.some_verdict-2.ensures;
+      orders = c.one_order_of_an_audit.ensures.some;
       imports = c.some_import.ensures;
     })
     said held told holds

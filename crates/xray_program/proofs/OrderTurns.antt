@@ -1,0 +1,122 @@
+-- `order`: the turns of its three inputs, and an audit that has no order.
+use Rattle.std.proofs.Common.{◌≡◌, ◌⊎◌, ◌∙◌, ℕ, List, Some, None, Result, Ok, Err, inl, inr, ap, refl, subst, sym, codes}
+use Rattle.audit_check.specs.Statements.{Statement}
+use Rattle.command_words.specs.Words as words
+use Rattle.fault_words.specs.Words.{words_text}
+use Rattle.patch_script.specs.Plans.{Plan}
+use Rattle.patch_script.specs.Refusals.{commands_of}
+use Rattle.run_order.specs.Answers.{IsOrdered}
+use Rattle.run_order.specs.FaultWords.{order_words}
+use Rattle.run_order.specs.declared.fault.OrderFault.{OrderFault}
+use Rattle.run_order.specs.declared.fault.OrderFault.TheVariants as ordering
+use Rattle.step_sim.specs.declared.turns.Turns.{Turns}
+use Rattle.xray_image.specs.Program.{Program}
+use Rattle.xray_io.specs.Calls.{Call, Went}
+use Rattle.xray_io.specs.Desk.{Entry}
+use Rattle.xray_io.specs.World.{DeskView, SinkView}
+use Rattle.xray_program.specs.Accepted.{AcceptsInputs}
+use Rattle.xray_program.specs.Inputs.{WholeScript, audit_form, image_form, refused_for, whole_script_form}
+use Rattle.xray_program.specs.LoadOrder.{OrderComes, Orders}
+use Rattle.xray_program.specs.Order.{IsNoCall}
+use Rattle.xray_program.specs.Outcomes.{Outcome, Refused}
+use Rattle.xray_program.specs.Taking.{DeskReads, IsAcceptedAs, Take}
+use Rattle.xray_program.specs.declared.load_order.LoadOrder.{LoadOrder}
+use Rattle.xray_program.specs.declared.order_inputs.OrderInputs.{OrderInputs}
+use Rattle.xray_program.specs.declared.stop.Stop.{Stop}
+use Rattle.xray_program.specs.declared.stop.Stop.TheVariants as stops
+use Rattle.xray_program.specs.private.Takes.{IsFaultStop}
+use Rattle.xray_program.specs.private.Works.{Finishes}
+use Rattle.xray_program.proofs.Turns.{Leads, leads, leads_on}
+
+-- its first inputs are accepted
+abbrev pub Accepts : (List ℕ → Entry) → LoadOrder → (count : ℕ) → Type 0
+Accepts held o = AcceptsInputs held (words.Order o.image.now o.script.now o.audit.now o.free.now o.schedule.now)
+
+-- what comes of the command; and of its inputs, one after another
+abbrev pub Comes : (List ℕ → Entry) → LoadOrder → DeskReads → Outcome → Type 0
+Comes held o reads = OrderComes reads held o.image.now o.script.now o.audit.now o.free.now o.schedule.now
+
+abbrev pub AfterScript : LoadOrder → Program → Statement → DeskReads → WholeScript → Outcome → Type 0
+AfterScript o program statement reads whole = Orders o.audit.now o.free.now o.schedule.now program statement whole
+
+abbrev pub AfterAudit : (List ℕ → Entry) → LoadOrder → Program → DeskReads → Statement → Outcome → Type 0
+AfterAudit held o program reads statement =
+    Take (whole_script_form program statement.setup.threads) reads held o.script.now (AfterScript o program statement reads)
+
+abbrev pub AfterImage : (List ℕ → Entry) → LoadOrder → DeskReads → Program → Outcome → Type 0
+AfterImage held o reads program = Take audit_form reads held o.audit.now (AfterAudit held o program reads)
+
+abbrev pub comes_of : LoadOrder → OrderInputs → Outcome → Type 0
+comes_of o inputs = Orders o.audit.now o.free.now o.schedule.now inputs.image inputs.audit inputs.script
+
+-- how far the inputs lead
+module _ (held : List ℕ → Entry) (o : LoadOrder) (program : Program) (image : IsAcceptedAs image_form (held o.image.now) program) where
+  pub to_audit : Leads (Comes held o) (λ reads. AfterImage held o reads program)
+  to_audit = leads_on image_form (Comes held o) held o.image.now (AfterImage held o) program (leads (Comes held o)) image
+
+  module _ (statement : Statement) (audit : IsAcceptedAs audit_form (held o.audit.now) statement) where
+    pub to_script : Leads (Comes held o) (λ reads. AfterAudit held o program reads statement)
+    to_script = leads_on audit_form (Comes held o) held o.audit.now (AfterAudit held o program) statement to_audit audit
+
+    -- for a number of threads that is the audit's
+    pub to_script_for : (threads : ℕ) → threads ≡ statement.setup.threads
+        → Leads (Comes held o) (λ reads. Take (whole_script_form program threads) reads held o.script.now (AfterScript o program statement reads))
+    to_script_for threads same =
+        subst
+        (λ (n : ℕ). Leads (Comes held o) (λ reads. Take (whole_script_form program n) reads held o.script.now (AfterScript o program statement reads)))
+        (sym same) to_script
+
+-- what is accepted as a script for a number of threads is accepted for an equal number
+pub accepted_for : (program : Program) (n m : ℕ) (entry : Entry) (whole : WholeScript) → n ≡ m → IsAcceptedAs (whole_script_form program n) entry whole
+    → IsAcceptedAs (whole_script_form program m) entry whole
+accepted_for program n m entry whole same = subst (λ (k : ℕ). IsAcceptedAs (whole_script_form program k) entry whole) same
+
+-- what was answered, or memory ran out
+abbrev Answers : (Result (List Turns) OrderFault → Type 0) → Result (List Turns) OrderFault → Type 0
+Answers Is answer = (answer ≡ Err ordering.NoMemory) ⊎ Is answer
+
+pub is_answer : (answer : Result (List Turns) OrderFault) (turns : List Turns) (Is : Result (List Turns) OrderFault → Type 0)
+    → answer ≡ Ok turns → Answers Is answer → Is (Ok turns)
+is_answer answer turns Is e (inl memory) = absurd (never (sym e ∙ memory))
+  where
+    never : (let v : Result (List Turns) OrderFault = Ok turns in let w : Result (List Turns) OrderFault = Err ordering.NoMemory in v ≡ w) → ⊥
+    never e = cc
+is_answer answer turns Is e (inr is) = subst Is e is
+
+pub is_refused : (program : Program) (plan given : Plan) (statement said : Statement) (answer : Result (List Turns) OrderFault) (fault : OrderFault)
+    → given ≡ plan → said ≡ statement → answer ≡ Err fault → Answers (IsOrdered program (commands_of given.lines) said) answer
+    → (fault ≡ ordering.NoMemory) ⊎ IsOrdered program (commands_of plan.lines) statement (Err fault)
+is_refused program plan given statement said answer fault of_plan of_statement e (inl memory) = inl (same (sym e ∙ memory))
+  where
+    same : (let v : Result (List Turns) OrderFault = Err fault in let w : Result (List Turns) OrderFault = Err ordering.NoMemory in v ≡ w) → fault ≡ ordering.NoMemory
+    same e = cc
+is_refused program plan given statement said answer fault of_plan of_statement e (inr is) =
+    inr (rw (sym of_plan, sym of_statement, sym e) is)
+
+-- an audit that has no order is refused, and if memory runs out nothing is written
+pub order_refuses : (a f o : List ℕ) (program : Program) (statement : Statement) (whole : WholeScript) (desk : DeskView) (out : SinkView)
+    (Way : List Call → Type 0) → Went Way IsNoCall → (fault : OrderFault) (stop : Stop)
+    → (fault ≡ ordering.NoMemory) ⊎ IsOrdered program (commands_of whole.plan.lines) statement (Err fault)
+    → IsFaultStop a (codes "audit") (order_words fault) stop → Finishes (Orders a f o program statement whole) desk desk out out Way (Err stop)
+order_refuses a f o program statement whole desk out Way none fault stops.BadLine why is = is
+order_refuses a f o program statement whole desk out Way none fault (stops.Unread n) why is = is
+order_refuses a f o program statement whole desk out Way none fault (stops.TooLong n) why is = is
+order_refuses a f o program statement whole desk out Way none fault (stops.Refused n kind words) (inl memory) (same, of_kind, is) =
+    absurd (never (rw memory at is))
+  where
+    never : None ≡ Some (words_text words) → ⊥
+    never e = cc
+order_refuses a f o program statement whole desk out Way none fault (stops.Refused n kind words) (inr ordered) (same, of_kind, is) = (
+  record { answer = Err fault; ordered = ordered; outcome_is = refused },
+  (refl, refl),
+  none,
+)
+  where
+    worded : words_text words ≡ refused_for (order_words fault)
+    worded = ap refused_for (sym is)
+
+    refused : Refused n.now kind.now (words_text words) ≡ Refused a (codes "audit") (refused_for (order_words fault))
+    refused = rw (same, of_kind, worded) refl
+order_refuses a f o program statement whole desk out Way none fault (stops.Fell words) why is = absurd is
+order_refuses a f o program statement whole desk out Way none fault (stops.Unwritten n) why is = absurd is
+order_refuses a f o program statement whole desk out Way none fault stops.NoMemory why is = ((refl, refl), none)
