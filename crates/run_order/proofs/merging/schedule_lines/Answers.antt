@@ -1,7 +1,8 @@
 use Rattle.std.proofs.Common.{◌≡◌, ◌∙◌, ℕ, List, Vec, Global, arith, map, subst}
 use Rattle.std.specs.Borrow.{Bor}
-use Rattle.run_order.specs.declared.stop.Stop.{Stop}
-use Rattle.run_order.specs.private.Stops.{AllFrom, IsUpTo, places_in, places_of}
+use Rattle.audit_check.specs.declared.stop.Stop.{Stop}
+use Rattle.audit_check.specs.Stops.{places_of}
+use Rattle.run_order.specs.private.Stops.{AllFrom, IsUpTo, places_in}
 use Rattle.run_order.proofs.MergedTurns.{all_items, places_of_items, same_places, stops_of_all, up_to_first, up_to_next}
 use Rattle.run_order.proofs.merging.schedule_lines.Goals as goal
 

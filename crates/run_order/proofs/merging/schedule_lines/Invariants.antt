@@ -1,5 +1,6 @@
 use Rattle.std.proofs.Common.{◌≡◌, ◌≤◌, length, map}
-use Rattle.run_order.specs.private.Stops.{IsUpTo, places_of}
+use Rattle.audit_check.specs.Stops.{places_of}
+use Rattle.run_order.specs.private.Stops.{IsUpTo}
 use Rattle.run_order.proofs.merging.schedule_lines.Given as goal
 
 abbrev pub invariant-loop-place : goal.invariant-loop-place

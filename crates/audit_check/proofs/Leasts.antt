@@ -13,11 +13,11 @@ use Rattle.machine_step.specs.Loads.{is_held_at, sled_logs_args}
 use Rattle.audit_check.specs.private.Ways.{Leaf, Passes, Reaches, Tree, arg_handler_tree, handler_tree, head_tree, id_tree, passing_tree, state_tree, trees_of}
 use Rattle.audit_check.proofs.FollowWays.{marks_pass}
 use Rattle.audit_check.proofs.Owning.{trees_own}
-use Rattle.run_order.specs.Places.{Search, either_handler, first_among, found_by, handler_searches, has_arg_handler, has_handler, head_searches, is_patched, is_set, log_records, passing_searches, patched_search, places_from}
+use Rattle.audit_check.specs.Places.{Search, either_handler, first_among, found_by, handler_searches, has_arg_handler, has_handler, head_searches, is_patched, is_set, log_records, passing_searches, patched_search, places_from}
 
 -- ---- the first place is the least
 
-first_least : (test : ℕ → Bool) (count from at : ℕ) → test at ≡ true → from ≤ at → at < from + count
+pub first_least : (test : ℕ → Bool) (count from at : ℕ) → test at ≡ true → from ≤ at → at < from + count
     → (first : ℕ) × (first_among test count from ≡ Some first) × (from ≤ first) × (first ≤ at) × (test first ≡ true)
 first_least test zero from at passes low high = absurd (omega (arith, low, high))
 first_least test (suc count) from at passes low high =
@@ -326,7 +326,7 @@ module _ (program : Program) (threads : ℕ) (code : ℕ → ℕ → ℕ) (bound
 
   -- ---- a passing
 
-  passing_least : (thread : ℕ) (held : Bool) (sled : ℕ) (mark : Mark) (from place end : ℕ) → from ≤ place
+  pub passing_least : (thread : ℕ) (held : Bool) (sled : ℕ) (mark : Mark) (from place end : ℕ) → from ≤ place
       → Reaches code bound mark (passing_tree program threads thread held sled) place end
       → Finds bound from (passing_searches program threads code thread held sled mark) end
   passing_least thread true sled mark from place end low (at, low_at, high, set, way) =

@@ -1,0 +1,58 @@
+-- Places at which no thread has loads.
+use Rattle.std.proofs.Common.{◌≡◌, ℕ, zero, suc, ◌+◌, ◌<◌, ◌≤◌, List, [], ◌∷◌, ◌++◌, append-nil, Some, refl, sym, ap, subst, ◌∙◌, arith, length, get_or}
+use Rattle.std.specs.Prelude.{slice_get}
+use Rattle.std.specs.Borrow.{Bor}
+use Rattle.std.specs.List.{enumerate_from, flat_map}
+use Rattle.step_sim.specs.declared.turns.Turns.{Turns}
+use Rattle.audit_check.specs.declared.stop.Stop.{Stop}
+use Rattle.run_order.specs.declared.lines.ScheduleLines.{ScheduleLines}
+use Rattle.run_order.specs.Orders.{thread_line, turns_at}
+use Rattle.run_order.specs.private.Lines.{HasJoined}
+use Rattle.run_order.specs.private.Stops.{AllFrom, ArePassed, AreStops, Passes, loads_at, places_in}
+use Rattle.run_order.proofs.MergedTurns.{line_at}
+use Rattle.run_order.proofs.Stopping.{loads_none}
+
+-- stops that begin at a place or later
+pub stops_from : (early late : ℕ) (stops : List Stop) → early ≤ late → AreStops late stops → AreStops early stops
+stops_from early late [] low are = tt
+stops_from early late (stop ∷ later) low are = (omega (arith, low, are.0), are.1, are.2)
+
+tail_from : (place : ℕ) (stops : Bor (List Stop)) (left : List (Bor (List Stop))) → AllFrom place (stops ∷ left) → AllFrom place left
+tail_from place stops left all = λ k d low. all (suc k) d (omega (arith, low))
+
+-- before all of them there are no turns
+no_turns_from : (place next number : ℕ) (left : List (Bor (List Stop))) → AllFrom next left → place < next
+    → flat_map (line_at place) (enumerate_from number (places_in left)) ≡ []
+no_turns_from place next number [] all low = refl
+no_turns_from place next number (stops ∷ left) all low =
+    let none : loads_at place stops.now ≡ 0 = loads_none place next stops.now (all 0 stops (omega arith)) low in
+    ap (λ n. thread_line number n ++ flat_map (line_at place) (enumerate_from (number + 1) (places_in left))) none
+    ∙ no_turns_from place next (number + 1) left (tail_from next stops left all) low
+
+pub none_due : (place next : ℕ) (left : List (Bor (List Stop))) (turns : List Turns) (lines : ScheduleLines) → AllFrom next left → place < next
+    → HasJoined turns lines → HasJoined (turns ++ turns_at (places_in left) place) lines
+none_due place next left turns lines all low joined =
+    subst (λ (ls : List Turns). HasJoined ls lines)
+    (sym (ap (λ (ls : List Turns). turns ++ ls) (no_turns_from place next 1 left all low) ∙ append-nil turns)) joined
+
+-- and none is passed there
+pub none_passed : (place next : ℕ) (left : List (Bor (List Stop))) → AllFrom next left → place < next → ArePassed place (length left) left left
+none_passed place next left all low = record {
+  count = refl;
+  passed = λ i was is within there here.
+      let same : Some was ≡ Some is = sym there ∙ here in
+      let equal : was ≡ is = cc in
+      subst (λ (s : Bor (List Stop)). Passes place was.now s.now) equal (itself was (at_index left i was within there all));
+  left = λ i high. refl;
+}
+  where
+    itself : (was : Bor (List Stop)) → AreStops next was.now → Passes place was.now was.now
+    itself was are = record { stops = λ _. stops_from (place + 1) next was.now (omega (arith, low)) are; same = λ other _ after. refl }
+
+    at_index : (left : List (Bor (List Stop))) (i : ℕ) (was : Bor (List Stop)) → i < length left → slice_get left i ≡ Some was → AllFrom next left
+        → AreStops next was.now
+    at_index [] i was within there all = absurd cc
+    at_index (stops ∷ left) zero was within there all =
+        let same : stops ≡ was = cc in
+        subst (λ (s : Bor (List Stop)). AreStops next s.now) same (all 0 stops (omega arith))
+    at_index (stops ∷ left) (suc i) was within there all = at_index left i was (omega (arith, within)) there (tail_from next stops left all)
