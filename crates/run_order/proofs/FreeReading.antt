@@ -27,10 +27,10 @@ use Rattle.run_order.proofs.FreeWords.{first_word_tells}
 
 -- ---- results
 
-same_Ok : {A : Type 0} (x y : A) → ◌≡◌ {A = Result A ScriptFault} (Ok x) (Ok y) → x ≡ y
+pub same_Ok : {A : Type 0} (x y : A) → ◌≡◌ {A = Result A ScriptFault} (Ok x) (Ok y) → x ≡ y
 same_Ok x y e = cc
 
-bind_ok : {A B : Type 0} (r : Result A ScriptFault) (f : A → Result B ScriptFault) (y : B) → (r >>= f) ≡ Ok y → (x : A) × (r ≡ Ok x) × (f x ≡ Ok y)
+pub bind_ok : {A B : Type 0} (r : Result A ScriptFault) (f : A → Result B ScriptFault) (y : B) → (r >>= f) ≡ Ok y → (x : A) × (r ≡ Ok x) × (f x ≡ Ok y)
 bind_ok (Ok x) f y e = (x, refl, e)
 bind_ok (Err fault) f y e = absurd cc
 
@@ -183,12 +183,12 @@ six_false a b c d e f p q r s t u y ha hb hc hd he hf = rw (ha, hb, hc, hd, he, 
 
 module _ (program : Program) (threads : ℕ) where
   -- a line says nothing, or a command that no row refuses
-  record Says (before : Lines) (number : ℕ) (line : List ℕ) (after : Lines) (command : Command) : Type 0 where
-    blank : (length (words_of line) == 0) ≡ false
-    room : length before < 1024
-    said : command_in line ≡ Some command
-    admitted : IsAdmitted program threads (commands_of before) command
-    adds : before ++ (number, command) ∷ [] ≡ after
+  pub record Says (before : Lines) (number : ℕ) (line : List ℕ) (after : Lines) (command : Command) : Type 0 where
+    pub blank : (length (words_of line) == 0) ≡ false
+    pub room : length before < 1024
+    pub said : command_in line ≡ Some command
+    pub admitted : IsAdmitted program threads (commands_of before) command
+    pub adds : before ++ (number, command) ∷ [] ≡ after
 
   judged_says : (before : Lines) (number : ℕ) (line : List ℕ) (after : Lines) (command : Command) → (length (words_of line) == 0) ≡ false → length before < 1024
       → command_in line ≡ Some command → judged program threads before number command ≡ Ok after → Says before number line after command
@@ -205,7 +205,7 @@ module _ (program : Program) (threads : ℕ) where
         adds = all.6;
       }
 
-  line_says : (before : Lines) (number : ℕ) (line : List ℕ) (after : Lines) → with_line program threads before (number, line) ≡ Ok after
+  pub line_says : (before : Lines) (number : ℕ) (line : List ℕ) (after : Lines) → with_line program threads before (number, line) ≡ Ok after
       → (((length (words_of line) == 0) ≡ true) × (before ≡ after)) ⊎ ((command : Command) × Says before number line after command)
   line_says before number line after e = chosen (length (words_of line) == 0) refl (nat_le 1024 (length before)) refl (command_in line) refl e
     where
@@ -389,7 +389,7 @@ pub record FreePlan (program : Program) (threads : ℕ) (text : List ℕ) (plan 
   pub commands_are : commands_of free.lines ≡ free_commands (commands_of plan.lines)
   pub releases : AllRelease threads (commands_of plan.lines)
 
-ended_ok : (number : ℕ) (said x : Lines) → ended number said ≡ Ok x → (has_go (commands_of said) ≡ true) × (said ≡ x)
+pub ended_ok : (number : ℕ) (said x : Lines) → ended number said ≡ Ok x → (has_go (commands_of said) ≡ true) × (said ≡ x)
 ended_ok number said x e = picked (has_go (commands_of said)) (list_any (holds_for_good (commands_of said)) (commands_of said)) e
   where
     picked : (going held : Bool) → cond (not going) (Err (faults.Go number)) (cond held (Err (faults.Hold number)) (Ok said)) ≡ Ok x → (going ≡ true) × (said ≡ x)

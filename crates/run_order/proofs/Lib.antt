@@ -1,6 +1,7 @@
-pub mod Bounded
 pub mod Counts
 pub mod Due
+pub mod FewLoads
+pub mod FreeLengths
 pub mod FreeLines
 pub mod FreeMicros
 pub mod FreeReading
@@ -12,10 +13,13 @@ pub mod Leading
 pub mod LineTexts
 pub mod MergedTurns
 pub mod OneAnswer
+pub mod OrderText
+pub mod OrderWords
 pub mod Ordered
 pub mod PlacedRuns
 pub mod Replayed
 pub mod Replaying
+pub mod ScriptSizes
 pub mod Searching
 pub mod Short
 pub mod Stopping

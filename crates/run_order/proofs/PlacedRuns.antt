@@ -1,5 +1,5 @@
 -- The order of a run whose loads are placed.
-use Rattle.std.proofs.Common.{◌≡◌, ◌≢◌, inl, inr, ℕ, zero, suc, ◌+◌, ◌-◌, ◌<◌, ◌≤◌, Bool, true, false, cond, List, [], ◌∷◌, ◌++◌, append-nil, Option, Some, None, refl, sym, ap, subst, ◌∙◌, arith, length, map}
+use Rattle.std.proofs.Common.{◌≡◌, ◌≢◌, inl, inr, ℕ, zero, suc, ◌+◌, ◌-◌, ◌*◌, ◌<◌, ◌≤◌, Bool, true, false, cond, List, [], ◌∷◌, ◌++◌, append-nil, Option, Some, None, refl, sym, ap, subst, ◌∙◌, arith, length, map}
 use Rattle.std.specs.Prelude.{◌⊎◌, Ok, Err, Result, option_map, replicate, slice_get}
 use Rattle.std.proofs.lemmas.List.{length-map}
 use Rattle.std.proofs.lemmas.Option.{slice_get-map, slice_get_within}
@@ -9,6 +9,9 @@ use Rattle.patch_script.specs.declared.command.Command.{Command}
 use Rattle.patch_script.specs.Bounds.{bound_of}
 use Rattle.patch_script.specs.CodeAt.{code_at}
 use Rattle.patch_script.specs.Micros.{hold_of, start_of, total_of}
+use Rattle.machine_step.specs.declared.end.End.{End}
+use Rattle.machine_step.specs.declared.limits.Limits.{Limits}
+use Rattle.machine_step.specs.PlainStep.{Passing, PlainRun, State}
 use Rattle.machine_step.specs.Traced.{sleds_passed}
 use Rattle.traced_run.specs.Runs.{ThreadRun}
 use Rattle.step_sim.specs.declared.turns.Turns.{Turns}
@@ -30,7 +33,7 @@ use Rattle.run_order.specs.RunOrders.{AreRunPlaces, IsOrderOf}
 use Rattle.run_order.specs.private.Ordering.{cut, fault_of}
 use Rattle.run_order.specs.private.Stops.{AreStops}
 use Rattle.run_order.specs.private.Waits.{freed, waits_of}
-use Rattle.run_order.proofs.Bounded.{PassingsLimited, run_loads_few}
+use Rattle.run_order.proofs.FewLoads.{loads_few}
 use Rattle.run_order.proofs.FreeMicros.{AllRelease, free_start, free_total, places_rise}
 use Rattle.run_order.proofs.Freeing.{freed_is}
 use Rattle.run_order.proofs.Ordered.{none_there}
@@ -39,6 +42,11 @@ use Rattle.run_order.proofs.ThreadLoads.{passings_placed, rise_mapped}
 
 abbrev Answer : Type 0
 Answer = Result (List Turns) OrderFault
+
+-- no plain run makes more passings than its limits allow
+abbrev pub PassingsLimited : Type 0
+PassingsLimited = (program : Program) (limits : Limits) (thread : ℕ) (passed : List Passing) (end : End) (last : State)
+    → PlainRun program limits thread passed end last → length passed ≤ limits.passings
 
 -- ---- stops that rise
 
@@ -97,7 +105,10 @@ module _ (bounds : BoundsWithin) (program : Program) (script : List Command) (st
   pub places_few : PassingsLimited → NamesThreads statement → (i : ℕ) (own : List ℕ) → slice_get all i ≡ Some own → length own ≤ 20971520
   places_few limited names i own at =
       let run = run_at i own at in
-      run_loads_few limited program statement.setup script runs i run.0 own names.setup_is are.run run.1 run.2
+      let few = loads_few program threads script (i + 1) (sleds_passed run.0.passed) run.0.marks own run.2 in
+      let passings = limited program statement.setup.limits (i + 1) run.0.passed run.0.end run.0.last (are.run.plain i run.0 run.1) in
+      let count : length (sleds_passed run.0.passed) ≡ length run.0.passed = length-map run.0.passed (λ (p : Passing). p.sled) in
+      omega (arith, few, passings, count, names.setup_is.limits_are.passings)
 
   rise_at : (i : ℕ) (own : List ℕ) → slice_get all i ≡ Some own → Rise start total own
   rise_at i own at =

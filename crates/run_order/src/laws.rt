@@ -1,6 +1,6 @@
 //! Laws of orders. Each law is the contract of a function that does nothing.
 
-ghost use Rattle.std.specs.Prelude.{◌≡◌, ◌≤◌, ℕ, All, List, None, Ok, Result, false, length};
+ghost use Rattle.std.specs.Prelude.{◌≡◌, ◌≤◌, ℕ, All, List, None, Ok, Result, length};
 ghost use Rattle.xray_image.specs.Program.{IsAccepted, Program};
 ghost use Rattle.audit_check.specs.Statements.{MayState, Statement};
 ghost use Rattle.patch_script.specs.declared.command.Command.{Command};
@@ -9,10 +9,10 @@ ghost use Rattle.machine_step.specs.declared.setup.Setup.{Setup};
 ghost use Rattle.traced_run.specs.{Following.{AllMarksFollow}, Losses.{without_losses}, Runs.{IsRun, ThreadRun}};
 ghost use Rattle.step_sim.specs.declared.turns.Turns.{Turns as Line};
 ghost use Rattle.step_sim.specs.{Replayed.{IsReplayOf}, Schedules.{AreTurnsOf, schedule_of}};
-ghost use Rattle.step_sim.specs.WrittenSchedules.{HasWords, schedule_text};
+ghost use Rattle.step_sim.specs.WrittenSchedules.{schedule_text};
 ghost use Rattle.run_order.specs.Answers.{IsOrdered};
 ghost use Rattle.run_order.specs.declared.fault.OrderFault.{OrderFault};
-ghost use Rattle.run_order.specs.{FreeScripts.{free_commands, free_text}, Orders.{is_long}, RunOrders.{IsOrderOf}};
+ghost use Rattle.run_order.specs.{FreeScripts.{free_commands, free_text}, RunOrders.{IsOrderOf}};
 
 use audit_check::some_verdict;
 use machine_step::one_end;
@@ -20,11 +20,13 @@ use patch_script::awaits_bound_passings;
 use step_sim::{a_written_schedule_is_read, buffers_change_no_replay};
 
 /// The text of a script without its lines of `hold`, `release` and `await` reads as the script without
-/// these commands. Nothing waits in it, so it can be replayed.
+/// these commands (`reads`). Nothing waits in it, so it can be replayed. It isn't longer than the text of
+/// the script (`short`).
 pub fn a_script_reads_without_its_waits()
-    ensures { (program : Program) (threads : ℕ) (text : List ℕ) (plan : Plan) → plan_of program threads text ≡ Ok plan
+    ensures reads { (program : Program) (threads : ℕ) (text : List ℕ) (plan : Plan) → plan_of program threads text ≡ Ok plan
         → (free : Plan) × (plan_of program threads (free_text text) ≡ Ok free)
         × (commands_of free.lines ≡ free_commands (commands_of plan.lines)) × (waiting_line free.lines ≡ None) }
+    ensures short { (text : List ℕ) → length (free_text text) ≤ length text }
 {}
 
 /// The order of a run is a schedule for its threads (`turns`). The replay of this schedule, beside the
@@ -73,14 +75,19 @@ pub fn one_order_of_an_audit()
     some_verdict();
 }
 
-/// The text of an order reads as the order (`reads`), if the order isn't long and its numbers fit 32 bits.
-/// The text has at most as many bytes as a schedule may have (`short`).
+/// If an order comes of an audit, for an accepted image and a script that is read, the text of the order
+/// reads as the order (`reads`). The text has at most as many bytes as a schedule may have (`short`).
 pub fn an_order_is_a_schedule()
-    ensures reads { (threads : ℕ) (schedule : List Line) → threads ≤ 16 → All (AreTurnsOf threads) schedule
-        → All HasWords schedule → is_long schedule ≡ false
-        → schedule_of threads (schedule_text schedule) ≡ Ok schedule }
-    ensures short { (threads : ℕ) (schedule : List Line) → threads ≤ 16 → All (AreTurnsOf threads) schedule
-        → All HasWords schedule → is_long schedule ≡ false → length (schedule_text schedule) ≤ 16777216 }
+    ensures reads { (bytes : List ℕ) (program : Program) (text : List ℕ) (plan : Plan) (statement : Statement)
+        (schedule : List Line) → IsAccepted bytes program → MayState statement
+        → plan_of program statement.setup.threads text ≡ Ok plan
+        → IsOrdered program (commands_of plan.lines) statement (Ok schedule)
+        → schedule_of statement.setup.threads (schedule_text schedule) ≡ Ok schedule }
+    ensures short { (bytes : List ℕ) (program : Program) (text : List ℕ) (plan : Plan) (statement : Statement)
+        (schedule : List Line) → IsAccepted bytes program → MayState statement
+        → plan_of program statement.setup.threads text ≡ Ok plan
+        → IsOrdered program (commands_of plan.lines) statement (Ok schedule)
+        → length (schedule_text schedule) ≤ 16777216 }
 {
     a_written_schedule_is_read();
 }
