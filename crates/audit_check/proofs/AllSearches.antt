@@ -1,5 +1,5 @@
 -- What a follower finds by searches, one after the other.
-use Rattle.std.proofs.Common.{◌≡◌, ◌≢◌, ℕ, zero, suc, ◌+◌, ◌<◌, ◌≤◌, List, [], ◌∷◌, ◌++◌, append-nil, append_assoc, Option, Some, None, refl, sym, ap, subst, ◌∙◌, arith, length, map, drop}
+use Rattle.std.proofs.Common.{◌≡◌, ◌≢◌, ℕ, zero, suc, ◌+◌, ◌<◌, ◌≤◌, List, [], ◌∷◌, ◌++◌, append-nil, append_assoc, Option, Some, None, refl, sym, ap, subst, ◌∙◌, arith, add-one, length, map, drop}
 use Rattle.std.specs.Prelude.{option_and_then, option_map, replicate, slice_get, slice_set}
 use Rattle.xray_image.specs.Program.{Program}
 use Rattle.patch_script.specs.declared.command.Command.{Command}
@@ -83,10 +83,13 @@ both_before : (first later : List ℕ) (found : Option (ℕ × List ℕ)) → wi
 both_before first later None = refl
 both_before first later (Some found) = ap (λ (ps : List ℕ). Some (found.0, ps)) (sym (append_assoc first later found.1))
 
+drop_suc : (sought : List Sought) (i : ℕ) (s : Sought) → slice_get sought i ≡ Some s → drop i sought ≡ s ∷ drop (suc i) sought
+drop_suc [] i s e = absurd cc
+drop_suc (first ∷ sought) zero s e = let same : first ≡ s = cc in ap (λ (x : Sought). x ∷ sought) same
+drop_suc (first ∷ sought) (suc i) s e = drop_suc sought i s e
+
 drop_at : (sought : List Sought) (i : ℕ) (s : Sought) → slice_get sought i ≡ Some s → drop i sought ≡ s ∷ drop (i + 1) sought
-drop_at [] i s e = absurd cc
-drop_at (first ∷ sought) zero s e = let same : first ≡ s = cc in ap (λ (x : Sought). x ∷ sought) same
-drop_at (first ∷ sought) (suc i) s e = drop_at sought i s e
+drop_at sought i s e = drop_suc sought i s e ∙ ap (λ k. s ∷ drop k sought) (sym (add-one i))
 
 drop_past : (sought : List Sought) (i : ℕ) → length sought ≤ i → drop i sought ≡ []
 drop_past [] zero low = refl

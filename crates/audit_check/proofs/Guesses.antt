@@ -1,9 +1,11 @@
 -- A follower that has changed its guesses, and numbers that may be missing.
-use Rattle.std.proofs.Common.{◌≡◌, ℕ, true, false, Option, Some, None, refl, sym, ap, ◌∙◌, eq-eqb, eqb-true}
-use Rattle.std.specs.Prelude.{nat_eq, slice_get}
+use Rattle.std.proofs.Common.{◌≡◌, ℕ, List, true, false, Option, Some, None, inl, inr, refl, sym, ap, ◌∙◌, eq-eqb, eqb-true}
+use Rattle.std.specs.Prelude.{◌⊎◌, nat_eq, slice_get}
 use Rattle.std.specs.Option.{option_eq}
 use Rattle.std.proofs.lemmas.Bool.{ne_eqb}
 use Rattle.xray_image.specs.declared.sled.Sled.{Sled}
+use Rattle.xray_image.specs.declared.sled.SledKind.{SledKind}
+use Rattle.xray_image.specs.declared.sled.SledKind.TheVariants.{Entry, Exit, Tail}
 use Rattle.xray_image.specs.Program.{Program}
 use Rattle.patch_script.specs.declared.command.Command.{Command}
 use Rattle.machine_step.specs.Loads.{is_held_at, logs_args, sled_logs_args}
@@ -61,3 +63,8 @@ not_held (Some held) passing other = ne_eqb held passing (λ e. other (ap Some e
 -- whether it logs arguments
 pub logs_as : (program : Program) (k : ℕ) (sled : Sled) → slice_get program.sleds k ≡ Some sled → sled_logs_args program k ≡ logs_args sled.kind
 logs_as program k sled found = rw found refl
+
+pub no_args : (kind : SledKind) → (kind ≡ Entry) ⊎ ((kind ≡ Exit) ⊎ (kind ≡ Tail)) → logs_args kind ≡ false
+no_args kind (inl is) = ap logs_args is
+no_args kind (inr (inl is)) = ap logs_args is
+no_args kind (inr (inr is)) = ap logs_args is

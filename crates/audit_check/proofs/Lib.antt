@@ -26,8 +26,8 @@ pub mod OneSearch
 pub mod OneVerdict
 pub mod Onward
 pub mod Owning
-pub mod Reached
 pub mod PlacedLoads
+pub mod Reached
 pub mod ReadParts
 pub mod ReadRows
 pub mod Readings
@@ -39,6 +39,7 @@ pub mod RunTexts
 pub mod Running
 pub mod Searching
 pub mod Segmenting
+pub mod SledSearches
 pub mod SomeReading
 pub mod SomeRuns
 pub mod SomeVerdict

@@ -201,7 +201,7 @@ placed_step f g h bound sled mark place stops waits guesses finds next program t
         subst (λ b. b ≤ total_of program threads script) (sym bound_is) (bound_within f.thread (length sleds) (micros program threads script))
 
     -- what was found, as of the follower before it has passed waits
-    abbrev At : ℕ → ℕ → Option ℕ → ℕ → Option ℕ → Type 0
+    At : ℕ → ℕ → Option ℕ → ℕ → Option ℕ → Type 0
     At b thread hold n before =
         MatchOption before (place ≡ None) (λ from. found_by b from (passing_searches program threads (code_at program threads script) thread (is_held_at hold n) sled mark)
         ≡ option_map (λ at. (at, places_of stops)) place)

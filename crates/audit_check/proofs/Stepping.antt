@@ -90,7 +90,7 @@ judged_step f g h bound sled mark place stops waits guesses finds passes next lo
         subst (λ b. b ≤ total_of program threads script) (sym (finds has.passed program threads script has.judges))
         (bound_within f.thread f.passing (micros program threads script))
 
-    abbrev Least : Follower → Type 0
+    Least : Follower → Type 0
     Least x = MatchOption x.place (place ≡ None) (λ from. IsLeast (Reaches (code_at program threads script) bound mark
         (passing_tree program threads x.thread (is_held_at x.hold x.passing) sled) from) place)
 

@@ -1,16 +1,23 @@
 -- The waits of a script, and how many come before a place.
-use Rattle.std.proofs.Common.{◌≡◌, ℕ, zero, suc, ◌+◌, ◌-◌, ◌<◌, ◌≤◌, Bool, true, false, cond, List, [], ◌∷◌, ◌++◌, refl, sym, ap, subst, ◌∙◌, arith, inl, inr, length, length-append, map, take, get_or}
-use Rattle.std.specs.Prelude.{count_by, filter, nat_lt}
+use Rattle.std.proofs.Common.{◌≡◌, ℕ, zero, suc, ◌+◌, ◌-◌, ◌<◌, ◌≤◌, Bool, true, false, cond, List, [], ◌∷◌, ◌++◌, Option, Some, refl, sym, ap, subst, ◌∙◌, arith, inl, inr, length, length-append, length-take-le, map, take, get_or}
+use Rattle.std.specs.Prelude.{count_by, filter, nat_lt, not, replicate, slice_get, unwrap_or}
 use Rattle.std.specs.List.Sorted.{IsNonDecreasingBy, IsPartitionPoint}
 use Rattle.std.proofs.lemmas.Bool.{cases_lt}
 use Rattle.std.proofs.lemmas.Bool.Decides.{nat_tests}
+use Rattle.std.proofs.lemmas.List.{length-replicate, map-append}
 use Rattle.std.proofs.lemmas.List.Sums.{count_by-le-length, sum_by-cons}
+use Rattle.std.proofs.lemmas.Option.{slice_get-get_or}
 use Rattle.xray_image.specs.Program.{Program}
 use Rattle.patch_script.specs.declared.command.Command.{Command}
 use Rattle.patch_script.specs.declared.micro.Micro.{Micro}
-use Rattle.patch_script.specs.Micros.{micros, total_of}
+use Rattle.patch_script.specs.declared.micro.Micro.TheVariants.{End}
+use Rattle.patch_script.specs.Micros.{micro_at, micros, total_of}
+use Rattle.audit_check.specs.declared.stop.Stop.{Stop}
+use Rattle.audit_check.specs.Stops.{places_of}
+use Rattle.audit_check.proofs.JoinedStops.{one_place}
 use Rattle.run_order.specs.FreeScripts.{free_place, is_free}
 use Rattle.run_order.specs.private.Waits.{AreWaits, freed, waits_from, waits_of}
+use Rattle.run_order.proofs.Replaying.{take_next}
 
 abbrev tally : Bool → ℕ
 tally passes = cond passes 1 0
@@ -21,6 +28,12 @@ before place waits = count_by (λ wait. nat_lt wait place) waits
 
 before-cons : (place wait : ℕ) (waits : List ℕ) → before place (wait ∷ waits) ≡ tally (nat_lt wait place) + before place waits
 before-cons place wait waits = sum_by-cons (λ w. tally (nat_lt w place)) wait waits
+
+pub not_free : (b test : Bool) → not b ≡ test → b ≡ not test
+not_free true true e = absurd cc
+not_free true false e = refl
+not_free false true e = refl
+not_free false false e = absurd cc
 
 -- ---- a partition point
 
@@ -114,31 +127,36 @@ module _ (program : Program) (threads : ℕ) where
   ]
 
   -- one micro step more
-  pub waits_more : (place : ℕ) (steps : List Micro) (n : ℕ) (step : Micro) → take (n + 1) steps ≡ take n steps ++ step ∷ [] → length (take n steps) ≡ n
-      → waits_from program threads place (take (n + 1) steps)
-      ≡ waits_from program threads place (take n steps) ++ cond (is_free program threads step) [] (place + n ∷ [])
-  waits_more place steps n step next count =
-      ap (waits_from program threads place) next ∙ appended place (take n steps)
-      ∙ ap (λ m. waits_from program threads place (take n steps) ++ cond (is_free program threads step) [] (place + m ∷ [])) count
-    where
-      appended : (place : ℕ) (front : List Micro)
-          → waits_from program threads place (front ++ step ∷ [])
-          ≡ waits_from program threads place front ++ cond (is_free program threads step) [] (place + length front ∷ [])
-      appended place [] = ap (λ m. cond (is_free program threads step) [] (m ∷ [])) (let e : place ≡ place + 0 = omega arith in e)
-      appended place (first ∷ front) = by (is_free program threads first)
-        where
-          rest : waits_from program threads (place + 1) (front ++ step ∷ [])
-              ≡ waits_from program threads (place + 1) front ++ cond (is_free program threads step) [] (place + length (first ∷ front) ∷ [])
-          rest =
-              appended (place + 1) front
-              ∙ ap (λ m. waits_from program threads (place + 1) front ++ cond (is_free program threads step) [] (m ∷ []))
-              (let e : place + 1 + length front ≡ place + length (first ∷ front) = omega arith in e)
+  more_at : (place n : ℕ) (waits : List ℕ) (first free : Bool) (m : ℕ) → m ≡ place + n
+      → cond first (waits ++ cond free [] (m ∷ [])) (place ∷ waits ++ cond free [] (m ∷ []))
+      ≡ cond first waits (place ∷ waits) ++ cond free [] (place + n ∷ [])
+  more_at place n waits true free m e = ap (λ k. waits ++ cond free [] (k ∷ [])) e
+  more_at place n waits false free m e = ap (λ k. place ∷ waits ++ cond free [] (k ∷ [])) e
 
-          by : (free : Bool) → cond free (waits_from program threads (place + 1) (front ++ step ∷ [])) (place ∷ waits_from program threads (place + 1) (front ++ step ∷ []))
-              ≡ cond free (waits_from program threads (place + 1) front) (place ∷ waits_from program threads (place + 1) front)
-              ++ cond (is_free program threads step) [] (place + length (first ∷ front) ∷ [])
-          by true = rest
-          by false = ap (λ (ws : List ℕ). place ∷ ws) rest
+  waits_appended : (place : ℕ) (front : List Micro) (step : Micro)
+      → waits_from program threads place (front ++ step ∷ [])
+      ≡ waits_from program threads place front ++ cond (is_free program threads step) [] (place + length front ∷ [])
+  waits_appended place [] step = ap (λ m. cond (is_free program threads step) [] (m ∷ [])) (let e : place ≡ place + 0 = omega arith in e)
+  waits_appended place (first ∷ front) step =
+      let rest = waits_appended (place + 1) front step in
+      ap (λ (ws : List ℕ). cond (is_free program threads first) ws (place ∷ ws)) rest
+      ∙ more_at place (length (first ∷ front)) (waits_from program threads (place + 1) front) (is_free program threads first) (is_free program threads step)
+      (place + 1 + length front) (omega arith)
+
+  pub waits_next : (script : List Command) (n : ℕ) (micro : Micro) (free : Bool) → n < total_of program threads script → micro ≡ micro_at program threads script n
+      → is_free program threads micro ≡ free
+      → waits_from program threads 0 (take (n + 1) (micros program threads script))
+      ≡ waits_from program threads 0 (take n (micros program threads script)) ++ cond free [] (n ∷ [])
+  waits_next script n micro free low is free_is =
+      let steps : List Micro = micros program threads script in
+      let step : Micro = get_or steps n End in
+      let there : slice_get steps n ≡ Some step = slice_get-get_or steps n End low in
+      let same : step ≡ micro = sym (is ∙ ap (λ (o : Option Micro). unwrap_or o End) there) in
+      let count : length (take n steps) ≡ n = length-take-le n steps (omega (arith, low)) in
+      ap (waits_from program threads 0) (take_next steps n step there) ∙ waits_appended 0 (take n steps) step
+      ∙ ap (λ (m : Micro). waits_from program threads 0 (take n steps) ++ cond (is_free program threads m) [] (0 + length (take n steps) ∷ [])) same
+      ∙ ap (λ b. waits_from program threads 0 (take n steps) ++ cond b [] (0 + length (take n steps) ∷ [])) free_is
+      ∙ ap (λ k. waits_from program threads 0 (take n steps) ++ cond free [] (k ∷ [])) (let e : 0 + length (take n steps) ≡ n = omega (arith, count) in e)
 
 pub waits_sorted : (waits : List ℕ) → AreWaits waits → IsNonDecreasingBy (λ wait. wait) waits
 waits_sorted waits are =
@@ -148,3 +166,36 @@ waits_sorted waits are =
 pub few_waits : (waits : List ℕ) (place : ℕ) → AreWaits waits → before place waits ≤ place
 few_waits waits place are =
     subst (λ (ws : List ℕ). before place ws ≤ place) (sym are.are) (few_before are.program are.threads are.script place)
+
+-- ---- the stops of a thread
+
+pub freed_more : (f : ℕ → ℕ) (stops : List Stop) (i : ℕ) (stop : Stop) → slice_get stops i ≡ Some stop
+    → map f (places_of (take (i + 1) stops)) ≡ map f (places_of (take i stops)) ++ replicate stop.loads (f stop.place)
+freed_more f stops i stop there =
+    ap (λ (ss : List Stop). map f (places_of ss)) (take_next stops i stop there)
+    ∙ ap (map f) (one_place (take i stops) stop) ∙ map-append f (places_of (take i stops)) (replicate stop.loads stop.place)
+    ∙ ap (λ (ps : List ℕ). map f (places_of (take i stops)) ++ ps) (each_same stop.loads stop.place)
+  where
+    each_same : (n place : ℕ) → map f (replicate n place) ≡ replicate n (f place)
+    each_same zero place = refl
+    each_same (suc n) place = ap (λ (ps : List ℕ). f place ∷ ps) (each_same n place)
+
+-- no more than all of them
+pub few_more : (stops : List Stop) (i : ℕ) (stop : Stop) → slice_get stops i ≡ Some stop
+    → length (places_of (take i stops)) + stop.loads ≤ length (places_of stops)
+few_more [] i stop there = absurd cc
+few_more (first ∷ stops) zero stop there =
+    let same : first ≡ stop = cc in
+    omega (
+      arith,
+      ap (λ (s : Stop). s.loads) same,
+      length-append (replicate first.loads first.place) (places_of stops),
+      length-replicate first.loads first.place,
+    )
+few_more (first ∷ stops) (suc i) stop there =
+    omega (
+      arith,
+      few_more stops i stop there,
+      length-append (replicate first.loads first.place) (places_of (take i stops)),
+      length-append (replicate first.loads first.place) (places_of stops),
+    )

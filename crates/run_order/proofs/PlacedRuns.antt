@@ -1,8 +1,8 @@
 -- The order of a run whose loads are placed.
-use Rattle.std.proofs.Common.{◌≡◌, ◌≢◌, inl, inr, ℕ, zero, suc, ◌+◌, ◌-◌, ◌*◌, ◌<◌, ◌≤◌, Bool, true, false, cond, List, [], ◌∷◌, ◌++◌, append-nil, Option, Some, None, refl, sym, ap, subst, ◌∙◌, arith, length, map}
-use Rattle.std.specs.Prelude.{◌⊎◌, Ok, Err, Result, option_map, replicate, slice_get}
+use Rattle.std.proofs.Common.{◌≡◌, ◌≢◌, inl, inr, ℕ, zero, suc, ◌+◌, ◌-◌, ◌*◌, ◌<◌, ◌≤◌, Bool, true, false, cond, List, [], ◌∷◌, ◌++◌, append-nil, Option, Some, None, refl, sym, ap, subst, ◌∙◌, arith, length, map, get_or}
+use Rattle.std.specs.Prelude.{◌⊎◌, All, Ok, Err, Result, option_map, replicate, slice_get}
 use Rattle.std.proofs.lemmas.List.{length-map}
-use Rattle.std.proofs.lemmas.Option.{slice_get-map, slice_get_within}
+use Rattle.std.proofs.lemmas.Option.{slice_get-get_or, slice_get-map, slice_get_within}
 use Rattle.xray_image.specs.Program.{Program}
 use Rattle.handler_word.specs.declared.mark.Mark.{Mark}
 use Rattle.patch_script.specs.declared.command.Command.{Command}
@@ -171,6 +171,48 @@ module _ (bounds : BoundsWithin) (program : Program) (script : List Command) (st
               ∙ ap (λ t. ordered (start_of program threads (free_commands script)) t (map (map (freed waits)) all)) end
               ∙ ap (ordered (start_of program threads (free_commands script)) (total_of program threads (free_commands script))) all_freed;
         }
+
+  -- the same of stops in some kind of lists
+  module _ (V : Type 0) (items : V → List Stop) (owns others : List V) (all_is : map (λ v. places_of (items v)) owns ≡ all) where
+    own_at : (k : ℕ) (d : V) → k < length owns → slice_get all k ≡ Some (places_of (items (get_or owns k d)))
+    own_at k d low =
+        ap (λ (ls : List (List ℕ)). slice_get ls k) (sym all_is) ∙ slice_get-map (λ v. places_of (items v)) owns k
+        ∙ ap (option_map (λ v. places_of (items v))) (slice_get-get_or owns k d low)
+
+    pub loads_fit : PassingsLimited → NamesThreads statement → All (λ v. length (places_of (items v)) < 4294967296) owns
+    loads_fit limited names k d low =
+        let few = places_few limited names k (places_of (items (get_or owns k d))) (own_at k d low) in
+        omega (arith, few)
+
+    module _ (waits : List ℕ) (waits_are : waits ≡ waits_of program threads script)
+        (freed_are : map (λ v. places_of (items v)) others ≡ map (λ v. map (freed waits) (places_of (items v))) owns) where
+      pub others_count : length others ≡ length owns
+      others_count =
+          sym (length-map others (λ v. places_of (items v))) ∙ ap length freed_are ∙ length-map owns (λ v. map (freed waits) (places_of (items v)))
+
+      pub others_few : length others ≡ length runs
+      others_few =
+          others_count ∙ sym (length-map owns (λ v. places_of (items v))) ∙ ap length all_is ∙ load.count
+
+      pub others_freed : map (λ v. places_of (items v)) others ≡ map (map (freed waits)) all
+      others_freed = freed_are ∙ twice owns ∙ ap (map (map (freed waits))) all_is
+        where
+          twice : (vs : List V) → map (λ v. map (freed waits) (places_of (items v))) vs ≡ map (map (freed waits)) (map (λ v. places_of (items v)) vs)
+          twice [] = refl
+          twice (v ∷ vs) = ap (λ (ls : List (List ℕ)). map (freed waits) (places_of (items v)) ∷ ls) (twice vs)
+
+      pub others_rise : All (λ v. AreJoined (items v)) others → All (λ v. AreStops (freed waits start) (items v)) others
+      others_rise joined k d low =
+          let within : k < length owns = omega (arith, low, others_count) in
+          let there : slice_get (map (λ v. places_of (items v)) others) k ≡ Some (places_of (items (get_or others k d))) =
+          slice_get-map (λ v. places_of (items v)) others k ∙ ap (option_map (λ v. places_of (items v))) (slice_get-get_or others k d low) in
+          let here : slice_get (map (λ v. map (freed waits) (places_of (items v))) owns) k ≡ Some (map (freed waits) (places_of (items (get_or owns k d)))) =
+          slice_get-map (λ v. map (freed waits) (places_of (items v))) owns k
+          ∙ ap (option_map (λ v. map (freed waits) (places_of (items v)))) (slice_get-get_or owns k d within) in
+          let both : ◌≡◌ {A = Option (List ℕ)} (Some (places_of (items (get_or others k d)))) (Some (map (freed waits) (places_of (items (get_or owns k d))))) =
+          sym there ∙ ap (λ (ls : List (List ℕ)). slice_get ls k) freed_are ∙ here in
+          let same : places_of (items (get_or others k d)) ≡ map (freed waits) (places_of (items (get_or owns k d))) = cc in
+          stops_rise waits waits_are k (places_of (items (get_or owns k d))) (items (get_or others k d)) (own_at k d within) same (joined k d low)
 
   pub answer_is : EndsAgree program script statement runs → MarksAgree program script statement runs → (schedule : List Turns)
       → IsOrderOf program threads script runs schedule → IsOrdered program script statement (cut schedule)

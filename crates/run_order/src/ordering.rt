@@ -38,6 +38,7 @@ pub fn order_run(
 {
     awaits_bound_passings();
     passings_are_limited();
+    script.micro_steps_are_few();
     let threads = match place_loads(alloc, image, script, audit) {
         Ok(threads) => threads,
         Err(fault) => return Err(order_fault(fault)),

@@ -23,19 +23,19 @@ gates-init c = record {
 pub sled-requires : goal.sled-requires
 sled-requires c = at_gate c.gates.cpu.want c.want.result c.in-Gate.passing c.want.ensures.want c.in-Gate.is
 
-pub pass-requires : goal.pass-requires
-pass-requires c = at_gate c.gates.cpu.want c.want.result c.in-Gate.passing c.want.ensures.want c.in-Gate.is
+pub pass-event-requires : goal.pass-event-requires
+pass-event-requires c = at_gate c.gates.cpu.want c.want.result c.in-Gate.passing c.want.ensures.want c.in-Gate.is
 
-pub judge-requires-clause-sled : goal.judge-requires-clause-sled
-judge-requires-clause-sled c = subst (λ (p : Program). c.sled.result < length p.sleds) (sym c.gates.invariant.image) c.sled.ensures.within
+pub judge-found-requires-clause-sled : goal.judge-found-requires-clause-sled
+judge-found-requires-clause-sled c = subst (λ (p : Program). c.sled.result < length p.sleds) (sym c.gates.invariant.image) c.sled.ensures.within
 
 pub gates-preserved : goal.gates-preserved
 gates-preserved c =
     let s = c.args.cpu.now in
     let t = c.gates.cpu in
-    let u = c.pass.new.self in
+    let u = c.pass-event.new.self in
     let kept = c.gates.invariant in
-    let made = c.pass.ensures in
+    let made = c.pass-event.ensures in
     let mark = c.mark_at-mark.result in
     record {
       same = same_thread s t u kept.same made.thread;
@@ -52,7 +52,7 @@ gates-preserved c =
           c.mark_at-mark.ensures ∙ ap (mark_or_skipped c.args.marks.now.items) (c.want.ensures.gate c.in-Gate.passing c.in-Gate.is) in
           stopped_next s.program threads script c.args.marks.now.items passed t u found.0 c.gates.follower c.judge-found.new.self c.sled.result mark
           c.gates.stops.items c.add_stops.new.stops.items c.judge-found.result found.1 found.2 mark_is made.mark c.judge-found.ensures.judged
-          c.judge-found.ensures.placed c.in_ok-add_stops.ensures (kept.walked threads script passed end last plain none has);
+          c.judge-found.ensures.placed c.in_ok-add_stops-in-Gate.ensures (kept.walked threads script passed end last plain none has);
     }
 
 pub returns-in-Done-clause-end : goal.returns-in-Done-clause-end

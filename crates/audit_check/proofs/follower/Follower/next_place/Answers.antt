@@ -9,11 +9,11 @@ returns-in_err-place-clause-found c =
 
 pub returns-in_err-from-clause-found : goal.returns-in_err-from-clause-found
 returns-in_err-from-clause-found c =
-    next_held c.args.self.now c.args.sled c.args.mark c.in_ok-place.place c.args.bound c.released-from.result (c.released-from.ensures.free, c.released-from.ensures.held)
-    c.args.stops.now c.from_residual.result c.in_ok-place.was c.in_err-from.was c.from_residual.ensures
+    next_held c.args.self.now c.args.sled c.args.mark c.in_ok-place.place c.args.bound c.released.result (c.released.ensures.free, c.released.ensures.held)
+    c.args.stops.now c.from_residual-in_err-from.result c.in_ok-place.was c.in_err-from.was c.from_residual-in_err-from.ensures
 
 pub returns-clause-found : goal.returns-clause-found
 returns-clause-found c =
-    next_sought c.args.self.now c.args.sled c.args.mark c.in_ok-place.place c.args.bound c.released-from.result (c.released-from.ensures.free, c.released-from.ensures.held)
-    c.released-from.new.self c.sled.result c.sought_for-sought.result.now c.in_ok-from.from c.find_all.new.stops c.find_all.result c.released-from.ensures.same
+    next_sought c.args.self.now c.args.sled c.args.mark c.in_ok-place.place c.args.bound c.released.result (c.released.ensures.free, c.released.ensures.held)
+    c.released.new.self c.sled.result c.sought_for-sought.result.now c.in_ok-from.from c.find_all.new.stops c.find_all.result c.released.ensures.same
     c.in_ok-place.was c.in_ok-from.was c.sled.ensures c.sought_for-sought.ensures.searches c.find_all.ensures.found
