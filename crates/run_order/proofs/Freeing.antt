@@ -128,14 +128,14 @@ module _ (program : Program) (threads : ℕ) where
 
   -- one micro step more
   more_at : (place n : ℕ) (waits : List ℕ) (first free : Bool) (m : ℕ) → m ≡ place + n
-      → cond first (waits ++ cond free [] (m ∷ [])) (place ∷ waits ++ cond free [] (m ∷ []))
-      ≡ cond first waits (place ∷ waits) ++ cond free [] (place + n ∷ [])
+      → cond first (waits ++ cond free [] (m ∷ [])) (place ∷ (waits ++ cond free [] (m ∷ [])))
+      ≡ cond first waits (place ∷ waits) ++ cond free [] ((place + n) ∷ [])
   more_at place n waits true free m e = ap (λ k. waits ++ cond free [] (k ∷ [])) e
-  more_at place n waits false free m e = ap (λ k. place ∷ waits ++ cond free [] (k ∷ [])) e
+  more_at place n waits false free m e = ap (λ k. place ∷ (waits ++ cond free [] (k ∷ []))) e
 
   waits_appended : (place : ℕ) (front : List Micro) (step : Micro)
       → waits_from program threads place (front ++ step ∷ [])
-      ≡ waits_from program threads place front ++ cond (is_free program threads step) [] (place + length front ∷ [])
+      ≡ waits_from program threads place front ++ cond (is_free program threads step) [] ((place + length front) ∷ [])
   waits_appended place [] step = ap (λ m. cond (is_free program threads step) [] (m ∷ [])) (let e : place ≡ place + 0 = omega arith in e)
   waits_appended place (first ∷ front) step =
       let rest = waits_appended (place + 1) front step in
@@ -154,8 +154,8 @@ module _ (program : Program) (threads : ℕ) where
       let same : step ≡ micro = sym (is ∙ ap (λ (o : Option Micro). unwrap_or o End) there) in
       let count : length (take n steps) ≡ n = length-take-le n steps (omega (arith, low)) in
       ap (waits_from program threads 0) (take_next steps n step there) ∙ waits_appended 0 (take n steps) step
-      ∙ ap (λ (m : Micro). waits_from program threads 0 (take n steps) ++ cond (is_free program threads m) [] (0 + length (take n steps) ∷ [])) same
-      ∙ ap (λ b. waits_from program threads 0 (take n steps) ++ cond b [] (0 + length (take n steps) ∷ [])) free_is
+      ∙ ap (λ (m : Micro). waits_from program threads 0 (take n steps) ++ cond (is_free program threads m) [] ((0 + length (take n steps)) ∷ [])) same
+      ∙ ap (λ b. waits_from program threads 0 (take n steps) ++ cond b [] ((0 + length (take n steps)) ∷ [])) free_is
       ∙ ap (λ k. waits_from program threads 0 (take n steps) ++ cond free [] (k ∷ [])) (let e : 0 + length (take n steps) ≡ n = omega (arith, count) in e)
 
 pub waits_sorted : (waits : List ℕ) → AreWaits waits → IsNonDecreasingBy (λ wait. wait) waits

@@ -1,5 +1,5 @@
 -- The order of a run whose loads are placed.
-use Rattle.std.proofs.Common.{◌≡◌, ◌≢◌, inl, inr, ℕ, zero, suc, ◌+◌, ◌-◌, ◌*◌, ◌<◌, ◌≤◌, Bool, true, false, cond, List, [], ◌∷◌, ◌++◌, append-nil, Option, Some, None, refl, sym, ap, subst, ◌∙◌, arith, length, map, get_or}
+use Rattle.std.proofs.Common.{◌≡◌, ◌≢◌, inl, inr, ℕ, Vec, Global, zero, suc, ◌+◌, ◌-◌, ◌*◌, ◌<◌, ◌≤◌, Bool, true, false, cond, List, [], ◌∷◌, ◌++◌, append-nil, Option, Some, None, refl, sym, ap, subst, ◌∙◌, arith, length, map, get_or}
 use Rattle.std.specs.Prelude.{◌⊎◌, All, Ok, Err, Result, option_map, replicate, slice_get}
 use Rattle.std.proofs.lemmas.List.{length-map}
 use Rattle.std.proofs.lemmas.Option.{slice_get-get_or, slice_get-map, slice_get_within}
@@ -19,7 +19,7 @@ use Rattle.audit_check.specs.declared.placing.PlaceFault.{PlaceFault}
 use Rattle.audit_check.specs.declared.placing.PlaceFault.TheVariants as places
 use Rattle.audit_check.specs.declared.stop.Stop.{Stop}
 use Rattle.audit_check.specs.Places.{load_places}
-use Rattle.audit_check.specs.Placings.{AreLoadPlaces, ArePlaced}
+use Rattle.audit_check.specs.Placings.{AreLoadPlaces, ArePlaced, all_places, placed_by}
 use Rattle.audit_check.specs.Rows.{AreRunsOf}
 use Rattle.audit_check.specs.Statements.{NamesThreads, Statement}
 use Rattle.audit_check.specs.Stops.{AreJoined, places_of}
@@ -40,7 +40,7 @@ use Rattle.run_order.proofs.Ordered.{none_there}
 use Rattle.run_order.proofs.Replayed.{BoundsWithin, run_exists, sleds_exist, starts_within}
 use Rattle.run_order.proofs.ThreadLoads.{passings_placed, rise_mapped}
 
-abbrev Answer : Type 0
+abbrev pub Answer : Type 0
 Answer = Result (List Turns) OrderFault
 
 -- no plain run makes more passings than its limits allow
@@ -233,3 +233,37 @@ pub fault_is : (program : Program) (script : List Command) (statement : Statemen
 fault_is program script statement (places.Ends thread) placed = record { runs = placed.runs; are = placed.are; answer_is = placed.placing }
 fault_is program script statement (places.Marks thread) placed = record { runs = placed.runs; are = placed.are; answer_is = placed.placing }
 fault_is program script statement places.NoMemory placed = absurd placed.placing
+
+-- what comes of loads that are placed
+abbrev pub Placing : Type 0
+Placing = Result (Vec (Vec Stop Global) Global) PlaceFault
+
+abbrev pub ArePlacedOr : Program → List Command → Statement → Placing → Type 0
+ArePlacedOr program script statement answer = (answer ≡ Err places.NoMemory) ⊎ ArePlaced program script statement (placed_by answer)
+
+pub fault_answer : (program : Program) (script : List Command) (statement : Statement) (answer : Placing) (fault : PlaceFault) (given : OrderFault)
+    → given ≡ fault_of fault → answer ≡ Err fault → ArePlacedOr program script statement answer
+    → (given ≡ NoMemory) ⊎ IsOrdered program script statement (Err given)
+fault_answer program script statement answer fault given is same placed = by_case (subst (ArePlacedOr program script statement) same placed)
+  where
+    by_case : ArePlacedOr program script statement (Err fault) → (given ≡ NoMemory) ⊎ IsOrdered program script statement (Err given)
+    by_case (inl none) =
+        let out : fault ≡ places.NoMemory = cc in
+        inl (is ∙ ap fault_of out)
+    by_case (inr are) = inr (subst (λ (f : OrderFault). IsOrdered program script statement (Err f)) (sym is) (fault_is program script statement fault are))
+
+pub all_are_placed : (program : Program) (script : List Command) (statement : Statement) (answer : Placing) (threads : Vec (Vec Stop Global) Global)
+    → answer ≡ Ok threads → ArePlacedOr program script statement answer → ArePlaced program script statement (Ok (all_places threads))
+all_are_placed program script statement answer threads same placed = by_case (subst (ArePlacedOr program script statement) same placed)
+  where
+    by_case : ArePlacedOr program script statement (Ok threads) → ArePlaced program script statement (Ok (all_places threads))
+    by_case (inl none) = absurd cc
+    by_case (inr are) = are
+
+-- ---- a script
+
+-- the places at which the threads start, and at which the script ends, by its own program and threads
+pub own_place : (of : Program → ℕ → List Command → ℕ) (program own : Program) (number owns : ℕ) (script : List Command) (place : ℕ) → own ≡ program → owns ≡ number
+    → place ≡ of own owns script → place ≡ of program number script
+own_place of program own number owns script place same equal is =
+    is ∙ ap (λ (p : Program). of p owns script) same ∙ ap (λ n. of program n script) equal

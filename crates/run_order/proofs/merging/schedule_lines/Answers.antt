@@ -28,9 +28,9 @@ loop-place-init c =
           (up_to_first c.args.start c.args.total old c.add_turns.new.left.items c.new-lines.result c.add_turns.new.lines c.new-lines.ensures.joined
           c.new-lines.ensures.steps c.in_ok-add_turns.ensures.passed stops c.in_ok-add_turns.ensures.added c.in_ok-add_turns.ensures.steps);
       none =
-          subst (AllFrom c.next_place-next.result) c.deref-3.ensures.value
+          subst (AllFrom c.next_place-next.result) c.deref.ensures.value
           (c.next_place-next.ensures (c.args.start + 1)
-          (subst (AllFrom (c.args.start + 1)) (sym c.deref-3.ensures.value)
+          (subst (AllFrom (c.args.start + 1)) (sym c.deref.ensures.value)
           (stops_left c.args.start old c.add_turns.new.left.items c.in_ok-add_turns.ensures.passed stops)));
     }
 

@@ -1,5 +1,5 @@
-use Rattle.std.proofs.Common.{◌≡◌, ◌+◌, ◌<◌, ◌++◌, ℕ, List, ap, arith, length, map, sym, take, ◌∙◌}
-use Rattle.std.specs.Prelude.{replicate}
+use Rattle.std.proofs.Common.{◌≡◌, ◌+◌, ◌<◌, ◌++◌, ℕ, List, Some, ap, arith, get_or, length, map, sym, take, ◌∙◌}
+use Rattle.std.specs.Prelude.{replicate, slice_get}
 use Rattle.std.proofs.lemmas.List.{length-map}
 use Rattle.std.proofs.lemmas.Option.{slice_get-get_or}
 use Rattle.audit_check.specs.declared.stop.Stop.{Stop}
@@ -14,13 +14,14 @@ loop-stop-preserved c =
     let i : ℕ = c.loop-stop.stop-index in
     let f : ℕ → ℕ = freed c.args.waits.now.places.items in
     let kept = c.loop-stop.invariant in
-    let there = slice_get-get_or stops i _ c.loop-stop-test.true in
-    let few = few_more stops i _ there in
+    let stop : Stop = get_or stops i (record { place = 0; loads = 0 }) in
+    let there : slice_get stops i ≡ Some stop = slice_get-get_or stops i (record { place = 0; loads = 0 }) c.loop-stop-test.true in
+    let few = few_more stops i stop there in
     let count : length (places_of c.loop-stop.free.items) ≡ length (places_of (take i stops)) = ap length kept.places ∙ length-map (places_of (take i stops)) f in
     record {
       places =
-          c.in_ok-add_stop.ensures.places ∙ ap (λ (ps : List ℕ). ps ++ replicate _ c.free_place-place.result) kept.places
-          ∙ ap (λ place. map f (places_of (take i stops)) ++ replicate _ place) c.free_place-place.ensures
-          ∙ sym (freed_more f stops i _ there);
+          c.in_ok-add_stop.ensures.places ∙ ap (λ (ps : List ℕ). ps ++ replicate stop.loads c.free_place-place.result) kept.places
+          ∙ ap (λ place. map f (places_of (take i stops)) ++ replicate stop.loads place) c.free_place-place.ensures
+          ∙ sym (freed_more f stops i stop there);
       joined = c.in_ok-add_stop.ensures.joined (omega (arith, few, count, c.requires.few)) kept.joined;
     }
