@@ -2,7 +2,6 @@
 use Rattle.std.proofs.Common.{◌≡◌, ℕ, zero, suc, ◌+◌, ◌-◌, Bool, true, false, cond, Option, Some, None, refl, sym, ap, subst, ◌∙◌}
 use Rattle.std.specs.Prelude.{not, option_map}
 use Rattle.xray_image.specs.Program.{Program}
-use Rattle.patch_script.specs.declared.command.Command.{Command}
 use Rattle.patch_script.specs.CodeAt.{code_at}
 use Rattle.sled_words.specs.Words.{arg_handler_word, handler_word}
 use Rattle.audit_check.specs.declared.follower.Follower.{Follower}

@@ -1,14 +1,13 @@
 -- Threads whose loads are placed.
-use Rattle.std.proofs.Common.{◌≡◌, ℕ, zero, suc, ◌+◌, ◌-◌, ◌==◌, ◌<◌, ◌≤◌, Bool, true, false, List, [], ◌∷◌, ◌++◌, append-nil, length, length-append, map, take, Option, Some, None, refl, sym, ap, subst, ◌∙◌, arith, inl, inr}
+use Rattle.std.proofs.Common.{◌≡◌, ℕ, zero, suc, ◌+◌, ◌-◌, ◌==◌, ◌<◌, Bool, true, false, List, [], ◌∷◌, ◌++◌, append-nil, length, length-append, take, Option, Some, None, refl, sym, ap, subst, ◌∙◌, arith, inl, inr}
 use Rattle.std.specs.Prelude.{◌&&◌, ◌↔◌, IsTrue, Ok, Err, is_some, option_and_then, option_map, slice_get}
 use Rattle.std.proofs.lemmas.Bool.{cases_lt}
 use Rattle.std.proofs.lemmas.Option.{slice_get_within}
 use Rattle.xray_image.specs.Program.{Program}
 use Rattle.handler_word.specs.declared.mark.Mark.{Mark}
 use Rattle.patch_script.specs.declared.command.Command.{Command}
-use Rattle.patch_script.specs.Bounds.{bound_of}
 use Rattle.patch_script.specs.CodeAt.{code_at}
-use Rattle.patch_script.specs.Micros.{hold_of, start_of}
+use Rattle.patch_script.specs.Micros.{start_of}
 use Rattle.machine_step.specs.declared.end.End.{End}
 use Rattle.machine_step.specs.PlainStep.{Passing}
 use Rattle.machine_step.specs.Traced.{Traced, sleds_passed}
@@ -20,7 +19,7 @@ use Rattle.audit_check.specs.declared.placing.PlaceFault.{PlaceFault}
 use Rattle.audit_check.specs.declared.placing.PlaceFault.TheVariants.{Ends as Differs, Marks as Follows}
 use Rattle.audit_check.specs.declared.placing.PlacedThread.{PlacedThread}
 use Rattle.audit_check.specs.declared.stop.Stop.{Stop}
-use Rattle.audit_check.specs.Places.{load_places, places_from}
+use Rattle.audit_check.specs.Places.{load_places}
 use Rattle.audit_check.specs.Placings.{IsPlacing}
 use Rattle.audit_check.specs.Rows.{EndsAgree, MarksAgree}
 use Rattle.audit_check.specs.Statements.{Statement}

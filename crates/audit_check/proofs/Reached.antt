@@ -1,13 +1,11 @@
 -- What searches find is a way of least places to the mark.
-use Rattle.std.proofs.Common.{◌≡◌, ◌≢◌, ℕ, ◌==◌, ◌≤◌, Bool, true, false, cond, List, [], ◌∷◌, Option, Some, None, refl, sym, ap, subst, ◌∙◌, arith}
+use Rattle.std.proofs.Common.{◌≡◌, ℕ, ◌==◌, ◌≤◌, Bool, true, false, cond, List, [], ◌∷◌, Option, Some, None, refl, sym, ap, subst, ◌∙◌, arith}
 use Rattle.std.specs.Prelude.{◌||◌, not, option_map}
 use Rattle.std.proofs.lemmas.Bool.{eqb-false, not-true}
 use Rattle.xray_image.specs.Program.{Program}
 use Rattle.handler_word.specs.declared.mark.Mark.{Mark}
 use Rattle.handler_word.specs.declared.mark.Mark.TheVariants.{Skipped, NoHandler, NotLogging, Recorded, RecordedArg}
-use Rattle.sled_words.specs.declared.part.Part.TheVariants.{Head}
-use Rattle.sled_words.specs.Parts.{patched_head}
-use Rattle.sled_words.specs.Words.{arg_handler_word, handler_word, release_word, state_word, word_of}
+use Rattle.sled_words.specs.Words.{arg_handler_word, handler_word, release_word}
 use Rattle.machine_step.specs.Loads.{sled_logs_args}
 use Rattle.audit_check.specs.Places.{Search, either_handler, found_by, handler_searches, has_arg_handler, has_handler, head_searches, is_patched, is_set, log_records, one_load, passing_searches, patched_search}
 use Rattle.audit_check.specs.private.Turns.{IsLeast}
@@ -194,9 +192,13 @@ module _ (program : Program) (threads : ℕ) (code : ℕ → ℕ → ℕ) (bound
   passing_reached thread true sled mark from found e =
       let release : Search = record { test = is_set program threads code (release_word program thread); loads = λ _. 0 } in
       let on = next_at release (head_searches program threads code sled mark) from found e in
-      end_at mark (passing_tree program threads thread true sled) from found.0 on.4.0.0 on.4.2
-      (on.0, on.1, on.2, eqb-false (code on.0 (release_word program thread)) 0 (not-true (code on.0 (release_word program thread) == 0) on.3),
-      head_reached sled mark on.0 on.4.0 on.4.1)
+      end_at mark (passing_tree program threads thread true sled) from found.0 on.4.0.0 on.4.2 (
+        on.0,
+        on.1,
+        on.2,
+        eqb-false (code on.0 (release_word program thread)) 0 (not-true (code on.0 (release_word program thread) == 0) on.3),
+        head_reached sled mark on.0 on.4.0 on.4.1,
+      )
   passing_reached thread false sled mark from found e = head_reached sled mark from found e
 
   -- the place of the last search is the least at which the passing may end with its mark

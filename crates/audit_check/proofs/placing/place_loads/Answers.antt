@@ -19,7 +19,7 @@ use Rattle.audit_check.specs.private.Placed.{IsThreadPlaced}
 use Rattle.audit_check.specs.private.Walks.{first_of}
 use Rattle.audit_check.proofs.Agreeing.{same_at}
 use Rattle.audit_check.proofs.Deciding.{entry_count, entry_number, entry_within, run_at, said_at}
-use Rattle.audit_check.proofs.PlacedLoads.{PlacedUpTo, all_placed, faults, placed_next, placed_none}
+use Rattle.audit_check.proofs.PlacedLoads.{PlacedUpTo, all_placed, faults, placed_next}
 use Rattle.audit_check.proofs.SomeRuns.{some_runs}
 use Rattle.audit_check.proofs.placing.place_loads.Goals as goal
 

@@ -1,4 +1,4 @@
-use Rattle.std.proofs.Common.{◌≡◌, ◌+◌, ◌<◌, Bor, List, length, ap, arith, refl, subst, sym, ◌∙◌}
+use Rattle.std.proofs.Common.{◌≡◌, ◌+◌, ◌<◌, Bor, length, ap, refl, subst, sym, ◌∙◌}
 use Rattle.xray_image.specs.Program.{Program}
 use Rattle.audit_check.specs.private.Placed.{HasStopped}
 use Rattle.audit_check.specs.private.Walks.{mark_or_skipped}

@@ -1,4 +1,4 @@
-use Rattle.std.proofs.Common.{◌≡◌, ◌≢◌, ◌+◌, ◌∷◌, ◌++◌, [], List, ap, append_assoc, arith, subst, sym, ◌∙◌}
+use Rattle.std.proofs.Common.{◌≡◌, ◌≢◌, ◌∷◌, ◌++◌, [], List, ap, append_assoc, arith, subst, sym, ◌∙◌}
 use Rattle.audit_check.specs.declared.stop.Stop.{Stop}
 use Rattle.audit_check.specs.Stops.{AreJoined, places_of}
 use Rattle.audit_check.proofs.JoinedStops.{joined_both, joined_more, places_both}

@@ -1,4 +1,4 @@
-use Rattle.std.proofs.Common.{◌<◌, arith, length, subst, sym, ◌∙◌}
+use Rattle.std.proofs.Common.{◌<◌, arith, length, ◌∙◌}
 use Rattle.std.proofs.lemmas.List.{length-set}
 use Rattle.std.proofs.lemmas.Option.{slice_get-get_or}
 use Rattle.audit_check.proofs.AllSearches.{goes_next, none_after}

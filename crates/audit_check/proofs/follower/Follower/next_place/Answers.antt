@@ -1,5 +1,3 @@
-use Rattle.std.proofs.Common.{refl}
-use Rattle.audit_check.proofs.Guesses.{same_then}
 use Rattle.audit_check.proofs.NextSearches.{next_held, next_none, next_sought}
 use Rattle.audit_check.proofs.follower.Follower.next_place.Goals as goal
 
