@@ -2,6 +2,7 @@
 use Rattle.std.proofs.Common.{◌≡◌, ℕ, suc, ◌+◌, ◌≤◌, ◌∙◌, Bool, true, false, cond, List, [], ◌∷◌, ◌++◌, refl, sym, ap, subst, arith, length, length-append}
 use Rattle.std.specs.Prelude.{◌==◌, filter, not}
 use Rattle.std.specs.List.{flat_map, join_with_byte, slice_split}
+use Rattle.std.proofs.lemmas.Bool.Decides.{nat_tests}
 use Rattle.std.proofs.lemmas.List.Splits.{join_with_byte-slice_split}
 use Rattle.text_lines.specs.Words.{words_of}
 use Rattle.run_order.specs.FreeScripts.{begins_wait, free_text, line_in, whole_lines, whole_of_parts}
@@ -28,7 +29,10 @@ some_short p (line ∷ lines) = by_test (p line) refl (some_short p lines)
 parts_short : (parts : List (List ℕ)) → length (all_of (whole_of_parts parts)) ≤ length (join_with_byte 10 parts)
 parts_short [] = omega arith
 parts_short ([] ∷ []) = omega arith
-parts_short ((byte ∷ part) ∷ []) = omega (arith, length-append (byte ∷ part) [])
+parts_short ((byte ∷ part) ∷ []) =
+    let some : (length (byte ∷ part) == 0) ≡ false = grind (arith, nat_tests) in
+    let whole : whole_of_parts ((byte ∷ part) ∷ []) ≡ (byte ∷ part) ∷ [] = ap (λ b. cond b [] ((byte ∷ part) ∷ [])) some in
+    omega (arith, ap (λ (ls : List (List ℕ)). length (all_of ls)) whole, length-append (byte ∷ part) [])
 parts_short (part ∷ next ∷ later) =
     let rest = parts_short (next ∷ later) in
     omega (

@@ -31,7 +31,8 @@ marks_few (one ∷ runs) (own ∷ said) e all zero run found =
     let few = All-head HasCounts own said all in
     omega (arith, ap (λ (r : ThreadRun). length r.marks) same, ap length marks, few.marks)
 marks_few (one ∷ runs) (own ∷ said) e all (suc i) run found =
-    marks_few runs said cc (All-tail HasCounts own said all) i run found
+    let rest : map (λ (r : ThreadRun). r.marks) runs ≡ map (λ (s : ThreadAudit). s.marks) said = cc in
+    marks_few runs said rest (All-tail HasCounts own said all) i run found
 
 -- so are the places of all threads
 places_few : (runs : List ThreadRun) (places : List (List ℕ)) → length places ≡ length runs

@@ -12,13 +12,13 @@ use Rattle.run_order.specs.Orders.{joined, joined_to, ordered, thread_line, turn
 -- ---- lines
 
 -- the micro steps that lines make
-steps_in : List Turns → ℕ
+abbrev steps_in : List Turns → ℕ
 steps_in [] = 0
 steps_in (Thread thread count ∷ later) = steps_in later
 steps_in (Patcher count ∷ later) = count + steps_in later
 
 -- the loads of a line fit
-HasLoads : Turns → Type 0
+abbrev HasLoads : Turns → Type 0
 HasLoads (Thread thread count) = count ≤ 4294967295
 HasLoads (Patcher count) = Unit {0}
 
@@ -27,7 +27,7 @@ abbrev pub HasFew : List ℕ → Type 0
 HasFew places = length places ≤ 4294967295
 
 steps-append : (xs ys : List Turns) → steps_in (xs ++ ys) ≡ steps_in xs + steps_in ys
-steps-append [] ys = refl
+steps-append [] ys = omega arith
 steps-append (Thread thread count ∷ xs) ys = steps-append xs ys
 steps-append (Patcher count ∷ xs) ys = let rest = steps-append xs ys in omega (arith, rest)
 

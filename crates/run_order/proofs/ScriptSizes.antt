@@ -61,22 +61,24 @@ several_count {X} item zero bytes found e =
     let none : List X × List ℕ = ([], bytes) in
     let same : none ≡ found = cc in
     ap (λ (f : List X × List ℕ). length f.0) (sym same)
-several_count {X} item (suc n) bytes found e = by_first (item bytes) e
+several_count {X} item (suc n) bytes found e = by_first (λ later others is. several_count item n later others is) (item bytes) e
   where
-    by_others : (first : X × List ℕ) (others : Option (List X × List ℕ)) → several item n first.1 ≡ others
+    by_others : ((later : List ℕ) (rest : List X × List ℕ) → several item n later ≡ Some rest → length rest.0 ≡ n)
+        → (first : X × List ℕ) (others : Option (List X × List ℕ)) → several item n first.1 ≡ others
         → option_map (λ (o : List X × List ℕ). let p : List X × List ℕ = (first.0 ∷ o.0, o.1) in p) others ≡ Some found → length found.0 ≡ suc n
-    by_others first None is e = absurd cc
-    by_others first (Some others) is e =
+    by_others again first None is e = absurd cc
+    by_others again first (Some others) is e =
         let made : List X × List ℕ = (first.0 ∷ others.0, others.1) in
         let same : made ≡ found = cc in
-        let count = several_count item n first.1 others is in
+        let count = again first.1 others is in
         ap (λ (f : List X × List ℕ). length f.0) (sym same) ∙ ap suc count
 
-    by_first : (first : Option (X × List ℕ))
+    by_first : ((later : List ℕ) (rest : List X × List ℕ) → several item n later ≡ Some rest → length rest.0 ≡ n)
+        → (first : Option (X × List ℕ))
         → option_and_then (λ (f : X × List ℕ). option_map (λ (o : List X × List ℕ). let p : List X × List ℕ = (f.0 ∷ o.0, o.1) in p) (several item n f.1)) first ≡ Some found
         → length found.0 ≡ suc n
-    by_first None e = absurd cc
-    by_first (Some first) e = by_others first (several item n first.1) refl e
+    by_first again None e = absurd cc
+    by_first again (Some first) e = by_others again first (several item n first.1) refl e
 
 entries_count : (at : ℕ) (fields : List MapFields) → length (entries_from at fields) ≡ length fields
 entries_count at [] = refl
@@ -130,7 +132,7 @@ few_sleds bytes program is =
 patched_steps : (program : Program) (sleds : List Numbered) → length (flat_map (patch_sled program) sleds) ≡ 4 * length sleds
 patched_steps program [] = refl
 patched_steps program ((k, sled) ∷ sleds) =
-    let one : length (flat_map (patch_sled program) ((k, sled) ∷ sleds)) ≡ 4 + length (flat_map (patch_sled program) sleds) = refl in
+    let one : length (flat_map (patch_sled program) ((k, sled) ∷ sleds)) ≡ suc (suc (suc (suc (length (flat_map (patch_sled program) sleds))))) = refl in
     let rest = patched_steps program sleds in
     omega (arith, one, rest)
 
