@@ -1,10 +1,9 @@
 -- The order of a run whose loads are placed.
-use Rattle.std.proofs.Common.{◌≡◌, ◌≢◌, inl, inr, ℕ, Vec, Global, zero, suc, ◌+◌, ◌-◌, ◌*◌, ◌<◌, ◌≤◌, Bool, true, false, cond, List, [], ◌∷◌, ◌++◌, append-nil, Option, Some, None, refl, sym, ap, subst, ◌∙◌, arith, length, map, get_or}
+use Rattle.std.proofs.Common.{◌≡◌, inl, inr, ℕ, Vec, Global, zero, suc, ◌+◌, ◌-◌, ◌<◌, ◌≤◌, Bool, true, false, cond, List, [], ◌∷◌, ◌++◌, Option, Some, None, refl, sym, ap, subst, ◌∙◌, arith, length, map, get_or}
 use Rattle.std.specs.Prelude.{◌⊎◌, All, Ok, Err, Result, option_map, replicate, slice_get}
 use Rattle.std.proofs.lemmas.List.{length-map}
 use Rattle.std.proofs.lemmas.Option.{slice_get-get_or, slice_get-map, slice_get_within}
 use Rattle.xray_image.specs.Program.{Program}
-use Rattle.handler_word.specs.declared.mark.Mark.{Mark}
 use Rattle.patch_script.specs.declared.command.Command.{Command}
 use Rattle.patch_script.specs.Bounds.{bound_of}
 use Rattle.patch_script.specs.CodeAt.{code_at}
@@ -24,12 +23,12 @@ use Rattle.audit_check.specs.Rows.{AreRunsOf}
 use Rattle.audit_check.specs.Statements.{NamesThreads, Statement}
 use Rattle.audit_check.specs.Stops.{AreJoined, places_of}
 use Rattle.run_order.specs.declared.fault.OrderFault.{OrderFault}
-use Rattle.run_order.specs.declared.fault.OrderFault.TheVariants.{Ends, Marks, Long, NoMemory}
+use Rattle.run_order.specs.declared.fault.OrderFault.TheVariants.{Long, NoMemory}
 use Rattle.run_order.specs.Answers.{EndsAgree, IsOrdered, MarksAgree}
 use Rattle.run_order.specs.FreeScripts.{free_commands, free_place}
 use Rattle.run_order.specs.Orders.{is_long, ordered}
 use Rattle.run_order.specs.Placed.{Rise}
-use Rattle.run_order.specs.RunOrders.{AreRunPlaces, IsOrderOf}
+use Rattle.run_order.specs.RunOrders.{IsOrderOf}
 use Rattle.run_order.specs.private.Ordering.{cut, fault_of}
 use Rattle.run_order.specs.private.Stops.{AreStops}
 use Rattle.run_order.specs.private.Waits.{freed, waits_of}

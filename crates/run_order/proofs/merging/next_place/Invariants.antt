@@ -1,4 +1,4 @@
-use Rattle.std.proofs.Common.{ℕ, ◌≤◌, List, take}
+use Rattle.std.proofs.Common.{ℕ, take}
 use Rattle.run_order.specs.private.Stops.{AllFrom}
 use Rattle.run_order.proofs.merging.next_place.Given as goal
 

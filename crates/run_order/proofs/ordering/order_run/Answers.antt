@@ -1,18 +1,16 @@
-use Rattle.std.proofs.Common.{◌≡◌, ◌≤◌, ◌<◌, ◌-◌, inl, inr, ℕ, List, Vec, Global, refl, sym, ap, subst, ◌∙◌, arith, length, map}
-use Rattle.std.specs.Prelude.{◌⊎◌, All, Err, Ok, Result}
+use Rattle.std.proofs.Common.{◌≡◌, ◌<◌, inl, inr, ℕ, List, Vec, Global, refl, sym, ap, subst, ◌∙◌, arith, length, map}
+use Rattle.std.specs.Prelude.{All, Err}
 use Rattle.xray_image.specs.Program.{Program}
 use Rattle.patch_script.specs.declared.command.Command.{Command}
 use Rattle.patch_script.specs.Micros.{start_of, total_of}
 use Rattle.patch_script.specs.Refusals.{commands_of}
 use Rattle.step_sim.specs.declared.turns.Turns.{Turns}
 use Rattle.audit_check.specs.declared.stop.Stop.{Stop}
-use Rattle.audit_check.specs.Placings.{ArePlaced, all_places}
+use Rattle.audit_check.specs.Placings.{all_places}
 use Rattle.audit_check.specs.Statements.{Statement, statement_of}
 use Rattle.audit_check.specs.Stops.{places_of}
-use Rattle.run_order.specs.declared.fault.OrderFault.{OrderFault}
 use Rattle.run_order.specs.Answers.{IsOrdered}
 use Rattle.run_order.specs.Orders.{ordered}
-use Rattle.run_order.specs.private.Ordering.{fault_of}
 use Rattle.run_order.specs.private.Stops.{AreStops}
 use Rattle.run_order.specs.private.Waits.{freed}
 use Rattle.run_order.proofs.FreeMicros.{AllRelease}

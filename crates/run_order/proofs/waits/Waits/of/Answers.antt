@@ -1,8 +1,7 @@
-use Rattle.std.proofs.Common.{◌≡◌, ◌<◌, ◌+◌, ◌++◌, ◌∷◌, [], Bool, true, false, List, ℕ, append-nil, ap, subst, sym, take, ◌∙◌}
+use Rattle.std.proofs.Common.{◌≡◌, ◌<◌, ◌++◌, ◌∷◌, [], true, false, List, ℕ, append-nil, ap, subst, sym, take, ◌∙◌}
 use Rattle.std.specs.Prelude.{not}
 use Rattle.xray_image.specs.Program.{Program}
 use Rattle.patch_script.specs.declared.command.Command.{Command}
-use Rattle.patch_script.specs.declared.micro.Micro.{Micro}
 use Rattle.patch_script.specs.Micros.{micro_at, micros, total_of}
 use Rattle.patch_script.specs.Refusals.{commands_of}
 use Rattle.run_order.specs.FreeScripts.{is_free}
