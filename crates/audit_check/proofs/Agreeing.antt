@@ -97,7 +97,7 @@ module _ (program : Program) (script : List Command) (statement : Statement) (tr
       let place : i + 1 - 1 ≡ i = omega arith in
       row said run (ap (slice_get statement.threads) place ∙ at) (ap (slice_get runs) place ∙ at')
 
-  decides_row : (Agree : ThreadAudit → ThreadRun → Type 0) (b : Bool) (i : ℕ) (said : ThreadAudit) (run : ThreadRun)
+  pub decides_row : (Agree : ThreadAudit → ThreadRun → Type 0) (b : Bool) (i : ℕ) (said : ThreadAudit) (run : ThreadRun)
       → slice_get statement.threads i ≡ Some said → slice_get runs i ≡ Some run → IsTrue b ↔ Agree said run → IsTrue b ↔ AtThread statement runs Agree (i + 1)
   decides_row Agree b i said run at at' decides =
       ((λ is. row_of Agree i said run at at' (decides.0 is)), λ row. decides.1 (of_row Agree i said run at at' row))

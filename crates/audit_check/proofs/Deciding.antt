@@ -63,7 +63,7 @@ module _ (program : Program) (script : List Command) (audit : Audit) (names : Na
   abbrev statement : Statement
   statement = statement_of audit
 
-  run_at : (i : ℕ) → i < audit.setup.threads → (run : ThreadRun) × (slice_get runs i ≡ Some run)
+  pub run_at : (i : ℕ) → i < audit.setup.threads → (run : ThreadRun) × (slice_get runs i ≡ Some run)
   run_at i low = elim ((slice_get_cases runs i).1) [
     | inl (run, within, at, _) ↦ (run, at)
     | inr (past, none) ↦ let count = are.run.count in absurd (omega (arith, past, count, low))

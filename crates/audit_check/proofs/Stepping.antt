@@ -1,6 +1,6 @@
 -- A follower before its first passing, and after one more.
-use Rattle.std.proofs.Common.{◌≡◌, ℕ, ◌+◌, ◌<◌, ◌≤◌, List, [], ◌∷◌, ◌++◌, length, Option, Some, None, sym, ap, subst, ◌∙◌, arith}
-use Rattle.std.specs.Prelude.{MatchOption}
+use Rattle.std.proofs.Common.{◌≡◌, ℕ, ◌+◌, ◌<◌, ◌≤◌, List, [], ◌∷◌, ◌++◌, length, Option, Some, None, refl, sym, ap, subst, ◌∙◌, arith}
+use Rattle.std.specs.Prelude.{MatchOption, option_map}
 use Rattle.xray_image.specs.Program.{Program}
 use Rattle.handler_word.specs.declared.mark.Mark.{Mark}
 use Rattle.patch_script.specs.declared.command.Command.{Command}
@@ -9,11 +9,16 @@ use Rattle.patch_script.specs.Micros.{hold_of, micros, total_of}
 use Rattle.patch_script.proofs.Steps.{start_within}
 use Rattle.machine_step.specs.Loads.{is_held_at}
 use Rattle.audit_check.specs.declared.follower.Follower.{Follower}
-use Rattle.audit_check.specs.private.Judging.{ArePassed, FindsBound, FindsEnd, FindsNext, HasJudged, IsReady, SameButGuesses}
+use Rattle.audit_check.specs.declared.stop.Stop.{Stop}
+use Rattle.audit_check.specs.Places.{found_by, passing_searches}
+use Rattle.audit_check.specs.Stops.{places_of}
+use Rattle.audit_check.specs.private.Judging.{ArePassed, FindsBound, HasJudged, IsReady, SameButGuesses}
+use Rattle.audit_check.specs.private.Searches.{FindsNext}
 use Rattle.audit_check.specs.private.Switches.{IsCourseOf}
 use Rattle.audit_check.specs.private.Turns.{IsLeast}
 use Rattle.audit_check.specs.private.Ways.{Reaches, passing_tree}
 use Rattle.audit_check.proofs.Bounding.{bound_within}
+use Rattle.audit_check.proofs.Reached.{passing_is_least}
 use Rattle.audit_check.proofs.Judged.{Same, judged_first, judged_more, same_judges, same_ready}
 
 pub begins : (f : Follower) (program : Program) (threads : ℕ) (script : List Command) → f.image.now ≡ program → IsCourseOf program threads script f.course.now
@@ -37,7 +42,7 @@ begins f program threads script image course heads some within hold none no_awai
 -- ---- one more passing
 
 -- it has passed waits
-waited : (f g : Follower) → g ≡ record f { awaits = g.awaits } → Same f g
+pub waited : (f g : Follower) → g ≡ record f { awaits = g.awaits } → Same f g
 waited f g waits = record {
   image = ap (λ (x : Follower). x.image) waits;
   course = ap (λ (x : Follower). x.course) waits;
@@ -69,11 +74,11 @@ step_passing f g h waits guesses =
 pub step_ready : (f g h : Follower) (place : Option ℕ) → g ≡ record f { awaits = g.awaits } → SameButGuesses g h → IsReady f → IsReady (stepped h place)
 step_ready f g h place waits guesses ready = same_ready f (stepped h place) (step_same f g h place waits guesses) ready
 
-pub judged_step : (f g h : Follower) (bound sled : ℕ) (mark : Mark) (place : Option ℕ) → g ≡ record f { awaits = g.awaits } → SameButGuesses g h
+pub judged_step : (f g h : Follower) (bound sled : ℕ) (mark : Mark) (place : Option ℕ) (stops : List Stop) → g ≡ record f { awaits = g.awaits } → SameButGuesses g h
     → (ArePassed f f.passing f.awaits → FindsBound f f.passing bound) → (ArePassed f f.passing f.awaits → ArePassed g f.passing g.awaits)
-    → FindsNext g sled mark bound place → sled < length f.image.now.sleds → (program : Program) (threads : ℕ) (script : List Command) (sleds : List ℕ) (marks : List Mark)
+    → FindsNext g sled mark bound place stops → sled < length f.image.now.sleds → (program : Program) (threads : ℕ) (script : List Command) (sleds : List ℕ) (marks : List Mark)
     → HasJudged program threads script f sleds marks → HasJudged program threads script (stepped h place) (sleds ++ sled ∷ []) (marks ++ mark ∷ [])
-judged_step f g h bound sled mark place waits guesses finds passes next low program threads script sleds marks has =
+judged_step f g h bound sled mark place stops waits guesses finds passes next low program threads script sleds marks has =
     judged_more program threads script f (stepped h place) sleds marks bound sled mark (step_same f g h place waits guesses)
     (step_passing f g h waits guesses) (finds has.passed) passed low at has
   where
@@ -85,24 +90,26 @@ judged_step f g h bound sled mark place waits guesses finds passes next low prog
         subst (λ b. b ≤ total_of program threads script) (sym (finds has.passed program threads script has.judges))
         (bound_within f.thread f.passing (micros program threads script))
 
-    at : MatchOption f.place (place ≡ None) (λ from. IsLeast (Reaches (code_at program threads script) bound mark
-        (passing_tree program threads f.thread (is_held_at f.hold f.passing) sled) from) place)
-    at =
-        subst (λ (x : Follower). MatchOption x.place (place ≡ None) (λ from. IsLeast (Reaches (code_at program threads script) bound mark
-        (passing_tree program threads x.thread (is_held_at x.hold x.passing) sled) from) place)) waits
-        (next program threads script (same_judges program threads script f g (waited f g waits) has.judges) within)
+    Least : Follower → Type 0
+    Least x = MatchOption x.place (place ≡ None) (λ from. IsLeast (Reaches (code_at program threads script) bound mark
+        (passing_tree program threads x.thread (is_held_at x.hold x.passing) sled) from) place)
 
--- ---- the next place
+    -- the place of the last search
+    place_of : (o : Option ℕ) → option_map (λ (found : ℕ × List ℕ). found.0) (option_map (λ at. (at, places_of stops)) o) ≡ o
+    place_of None = refl
+    place_of (Some at) = refl
 
--- the passings before it can't end where they are said to
-pub next_none : (f : Follower) (sled : ℕ) (mark : Mark) (bound : ℕ) (x : Option ℕ) → f.place ≡ None → x ≡ None → FindsNext f sled mark bound x
-next_none f sled mark bound x never none = λ program threads script judges low.
-    subst (λ (o : Option ℕ). MatchOption o (x ≡ None) (λ from. IsLeast (Reaches (code_at program threads script) bound mark
-    (passing_tree program threads f.thread (is_held_at f.hold f.passing) sled) from) x)) (sym never) none
+    least : (x : Follower) (before : Option ℕ) → MatchOption before (place ≡ None) (λ from. found_by bound from
+        (passing_searches program threads (code_at program threads script) x.thread (is_held_at x.hold x.passing) sled mark)
+        ≡ option_map (λ at. (at, places_of stops)) place)
+        → MatchOption before (place ≡ None) (λ from. IsLeast (Reaches (code_at program threads script) bound mark
+        (passing_tree program threads x.thread (is_held_at x.hold x.passing) sled) from) place)
+    least x None none = none
+    least x (Some from) found =
+        subst (λ (o : Option ℕ). IsLeast (Reaches (code_at program threads script) bound mark
+        (passing_tree program threads x.thread (is_held_at x.hold x.passing) sled) from) o) (place_of place)
+        (passing_is_least program threads (code_at program threads script) bound x.thread (is_held_at x.hold x.passing) sled mark from
+        (option_map (λ at. (at, places_of stops)) place) found)
 
-pub next_found : (f : Follower) (sled : ℕ) (mark : Mark) (from bound : ℕ) (x : Option ℕ) → f.place ≡ Some from
-    → FindsEnd f (λ program threads. passing_tree program threads f.thread (is_held_at f.hold f.passing) sled) mark from bound x
-    → FindsNext f sled mark bound x
-next_found f sled mark from bound x place found = λ program threads script judges low.
-    subst (λ (o : Option ℕ). MatchOption o (x ≡ None) (λ from. IsLeast (Reaches (code_at program threads script) bound mark
-    (passing_tree program threads f.thread (is_held_at f.hold f.passing) sled) from) x)) (sym place) (found program threads script judges low)
+    at : Least f
+    at = subst Least waits (least g g.place (next program threads script (same_judges program threads script f g (waited f g waits) has.judges) within))

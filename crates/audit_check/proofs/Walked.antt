@@ -44,7 +44,7 @@ sleds_next [] n p found = absurd cc
 sleds_next (first ∷ passed) zero p found = ap (λ (q : Passing). q.sled ∷ []) (same_Some first p found)
 sleds_next (first ∷ passed) (suc n) p found = ap (λ l. first.sled ∷ l) (sleds_next passed n p found)
 
-sleds_more : (passed : List Passing) (n : ℕ) (p : Passing) → slice_get passed n ≡ Some p
+pub sleds_more : (passed : List Passing) (n : ℕ) (p : Passing) → slice_get passed n ≡ Some p
     → sleds_passed (take (n + 1) passed) ≡ sleds_passed (take n passed) ++ p.sled ∷ []
 sleds_more passed n p found = ap (λ m. sleds_passed (take m passed)) (add-one n) ∙ sleds_next passed n p found
 

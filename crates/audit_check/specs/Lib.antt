@@ -2,5 +2,8 @@ pub mod Statements
 pub mod Reading
 pub mod Rows
 pub mod Verdicts
+pub mod Places
+pub mod Stops
+pub mod Placings
 pub mod Texts
 pub mod private

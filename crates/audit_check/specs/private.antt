@@ -7,5 +7,7 @@ pub mod Turns
 pub mod Switches
 pub mod Ways
 pub mod Judging
+pub mod Searches
+pub mod Placed
 pub mod Blocks
 pub mod Walks

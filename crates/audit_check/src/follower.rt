@@ -1,6 +1,6 @@
 //! The marks of a thread, judged one after the other.
 
-ghost use Rattle.std.specs.Prelude.{◌≡◌, ◌<◌, ◌≤◌, ◌+◌, ◌^◌, ◌∷◌, ◌++◌, [], ℕ, true, List, length, IfOk, is_some};
+ghost use Rattle.std.specs.Prelude.{◌≡◌, ◌<◌, ◌≤◌, ◌+◌, ◌^◌, ◌∷◌, ◌++◌, [], ℕ, Some, false, true, List, length, IfOk, is_some, option_map, replicate};
 ghost use Rattle.handler_word.specs.declared.mark.Mark.{Mark};
 ghost use Rattle.patch_script.specs.declared.command.Command.{Command};
 ghost use Rattle.patch_script.specs.Refusals.{commands_of};
@@ -8,16 +8,27 @@ ghost use Rattle.sled_words.specs.declared.part.Part.TheVariants.{Head};
 ghost use Rattle.sled_words.specs.Words.{arg_handler_word, handler_word, release_word, state_word, word_of};
 ghost use Rattle.machine_step.specs.Loads.{is_held_at};
 ghost use Rattle.xray_image.specs.Program.{Program};
-ghost use Rattle.audit_check.specs.private.Judging.{ArePassed, FindsBound, FindsEitherHandler, FindsEnd, FindsNext, FindsPlace, HasJudged, IsReady, SameButGuesses, StopsAt, bounds_passing, lesser};
+ghost use Rattle.audit_check.specs.private.Judging.{ArePassed, FindsBound, FindsPlace, HasJudged, IsReady, SameButGuesses, StopsAt, bounds_passing, lesser};
+ghost use Rattle.audit_check.specs.private.Searches.{Finds, FindsAll, FindsNext, HasPlaced, no_stop, stop_of};
 ghost use Rattle.audit_check.specs.private.Switches.{IsCourseOf, is_patched, is_recording, is_set};
-ghost use Rattle.audit_check.specs.private.Ways.{arg_handler_tree, handler_tree, head_tree, passing_tree};
+ghost use Rattle.audit_check.specs.Stops.{places_of};
+ghost use Rattle.audit_check.specs.declared.searches.Sought.TheVariants.{EitherHandler as Either};
 
+use crate::searches::{Sought, sought_for};
+use crate::stop::Stop;
 use crate::switches::{Awaited, Course};
 use handler_word::Mark;
 use patch_script::Script;
+use sled_words::PARTS;
 use std::alloc::Global;
-use xray_image::{Image, SledKind};
+use xray_image::Image;
 use xray_io::NoMemory;
+
+/// The most stops of a passing: at its head, at two handlers, and at the log's state.
+pub(crate) const MOST_STOPS: usize = 4;
+
+/// No loads.
+const NO_STOP: Stop = Stop { place: 0, loads: 0 };
 
 /// For each word on which marks depend, how many of its turns were passed.
 #[derive(Drop)]
@@ -62,6 +73,14 @@ fn lesser(first: Option<u32>, second: Option<u32>) -> Option<u32>
     }
 }
 
+/// Loads at a place, if there is one.
+fn stop_at(place: Option<u32>, loads: u32) -> Option<Stop>
+    ensures { result ≡ option_map (stop_of loads) place }
+{
+    let place = place?;
+    Some(Stop { place, loads })
+}
+
 impl Awaited {
     /// Whether it waits for a thread's passing of this number, from 0.
     fn bounds(&self, thread: u32, passing: u32) -> bool
@@ -85,6 +104,9 @@ impl<'a> Follower<'a> {
         ensures judged { IfOk result (λ follower. (program : Program) (threads : ℕ) → image.now ≡ program
             → script.now.threads ≡ threads → IsCourseOf program threads (commands_of script.now.lines) course.now
             → HasJudged program threads (commands_of script.now.lines) follower [] []) }
+        ensures placed { IfOk result (λ follower. (program : Program) (threads : ℕ)
+            → IsCourseOf program threads (commands_of script.now.lines) course.now
+            → HasPlaced program threads (commands_of script.now.lines) follower [] [] []) }
     {
         Ok(Follower {
             image,
@@ -111,9 +133,10 @@ impl<'a> Follower<'a> {
         self.place.is_some()
     }
 
-    /// Judges the mark of the next passing, which is of this sled.
+    /// Judges the mark of the next passing, which is of this sled. Returns where its loads may be made, if
+    /// the marks so far may be those of loads that follow the script.
     #[inline]
-    pub(crate) fn judge(&mut self, sled: u32, mark: Mark)
+    pub(crate) fn judge(&mut self, sled: u32, mark: Mark) -> [Stop; MOST_STOPS]
         requires ready { IsReady self.old }
         requires sled { sled < length self.old.image.now.sleds }
         requires room { self.old.passing + 1 < 2 ^ 32 }
@@ -124,10 +147,16 @@ impl<'a> Follower<'a> {
         ensures judged { (program : Program) (threads : ℕ) (script : List Command) (sleds : List ℕ)
             (marks : List Mark) → HasJudged program threads script self.old sleds marks
             → HasJudged program threads script self.new (sleds ++ sled ∷ []) (marks ++ mark ∷ []) }
+        ensures placed { (program : Program) (threads : ℕ) (script : List Command) (sleds : List ℕ)
+            (marks : List Mark) (places : List ℕ) → HasJudged program threads script self.old sleds marks
+            → HasPlaced program threads script self.old sleds marks places
+            → HasPlaced program threads script self.new (sleds ++ sled ∷ []) (marks ++ mark ∷ []) (places ++ places_of result) }
     {
         let bound = self.bound();
-        self.place = self.next_place(sled, mark, bound);
+        let mut stops = [NO_STOP; MOST_STOPS];
+        self.place = self.next_place(sled, mark, bound, &mut stops);
         self.passing += 1;
+        stops
     }
 
     /// The last place for the loads of the next passing.
@@ -161,111 +190,104 @@ impl<'a> Follower<'a> {
         }
     }
 
-    /// The least place at which the next passing may end with its mark, after those before it.
+    /// The least place at which the next passing may end with its mark, after those before it. Its loads
+    /// are left in `stops`.
     #[inline]
-    fn next_place(&mut self, sled: u32, mark: Mark, bound: u32) -> Option<u32>
+    fn next_place(
+        &mut self,
+        sled: u32,
+        mark: Mark,
+        bound: u32,
+        stops: &mut [Stop; MOST_STOPS],
+    ) -> Option<u32>
         requires ready { IsReady self.old }
         requires sled { sled < length self.old.image.now.sleds }
+        requires none { stops.old ≡ replicate 4 no_stop }
         ensures same { SameButGuesses self.old self.new }
-        ensures place { FindsNext self.old sled mark bound result }
+        ensures found { FindsNext self.old sled mark bound result stops.new }
     {
         let place = self.place?;
-        self.end_of(sled, mark, place, bound)
+        let from = self.released(place, bound)?;
+        let sought = sought_for(self.image.sled(sled).kind, mark);
+        self.find_all(sought, sled, from, bound, stops)
     }
 
-    /// The least place at which the next passing may end with its mark, from a place on.
+    /// The first place at which the script doesn't hold the thread any more before its next passing.
     #[inline]
-    fn end_of(&mut self, sled: u32, mark: Mark, from: u32, bound: u32) -> Option<u32>
-        requires ready { IsReady self.old }
-        requires sled { sled < length self.old.image.now.sleds }
+    fn released(&mut self, from: u32, bound: u32) -> Option<u32>
+        requires { IsReady self.old }
         ensures same { SameButGuesses self.old self.new }
-        ensures end { FindsEnd self.old (λ program threads. passing_tree program threads self.old.thread
-            (is_held_at self.old.hold self.old.passing) sled) mark from bound result }
+        ensures free { is_held_at self.old.hold self.old.passing ≡ false → result ≡ Some from }
+        ensures held { is_held_at self.old.hold self.old.passing ≡ true
+            → FindsPlace self.old (λ program threads. release_word program self.old.thread) is_set true from bound result }
     {
         if self.hold == Some(self.passing) {
-            let at = self.release(from, bound)?;
-            self.end_from_head(sled, mark, at, bound)
+            self.release(from, bound)
         } else {
-            self.end_from_head(sled, mark, from, bound)
+            Some(from)
         }
     }
 
-    /// The same from the load of the head on.
+    /// Finds what is sought, one after the other, from a place on and within a bound. Returns the last
+    /// place, and leaves the loads in `stops`.
     #[inline]
-    fn end_from_head(&mut self, sled: u32, mark: Mark, from: u32, bound: u32) -> Option<u32>
+    fn find_all(
+        &mut self,
+        sought: &[Sought],
+        sled: u32,
+        from: u32,
+        bound: u32,
+        stops: &mut [Stop; MOST_STOPS],
+    ) -> Option<u32>
+        requires ready { IsReady self.old }
+        requires sled { sled < length self.old.image.now.sleds }
+        requires few { length sought.now ≤ 4 }
+        requires none { stops.old ≡ replicate 4 no_stop }
+        ensures same { SameButGuesses self.old self.new }
+        ensures found { FindsAll self.old sought.now sled from bound result stops.new }
+    {
+        let mut place = from;
+        for i in 0..sought.len() {
+            let stop = self.find(sought[i], sled, place, bound)?;
+            stops[i] = stop;
+            place = stop.place;
+        }
+        Some(place)
+    }
+
+    /// Finds what is sought at the first place from a place on and within a bound.
+    #[inline]
+    fn find(&mut self, sought: Sought, sled: u32, from: u32, bound: u32) -> Option<Stop>
         requires ready { IsReady self.old }
         requires sled { sled < length self.old.image.now.sleds }
         ensures same { SameButGuesses self.old self.new }
-        ensures end { FindsEnd self.old (λ program threads. head_tree program threads sled) mark from bound result }
+        ensures found { Finds self.old sought sled from bound result }
     {
-        if mark == Mark::Skipped {
-            return self.head(sled, false, from, bound);
-        }
-        // The other words of the sled may have any values, and are loaded at the same place.
-        let at = self.head(sled, true, from, bound)?;
-        match self.image.sled(sled).kind {
-            SledKind::Args => self.end_from_arg_handler(mark, at, bound),
-            SledKind::Entry | SledKind::Exit | SledKind::Tail => self.end_from_handler(
-                mark, at, bound,
-            ),
+        match sought {
+            // The other words of a patched sled may have any values, and are loaded at the same place.
+            Sought::Patched => stop_at(self.head(sled, true, from, bound), PARTS),
+            Sought::Unpatched => stop_at(self.head(sled, false, from, bound), 1),
+            Sought::ArgHandler { set } => stop_at(self.arg_handler(set, from, bound), 1),
+            Sought::Handler { set } => stop_at(self.handler(set, from, bound), 1),
+            Sought::EitherHandler => self.either_handler(from, bound),
+            Sought::Log { records } => stop_at(self.log(records, from, bound), 1),
+            Sought::Nothing => None,
         }
     }
 
-    /// The same from the load of the handler's word on.
-    #[inline]
-    fn end_from_handler(&mut self, mark: Mark, from: u32, bound: u32) -> Option<u32>
+    /// The first place at which an argument handler is set, or a handler. The argument handler's word is
+    /// loaded first, and if none is found there, the handler's word is loaded at the same place.
+    fn either_handler(&mut self, from: u32, bound: u32) -> Option<Stop>
         ensures same { SameButGuesses self.old self.new }
-        ensures end { FindsEnd self.old (λ program threads. handler_tree program) mark from bound result }
-    {
-        match mark {
-            Mark::NoHandler => self.handler(false, from, bound),
-            Mark::NotLogging => {
-                let at = self.handler(true, from, bound)?;
-                self.log(false, at, bound)
-            }
-            Mark::Recorded => {
-                let at = self.handler(true, from, bound)?;
-                self.log(true, at, bound)
-            }
-            Mark::Skipped | Mark::RecordedArg => None,
-        }
-    }
-
-    /// The same from the load of the argument handler's word on.
-    #[inline]
-    fn end_from_arg_handler(&mut self, mark: Mark, from: u32, bound: u32) -> Option<u32>
-        ensures same { SameButGuesses self.old self.new }
-        ensures end { FindsEnd self.old (λ program threads. arg_handler_tree program threads) mark from bound result }
-    {
-        match mark {
-            Mark::NoHandler | Mark::Recorded => {
-                let at = self.arg_handler(false, from, bound)?;
-                self.end_from_handler(mark, at, bound)
-            }
-            Mark::NotLogging => {
-                let at = self.either_handler(from, bound)?;
-                self.log(false, at, bound)
-            }
-            Mark::RecordedArg => {
-                let at = self.arg_handler(true, from, bound)?;
-                self.log(true, at, bound)
-            }
-            Mark::Skipped => None,
-        }
-    }
-
-    /// The least place at which a passing may have found an argument handler, or a handler after it has
-    /// found no argument handler. It is one of the places from which it loads the log's state.
-    fn either_handler(&mut self, from: u32, bound: u32) -> Option<u32>
-        ensures same { SameButGuesses self.old self.new }
-        ensures least { FindsEitherHandler self.old from bound result }
+        ensures found { (sled : ℕ) → Finds self.old Either sled from bound result }
     {
         let by_argument = self.arg_handler(true, from, bound);
-        if by_argument == Some(from) {
-            return by_argument;
+        let place = lesser(by_argument, self.handler(true, from, bound))?;
+        if by_argument == Some(place) {
+            Some(Stop { place, loads: 1 })
+        } else {
+            Some(Stop { place, loads: 2 })
         }
-        // Here no argument handler is set.
-        lesser(by_argument, self.handler(true, from, bound))
     }
 
     /// The first place at which the thread's release word lets it go on.

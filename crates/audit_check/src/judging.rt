@@ -69,34 +69,34 @@ pub fn check_audit(
 
 /// What threads are judged by.
 #[derive(Clone, Copy)]
-struct Judge<'a> {
-    steps: &'a Steps<'a>,
-    script: &'a Script,
-    course: &'a Course,
-    setup: &'a Setup,
+pub(crate) struct Judge<'a> {
+    pub(crate) steps: &'a Steps<'a>,
+    pub(crate) script: &'a Script,
+    pub(crate) course: &'a Course,
+    pub(crate) setup: &'a Setup,
 }
 
 /// Whether each of the rows of a thread agrees.
 #[derive(Clone, Copy)]
-struct Agreement {
-    ends: bool,
-    marks: bool,
-    counts: bool,
+pub(crate) struct Agreement {
+    pub(crate) ends: bool,
+    pub(crate) marks: bool,
+    pub(crate) counts: bool,
 }
 
 /// The first thread of which each of these rows doesn't agree.
 #[derive(Clone, Copy)]
-struct FirstThreads {
-    ends: Option<u32>,
-    marks: Option<u32>,
+pub(crate) struct FirstThreads {
+    pub(crate) ends: Option<u32>,
+    pub(crate) marks: Option<u32>,
     counts: Option<u32>,
 }
 
 /// A thread at the end of its plain run.
 #[derive(Clone, Copy)]
-struct Walked {
-    end: End,
-    passings: u32,
+pub(crate) struct Walked {
+    pub(crate) end: End,
+    pub(crate) passings: u32,
 }
 
 impl Judge<'_> {
@@ -149,14 +149,14 @@ impl Judge<'_> {
 }
 
 /// Whether a thread is stated to end as it does, and to make as many passings.
-fn ends_agree(entry: &AuditEntry, walked: Walked) -> bool
+pub(crate) fn ends_agree(entry: &AuditEntry, walked: Walked) -> bool
     ensures { IsTrue result ↔ (entry.now.end ≡ walked.end) × (entry.now.passings ≡ walked.passings) }
 {
     entry.end == walked.end && entry.passings == walked.passings
 }
 
 /// Whether a thread has a mark for each passing that is stated, and the marks follow the script.
-fn marks_agree(entry: &AuditEntry, follower: &Follower) -> bool
+pub(crate) fn marks_agree(entry: &AuditEntry, follower: &Follower) -> bool
     ensures { result ≡ (length entry.now.marks.items == entry.now.passings) && is_some follower.now.place }
 {
     let follows = follower.follows();
@@ -237,7 +237,7 @@ fn walk(
 
 /// The mark of a passing. A passing without a mark is taken as skipped: its thread has fewer marks than
 /// passings, whatever its other marks are.
-fn mark_at(marks: &Marks, passing: u32) -> Mark
+pub(crate) fn mark_at(marks: &Marks, passing: u32) -> Mark
     ensures { result ≡ mark_or_skipped marks.now.items passing }
 {
     if passing < marks.len() {
@@ -249,7 +249,7 @@ fn mark_at(marks: &Marks, passing: u32) -> Mark
 
 impl FirstThreads {
     /// All rows agree so far.
-    fn none() -> Self
+    pub(crate) fn none() -> Self
         ensures ends { result.ends ≡ None }
         ensures marks { result.marks ≡ None }
         ensures counts { result.counts ≡ None }
@@ -262,7 +262,7 @@ impl FirstThreads {
     }
 
     /// Notes which rows of the next thread agree.
-    fn note(&mut self, thread: u32, agreement: Agreement)
+    pub(crate) fn note(&mut self, thread: u32, agreement: Agreement)
         ensures ends { self.new.ends ≡ first_of self.old.ends thread agreement.ends }
         ensures marks { self.new.marks ≡ first_of self.old.marks thread agreement.marks }
         ensures counts { self.new.counts ≡ first_of self.old.counts thread agreement.counts }

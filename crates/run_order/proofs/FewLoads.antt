@@ -1,125 +1,113 @@
 -- How many loads a thread makes.
-use Rattle.std.proofs.Common.{◌≡◌, ℕ, ◌+◌, ◌*◌, ◌-◌, ◌≤◌, ◌∙◌, Bool, true, false, cond, List, [], ◌∷◌, ◌++◌, Option, Some, None, refl, sym, ap, arith, length, length-append, map}
-use Rattle.std.specs.Prelude.{option_and_then, option_map, replicate}
+use Rattle.std.proofs.Common.{◌≡◌, ℕ, zero, suc, ◌+◌, ◌*◌, ◌≤◌, Bool, true, false, cond, List, [], ◌∷◌, ◌++◌, Option, Some, None, refl, sym, ap, arith, length, length-append, map}
+use Rattle.std.specs.Prelude.{option_map, replicate}
 use Rattle.std.proofs.lemmas.List.{length-map, length-replicate}
+use Rattle.xray_image.specs.Program.{Program}
 use Rattle.handler_word.specs.declared.mark.Mark.{Mark}
 use Rattle.handler_word.specs.declared.mark.Mark.TheVariants.{Skipped, NoHandler, NotLogging, Recorded, RecordedArg}
-use Rattle.machine_step.specs.Loads.{is_held_at, sled_logs_args}
 use Rattle.patch_script.specs.declared.command.Command.{Command}
 use Rattle.patch_script.specs.Bounds.{bound_of}
 use Rattle.patch_script.specs.CodeAt.{code_at}
 use Rattle.patch_script.specs.Micros.{hold_of, start_of}
-use Rattle.xray_image.specs.Program.{Program}
+use Rattle.machine_step.specs.Loads.{is_held_at, sled_logs_args}
+use Rattle.audit_check.specs.Places.{Search, found_by, handler_searches, has_arg_handler, head_searches, load_places, passing_searches, places_from}
+use Rattle.audit_check.proofs.Searching.{found_none, found_on, was_made, went_on}
 use Rattle.run_order.specs.FreeScripts.{free_place}
-use Rattle.run_order.specs.Places.{Search, first_place, found_by, free_places, handler_searches, has_arg_handler, head_searches, load_places, passing_searches, places_from}
+use Rattle.run_order.specs.Places.{free_places}
 
--- ---- a search
+-- ---- how many loads a passing makes
 
--- each makes at most four loads
-abbrev AreFew : List Search → Type 0
-AreFew [] = Unit {0}
-AreFew (search ∷ later) = ((at : ℕ) → search.loads at ≤ 4) × AreFew later
+-- each search makes at most four loads
+abbrev FewEach : List Search → Type 0
+FewEach [] = Unit {0}
+FewEach (search ∷ later) = ((at : ℕ) → search.loads at ≤ 4) × FewEach later
 
--- what they find are at most four loads each
-found_few : (last from : ℕ) (searches : List Search) (found : ℕ × List ℕ) → AreFew searches → found_by last from searches ≡ Some found
+found_few : (last from : ℕ) (searches : List Search) (found : ℕ × List ℕ) → FewEach searches → found_by last from searches ≡ Some found
     → length found.1 ≤ 4 * length searches
-found_few last from [] found few e =
-    let same : (from, []) ≡ found = cc in
-    let none : length found.1 ≡ 0 = ap (λ (p : ℕ × List ℕ). length p.1) (sym same) in
-    omega (arith, none)
+found_few last from [] found few e = let none = found_none last from found e in omega (arith, ap length none.1)
 found_few last from (search ∷ later) found few e =
-    by_place (λ at rest is. found_few last at later rest few.1 is) (first_place search.test from last) e
-  where
-    by_later : ((k : ℕ) (r : ℕ × List ℕ) → found_by last k later ≡ Some r → length r.1 ≤ 4 * length later)
-        → (at : ℕ) (rest : Option (ℕ × List ℕ)) → found_by last at later ≡ rest
-        → option_map (λ (r : ℕ × List ℕ). let p : ℕ × List ℕ = (r.0, replicate (search.loads at) at ++ r.1) in p) rest ≡ Some found
-        → length found.1 ≤ 4 * length (search ∷ later)
-    by_later again at None is e = absurd cc
-    by_later again at (Some rest) is e =
-        let made : ℕ × List ℕ = (rest.0, replicate (search.loads at) at ++ rest.1) in
-        let same : made ≡ found = cc in
-        let count : length (replicate (search.loads at) at ++ rest.1) ≡ length found.1 = ap (λ (p : ℕ × List ℕ). length p.1) same in
-        omega (
-          arith,
-          count,
-          length-append (replicate (search.loads at) at) rest.1,
-          length-replicate (search.loads at) at,
-          few.0 at,
-          again at rest is,
-        )
-
-    by_place : ((k : ℕ) (r : ℕ × List ℕ) → found_by last k later ≡ Some r → length r.1 ≤ 4 * length later)
-        → (first : Option ℕ)
-        → option_and_then (λ (at : ℕ). option_map (λ (r : ℕ × List ℕ). let p : ℕ × List ℕ = (r.0, replicate (search.loads at) at ++ r.1) in p) (found_by last at later)) first ≡ Some found
-        → length found.1 ≤ 4 * length (search ∷ later)
-    by_place again None e = absurd cc
-    by_place again (Some at) e = by_later again at (found_by last at later) refl e
-
--- ---- a passing
+    let on = found_on last from search later found e in
+    let rest = found_few last on.at later on.rest few.1 on.rest_found in
+    omega (
+      arith,
+      rest,
+      few.0 on.at,
+      ap length on.places_are,
+      length-append (replicate (search.loads on.at) on.at) on.rest.1,
+      length-replicate (search.loads on.at) on.at,
+    )
 
 module _ (program : Program) (threads : ℕ) (code : ℕ → ℕ → ℕ) where
-  either_few : (at : ℕ) (b : Bool) → cond b 1 2 ≤ 4
-  either_few at true = omega arith
-  either_few at false = omega arith
+  abbrev AreFew : ℕ → List Search → Type 0
+  AreFew most searches = FewEach searches × (length searches ≤ most)
 
-  -- at most three searches follow the parts of a patched sled
-  handler_few : (logs : Bool) (mark : Mark) → AreFew (handler_searches program threads code logs mark) × (length (handler_searches program threads code logs mark) ≤ 3)
-  handler_few true Skipped = ((λ at. omega arith, tt), omega arith)
-  handler_few false Skipped = ((λ at. omega arith, tt), omega arith)
-  handler_few true NoHandler = ((λ at. omega arith, (λ at. omega arith, tt)), omega arith)
-  handler_few false NoHandler = ((λ at. omega arith, tt), omega arith)
-  handler_few true NotLogging = ((λ at. either_few at (has_arg_handler program threads code at), (λ at. omega arith, tt)), omega arith)
-  handler_few false NotLogging = ((λ at. omega arith, (λ at. omega arith, tt)), omega arith)
-  handler_few true Recorded = ((λ at. omega arith, (λ at. omega arith, (λ at. omega arith, tt))), omega arith)
-  handler_few false Recorded = ((λ at. omega arith, (λ at. omega arith, tt)), omega arith)
-  handler_few true RecordedArg = ((λ at. omega arith, (λ at. omega arith, tt)), omega arith)
-  handler_few false RecordedArg = ((λ at. omega arith, tt), omega arith)
+  one_or_two : (b : Bool) → cond b 1 2 ≤ 4
+  one_or_two true = omega arith
+  one_or_two false = omega arith
 
-  head_few : (sled : ℕ) (mark : Mark) → AreFew (head_searches program threads code sled mark) × (length (head_searches program threads code sled mark) ≤ 4)
-  head_few sled Skipped = ((λ at. omega arith, tt), omega arith)
-  head_few sled NoHandler = let few = handler_few (sled_logs_args program sled) NoHandler in ((λ at. omega arith, few.0), omega (arith, few.1))
-  head_few sled NotLogging = let few = handler_few (sled_logs_args program sled) NotLogging in ((λ at. omega arith, few.0), omega (arith, few.1))
-  head_few sled Recorded = let few = handler_few (sled_logs_args program sled) Recorded in ((λ at. omega arith, few.0), omega (arith, few.1))
-  head_few sled RecordedArg = let few = handler_few (sled_logs_args program sled) RecordedArg in ((λ at. omega arith, few.0), omega (arith, few.1))
+  handlers_few : (logs : Bool) (mark : Mark) → AreFew 3 (handler_searches program threads code logs mark)
+  handlers_few true Skipped = (((λ at. omega arith), tt), omega arith)
+  handlers_few false Skipped = (((λ at. omega arith), tt), omega arith)
+  handlers_few true NoHandler = (((λ at. omega arith), ((λ at. omega arith), tt)), omega arith)
+  handlers_few false NoHandler = (((λ at. omega arith), tt), omega arith)
+  handlers_few true NotLogging = (((λ at. one_or_two (has_arg_handler program threads code at)), ((λ at. omega arith), tt)), omega arith)
+  handlers_few false NotLogging = (((λ at. omega arith), ((λ at. omega arith), tt)), omega arith)
+  handlers_few true Recorded = (((λ at. omega arith), ((λ at. omega arith), ((λ at. omega arith), tt))), omega arith)
+  handlers_few false Recorded = (((λ at. omega arith), ((λ at. omega arith), tt)), omega arith)
+  handlers_few true RecordedArg = (((λ at. omega arith), ((λ at. omega arith), tt)), omega arith)
+  handlers_few false RecordedArg = (((λ at. omega arith), tt), omega arith)
 
-  passing_few : (thread : ℕ) (held : Bool) (sled : ℕ) (mark : Mark)
-      → AreFew (passing_searches program threads code thread held sled mark) × (length (passing_searches program threads code thread held sled mark) ≤ 5)
-  passing_few thread true sled mark = let few = head_few sled mark in ((λ at. omega arith, few.0), omega (arith, few.1))
-  passing_few thread false sled mark = let few = head_few sled mark in (few.0, omega (arith, few.1))
+  head_few : (sled : ℕ) (mark : Mark) → AreFew 4 (head_searches program threads code sled mark)
+  head_few sled Skipped = (((λ at. omega arith), tt), omega arith)
+  head_few sled NoHandler = let rest = handlers_few (sled_logs_args program sled) NoHandler in (((λ at. omega arith), rest.0), omega (arith, rest.1))
+  head_few sled NotLogging = let rest = handlers_few (sled_logs_args program sled) NotLogging in (((λ at. omega arith), rest.0), omega (arith, rest.1))
+  head_few sled Recorded = let rest = handlers_few (sled_logs_args program sled) Recorded in (((λ at. omega arith), rest.0), omega (arith, rest.1))
+  head_few sled RecordedArg = let rest = handlers_few (sled_logs_args program sled) RecordedArg in (((λ at. omega arith), rest.0), omega (arith, rest.1))
 
-  -- ---- a thread
+  passing_few : (thread : ℕ) (held : Bool) (sled : ℕ) (mark : Mark) → AreFew 5 (passing_searches program threads code thread held sled mark)
+  passing_few thread true sled mark = let rest = head_few sled mark in (((λ at. omega arith), rest.0), omega (arith, rest.1))
+  passing_few thread false sled mark = let rest = head_few sled mark in (rest.0, omega (arith, rest.1))
 
-  thread_few : (bound : ℕ → ℕ) (thread : ℕ) (hold : Option ℕ) (number from : ℕ) (sleds : List ℕ) (marks : List Mark) (places : List ℕ)
-      → places_from program threads code bound thread hold number from sleds marks ≡ Some places → length places ≤ 20 * length marks
-  thread_few bound thread hold number from [] [] places e =
-      let same : [] ≡ places = cc in
-      omega (arith, ap length (sym same))
-  thread_few bound thread hold number from [] (mark ∷ marks) places e = absurd cc
-  thread_few bound thread hold number from (sled ∷ sleds) [] places e = absurd cc
-  thread_few bound thread hold number from (sled ∷ sleds) (mark ∷ marks) places e =
-      by_found (λ at later is. thread_few bound thread hold (number + 1) at sleds marks later is) (found_by (bound number) from searches) refl e
-    where
-      searches : List Search
-      searches = passing_searches program threads code thread (is_held_at hold number) sled mark
+  passings_few : (bound : ℕ → ℕ) (thread : ℕ) (hold : Option ℕ) (number from : ℕ) (sleds : List ℕ) (marks : List Mark) (places : List ℕ)
+      → places_from program threads code bound thread hold number from sleds marks ≡ Some places → length places ≤ 20 * length sleds
+  passings_few bound thread hold number from [] [] places e =
+      let none : [] ≡ places = cc in
+      omega (arith, ap length none)
+  passings_few bound thread hold number from [] (mark ∷ marks) places e = absurd cc
+  passings_few bound thread hold number from (sled ∷ sleds) [] places e = absurd cc
+  passings_few bound thread hold number from (sled ∷ sleds) (mark ∷ marks) places e =
+      let searches = passing_searches program threads code thread (is_held_at hold number) sled mark in
+      let went = went_on
+      (λ (found : ℕ × List ℕ). option_map (λ (later : List ℕ). found.1 ++ later) (places_from program threads code bound thread hold (number + 1) found.0 sleds marks))
+      (found_by (bound number) from searches) places e in
+      let found : ℕ × List ℕ = went.value in
+      let made = was_made (λ (later : List ℕ). found.1 ++ later) (places_from program threads code bound thread hold (number + 1) found.0 sleds marks) places went.gives in
+      let few = passing_few thread (is_held_at hold number) sled mark in
+      let own = found_few (bound number) from searches found few.0 went.given_is in
+      let rest = passings_few bound thread hold (number + 1) found.0 sleds marks made.value made.given_is in
+      omega (arith, own, few.1, rest, ap length made.makes, length-append found.1 made.value)
 
-      by_rest : ((k : ℕ) (ps : List ℕ) → places_from program threads code bound thread hold (number + 1) k sleds marks ≡ Some ps → length ps ≤ 20 * length marks)
-          → (found : ℕ × List ℕ) → length found.1 ≤ 20 → (rest : Option (List ℕ))
-          → places_from program threads code bound thread hold (number + 1) found.0 sleds marks ≡ rest
-          → option_map (λ (later : List ℕ). found.1 ++ later) rest ≡ Some places → length places ≤ 20 * length (mark ∷ marks)
-      by_rest again found few None is e = absurd cc
-      by_rest again found few (Some later) is e =
-          let same : found.1 ++ later ≡ places = cc in
-          omega (arith, ap length same, length-append found.1 later, few, again found.0 later is)
+-- there is a mark for each sled
+as_many : (program : Program) (threads : ℕ) (code : ℕ → ℕ → ℕ) (bound : ℕ → ℕ) (thread : ℕ) (hold : Option ℕ) (number from : ℕ) (sleds : List ℕ) (marks : List Mark)
+    (places : List ℕ) → places_from program threads code bound thread hold number from sleds marks ≡ Some places → length marks ≡ length sleds
+as_many program threads code bound thread hold number from [] [] places e = refl
+as_many program threads code bound thread hold number from [] (mark ∷ marks) places e = absurd cc
+as_many program threads code bound thread hold number from (sled ∷ sleds) [] places e = absurd cc
+as_many program threads code bound thread hold number from (sled ∷ sleds) (mark ∷ marks) places e =
+    let went = went_on
+    (λ (found : ℕ × List ℕ). option_map (λ (later : List ℕ). found.1 ++ later) (places_from program threads code bound thread hold (number + 1) found.0 sleds marks))
+    (found_by (bound number) from (passing_searches program threads code thread (is_held_at hold number) sled mark)) places e in
+    let made = was_made (λ (later : List ℕ). went.value.1 ++ later)
+    (places_from program threads code bound thread hold (number + 1) went.value.0 sleds marks) places went.gives in
+    let rest = as_many program threads code bound thread hold (number + 1) went.value.0 sleds marks made.value made.given_is in
+    omega (arith, rest)
 
-      by_found : ((k : ℕ) (ps : List ℕ) → places_from program threads code bound thread hold (number + 1) k sleds marks ≡ Some ps → length ps ≤ 20 * length marks)
-          → (found : Option (ℕ × List ℕ)) → found_by (bound number) from searches ≡ found
-          → option_and_then (λ (f : ℕ × List ℕ). option_map (λ (later : List ℕ). f.1 ++ later) (places_from program threads code bound thread hold (number + 1) f.0 sleds marks)) found ≡ Some places
-          → length places ≤ 20 * length (mark ∷ marks)
-      by_found again None is e = absurd cc
-      by_found again (Some found) is e =
-          let few = passing_few thread (is_held_at hold number) sled mark in
-          let loads = found_few (bound number) from searches found few.0 is in
-          by_rest again found (omega (arith, loads, few.1)) (places_from program threads code bound thread hold (number + 1) found.0 sleds marks) refl e
+-- by the sleds that the thread passes
+pub loads_few : (program : Program) (threads : ℕ) (script : List Command) (thread : ℕ) (sleds : List ℕ) (marks : List Mark) (places : List ℕ)
+    → load_places program threads script thread sleds marks ≡ Some places → length places ≤ 20 * length sleds
+loads_few program threads script thread sleds marks places e =
+    passings_few program threads (code_at program threads script) (bound_of program threads script thread) thread (hold_of thread script) 0
+    (start_of program threads script) sleds marks places e
 
 -- so in the script without waits
 pub free_few : (program : Program) (threads : ℕ) (script : List Command) (thread : ℕ) (sleds : List ℕ) (marks : List Mark) (places : List ℕ)
@@ -135,6 +123,8 @@ free_few program threads script thread sleds marks places e = by_places (load_pl
           arith,
           ap length same,
           length-map found (free_place program threads script),
-          thread_few program threads (code_at program threads script) (bound_of program threads script thread) thread (hold_of thread script) 0
-              (start_of program threads script) sleds marks found is,
+          passings_few program threads (code_at program threads script) (bound_of program threads script thread) thread (hold_of thread script) 0
+          (start_of program threads script) sleds marks found is,
+          as_many program threads (code_at program threads script) (bound_of program threads script thread) thread (hold_of thread script) 0
+          (start_of program threads script) sleds marks found is,
         )

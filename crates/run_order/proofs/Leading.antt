@@ -10,8 +10,8 @@ use Rattle.sled_words.specs.declared.part.Part.TheVariants.{Head, Id, Opcode, Of
 use Rattle.sled_words.specs.Words.{arg_handler_word, handler_word, release_word, state_word, word_of}
 use Rattle.machine_step.specs.Loads.{Load, Reading, Wants, Marked, from_arg_handler, from_handler, from_handlers, from_head, from_id, from_offset, from_opcode, from_state, sled_logs_args}
 use Rattle.run_order.specs.FreeScripts.{is_release_word}
-use Rattle.run_order.specs.Places.{Search, found_by, handler_searches, has_arg_handler, has_handler, either_handler, head_searches, is_patched, is_set, log_records, passing_searches, patched_search}
-use Rattle.run_order.proofs.Searching.{found_none, found_on}
+use Rattle.audit_check.specs.Places.{Search, found_by, handler_searches, has_arg_handler, has_handler, either_handler, head_searches, is_patched, is_set, log_records, passing_searches, patched_search}
+use Rattle.audit_check.proofs.Searching.{found_none, found_on}
 
 -- ---- loads that lead to a mark
 

@@ -11,14 +11,15 @@ use Rattle.step_sim.proofs.AllThreads.{set_cases}
 use Rattle.step_sim.specs.declared.turns.Turns.{Turns}
 use Rattle.step_sim.specs.declared.turns.Turns.TheVariants.{Patcher}
 use Rattle.run_order.specs.declared.lines.ScheduleLines.{ScheduleLines}
-use Rattle.run_order.specs.declared.stop.Stop.{Stop}
+use Rattle.audit_check.specs.declared.stop.Stop.{Stop}
 use Rattle.run_order.specs.Orders.{thread_line, turns_at, turns_from}
 use Rattle.run_order.specs.private.Lines.{HasJoined}
-use Rattle.run_order.specs.private.Stops.{AllFrom, ArePassed, AreStops, HaveAdded, IsUpTo, Passes, loads_at, places_in, places_of, turns_after}
+use Rattle.audit_check.specs.Stops.{places_of}
+use Rattle.run_order.specs.private.Stops.{AllFrom, ArePassed, AreStops, HaveAdded, IsUpTo, Passes, loads_at, places_in, turns_after}
 use Rattle.run_order.proofs.Replaying.{take_next}
 
 -- the line of a thread at a place, by its number and the places of its loads
-abbrev line_at : ℕ → ℕ × List ℕ → List Turns
+abbrev pub line_at : ℕ → ℕ × List ℕ → List Turns
 line_at place own = thread_line own.0 (count_by (λ other. other == place) own.1)
 
 -- ---- lists
@@ -113,7 +114,7 @@ same_turns place other number (was ∷ old) (is ∷ new) are stops after =
     ap (λ n. thread_line number n ++ flat_map (line_at other) (enumerate_from (number + 1) (places_in new))) same
     ∙ ap (λ (ls : List Turns). thread_line number (loads_at other was.now) ++ ls) rest
 
-stops_left : (place : ℕ) (old new : List (Bor (List Stop))) → ArePassed place (length old) old new → AllFrom place old → AllFrom (place + 1) new
+pub stops_left : (place : ℕ) (old new : List (Bor (List Stop))) → ArePassed place (length old) old new → AllFrom place old → AllFrom (place + 1) new
 stops_left place old new are stops k d low =
     let there : slice_get new k ≡ Some (get_or new k d) = slice_get-get_or new k d low in
     let within : k < length old = omega (arith, low, are.count) in

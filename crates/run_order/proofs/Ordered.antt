@@ -16,11 +16,12 @@ use Rattle.step_sim.specs.Replayed.{cast_with, passed_of}
 use Rattle.run_order.specs.FreeScripts.{free_commands, free_place}
 use Rattle.run_order.specs.Orders.{ordered}
 use Rattle.run_order.specs.Placed.{ArePlaced}
-use Rattle.run_order.specs.Places.{free_places, load_places}
+use Rattle.audit_check.specs.Places.{load_places}
+use Rattle.run_order.specs.Places.{free_places}
 use Rattle.run_order.proofs.FreeMicros.{AllRelease, free_start, free_total, places_rise}
 use Rattle.run_order.proofs.Gathering.{gather, marks_are_at}
 use Rattle.run_order.proofs.Replaying.{of_thread_at, replay_of_places}
-use Rattle.run_order.proofs.Searching.{was_made}
+use Rattle.audit_check.proofs.Searching.{was_made}
 use Rattle.run_order.proofs.ThreadLoads.{Exist, thread_placed}
 
 pub none_there : {X : Type 0} (xs : List X) (i : ℕ) → i < length xs → slice_get xs i ≡ None → ⊥

@@ -31,7 +31,7 @@ use Rattle.run_order.specs.Orders.{ordered}
 use Rattle.run_order.specs.Places.{free_places}
 use Rattle.run_order.specs.RunOrders.{AreRunPlaces, IsOrderOf}
 use Rattle.run_order.proofs.FreeMicros.{AllRelease}
-use Rattle.run_order.proofs.Leasts.{following_least}
+use Rattle.audit_check.proofs.Leasts.{following_least}
 use Rattle.run_order.proofs.Ordered.{HavePlaces, none_there, order_replays, passings_count, passings_of}
 use Rattle.run_order.proofs.ThreadLoads.{Exist}
 
@@ -81,7 +81,7 @@ relost_at (first ∷ runs) (n ∷ lost) (suc i) run e = relost_at runs lost i ru
 -- ---- the places of a run
 
 -- its sleds exist
-sleds_exist : (program : Program) (threads : ℕ) (code : ℕ → ℕ → ℕ) (thread : ℕ) (passed : List Passing) → All (IsSled program) passed
+pub sleds_exist : (program : Program) (threads : ℕ) (code : ℕ → ℕ → ℕ) (thread : ℕ) (passed : List Passing) → All (IsSled program) passed
     → Exist program threads code thread (sleds_passed passed)
 sleds_exist program threads code thread [] all = tt
 sleds_exist program threads code thread (passing ∷ passed) all =
@@ -93,7 +93,7 @@ sleds_all program (passing ∷ passed) all =
     All-cons (λ sled. sled < length program.sleds) passing.sled (sleds_passed passed) (All-head (IsSled program) passing passed all)
     (sleds_all program passed (All-tail (IsSled program) passing passed all))
 
-run_exists : (program : Program) (setup : Setup) (runs : List ThreadRun) → IsRun program setup runs → (i : ℕ) (run : ThreadRun) → slice_get runs i ≡ Some run
+pub run_exists : (program : Program) (setup : Setup) (runs : List ThreadRun) → IsRun program setup runs → (i : ℕ) (run : ThreadRun) → slice_get runs i ≡ Some run
     → All (IsSled program) run.passed
 run_exists program setup runs is i run e =
     let plain = is.plain i run e in
@@ -110,7 +110,7 @@ have_of program setup script runs places is are = record {
       are.each i run e ∙ ap (slice_get places) back ∙ f;
 }
 
-starts_within : (program : Program) (threads : ℕ) (script : List Command) → start_of program threads script ≤ total_of program threads script
+pub starts_within : (program : Program) (threads : ℕ) (script : List Command) → start_of program threads script ≤ total_of program threads script
 starts_within program threads script = front_steps program threads [] (prefix_len (λ c. not (is_go c)) script) script
 
 -- ---- what the order of a run leaves

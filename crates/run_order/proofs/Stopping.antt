@@ -7,10 +7,11 @@ use Rattle.std.proofs.lemmas.List.Folds.{sum_by-replicate}
 use Rattle.step_sim.specs.declared.turns.Turns.{Turns}
 use Rattle.step_sim.specs.declared.turns.Turns.TheVariants.{Thread}
 use Rattle.run_order.specs.declared.lines.ScheduleLines.{ScheduleLines}
-use Rattle.run_order.specs.declared.stop.Stop.{Stop}
+use Rattle.audit_check.specs.declared.stop.Stop.{Stop}
 use Rattle.run_order.specs.Orders.{thread_line}
 use Rattle.run_order.specs.private.Lines.{HasJoined}
-use Rattle.run_order.specs.private.Stops.{AreStops, Passes, loads_at, places_of}
+use Rattle.audit_check.specs.Stops.{places_of}
+use Rattle.run_order.specs.private.Stops.{AreStops, Passes, loads_at}
 
 abbrev tally : Bool → ℕ
 tally passes = cond passes 1 0

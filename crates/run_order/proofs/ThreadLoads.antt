@@ -14,10 +14,11 @@ use Rattle.machine_step.specs.Loads.{Load, Marked, Reading, Wants, from_head, is
 use Rattle.step_sim.specs.Replay.{Cast, of_thread, thread_count}
 use Rattle.run_order.specs.FreeScripts.{free_commands, free_place}
 use Rattle.run_order.specs.Placed.{ArePlaced, Rise}
-use Rattle.run_order.specs.Places.{Search, found_by, load_places, passing_searches, places_from}
+use Rattle.audit_check.specs.Places.{Search, found_by, load_places, passing_searches, places_from}
 use Rattle.run_order.proofs.FreeMicros.{AllRelease, free_code, free_start, free_total, places_rise}
 use Rattle.run_order.proofs.Leading.{IsLoadAt, Leads, passing_led}
-use Rattle.run_order.proofs.Searching.{found_on, found_rises, was_made, went_on}
+use Rattle.audit_check.proofs.Searching.{found_on, was_made, went_on}
+use Rattle.run_order.proofs.Searching.{found_rises}
 
 -- ---- lists
 
@@ -51,7 +52,7 @@ rise_join : (from mid last : ℕ) (xs ys : List ℕ) → from ≤ mid → mid �
 rise_join from mid last [] ys low high rise rest = rise_later from mid last ys low rest
 rise_join from mid last (x ∷ xs) ys low high rise rest = (rise.0, omega (arith, rise.1, high), rise_join x mid last xs ys rise.1 high rise.2 rest)
 
-rise_mapped : (f : ℕ → ℕ) → ((a b : ℕ) → a ≤ b → f a ≤ f b) → (from last : ℕ) (places : List ℕ) → Rise from last places
+pub rise_mapped : (f : ℕ → ℕ) → ((a b : ℕ) → a ≤ b → f a ≤ f b) → (from last : ℕ) (places : List ℕ) → Rise from last places
     → Rise (f from) (f last) (map f places)
 rise_mapped f grows from last [] rise = tt
 rise_mapped f grows from last (place ∷ places) rise =

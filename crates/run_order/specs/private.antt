@@ -1,3 +1,5 @@
 pub mod Lines
 pub mod Stops
 pub mod Texts
+pub mod Waits
+pub mod Ordering

@@ -9,7 +9,7 @@ mod lines;
 mod merging;
 mod order;
 mod ordering;
-mod stop;
+mod waits;
 
 pub use fault::OrderFault;
 pub use free::FreeText;
@@ -19,4 +19,3 @@ pub use laws::{
 };
 pub use order::Order;
 pub use ordering::order_run;
-pub use stop::Stop;

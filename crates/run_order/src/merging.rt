@@ -5,10 +5,11 @@ ghost use Rattle.step_sim.specs.declared.turns.Turns.{Turns as Line};
 ghost use Rattle.patch_script.specs.Limits.{most_micros};
 ghost use Rattle.run_order.specs.Orders.{ordered, thread_line, turns_at};
 ghost use Rattle.run_order.specs.private.Lines.{HasJoined};
-ghost use Rattle.run_order.specs.private.Stops.{AllFrom, ArePassed, AreStops, Passes, loads_at, places_in, places_of};
+ghost use Rattle.audit_check.specs.Stops.{places_of};
+ghost use Rattle.run_order.specs.private.Stops.{AllFrom, ArePassed, AreStops, Passes, loads_at, places_in};
 
 use crate::lines::ScheduleLines;
-use crate::stop::Stop;
+use audit_check::Stop;
 use std::alloc::Global;
 use step_sim::Turns;
 use xray_io::NoMemory;
@@ -31,11 +32,49 @@ pub(crate) fn schedule_lines(
     let mut left = all_left(alloc, threads)?;
     let mut lines = ScheduleLines::new(alloc);
     add_turns(&mut left, start, &mut lines)?;
+    let mut next = next_place(&left);
     for place in start..total {
         lines.step();
-        add_turns(&mut left, place + 1, &mut lines)?;
+        add_due(&mut left, place + 1, &mut next, &mut lines)?;
     }
     lines.done()
+}
+
+/// The first place at which loads are left, or the last place that there may be.
+fn next_place(left: &[&[Stop]]) -> u32
+    ensures { (from : ℕ) → AllFrom from left.now → AllFrom result left.now }
+{
+    let mut next = u32::MAX;
+    for stops in left {
+        if let Some(stop) = stops.first() {
+            next = next.min(stop.place);
+        }
+    }
+    next
+}
+
+/// Adds the turns at a place, thread by thread. No loads are left before `next`, and it is kept so.
+fn add_due(
+    left: &mut Vec<&[Stop]>,
+    place: u32,
+    next: &mut u32,
+    lines: &mut ScheduleLines,
+) -> Result<(), NoMemory>
+    requires few { length left.old.items ≤ 16 }
+    requires stops { AllFrom place left.old.items }
+    requires none { AllFrom next.old left.old.items }
+    ensures passed { OnOk result (ArePassed place (length left.old.items) left.old.items left.new.items) }
+    ensures added { OnOk result ((turns : List Line) → HasJoined turns lines.old
+        → HasJoined (turns ++ turns_at (places_in left.old.items) place) lines.new) }
+    ensures steps { OnOk result (lines.new.steps ≤ lines.old.steps) }
+    ensures none { OnOk result (AllFrom next.new left.new.items) }
+{
+    if place < *next {
+        return Ok(());
+    }
+    add_turns(left, place, lines)?;
+    *next = next_place(left);
+    Ok(())
 }
 
 /// The stops of each thread that are left, before the first place.
@@ -50,7 +89,7 @@ fn all_left<'a>(alloc: Global, threads: &'a [Vec<Stop>]) -> Result<Vec<&'a [Stop
     Ok(left)
 }
 
-/// Adds the turns at a place, thread by thread.
+/// Adds the turns at a place, thread by thread, whether or not loads are left there.
 fn add_turns(left: &mut Vec<&[Stop]>, place: u32, lines: &mut ScheduleLines) -> Result<(), NoMemory>
     requires few { length left.old.items ≤ 16 }
     requires stops { AllFrom place left.old.items }

@@ -1,16 +1,17 @@
 //! The order of a run, as a schedule.
 
-ghost use Rattle.std.specs.Prelude.{◌≡◌, ◌≤◌, All, Err, IfOk, false, length, map, true};
+ghost use Rattle.std.specs.Prelude.{◌≡◌, ◌≤◌, ◌⊎◌, All, Err, length, map};
 ghost use Rattle.std.specs.List.{flat_map};
 ghost use Rattle.xray_io.specs.Text.{AddsText};
 ghost use Rattle.patch_script.specs.Limits.{most_micros};
-ghost use Rattle.run_order.specs.declared.fault.OrderFault.TheVariants.{Long};
-ghost use Rattle.run_order.specs.Orders.{is_long, ordered};
-ghost use Rattle.run_order.specs.private.{Stops.{AreStops, places_of}, Texts.{line_text}};
+ghost use Rattle.run_order.specs.declared.fault.OrderFault.TheVariants.{NoMemory};
+ghost use Rattle.run_order.specs.Orders.{ordered};
+ghost use Rattle.audit_check.specs.Stops.{places_of};
+ghost use Rattle.run_order.specs.private.{Ordering.{cut}, Stops.{AreStops}, Texts.{line_text}};
 
 use crate::fault::OrderFault;
 use crate::merging::schedule_lines;
-use crate::stop::Stop;
+use audit_check::Stop;
 use std::alloc::Global;
 use std::marker::Model;
 use step_sim::Turns;
@@ -48,10 +49,8 @@ impl Order {
         requires start { start ≤ total }
         requires total { total ≤ most_micros }
         requires stops { All (λ stops. AreStops start stops.items) threads.now }
-        ensures order { IfOk result (λ order. order ≡ ordered start total (map (λ stops. places_of stops.items) threads.now)) }
-        ensures short { IfOk result (λ order. is_long order ≡ false) }
-        ensures long { result ≡ Err Long
-            → is_long (ordered start total (map (λ stops. places_of stops.items) threads.now)) ≡ true }
+        ensures { (result ≡ Err NoMemory)
+            ⊎ (result ≡ cut (ordered start total (map (λ stops. places_of stops.items) threads.now))) }
     {
         let lines = schedule_lines(alloc, threads, start, total)?;
         if lines.len() > MOST_LINES {

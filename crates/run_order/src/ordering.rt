@@ -5,11 +5,14 @@ ghost use Rattle.patch_script.specs.Refusals.{commands_of};
 ghost use Rattle.audit_check.specs.Statements.{NamesThreads, statement_of};
 ghost use Rattle.run_order.specs.Answers.{IsOrdered};
 ghost use Rattle.run_order.specs.declared.fault.OrderFault.TheVariants.{NoMemory};
+ghost use Rattle.run_order.specs.private.Ordering.{fault_of};
 
 use crate::fault::OrderFault;
 use crate::order::Order;
-use audit_check::Audit;
-use patch_script::Script;
+use crate::waits::{Waits, free_threads};
+use audit_check::{Audit, PlaceFault, place_loads};
+use machine_step::passings_are_limited;
+use patch_script::{Script, awaits_bound_passings};
 use std::alloc::Global;
 use xray_image::Image;
 
@@ -33,5 +36,27 @@ pub fn order_run(
     requires names { NamesThreads (statement_of audit.now) }
     ensures { (result ≡ Err NoMemory) ⊎ IsOrdered image.now (commands_of script.now.lines) (statement_of audit.now) result }
 {
-    Err(OrderFault::NoMemory)
+    awaits_bound_passings();
+    passings_are_limited();
+    script.micro_steps_are_few();
+    let threads = match place_loads(alloc, image, script, audit) {
+        Ok(threads) => threads,
+        Err(fault) => return Err(order_fault(fault)),
+    };
+    let waits = Waits::of(alloc, image, script, audit.setup.threads)?;
+    let start = waits.free_place(script.start() as u32);
+    let total = waits.free_place(script.total() as u32);
+    let free = free_threads(alloc, &threads, &waits)?;
+    Order::of_stops(alloc, &free, start, total)
+}
+
+/// Why an audit whose loads have no places has no order.
+fn order_fault(fault: PlaceFault) -> OrderFault
+    ensures { result ≡ fault_of fault }
+{
+    match fault {
+        PlaceFault::Ends(thread) => OrderFault::Ends(thread),
+        PlaceFault::Marks(thread) => OrderFault::Marks(thread),
+        PlaceFault::NoMemory => OrderFault::NoMemory,
+    }
 }

@@ -1,19 +1,16 @@
 -- The judging of a thread's marks, one after the other.
-use Rattle.std.specs.Prelude.{◌≡◌, ◌<◌, ◌≤◌, ◌==◌, ◌&&◌, ◌⊎◌, ℕ, Bool, true, false, List, length, All, Option, Some, None, IfSome, MatchOption, min, nat_lt, slice_get}
+use Rattle.std.specs.Prelude.{◌≡◌, ◌<◌, ◌≤◌, ◌==◌, ◌&&◌, ℕ, Bool, true, false, List, length, All, Option, Some, None, IfSome, min, nat_lt, slice_get}
 use Rattle.xray_image.specs.Program.{Program}
 use Rattle.handler_word.specs.declared.mark.Mark.{Mark}
-use Rattle.sled_words.specs.Words.{arg_handler_word, handler_word}
 use Rattle.patch_script.specs.declared.command.Command.{Command}
 use Rattle.patch_script.specs.Bounds.{bound_of}
 use Rattle.patch_script.specs.CodeAt.{code_at}
 use Rattle.patch_script.specs.Micros.{hold_of, start_of, total_of}
 use Rattle.machine_step.specs.Follows.{MarksFollow}
-use Rattle.machine_step.specs.Loads.{is_held_at}
 use Rattle.audit_check.specs.declared.follower.Follower.{Follower}
 use Rattle.audit_check.specs.declared.switches.Awaited.{Awaited}
-use Rattle.audit_check.specs.private.Switches.{IsCourseOf, is_set}
+use Rattle.audit_check.specs.private.Switches.{IsCourseOf}
 use Rattle.audit_check.specs.private.Turns.{IsLeast, IsMet}
-use Rattle.audit_check.specs.private.Ways.{Tree, Reaches, passing_tree}
 
 -- it has turns for all words of its image, and its thread is one of the course's
 pub record IsReady (f : Follower) : Type 0 where
@@ -41,32 +38,6 @@ abbrev pub FindsPlace : Follower → (Program → ℕ → ℕ) → (ℕ → Bool
 FindsPlace f word test wants from bound answer =
     (program : Program) (threads : ℕ) (script : List Command) → Judges program threads script f → bound ≤ total_of program threads script
     → IsLeast (IsMet (λ place. test (code_at program threads script place (word program threads))) wants from bound) answer
-
--- The answer is the least place at which a passing may load the log's state, where it is before the load of the argument
--- handler's word: an argument handler was found, or a handler after no argument handler.
-abbrev pub FindsHandler : (ℕ → ℕ → ℕ) → Program → ℕ → ℕ → ℕ → ℕ → Type 0
-FindsHandler code program threads bound from at =
-    IsMet (λ place. is_set (code place (arg_handler_word program threads))) true from bound at
-    ⊎ ((there : ℕ) × IsMet (λ place. is_set (code place (arg_handler_word program threads))) false from bound there
-    × IsMet (λ place. is_set (code place (handler_word program))) true there bound at)
-
-abbrev pub FindsEitherHandler : Follower → ℕ → ℕ → Option ℕ → Type 0
-FindsEitherHandler f from bound answer =
-    (program : Program) (threads : ℕ) (script : List Command) → Judges program threads script f → bound ≤ total_of program threads script
-    → IsLeast (FindsHandler (code_at program threads script) program threads bound from) answer
-
--- the answer is the least place, within a bound, at which what is left of a passing may end with a mark
-abbrev pub FindsEnd : Follower → (Program → ℕ → Tree) → Mark → ℕ → ℕ → Option ℕ → Type 0
-FindsEnd f tree mark from bound answer =
-    (program : Program) (threads : ℕ) (script : List Command) → Judges program threads script f → bound ≤ total_of program threads script
-    → IsLeast (Reaches (code_at program threads script) bound mark (tree program threads) from) answer
-
--- the answer is the least place at which the next passing may end, if those before it may end where they are said to
-abbrev pub FindsNext : Follower → ℕ → Mark → ℕ → Option ℕ → Type 0
-FindsNext f sled mark bound answer =
-    (program : Program) (threads : ℕ) (script : List Command) → Judges program threads script f → bound ≤ total_of program threads script
-    → MatchOption f.place (answer ≡ None) (λ from. IsLeast (Reaches (code_at program threads script) bound mark
-    (passing_tree program threads f.thread (is_held_at f.hold f.passing) sled) from) answer)
 
 -- ---- bounds
 

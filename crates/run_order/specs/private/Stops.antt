@@ -1,17 +1,14 @@
 -- The loads of threads, as those at one place after those at another.
-use Rattle.std.specs.Prelude.{◌≡◌, ◌<◌, ◌≤◌, ◌+◌, ◌++◌, ◌-◌, ◌==◌, ◌∷◌, ℕ, zero, suc, List, [], All, count_by, length, map, replicate, slice_get, take, Some}
+use Rattle.std.specs.Prelude.{◌≡◌, ◌<◌, ◌≤◌, ◌+◌, ◌++◌, ◌-◌, ◌==◌, ◌∷◌, ℕ, zero, suc, List, [], All, count_by, length, map, slice_get, take, Some}
 use Rattle.std.specs.Borrow.{Bor}
 use Rattle.std.specs.List.{enumerate_from, flat_map}
 use Rattle.step_sim.specs.declared.turns.Turns.{Turns}
 use Rattle.step_sim.specs.declared.turns.Turns.TheVariants.{Patcher}
 use Rattle.run_order.specs.declared.lines.ScheduleLines.{ScheduleLines}
-use Rattle.run_order.specs.declared.stop.Stop.{Stop}
+use Rattle.audit_check.specs.declared.stop.Stop.{Stop}
+use Rattle.audit_check.specs.Stops.{places_of}
 use Rattle.run_order.specs.Orders.{thread_line, turns_from}
 use Rattle.run_order.specs.private.Lines.{HasJoined}
-
--- the places of their loads
-abbrev pub places_of : List Stop → List ℕ
-places_of stops = flat_map (λ stop. replicate stop.loads stop.place) stops
 
 -- their places rise from one on, and there is a load at each
 abbrev pub AreStops : ℕ → List Stop → Type 0

@@ -1,6 +1,6 @@
 use Rattle.std.proofs.Common.{◌≡◌, ◌∷◌, ◌++◌, ◌∙◌, List, ap, subst, sym}
 use Rattle.step_sim.specs.declared.turns.Turns.{Turns as Line}
-use Rattle.run_order.specs.declared.stop.Stop.{Stop}
+use Rattle.audit_check.specs.declared.stop.Stop.{Stop}
 use Rattle.run_order.specs.Orders.{thread_line}
 use Rattle.run_order.specs.private.Lines.{HasJoined}
 use Rattle.run_order.specs.private.Stops.{AreStops, loads_at}

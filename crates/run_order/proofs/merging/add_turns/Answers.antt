@@ -2,7 +2,7 @@ use Rattle.std.proofs.Common.{◌≡◌, ◌<◌, ◌∙◌, List, Some, arith, 
 use Rattle.std.specs.Prelude.{slice_get}
 use Rattle.std.specs.Borrow.{Bor}
 use Rattle.std.proofs.lemmas.Option.{slice_get_read}
-use Rattle.run_order.specs.declared.stop.Stop.{Stop}
+use Rattle.audit_check.specs.declared.stop.Stop.{Stop}
 use Rattle.run_order.proofs.merging.add_turns.Goals as goal
 use Rattle.run_order.proofs.MergedTurns.{added_more, all_added, passed_more}
 

@@ -1,8 +1,9 @@
-use Rattle.std.proofs.Common.{◌≡◌, ◌∙◌, ℕ, List, Vec, Global, arith, map, subst}
+use Rattle.std.proofs.Common.{◌≡◌, ◌∙◌, ℕ, List, Vec, Global, arith, map, subst, sym, ◌+◌}
 use Rattle.std.specs.Borrow.{Bor}
-use Rattle.run_order.specs.declared.stop.Stop.{Stop}
-use Rattle.run_order.specs.private.Stops.{AllFrom, IsUpTo, places_in, places_of}
-use Rattle.run_order.proofs.MergedTurns.{all_items, places_of_items, same_places, stops_of_all, up_to_first, up_to_next}
+use Rattle.audit_check.specs.declared.stop.Stop.{Stop}
+use Rattle.audit_check.specs.Stops.{places_of}
+use Rattle.run_order.specs.private.Stops.{AllFrom, IsUpTo, places_in}
+use Rattle.run_order.proofs.MergedTurns.{all_items, places_of_items, same_places, stops_left, stops_of_all, up_to_first, up_to_next}
 use Rattle.run_order.proofs.merging.schedule_lines.Goals as goal
 
 pub add_turns-requires-clause-stops : goal.add_turns-requires-clause-stops
@@ -26,15 +27,21 @@ loop-place-init c =
           subst (λ (all : List (List ℕ)). IsUpTo c.args.start c.args.start c.args.total all c.add_turns.new.left.items c.add_turns.new.lines) same
           (up_to_first c.args.start c.args.total old c.add_turns.new.left.items c.new-lines.result c.add_turns.new.lines c.new-lines.ensures.joined
           c.new-lines.ensures.steps c.in_ok-add_turns.ensures.passed stops c.in_ok-add_turns.ensures.added c.in_ok-add_turns.ensures.steps);
+      none =
+          subst (AllFrom c.next_place-next.result) c.deref.ensures.value
+          (c.next_place-next.ensures (c.args.start + 1)
+          (subst (AllFrom (c.args.start + 1)) (sym c.deref.ensures.value)
+          (stops_left c.args.start old c.add_turns.new.left.items c.in_ok-add_turns.ensures.passed stops)));
     }
 
 pub loop-place-preserved : goal.loop-place-preserved
 loop-place-preserved c = record {
-  count = c.in_ok-add_turns-2.ensures.passed.count ∙ c.loop-place.invariant.count;
+  count = c.in_ok-add_due.ensures.passed.count ∙ c.loop-place.invariant.count;
   low = omega (arith, c.loop-place.invariant.low);
   up =
       up_to_next c.args.start c.loop-place.place c.args.total (map (λ (v : Vec Stop Global). places_of v.items) c.args.threads.now) c.loop-place.left.items
-      c.add_turns-in-loop-place.new.left.items c.loop-place.lines c.step.new.self c.add_turns-in-loop-place.new.lines c.loop-place.invariant.low
-      (omega arith) c.loop-place.invariant.up c.step.ensures.joined c.step.ensures.steps c.in_ok-add_turns-2.ensures.passed
-      c.in_ok-add_turns-2.ensures.added c.in_ok-add_turns-2.ensures.steps;
+      c.add_due.new.left.items c.loop-place.lines c.step.new.self c.add_due.new.lines c.loop-place.invariant.low
+      (omega arith) c.loop-place.invariant.up c.step.ensures.joined c.step.ensures.steps c.in_ok-add_due.ensures.passed
+      c.in_ok-add_due.ensures.added c.in_ok-add_due.ensures.steps;
+  none = c.in_ok-add_due.ensures.none;
 }

@@ -1,5 +1,6 @@
 use Rattle.std.proofs.Common.{◌<◌, length, subst, sym}
 use Rattle.audit_check.specs.declared.follower.Follower.{Follower}
+use Rattle.audit_check.proofs.NextSearches.{placed_step}
 use Rattle.audit_check.proofs.Stepping.{judged_step, step_passing, step_ready, step_same, waited_ready}
 use Rattle.audit_check.proofs.follower.Follower.judge.Goals as goal
 
@@ -30,4 +31,10 @@ returns-clause-thread c =
 pub returns-clause-judged : goal.returns-clause-judged
 returns-clause-judged c =
     judged_step c.args.self.now c.bound-bound.new.self c.next_place-self.new.self c.bound-bound.result c.args.sled c.args.mark c.next_place-self.result
-    c.bound-bound.ensures.same c.next_place-self.ensures.same c.bound-bound.ensures.bound c.bound-bound.ensures.passed c.next_place-self.ensures.place c.requires.sled
+    c.next_place-self.new.stops c.bound-bound.ensures.same c.next_place-self.ensures.same c.bound-bound.ensures.bound c.bound-bound.ensures.passed
+    c.next_place-self.ensures.found c.requires.sled
+
+pub returns-clause-placed : goal.returns-clause-placed
+returns-clause-placed c =
+    placed_step c.args.self.now c.bound-bound.new.self c.next_place-self.new.self c.bound-bound.result c.args.sled c.args.mark c.next_place-self.result
+    c.next_place-self.new.stops c.bound-bound.ensures.same c.next_place-self.ensures.same c.bound-bound.ensures.bound c.next_place-self.ensures.found

@@ -1,0 +1,75 @@
+-- Stops to which loads are added.
+use Rattle.std.proofs.Common.{◌≡◌, ◌≢◌, ℕ, zero, suc, ◌+◌, ◌<◌, List, [], ◌∷◌, ◌++◌, append-nil, append_assoc, refl, sym, ap, ◌∙◌, arith, length, length-append}
+use Rattle.std.specs.Prelude.{replicate}
+use Rattle.std.proofs.lemmas.Grind.{flat_map-append}
+use Rattle.audit_check.specs.declared.stop.Stop.{Stop}
+use Rattle.audit_check.specs.Stops.{AreJoined, places_of}
+
+-- ---- their places
+
+pub places-append : (stops later : List Stop) → places_of (stops ++ later) ≡ places_of stops ++ places_of later
+places-append stops later = flat_map-append (λ (stop : Stop). replicate stop.loads stop.place) stops later
+
+pub one_place : (stops : List Stop) (stop : Stop) → places_of (stops ++ stop ∷ []) ≡ places_of stops ++ replicate stop.loads stop.place
+one_place stops stop = places-append stops (stop ∷ []) ∙ ap (λ (ps : List ℕ). places_of stops ++ ps) (append-nil (replicate stop.loads stop.place))
+
+replicate_add : (n m place : ℕ) → replicate (n + m) place ≡ replicate n place ++ replicate m place
+replicate_add zero m place = ap (λ k. replicate k place) (let e : 0 + m ≡ m = omega arith in e)
+replicate_add (suc n) m place =
+    ap (λ k. replicate k place) (let e : suc n + m ≡ suc (n + m) = omega arith in e)
+    ∙ ap (λ (ps : List ℕ). place ∷ ps) (replicate_add n m place)
+
+-- two stops at one place
+pub places_both : (stops : List Stop) (last stop : Stop) → last.place ≡ stop.place
+    → places_of (stops ++ record { place = last.place; loads = last.loads + stop.loads } ∷ []) ≡ places_of (stops ++ last ∷ stop ∷ [])
+places_both stops last stop same =
+    one_place stops (record { place = last.place; loads = last.loads + stop.loads })
+    ∙ ap (λ (ps : List ℕ). places_of stops ++ ps)
+    (replicate_add last.loads stop.loads last.place
+    ∙ ap (λ place. replicate last.loads last.place ++ replicate stop.loads place) same
+    ∙ ap (λ (ps : List ℕ). replicate last.loads last.place ++ ps) (sym (append-nil (replicate stop.loads stop.place))))
+    ∙ sym (places-append stops (last ∷ stop ∷ []))
+
+-- a last stop, and loads after it
+pub places_after : (old rest : List Stop) (last stop : Stop) → old ≡ rest ++ last ∷ []
+    → places_of (rest ++ last ∷ stop ∷ []) ≡ places_of old ++ replicate stop.loads stop.place
+places_after old rest last stop is =
+    ap places_of (sym (append_assoc rest (last ∷ []) (stop ∷ []))) ∙ one_place (rest ++ last ∷ []) stop
+    ∙ ap (λ (ss : List Stop). places_of ss ++ replicate stop.loads stop.place) (sym is)
+
+-- ---- joined stops
+
+-- the last one has loads
+joined_last : (stops : List Stop) (last : Stop) → AreJoined (stops ++ last ∷ []) → 0 < last.loads
+joined_last [] last are = are
+joined_last (first ∷ []) last are = are.2
+joined_last (first ∷ next ∷ stops) last are = joined_last (next ∷ stops) last are.2
+
+-- another one at another place
+pub joined_more : (stops : List Stop) (last stop : Stop) → AreJoined (stops ++ last ∷ []) → 0 < stop.loads → last.place ≢ stop.place
+    → AreJoined (stops ++ last ∷ stop ∷ [])
+joined_more [] last stop are some apart = (are, apart, some)
+joined_more (first ∷ []) last stop are some apart = (are.0, are.1, (are.2, apart, some))
+joined_more (first ∷ next ∷ stops) last stop are some apart = (are.0, are.1, joined_more (next ∷ stops) last stop are.2 some apart)
+
+-- more loads at its place
+pub joined_both : (stops : List Stop) (last : Stop) (more : ℕ) → AreJoined (stops ++ last ∷ [])
+    → AreJoined (stops ++ record { place = last.place; loads = last.loads + more } ∷ [])
+joined_both [] last more are = omega (arith, are)
+joined_both (first ∷ []) last more are = (are.0, are.1, omega (arith, are.2))
+joined_both (first ∷ next ∷ stops) last more are = (are.0, are.1, joined_both (next ∷ stops) last more are.2)
+
+-- how many loads the last one has
+pub last_loads : (stops : List Stop) (last : Stop) (more bound : ℕ) → length (places_of (stops ++ last ∷ [])) + more < bound → last.loads + more < bound
+last_loads stops last more bound low =
+    omega (
+      arith,
+      low,
+      ap length (one_place stops last),
+      length-append (places_of stops) (replicate last.loads last.place),
+      length_same last.loads last.place,
+    )
+  where
+    length_same : (n place : ℕ) → length (replicate n place) ≡ n
+    length_same zero place = refl
+    length_same (suc n) place = let rest = length_same n place in omega (arith, rest)

@@ -1,0 +1,34 @@
+use Rattle.std.proofs.Common.{◌≡◌, ◌<◌, ◌++◌, ◌∷◌, [], true, false, List, ℕ, append-nil, ap, subst, sym, take, ◌∙◌}
+use Rattle.std.specs.Prelude.{not}
+use Rattle.xray_image.specs.Program.{Program}
+use Rattle.patch_script.specs.declared.command.Command.{Command}
+use Rattle.patch_script.specs.Micros.{micro_at, micros, total_of}
+use Rattle.patch_script.specs.Refusals.{commands_of}
+use Rattle.run_order.specs.FreeScripts.{is_free}
+use Rattle.run_order.specs.private.Waits.{waits_from}
+use Rattle.run_order.proofs.Freeing.{not_free, waits_next}
+use Rattle.run_order.proofs.waits.Waits.of.Goals as goal
+use Rattle.run_order.proofs.waits.Waits.of.Goals.{then-is_wait+in_ok-push, else-is_wait}
+
+pub loop-place-preserved : goal.loop-place-preserved
+loop-place-preserved c =
+    let program : Program = c.args.image.now in
+    let threads : ℕ = c.args.threads in
+    let script : List Command = commands_of c.args.script.now.lines in
+    let own = c.args.script.now in
+    let place : ℕ = c.loop-place.place in
+    let total : c.total-place-end.result ≡ total_of program threads script =
+    c.total-place-end.ensures.total ∙ (ap (λ (p : Program). total_of p own.threads script) c.requires.program ∙ ap (λ n. total_of program n script) c.requires.threads) in
+    let micro : c.micro_near.result ≡ micro_at program threads script place =
+    c.micro_near.ensures.micro ∙ (ap (λ (p : Program). micro_at p own.threads script place) c.requires.program ∙ ap (λ n. micro_at program n script place) c.requires.threads) in
+    let low : place < total_of program threads script = subst (λ n. place < n) total c.loop-place-test.true in
+    let decides : c.is_wait.result ≡ not (is_free program threads c.micro_near.result) = c.is_wait.ensures program c.state_word-state.ensures in
+    let before : List ℕ = waits_from program threads 0 (take place (micros program threads script)) in
+    elim c.if-is_wait.branch [
+      | then-is_wait+in_ok-push w ↦
+          ap (λ places. places.items) w.places-is ∙ w.in_ok-push.ensures.items ∙ ap (λ (ws : List ℕ). ws ++ place ∷ []) c.loop-place.invariant
+          ∙ sym (waits_next program threads script place c.micro_near.result false low micro (not_free _ true (sym decides ∙ w.if-is_wait.true)))
+      | else-is_wait w ↦
+          ap (λ places. places.items) w.places-is ∙ c.loop-place.invariant ∙ sym (append-nil before)
+          ∙ sym (waits_next program threads script place c.micro_near.result true low micro (not_free _ false (sym decides ∙ w.if-is_wait.false)))
+    ]
