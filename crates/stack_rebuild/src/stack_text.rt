@@ -1,9 +1,8 @@
 //! The text of a stack report.
 
-ghost use Rattle.std.specs.{Prelude.{◌≡◌, ◌++◌, ⊤, codes, map}, List.{flat_map}};
+ghost use Rattle.std.specs.{Prelude.{◌≡◌, ◌++◌, ⊤, map}, List.{flat_map}};
 ghost use Rattle.std.specs.Option.{option_map};
-ghost use Rattle.function_names.specs.Name.{image_names, name_text, naming};
-ghost use Rattle.function_names.specs.declared.form.NameForm.TheVariants.{Frame};
+ghost use Rattle.function_names.specs.Name.{image_names, naming};
 ghost use Rattle.xray_io.specs.{Piece.{piece_text, right_aligned}, Text.{AddsText}, Writes.{WritesText}};
 ghost use Rattle.stack_rebuild.specs.Stacks.{told};
 ghost use Rattle.stack_rebuild.specs.StackText.{columns_text, head_text, path_text, path_row_text, stack_text, weight_text};
