@@ -64,3 +64,7 @@ plain_name names id = unwrap_or (names.name id) (number_text id)
 -- the text for the name of the function with an id
 abbrev pub name_text : NameForm → Naming → ℕ → List ℕ
 name_text form names id = option_map_or (spelled form) (names.name id) (number_text id)
+
+-- the text for a callee in a path: its name as a frame, after a semicolon
+abbrev pub callee_text : Naming → ℕ → List ℕ
+callee_text names id = codes ";" ++ name_text Frame names id

@@ -8,5 +8,5 @@ mod name;
 mod names;
 
 pub use form::NameForm;
-pub use name::{add_callee_name, add_name};
+pub use name::{add_callee_names, add_name};
 pub use names::Names;

@@ -1,5 +1,5 @@
 -- Texts that are put together from one for each item of a list.
-use Rattle.std.proofs.Common.{◌≡◌, ◌≤◌, ◌-◌, ◌++◌, arith, Option, ℕ, List, [], ◌∷◌, length, map, take, drop, get_or, refl, ap}
+use Rattle.std.proofs.Common.{◌≡◌, ◌≤◌, ◌-◌, ◌++◌, arith, ℕ, List, [], ◌∷◌, length, map, take, drop, get_or, refl, ap}
 use Rattle.std.specs.Prelude.{codes}
 use Rattle.std.specs.List.{flat_map}
 use Rattle.std.proofs.lemmas.List.{take_all}

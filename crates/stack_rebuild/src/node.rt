@@ -1,7 +1,7 @@
 //! The tree of paths.
 
-ghost use Rattle.std.specs.Prelude.{◌≡◌, ◌<◌, length, map, OnOk, slice_index_or, slice_set};
-ghost use Rattle.stack_rebuild.specs.private.PathTree.{child_in, depth_in, sibling_in, step_of, steps_in, tallies_in, tally_in};
+ghost use Rattle.std.specs.Prelude.{◌≡◌, ◌<◌, length, map, if◌then◌else◌, OnOk, slice_index_or, slice_set};
+ghost use Rattle.stack_rebuild.specs.private.PathTree.{child_in, children_in, depth_in, has_no_child, sibling_in, step_of, steps_in, tallies_in, tally_in};
 ghost use Rattle.stack_rebuild.specs.PathSums.{both_tallies, no_tally, with_pair};
 
 use crate::tally::Tally;
@@ -40,7 +40,8 @@ pub(crate) struct Node {
 impl Node {
     /// The empty path, without a pair. No step leads to it.
     pub(crate) fn empty() -> Node
-        ensures { result.tally ≡ no_tally }
+        ensures child { result.child ≡ 0 }
+        ensures tally { result.tally ≡ no_tally }
     {
         Node {
             parent: 0,
@@ -55,6 +56,7 @@ impl Node {
     /// The path of a step, without a pair.
     pub(crate) fn after(nodes: &[Node], step: Step) -> Node
         ensures step { step_of result ≡ step }
+        ensures child { result.child ≡ 0 }
         ensures tally { result.tally ≡ no_tally }
     {
         Node {
@@ -112,6 +114,7 @@ pub(crate) fn depth_of(nodes: &[Node], number: usize) -> u32
 pub(crate) fn plant(nodes: &mut Vec<Node>) -> Result<(), NoMemory>
     ensures some { OnOk result (0 < length nodes.new.items) }
     ensures steps { steps_in nodes.new.items ≡ steps_in nodes.old.items }
+    ensures children { children_in nodes.new.items ≡ children_in nodes.old.items }
     ensures tallies { tallies_in nodes.new.items ≡ tallies_in nodes.old.items }
 {
     if nodes.is_empty() {
@@ -124,6 +127,9 @@ pub(crate) fn plant(nodes: &mut Vec<Node>) -> Result<(), NoMemory>
 /// since most calls go the same way. The latest comes next.
 pub(crate) fn link(nodes: &mut Vec<Node>, parent: usize, latest: usize)
     ensures steps { map step_of nodes.new.items ≡ map step_of nodes.old.items }
+    ensures children { parent < length nodes.old.items → map child_in nodes.new.items
+        ≡ (if has_no_child nodes.old.items parent then slice_set (map child_in nodes.old.items) parent latest
+        else map child_in nodes.old.items) }
     ensures tallies { map tally_in nodes.new.items ≡ map tally_in nodes.old.items }
 {
     match child_of(nodes, parent) {
@@ -158,6 +164,7 @@ pub(crate) fn add_pair(
     own: u128,
 ) -> Result<(), NoMemory>
     ensures steps { map step_of nodes.new.items ≡ map step_of nodes.old.items }
+    ensures children { children_in nodes.new.items ≡ children_in nodes.old.items }
     ensures tallies { OnOk result (number < length nodes.old.items → map tally_in nodes.new.items
         ≡ slice_set (map tally_in nodes.old.items) number
         (with_pair duration own (slice_index_or (map tally_in nodes.old.items) number no_tally))) }
@@ -171,6 +178,7 @@ pub(crate) fn add_pair(
 /// More pairs of the path with this number.
 pub(crate) fn add_pairs(nodes: &mut Vec<Node>, number: usize, tally: &Tally) -> Result<(), NoMemory>
     ensures steps { map step_of nodes.new.items ≡ map step_of nodes.old.items }
+    ensures children { children_in nodes.new.items ≡ children_in nodes.old.items }
     ensures tallies { OnOk result (number < length nodes.old.items → map tally_in nodes.new.items
         ≡ slice_set (map tally_in nodes.old.items) number
         (both_tallies (slice_index_or (map tally_in nodes.old.items) number no_tally) tally.now)) }

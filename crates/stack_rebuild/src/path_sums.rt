@@ -1,8 +1,9 @@
 //! The paths so far, and the sums over the pairs of each.
 
-ghost use Rattle.std.specs.Prelude.{◌≡◌, ◌<◌, ◌++◌, ℕ, List, [], ◌∷◌, length, IfOk, IfSome, IsTrue, IsPermutation, OnOk, slice_index_or};
+ghost use Rattle.std.specs.Prelude.{◌≡◌, ◌<◌, ◌++◌, ℕ, List, [], ◌∷◌, length, if◌then◌else◌, IfOk, IfSome, IsFalse, IsTrue, IsPermutation, OnErr, OnOk, Some, slice_index_or};
 ghost use Rattle.std.specs.List.{range_with_len};
-ghost use Rattle.stack_rebuild.specs.private.PathNumbers.{path_by};
+ghost use Rattle.stack_rebuild.specs.private.PathNumbers.{is_step, number_in, path_by};
+ghost use Rattle.stack_rebuild.specs.private.PathTree.{has_no_child};
 ghost use Rattle.stack_rebuild.specs.PathSums.{AreOfPath, AreSums, HasNumber, no_tally, path_at};
 ghost use Rattle.stack_rebuild.specs.Stacks.{Timed};
 
@@ -28,8 +29,28 @@ const MOST_LOOKS: usize = 4;
 pub struct PathSums {
     /// The paths, by their numbers.
     nodes: Vec<Node>,
-    /// The numbers of the paths by their steps.
+    /// The numbers of the paths by their steps, without those that are the first to go on from their
+    /// parents. Links lead to these.
     numbers: HashMap<Step, usize>,
+}
+
+/// Enters the number of a step in the table, unless its path is the first that goes on from its parent.
+fn enter(
+    nodes: &[Node],
+    numbers: &mut HashMap<Step, usize>,
+    step: Step,
+    number: usize,
+) -> Result<(), NoMemory>
+    ensures entered { OnOk result ((other : Step) → number_in numbers.new other
+        ≡ (if has_no_child nodes.now step.parent then number_in numbers.old other
+        else (if is_step step other then Some number else number_in numbers.old other))) }
+    ensures same { OnErr result ((other : Step) → number_in numbers.new other ≡ number_in numbers.old other) }
+{
+    if child_of(nodes, step.parent) == 0 {
+        return Ok(());
+    }
+    numbers.insert(step, number)?;
+    Ok(())
 }
 
 impl Model for PathSums {
@@ -92,8 +113,11 @@ impl PathSums {
 
     /// Whether the path with this number is that of a step.
     fn is_path_of(&self, number: usize, step: Step) -> bool
-        ensures { IsTrue result →
+        ensures is { IsTrue result →
             HasNumber (path_by self.now.paths step) number self.now.paths self.now.paths }
+        ensures other { IsFalse result → step.parent < length self.now.paths
+            → 0 < number → number < length self.now.paths
+            → path_at self.now.paths number ≡ path_by self.now.paths step → ⊥ }
     {
         if number == 0 {
             return false;
@@ -114,6 +138,10 @@ impl PathSums {
             → AreSums self.old.paths self.old.tallies pairs
             → AreSums self.new.paths self.new.tallies pairs) }
     {
+        let first = child_of(&self.nodes, step.parent);
+        if self.is_path_of(first, step) {
+            return Ok(first);
+        }
         match self.numbers.get(&step) {
             Some(number) => Ok(*number),
             None => self.add_path(step),
@@ -135,7 +163,7 @@ impl PathSums {
         let number = self.nodes.len();
         let node = Node::after(&self.nodes, step);
         self.nodes.push(node)?;
-        match self.numbers.insert(step, number) {
+        match enter(&self.nodes, &mut self.numbers, step, number) {
             Ok(_) => {
                 link(&mut self.nodes, step.parent, number);
                 Ok(number)

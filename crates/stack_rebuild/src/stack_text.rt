@@ -1,15 +1,14 @@
 //! The text of a stack report.
 
-ghost use Rattle.std.specs.{Prelude.{◌≡◌, ◌++◌, ⊤, codes, map}, List.{flat_map}};
+ghost use Rattle.std.specs.{Prelude.{◌≡◌, ◌++◌, ⊤, map}, List.{flat_map}};
 ghost use Rattle.std.specs.Option.{option_map};
-ghost use Rattle.function_names.specs.Name.{image_names, name_text, naming};
-ghost use Rattle.function_names.specs.declared.form.NameForm.TheVariants.{Frame};
+ghost use Rattle.function_names.specs.Name.{image_names, naming};
 ghost use Rattle.xray_io.specs.{Piece.{piece_text, right_aligned}, Text.{AddsText}, Writes.{WritesText}};
 ghost use Rattle.stack_rebuild.specs.Stacks.{told};
 ghost use Rattle.stack_rebuild.specs.StackText.{columns_text, head_text, path_text, path_row_text, stack_text, weight_text};
 
 use crate::stack_row::StackRow;
-use function_names::{NameForm, Names, add_callee_name, add_name};
+use function_names::{NameForm, Names, add_callee_names, add_name};
 use xray_image::Image;
 use xray_io::{Piece, Printed, Sink, Text, WriteFault, write_text};
 
@@ -175,19 +174,7 @@ fn add_path<S: Sink>(text: &mut Text<S>, path: &[u32], names: Names) -> Result<(
         [] => text.bytes(b""),
         [outermost, inner @ ..] => {
             add_name(text, names, NameForm::Frame, *outermost)?;
-            add_inner(text, inner, names)
+            add_callee_names(text, names, inner)
         }
     }
-}
-
-/// Adds the names of a path's functions after the first one.
-fn add_inner<S: Sink>(text: &mut Text<S>, inner: &[u32], names: Names) -> Result<(), WriteFault>
-    ensures { AddsText S.written S.faults S.along text.old text.new
-        (flat_map (λ f. codes ";" ++ name_text Frame (naming names.entry) f)
-        inner.now) result }
-{
-    'inner: for func in inner {
-        add_callee_name(text, names, *func)?;
-    }
-    Ok(())
 }

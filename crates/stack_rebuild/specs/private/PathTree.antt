@@ -1,10 +1,10 @@
 -- The tree of paths: what its nodes, and the fields of sums, say.
-use Rattle.std.specs.Prelude.{ℕ, List, [], ◌∷◌, drop, map, reverse}
+use Rattle.std.specs.Prelude.{ℕ, Bool, ◌==◌, List, [], ◌∷◌, drop, map, reverse, slice_index_or}
 use Rattle.stack_rebuild.specs.declared.node.Node.{Node}
 use Rattle.stack_rebuild.specs.declared.node.Step.{Step}
 use Rattle.stack_rebuild.specs.declared.tally.Tally.{Tally}
 use Rattle.stack_rebuild.specs.declared.path_sums.PathSums.TheInside.{Inside}
-use Rattle.stack_rebuild.specs.private.PathNumbers.{AreNumbered, paths_after}
+use Rattle.stack_rebuild.specs.private.PathNumbers.{AreNumbered, AreTold, paths_after}
 use Rattle.stack_rebuild.specs.PathSums.{Summed, no_tally}
 
 -- the step that leads to a path
@@ -37,9 +37,19 @@ abbrev pub tallies_in : List Node → List Tally
 tallies_in [] = no_tally ∷ []
 tallies_in (node ∷ nodes) = map tally_in (node ∷ nodes)
 
+-- the first paths that went on from the paths of nodes, by their numbers; if there is no node yet, none went on
+abbrev pub children_in : List Node → List ℕ
+children_in [] = 0 ∷ []
+children_in (node ∷ nodes) = map child_in (node ∷ nodes)
+
+-- no path went on from the path with this number
+abbrev pub has_no_child : List Node → ℕ → Bool
+has_no_child nodes number = slice_index_or (map child_in nodes) number 0 == 0
+
 abbrev pub summed_in : Inside → Summed
 summed_in a = record { paths = paths_in a.nodes.items; tallies = tallies_in a.nodes.items }
 
--- the table has the numbers of the steps
+-- the numbers in the table are those of the steps, and a step that it lacks is found by a link
 pub record IsTree (a : Inside) : Type 0 where
   pub numbered : AreNumbered (paths_in a.nodes.items) (steps_in a.nodes.items) a.numbers
+  pub told : AreTold (steps_in a.nodes.items) (children_in a.nodes.items) a.numbers

@@ -1,27 +1,23 @@
-use Rattle.std.proofs.Common.{◌≡◌, ◌≤◌, ◌<◌, ◌^◌, ◌∙◌, ◌+◌, ◌-◌, ◌++◌, ◌∷◌, ℕ, List, ap, arith, refl, drop, length, length-take}
+use Rattle.std.proofs.Common.{◌≡◌, ◌≤◌, ◌<◌, ◌∙◌, ◌+◌, ◌-◌, ◌++◌, ◌∷◌, ℕ, List, ap, arith, refl, drop, length, length-take}
 use Rattle.std.specs.Fmt.{decimal}
-use Rattle.std.proofs.lemmas.Fmt.{length-decimal-le}
 use Rattle.std.proofs.lemmas.Grind.{drop-set_at}
 use Rattle.std.proofs.lemmas.List.{append-nil, drop_all}
+use Rattle.function_names.proofs.Digits.{few_digits}
 use Rattle.function_names.proofs.name.put_number.Goals as goal
-
--- an id has at most ten digits
-few : (id : ℕ) → id < 2 ^ 32 → length (decimal id) ≤ 10
-few id low = length-decimal-le 10 id (omega arith) (omega (arith, low)) (omega (arith, low))
 
 pub write_digits-start-requires : goal.write_digits-start-requires
 write_digits-start-requires c =
-    (omega (arith, few c.from.result (omega (arith, c.ranges.id, c.from.ensures))), omega (arith, c.told-word))
+    (omega (arith, few_digits c.from.result (omega (arith, c.ranges.id, c.from.ensures))), omega (arith, c.told-word))
 
 pub overflow_sub-start : goal.overflow_sub-start
 overflow_sub-start c =
-    omega (arith, c.write_digits-start.ensures.start, few c.from.result (omega (arith, c.ranges.id, c.from.ensures)))
+    omega (arith, c.write_digits-start.ensures.start, few_digits c.from.result (omega (arith, c.ranges.id, c.from.ensures)))
 
 pub returns : goal.returns
 returns c =
     let start = c.write_digits-start.result in
     let word = c.write_digits-start.new.buf in
-    let short : length (decimal c.from.result) ≤ 10 = few c.from.result (omega (arith, c.ranges.id, c.from.ensures)) in
+    let short : length (decimal c.from.result) ≤ 10 = few_digits c.from.result (omega (arith, c.ranges.id, c.from.ensures)) in
     let ends : start + length (decimal c.from.result) ≡ 12 = c.write_digits-start.ensures.start in
     let next : start - 1 + 1 ≡ start = omega (arith, short, ends) in
     let within : start - 1 < length word =

@@ -2,12 +2,17 @@ use Rattle.std.proofs.Common.{◌≡◌, ◌∙◌, ap, sym, get_or, set, map}
 use Rattle.std.proofs.Math.Seq.{map-set_same}
 use Rattle.std.proofs.lemmas.List.{get_or-map, map-set}
 use Rattle.std.proofs.lemmas.Result.{on_ok_weaker}
-use Rattle.stack_rebuild.specs.private.PathTree.{step_of, tally_in}
+use Rattle.stack_rebuild.proofs.Nodes.{children_set}
+use Rattle.stack_rebuild.specs.private.PathTree.{child_in, step_of, tally_in}
 use Rattle.stack_rebuild.specs.PathSums.{no_tally, with_pair}
 use Rattle.stack_rebuild.proofs.node.add_pair.Goals as goal
 
 pub returns-in-Some-clause-steps : goal.returns-in-Some-clause-steps
 returns-in-Some-clause-steps c = map-set_same step_of _ _ _ c.in-Some.node.now (ap step_of c.in-Some.ensures.value)
+
+pub returns-in-Some-clause-children : goal.returns-in-Some-clause-children
+returns-in-Some-clause-children c =
+    children_set c.args.nodes.now.items c.args.number _ _ (ap child_in c.in-Some.ensures.value)
 
 pub returns-in-Some-clause-tallies : goal.returns-in-Some-clause-tallies
 returns-in-Some-clause-tallies c =
