@@ -1,5 +1,5 @@
 -- How many loads a thread makes.
-use Rattle.std.proofs.Common.{◌≡◌, ℕ, zero, suc, ◌+◌, ◌*◌, ◌≤◌, Bool, true, false, cond, List, [], ◌∷◌, ◌++◌, Option, Some, None, refl, sym, ap, arith, length, length-append, map}
+use Rattle.std.proofs.Common.{◌≡◌, ℕ, ◌+◌, ◌*◌, ◌≤◌, Bool, true, false, cond, List, [], ◌∷◌, ◌++◌, Option, Some, None, refl, ap, arith, length, length-append, map}
 use Rattle.std.specs.Prelude.{option_map, replicate}
 use Rattle.std.proofs.lemmas.List.{length-map, length-replicate}
 use Rattle.xray_image.specs.Program.{Program}
@@ -124,7 +124,7 @@ free_few program threads script thread sleds marks places e = by_places (load_pl
           ap length same,
           length-map found (free_place program threads script),
           passings_few program threads (code_at program threads script) (bound_of program threads script thread) thread (hold_of thread script) 0
-          (start_of program threads script) sleds marks found is,
+              (start_of program threads script) sleds marks found is,
           as_many program threads (code_at program threads script) (bound_of program threads script thread) thread (hold_of thread script) 0
-          (start_of program threads script) sleds marks found is,
+              (start_of program threads script) sleds marks found is,
         )

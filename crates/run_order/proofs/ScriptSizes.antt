@@ -1,6 +1,6 @@
 -- How many micro steps a script has that was read.
-use Rattle.std.proofs.Common.{◌≡◌, ◌⊎◌, inl, inr, ℕ, zero, suc, ◌+◌, ◌*◌, ◌≤◌, ◌∙◌, Bool, true, false, cond, List, [], ◌∷◌, ◌++◌, Option, Some, None, Ok, refl, sym, ap, subst, arith, length, length-append, map}
-use Rattle.std.specs.Prelude.{◌==◌, drop, filter, nat_lt, not, option_and_then, option_map, take}
+use Rattle.std.proofs.Common.{◌≡◌, inl, inr, ℕ, zero, suc, ◌+◌, ◌*◌, ◌≤◌, ◌∙◌, Bool, true, false, cond, List, [], ◌∷◌, ◌++◌, Option, Some, None, Ok, refl, sym, ap, subst, arith, length, length-append}
+use Rattle.std.specs.Prelude.{◌==◌, drop, nat_lt, not, option_and_then, option_map, take}
 use Rattle.std.specs.List.{enumerate_from, flat_map, zip}
 use Rattle.std.specs.Str.Lines.{lines}
 use Rattle.std.proofs.Math.Nat.{min-le_right}
@@ -15,7 +15,7 @@ use Rattle.xray_image.specs.Program.{IsAccepted, Program, sled_of}
 use Rattle.xray_image.specs.Units.{places_from}
 use Rattle.patch_script.specs.declared.command.Command.{Command}
 use Rattle.patch_script.specs.declared.command.Command.TheVariants as commands
-use Rattle.patch_script.specs.Micros.{Numbered, all_sleds, micros, micros_after, numbers, patch_sled, patches, sleds_of, steps_of, total_of, unpatch_sled}
+use Rattle.patch_script.specs.Micros.{Numbered, all_sleds, micros_after, numbers, patch_sled, patches, sleds_of, steps_of, total_of, unpatch_sled}
 use Rattle.patch_script.specs.Plans.{Plan, is_waiting, plan_of}
 use Rattle.patch_script.specs.Refusals.{Lines, commands_of, ended, read_lines, with_line}
 use Rattle.run_order.specs.FreeScripts.{free_commands}
