@@ -1,5 +1,6 @@
 -- What `order` writes is replayed by `sim`.
 use Rattle.std.proofs.Common.{◌≡◌, ◌≤◌, ◌∙◌, ℕ, List, [], ◌∷◌, length, Option, Some, None, Result, Ok, Err, option_map, refl, sym, ap, subst, codes, arith}
+use Rattle.audit_check.specs.declared.fault.AuditFault.{AuditFault}
 use Rattle.audit_check.specs.Reading.{ReadsAs}
 use Rattle.audit_check.specs.Statements.{MayState, Statement}
 use Rattle.machine_step.specs.declared.setup.Setup.{Setup}
@@ -136,5 +137,5 @@ module _ (laws : ReplayedOrders) (after : List ℕ → Entry) (i f o t b : List 
           (free_held ∙ ap Holds written.free_is) (schedule_held ∙ ap Holds written.schedule_is) in
           subst (λ (st : Statement). LeavesRunsOf (SimComes Sound after i f o t b st.setup) t b program st) same leaves
         where
-          same_statement : (x y : Statement) → (let v : Result Statement _ = Ok x in let w : Result Statement _ = Ok y in v ≡ w) → x ≡ y
+          same_statement : (x y : Statement) → (let v : Result Statement AuditFault = Ok x in let w : Result Statement AuditFault = Ok y in v ≡ w) → x ≡ y
           same_statement x y e = cc
