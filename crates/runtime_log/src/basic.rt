@@ -271,6 +271,7 @@ impl<'a> BasicEvents<'a> {
     }
 
     /// The next event.
+    #[inline(always)]
     pub(crate) fn next(&mut self) -> Option<Event>
         ensures { MatchOption result (basic_events (records_in self.old.bytes.now) ≡ []) (λ event.
             basic_events (records_in self.old.bytes.now) ≡ event ∷ basic_events (records_in self.new.bytes.now)) }

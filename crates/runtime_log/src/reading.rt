@@ -78,6 +78,7 @@ pub(crate) fn trace_header(bytes: &[u8], mode: Mode) -> Header
 }
 
 /// The counter of the first of two events, if there are any.
+#[inline(always)]
 fn first_counter(entry: Option<Event>, event: Option<Event>) -> Option<u64>
     ensures { result ≡ counter_first (option_to_list entry ++ option_to_list event) }
 {
@@ -154,6 +155,7 @@ impl LogBlock {
     }
 
     /// Takes what a record says of the block.
+    #[inline(always)]
     fn hear(&mut self, told: Told)
         ensures shows { (b : TheBlock) → Shows self.old b → Shows self.new (block_with told b) }
         ensures places { (self.new.begin ≡ self.old.begin) × (self.new.end ≡ self.old.end) }
@@ -186,6 +188,7 @@ impl LogBlocks {
     }
 
     /// Counts an event of the program's own, if it is one. A log has fewer than 2^32.
+    #[inline(always)]
     fn count(&mut self, own: Option<OwnKind>)
         requires few { (self.old.custom < 2 ^ 32) × (self.old.typed < 2 ^ 32) }
         ensures custom { self.new.custom ≡ self.old.custom + one_custom own }
