@@ -32,6 +32,7 @@ pub mod RunLaws
 pub mod RunLoads
 pub mod RunSetups
 pub mod RunWritten
+pub mod RunsImported
 pub mod Saying
 pub mod Scripts
 pub mod SimLaws
