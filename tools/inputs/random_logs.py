@@ -4,7 +4,7 @@ their blocks, with doubled and empty blocks; and basic logs. Many are damaged.
 import dataclasses
 import struct
 
-from model.trace_model import FLIGHT_DATA_RECORDER, FUNCTION, METADATA_LENGTH, NEW_CPU, WORD_32, WORD_64
+from model.trace_model import FLIGHT_DATA_RECORDER, FUNCTION, METADATA_LENGTH, NEW_CPU, PID, WORD_32, WORD_64
 
 from . import random_traces
 from .random_traces import Record
@@ -57,6 +57,10 @@ def recorder_log(draw):
     threads = random_traces.Threads(draw, 2 if version == 2 else 3)
     blocks = [threads.block() for _ in range(draw.choice([0, 1, 2, 3, 6, 12]))]
     blocks = [[with_own_events(draw, version, records), more] for records, more in blocks]
+    if version == 2 and blocks and draw.random() < 0.2:
+        # In version 2 no record of a block may be a Pid.
+        records, _ = draw.choice(blocks)
+        records.insert(draw.randint(0, len(records)), Record(PID, (1,)))
     if blocks and draw.random() < 0.3:
         blocks += draw.choices(blocks, k=draw.choice([1, 2]))
     draw.shuffle(blocks)

@@ -22,11 +22,12 @@ FUNCTION = "function"
 
 
 def fields_of(version):
-    """The kinds of metadata records of a version, with the fields of each from its second byte on."""
-    fields = {NEW_BUFFER: "<I", NEW_CPU: "<HQ", TSC_WRAP: "<Q", WALL_TIME: "<QI", ARGUMENT: "<Q", EXTENTS: "<Q"}
+    """The kinds of metadata records of a version, with the fields of each from its second byte on.
+
+    A Pid is a record in version 2 too, but stands nowhere in a block of that version.
+    """
+    fields = {NEW_BUFFER: "<I", NEW_CPU: "<HQ", TSC_WRAP: "<Q", WALL_TIME: "<QI", ARGUMENT: "<Q", EXTENTS: "<Q", PID: "<I"}
     fields[CUSTOM] = {2: "<IQ", 3: "<IQ", 4: "<IQH", 5: "<II"}[version]
-    if version >= 3:
-        fields[PID] = "<I"
     if version == 5:
         fields[TYPED] = "<IIH"
     return fields
