@@ -12,12 +12,13 @@ ghost use Rattle.runtime_log.specs.private.Records.{counter_of};
 ghost use Rattle.runtime_log.specs.private.Headers.{header_for, mode_of};
 ghost use Rattle.runtime_log.specs.private.Readings.{AreRead, AreRuns, BelongsAt, HasRead, IsRun, RecordsRead, blocks_said, walk_reads};
 
-use crate::basic::{BasicRec, Owner, RECORD_BYTES, may_follow, record_in, same_owner};
+use crate::basic::{BasicRec, Owner, may_follow, record_in, same_owner};
 use crate::blocks::{LogBlock, LogBlocks, Mode};
 use crate::fault::LogFault;
 use crate::own_event::OwnKind;
 use crate::version::LogVersion;
 use crate::walk::BlockWalk;
+use basic_record::{BASIC_TYPE, BASIC_VERSION, RECORD_BYTES};
 use byteorder::{ByteOrder, LittleEndian};
 use fdr_file::{HEADER_BYTES, Header, Told, TraceFault, VERSION, header_fields};
 use fdr_record::Event;
@@ -27,13 +28,8 @@ use xray_io::{NoMemory, Wall};
 /// The place of the type in a header.
 const TYPE_AT: usize = 2;
 
-/// The types of logs.
-const BASIC: u16 = 0;
-
+/// The type of logs of the Flight Data Recorder mode.
 const RECORDER: u16 = 1;
-
-/// The version of basic logs.
-const BASIC_VERSION: u16 = 3;
 
 /// The mode of a log, or why its header isn't that of one.
 pub(crate) fn read_mode(bytes: &[u8]) -> Result<Mode, TraceFault>
@@ -49,7 +45,7 @@ pub(crate) fn read_mode(bytes: &[u8]) -> Result<Mode, TraceFault>
     };
     match LittleEndian::read_u16(&bytes[TYPE_AT..]) {
         RECORDER => Ok(Mode::Recorder(version)),
-        BASIC => {
+        BASIC_TYPE => {
             if number == BASIC_VERSION {
                 Ok(Mode::Basic)
             } else {
