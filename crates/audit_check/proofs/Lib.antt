@@ -1,47 +1,55 @@
-pub mod Agreeing
-pub mod Bounding
-pub mod Comparing
-pub mod Coursing
-pub mod Deciding
+-- The reader: the rows of an audit in turn, and the first that is refused (src/reading.rt, src/row.rt, src/setup.rt)
 pub mod Digits
-pub mod Ending
 pub mod Fields
-pub mod Finding
-pub mod Firsts
-pub mod FollowWays
-pub mod Found
-pub mod Judged
-pub mod Known
-pub mod Lawful
-pub mod LeastEnds
-pub mod LeastMarks
-pub mod Noting
-pub mod OneReading
-pub mod OneVerdict
-pub mod Onward
-pub mod Owning
-pub mod PassingEnds
 pub mod ReadParts
 pub mod ReadRows
-pub mod Readings
-pub mod Recordings
-pub mod Refusals
-pub mod RowLines
 pub mod RowTexts
+pub mod RowLines
 pub mod RunTexts
 pub mod Running
-pub mod Segmenting
-pub mod SomeReading
-pub mod SomeRuns
-pub mod SomeVerdict
-pub mod Starting
-pub mod Stepping
-pub mod Storing
-pub mod Switching
 pub mod TakingRuns
-pub mod TreeLoads
+pub mod Readings
+pub mod Refusals
+-- Bytes read as only one statement, or are refused at one line (src/laws.rt)
+pub mod Known
+pub mod OneReading
+pub mod SomeReading
+-- The switches: when each word of the code is on or off (src/turns.rt, src/switches.rt)
 pub mod TurnLemmas
-pub mod Waiting
-pub mod Walked
+pub mod Starting
+pub mod Storing
+pub mod Noting
+pub mod Switching
+pub mod Coursing
+-- Ways: marks follow a script exactly when there is a way through its places
 pub mod Walking
+pub mod TreeLoads
+pub mod FollowWays
 pub mod WaysFollow
+pub mod Owning
+-- The follower: the least place at which each passing may end (src/follower.rt)
+pub mod LeastEnds
+pub mod LeastMarks
+pub mod PassingEnds
+pub mod Bounding
+pub mod Waiting
+pub mod Ending
+pub mod Stepping
+pub mod Judged
+-- The segments of a thread, and the trace that they are compared with (src/blocks.rt)
+pub mod Segmenting
+pub mod Recordings
+pub mod Comparing
+-- The judge: a thread is walked through its plain run, and the first fault is found (src/judging.rt)
+pub mod Walked
+pub mod Onward
+pub mod Found
+pub mod Finding
+pub mod Agreeing
+pub mod Firsts
+pub mod Deciding
+-- The verdict: there is one, only one, and a lawful run is accepted (src/laws.rt)
+pub mod SomeRuns
+pub mod OneVerdict
+pub mod SomeVerdict
+pub mod Lawful
