@@ -2,10 +2,10 @@
 //!
 //! The words are read first, together with the wall time (`command_words`). A command is one module
 //! (`sim`, `plain`, `extract`, `asm`, `account`, `stack`, `convert`, `dump`, `check`, `soak`,
-//! `import`), which implements
-//! `Work`, or starts threads (`run`, `profile`). It takes its inputs in their order (`inputs_of`, `input`). Each is read, measured and
-//! judged before the next is opened, so the first that fails decides. Then it does its work, and
-//! writes its outputs and its text (`delivery`). What is written of traced threads is in `traced`.
+//! `import`), which implements `Work`, or starts threads (`run`, `profile`). It takes its inputs in
+//! their order (`inputs_of`, `input`). Each is read, measured and judged before the next is opened,
+//! so the first that fails decides. Then it does its work, and writes its outputs and its text
+//! (`delivery`). What is written of traced threads is in `traced`.
 //! The inputs of `soak` are `drawn`, and its text is a `summary`. Last, if something stopped the
 //! call, a line on err says what (`stop`).
 //!
