@@ -3,15 +3,15 @@ pub mod Rows
 -- The walk over rows: which frames open and end at a row, and where each is drawn (src/walk.rt, src/sums.rt)
 pub mod Measures
 pub mod Orders
-pub mod Spans
-pub mod Endings
-pub mod Drawing
+pub mod FrameSpans
+pub mod OpenFrames
+pub mod DrawnFrames
 pub mod Scales
 -- The names: what a picture shows of them is UTF-8 (src/names.rt, src/laws.rt)
-pub mod Splitting
+pub mod NameCharacters
 pub mod NameTexts
 -- The laws of a picture: no frame sticks out of its caller, and the lowest row adds up to the whole (src/laws.rt)
-pub mod Within
-pub mod Lowest
+pub mod NestedFrames
+pub mod LowestRow
 -- The rows of a stack report can be drawn (src/laws.rt)
-pub mod Sorted
+pub mod StackRows

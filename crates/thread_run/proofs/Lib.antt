@@ -1,16 +1,16 @@
 -- A worker: what a load makes of its thread and of its seat (src/worker.rt, src/thread.rt, src/work.rt)
-pub mod Events
-pub mod Loading
-pub mod Turns
-pub mod Crossing
+pub mod RecordedEvents
+pub mod LoadAndSeat
+pub mod WorkerLoads
+pub mod WorkersCross
 -- A recorder: one more event in its segments (src/recorder.rt)
-pub mod Cuts
-pub mod Notes
+pub mod SegmentCuts
+pub mod NotedEvents
 -- Buffers in the pool and in hands: which are left of each thread, in any order
-pub mod Pooled
-pub mod Order
+pub mod PoolAndHands
+pub mod BufferOrder
 -- Runs: what workers leave is what runs leave (src/recorded.rt, src/running.rt, src/whole.rt)
-pub mod Each
-pub mod Started
+pub mod EachItem
+pub mod StartedWorkers
 pub mod RunLemmas
-pub mod Gathered
+pub mod GatheredRuns
