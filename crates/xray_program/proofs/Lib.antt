@@ -7,6 +7,7 @@ pub mod AcceptedInputs
 -- The headline of `sim` and of `run`
 pub mod Headline
 pub mod RunLoads
+pub mod SpokenLines
 -- What `sim` and `run` leave is accepted by `check` (src/laws.rt)
 pub mod CheckYes
 pub mod AuditLengths
