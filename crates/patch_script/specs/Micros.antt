@@ -30,18 +30,7 @@ sleds_of program id = filter (λ s. s.1.id == id) (all_sleds program)
 abbrev pub patches : Program → Command → List Numbered
 patches program commands.Patch = all_sleds program
 patches program (commands.PatchFunction id) = sleds_of program id
-patches program commands.Unpatch = []
-patches program (commands.UnpatchFunction id) = []
-patches program commands.SetHandler = []
-patches program commands.RemoveHandler = []
-patches program commands.SetArgHandler = []
-patches program commands.RemoveArgHandler = []
-patches program commands.Init = []
-patches program commands.Finalize = []
-patches program (commands.Hold thread passing) = []
-patches program commands.Go = []
-patches program (commands.Release thread) = []
-patches program (commands.Await thread count) = []
+patches program _ = []
 
 -- patching a sled stores its id, its opcode and its offset, and then its head
 abbrev pub patch_sled : Program → Numbered → List Micro

@@ -35,17 +35,7 @@ abbrev pub is_waiting : Command → Bool
 is_waiting (commands.Hold thread passing) = true
 is_waiting (commands.Release thread) = true
 is_waiting (commands.Await thread count) = true
-is_waiting commands.Patch = false
-is_waiting commands.Unpatch = false
-is_waiting (commands.PatchFunction id) = false
-is_waiting (commands.UnpatchFunction id) = false
-is_waiting commands.SetHandler = false
-is_waiting commands.RemoveHandler = false
-is_waiting commands.SetArgHandler = false
-is_waiting commands.RemoveArgHandler = false
-is_waiting commands.Init = false
-is_waiting commands.Finalize = false
-is_waiting commands.Go = false
+is_waiting _ = false
 
 -- the line of the first hold, release or await
 abbrev pub waiting_line : Lines → Option ℕ

@@ -54,34 +54,13 @@ is_beyond count number = number == 0 || nat_lt count number
 abbrev pub names_no_function : Program → Command → Bool
 names_no_function program (commands.PatchFunction id) = is_beyond (id_count program) id
 names_no_function program (commands.UnpatchFunction id) = is_beyond (id_count program) id
-names_no_function program commands.Patch = false
-names_no_function program commands.Unpatch = false
-names_no_function program commands.SetHandler = false
-names_no_function program commands.RemoveHandler = false
-names_no_function program commands.SetArgHandler = false
-names_no_function program commands.RemoveArgHandler = false
-names_no_function program commands.Init = false
-names_no_function program commands.Finalize = false
-names_no_function program (commands.Hold thread passing) = false
-names_no_function program commands.Go = false
-names_no_function program (commands.Release thread) = false
-names_no_function program (commands.Await thread count) = false
+names_no_function program _ = false
 
 abbrev pub names_no_thread : ℕ → Command → Bool
 names_no_thread threads (commands.Hold thread passing) = is_beyond threads thread
 names_no_thread threads (commands.Release thread) = is_beyond threads thread
 names_no_thread threads (commands.Await thread count) = is_beyond threads thread
-names_no_thread threads commands.Patch = false
-names_no_thread threads commands.Unpatch = false
-names_no_thread threads (commands.PatchFunction id) = false
-names_no_thread threads (commands.UnpatchFunction id) = false
-names_no_thread threads commands.SetHandler = false
-names_no_thread threads commands.RemoveHandler = false
-names_no_thread threads commands.SetArgHandler = false
-names_no_thread threads commands.RemoveArgHandler = false
-names_no_thread threads commands.Init = false
-names_no_thread threads commands.Finalize = false
-names_no_thread threads commands.Go = false
+names_no_thread threads _ = false
 
 -- Threads are held before `go`, and released and awaited after it. There is one `go`.
 abbrev pub is_misplaced : List Command → Command → Bool
@@ -89,68 +68,25 @@ is_misplaced before commands.Go = has_go before
 is_misplaced before (commands.Hold thread passing) = has_go before
 is_misplaced before (commands.Release thread) = not (has_go before)
 is_misplaced before (commands.Await thread count) = not (has_go before)
-is_misplaced before commands.Patch = false
-is_misplaced before commands.Unpatch = false
-is_misplaced before (commands.PatchFunction id) = false
-is_misplaced before (commands.UnpatchFunction id) = false
-is_misplaced before commands.SetHandler = false
-is_misplaced before commands.RemoveHandler = false
-is_misplaced before commands.SetArgHandler = false
-is_misplaced before commands.RemoveArgHandler = false
-is_misplaced before commands.Init = false
-is_misplaced before commands.Finalize = false
+is_misplaced before _ = false
 
 -- a thread is held once, and a held thread is released once
 abbrev pub breaks_hold : List Command → Command → Bool
 breaks_hold before (commands.Hold thread passing) = is_held thread before
 breaks_hold before (commands.Release thread) = not (is_held thread before) || is_released thread before
-breaks_hold before commands.Patch = false
-breaks_hold before commands.Unpatch = false
-breaks_hold before (commands.PatchFunction id) = false
-breaks_hold before (commands.UnpatchFunction id) = false
-breaks_hold before commands.SetHandler = false
-breaks_hold before commands.RemoveHandler = false
-breaks_hold before commands.SetArgHandler = false
-breaks_hold before commands.RemoveArgHandler = false
-breaks_hold before commands.Init = false
-breaks_hold before commands.Finalize = false
-breaks_hold before commands.Go = false
-breaks_hold before (commands.Await thread count) = false
+breaks_hold before _ = false
 
 -- the log is initialized once, and finalized once after that
 abbrev pub breaks_log : List Command → Command → Bool
 breaks_log before commands.Init = list_any is_init before
 breaks_log before commands.Finalize = not (list_any is_init before) || list_any is_finalize before
-breaks_log before commands.Patch = false
-breaks_log before commands.Unpatch = false
-breaks_log before (commands.PatchFunction id) = false
-breaks_log before (commands.UnpatchFunction id) = false
-breaks_log before commands.SetHandler = false
-breaks_log before commands.RemoveHandler = false
-breaks_log before commands.SetArgHandler = false
-breaks_log before commands.RemoveArgHandler = false
-breaks_log before (commands.Hold thread passing) = false
-breaks_log before commands.Go = false
-breaks_log before (commands.Release thread) = false
-breaks_log before (commands.Await thread count) = false
+breaks_log before _ = false
 
 -- a thread that is held before a passing, and not released, makes no more passings than the ones before it
 abbrev pub waits_for_itself : List Command → Command → Bool
 waits_for_itself before (commands.Await thread count) =
     option_map_or (λ passing. nat_lt passing count) (hold_of thread before) false && not (is_released thread before)
-waits_for_itself before commands.Patch = false
-waits_for_itself before commands.Unpatch = false
-waits_for_itself before (commands.PatchFunction id) = false
-waits_for_itself before (commands.UnpatchFunction id) = false
-waits_for_itself before commands.SetHandler = false
-waits_for_itself before commands.RemoveHandler = false
-waits_for_itself before commands.SetArgHandler = false
-waits_for_itself before commands.RemoveArgHandler = false
-waits_for_itself before commands.Init = false
-waits_for_itself before commands.Finalize = false
-waits_for_itself before (commands.Hold thread passing) = false
-waits_for_itself before commands.Go = false
-waits_for_itself before (commands.Release thread) = false
+waits_for_itself before _ = false
 
 -- no row refuses a command that follows these
 pub record IsAdmitted (program : Program) (threads : ℕ) (before : List Command) (command : Command) : Type 0 where
