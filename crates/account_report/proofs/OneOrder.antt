@@ -9,7 +9,7 @@ use Rattle.std.proofs.lemmas.List.Sorted.{IsPermutation-map, IsPermutation-sym}
 use Rattle.std.proofs.lemmas.Map.Keys.{IsDistinct-head, IsDistinct-tail, IsDistinct-IsPermutation}
 use Rattle.stack_rebuild.proofs.Items.{IsIn, Pairwise, in_either, in_longer, in_permutation, same_pairwise}
 use Rattle.account_report.specs.Ascending.{ordered_by, put_in}
-use Rattle.account_report.proofs.Rows.{flipped}
+use Rattle.account_report.proofs.HistoryRows.{flipped}
 
 -- each item precedes those after it
 abbrev Strict : {X : Type 0} → (X → X → Bool) → List X → Type 0

@@ -1,10 +1,14 @@
-pub mod Adding
-pub mod Among
-pub mod Bounds
-pub mod FrameLemmas
-pub mod Grouping
-pub mod Joining
+-- The nodes of a trie, and the table of their steps (src/nodes.rt, src/table.rt)
 pub mod NodeLemmas
+pub mod TableLemmas
+-- The frames of open calls (src/frames.rt)
+pub mod FrameLemmas
+-- The recorder: its fields after one more event, and that they are what stacks say (src/recorder.rt)
 pub mod Recording
 pub mod Standing
-pub mod TableLemmas
+pub mod Bounds
+-- The tallies of tries, added up (src/nodes.rt, src/merging.rt)
+pub mod Among
+pub mod Grouping
+pub mod Adding
+pub mod Joining

@@ -1,14 +1,18 @@
-pub mod Arguments
+-- Words: what each looks like, to clap and as an item, and the number that it writes (src/line.rt)
 pub mod WordShapes
+pub mod Texts
+pub mod NumberLemmas
+-- clap: what it makes of words is the line that they say (src/cutting.rt)
+pub mod Arguments
 pub mod Walking
 pub mod Levels
-pub mod Texts
 pub mod Built
 pub mod Pairs
-pub mod Cuts
 pub mod Gathering
-pub mod NumberLemmas
+pub mod Cuts
+-- Commands: what is made of a line, by the rows of the table (src/words.rt, src/laws.rt)
 pub mod OfRows
 pub mod Outputs
 pub mod Readings
+-- Worked examples: command lines
 pub mod WorkedLines

@@ -1,6 +1,6 @@
 //! The events of a block.
 
-ghost use Rattle.std.specs.Prelude.{◌≡◌, ◌≤◌, ◌<◌, ◌+◌, ◌==◌, ◌++◌, length, drop, None, Ok, IfSome, OnOk, option_to_list};
+ghost use Rattle.std.specs.Prelude.{◌≡◌, ◌≤◌, ◌<◌, ◌+◌, ◌==◌, ◌++◌, length, drop, None, Ok, IfNone, IfSome, IsErr, OnOk, option_to_list};
 ghost use Rattle.fdr_file.specs.private.Reading.{Gives, events_on};
 ghost use Rattle.fdr_file.specs.Scanning.{argument_on, counted_on, entry_with, event_on, function_on, step_on};
 ghost use Rattle.fdr_file.specs.Traces.{logs_arg, record_length, standings};
@@ -139,8 +139,8 @@ pub(crate) fn step(ends: bool, at: u64, rec: Rec, base: Option<Base>) -> Result<
 }
 
 /// The record at a place of a block's bytes, after a record with a CPU and a counter: what is known
-/// after it, the events that it settles, and the place after it. `None` if it isn't whole, or may not
-/// stand there. `place` is its place in the file. The block ends at the place `end` of the bytes.
+/// after it, the events that it settles, and the place after it. `None` exactly if it isn't whole, or may
+/// not stand there. `place` is its place in the file. The block ends at the place `end` of the bytes.
 #[inline(always)]
 pub fn take_step(
     bytes: &[u8],
@@ -151,6 +151,8 @@ pub fn take_step(
 ) -> Option<(Step, usize)>
     requires { at ≤ length bytes.now }
     ensures says { IfSome result (λ x. event_on (x.1 == end) place base (drop at bytes.now) ≡ Ok x.0) }
+    ensures none { IfNone result (IsErr (event_on (at + record_length (drop at bytes.now) == end) place base
+        (drop at bytes.now))) }
     ensures next { IfSome result (λ x. (x.1 ≡ at + record_length (drop at bytes.now))
         × (at < x.1) × (x.1 ≤ length bytes.now)) }
 {

@@ -33,7 +33,7 @@ pub use longest::readable;
 pub use reading::read_trace;
 pub use records::{record_len, record_of};
 pub use scan::TraceScan;
-pub use stage::{Inside, Span, Stage, Told, judge, within_events};
+pub use stage::{Inside, Span, Stage, Told, end_among, judge, stage_at, within_events};
 pub use taker::{KeepNothing, Taker};
 pub use trace::{Block, Blocks, Events, Items, Trace};
 pub use version::{VERSION, Version};

@@ -1,6 +1,8 @@
 //! Reading a trace record by record: where the reading stands.
 
-ghost use Rattle.std.specs.Prelude.{◌≡◌, ◌≤◌, ◌+◌, ◌==◌, ℕ, Some, IfSome, length};
+ghost use Rattle.std.specs.Prelude.{◌≡◌, ◌≢◌, ◌≤◌, ◌+◌, ◌==◌, ℕ, Some, IfNone, IfSome, length};
+ghost use Rattle.fdr_file.specs.declared.events.Base.{Base as TheBase};
+ghost use Rattle.fdr_file.specs.declared.stage.Span.{Span as TheSpan};
 ghost use Rattle.fdr_file.specs.Scanning.{after_wall, extents_next, inside_judged, inside_next, record_within, stage_after, stage_judged, stage_within};
 
 use crate::events::{Base, step};
@@ -89,9 +91,12 @@ pub enum Told {
 }
 
 /// The place of the block, and the CPU and the counter, if a record among the events of a block is
-/// next, and a CPU was named before.
+/// next, and a CPU was named before. Otherwise `None`.
+#[inline(always)]
 pub fn within_events(stage: Stage) -> Option<(Span, Base)>
-    ensures { IfSome result (λ x. stage ≡ Stage.Within x.0 (Inside.Events (Some x.1))) }
+    ensures some { IfSome result (λ x. stage ≡ Stage.Within x.0 (Inside.Events (Some x.1))) }
+    ensures none { IfNone result ((span : TheSpan) (base : TheBase)
+        → stage ≢ Stage.Within span (Inside.Events (Some base))) }
 {
     let Stage::Within { span, inside } = stage else {
         return None;
@@ -104,7 +109,8 @@ pub fn within_events(stage: Stage) -> Option<(Span, Base)>
 
 /// Where a block ends among bytes that begin at this place, counted from their start. It is a place
 /// beyond them if the block doesn't end among them.
-pub(crate) fn end_among(span: Span, at: u64, bytes: &[u8]) -> usize
+#[inline(always)]
+pub fn end_among(span: Span, at: u64, bytes: &[u8]) -> usize
     ensures { (next : ℕ) → next ≤ length bytes.now → (next == result) ≡ (at + next == span.end) }
 {
     let at = u128::from(at);
@@ -230,7 +236,8 @@ fn judge_within(
 }
 
 /// The stage after a record of a block that ends at this place.
-pub(crate) fn stage_at(span: Span, at: u128, inside: Inside) -> Stage
+#[inline(always)]
+pub fn stage_at(span: Span, at: u128, inside: Inside) -> Stage
     ensures { result ≡ stage_after span at inside }
 {
     if at == span.end {

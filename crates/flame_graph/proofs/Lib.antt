@@ -1,12 +1,17 @@
-pub mod Drawing
-pub mod Endings
-pub mod Lowest
-pub mod Measures
-pub mod NameTexts
-pub mod Orders
+-- Worked examples: names, places and pictures
 pub mod Rows
+-- The walk over rows: which frames open and end at a row, and where each is drawn (src/walk.rt, src/sums.rt)
+pub mod Measures
+pub mod Orders
+pub mod FrameSpans
+pub mod OpenFrames
+pub mod DrawnFrames
 pub mod Scales
-pub mod Sorted
-pub mod Spans
-pub mod Splitting
-pub mod Within
+-- The names: what a picture shows of them is UTF-8 (src/names.rt, src/laws.rt)
+pub mod NameCharacters
+pub mod NameTexts
+-- The laws of a picture: no frame sticks out of its caller, and the lowest row adds up to the whole (src/laws.rt)
+pub mod NestedFrames
+pub mod LowestRow
+-- The rows of a stack report can be drawn (src/laws.rt)
+pub mod StackRows

@@ -15,7 +15,7 @@ use Rattle.machine_step.specs.declared.step.Step.{Step}
 use Rattle.machine_step.specs.private.Steps.{IsPlaceOf, IsStepAt}
 use Rattle.machine_step.proofs.OneUnit.{has_byte}
 use Rattle.machine_step.proofs.Places.{place_more}
-use Rattle.machine_step.proofs.Stepping.{AreInOrder}
+use Rattle.machine_step.proofs.MachineSteps.{AreInOrder}
 
 -- ---- the code's size
 

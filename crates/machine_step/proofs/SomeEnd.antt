@@ -23,8 +23,8 @@ use Rattle.machine_step.specs.private.Machine.{Taken, state_at, first_machine, I
 use Rattle.machine_step.specs.private.Steps.{IsStepOfInstruction, IsStepOf, IsStepAt, step_of_sled}
 use Rattle.machine_step.proofs.Accepted.{are_in_order, has_sled}
 use Rattle.machine_step.proofs.Places.{has_place}
-use Rattle.machine_step.proofs.Runs.{Stands, measure, goes_on, goes_back, ends_there, stands_within, measure_falls}
-use Rattle.machine_step.proofs.Stepping.{AreInOrder}
+use Rattle.machine_step.proofs.MachineRuns.{Stands, measure, goes_on, goes_back, ends_there, stands_within, measure_falls}
+use Rattle.machine_step.proofs.MachineSteps.{AreInOrder}
 
 -- ---- each place has its step
 

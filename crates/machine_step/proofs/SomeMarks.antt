@@ -20,9 +20,9 @@ use Rattle.machine_step.specs.PlainStep.{Passing, PlainRun, RunsTo, State}
 use Rattle.machine_step.specs.private.Stages.{after_load, word_at}
 use Rattle.machine_step.specs.Traced.{sleds_passed, steps_left}
 use Rattle.machine_step.proofs.EachPassing.{steps_each}
-use Rattle.machine_step.proofs.LoadFacts.{next_left, some_left}
+use Rattle.machine_step.proofs.LoadedValues.{next_left, some_left}
 use Rattle.machine_step.proofs.StagesLeft.{left_at, steps_left_at}
-use Rattle.machine_step.proofs.Loading.{Adds, InPassing, in_passing, marks_step, next_step, no_marks}
+use Rattle.machine_step.proofs.MarksAfterLoad.{Adds, InPassing, in_passing, marks_step, next_step, no_marks}
 use Rattle.machine_step.proofs.WordsAt.{release_stage}
 
 -- ---- the sleds that a plain run passes

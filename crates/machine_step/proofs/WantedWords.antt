@@ -11,7 +11,7 @@ use Rattle.machine_step.specs.Loads.{Load, marks_of, next_load}
 use Rattle.machine_step.specs.PlainStep.{Passing, PlainRun, State}
 use Rattle.machine_step.specs.private.Stages.{word_at}
 use Rattle.machine_step.specs.Traced.{sleds_passed}
-use Rattle.machine_step.proofs.Loading.{in_passing}
+use Rattle.machine_step.proofs.MarksAfterLoad.{in_passing}
 use Rattle.machine_step.proofs.SomeMarks.{held_passing, run_sleds, sled_within}
 use Rattle.machine_step.proofs.WordsAt.{release_stage}
 

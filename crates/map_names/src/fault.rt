@@ -2,8 +2,8 @@
 
 use thiserror::Error;
 
-/// Why `read_map` gives no names. The answer is the refusal of the first line that is refused, with its
-/// number, counted from 1.
+/// Why `read_map` returns no names: the refusal of the first line that is refused, with its number,
+/// counted from 1.
 #[derive(Clone, Copy, Debug, PartialEq, Eq, Error)]
 pub enum MapFault {
     /// The line isn't `---` where the map begins, or neither says an entry nor ends the map; or it

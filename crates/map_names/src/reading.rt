@@ -86,7 +86,7 @@ fn read_lines(alloc: Global, text: &[u8]) -> Result<Draft, MapFault>
 /// gives the name of this id.
 ///
 /// A text that isn't a sled map is refused by its first line that isn't as it has to be; see
-/// `MapFault`. `NoMemory` may come in place of any answer.
+/// `MapFault`. `NoMemory` may be returned in place of any other result.
 pub fn read_map(alloc: Global, text: &[u8]) -> Result<MapNames, MapFault>
     requires { length text.now < u32.MAX }
     ensures reads { IsReading (map_naming text.now) result }

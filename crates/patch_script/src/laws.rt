@@ -46,7 +46,8 @@ pub fn stores_give_the_code()
         → AreCodeAt program threads script (place + 1) (stored words (micro_at program threads script place)) }
     ensures word { (program : Program) (threads : ℕ) (script : List Command) (place word : ℕ)
         → code_at program threads script (place + 1) word
-        ≡ unwrap_or (stored_in word (micro_at program threads script place)) (code_at program threads script place word) }
+        ≡ unwrap_or (stored_in word (micro_at program threads script place))
+        (code_at program threads script place word) }
 {}
 
 /// How far the patcher may have come while a thread makes a passing: up to the first micro step

@@ -85,7 +85,8 @@ impl Script {
     pub fn micro(&self, p: u64) -> Micro
         ensures micro { result ≡ micro_at self.now.program self.now.threads (commands_of self.now.lines) p }
         ensures within { IsWithin self.now result }
-        ensures end { (result ≡ Micro.End) ↔ (total_of self.now.program self.now.threads (commands_of self.now.lines) ≤ p) }
+        ensures end { (result ≡ Micro.End)
+            ↔ (total_of self.now.program self.now.threads (commands_of self.now.lines) ≤ p) }
     {
         self.micro_near(p, &mut 0)
     }
@@ -99,7 +100,8 @@ impl Script {
     pub fn micro_near(&self, p: u64, near: &mut u32) -> Micro
         ensures micro { result ≡ micro_at self.now.program self.now.threads (commands_of self.now.lines) p }
         ensures within { IsWithin self.now result }
-        ensures end { (result ≡ Micro.End) ↔ (total_of self.now.program self.now.threads (commands_of self.now.lines) ≤ p) }
+        ensures end { (result ≡ Micro.End)
+            ↔ (total_of self.now.program self.now.threads (commands_of self.now.lines) ≤ p) }
     {
         self.placed.micro_near(p, near)
     }

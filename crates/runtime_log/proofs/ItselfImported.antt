@@ -1,5 +1,5 @@
--- A file that is written for buffers with events, each of which comes before those behind it, is imported as itself.
-use Rattle.std.proofs.Common.{◌≡◌, ℕ, suc, ◌+◌, ◌^◌, ◌/◌, ◌%◌, ◌<◌, ◌≤◌, Bool, true, false, cond, List, [], ◌∷◌, ◌++◌, length, drop, map, take, Option, Some, None, Result, Ok, Err, refl, sym, ap, subst, ◌∙◌, append_assoc, append-nil, length-append, arith}
+-- A file that is written for buffers with events, in order, is imported as itself.
+use Rattle.std.proofs.Common.{◌≡◌, ℕ, suc, ◌+◌, ◌^◌, ◌/◌, ◌%◌, ◌<◌, ◌≤◌, Bool, true, false, cond, eqb, List, [], ◌∷◌, ◌++◌, length, drop, map, take, Option, Some, None, Result, Ok, Err, refl, sym, ap, subst, ◌∙◌, append_assoc, append-nil, length-append, arith}
 use Rattle.std.specs.Prelude.{◌||◌, All, IsPermutation, IsTrue, filter, nat_lt, replicate}
 use Rattle.std.specs.List.{AllZip, flat_map}
 use Rattle.std.specs.Str.{bytes_eq}
@@ -7,7 +7,7 @@ use Rattle.std.specs.Cmp.Lexicographic.{bytes_decides, slice_cmp}
 use Rattle.std.specs.declared.cmp.Ordering.{Ordering}
 use Rattle.std.specs.declared.cmp.Ordering.TheVariants.{Less, Equal, Greater}
 use Rattle.std.specs.Ordering.{is_lt, nat_cmp, ordering_reverse, ordering_then}
-use Rattle.std.proofs.lemmas.Bool.{false_from_ne_true, le-leb, leb-true, ltb-true, true≢false}
+use Rattle.std.proofs.lemmas.Bool.{false_from_ne_true, le-leb, leb-true, lt-ltb, ltb-true}
 use Rattle.std.proofs.lemmas.Cmp.{nat_list_cmp_total, tied_itself}
 use Rattle.std.proofs.lemmas.List.{drop_at, map-append, take_at}
 use Rattle.std.proofs.lemmas.List.Concat.{flat_map-append, flat_map-cons}
@@ -33,13 +33,14 @@ use Rattle.fdr_file.specs.Traces.{block_length, header_in, trace_of}
 use Rattle.runtime_log.specs.declared.fault.LogFault.{LogFault}
 use Rattle.runtime_log.specs.declared.version.LogVersion.TheVariants.{Three}
 use Rattle.runtime_log.specs.Imports.{buffer_for, pieces_of, trace_file, trace_taken}
-use Rattle.runtime_log.specs.Laws.{AreRising, ImportsItself, buffer_key}
+use Rattle.runtime_log.specs.Laws.{AreInOrder, ImportsItself, MayStandBefore, buffer_key}
 use Rattle.runtime_log.specs.Logs.{Log, LogBlock, log_block_in, log_block_rows}
 use Rattle.runtime_log.specs.Taken.{AreTaken, chosen, first_counter, first_ones, has_events, is_among, order_key, undoubled}
+use Rattle.runtime_log.specs.private.Choices.{AreInFileOrder}
 use Rattle.runtime_log.proofs.BlockLists.{Onward, block_first, block_sized}
 use Rattle.runtime_log.proofs.FileOrder.{logged_order}
 use Rattle.runtime_log.proofs.OneImport.{one_taken}
-use Rattle.runtime_log.proofs.OneOrder.{NoneBefore, Rises, comes_first, is_before, sorted_from_rises}
+use Rattle.runtime_log.proofs.OneOrder.{NoneBefore, Rises, is_before, sorted_from_rises}
 use Rattle.runtime_log.proofs.TraceIsLog.{log_of_trace}
 use Rattle.runtime_log.proofs.WholeLogs.{block_parts}
 
@@ -134,14 +135,14 @@ are_of (b ∷ blocks) (buffer ∷ buffers) contents told =
     let later : map (λ (x : LogBlock). x.block) blocks ≡ map block_told buffers = cc in
     ((contents.0, here), are_of blocks buffers contents.1 later)
 
--- each buffer comes before those behind it
+-- each buffer may stand before those behind it
 abbrev IsEarlier : Filled → Filled → Type 0
-IsEarlier buffer later = IsTrue (comes_first (buffer_key buffer) (buffer_key later))
+IsEarlier buffer later = MayStandBefore (slice_cmp nat_cmp (buffer_key buffer) (buffer_key later)) buffer later
 
-rising_first : (buffer : Filled) (buffers : List Filled) → AreRising (buffer ∷ buffers) → All (IsEarlier buffer) buffers
+rising_first : (buffer : Filled) (buffers : List Filled) → AreInOrder (buffer ∷ buffers) → All (IsEarlier buffer) buffers
 rising_first buffer buffers rising = λ k d below. rising 0 (suc k) d (omega arith) (omega arith)
 
-rising_later : (buffer : Filled) (buffers : List Filled) → AreRising (buffer ∷ buffers) → AreRising buffers
+rising_later : (buffer : Filled) (buffers : List Filled) → AreInOrder (buffer ∷ buffers) → AreInOrder buffers
 rising_later buffer buffers rising = λ i j d further below. rising (suc i) (suc j) d (omega arith) (omega arith)
 
 -- ---- none is left out
@@ -174,11 +175,19 @@ AreFresh contents buffers = All (λ (b : Filled). is_among contents (used_bytes 
 
 -- an earlier buffer has other bytes
 other_bytes : Reads → (header : Header) → HeaderFits header → (one later : Filled) → BlockFits one → BlockFits later → IsEarlier one later → bytes_eq (used_bytes later) (used_bytes one) ≡ false
-other_bytes reads header fits one later fit fit_later earlier = false_from_ne_true (bytes_eq (used_bytes later) (used_bytes one)) (λ e.
-    let told = same_told reads header fits later one fit_later fit ((bytes_decides (used_bytes later) (used_bytes one)).0 e) in
-    let key : Block → List ℕ = λ b. b.thread ∷ b.wall.secs ∷ b.wall.micros ∷ first_counter b.events ∷ [] in
-    let level : comes_first (buffer_key one) (buffer_key later) ≡ false = ap (λ (b : Block). comes_first (buffer_key one) (key b)) told ∙ ap is_lt (tied_itself nat_list_cmp_total (buffer_key one)) in
-    true≢false (sym earlier ∙ level))
+other_bytes reads header fits one later fit fit_later earlier =
+    false_from_ne_true (bytes_eq (used_bytes later) (used_bytes one))
+    (λ e. by_order (slice_cmp nat_cmp (buffer_key one) (buffer_key later)) refl earlier ((bytes_decides (used_bytes later) (used_bytes one)).0 e))
+  where
+    by_order : (o : Ordering) → slice_cmp nat_cmp (buffer_key one) (buffer_key later) ≡ o → MayStandBefore o one later → used_bytes later ≡ used_bytes one → ⊥
+    by_order Less e first same =
+        let told = same_told reads header fits later one fit_later fit same in
+        let key : Block → List ℕ = λ b. b.thread ∷ b.wall.secs ∷ b.wall.micros ∷ first_counter b.events ∷ [] in
+        let level : slice_cmp nat_cmp (buffer_key one) (buffer_key later) ≡ Equal =
+        ap (λ (b : Block). slice_cmp nat_cmp (buffer_key one) (key b)) told ∙ tied_itself nat_list_cmp_total (buffer_key one) in
+        absurd cc
+    by_order Equal e first same = first (sym same)
+    by_order Greater e first same = first
 
 fresh_more : Reads → (header : Header) → HeaderFits header → (contents : List (List ℕ)) (content : List ℕ) (one : Filled) (buffers : List Filled) → content ≡ used_bytes one → BlockFits one
     → All BlockFits buffers → All (IsEarlier one) buffers → AreFresh contents buffers → AreFresh (content ∷ contents) buffers
@@ -192,7 +201,7 @@ fresh_more reads header fits contents content one (b ∷ buffers) is fit all ear
     (All-tail (λ (x : Filled). is_among contents (used_bytes x) ≡ false) b buffers fresh))
 
 all_first : Reads → (header : Header) → HeaderFits header → (contents : List (List ℕ)) (blocks : List LogBlock) (buffers : List Filled) → AllZip IsOf blocks buffers → All BlockFits buffers
-    → AreRising buffers → AreFresh contents buffers → first_ones contents blocks ≡ blocks
+    → AreInOrder buffers → AreFresh contents buffers → first_ones contents blocks ≡ blocks
 all_first reads header fits contents [] [] are all rising fresh = refl
 all_first reads header fits contents [] (b ∷ buffers) are all rising fresh = absurd are
 all_first reads header fits contents (x ∷ blocks) [] are all rising fresh = absurd are
@@ -234,36 +243,55 @@ key_more (x ∷ one) (y ∷ other) p q long less = by_first (nat_cmp x y) less (
     by_first Equal e again = again e
     by_first Greater e again = absurd cc
 
-less_is : (o : Ordering) → is_lt o ≡ true → o ≡ Less
-less_is Less e = refl
-less_is Equal e = absurd cc
-less_is Greater e = absurd cc
+-- of two level keys the one with less behind it comes first
+key_level : (one other : List ℕ) (p q : ℕ) → length one ≡ length other → slice_cmp nat_cmp one other ≡ Equal → p < q → slice_cmp nat_cmp (one ++ p ∷ []) (other ++ q ∷ []) ≡ Less
+key_level [] [] p q long level below = ap (λ (b : Bool). ordering_then (cond b Less (cond (eqb p q) Equal Greater)) (slice_cmp nat_cmp [] [])) (lt-ltb p q below)
+key_level [] (y ∷ other) p q long level below = absurd (omega (arith, long))
+key_level (x ∷ one) [] p q long level below = absurd (omega (arith, long))
+key_level (x ∷ one) (y ∷ other) p q long level below = by_first (nat_cmp x y) level (λ e. key_level one other p q (omega (arith, long)) e below)
+  where
+    by_first : (o : Ordering) → ordering_then o (slice_cmp nat_cmp one other) ≡ Equal → (slice_cmp nat_cmp one other ≡ Equal → slice_cmp nat_cmp (one ++ p ∷ []) (other ++ q ∷ []) ≡ Less)
+        → ordering_then o (slice_cmp nat_cmp (one ++ p ∷ []) (other ++ q ∷ [])) ≡ Less
+    by_first Less e again = refl
+    by_first Equal e again = again e
+    by_first Greater e again = absurd cc
 
 -- the key of a block, by that of its buffer
 key_of : (x : LogBlock) (b : Filled) → IsOf x b → order_key x ≡ buffer_key b ++ x.place ∷ []
 key_of x b is = ap (λ (y : Block). y.thread ∷ y.wall.secs ∷ y.wall.micros ∷ first_counter y.events ∷ x.place ∷ []) is.1
 
-not_before : (x y : LogBlock) (b later : Filled) → IsOf x b → IsOf y later → IsEarlier b later → is_before order_key y x ≡ false
-not_before x y b later is is_later earlier =
+not_before : (x y : LogBlock) (b later : Filled) → IsOf x b → IsOf y later → x.place < y.place → IsEarlier b later → is_before order_key y x ≡ false
+not_before x y b later is is_later below earlier =
     let less : slice_cmp nat_cmp (order_key x) (order_key y) ≡ Less =
     ap (λ (k : List ℕ). slice_cmp nat_cmp k (order_key y)) (key_of x b is)
     ∙ ap (λ (k : List ℕ). slice_cmp nat_cmp (buffer_key b ++ x.place ∷ []) k) (key_of y later is_later)
-    ∙ key_more (buffer_key b) (buffer_key later) x.place y.place refl (less_is (slice_cmp nat_cmp (buffer_key b) (buffer_key later)) earlier) in
+    ∙ by_order (slice_cmp nat_cmp (buffer_key b) (buffer_key later)) refl earlier in
     ap is_lt (nat_list_cmp_total.antisymm (order_key y) (order_key x)) ∙ ap (λ (o : Ordering). is_lt (ordering_reverse o)) less
+  where
+    by_order : (o : Ordering) → slice_cmp nat_cmp (buffer_key b) (buffer_key later) ≡ o → MayStandBefore o b later
+        → slice_cmp nat_cmp (buffer_key b ++ x.place ∷ []) (buffer_key later ++ y.place ∷ []) ≡ Less
+    by_order Less e first = key_more (buffer_key b) (buffer_key later) x.place y.place refl e
+    by_order Equal e first = key_level (buffer_key b) (buffer_key later) x.place y.place refl e below
+    by_order Greater e first = absurd first
 
-none_before : (x : LogBlock) (b : Filled) (blocks : List LogBlock) (buffers : List Filled) → IsOf x b → AllZip IsOf blocks buffers → All (IsEarlier b) buffers → NoneBefore order_key x blocks
-none_before x b [] [] is are earlier = tt
-none_before x b [] (later ∷ buffers) is are earlier = absurd are
-none_before x b (y ∷ blocks) [] is are earlier = absurd are
-none_before x b (y ∷ blocks) (later ∷ buffers) is are earlier =
-    (not_before x y b later is are.0 (All-head (IsEarlier b) later buffers earlier), none_before x b blocks buffers is are.1 (All-tail (IsEarlier b) later buffers earlier))
+none_before : (from to : ℕ) (x : LogBlock) (b : Filled) (blocks : List LogBlock) (buffers : List Filled) → IsOf x b → AllZip IsOf blocks buffers → All (IsEarlier b) buffers
+    → AreInFileOrder from to blocks → x.place < from → NoneBefore order_key x blocks
+none_before from to x b [] [] is are earlier order below = tt
+none_before from to x b [] (later ∷ buffers) is are earlier order below = absurd are
+none_before from to x b (y ∷ blocks) [] is are earlier order below = absurd are
+none_before from to x b (y ∷ blocks) (later ∷ buffers) is are earlier order below = (
+  not_before x y b later is are.0 (omega (arith, order.0, below)) (All-head (IsEarlier b) later buffers earlier),
+  none_before (1 + y.place) to x b blocks buffers is are.1 (All-tail (IsEarlier b) later buffers earlier) order.1 (omega (arith, order.0, below)),
+)
 
-they_rise : (blocks : List LogBlock) (buffers : List Filled) → AllZip IsOf blocks buffers → AreRising buffers → Rises order_key blocks
-they_rise [] [] are rising = tt
-they_rise [] (b ∷ buffers) are rising = absurd are
-they_rise (x ∷ blocks) [] are rising = absurd are
-they_rise (x ∷ blocks) (b ∷ buffers) are rising =
-    (none_before x b blocks buffers are.0 are.1 (rising_first b buffers rising), they_rise blocks buffers are.1 (rising_later b buffers rising))
+they_rise : (from to : ℕ) (blocks : List LogBlock) (buffers : List Filled) → AllZip IsOf blocks buffers → AreInOrder buffers → AreInFileOrder from to blocks → Rises order_key blocks
+they_rise from to [] [] are rising order = tt
+they_rise from to [] (b ∷ buffers) are rising order = absurd are
+they_rise from to (x ∷ blocks) [] are rising order = absurd are
+they_rise from to (x ∷ blocks) (b ∷ buffers) are rising order = (
+  none_before (1 + x.place) to x b blocks buffers are.0 are.1 (rising_first b buffers rising) order.1 (omega arith),
+  they_rise (1 + x.place) to blocks buffers are.1 (rising_later b buffers rising) order.1,
+)
 
 -- ---- they are written as they were
 
@@ -350,7 +378,7 @@ imports_itself by_records reads header buffers file facts fits fit some rising m
     let chosen_are : chosen blocks ≡ blocks = ap (filter has_events) once ∙ all_have_events blocks buffers are some in
     let takes : AreTaken blocks blocks = record {
       all = subst (λ (bs : List LogBlock). IsPermutation bs blocks) (sym chosen_are) (IsPermutation-refl blocks);
-      sorted = sorted_from_rises order_key blocks (they_rise blocks buffers are rising);
+      sorted = sorted_from_rises order_key blocks (they_rise 0 (length bytes) blocks buffers are rising (logged_order bytes t.log t.says));
     } in
     let made_takes = subst (λ (l : Log). AreTaken l.blocks made.taken) (sym log) made.takes in
     let taken : made.taken ≡ blocks = one_taken (length bytes) blocks made.taken blocks (logged_order bytes t.log t.says) made_takes takes in

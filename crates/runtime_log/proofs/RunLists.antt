@@ -123,15 +123,15 @@ owner_is bytes run placed owner r is thread pid =
     ∙ ap (λ (p : ℕ). same_owner (made owner.thread p) (owner_of r)) (sym (pid ∙ is.at.shows.pid))
 
 -- the end of the last block
-ends_last : (end : ℕ) (front : List Placed) (placed : Placed) → placed.end ≡ end → EndsAt end (front ++ placed ∷ [])
+ends_last : (end : ℕ) (others : List Placed) (placed : Placed) → placed.end ≡ end → EndsAt end (others ++ placed ∷ [])
 ends_last end [] placed is = is
 ends_last end (p ∷ []) placed is = is
-ends_last end (p ∷ q ∷ front) placed is = ends_last end (q ∷ front) placed is
+ends_last end (p ∷ q ∷ others) placed is = ends_last end (q ∷ others) placed is
 
-last_ends : (end : ℕ) (front : List Placed) (placed : Placed) → EndsAt end (front ++ placed ∷ []) → placed.end ≡ end
+last_ends : (end : ℕ) (others : List Placed) (placed : Placed) → EndsAt end (others ++ placed ∷ []) → placed.end ≡ end
 last_ends end [] placed ends = ends
 last_ends end (p ∷ []) placed ends = ends
-last_ends end (p ∷ q ∷ front) placed ends = last_ends end (q ∷ front) placed ends
+last_ends end (p ∷ q ∷ others) placed ends = last_ends end (q ∷ others) placed ends
 
 -- the first record
 pub runs_begin : (bytes : List ℕ) (at : ℕ) (runs : List BasicRun) (r : BasicRec) (placed : Placed) → AreRuns bytes at runs [] → IsRun bytes placed (single_run (at, drop at bytes) r)
@@ -143,29 +143,29 @@ runs_begin bytes at (run ∷ runs) r placed are is end = absurd are.each
 abbrev AreEach : List ℕ → List Placed → List BasicRun → Type 0
 AreEach bytes places runs = AllZip (IsRun bytes) places runs
 
-no_run : (bytes : List ℕ) (front : List Placed) (last : Placed) → AreEach bytes (front ++ last ∷ []) [] → ⊥
+no_run : (bytes : List ℕ) (others : List Placed) (last : Placed) → AreEach bytes (others ++ last ∷ []) [] → ⊥
 no_run bytes [] last are = are
-no_run bytes (p ∷ front) last are = are
+no_run bytes (p ∷ others) last are = are
 
 -- a record of another thread or process than the last run
-each_apart : (bytes : List ℕ) (at : ℕ) (runs : List BasicRun) (r : BasicRec) (front : List Placed) (last : Placed) (owner : Owner) (placed : Placed) → AreEach bytes (front ++ last ∷ []) runs
+each_apart : (bytes : List ℕ) (at : ℕ) (runs : List BasicRun) (r : BasicRec) (others : List Placed) (last : Placed) (owner : Owner) (placed : Placed) → AreEach bytes (others ++ last ∷ []) runs
     → owner.thread ≡ last.thread → owner.pid ≡ last.pid → same_owner owner (owner_of r) ≡ false → IsRun bytes placed (single_run (at, drop at bytes) r)
-    → AreEach bytes ((front ++ last ∷ []) ++ placed ∷ []) (runs_with runs (at, drop at bytes) r)
-each_apart bytes at [] r front last owner placed are thread pid other is = absurd (no_run bytes front last are)
+    → AreEach bytes ((others ++ last ∷ []) ++ placed ∷ []) (runs_with runs (at, drop at bytes) r)
+each_apart bytes at [] r others last owner placed are thread pid other is = absurd (no_run bytes others last are)
 each_apart bytes at (run ∷ []) r [] last owner placed are thread pid other is =
     let apart : same_owner run.owner (owner_of r) ≡ false = owner_is bytes run last owner r are.0 thread pid ∙ other in
     subst (λ (b : Bool). AreEach bytes (last ∷ placed ∷ []) (cond b (longer_run run (at, drop at bytes) r ∷ []) (run ∷ single_run (at, drop at bytes) r ∷ []))) (sym apart) (are.0, (is, tt))
 each_apart bytes at (run ∷ second ∷ runs) r [] last owner placed are thread pid other is = absurd are.1
-each_apart bytes at (run ∷ []) r (p ∷ front) last owner placed are thread pid other is = absurd (no_run bytes front last are.1)
-each_apart bytes at (run ∷ second ∷ runs) r (p ∷ front) last owner placed are thread pid other is =
-    (are.0, each_apart bytes at (second ∷ runs) r front last owner placed are.1 thread pid other is)
+each_apart bytes at (run ∷ []) r (p ∷ others) last owner placed are thread pid other is = absurd (no_run bytes others last are.1)
+each_apart bytes at (run ∷ second ∷ runs) r (p ∷ others) last owner placed are thread pid other is =
+    (are.0, each_apart bytes at (second ∷ runs) r others last owner placed are.1 thread pid other is)
 
-pub runs_apart : (bytes : List ℕ) (at : ℕ) (runs : List BasicRun) (r : BasicRec) (front : List Placed) (last : Placed) (owner : Owner) (placed : Placed) → AreRuns bytes at runs (front ++ last ∷ [])
+pub runs_apart : (bytes : List ℕ) (at : ℕ) (runs : List BasicRun) (r : BasicRec) (others : List Placed) (last : Placed) (owner : Owner) (placed : Placed) → AreRuns bytes at runs (others ++ last ∷ [])
     → owner.thread ≡ last.thread → owner.pid ≡ last.pid → same_owner owner (owner_of r) ≡ false → IsRun bytes placed (single_run (at, drop at bytes) r)
-    → placed.end ≡ at + 32 → AreRuns bytes (at + 32) (runs_with runs (at, drop at bytes) r) ((front ++ last ∷ []) ++ placed ∷ [])
-runs_apart bytes at runs r front last owner placed are thread pid other is end = record {
-  each = each_apart bytes at runs r front last owner placed are.each thread pid other is;
-  ends = ends_last (at + 32) (front ++ last ∷ []) placed end;
+    → placed.end ≡ at + 32 → AreRuns bytes (at + 32) (runs_with runs (at, drop at bytes) r) ((others ++ last ∷ []) ++ placed ∷ [])
+runs_apart bytes at runs r others last owner placed are thread pid other is end = record {
+  each = each_apart bytes at runs r others last owner placed are.each thread pid other is;
+  ends = ends_last (at + 32) (others ++ last ∷ []) placed end;
 }
 
 -- a list, by its last item
@@ -185,25 +185,25 @@ pub record GoesOn (at : ℕ) (r : BasicRec) (old new : Placed) : Type 0 where
   pub first : new.first ≡ option_or old.first (counter_of r)
 
 -- one of the same thread and process
-each_join : (bytes : List ℕ) (at : ℕ) (runs : List BasicRun) (r : BasicRec) (front : List Placed) (last : Placed) (owner : Owner) (new : Placed) → AreEach bytes (front ++ last ∷ []) runs
+each_join : (bytes : List ℕ) (at : ℕ) (runs : List BasicRun) (r : BasicRec) (others : List Placed) (last : Placed) (owner : Owner) (new : Placed) → AreEach bytes (others ++ last ∷ []) runs
     → last.end ≡ at → owner.thread ≡ last.thread → owner.pid ≡ last.pid → same_owner owner (owner_of r) ≡ true → BelongsAt bytes at r → GoesOn at r last new
-    → AreEach bytes (front ++ new ∷ []) (runs_with runs (at, drop at bytes) r)
-each_join bytes at [] r front last owner new are ends thread pid same b goes = absurd (no_run bytes front last are)
+    → AreEach bytes (others ++ new ∷ []) (runs_with runs (at, drop at bytes) r)
+each_join bytes at [] r others last owner new are ends thread pid same b goes = absurd (no_run bytes others last are)
 each_join bytes at (run ∷ []) r [] last owner new are ends thread pid same b goes =
     let joined : same_owner run.owner (owner_of r) ≡ true = owner_is bytes run last owner r are.0 thread pid ∙ same in
     subst (λ (x : Bool). AreEach bytes (new ∷ []) (cond x (longer_run run (at, drop at bytes) r ∷ []) (run ∷ single_run (at, drop at bytes) r ∷ []))) (sym joined)
     (longer_is_run bytes at r run last new are.0 ends b goes.begin goes.end goes.thread goes.pid goes.wall goes.first, tt)
 each_join bytes at (run ∷ second ∷ runs) r [] last owner new are ends thread pid same b goes = absurd are.1
-each_join bytes at (run ∷ []) r (x ∷ front) last owner new are ends thread pid same b goes = absurd (no_run bytes front last are.1)
-each_join bytes at (run ∷ second ∷ runs) r (x ∷ front) last owner new are ends thread pid same b goes =
-    (are.0, each_join bytes at (second ∷ runs) r front last owner new are.1 ends thread pid same b goes)
+each_join bytes at (run ∷ []) r (x ∷ others) last owner new are ends thread pid same b goes = absurd (no_run bytes others last are.1)
+each_join bytes at (run ∷ second ∷ runs) r (x ∷ others) last owner new are ends thread pid same b goes =
+    (are.0, each_join bytes at (second ∷ runs) r others last owner new are.1 ends thread pid same b goes)
 
-pub runs_join : (bytes : List ℕ) (at : ℕ) (runs : List BasicRun) (r : BasicRec) (front : List Placed) (last : Placed) (owner : Owner) (new : Placed) → AreRuns bytes at runs (front ++ last ∷ [])
+pub runs_join : (bytes : List ℕ) (at : ℕ) (runs : List BasicRun) (r : BasicRec) (others : List Placed) (last : Placed) (owner : Owner) (new : Placed) → AreRuns bytes at runs (others ++ last ∷ [])
     → owner.thread ≡ last.thread → owner.pid ≡ last.pid → same_owner owner (owner_of r) ≡ true → BelongsAt bytes at r → GoesOn at r last new
-    → AreRuns bytes (at + 32) (runs_with runs (at, drop at bytes) r) (front ++ new ∷ [])
-runs_join bytes at runs r front last owner new are thread pid same b goes = record {
-  each = each_join bytes at runs r front last owner new are.each (last_ends at front last are.ends) thread pid same b goes;
-  ends = ends_last (at + 32) front new goes.end;
+    → AreRuns bytes (at + 32) (runs_with runs (at, drop at bytes) r) (others ++ new ∷ [])
+runs_join bytes at runs r others last owner new are thread pid same b goes = record {
+  each = each_join bytes at runs r others last owner new are.each (last_ends at others last are.ends) thread pid same b goes;
+  ends = ends_last (at + 32) others new goes.end;
 }
 
 -- the same, where the blocks are all but their last
@@ -212,21 +212,21 @@ pub runs_join_last : (bytes : List ℕ) (at : ℕ) (runs : List BasicRun) (r : B
     → GoesOn at r last new → AreRuns bytes (at + 32) (runs_with runs (at, drop at bytes) r) (set places (len - 1) new)
 runs_join_last bytes at runs r places len last owner new are long_is some is thread pid same b goes =
     let n = len - 1 in
-    let front = take n places in
-    let parts : places ≡ front ++ last ∷ [] = last_split places len last long_is some ∙ ap (λ (p : Placed). front ++ p ∷ []) (sym is) in
-    let long : length front ≡ n = length-take-le n places (omega (arith, some, long_is)) in
-    let made : set places n new ≡ front ++ new ∷ [] = ap (λ (ps : List Placed). set ps n new) parts ∙ set_at front last [] new n long in
+    let others = take n places in
+    let parts : places ≡ others ++ last ∷ [] = last_split places len last long_is some ∙ ap (λ (p : Placed). others ++ p ∷ []) (sym is) in
+    let long : length others ≡ n = length-take-le n places (omega (arith, some, long_is)) in
+    let made : set places n new ≡ others ++ new ∷ [] = ap (λ (ps : List Placed). set ps n new) parts ∙ set_at others last [] new n long in
     subst (λ (ps : List Placed). AreRuns bytes (at + 32) (runs_with runs (at, drop at bytes) r) ps) (sym made)
-    (runs_join bytes at runs r front last owner new (subst (λ (ps : List Placed). AreRuns bytes at runs ps) parts are) thread pid same b goes)
+    (runs_join bytes at runs r others last owner new (subst (λ (ps : List Placed). AreRuns bytes at runs ps) parts are) thread pid same b goes)
 
 pub runs_apart_last : (bytes : List ℕ) (at : ℕ) (runs : List BasicRun) (r : BasicRec) (places : List Placed) (len : ℕ) (last : Placed) (owner : Owner) (placed : Placed)
     → AreRuns bytes at runs places → len ≡ length places → 0 < len → last ≡ get_or places (len - 1) last → owner.thread ≡ last.thread → owner.pid ≡ last.pid → same_owner owner (owner_of r) ≡ false
     → IsRun bytes placed (single_run (at, drop at bytes) r) → placed.end ≡ at + 32 → AreRuns bytes (at + 32) (runs_with runs (at, drop at bytes) r) (places ++ placed ∷ [])
 runs_apart_last bytes at runs r places len last owner placed are long some is thread pid other run end =
-    let front = take (len - 1) places in
-    let parts : places ≡ front ++ last ∷ [] = last_split places len last long some ∙ ap (λ (p : Placed). front ++ p ∷ []) (sym is) in
+    let others = take (len - 1) places in
+    let parts : places ≡ others ++ last ∷ [] = last_split places len last long some ∙ ap (λ (p : Placed). others ++ p ∷ []) (sym is) in
     subst (λ (ps : List Placed). AreRuns bytes (at + 32) (runs_with runs (at, drop at bytes) r) (ps ++ placed ∷ [])) (sym parts)
-    (runs_apart bytes at runs r front last owner placed (subst (λ (ps : List Placed). AreRuns bytes at runs ps) parts are) thread pid other run end)
+    (runs_apart bytes at runs r others last owner placed (subst (λ (ps : List Placed). AreRuns bytes at runs ps) parts are) thread pid other run end)
 
 -- the blocks are at the places of their runs
 each_at : (bytes : List ℕ) (places : List Placed) (runs : List BasicRun) → AreEach bytes places runs → AreAt bytes Basic places (map run_block runs)

@@ -12,6 +12,7 @@ use Rattle.fdr_record.specs.declared.event.Kind.{Kind}
 use Rattle.fdr_record.specs.declared.event.Kind.TheVariants.{Entry, Exit, TailExit, EntryArgs}
 use Rattle.fdr_record.specs.Recordable.{ArgFits, IsRecordable}
 use Rattle.fdr_buffer.specs.Segments.{EventFits}
+use Rattle.basic_record.specs.BasicRecords.{arg_logged}
 use Rattle.fdr_file.specs.Traces.{logs_arg}
 use Rattle.fdr_file.specs.declared.fault.TraceFault.TheVariants as traces
 use Rattle.runtime_log.specs.declared.basic.BasicRec.{BasicRec}
@@ -68,8 +69,8 @@ read_more (suc n) bytes chunk r long whole all is =
     rest : List ℕ
     rest = drop 32 bytes
 
-    front : take 32 (bytes ++ chunk) ≡ take 32 bytes
-    front = take-append-le 32 bytes chunk (omega (arith, long))
+    whole_first : take 32 (bytes ++ chunk) ≡ take 32 bytes
+    whole_first = take-append-le 32 bytes chunk (omega (arith, long))
 
     behind : drop 32 (bytes ++ chunk) ≡ rest ++ chunk
     behind = drop-append-le 32 bytes chunk (omega (arith, long))
@@ -79,7 +80,7 @@ read_more (suc n) bytes chunk r long whole all is =
         → record_before (tagged_rows 0 (take 32 (bytes ++ chunk))) (records_read (suc n) (drop 32 (bytes ++ chunk))) ≡ record_before (tagged_rows 0 (take 32 bytes)) (records_read n rest) ++ r ∷ []
     by_first again (Err fault) e h = absurd (omega (arith, h))
     by_first again (Ok first) e h =
-        rw (front, behind, e) (ap (λ (rs : List BasicRec). first ∷ rs) (again rest (omega (arith, long, length-drop 32 bytes)) (omega (arith, h))))
+        rw (whole_first, behind, e) (ap (λ (rs : List BasicRec). first ∷ rs) (again rest (omega (arith, long, length-drop 32 bytes)) (omega (arith, h))))
 
 -- ---- their events
 
@@ -114,15 +115,17 @@ abbrev pub ReadFits : Result BasicRec LogFault → Type 0
 ReadFits (Ok r) = RecordFits r
 ReadFits (Err fault) = ⊤
 
-plain_arg : (kind : Kind) (arg : ℕ) → ArgFits kind (cond (logs_arg kind) arg 0)
+plain_arg : (kind : Kind) (arg : ℕ) → ArgFits kind (arg_logged kind arg)
 plain_arg Entry arg = refl
 plain_arg Exit arg = refl
 plain_arg TailExit arg = refl
 plain_arg EntryArgs arg = tt
 
-arg_below : (b : Bool) (arg : ℕ) → arg < 2 ^ 64 → cond b arg 0 < 2 ^ 64
-arg_below true arg few = few
-arg_below false arg few = omega arith
+arg_below : (kind : Kind) (arg : ℕ) → arg < 2 ^ 64 → arg_logged kind arg < 2 ^ 64
+arg_below Entry arg few = omega arith
+arg_below Exit arg few = omega arith
+arg_below TailExit arg few = omega arith
+arg_below EntryArgs arg few = few
 
 pub read_fits : (at : ℕ) (bytes : List ℕ) → AreBytes bytes → ReadFits (tagged_rows at bytes)
 read_fits at bytes all = by_short (ltb (length bytes) 32)
@@ -140,7 +143,7 @@ read_fits at bytes all = by_short (ltb (length bytes) 32)
         cpu = omega (arith, byte_below bytes all 2);
         func = ltb-true (func_in bytes) (2 ^ 28) e;
         tsc = eight 8;
-        arg = arg_below (logs_arg kind) (little_number 8 (drop 24 bytes)) (eight 24);
+        arg = arg_below kind (little_number 8 (drop 24 bytes)) (eight 24);
         logged = plain_arg kind (little_number 8 (drop 24 bytes));
       },
     )

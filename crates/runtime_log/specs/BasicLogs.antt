@@ -1,12 +1,12 @@
 -- Logs of the basic mode: a record for each passing, and behind an entry that logs its argument another record with the
 -- argument.
-use Rattle.std.specs.Prelude.{ℕ, ◌^◌, ◌==◌, ◌&&◌, not, Bool, true, false, List, [], ◌∷◌, ◌++◌, length, drop, take, nat_lt, slice_index, Option, Some, None, Result, Ok, Err, if◌then◌else◌}
+use Rattle.std.specs.Prelude.{ℕ, ◌^◌, ◌==◌, ◌&&◌, not, Bool, true, false, List, [], ◌∷◌, ◌++◌, length, drop, take, nat_lt, Option, Some, None, Result, Ok, Err, if◌then◌else◌}
 use Rattle.std.specs.Option.{option_map_or}
 use Rattle.byteorder.specs.Endian.{little_number}
 use Rattle.xray_io.specs.Rows.{First, NeedsPart, ◌>>=◌}
+pub use Rattle.basic_record.specs.BasicRecords.{basic_length, event_in, func_in, kind_byte, kind_numbered, pid_in, tag_in, thread_in}
 use Rattle.fdr_record.specs.declared.event.Event.{Event}
 use Rattle.fdr_record.specs.declared.event.Kind.{Kind}
-use Rattle.fdr_record.specs.declared.event.Kind.TheVariants.{Entry, Exit, TailExit, EntryArgs}
 use Rattle.fdr_file.specs.Places.{starts}
 use Rattle.fdr_file.specs.Traces.{logs_arg}
 use Rattle.fdr_file.specs.declared.fault.TraceFault.TheVariants as traces
@@ -16,39 +16,12 @@ use Rattle.runtime_log.specs.declared.basic.Owner.{Owner}
 use Rattle.runtime_log.specs.declared.fault.LogFault.{LogFault}
 use Rattle.runtime_log.specs.declared.fault.LogFault.TheVariants as faults
 
--- the length of a record, of either kind, in bytes
-abbrev pub basic_length : ℕ
-basic_length = 32
-
 -- ---- one record
-
--- the number of its kind, if it is one
-abbrev pub kind_numbered : ℕ → Option Kind
-kind_numbered number =
-    if number == 0 then Some Entry else if number == 1 then Some Exit else if number == 2 then Some TailExit
-    else if number == 3 then Some EntryArgs else None
-
-abbrev pub tag_in : List ℕ → ℕ
-tag_in bytes = little_number 2 bytes
-
-abbrev pub kind_byte : List ℕ → ℕ
-kind_byte bytes = slice_index bytes 3
-
-abbrev pub func_in : List ℕ → ℕ
-func_in bytes = little_number 4 (drop 4 bytes)
 
 -- the passing that a record of this kind says
 abbrev pub passing_in : Kind → List ℕ → BasicRec
 passing_in kind bytes =
-    let owner : Owner = record { thread = little_number 4 (drop 16 bytes); pid = little_number 4 (drop 20 bytes) } in
-    let event : Event = record {
-      cpu = slice_index bytes 2;
-      func = func_in bytes;
-      kind = kind;
-      tsc = little_number 8 (drop 8 bytes);
-      arg = if logs_arg kind then little_number 8 (drop 24 bytes) else 0;
-    } in
-    Passed owner event
+    let owner : Owner = record { thread = thread_in bytes; pid = pid_in bytes } in Passed owner (event_in kind bytes)
 
 -- the argument that a record says
 abbrev pub argument_in : List ℕ → BasicRec

@@ -1,8 +1,10 @@
 -- Laws of imports, over what the bytes of a log say.
-use Rattle.std.specs.Prelude.{◌≡◌, ◌<◌, ℕ, List, [], ◌∷◌, map, All, AllPairs, IsTrue, Ok}
+use Rattle.std.specs.Prelude.{◌≡◌, ◌≢◌, ◌<◌, ⊤, ℕ, List, [], ◌∷◌, map, All, AllPairs, IsTrue, Ok}
 use Rattle.std.specs.Cmp.Lexicographic.{slice_cmp}
-use Rattle.std.specs.Ordering.{is_lt, nat_cmp}
-use Rattle.fdr_buffer.specs.Filled.{Filled, has_event}
+use Rattle.std.specs.Ordering.{nat_cmp}
+use Rattle.std.specs.declared.cmp.Ordering.{Ordering}
+use Rattle.std.specs.declared.cmp.Ordering.TheVariants.{Less, Equal, Greater}
+use Rattle.fdr_buffer.specs.Filled.{Filled, has_event, used_bytes}
 use Rattle.fdr_file.specs.declared.header.Header.{Header}
 use Rattle.fdr_file.specs.declared.trace.Trace.{Trace}
 use Rattle.fdr_file.specs.Files.{BlockFits, HeaderFits, file_bytes}
@@ -43,14 +45,21 @@ TracesAreLogs = (bytes : List ℕ) (trace : Trace) → trace_of bytes ≡ Ok tra
 abbrev pub buffer_key : Filled → List ℕ
 buffer_key buffer = buffer.thread ∷ buffer.wall.secs ∷ buffer.wall.micros ∷ first_counter buffer.events ∷ []
 
--- Each buffer comes before those behind it: by its thread, its wall time, or its first counter. The buffers of a run are so
--- if the counter rises from each event of a thread to the next. With `--tick 0` it doesn't rise, and two segments of a thread
--- may have the same bytes, so that one is left out.
-abbrev pub AreRising : List Filled → Type 0
-AreRising buffers = AllPairs (λ buffer later. IsTrue (is_lt (slice_cmp nat_cmp (buffer_key buffer) (buffer_key later)))) buffers
+-- One of two buffers may stand before the other: it comes first by its thread, its wall time or its first counter. Two that
+-- are level in these may stand in any order, but not have the same bytes, since the second one would be left out.
+abbrev pub MayStandBefore : Ordering → Filled → Filled → Type 0
+MayStandBefore Less buffer later = ⊤
+MayStandBefore Equal buffer later = used_bytes buffer ≢ used_bytes later
+MayStandBefore Greater buffer later = ⊥
+
+-- Each buffer may stand before those behind it. The buffers of a run may if the counter rises from each event of a thread to
+-- the next. With `--tick 0` it doesn't rise, and two segments of a thread may have the same bytes.
+abbrev pub AreInOrder : List Filled → Type 0
+AreInOrder buffers =
+    AllPairs (λ buffer later. MayStandBefore (slice_cmp nat_cmp (buffer_key buffer) (buffer_key later)) buffer later) buffers
 
 -- A file that is written for buffers with events, in this order, is imported as itself.
 abbrev pub ImportsItself : Type 0
 ImportsItself = (header : Header) (buffers : List Filled) (file : List ℕ) (facts : Facts) → HeaderFits header → All BlockFits buffers
-    → All (λ buffer. IsTrue (has_event buffer)) buffers → AreRising buffers → IsImport (file_bytes header buffers) file facts
+    → All (λ buffer. IsTrue (has_event buffer)) buffers → AreInOrder buffers → IsImport (file_bytes header buffers) file facts
     → file ≡ file_bytes header buffers

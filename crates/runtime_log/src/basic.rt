@@ -1,17 +1,15 @@
 //! The records of the basic mode.
 ghost use Rattle.std.specs.Prelude.{◌≡◌, ◌≤◌, ◌<◌, ◌+◌, [], ◌∷◌, MatchOption, OnOk, drop, length};
-ghost use Rattle.byteorder.specs.Endian.{little_number};
 ghost use Rattle.fdr_file.specs.Traces.{logs_arg};
-ghost use Rattle.runtime_log.specs.BasicLogs.{argument_in, basic_events, kind_numbered, may_follow, owner_of, passing_rows, same_owner, tagged_rows, takes_argument, with_argument};
+ghost use Rattle.runtime_log.specs.BasicLogs.{argument_in, basic_events, may_follow, owner_of, passing_rows, same_owner, tagged_rows, takes_argument, with_argument};
 ghost use Rattle.runtime_log.specs.private.Records.{records_in};
 
 use crate::fault::LogFault;
-use byteorder::{ByteOrder, LittleEndian};
+use basic_record::{
+    RECORD_BYTES, event_in, func_in, kind_byte, kind_of, pid_in, tag_in, thread_in, u32_at, u64_at,
+};
 use fdr_file::TraceFault;
 use fdr_record::{Event, Kind};
-
-/// The length of a record of either kind, in bytes.
-pub(crate) const RECORD_BYTES: usize = 32;
 
 /// The number of functions that a trace has ids for.
 const FUNCTIONS: u32 = 1 << 28;
@@ -21,21 +19,6 @@ const PASSING: u16 = 0;
 
 /// The tag of an argument (`RecordType` of `XRayArgPayload`).
 const ARGUMENT: u16 = 1;
-
-/// The places of a passing's fields.
-const CPU_AT: usize = 2;
-
-const KIND_AT: usize = 3;
-
-const FUNCTION_AT: usize = 4;
-
-const COUNTER_AT: usize = 8;
-
-const THREAD_AT: usize = 16;
-
-const PROCESS_AT: usize = 20;
-
-const LOGGED_AT: usize = 24;
 
 /// The places of an argument's fields. Its function is where that of a passing is.
 const ARGUMENT_THREAD_AT: usize = 8;
@@ -92,35 +75,6 @@ pub(crate) fn same_owner(one: Owner, other: Owner) -> bool
     one.thread == other.thread && one.pid == other.pid
 }
 
-/// The number in the four bytes at a place, lowest byte first.
-fn u32_at(bytes: &[u8], at: usize) -> u32
-    requires { at + 4 ≤ length bytes.now }
-    ensures { result ≡ little_number 4 (drop at bytes.now) }
-{
-    LittleEndian::read_u32(&bytes[at..])
-}
-
-/// The number in the eight bytes at a place, lowest byte first.
-fn u64_at(bytes: &[u8], at: usize) -> u64
-    requires { at + 8 ≤ length bytes.now }
-    ensures { result ≡ little_number 8 (drop at bytes.now) }
-{
-    LittleEndian::read_u64(&bytes[at..])
-}
-
-/// The kind with this number.
-fn kind_of(number: u8) -> Option<Kind>
-    ensures { result ≡ kind_numbered number }
-{
-    match number {
-        0 => Some(Kind::Entry),
-        1 => Some(Kind::Exit),
-        2 => Some(Kind::TailExit),
-        3 => Some(Kind::EntryArgs),
-        _ => None,
-    }
-}
-
 /// Whether an event of this kind logs an argument.
 fn logs_arg(kind: Kind) -> bool
     ensures { result ≡ logs_arg kind }
@@ -136,29 +90,19 @@ fn passing_in(place: u64, bytes: &[u8]) -> Result<BasicRec, LogFault>
     requires { 32 ≤ length bytes.now }
     ensures { result ≡ passing_rows place bytes.now }
 {
-    let number = bytes[KIND_AT];
+    let number = kind_byte(bytes);
     let Some(kind) = kind_of(number) else {
         return Err(LogFault::Kind(place, number));
     };
-    let func = u32_at(bytes, FUNCTION_AT);
+    let func = func_in(bytes);
     if func >= FUNCTIONS {
         return Err(LogFault::Function(place, func));
     }
     let owner = Owner {
-        thread: u32_at(bytes, THREAD_AT),
-        pid: u32_at(bytes, PROCESS_AT),
+        thread: thread_in(bytes),
+        pid: pid_in(bytes),
     };
-    let event = Event {
-        tsc: u64_at(bytes, COUNTER_AT),
-        arg: if logs_arg(kind) {
-            u64_at(bytes, LOGGED_AT)
-        } else {
-            0
-        },
-        func,
-        cpu: u16::from(bytes[CPU_AT]),
-        kind,
-    };
+    let event = event_in(kind, bytes);
     Ok(BasicRec::Passed { owner, event })
 }
 
@@ -172,7 +116,7 @@ fn argument_in(bytes: &[u8]) -> BasicRec
             thread: u32_at(bytes, ARGUMENT_THREAD_AT),
             pid: u32_at(bytes, ARGUMENT_PROCESS_AT),
         },
-        func: u32_at(bytes, FUNCTION_AT),
+        func: func_in(bytes),
         value: u64_at(bytes, VALUE_AT),
     }
 }
@@ -185,7 +129,7 @@ pub(crate) fn record_in(place: u64, bytes: &[u8]) -> Result<BasicRec, LogFault>
     if bytes.len() < RECORD_BYTES {
         return Err(LogFault::Trace(TraceFault::Short(place)));
     }
-    match LittleEndian::read_u16(bytes) {
+    match tag_in(bytes) {
         PASSING => passing_in(place, bytes),
         ARGUMENT => Ok(argument_in(bytes)),
         tag => Err(LogFault::Tag(place, tag)),
@@ -271,6 +215,7 @@ impl<'a> BasicEvents<'a> {
     }
 
     /// The next event.
+    #[inline(always)]
     pub(crate) fn next(&mut self) -> Option<Event>
         ensures { MatchOption result (basic_events (records_in self.old.bytes.now) ≡ []) (λ event.
             basic_events (records_in self.old.bytes.now) ≡ event ∷ basic_events (records_in self.new.bytes.now)) }

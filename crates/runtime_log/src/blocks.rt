@@ -79,6 +79,7 @@ pub(crate) enum BlockEvents<'a> {
 }
 
 /// The first event that a record settles, and the one after it.
+#[inline(always)]
 fn settled(told: Told) -> (Option<Event>, Option<Event>)
     ensures events { settled told ≡ option_to_list result.0 ++ option_to_list result.1 }
     ensures none { result.0 ≡ None → result.1 ≡ None }
@@ -96,6 +97,7 @@ fn settled(told: Told) -> (Option<Event>, Option<Event>)
 }
 
 /// The next event of a block's records, and the one after it if it is known.
+#[inline(always)]
 fn next_told(walk: &mut BlockWalk) -> (Option<Event>, Option<Event>)
     requires few { walk.old.at + length walk.old.rest.now < 2 ^ 32 }
     ensures few { walk.new.at + length walk.new.rest.now < 2 ^ 32 }
@@ -118,6 +120,7 @@ fn next_told(walk: &mut BlockWalk) -> (Option<Event>, Option<Event>)
 
 impl RecorderEvents<'_> {
     /// The next event.
+    #[inline(always)]
     fn next(&mut self) -> Option<Event>
         requires few { self.old.walk.at + length self.old.walk.rest.now < 2 ^ 32 }
         ensures few { self.new.walk.at + length self.new.walk.rest.now < 2 ^ 32 }
@@ -159,6 +162,7 @@ impl<'a> BlockEvents<'a> {
     }
 
     /// The next event.
+    #[inline(always)]
     pub(crate) fn next(&mut self) -> Option<Event>
         requires may { MayGive self.old }
         ensures may { MayGive self.new }

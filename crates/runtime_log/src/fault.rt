@@ -2,9 +2,9 @@
 use fdr_file::TraceFault;
 use thiserror::Error;
 
-/// Why `import_log` makes no trace. The answer is the first fault of the header: `Short`, `Version`,
-/// `Form`. If the header has none, it is the fault of the first place that has one. A place is a byte
-/// offset, counted from the file's start.
+/// Why `import_log` makes no trace. It returns the first fault of the header: `Short`, `Version`,
+/// `Form`. If the header has none, it returns the fault of the first place that has one. A place is a
+/// byte offset, counted from the file's start.
 #[derive(Clone, Copy, Debug, PartialEq, Eq, Error)]
 pub enum LogFault {
     /// What a trace may be refused for, too. The versions are 2 to 5, and 3 for a basic log. The types

@@ -82,8 +82,8 @@ fn pack_blocks(
 /// order of time: of their wall times, then their first counters, then their places. Custom and typed
 /// events are left out.
 ///
-/// Bytes that aren't a log are refused by their first fault; see `LogFault`. `NoMemory` may come in
-/// place of any answer.
+/// Bytes that aren't a log are refused by their first fault; see `LogFault`. `NoMemory` may be returned
+/// in place of any other result.
 pub fn import_log(alloc: Global, bytes: &[u8]) -> Result<ImportedLog, LogFault>
     requires few { length bytes.now < 2 ^ 30 }
     ensures imports { IfOk result (λ made. IsImport bytes.now made.0 made.1) }

@@ -31,10 +31,10 @@ pub fn traces_are_logs()
     a_file_is_read_by_records();
 }
 
-/// A trace is imported as itself, byte for byte, if it was written for buffers with events, and each
-/// buffer comes before those behind it: by its thread, its wall time or its first counter. The trace
-/// that `sim` or `run` wrote is such a one if the counter rises from each event of a thread to the
-/// next.
+/// A trace is imported as itself, byte for byte, if it was written for buffers with events, and these
+/// are in the order in which blocks are taken: by their threads, their wall times and their first
+/// counters. Two that are level in these must not have the same bytes. The trace that `sim` or `run`
+/// wrote is such a one if the counter rises from each event of a thread to the next.
 pub fn a_trace_in_order_is_imported_as_itself()
     ensures { ImportsItself }
 {

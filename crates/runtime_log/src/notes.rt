@@ -27,6 +27,7 @@ pub(crate) struct Notes {
 }
 
 /// The lower of two counters, if there is another one.
+#[inline(always)]
 fn least(first: Option<u64>, tsc: u64) -> u64
     ensures { result ≡ option_map_or (λ n. min n tsc) first tsc }
 {
@@ -37,6 +38,7 @@ fn least(first: Option<u64>, tsc: u64) -> u64
 }
 
 /// The higher of two counters, if there is another one.
+#[inline(always)]
 fn greatest(last: Option<u64>, tsc: u64) -> u64
     ensures { result ≡ option_map_or (λ n. max n tsc) last tsc }
 {
@@ -47,6 +49,7 @@ fn greatest(last: Option<u64>, tsc: u64) -> u64
 }
 
 /// How many arguments an event of this kind logs.
+#[inline(always)]
 fn arguments_of(kind: Kind) -> u64
     ensures { result ≡ (if logs_arg kind then 1 else 0) }
 {
@@ -57,6 +60,7 @@ fn arguments_of(kind: Kind) -> u64
 }
 
 /// Whether the last event is of this thread.
+#[inline(always)]
 fn is_of(last: Option<LastEvent>, thread: u32) -> bool
     ensures { result ≡ is_of last thread }
 {
@@ -67,6 +71,7 @@ fn is_of(last: Option<LastEvent>, thread: u32) -> bool
 }
 
 /// Whether a counter is lower than that of the last event, which is of the same thread.
+#[inline(always)]
 fn does_fall(last: Option<LastEvent>, thread: u32, tsc: u64) -> bool
     ensures { result ≡ does_fall last thread tsc }
 {
@@ -77,6 +82,7 @@ fn does_fall(last: Option<LastEvent>, thread: u32, tsc: u64) -> bool
 }
 
 /// Whether a number is this one.
+#[inline(always)]
 fn is_number(number: Option<u32>, thread: u32) -> bool
     ensures { result ≡ is_number number thread }
 {
@@ -103,6 +109,7 @@ impl Notes {
     }
 
     /// Takes an event of a thread, and its counter.
+    #[inline(always)]
     fn note_counter(&mut self, thread: u32, tsc: u64)
         requires few { (self.old.facts.threads < 2 ^ 63) × (self.old.facts.back < 2 ^ 63) }
         ensures notes { NotesCounter self.old thread tsc self.new }
@@ -122,6 +129,7 @@ impl Notes {
     }
 
     /// Takes an event of a thread.
+    #[inline(always)]
     pub(crate) fn note(&mut self, thread: u32, event: &Event)
         requires few { AreFew self.old.facts }
         requires room { self.old.facts.events < 2 ^ 63 }

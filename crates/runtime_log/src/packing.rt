@@ -99,6 +99,7 @@ impl Packing {
     }
 
     /// Adds the buffer as a block.
+    #[inline(never)]
     fn flush(&mut self) -> Result<(), NoMemory>
         requires { IsTrue self.old.buffer.begun }
         ensures file { OnOk result (self.new.file.items ≡ self.old.file.items ++ block_bytes self.old.buffer) }
@@ -112,6 +113,7 @@ impl Packing {
     }
 
     /// Begins a buffer for a block, with an event.
+    #[inline(never)]
     fn begin(&mut self, block: &LogBlock, event: &Event)
         requires recordable { IsRecordable event.now }
         requires size { self.old.buffer.size ≡ LARGEST_SIZE }
@@ -124,6 +126,7 @@ impl Packing {
     }
 
     /// Adds an event of a block, which has events before it.
+    #[inline(always)]
     fn put(&mut self, block: &LogBlock, event: &Event) -> Result<(), NoMemory>
         requires recordable { IsRecordable event.now }
         requires begun { IsTrue self.old.buffer.begun × (self.old.buffer.size ≡ LARGEST_SIZE) }

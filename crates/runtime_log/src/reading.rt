@@ -12,12 +12,13 @@ ghost use Rattle.runtime_log.specs.private.Records.{counter_of};
 ghost use Rattle.runtime_log.specs.private.Headers.{header_for, mode_of};
 ghost use Rattle.runtime_log.specs.private.Readings.{AreRead, AreRuns, BelongsAt, HasRead, IsRun, RecordsRead, blocks_said, walk_reads};
 
-use crate::basic::{BasicRec, Owner, RECORD_BYTES, may_follow, record_in, same_owner};
+use crate::basic::{BasicRec, Owner, may_follow, record_in, same_owner};
 use crate::blocks::{LogBlock, LogBlocks, Mode};
 use crate::fault::LogFault;
 use crate::own_event::OwnKind;
 use crate::version::LogVersion;
 use crate::walk::BlockWalk;
+use basic_record::{BASIC_TYPE, BASIC_VERSION, RECORD_BYTES};
 use byteorder::{ByteOrder, LittleEndian};
 use fdr_file::{HEADER_BYTES, Header, Told, TraceFault, VERSION, header_fields};
 use fdr_record::Event;
@@ -27,13 +28,8 @@ use xray_io::{NoMemory, Wall};
 /// The place of the type in a header.
 const TYPE_AT: usize = 2;
 
-/// The types of logs.
-const BASIC: u16 = 0;
-
+/// The type of logs of the Flight Data Recorder mode.
 const RECORDER: u16 = 1;
-
-/// The version of basic logs.
-const BASIC_VERSION: u16 = 3;
 
 /// The mode of a log, or why its header isn't that of one.
 pub(crate) fn read_mode(bytes: &[u8]) -> Result<Mode, TraceFault>
@@ -49,7 +45,7 @@ pub(crate) fn read_mode(bytes: &[u8]) -> Result<Mode, TraceFault>
     };
     match LittleEndian::read_u16(&bytes[TYPE_AT..]) {
         RECORDER => Ok(Mode::Recorder(version)),
-        BASIC => {
+        BASIC_TYPE => {
             if number == BASIC_VERSION {
                 Ok(Mode::Basic)
             } else {
@@ -78,6 +74,7 @@ pub(crate) fn trace_header(bytes: &[u8], mode: Mode) -> Header
 }
 
 /// The counter of the first of two events, if there are any.
+#[inline(always)]
 fn first_counter(entry: Option<Event>, event: Option<Event>) -> Option<u64>
     ensures { result ≡ counter_first (option_to_list entry ++ option_to_list event) }
 {
@@ -154,6 +151,7 @@ impl LogBlock {
     }
 
     /// Takes what a record says of the block.
+    #[inline(always)]
     fn hear(&mut self, told: Told)
         ensures shows { (b : TheBlock) → Shows self.old b → Shows self.new (block_with told b) }
         ensures places { (self.new.begin ≡ self.old.begin) × (self.new.end ≡ self.old.end) }
@@ -186,6 +184,7 @@ impl LogBlocks {
     }
 
     /// Counts an event of the program's own, if it is one. A log has fewer than 2^32.
+    #[inline(always)]
     fn count(&mut self, own: Option<OwnKind>)
         requires few { (self.old.custom < 2 ^ 32) × (self.old.typed < 2 ^ 32) }
         ensures custom { self.new.custom ≡ self.old.custom + one_custom own }

@@ -1,12 +1,15 @@
 //! The records of a block of the Flight Data Recorder mode.
-ghost use Rattle.std.specs.Prelude.{◌≡◌, ◌<◌, ◌≤◌, ◌+◌, ◌^◌, IfOk, OnOk, drop, length};
+ghost use Rattle.std.specs.Prelude.{◌≡◌, ◌<◌, ◌≤◌, ◌+◌, ◌^◌, Err, IfErr, IfOk, IfSome, None, Ok, OnOk, drop, length};
 ghost use Rattle.runtime_log.specs.Logs.{block_size_rows, log_record_rows};
 ghost use Rattle.runtime_log.specs.OwnEvents.{counter_inside, counter_so_far, log_record_in, log_record_length, own_kind};
 ghost use Rattle.runtime_log.specs.private.Walks.{OpensTo, StepsTo};
 
 use crate::own_event::{OwnKind, own_delta, own_kind, own_size};
 use crate::version::LogVersion;
-use fdr_file::{Inside, Span, Stage, Told, TraceFault, judge, record_len, record_of};
+use fdr_file::{
+    Inside, Span, Stage, Told, TraceFault, end_among, judge, record_len, record_of, stage_at,
+    take_step, within_events,
+};
 use fdr_record::{METADATA_BYTES, Rec, RecFault};
 
 /// A way through the records of a block, from one to the next. A record of the program's own stands
@@ -143,12 +146,58 @@ impl<'a> BlockWalk<'a> {
         self.rest.len()
     }
 
-    /// Goes past the next record. Returns what it says, and its kind if it is an event of the
-    /// program's own.
-    pub(crate) fn step(&mut self) -> Result<(Told, Option<OwnKind>), TraceFault>
-        requires few { self.old.at + length self.old.rest.now < 2 ^ 32 }
-        requires left { 0 < length self.old.rest.now }
-        ensures { StepsTo self.old self.new result }
+    /// Where the reading stands after the next record, the length of the record and what it says, if it
+    /// is one of a trace among the events of the block, and a CPU was named before.
+    #[inline(always)]
+    fn event_next(&self) -> Option<(Stage, usize, Told)>
+        requires few { self.now.at + length self.now.rest.now < 2 ^ 32 }
+        requires left { 0 < length self.now.rest.now }
+        ensures says { IfSome result (λ x. log_record_rows self.now.version self.now.stage
+            (self.now.at, self.now.rest.now) ≡ Ok (x.0, x.2)) }
+        ensures len { IfSome result (λ x. (x.1 ≡ log_record_length self.now.version self.now.rest.now)
+            × (0 < x.1) × (x.1 ≤ length self.now.rest.now)) }
+        ensures own { IfSome result (λ _. own_kind self.now.version self.now.rest.now ≡ None) }
+    {
+        if own_kind(self.version, self.rest).is_some() {
+            return None;
+        }
+        let (span, base) = within_events(self.stage)?;
+        let end = end_among(span, self.at, self.rest);
+        let ((known, entry, event), len) = take_step(self.rest, 0, self.at, end, base)?;
+        let next = u128::from(self.at) + len as u128;
+        if next > span.end {
+            return None;
+        }
+        let inside = Inside::Events { base: Some(known) };
+        let stage = stage_at(span, next, inside);
+        Some((stage, len, Told::Noted { entry, event }))
+    }
+
+    /// The way after a record of this length, which leads to this stage.
+    #[inline(always)]
+    fn past(self, stage: Stage, len: usize) -> BlockWalk<'a>
+        requires few { self.at + length self.rest.now < 2 ^ 32 }
+        requires within { len ≤ length self.rest.now }
+        ensures version { result.version ≡ self.entry.version }
+        ensures rest { result.rest.now ≡ drop len self.entry.rest.now }
+        ensures place { result.at ≡ self.entry.at + len }
+        ensures stage { result.stage ≡ stage }
+    {
+        BlockWalk {
+            version: self.version,
+            rest: &self.rest[len..],
+            at: self.at + len as u64,
+            stage,
+        }
+    }
+
+    /// The way after the next record, whatever it is, and what `step` returns.
+    #[inline(never)]
+    fn after_any(self) -> Result<(BlockWalk<'a>, Told, Option<OwnKind>), TraceFault>
+        requires few { self.at + length self.rest.now < 2 ^ 32 }
+        requires left { 0 < length self.rest.now }
+        ensures says { IfOk result (λ x. StepsTo self.entry x.0 (Ok (x.1, x.2))) }
+        ensures refuses { IfErr result (λ fault. StepsTo self.entry self.entry (Err fault)) }
     {
         let found = found_in(self.version, self.stage, self.rest);
         if self.rest.len() < found.len {
@@ -164,9 +213,27 @@ impl<'a> BlockWalk<'a> {
         if let Stage::Faulty { fault, .. } = stage {
             return Err(fault);
         }
-        self.rest = &self.rest[found.len..];
-        self.at += found.len as u64;
-        self.stage = stage;
-        Ok((told, found.own))
+        Ok((self.past(stage, found.len), told, found.own))
+    }
+
+    /// Goes past the next record. Returns what it says, and its kind if it is an event of the
+    /// program's own.
+    #[inline(always)]
+    pub(crate) fn step(&mut self) -> Result<(Told, Option<OwnKind>), TraceFault>
+        requires few { self.old.at + length self.old.rest.now < 2 ^ 32 }
+        requires left { 0 < length self.old.rest.now }
+        ensures { StepsTo self.old self.new result }
+    {
+        if let Some((stage, len, told)) = self.event_next() {
+            *self = self.past(stage, len);
+            return Ok((told, None));
+        }
+        match self.after_any() {
+            Ok((walk, told, own)) => {
+                *self = walk;
+                Ok((told, own))
+            }
+            Err(fault) => Err(fault),
+        }
     }
 }

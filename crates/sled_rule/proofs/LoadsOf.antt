@@ -10,7 +10,7 @@ use Rattle.sled_rule.specs.Following.{IsFollowing}
 use Rattle.sled_rule.specs.Plans.{start_in}
 use Rattle.sled_rule.specs.Steps.{work_of, IsFetched}
 use Rattle.sled_rule.specs.Views.{hearing, next_work}
-use Rattle.sled_rule.proofs.Keeps.{rises_more, rises_up}
+use Rattle.sled_rule.proofs.OtherSeats.{rises_more, rises_up}
 
 pub fetched_follows : (v : WorkView) (word value : ℕ) (new : WorkView) → IsFetched v word value new → IsFollowing v → IsFollowing new
 fetched_follows v word value new f h =

@@ -36,7 +36,8 @@ impl CodeTable {
         ensures code { (word : ℕ) → IsCodeIn (script_of self) word
             → slice_index into.new word ≡ code_in (script_of self) (patch_view seat).place word }
         ensures ended { (thread : ℕ) → 0 < thread → thread ≤ (patch_view seat).given
-            → slice_index into.new (progress_word (script_of self).program (script_of self).threads thread) ≡ ended_count }
+            → slice_index into.new (progress_word (script_of self).program (script_of self).threads thread)
+            ≡ ended_count }
         // A thread without a seat has made no passing.
         ensures idle { (thread : ℕ) → (patch_view seat).given < thread → thread ≤ (script_of self).threads
             → slice_index into.new (progress_word (script_of self).program (script_of self).threads thread) ≡ 0 }

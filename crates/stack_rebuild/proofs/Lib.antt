@@ -1,22 +1,28 @@
+-- Lists: items, ascending lists, and sums by groups
+pub mod Items
 pub mod Ascents
+pub mod Groups
+pub mod Orders
+-- Pairs: which exit ends which call, and what was spent in a call (src/matching.rt, src/open_calls.rt, src/laws.rt)
+pub mod Opening
+pub mod Nesting
+pub mod Pairing
 pub mod Closing
+pub mod Spending
+-- The fold: stacks after one more block or event (src/fold.rt, src/thread_stack.rt)
+pub mod Stacking
+pub mod Frames
+pub mod Results
+pub mod Views
+pub mod Growing
 pub mod Deep
 pub mod Folding
-pub mod Frames
-pub mod Groups
-pub mod Growing
-pub mod Items
-pub mod Lines
-pub mod Nesting
-pub mod Nodes
-pub mod Opening
-pub mod Orders
-pub mod Pairing
-pub mod Results
-pub mod RowsOf
-pub mod Spending
-pub mod Stacking
-pub mod Sums
-pub mod Threads
+-- Paths: their numbers and their tallies (src/path_sums.rt, src/node.rt)
 pub mod Trees
-pub mod Views
+pub mod Nodes
+pub mod Sums
+-- The rows of a report are those of all threads (src/rows.rt, src/laws.rt)
+pub mod RowsOf
+pub mod Threads
+-- The text of a report (src/stack_text.rt)
+pub mod Lines

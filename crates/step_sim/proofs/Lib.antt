@@ -1,31 +1,41 @@
+-- Worked examples: replays and schedules
 mod Rows
-pub mod Plays
-pub mod ReplayAlong
 mod ScheduleRows
-pub mod OneReplay
-pub mod PooledReplay
-pub mod Queues
-pub mod TurnLemmas
-pub mod OneThread
-pub mod AllThreads
-pub mod Bounds
+-- The reader of schedules: the turns of a text, or its first fault (src/schedule.rt, src/written.rt)
 pub mod ScheduleFaults
 pub mod SaidTurns
+pub mod WrittenLemmas
+-- Turns in general: a schedule brings a state to one end at most (src/turns.rt, src/ring.rt)
+pub mod Plays
+pub mod TurnLemmas
+pub mod Queues
+-- Replays without buffers: only one, and one in any case if no thread is held (src/laws.rt)
+pub mod ReplayAlong
+pub mod OneReplay
 pub mod SomeReplay
-pub mod PoolLemmas
-pub mod Gathering
+pub mod Bounds
+-- Threads and the patcher, from moment to moment (src/thread.rt, src/replay.rt, src/patcher.rt)
+pub mod OneThread
+pub mod AllThreads
 pub mod OneRecorded
 pub mod AllRecorded
+-- The pool: its buffers from event to event (src/pool.rt)
+pub mod PoolLemmas
+pub mod Gathering
+-- Replays with buffers: what is left when all threads have ended (src/start.rt)
+pub mod PooledReplay
 pub mod Recordings
-pub mod Counting
+pub mod Beginnings
 pub mod EndedRuns
+pub mod Simulated
+-- Losses: as many segments as the queue has no buffers for, the oldest of each thread (src/laws.rt)
+pub mod Counting
 pub mod MoreLoads
 pub mod StockRuns
 pub mod LostRuns
-pub mod WholeRuns
-pub mod StillMarks
-pub mod Beginnings
-pub mod Simulated
+-- Runs: a schedule leaves only one, and one in any case if nothing waits (src/laws.rt)
 pub mod OneRun
 pub mod SomeRun
-pub mod WrittenLemmas
+-- No replay tears a sled, and its marks follow the script (src/along.rt)
+pub mod WholeRuns
+pub mod StillMarks

@@ -49,7 +49,8 @@ pub fn no_replay_tears_a_sled()
     ensures runs { (program : Program) (script : List Command) (text : List ℕ) (schedule : List Line)
         (setup : Setup) (runs : List ThreadRun) → schedule_of setup.threads text ≡ Ok schedule
         → (replay : IsReplayOf program script schedule setup runs) → EachThread runs (λ number run.
-        DecodesWhole program setup.threads number (hold_of number script) run (of_thread replay.last.moment.loads number)) }
+        DecodesWhole program setup.threads number (hold_of number script) run
+        (of_thread replay.last.moment.loads number)) }
 {
     a_replay_reads_along();
 }

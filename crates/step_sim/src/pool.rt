@@ -116,7 +116,8 @@ impl Pool {
             → slice_get result.segments.items i ≡ Some (segments_held hand n) }
         ensures first { result.first.items ≡ self.first.items }
         ensures kept { result.kept.items
-            ≡ flat_map (λ t. filter (is_of t) self.queue ++ filter (is_of t) self.hands.items) (numbers_from 1 threads) }
+            ≡ flat_map (λ t. filter (is_of t) self.queue ++ filter (is_of t) self.hands.items)
+            (numbers_from 1 threads) }
     {
         let Pool {
             mut hands,

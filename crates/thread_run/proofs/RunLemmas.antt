@@ -31,11 +31,11 @@ use Rattle.thread_run.specs.Recordings.{Recording, StandsFor, segments_begun, se
 use Rattle.thread_run.specs.Runs.{HasRunAlong, HaveRunBeside}
 use Rattle.thread_run.specs.private.Pooled.{AreWorkersOfRun, IsWorkerOfRun, lost_beside}
 use Rattle.thread_run.specs.Workers.{HasEnded, cpu_of, recorder_of, seat_of}
-use Rattle.thread_run.proofs.Each.{there_is}
-use Rattle.thread_run.proofs.Notes.{begun_are}
-use Rattle.thread_run.proofs.Order.{HoldEvents, IsBetween, all_between, in_order}
-use Rattle.thread_run.proofs.Started.{IsRunOf, run_of}
-use Rattle.thread_run.proofs.Pooled.{AreHands, HandIs, KeepsLast, hand_is, hands_of, in_hand_of, keeps_last, of_all, row_is}
+use Rattle.thread_run.proofs.EachItem.{there_is}
+use Rattle.thread_run.proofs.NotedEvents.{begun_are}
+use Rattle.thread_run.proofs.BufferOrder.{HoldEvents, IsBetween, all_between, in_order}
+use Rattle.thread_run.proofs.StartedWorkers.{IsRunOf, run_of}
+use Rattle.thread_run.proofs.PoolAndHands.{AreHands, HandIs, KeepsLast, hand_is, hands_of, in_hand_of, keeps_last, of_all, row_is}
 
 -- ---- the run of a worker that has ended
 

@@ -39,7 +39,8 @@ impl<'p, T> Model for FdrRecorder<'p, T> {
 
     ghost view = { λ r. record { pass = r.pass; hand = in_hand r.hand } };
 
-    ghost invariant = { λ r. IsSome r.hand × IsOf r.pool.now r.pass × IsPreambleOf r.pass r.preamble × (length r.pass.sealed < 2 ^ 32 - 1) };
+    ghost invariant = { λ r. IsSome r.hand × IsOf r.pool.now r.pass × IsPreambleOf r.pass r.preamble
+        × (length r.pass.sealed < 2 ^ 32 - 1) };
 }
 
 impl<'p, T> FdrRecorder<'p, T> {

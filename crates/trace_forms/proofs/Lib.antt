@@ -1,14 +1,18 @@
+-- Basic logs: how they are written, and what they read as (src/basic_text.rt, src/basic_reading.rt)
 pub mod Flags
 pub mod Places
-pub mod RunLaws
+pub mod Pieces
 pub mod LogRecords
 pub mod Logs
-pub mod Escapes
-pub mod JsonTexts
-pub mod Pieces
-pub mod Rows
-pub mod Lines
-pub mod Sources
-pub mod GivenTexts
 pub mod Wide
 pub mod FewEvents
+-- Runs of events: one more event at the end (src/runs.rt)
+pub mod RunLaws
+-- Trace events in JSON: their texts, and escapes in strings (src/trace_events.rt, src/escaped.rt)
+pub mod Escapes
+pub mod JsonTexts
+pub mod GivenTexts
+pub mod Sources
+-- The lines of a dump (src/dump.rt, src/record_row.rt)
+pub mod Rows
+pub mod Lines

@@ -14,7 +14,8 @@ use Rattle.fdr_file.specs.ThreadEvents.{ThreadEvent, event_given, thread_events}
 use Rattle.fdr_file.specs.Traces.{type_in, version_in}
 use Rattle.trace_forms.specs.declared.basic.BasicFault.{BasicFault}
 use Rattle.trace_forms.specs.declared.basic.BasicFault.TheVariants as faults
-use Rattle.trace_forms.specs.BasicLogs.{EventFits, TraceFits, basic_bytes, basic_header, basic_header_rows, basic_of, event_bytes, event_in, events_rows, log_bytes, record_length, record_rows, record_starts}
+use Rattle.basic_record.specs.BasicRecords.{basic_length}
+use Rattle.trace_forms.specs.BasicLogs.{EventFits, TraceFits, basic_bytes, basic_header, basic_header_rows, basic_of, event_bytes, events_rows, log_bytes, passing_in, record_rows, record_starts}
 use Rattle.trace_forms.specs.Runs.{runs}
 use Rattle.trace_forms.proofs.Places.{starts_first, starts_none}
 use Rattle.trace_forms.proofs.LogRecords.{event_again, record_reads}
@@ -33,7 +34,7 @@ read_on events at bytes = InTurn events_rows events (record_starts at bytes)
 -- the first record
 pub read_first : (events : List ThreadEvent) (at : ℕ) (bytes : List ℕ) → 0 < length bytes
     → read_on events at bytes ≡ (events_rows events (at, bytes) >>= λ after. read_on after (at + 32) (drop 32 bytes))
-read_first events at bytes some = ap (InTurn events_rows events) (starts_first (λ _. record_length) at bytes some (lit< tt))
+read_first events at bytes some = ap (InTurn events_rows events) (starts_first (λ _. basic_length) at bytes some (lit< tt))
 
 -- one more record
 pub read_more : (events : List ThreadEvent) (at : ℕ) (bytes : List ℕ) (x : ℕ × ℕ × Event) → 0 < length bytes → record_rows at bytes ≡ Ok x
@@ -47,7 +48,7 @@ read_refused events at bytes fault some is = read_first events at bytes some ∙
 
 -- no more records
 pub read_all : (events : List ThreadEvent) (at : ℕ) → read_on events at [] ≡ Ok events
-read_all events at = ap (InTurn events_rows events) (starts_none (λ _. record_length) at)
+read_all events at = ap (InTurn events_rows events) (starts_none (λ _. basic_length) at)
 
 -- a row that leaves it to what follows
 first_left : {A B F : Type 0} (b : Bool) (fault : F) (follows : Result A F) (other : Result B F) (x : A) → First b (Err fault) follows ≡ Ok x
@@ -123,7 +124,7 @@ records_again (e ∷ events) before at fits =
     let rest = flat_map event_bytes events in
     let bytes = event_bytes e ++ rest in
     let same = event_again e rest (All-head EventFits e events fits) in
-    read_more before at bytes (event_in e.event.kind bytes) (omega arith) (record_reads at e rest)
+    read_more before at bytes (passing_in e.event.kind bytes) (omega arith) (record_reads at e rest)
     ∙ (ap (λ (x : ThreadEvent). read_on (before ++ x ∷ []) (at + 32) rest) same
     ∙ (records_again events (before ++ e ∷ []) (at + 32) (All-tail EventFits e events fits)
     ∙ ap (λ (es : List ThreadEvent). Ok es) (append_assoc before (e ∷ []) events)))

@@ -5,7 +5,8 @@ use Rattle.byteorder.specs.Endian.{little_bytes}
 use Rattle.fdr_record.specs.Records.{action_of}
 use Rattle.fdr_file.specs.declared.header.Header.{Header}
 use Rattle.fdr_file.specs.ThreadEvents.{ThreadEvent}
-use Rattle.trace_forms.specs.BasicLogs.{arg_logged, basic_header_bytes, event_bytes}
+use Rattle.basic_record.specs.BasicRecords.{arg_logged}
+use Rattle.trace_forms.specs.BasicLogs.{basic_header_bytes, event_bytes}
 
 pub header_pieces : (header : Header) (version form flags frequency : List ℕ) → version ≡ little_bytes 2 3 → form ≡ little_bytes 2 0 → flags ≡ little_bytes 4 3
     → frequency ≡ little_bytes 8 header.frequency

@@ -1,11 +1,11 @@
 -- Basic logs: how the events of a trace are written as a header and a record for each event, and what such bytes read as.
-use Rattle.std.specs.Prelude.{◌<◌, ◌^◌, ℕ, List, [], ◌∷◌, ◌++◌, ◌==◌, not, nat_lt, length, drop, replicate, slice_index, All, Option, Some, None, Result, Ok, Err, if◌then◌else◌}
+use Rattle.std.specs.Prelude.{◌<◌, ◌^◌, ℕ, List, [], ◌∷◌, ◌++◌, ◌==◌, not, nat_lt, length, drop, replicate, All, Option, Result, Ok, Err, if◌then◌else◌}
 use Rattle.std.specs.List.{flat_map, position}
-use Rattle.byteorder.specs.Endian.{little_bytes, little_number}
+use Rattle.byteorder.specs.Endian.{little_bytes}
+use Rattle.basic_record.specs.BasicRecords.{arg_logged, basic_length, event_in, kind_byte, kind_numbered, pid_in, tag_in, thread_in}
 use Rattle.xray_io.specs.Rows.{First, InTurn, NeedsPart, ◌>>=◌}
 use Rattle.fdr_record.specs.declared.event.Event.{Event}
 use Rattle.fdr_record.specs.declared.event.Kind.{Kind}
-use Rattle.fdr_record.specs.declared.event.Kind.TheVariants.{Entry, Exit, TailExit, EntryArgs}
 use Rattle.fdr_record.specs.Recordable.{ArgFits}
 use Rattle.fdr_record.specs.Records.{action_of}
 use Rattle.fdr_file.specs.declared.fault.TraceFault.{TraceFault}
@@ -18,21 +18,11 @@ use Rattle.trace_forms.specs.declared.basic.BasicFault.{BasicFault}
 use Rattle.trace_forms.specs.declared.basic.BasicFault.TheVariants as faults
 use Rattle.trace_forms.specs.Runs.{runs}
 
--- the length of a header and of a record, in bytes
+-- the length of a header, in bytes
 abbrev pub header_length : ℕ
 header_length = 32
 
-abbrev pub record_length : ℕ
-record_length = 32
-
 -- ---- what is written
-
--- the argument of an event of this kind, or 0 if it logs none
-abbrev pub arg_logged : Kind → ℕ → ℕ
-arg_logged Entry arg = 0
-arg_logged Exit arg = 0
-arg_logged TailExit arg = 0
-arg_logged EntryArgs arg = arg
 
 -- a header: version 3, type 0, both flags, the frequency, and 16 reserved bytes
 abbrev pub basic_header_bytes : Header → List ℕ
@@ -80,39 +70,16 @@ basic_header_rows bytes follows =
 abbrev pub basic_header : List ℕ → Header
 basic_header bytes = record (header_in bytes) { size = 0 }
 
--- the kind with this number, if it is one
-abbrev pub kind_numbered : ℕ → Option Kind
-kind_numbered number =
-    if number == 0 then Some Entry else if number == 1 then Some Exit else if number == 2 then Some TailExit
-    else if number == 3 then Some EntryArgs else None
-
--- the first two bytes of a record, as a number, and the byte that says the kind
-abbrev pub tag_in : List ℕ → ℕ
-tag_in bytes = little_number 2 bytes
-
-abbrev pub kind_byte : List ℕ → ℕ
-kind_byte bytes = slice_index bytes 3
-
 -- the thread, the process and the event that the bytes of a record of this kind say
-abbrev pub event_in : Kind → List ℕ → ℕ × ℕ × Event
-event_in kind bytes = (
-  little_number 4 (drop 16 bytes),
-  little_number 4 (drop 20 bytes),
-  record {
-    cpu = slice_index bytes 2;
-    func = little_number 4 (drop 4 bytes);
-    kind = kind;
-    tsc = little_number 8 (drop 8 bytes);
-    arg = arg_logged kind (little_number 8 (drop 24 bytes));
-  },
-)
+abbrev pub passing_in : Kind → List ℕ → ℕ × ℕ × Event
+passing_in kind bytes = (thread_in bytes, pid_in bytes, event_in kind bytes)
 
 -- the record that bytes begin with, at this place of the file
 abbrev pub record_rows : ℕ → List ℕ → Result (ℕ × ℕ × Event) BasicFault
 record_rows at bytes =
-    First (nat_lt (length bytes) record_length) (Err (faults.Short at))
+    First (nat_lt (length bytes) basic_length) (Err (faults.Short at))
     (First (not (tag_in bytes == 0)) (Err (faults.Tag at (tag_in bytes)))
-    (NeedsPart (kind_numbered (kind_byte bytes)) (Err (faults.Kind at (kind_byte bytes))) λ kind. Ok (event_in kind bytes)))
+    (NeedsPart (kind_numbered (kind_byte bytes)) (Err (faults.Kind at (kind_byte bytes))) λ kind. Ok (passing_in kind bytes)))
 
 -- the same, after these events
 abbrev pub events_rows : List ThreadEvent → ℕ × List ℕ → Result (List ThreadEvent) BasicFault
@@ -120,7 +87,7 @@ events_rows before (at, bytes) = record_rows at bytes >>= λ x. Ok (before ++ ev
 
 -- each place of bytes where a record begins, with the bytes from there on; the first of them is at the place `at`
 abbrev pub record_starts : ℕ → List ℕ → List (ℕ × List ℕ)
-record_starts at bytes = starts (λ _. record_length) 0 at bytes
+record_starts at bytes = starts (λ _. basic_length) 0 at bytes
 
 -- The trace of a basic log, or the fault of the first place that has one. Each run of events of one thread and one
 -- process is a block.

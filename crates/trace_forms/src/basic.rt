@@ -5,15 +5,6 @@ use thiserror::Error;
 /// The length of a header in bytes.
 pub(crate) const HEADER_BYTES: usize = 32;
 
-/// The length of a record in bytes.
-pub(crate) const RECORD_BYTES: usize = 32;
-
-/// The version of basic logs.
-pub(crate) const VERSION: u16 = 3;
-
-/// The type of basic logs. That of traces is 1.
-pub(crate) const BASIC: u16 = 0;
-
 /// The flag that the counter runs at a constant frequency. Flags are bits of their number.
 pub(crate) const CONSTANT: u32 = 1;
 

@@ -1,16 +1,19 @@
 //! Basic logs as they are read.
 
-ghost use Rattle.std.specs.Prelude.{◌≡◌, ◌⊎◌, ◌<◌, ◌≤◌, ◌+◌, Err, IfOk, None, Ok, OnOk, drop, length};
-ghost use Rattle.byteorder.specs.Endian.{little_number};
+ghost use Rattle.std.specs.Prelude.{◌≡◌, ◌⊎◌, ◌<◌, ◌≤◌, Err, IfOk, None, Ok, OnOk, length};
 ghost use Rattle.trace_forms.specs.declared.basic.BasicFault.TheVariants.{NoMemory};
 ghost use Rattle.fdr_file.specs.ThreadEvents.{thread_events};
-ghost use Rattle.trace_forms.specs.BasicLogs.{arg_logged, basic_header, basic_header_rows, basic_of, event_in, kind_numbered, record_rows, wide_cpu};
+ghost use Rattle.trace_forms.specs.BasicLogs.{basic_header, basic_header_rows, basic_of, record_rows, wide_cpu};
 
-use crate::basic::{BASIC, BasicFault, CONSTANT, HEADER_BYTES, NONSTOP, RECORD_BYTES, VERSION};
+use crate::basic::{BasicFault, CONSTANT, HEADER_BYTES, NONSTOP};
 use crate::runs::RunBlocks;
+use basic_record::{
+    BASIC_TYPE, BASIC_VERSION, RECORD_BYTES, event_in, kind_byte, kind_of, pid_in, tag_in,
+    thread_in, u32_at, u64_at,
+};
 use byteorder::{ByteOrder, LittleEndian};
 use fdr_file::{Blocks, Header, Trace};
-use fdr_record::{Event, Kind};
+use fdr_record::Event;
 use std::alloc::Global;
 
 /// The places of a header's fields.
@@ -19,21 +22,6 @@ const TYPE_AT: usize = 2;
 const FLAGS_AT: usize = 4;
 
 const FREQUENCY_AT: usize = 8;
-
-/// The places of a record's fields.
-const CPU_AT: usize = 2;
-
-const KIND_AT: usize = 3;
-
-const FUNC_AT: usize = 4;
-
-const TSC_AT: usize = 8;
-
-const THREAD_AT: usize = 16;
-
-const PID_AT: usize = 20;
-
-const ARG_AT: usize = 24;
 
 /// Reads a basic log: a header, and a record for each event, up to the file's end. Each run of
 /// events of one thread and one process is a block, whose wall time is 0. The header says the size
@@ -67,11 +55,11 @@ fn read_header(bytes: &[u8]) -> Result<Header, BasicFault>
         return Err(BasicFault::Short(0));
     }
     let version = LittleEndian::read_u16(bytes);
-    if version != VERSION {
+    if version != BASIC_VERSION {
         return Err(BasicFault::Version(version));
     }
     let form = LittleEndian::read_u16(bytes.split_at(TYPE_AT).1);
-    if form != BASIC {
+    if form != BASIC_TYPE {
         return Err(BasicFault::Form(form));
     }
     let flags = u32_at(bytes, FLAGS_AT);
@@ -94,70 +82,15 @@ fn read_record(place: u64, bytes: &[u8]) -> Result<(u32, u32, Event), BasicFault
     if bytes.len() < RECORD_BYTES {
         return Err(BasicFault::Short(place));
     }
-    let tag = LittleEndian::read_u16(bytes);
+    let tag = tag_in(bytes);
     if tag != 0 {
         return Err(BasicFault::Tag(place, tag));
     }
-    let number = bytes[KIND_AT];
+    let number = kind_byte(bytes);
     match kind_of(number) {
-        Some(kind) => Ok(event_of(kind, bytes)),
+        Some(kind) => Ok((thread_in(bytes), pid_in(bytes), event_in(kind, bytes))),
         None => Err(BasicFault::Kind(place, number)),
     }
-}
-
-/// The thread, the process and the event that the bytes of a record of this kind say.
-fn event_of(kind: Kind, bytes: &[u8]) -> (u32, u32, Event)
-    requires { 32 ≤ length bytes.now }
-    ensures says { result ≡ event_in kind bytes.now }
-    ensures narrow { result.2.cpu < 256 }
-{
-    let event = Event {
-        tsc: u64_at(bytes, TSC_AT),
-        arg: arg_of(kind, u64_at(bytes, ARG_AT)),
-        func: u32_at(bytes, FUNC_AT),
-        cpu: u16::from(bytes[CPU_AT]),
-        kind,
-    };
-    (u32_at(bytes, THREAD_AT), u32_at(bytes, PID_AT), event)
-}
-
-/// The kind with this number.
-fn kind_of(number: u8) -> Option<Kind>
-    ensures { result ≡ kind_numbered number }
-{
-    match number {
-        0 => Some(Kind::Entry),
-        1 => Some(Kind::Exit),
-        2 => Some(Kind::TailExit),
-        3 => Some(Kind::EntryArgs),
-        _ => None,
-    }
-}
-
-/// The argument of an event of this kind, by the number in the place for it.
-fn arg_of(kind: Kind, arg: u64) -> u64
-    ensures { result ≡ arg_logged kind arg }
-{
-    match kind {
-        Kind::Entry | Kind::Exit | Kind::TailExit => 0,
-        Kind::EntryArgs => arg,
-    }
-}
-
-/// The number in the four bytes at a place, lowest byte first.
-fn u32_at(bytes: &[u8], at: usize) -> u32
-    requires { at + 4 ≤ length bytes.now }
-    ensures { result ≡ little_number 4 (drop at bytes.now) }
-{
-    LittleEndian::read_u32(bytes.split_at(at).1)
-}
-
-/// The number in the eight bytes at a place, lowest byte first.
-fn u64_at(bytes: &[u8], at: usize) -> u64
-    requires { at + 8 ≤ length bytes.now }
-    ensures { result ≡ little_number 8 (drop at bytes.now) }
-{
-    LittleEndian::read_u64(bytes.split_at(at).1)
 }
 
 /// A refused allocation ends the reading.

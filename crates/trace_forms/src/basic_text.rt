@@ -4,10 +4,11 @@ ghost use Rattle.std.specs.{Prelude.{◌≡◌, ◌<◌, ◌^◌, None, length},
 ghost use Rattle.fdr_record.specs.Records.{action_of};
 ghost use Rattle.fdr_file.specs.ThreadEvents.{event_given, thread_events};
 ghost use Rattle.xray_io.specs.{Text.{AddsText}, Writes.{WritesText}};
-ghost use Rattle.trace_forms.specs.BasicLogs.{arg_logged, basic_bytes, basic_header_bytes, event_bytes, log_bytes, wide_cpu as first_wide};
+ghost use Rattle.trace_forms.specs.BasicLogs.{basic_bytes, basic_header_bytes, event_bytes, log_bytes, wide_cpu as first_wide};
 
-use crate::basic::{BASIC, CONSTANT, NONSTOP, VERSION};
+use crate::basic::{CONSTANT, NONSTOP};
 use crate::source::{EventSource, TraceCursor};
+use basic_record::{BASIC_TYPE, BASIC_VERSION, arg_logged};
 use fdr_file::{Header, Trace};
 use fdr_record::{Event, Kind};
 use xray_io::{Piece, Printed, Sink, Text, WriteFault, write_text};
@@ -96,8 +97,8 @@ fn add_header<S: Sink>(text: &mut Text<S>, header: &Header) -> Result<(), WriteF
     ensures { AddsText S.written S.faults S.along text.old text.new
         (basic_header_bytes header.now) result }
 {
-    let version = VERSION.to_le_bytes();
-    let form = BASIC.to_le_bytes();
+    let version = BASIC_VERSION.to_le_bytes();
+    let form = BASIC_TYPE.to_le_bytes();
     let flags = (CONSTANT + NONSTOP).to_le_bytes();
     let frequency = header.frequency.to_le_bytes();
     text.pieces(&[
@@ -140,7 +141,7 @@ fn add_record<S: Sink>(
     let tsc = event.tsc.to_le_bytes();
     let thread = thread.to_le_bytes();
     let pid = pid.to_le_bytes();
-    let arg = logged(event).to_le_bytes();
+    let arg = arg_logged(event.kind, event.arg).to_le_bytes();
     text.pieces(&[
         Piece::Bytes(&TAG),
         Piece::Bytes(&place),
@@ -161,15 +162,5 @@ fn number_of(kind: Kind) -> u8
         Kind::Exit => 1,
         Kind::TailExit => 2,
         Kind::EntryArgs => 3,
-    }
-}
-
-/// The argument of an event, or 0 if it logs none.
-fn logged(event: &Event) -> u64
-    ensures { result ≡ arg_logged event.now.kind event.now.arg }
-{
-    match event.kind {
-        Kind::Entry | Kind::Exit | Kind::TailExit => 0,
-        Kind::EntryArgs => event.arg,
     }
 }

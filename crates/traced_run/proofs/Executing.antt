@@ -25,7 +25,7 @@ use Rattle.machine_step.specs.Loads.{AreWanted, Load, Marked, Reading, Wants, fr
 use Rattle.machine_step.specs.PlainStep.{Ends, Goes, Next, Passing, PlainRun, PlainStep, RunsTo, State, UnitStep, after_passing, fuelled, opening, passing_at, returns}
 use Rattle.machine_step.specs.Traced.{sleds_passed}
 use Rattle.machine_step.specs.Whole.{FoundPatched, HaveOneValue, HaveOneValueEach, IsWhole, Loaded, loads_by_passing}
-use Rattle.machine_step.proofs.OnCourse.{run_count}
+use Rattle.machine_step.proofs.PlainWays.{run_count}
 use Rattle.machine_step.proofs.OneEnd.{Passes as PassesOrEnds}
 use Rattle.machine_step.proofs.OneUnit.{accepted_units}
 use Rattle.traced_run.specs.Decoded.{DecodesWhole}

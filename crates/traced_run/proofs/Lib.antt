@@ -1,15 +1,19 @@
+-- Losses: the segments that are lost and those that are left (src/laws.rt)
 pub mod Oldest
 pub mod KeptEvents
+pub mod SomeLosses
+-- What a run records fits its records and its buffers (src/laws.rt)
 pub mod SmallIds
 pub mod SmallArguments
 pub mod FitPassings
 pub mod RecordedEvents
 pub mod FitBuffers
-pub mod SomeLosses
+pub mod FewBuffers
+-- Executing the code: with whole passings it comes to the end of the plain run (src/laws.rt)
 pub mod ButR10
 pub mod SledBytes
 pub mod AcceptedCode
 pub mod OneExecution
 pub mod Executing
-pub mod FewBuffers
+-- Worked examples: the step of a sled
 mod ExecutedRows

@@ -172,8 +172,8 @@ enum Device {
     Err,
 }
 
-/// The failures of these calls of a device. Calls of err fail beside them, or, for err itself, the first call of the desk and
-/// of out.
+/// The failures of these calls of a device. Calls of err fail beside them, or, for err itself, the first call of the
+/// desk and of out.
 fn failures_of<'f>(device: Device, calls: &'f [u64], of_err: &'f [u64]) -> Failing<'f> {
     match device {
         Device::Desk => Failing {
@@ -363,8 +363,8 @@ fn tried<R: Abort + Threads + Wait + Sync + AllocGlobal>(
     Ok(left)
 }
 
-/// Tries a command with the failures of each call in turn, until a call of the device that should have failed isn't made. Then
-/// the same with the next call and err failing too.
+/// Tries a command with the failures of each call in turn, until a call of the device that should have failed isn't made.
+/// Then the same with the next call and err failing too.
 fn try_each_call<R: Abort + Threads + Wait + Sync + AllocGlobal>(
     rt: &R,
     command: &Command,

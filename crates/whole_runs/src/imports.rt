@@ -169,7 +169,8 @@ const IMPORTS: [Import; 8] = [
         "1 1 2 0 1 0 0 0 0 2 0",
         &[HEADER, EXTENTS_80, PREAMBLE, CPU, ENTRY, EXIT_AFTER_2],
     ),
-    // Blocks of a thread come in the order of time, and threads ascend. A block counts once, and one without events not at all.
+    // Blocks of a thread come in the order of time, and threads ascend. A block counts once, and one without events not
+    // at all.
     (
         &[
             HEADER,

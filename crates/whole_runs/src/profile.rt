@@ -180,8 +180,8 @@ const REGISTERS: &str =
 const REGISTERS_AT_9: &str =
     "rax=0 rcx=0 rdx=0 rbx=0 rbp=0 rsi=0 rdi=9 r8=0 r9=0 r11=0 r12=0 r13=0 r14=0 r15=0 zf=0";
 
-/// A text and a script, options, how many instructions and passings thread 1 makes, its registers and marks, and the rows of
-/// its stacks.
+/// A text and a script, options, how many instructions and passings thread 1 makes, its registers and marks, and the rows
+/// of its stacks.
 type Told = (
     &'static str,
     &'static str,

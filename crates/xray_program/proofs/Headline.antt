@@ -1,5 +1,5 @@
 -- The headline of `sim` and of `run`, from what they mean.
-use Rattle.std.specs.Prelude.{All, Ok}
+use Rattle.std.specs.Prelude.{All}
 use Rattle.std.proofs.lemmas.List.{length-map}
 use Rattle.std.proofs.lemmas.List.Elements.{All-head, All-tail}
 use Rattle.std.proofs.Common.{◌≡◌, ◌+◌, ℕ, List, [], ◌∷◌, Option, Some, None, option_map, inl, inr, refl, subst, ◌∙◌, codes}
@@ -11,13 +11,17 @@ use Rattle.machine_step.specs.Setups.{IsSetup}
 use Rattle.machine_step.specs.declared.setup.Setup.{Setup}
 use Rattle.machine_step.specs.PlainStep.{Passing}
 use Rattle.patch_script.specs.Micros.{hold_of}
-use Rattle.patch_script.specs.Plans.{Plan, plan_of, waiting_line}
+use Rattle.patch_script.specs.declared.command.Command.{Command as PatchCommand}
+use Rattle.patch_script.specs.Plans.{waiting_line}
 use Rattle.patch_script.specs.Refusals.{commands_of}
 use Rattle.step_sim.specs.FaultWords.{waits_words}
 use Rattle.step_sim.specs.Replay.{of_thread}
+use Rattle.step_sim.specs.Replayed.{IsReplayOf, LoseOldest}
+use Rattle.step_sim.specs.declared.turns.Turns.{Turns}
 use Rattle.trace_flush.specs.Flush.{trace_bytes}
 use Rattle.trace_flush.specs.Lines.{audit_of_run}
 use Rattle.traced_run.specs.Decoded.{DecodesWhole}
+use Rattle.traced_run.specs.Executed.{Executes}
 use Rattle.traced_run.specs.Losses.{AreLost}
 use Rattle.traced_run.specs.Runs.{EachThread, ThreadRun}
 use Rattle.xray_image.specs.Program.{Program, IsAccepted}
@@ -29,6 +33,7 @@ use Rattle.xray_program.specs.Outputs.{OutputsAreWhole}
 use Rattle.xray_program.specs.Run.{FollowsPlan, LoadsFollowPlan, RunComes, RunsBeside}
 use Rattle.xray_program.specs.Sim.{FollowsSchedule, Replayed, Replays, SimComes}
 use Rattle.xray_program.specs.Setups.{setup_of}
+use Rattle.xray_program.specs.Spoken.{commands_said, turns_given}
 use Rattle.xray_program.specs.Taking.{Form, Leaves, RefuseIf, Sound, Take}
 use Rattle.xray_program.specs.Traced.{IsTraced, Traces, written_of}
 use Rattle.command_words.specs.Words.{Command}
@@ -37,6 +42,7 @@ use Rattle.xray_program.specs.private.Works.{SaidHasRanges}
 use Rattle.xray_io.specs.World.{World}
 use Rattle.xray_program.proofs.RunLoads.{leave_all}
 use Rattle.xray_program.proofs.RunSetups.{options_make_a_setup}
+use Rattle.xray_program.proofs.SpokenLines.{schedule_gives, script_says}
 
 -- if all is done, an input that is held reads as a value, and the rest is done with it
 record Read {X : Type 0} (Reads : List ℕ → X → Type 0) (bytes : List ℕ) (Next : X → Type 0) : Type 0 where
@@ -79,32 +85,28 @@ files_hold trace audit setup runs outputs old new are whole =
     let other : List ℕ × List ℕ = (audit, audit_of_run setup runs) in
     (All-head Made one (other ∷ []) both, All-head Made other [] (All-tail Made one (other ∷ []) both))
 
--- lawful runs whose trace, audit and state texts were written are traced
-is_traced : CallLaws → (Lawful : Program → Plan → List ThreadRun → (ℕ → List Load) → Type 0) (Were : List ThreadRun → Type 0) (before after : World)
-    (t a image script : List ℕ) (setup : Setup) → IsSetup setup → (outputs : List (List ℕ × List ℕ)) (text : List ℕ) (program : Program) (plan : Plan)
-    → IsAccepted image program → plan_of program setup.threads script ≡ Ok plan → (traces : Traces Were program setup t a outputs text)
+-- lawful runs whose trace, audit and state texts were written are traced; these commands are what the script says
+is_traced : CallLaws → (Lawful : Program → List PatchCommand → List ThreadRun → (ℕ → List Load) → Type 0) (Were : List ThreadRun → Type 0) (before after : World)
+    (t a image script : List ℕ) (setup : Setup) → IsSetup setup → (outputs : List (List ℕ × List ℕ)) (text : List ℕ) (program : Program)
+    (commands : List PatchCommand) → IsAccepted image program → commands ≡ commands_said script → (traces : Traces Were program setup t a outputs text)
     → OutputsAreWhole outputs before.desk.held after.desk.held → Adds before.out.written after.out.written text
-    → (loads : ℕ → List Load) → Lawful program plan traces.runs loads
-    → EachThread traces.runs (λ number run. DecodesWhole program setup.threads number (hold_of number (commands_of plan.lines)) run (loads number))
+    → (loads : ℕ → List Load) → Lawful program commands traces.runs loads
+    → EachThread traces.runs (λ number run. DecodesWhole program setup.threads number (hold_of number commands) run (loads number))
     → AreLost setup.size (spare_of setup) traces.runs → IsTraced Lawful image script t a setup before after
-is_traced laws Lawful Were before after t a image script setup is outputs text program plan accepted reads traces whole adds loads lawful decoded losses =
+is_traced laws Lawful Were before after t a image script setup is outputs text program commands accepted says traces whole adds loads lawful decoded losses =
     let hold = files_hold t a setup traces.runs outputs before.desk.held after.desk.held traces.outputs_are whole in
     let Added : List ℕ → Type 0 = λ more. Adds before.out.written after.out.written more in
+    let Ran : List PatchCommand → Type 0 = λ cs. Lawful program cs traces.runs loads
+        × EachThread traces.runs (λ number run. DecodesWhole program setup.threads number (hold_of number cs) run (loads number))
+        × EachThread traces.runs (λ number run. Executes program setup.limits setup.threads number (hold_of number cs) run (loads number)) in
+    let executes : EachThread traces.runs (λ number run. Executes program setup.limits setup.threads number (hold_of number commands) run (loads number)) =
+    λ i run found. laws.executes image program setup.limits setup.threads (i + 1) (hold_of (i + 1) commands) run (loads (i + 1))
+    accepted (traces.run.plain i run found) (decoded i run found) in
+    let ran : Ran (commands_said script) = subst Ran says (lawful, decoded, executes) in
     record {
       is_setup = is;
       runs = traces.runs;
-      ran = record {
-        program = program;
-        accepted = accepted;
-        plan = plan;
-        script_reads = reads;
-        run = traces.run;
-        loads = loads;
-        lawful = lawful;
-        whole = decoded;
-        executes = λ i run found. laws.executes image program setup.limits setup.threads (i + 1) (hold_of (i + 1) (commands_of plan.lines)) run (loads (i + 1))
-            accepted (traces.run.plain i run found) (decoded i run found);
-      };
+      ran = record { program = program; accepted = accepted; run = traces.run; loads = loads; lawful = ran.0; whole = ran.1; executes = ran.2 };
       losses = losses;
       left = record { trace_holds = hold.0; audit_holds = hold.1; out = subst Added traces.text_is adds };
     }
@@ -127,19 +129,17 @@ simulated_by laws before after i s c t a image script schedule setup is outputs 
     let still = unrefused (waiting_line second.value.lines) s (codes "script")
     (Leaves (Traces (Replayed first.value second.value third.value setup) first.value setup t a)) outputs text third.next in
     let traces = left_alike (Traces (Replayed first.value second.value third.value setup) first.value setup t a) outputs text still.1 in
+    let commands = commands_of second.value.lines in
+    let loads : ℕ → List Load = λ number. of_thread traces.lawful.last.moment.loads number in
+    let Follows : List Turns → Type 0 = λ turns. (replayed : IsReplayOf first.value commands turns setup traces.runs)
+        × ((number : ℕ) → loads number ≡ of_thread replayed.last.moment.loads number) × LoseOldest setup.size traces.runs replayed.last.stock in
+    let follows : Follows (turns_given schedule) = subst Follows (schedule_gives setup.threads schedule third.value third.reads)
+    (traces.lawful, (λ number. refl), laws.oldest first.value commands schedule third.value setup traces.runs third.reads traces.lawful) in
     is_traced laws (FollowsSchedule schedule setup) (Replayed first.value second.value third.value setup) before after t a image script setup is
-    outputs text first.value second.value first.reads second.reads traces whole adds
-    (λ number. of_thread traces.lawful.last.moment.loads number)
-    (record {
-      turns = third.value;
-      schedule_reads = third.reads;
-      nobody_waits = still.0;
-      replayed = traces.lawful;
-      loads_are = λ number. refl;
-      oldest = laws.oldest first.value (commands_of second.value.lines) schedule third.value setup traces.runs third.reads traces.lawful;
-    })
-    (laws.tears first.value (commands_of second.value.lines) schedule third.value setup traces.runs third.reads traces.lawful)
-    (laws.loses first.value (commands_of second.value.lines) schedule third.value setup traces.runs third.reads traces.lawful)
+    outputs text first.value commands first.reads (script_says first.value setup.threads script second.value second.reads) traces whole adds loads
+    (record { replayed = follows.0; loads_are = follows.1; oldest = follows.2 })
+    (laws.tears first.value commands schedule third.value setup traces.runs third.reads traces.lawful)
+    (laws.loses first.value commands schedule third.value setup traces.runs third.reads traces.lawful)
 
 pub simulated : CallLaws → (said : Option Command) (before after : World) → SaidHasRanges said → (outputs : List (List ℕ × List ℕ)) (text : List ℕ)
     → Means said before.desk.held (Done outputs text) → OutputsAreWhole outputs before.desk.held after.desk.held
@@ -166,7 +166,7 @@ beside_by laws before after i s t a image script setup is outputs text image_hel
     let commands = commands_of second.value.lines in
     let made = leave_all first.value setup.threads commands traces.runs traces.lawful.follow in
     is_traced laws (LoadsFollowPlan setup) (FollowsPlan setup first.value second.value) before after t a image script setup is
-    outputs text first.value second.value first.reads second.reads traces whole adds made.loads
+    outputs text first.value commands first.reads (script_says first.value setup.threads script second.value second.reads) traces whole adds made.loads
     (record {
       follow = λ i run found. (made.are i run found).follow;
       released = λ i run found. (made.are i run found).released;

@@ -1,47 +1,58 @@
-pub mod AcceptedInputs
-pub mod AccountLaws
-pub mod Answering
-pub mod AsmLaws
-pub mod AuditLengths
-pub mod Audits
-pub mod CheckLaws
-pub mod CheckTurns
-pub mod CheckYes
+-- The call: what words mean, and how a call ends (src/call.rt, src/work.rt, src/laws.rt)
 pub mod CommandLaws
+pub mod Answering
+pub mod Endings
+pub mod Saying
+pub mod AcceptedInputs
+-- The headline of `sim` and of `run`
+pub mod Headline
+pub mod RunLoads
+pub mod SpokenLines
+-- What `sim` and `run` leave is accepted by `check` (src/laws.rt)
+pub mod CheckYes
+pub mod AuditLengths
+-- What `order` writes is replayed by `sim` (src/laws.rt)
+pub mod OrderReplays
+-- The trace of a run is imported as itself (src/laws.rt)
+pub mod RunsImported
+-- Inputs: in their turn, what comes of each, and of one that is refused (src/input.rt, src/inputs.rt)
+pub mod Turns
+pub mod Ordering
+pub mod Meanings
+pub mod Judging
+pub mod Images
+pub mod Audits
+pub mod Logs
+pub mod LogForms
+pub mod NamesTaken
+pub mod Reports
+pub mod Scripts
+pub mod CheckTurns
+pub mod SimTurns
+pub mod OrderTurns
+-- Outputs and texts (src/delivery.rt, src/traced.rt, src/summary.rt)
+pub mod Outputting
+pub mod TextLists
+pub mod RunWritten
+pub mod SoakTexts
+-- Runs: options make setups, plain runs end, and there is a run beside each script (src/setups.rt, src/plain.rt)
+pub mod RunSetups
+pub mod PlainThreads
+pub mod RunExists
+pub mod Profiling
+pub mod SoakReads
+-- Each command: something comes of it, and one thing only if it is deterministic (src/laws.rt)
+pub mod AccountLaws
+pub mod AsmLaws
+pub mod CheckLaws
 pub mod ConvertLaws
 pub mod DumpLaws
-pub mod Endings
 pub mod ExtractLaws
-pub mod Headline
-pub mod Images
 pub mod ImportLaws
-pub mod Judging
-pub mod LogForms
-pub mod Logs
-pub mod Meanings
-pub mod NamesTaken
 pub mod OrderLaws
-pub mod OrderReplays
-pub mod OrderTurns
-pub mod Ordering
-pub mod Outputting
 pub mod PlainLaws
-pub mod PlainThreads
-pub mod Reports
 pub mod ProfileLaws
-pub mod Profiling
-pub mod RunExists
 pub mod RunLaws
-pub mod RunLoads
-pub mod RunSetups
-pub mod RunWritten
-pub mod Saying
-pub mod Scripts
 pub mod SimLaws
-pub mod SimTurns
 pub mod SoakLaws
-pub mod SoakReads
-pub mod SoakTexts
 pub mod StackLaws
-pub mod TextLists
-pub mod Turns

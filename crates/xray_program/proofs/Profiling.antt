@@ -20,7 +20,7 @@ use Rattle.sled_rule.specs.declared.views.WorkView.{WorkView}
 use Rattle.stack_rebuild.specs.Stacks.{stack_of_threads}
 use Rattle.thread_run.specs.Each.{HaveChanged}
 use Rattle.thread_run.specs.Recorded.{HaveRecorded}
-use Rattle.thread_run.proofs.Each.{there_is}
+use Rattle.thread_run.proofs.EachItem.{there_is}
 use Rattle.traced_run.specs.Following.{MarksFollowScript}
 use Rattle.traced_run.specs.Runs.{ThreadRun, events_of}
 use Rattle.xray_image.specs.Program.{Program}

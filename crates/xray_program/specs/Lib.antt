@@ -1,6 +1,7 @@
 pub mod Outcomes
 pub mod Taking
 pub mod Setups
+pub mod Spoken
 pub mod Inputs
 pub mod Outputs
 pub mod Traced

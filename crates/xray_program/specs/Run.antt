@@ -4,6 +4,7 @@ use Rattle.xray_io.specs.Desk.{Entry}
 use Rattle.xray_image.specs.Program.{Program}
 use Rattle.sled_words.specs.Words.{release_word}
 use Rattle.patch_script.specs.Micros.{total_of}
+use Rattle.patch_script.specs.declared.command.Command.{Command}
 use Rattle.patch_script.specs.Plans.{Plan}
 use Rattle.patch_script.specs.Refusals.{commands_of}
 use Rattle.machine_step.specs.Buffers.{spare_of}
@@ -34,8 +35,8 @@ RunComes reads held image script trace audit setup = TakeScript reads held image
 
 -- The headline's law for `run`. The loads of each thread follow the script to its end, and none of them is of a release
 -- word that still held the thread.
-pub record LoadsFollowPlan (setup : Setup) (program : Program) (plan : Plan) (runs : List ThreadRun) (loads : ℕ → List Load) : Type 0 where
+pub record LoadsFollowPlan (setup : Setup) (program : Program) (script : List Command) (runs : List ThreadRun) (loads : ℕ → List Load) : Type 0 where
   pub follow : EachThread runs (λ number run.
-      LoadsFollow program setup.threads (commands_of plan.lines) number (sleds_passed run.passed) (loads number)
-      (total_of program setup.threads (commands_of plan.lines)))
+      LoadsFollow program setup.threads script number (sleds_passed run.passed) (loads number)
+      (total_of program setup.threads script))
   pub released : EachThread runs (λ number run. All (λ load. load.word ≡ release_word program number → load.value ≢ 0) (loads number))

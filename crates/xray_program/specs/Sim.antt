@@ -1,7 +1,8 @@
 -- `sim`: the replay of a schedule over an image and a script.
-use Rattle.std.specs.Prelude.{◌≡◌, ℕ, List, None, Ok, codes, option_map}
+use Rattle.std.specs.Prelude.{◌≡◌, ℕ, List, codes, option_map}
 use Rattle.xray_io.specs.Desk.{Entry}
 use Rattle.xray_image.specs.Program.{Program}
+use Rattle.patch_script.specs.declared.command.Command.{Command}
 use Rattle.patch_script.specs.Plans.{Plan, waiting_line}
 use Rattle.patch_script.specs.Refusals.{commands_of}
 use Rattle.machine_step.specs.declared.setup.Setup.{Setup}
@@ -10,9 +11,9 @@ use Rattle.step_sim.specs.declared.turns.Turns.{Turns}
 use Rattle.step_sim.specs.FaultWords.{waits_words}
 use Rattle.step_sim.specs.Replay.{of_thread}
 use Rattle.step_sim.specs.Replayed.{IsReplayOf, LoseOldest}
-use Rattle.step_sim.specs.Schedules.{schedule_of}
 use Rattle.traced_run.specs.Runs.{ThreadRun}
 use Rattle.xray_program.specs.Inputs.{image_form, script_form, schedule_form}
+use Rattle.xray_program.specs.Spoken.{turns_given}
 use Rattle.xray_program.specs.Outcomes.{Outcome}
 use Rattle.xray_program.specs.Taking.{DeskReads, Take, RefuseIf, Leaves}
 use Rattle.xray_program.specs.Traced.{Traces}
@@ -36,15 +37,11 @@ SimComes reads held image script schedule trace audit setup =
     Take (schedule_form setup.threads) reads held schedule (λ turns.
     Replays script trace audit setup program plan turns)))
 
--- The headline's law for `sim`. The schedule is read for the number of threads, and nothing waits in the script. The
--- runs are those that the schedule leaves, with their marks and the numbers of their lost segments. The loads of each
--- thread are those that it has made when the replay leaves these runs. The segments whose buffers were taken from the
--- queue are each thread's oldest.
-pub record FollowsSchedule (schedule : List ℕ) (setup : Setup) (program : Program) (plan : Plan) (runs : List ThreadRun)
+-- The headline's law for `sim`. The runs are those that the turns of the schedule's lines leave, with their marks and
+-- the numbers of their lost segments. The loads of each thread are those that it has made when the replay leaves these
+-- runs. The segments whose buffers were taken from the queue are each thread's oldest.
+pub record FollowsSchedule (schedule : List ℕ) (setup : Setup) (program : Program) (script : List Command) (runs : List ThreadRun)
     (loads : ℕ → List Load) : Type 0 where
-  pub turns : List Turns
-  pub schedule_reads : schedule_of setup.threads schedule ≡ Ok turns
-  pub nobody_waits : waiting_line plan.lines ≡ None
-  pub replayed : Replayed program plan turns setup runs
+  pub replayed : IsReplayOf program script (turns_given schedule) setup runs
   pub loads_are : (number : ℕ) → loads number ≡ of_thread replayed.last.moment.loads number
   pub oldest : LoseOldest setup.size runs replayed.last.stock

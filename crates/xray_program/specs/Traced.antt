@@ -7,8 +7,7 @@ use Rattle.xray_io.specs.Sink.{Adds}
 use Rattle.xray_io.specs.World.{World}
 use Rattle.xray_image.specs.Program.{Program, IsAccepted}
 use Rattle.patch_script.specs.Micros.{hold_of}
-use Rattle.patch_script.specs.Plans.{Plan, plan_of}
-use Rattle.patch_script.specs.Refusals.{commands_of}
+use Rattle.patch_script.specs.declared.command.Command.{Command}
 use Rattle.machine_step.specs.Buffers.{spare_of}
 use Rattle.machine_step.specs.Setups.{IsSetup}
 use Rattle.machine_step.specs.declared.setup.Setup.{Setup}
@@ -20,6 +19,7 @@ use Rattle.traced_run.specs.Losses.{AreLost}
 use Rattle.traced_run.specs.Runs.{EachThread, IsRun, ThreadRun}
 use Rattle.trace_flush.specs.Flush.{IsTraceOf, trace_bytes}
 use Rattle.trace_flush.specs.Lines.{audit_of_run}
+use Rattle.xray_program.specs.Spoken.{commands_said}
 
 -- the state texts of threads, one after another, numbered from a number on
 abbrev pub state_texts : ℕ → List ThreadRun → List ℕ
@@ -41,26 +41,24 @@ pub record Traces (Lawful : List ThreadRun → Type 0) (program : Program) (setu
 
 -- ---- the headline, for any law of runs and of the loads that their threads make
 
--- The threads have run by this law. The image file is accepted, and the script is read for it and for the number of
--- threads. There are loads of each thread by its number, such that:
+-- The threads have run by this law, over an accepted image, beside the commands that the script's lines say. There are
+-- loads of each thread by its number, such that:
 -- - each thread goes as its plain run does;
 -- - the runs and the loads are lawful;
 -- - each load of a thread is of the word that it wanted next, by its loads no passing decodes a torn sled, and its marks
 --   are those of its loads;
 -- - a thread that executes the code, each sled with the bytes that it loaded there, always comes to the same end as the
 --   plain run, with the same registers except r10, zero flag, stack, output and counts.
-pub record RanLawfully (Lawful : Program → Plan → List ThreadRun → (ℕ → List Load) → Type 0) (image script : List ℕ) (setup : Setup)
+pub record RanLawfully (Lawful : Program → List Command → List ThreadRun → (ℕ → List Load) → Type 0) (image script : List ℕ) (setup : Setup)
     (runs : List ThreadRun) : Type 0 where
   pub program : Program
   pub accepted : IsAccepted image program
-  pub plan : Plan
-  pub script_reads : plan_of program setup.threads script ≡ Ok plan
   pub run : IsRun program setup runs
   pub loads : ℕ → List Load
-  pub lawful : Lawful program plan runs loads
-  pub whole : EachThread runs (λ number run. DecodesWhole program setup.threads number (hold_of number (commands_of plan.lines)) run (loads number))
+  pub lawful : Lawful program (commands_said script) runs loads
+  pub whole : EachThread runs (λ number run. DecodesWhole program setup.threads number (hold_of number (commands_said script)) run (loads number))
   pub executes : EachThread runs
-      (λ number run. Executes program setup.limits setup.threads number (hold_of number (commands_of plan.lines)) run (loads number))
+      (λ number run. Executes program setup.limits setup.threads number (hold_of number (commands_said script)) run (loads number))
 
 -- The files of runs are written, and their state texts. The trace holds exactly the bytes of the trace of these runs. The
 -- audit holds how they ended: each thread's end, segments, lost segments and marks. The state texts were given to out,
@@ -74,7 +72,7 @@ pub record LeftFiles (trace audit : List ℕ) (setup : Setup) (runs : List Threa
 -- one; if there are more other segments than spare buffers, exactly the excess is lost, and otherwise none is. The
 -- setup is one that a run may have. So the trace reads back: for each thread it has the last whole
 -- segments of exactly the entries and exits that its marks record (the law `reports_take_a_run`).
-pub record IsTraced (Lawful : Program → Plan → List ThreadRun → (ℕ → List Load) → Type 0) (image script trace audit : List ℕ)
+pub record IsTraced (Lawful : Program → List Command → List ThreadRun → (ℕ → List Load) → Type 0) (image script trace audit : List ℕ)
     (setup : Setup) (before after : World) : Type 0 where
   pub is_setup : IsSetup setup
   pub runs : List ThreadRun

@@ -12,7 +12,9 @@ ghost use Rattle.xray_io.specs.Desk.{Entry, Holds};
 ghost use Rattle.xray_io.specs.World.{World};
 ghost use Rattle.xray_program.specs.{Accepted.{AreAccepted, CountsNoFault}, Answers.{IsAnswer}};
 ghost use Rattle.xray_program.specs.Commands.{IsDecided, IsProfile, Means, TellsAll, inputs_of};
-ghost use Rattle.xray_program.specs.{OrderReplays.{LeavesRunsOf}, Setups.{setup_of}};
+ghost use Rattle.xray_program.specs.{
+    Import.{RunsImportThemselves}, OrderReplays.{LeavesRunsOf}, Setups.{setup_of},
+};
 ghost use Rattle.xray_program.specs.Outcomes.{Done, Outcome, status_of, written_by};
 ghost use Rattle.machine_step.specs.Setups.{IsSetup};
 ghost use Rattle.xray_program.specs.Traced.{IsReported};
@@ -25,6 +27,7 @@ ghost use Rattle.stack_rebuild.specs.Stacks.{stack_of};
 
 use crate::drawn::each_input_is_read;
 use audit_check::{a_lawful_run_is_accepted, one_reading, some_reading};
+use fdr_buffer::segments_hold_all;
 use fdr_file::a_trace_is_read;
 use flame_graph::{no_frame_sticks_out, stacks_can_be_drawn, the_lowest_frames_add_up};
 use machine_step::{one_end, some_end, some_marks_follow};
@@ -33,10 +36,10 @@ use run_order::{
     a_script_reads_without_its_waits, an_order_is_a_schedule, an_order_leaves_its_run,
     one_order_of_an_audit,
 };
-use runtime_log::{one_import, some_import};
+use runtime_log::{a_trace_in_order_is_imported_as_itself, one_import, some_import};
 use step_sim::{a_replay_loses_few, marks_of_a_replay_follow, one_run, some_run};
 use trace_flush::{a_run_is_traced, a_trace_is_short};
-use traced_run::some_losses_are_of_a_queue;
+use traced_run::{a_run_fits_its_buffers, some_losses_are_of_a_queue};
 use xray_image::{one_verdict, some_verdict};
 
 /// If a command decides its outcome, its words mean only one thing over a desk that reports every
@@ -139,6 +142,17 @@ pub fn reports_take_a_run()
     a_run_is_traced();
     a_trace_is_short();
     a_trace_is_read();
+}
+
+/// The trace that `sim` or `run` wrote is imported as itself, byte for byte, if the counter rises from
+/// each event of a thread to the next. With `--tick 0` it doesn't rise, and two segments of a thread may
+/// have the same bytes. Then `import` leaves one of them out.
+pub fn a_run_is_imported_as_itself()
+    ensures { RunsImportThemselves }
+{
+    a_trace_in_order_is_imported_as_itself();
+    segments_hold_all();
+    a_run_fits_its_buffers();
 }
 
 /// What `sim` and `run` leave is accepted. If a desk holds the trace and the audit that one of them means

@@ -1,6 +1,6 @@
 use Rattle.std.proofs.Common.{◌≡◌, ◌+◌, ◌-◌, ◌*◌, ◌/◌, ◌<◌, ◌≤◌, ◌∙◌, ℕ, length, slice_index, List, ap, sym, arith}
 use Rattle.account_report.specs.Ascending.{ascending}
-use Rattle.account_report.proofs.Selecting.{before, found, ranks_alike}
+use Rattle.account_report.proofs.SelectedItem.{before, found, ranks_alike}
 use Rattle.account_report.proofs.ranks.selected.Goals as goal
 
 pub returns : goal.returns

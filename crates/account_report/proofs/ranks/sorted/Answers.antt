@@ -2,7 +2,7 @@ use Rattle.std.proofs.Common.{◌≡◌, ◌∙◌, ℕ, List, ap}
 use Rattle.std.proofs.lemmas.List.Sorted.{IsNonDecreasingBy-from_sort}
 use Rattle.account_report.specs.Ascending.{ascending}
 use Rattle.account_report.specs.private.Ranks.{ranks_from}
-use Rattle.account_report.proofs.Rising.{ascending-sorted}
+use Rattle.account_report.proofs.AscendingLists.{ascending-sorted}
 use Rattle.account_report.proofs.ranks.sorted.Goals as goal
 
 pub returns : goal.returns

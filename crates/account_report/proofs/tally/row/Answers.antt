@@ -1,5 +1,5 @@
 use Rattle.std.proofs.Common.{◌≡◌, ◌-◌, ℕ, length, arith}
-use Rattle.account_report.proofs.Selecting.{row_alike}
+use Rattle.account_report.proofs.SelectedItem.{row_alike}
 use Rattle.account_report.proofs.tally.row.Goals as goal
 
 pub returns : goal.returns

@@ -1,4 +1,4 @@
-use Rattle.fdr_buffer.proofs.Cutting.{joins, is_cut}
+use Rattle.fdr_buffer.proofs.SegmentCuts.{joins, is_cut}
 use Rattle.fdr_buffer.proofs.laws.a_segment_grows.Goals as goal
 
 pub returns-clause-joined : goal.returns-clause-joined

@@ -1,7 +1,7 @@
 use Rattle.std.proofs.Common.{◌≡◌, ◌≢◌, true, []}
 use Rattle.std.proofs.lemmas.List.Elements.{All-from_recursion}
 use Rattle.fdr_buffer.specs.Segments.{has_room, segments}
-use Rattle.fdr_buffer.proofs.Cutting.{hold_all, hold_some, hold_room}
+use Rattle.fdr_buffer.proofs.SegmentCuts.{hold_all, hold_some, hold_room}
 use Rattle.fdr_buffer.proofs.laws.segments_hold_all.Goals as goal
 
 pub returns-clause-all : goal.returns-clause-all

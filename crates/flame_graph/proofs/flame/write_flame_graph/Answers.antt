@@ -1,7 +1,7 @@
 use Rattle.std.proofs.Common.{map}
 use Rattle.stack_rebuild.specs.Stacks.{told}
-use Rattle.flame_graph.proofs.Lowest.{lowest_add_up}
-use Rattle.flame_graph.proofs.Within.{none_sticks_out}
+use Rattle.flame_graph.proofs.LowestRow.{lowest_add_up}
+use Rattle.flame_graph.proofs.NestedFrames.{none_sticks_out}
 use Rattle.flame_graph.proofs.flame.write_flame_graph.Goals as goal
 
 pub returns-clause-within : goal.returns-clause-within

@@ -1,4 +1,4 @@
-use Rattle.flame_graph.proofs.Within.{none_sticks_out}
+use Rattle.flame_graph.proofs.NestedFrames.{none_sticks_out}
 use Rattle.flame_graph.proofs.laws.no_frame_sticks_out.Goals as goal
 
 pub returns : goal.returns

@@ -3,7 +3,7 @@ use Rattle.std.proofs.lemmas.List.{length-append}
 use Rattle.xray_io.specs.Text.{AddsText, adds_failed, adds_more, adds_nothing, adds_within}
 use Rattle.flame_graph.specs.FlameText.{xml_character, xml_characters}
 use Rattle.flame_graph.specs.private.Left.{characters_left}
-use Rattle.flame_graph.proofs.Splitting.{first_texts, one_given, one_text}
+use Rattle.flame_graph.proofs.NameCharacters.{first_texts, one_given, one_text}
 use Rattle.flame_graph.proofs.names.add_first.Goals as goal
 
 pub characters-init : goal.characters-init

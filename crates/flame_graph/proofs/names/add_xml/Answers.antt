@@ -1,7 +1,7 @@
 use Rattle.std.proofs.Common.{ℕ, List, ap, subst}
 use Rattle.xray_io.specs.Text.{AddsText}
 use Rattle.flame_graph.specs.FlameText.{xml_characters}
-use Rattle.flame_graph.proofs.Splitting.{all_taken}
+use Rattle.flame_graph.proofs.NameCharacters.{all_taken}
 use Rattle.flame_graph.proofs.names.add_xml.Goals as goal
 
 pub returns : goal.returns

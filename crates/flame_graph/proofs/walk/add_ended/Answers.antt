@@ -9,7 +9,7 @@ use Rattle.stack_rebuild.specs.Stacks.{told}
 use Rattle.flame_graph.specs.FlameText.{frame_text}
 use Rattle.flame_graph.specs.Frames.{capped, end_of}
 use Rattle.flame_graph.specs.private.Walking.{IsKept, count_left, ended_at, no_opening, path_at, shared_at}
-use Rattle.flame_graph.proofs.Endings.{closes_at, ended_is, frame_cut, left_step, length-ended}
+use Rattle.flame_graph.proofs.OpenFrames.{closes_at, ended_is, frame_cut, left_step, length-ended}
 use Rattle.flame_graph.proofs.Measures.{path_told}
 use Rattle.flame_graph.proofs.Orders.{ascends}
 use Rattle.flame_graph.proofs.walk.add_ended.Goals as goal

@@ -3,7 +3,7 @@ use Rattle.function_names.specs.Name.{naming}
 use Rattle.xray_io.specs.Text.{AddsText, adds_nothing}
 use Rattle.stack_rebuild.specs.Stacks.{told}
 use Rattle.flame_graph.specs.Picture.{least_width, most_levels, width_of}
-use Rattle.flame_graph.proofs.Drawing.{is_wide, line_drawn, not_left, on_ok_from, text_none, too_long, too_thin}
+use Rattle.flame_graph.proofs.DrawnFrames.{is_wide, line_drawn, not_left, on_ok_from, text_none, too_long, too_thin}
 use Rattle.flame_graph.proofs.walk.add_frame.Goals as goal
 
 pub returns-then-frame-gt-MOST_LEVELS-clause-adds : goal.returns-then-frame-gt-MOST_LEVELS-clause-adds

@@ -8,7 +8,7 @@ use Rattle.stack_rebuild.specs.Stacks.{told}
 use Rattle.flame_graph.specs.FlameText.{frame_text}
 use Rattle.flame_graph.specs.Frames.{capped}
 use Rattle.flame_graph.specs.private.Walking.{count_left, ended_at}
-use Rattle.flame_graph.proofs.Endings.{frames_done, frames_more, left_more, stands_first, texts_more}
+use Rattle.flame_graph.proofs.OpenFrames.{frames_done, frames_more, left_more, stands_first, texts_more}
 use Rattle.flame_graph.proofs.Orders.{ascends}
 use Rattle.flame_graph.proofs.walk.add_frames.Goals as goal
 

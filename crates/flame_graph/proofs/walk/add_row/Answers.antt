@@ -2,8 +2,8 @@ use Rattle.std.proofs.Common.{ℕ, add-one, map, subst, sym}
 use Rattle.stack_rebuild.specs.Stacks.{told}
 use Rattle.flame_graph.specs.private.Walking.{IsOpen, Stands}
 use Rattle.flame_graph.specs.declared.walk.Walk.{Walk}
-use Rattle.flame_graph.proofs.Drawing.{on_ok_from}
-use Rattle.flame_graph.proofs.Endings.{next_stands}
+use Rattle.flame_graph.proofs.DrawnFrames.{on_ok_from}
+use Rattle.flame_graph.proofs.OpenFrames.{next_stands}
 use Rattle.flame_graph.proofs.walk.add_row.Goals as goal
 
 pub returns-clause-stands : goal.returns-clause-stands

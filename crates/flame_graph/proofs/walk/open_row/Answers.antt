@@ -3,7 +3,7 @@ use Rattle.std.proofs.lemmas.List.{length-map}
 use Rattle.stack_rebuild.specs.Stacks.{PathRow, told}
 use Rattle.flame_graph.specs.Frames.{own_sum}
 use Rattle.flame_graph.specs.private.Walking.{opened}
-use Rattle.flame_graph.proofs.Endings.{row_opens}
+use Rattle.flame_graph.proofs.OpenFrames.{row_opens}
 use Rattle.flame_graph.proofs.Measures.{own_step, path_told, told_at}
 use Rattle.flame_graph.proofs.Orders.{ascends}
 use Rattle.flame_graph.proofs.walk.open_row.Goals as goal

@@ -1,6 +1,6 @@
 use Rattle.std.proofs.Common.{arith, map}
 use Rattle.stack_rebuild.specs.Stacks.{told}
-use Rattle.flame_graph.proofs.Drawing.{end_within, start_within}
+use Rattle.flame_graph.proofs.DrawnFrames.{end_within, start_within}
 use Rattle.flame_graph.proofs.walk.place_of.Goals as goal
 
 pub thousandths_at-left-requires : goal.thousandths_at-left-requires

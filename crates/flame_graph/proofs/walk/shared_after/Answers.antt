@@ -2,7 +2,7 @@ use Rattle.std.proofs.Common.{◌≡◌, ◌∙◌, ◌<◌, ◌≤◌, List, �
 use Rattle.stack_rebuild.specs.declared.stack_row.StackRow.{StackRow}
 use Rattle.stack_rebuild.specs.Stacks.{told}
 use Rattle.flame_graph.specs.private.Walking.{path_at, shared}
-use Rattle.flame_graph.proofs.Endings.{shared_none}
+use Rattle.flame_graph.proofs.OpenFrames.{shared_none}
 use Rattle.flame_graph.proofs.Measures.{path_after, path_told}
 use Rattle.flame_graph.proofs.walk.shared_after.Goals as goal
 

@@ -1,4 +1,4 @@
-use Rattle.machine_step.proofs.Endings.{ends_as_plain}
+use Rattle.machine_step.proofs.SameEnd.{ends_as_plain}
 use Rattle.machine_step.proofs.laws.a_traced_thread_ends_as_its_plain_run.Goals as goal
 
 pub returns : goal.returns

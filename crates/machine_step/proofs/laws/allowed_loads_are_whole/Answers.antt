@@ -1,4 +1,4 @@
-use Rattle.machine_step.proofs.Wholeness.{all_whole}
+use Rattle.machine_step.proofs.WholePassings.{all_whole}
 use Rattle.machine_step.proofs.laws.allowed_loads_are_whole.Goals as goal
 
 pub returns : goal.returns

@@ -1,4 +1,4 @@
-use Rattle.machine_step.proofs.Limited.{limited}
+use Rattle.machine_step.proofs.PassingLimit.{limited}
 use Rattle.machine_step.proofs.laws.passings_are_limited.Goals as goal
 
 pub returns : goal.returns

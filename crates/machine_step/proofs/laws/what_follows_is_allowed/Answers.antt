@@ -1,5 +1,5 @@
-use Rattle.machine_step.proofs.AlongCode.{follows_in_order, loads_allowed, next_allowed}
-use Rattle.machine_step.proofs.Wholeness.{follows_whole}
+use Rattle.machine_step.proofs.AllowedLoads.{follows_in_order, loads_allowed, next_allowed}
+use Rattle.machine_step.proofs.WholePassings.{follows_whole}
 use Rattle.machine_step.proofs.laws.what_follows_is_allowed.Goals as goal
 
 pub returns : goal.returns

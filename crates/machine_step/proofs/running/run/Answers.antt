@@ -1,7 +1,7 @@
 use Rattle.std.proofs.Common.{arith}
 use Rattle.machine_step.specs.private.Machine.{state_at}
 use Rattle.machine_step.proofs.Accepted.{are_in_order}
-use Rattle.machine_step.proofs.Runs.{StandsAgain, stands_within, goes_on, goes_back, ends_there, comes_nearer}
+use Rattle.machine_step.proofs.MachineRuns.{StandsAgain, stands_within, goes_on, goes_back, ends_there, comes_nearer}
 use Rattle.machine_step.proofs.running.run.Goals as goal
 
 pub at-step-requires : goal.at-step-requires

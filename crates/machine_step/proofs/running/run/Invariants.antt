@@ -1,6 +1,6 @@
 use Rattle.std.proofs.Common.{◌+◌, length}
 use Rattle.machine_step.specs.private.Machine.{state_at, IsWithin}
-use Rattle.machine_step.proofs.Runs.{Stands, measure}
+use Rattle.machine_step.proofs.MachineRuns.{Stands, measure}
 use Rattle.machine_step.proofs.running.run.Given as goal
 
 abbrev pub invariant-steps : goal.invariant-steps

@@ -1,5 +1,5 @@
 use Rattle.std.proofs.Common.{arith}
-use Rattle.machine_step.proofs.Passing.{passes_by, some_sled, on_to, on_back, on_end}
+use Rattle.machine_step.proofs.PassedSled.{passes_by, some_sled, on_to, on_back, on_end}
 use Rattle.machine_step.proofs.Places.{place_within}
 use Rattle.machine_step.proofs.stand.pass_sled.Goals as goal
 

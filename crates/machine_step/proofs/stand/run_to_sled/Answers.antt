@@ -1,6 +1,6 @@
 use Rattle.std.proofs.Common.{sym, ◌∙◌, arith}
 use Rattle.machine_step.proofs.Accepted.{are_in_order}
-use Rattle.machine_step.proofs.ToSled.{begins, way_within, way_to, way_back, way_ends, falls_to, falls_back}
+use Rattle.machine_step.proofs.WayToSled.{begins, way_within, way_to, way_back, way_ends, falls_to, falls_back}
 use Rattle.machine_step.proofs.stand.run_to_sled.Goals as goal
 
 pub steps-init : goal.steps-init

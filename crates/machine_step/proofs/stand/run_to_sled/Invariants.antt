@@ -1,7 +1,7 @@
 use Rattle.std.proofs.Common.{◌+◌, length}
 use Rattle.machine_step.specs.private.Machine.{IsWithin}
-use Rattle.machine_step.proofs.Runs.{measure}
-use Rattle.machine_step.proofs.ToSled.{OnWay}
+use Rattle.machine_step.proofs.MachineRuns.{measure}
+use Rattle.machine_step.proofs.WayToSled.{OnWay}
 use Rattle.machine_step.proofs.stand.run_to_sled.Given as goal
 
 abbrev pub invariant-steps : goal.invariant-steps

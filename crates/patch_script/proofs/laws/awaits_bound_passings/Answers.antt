@@ -1,4 +1,4 @@
-use Rattle.patch_script.proofs.Awaiting.{bound_awaited, bound_reached, bound_within}
+use Rattle.patch_script.proofs.PassingBounds.{bound_awaited, bound_reached, bound_within}
 use Rattle.patch_script.proofs.laws.awaits_bound_passings.Goals as goal
 
 pub returns : goal.returns

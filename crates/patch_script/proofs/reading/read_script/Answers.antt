@@ -5,7 +5,7 @@ use Rattle.text_lines.specs.Lines.{numbered_lines}
 use Rattle.xray_image.specs.Program.{Program}
 use Rattle.patch_script.specs.private.Drafts.{lines_of, program_of}
 use Rattle.patch_script.specs.Refusals.{commands_of, has_go, holds_for_good, read_lines}
-use Rattle.patch_script.proofs.Finishing.{whole}
+use Rattle.patch_script.proofs.TextEnd.{whole}
 use Rattle.patch_script.proofs.reading.read_script.Goals as goal
 
 pub of_draft-requires : goal.of_draft-requires

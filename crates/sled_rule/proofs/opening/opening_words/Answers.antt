@@ -1,5 +1,5 @@
 use Rattle.std.proofs.Common.{vec_len, arith}
-use Rattle.sled_rule.proofs.Starting.{grown}
+use Rattle.sled_rule.proofs.RuleAtStart.{grown}
 use Rattle.sled_rule.proofs.opening.opening_words.Goals as goal
 
 pub returns : goal.returns

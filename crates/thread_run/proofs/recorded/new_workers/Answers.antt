@@ -4,7 +4,7 @@ use Rattle.sled_rule.specs.declared.views.PatchView.{PatchView}
 use Rattle.sled_rule.specs.Seats.{script_of}
 use Rattle.thread_run.specs.Workers.{recorder_of}
 use Rattle.thread_run.specs.private.Starting.{IsGoingAt, IsWorkerAt}
-use Rattle.thread_run.proofs.Each.{map_more, next_is, one_more, one_taken}
+use Rattle.thread_run.proofs.EachItem.{map_more, next_is, one_more, one_taken}
 use Rattle.thread_run.proofs.recorded.new_workers.Goals as goal
 
 pub start-requires-clause-no_events : goal.start-requires-clause-no_events

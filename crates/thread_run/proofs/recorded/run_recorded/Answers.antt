@@ -1,5 +1,5 @@
 use Rattle.sled_rule.specs.Seats.{script_of}
-use Rattle.thread_run.proofs.Started.{have_recorded}
+use Rattle.thread_run.proofs.StartedWorkers.{have_recorded}
 use Rattle.thread_run.proofs.recorded.run_recorded.Goals as goal
 
 pub returns-clause-recorded : goal.returns-clause-recorded

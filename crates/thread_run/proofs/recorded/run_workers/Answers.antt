@@ -6,8 +6,8 @@ use Rattle.thread_run.specs.Each.{HaveChanged}
 use Rattle.thread_run.specs.private.Rooms.{IsGathered}
 use Rattle.thread_run.specs.private.Starting.{AreStarted}
 use Rattle.thread_run.specs.Workers.{IsGoing, recorder_of}
-use Rattle.thread_run.proofs.Each.{written_back}
-use Rattle.thread_run.proofs.Started.{all_going, all_run_out, own_seats, recorders_follow}
+use Rattle.thread_run.proofs.EachItem.{written_back}
+use Rattle.thread_run.proofs.StartedWorkers.{all_going, all_run_out, own_seats, recorders_follow}
 use Rattle.thread_run.proofs.recorded.run_workers.Goals as goal
 
 pub run_threads-requires-clause-going : goal.run_threads-requires-clause-going

@@ -1,4 +1,4 @@
-use Rattle.thread_run.proofs.Each.{changed, is_within, ready_at}
+use Rattle.thread_run.proofs.EachItem.{changed, is_within, ready_at}
 use Rattle.thread_run.proofs.running.do_all.Goals as goal
 
 pub for_each_mut-requires-clause-accepts : goal.for_each_mut-requires-clause-accepts

@@ -4,7 +4,7 @@ use denote.Ref.{NamedLft}
 use denote.Param.{param}
 use denote.Param.Send.{arg_send, param_send}
 use Rattle.thread_run.specs.contracts.worker.Worker as worker
-use Rattle.thread_run.proofs.Crossing.{worker_send}
+use Rattle.thread_run.proofs.WorkersCross.{worker_send}
 use Rattle.thread_run.proofs.running.run_threads.Goals as goal
 
 pub run_beside-requires-send-W : goal.run_beside-requires-send-W

@@ -1,4 +1,4 @@
-use Rattle.thread_run.proofs.Loading.{new_thread}
+use Rattle.thread_run.proofs.LoadAndSeat.{new_thread}
 use Rattle.thread_run.proofs.thread.new_cpu.Goals as goal
 
 pub returns-clause-fresh : goal.returns-clause-fresh

@@ -2,8 +2,8 @@ use Rattle.std.proofs.Common.{◌≡◌, ◌+◌, arith, ap, ◌∙◌, length, 
 use Rattle.fdr_buffer.specs.Filled.{Filled}
 use Rattle.buffer_queue.specs.Passes.{PassIs, new_hand, new_pass}
 use Rattle.thread_run.specs.private.Pooled.{IsNewRecorder}
-use Rattle.thread_run.proofs.Each.{one_more, one_taken}
-use Rattle.thread_run.proofs.Gathered.{new_at}
+use Rattle.thread_run.proofs.EachItem.{one_more, one_taken}
+use Rattle.thread_run.proofs.GatheredRuns.{new_at}
 use Rattle.thread_run.proofs.whole.new_recorders.Goals as goal
 
 pub new-requires-clause-hand : goal.new-requires-clause-hand

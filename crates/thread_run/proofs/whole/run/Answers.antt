@@ -1,5 +1,5 @@
 use Rattle.sled_rule.specs.Seats.{script_of}
-use Rattle.thread_run.proofs.Gathered.{pooled_passes, run_leaves}
+use Rattle.thread_run.proofs.GatheredRuns.{pooled_passes, run_leaves}
 use Rattle.thread_run.proofs.whole.run.Goals as goal
 
 pub left_by-requires-clause-passes : goal.left_by-requires-clause-passes

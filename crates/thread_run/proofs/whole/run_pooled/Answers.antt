@@ -8,8 +8,8 @@ use Rattle.thread_run.specs.Recordings.{HasSameOwner, StandsFor}
 use Rattle.thread_run.specs.private.Starting.{AreWorkersAt}
 use Rattle.thread_run.specs.Workers.{HasEnded}
 use Rattle.thread_run.specs.private.Rooms.{AreParts}
-use Rattle.thread_run.proofs.Each.{all_of}
-use Rattle.thread_run.proofs.Gathered.{run_with_pool}
+use Rattle.thread_run.proofs.EachItem.{all_of}
+use Rattle.thread_run.proofs.GatheredRuns.{run_with_pool}
 use Rattle.thread_run.proofs.whole.run_pooled.Goals as goal
 
 pub run_workers-requires-clause-no_events : goal.run_workers-requires-clause-no_events

@@ -1,4 +1,4 @@
-use Rattle.trace_flush.proofs.Audited.{run_is_audited, run_recycles}
+use Rattle.trace_flush.proofs.AuditOfRun.{run_is_audited, run_recycles}
 use Rattle.trace_flush.proofs.laws.a_run_is_audited.Goals as goal
 
 pub returns-clause-threads : goal.returns-clause-threads

@@ -1,4 +1,4 @@
-use Rattle.trace_flush.proofs.Traced.{run_is_traced}
+use Rattle.trace_flush.proofs.TraceOfRun.{run_is_traced}
 use Rattle.trace_flush.proofs.laws.a_run_is_traced.Goals as goal
 
 pub returns : goal.returns

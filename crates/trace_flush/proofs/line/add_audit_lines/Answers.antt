@@ -2,7 +2,7 @@ use Rattle.std.proofs.Common.{◌≡◌, ◌+◌, ◌<◌, ◌++◌, [], ◌∷�
 use Rattle.std.proofs.lemmas.Option.{slice_get-get_or, slice_get_read}
 use Rattle.trace_flush.specs.declared.line.AuditLine.{AuditLine}
 use Rattle.trace_flush.specs.Lines.{audit_line_of, audit_lines_of}
-use Rattle.trace_flush.proofs.Audited.{lines_more}
+use Rattle.trace_flush.proofs.AuditOfRun.{lines_more}
 use Rattle.trace_flush.proofs.line.add_audit_lines.Goals as goal
 
 pub loop-i-preserved : goal.loop-i-preserved

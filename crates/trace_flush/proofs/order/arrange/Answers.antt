@@ -6,7 +6,7 @@ use Rattle.fdr_buffer.specs.Filled.{Filled, has_event}
 use Rattle.traced_run.specs.Kept.{kept_buffers}
 use Rattle.trace_flush.proofs.KeptOrder.{kept_ordered}
 use Rattle.trace_flush.proofs.OneOrder.{place, in_order, one_order}
-use Rattle.trace_flush.proofs.Traced.{begun_all}
+use Rattle.trace_flush.proofs.TraceOfRun.{begun_all}
 use Rattle.trace_flush.proofs.order.arrange.Goals as goal
 
 pub returns-clause-kept : goal.returns-clause-kept

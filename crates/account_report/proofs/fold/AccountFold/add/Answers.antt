@@ -1,5 +1,5 @@
 use Rattle.std.proofs.Common.{refl}
-use Rattle.account_report.proofs.Folding.{added_to}
+use Rattle.account_report.proofs.FoldSteps.{added_to}
 use Rattle.account_report.proofs.fold.AccountFold.add.Goals as goal
 
 pub returns-clause-added : goal.returns-clause-added

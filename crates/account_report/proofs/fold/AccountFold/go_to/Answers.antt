@@ -1,7 +1,7 @@
 use Rattle.std.proofs.Common.{◌∙◌, cond, nat_eq, Some, ap, refl}
 use Rattle.std.specs.HashMap.{get}
 use Rattle.stack_rebuild.specs.Calls.{Standing}
-use Rattle.account_report.proofs.Folding.{gone_to}
+use Rattle.account_report.proofs.FoldSteps.{gone_to}
 use Rattle.account_report.proofs.fold.AccountFold.go_to.Goals as goal
 
 pub returns-clause-gone : goal.returns-clause-gone

@@ -1,4 +1,4 @@
-use Rattle.account_report.proofs.Listing.{none_yet}
+use Rattle.account_report.proofs.FunctionList.{none_yet}
 use Rattle.account_report.proofs.tallies.Tallies.new.Goals as goal
 
 pub returns : goal.returns

@@ -1,5 +1,5 @@
 use Rattle.std.proofs.Common.{length, ap, arith}
-use Rattle.fdr_buffer.proofs.Filling.{begin_leaves}
+use Rattle.fdr_buffer.proofs.BufferFields.{begin_leaves}
 use Rattle.fdr_buffer.proofs.buffer.Buffer.begin.Goals as goal
 
 pub invariant_of-self : goal.invariant_of-self

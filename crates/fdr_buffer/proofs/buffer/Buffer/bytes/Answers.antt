@@ -1,4 +1,4 @@
-use Rattle.fdr_buffer.proofs.Filling.{holds_fits}
+use Rattle.fdr_buffer.proofs.BufferFields.{holds_fits}
 use Rattle.fdr_buffer.proofs.buffer.Buffer.bytes.Goals as goal
 
 pub returns-clause-fits : goal.returns-clause-fits

@@ -2,7 +2,7 @@ use Rattle.std.proofs.Common.{◌≡◌, ◌-◌, leb, [], ◌∷◌, ◌++◌, 
 use Rattle.fdr_buffer.specs.Segments.{has_room}
 use Rattle.fdr_buffer.specs.Filled.{Filled}
 use Rattle.fdr_buffer.specs.private.Buffer.{events_told}
-use Rattle.fdr_buffer.proofs.Filling.{fits_is}
+use Rattle.fdr_buffer.proofs.BufferFields.{fits_is}
 use Rattle.fdr_buffer.proofs.buffer.Buffer.fits.Goals as goal
 
 pub returns : goal.returns

@@ -1,4 +1,4 @@
-use Rattle.fdr_buffer.proofs.Filling.{new_leaves}
+use Rattle.fdr_buffer.proofs.BufferFields.{new_leaves}
 use Rattle.fdr_buffer.proofs.buffer.Buffer.new.Goals as goal
 
 pub invariant_of-result : goal.invariant_of-result

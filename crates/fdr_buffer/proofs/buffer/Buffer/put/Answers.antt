@@ -2,7 +2,7 @@ use Rattle.std.proofs.Common.{◌≡◌, true, [], ◌∷◌, ◌++◌, length, 
 use Rattle.fdr_buffer.specs.Segments.{has_room}
 use Rattle.fdr_buffer.specs.Filled.{Filled}
 use Rattle.fdr_buffer.specs.private.Buffer.{events_told}
-use Rattle.fdr_buffer.proofs.Filling.{room_is, count_small, put_leaves}
+use Rattle.fdr_buffer.proofs.BufferFields.{room_is, count_small, put_leaves}
 use Rattle.fdr_buffer.proofs.buffer.Buffer.put.Goals as goal
 
 pub put_event-self-inside-requires-clause-room : goal.put_event-self-inside-requires-clause-room

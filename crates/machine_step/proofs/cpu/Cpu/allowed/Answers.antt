@@ -5,7 +5,7 @@ use Rattle.xray_image.specs.Program.{Program}
 use Rattle.machine_step.specs.declared.stage.Stage.{Stage}
 use Rattle.machine_step.specs.private.Stages.{AllowsAt}
 use Rattle.machine_step.specs.Traced.{Allows, Traced}
-use Rattle.machine_step.proofs.Opening.{allows_by, loading_at, sled_within}
+use Rattle.machine_step.proofs.OpenedPassing.{allows_by, loading_at, sled_within}
 use Rattle.machine_step.proofs.cpu.Cpu.allowed.Goals as goal
 
 -- an answer says whether a value is allowed at a stage of a passing of a sled

@@ -13,11 +13,11 @@ use Rattle.machine_step.specs.private.Machine.{state_at}
 use Rattle.machine_step.specs.Loads.{Load, sled_logs_args}
 use Rattle.machine_step.specs.PlainStep.{Passing, PlainRun, State, passing_at}
 use Rattle.machine_step.specs.Traced.{Allows, HasLoaded, IsKept, MarksAdded, Traced, ending_mark, load_of, loads_left}
-use Rattle.machine_step.proofs.GiveClauses.{between_of, clause_ends, clause_events, clause_goes_on, ending_of, held_at, leads, stage_after}
-use Rattle.machine_step.proofs.Giving.{Ending, IsBetween, passed_on, sound_after}
-use Rattle.machine_step.proofs.LoadFacts.{kept_not, kept_same, mark_ends, mark_goes_on, marks_added, nearer_end, nearer_on, some_at_end, some_goes_on}
-use Rattle.machine_step.proofs.Opening.{loading_at, sled_within, sound_loading, standing}
-use Rattle.machine_step.proofs.Tracing.{before_of}
+use Rattle.machine_step.proofs.GivenThread.{between_of, clause_ends, clause_events, clause_goes_on, ending_of, held_at, leads, stage_after}
+use Rattle.machine_step.proofs.ThreadAfterLoad.{Ending, IsBetween, passed_on, sound_after}
+use Rattle.machine_step.proofs.LoadedValues.{kept_not, kept_same, mark_ends, mark_goes_on, marks_added, nearer_end, nearer_on, some_at_end, some_goes_on}
+use Rattle.machine_step.proofs.OpenedPassing.{loading_at, sled_within, sound_loading, standing}
+use Rattle.machine_step.proofs.ThreadOnPlainRun.{before_of}
 use Rattle.machine_step.proofs.cpu.Cpu.give.Goals as goal
 
 pub invariant_of-self : goal.invariant_of-self

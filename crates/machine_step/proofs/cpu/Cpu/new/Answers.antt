@@ -3,7 +3,7 @@ use Rattle.handler_word.specs.MarkList.{MarkList}
 use Rattle.machine_step.specs.declared.cpu.Cpu.TheInside.{Inside}
 use Rattle.machine_step.specs.declared.machine.Machine.{Machine}
 use Rattle.machine_step.specs.private.Standing.{RunsBy}
-use Rattle.machine_step.proofs.Beginning.{Begun, fresh_begun, loads_begun, sound_begun}
+use Rattle.machine_step.proofs.ThreadAtStart.{Begun, fresh_begun, loads_begun, sound_begun}
 use Rattle.machine_step.proofs.cpu.Cpu.new.Goals as goal
 
 -- the fields of the new thread

@@ -3,7 +3,7 @@ use Rattle.machine_step.specs.declared.stage.Stage.{Stage}
 use Rattle.machine_step.specs.declared.stand.Stand.TheVariants.{Loading}
 use Rattle.machine_step.specs.private.Inside.{traced, IsStageOf}
 use Rattle.machine_step.specs.Traced.{HasLoaded, Traced}
-use Rattle.machine_step.proofs.Opening.{first_of_hold, gate_at, opened_loads, opened_same, sound_loading, standing}
+use Rattle.machine_step.proofs.OpenedPassing.{first_of_hold, gate_at, opened_loads, opened_same, sound_loading, standing}
 use Rattle.machine_step.proofs.cpu.Cpu.opened.Goals as goal
 
 pub invariant_of-self : goal.invariant_of-self

@@ -7,11 +7,11 @@ use Rattle.machine_step.specs.Events.{events_in, recorded}
 use Rattle.machine_step.specs.private.Inside.{traced, IsAtPassing}
 use Rattle.machine_step.specs.PlainStep.{Passing, PlainRun, State}
 use Rattle.machine_step.specs.Traced.{Traced, loads_left}
-use Rattle.machine_step.proofs.GiveClauses.{between_of, clause_events, ending_of}
-use Rattle.machine_step.proofs.Giving.{Ending, IsBetween, passed_on, sound_after}
-use Rattle.machine_step.proofs.Opening.{gate_at, sled_within}
-use Rattle.machine_step.proofs.PassFacts.{nearer_passed, wants_no_load}
-use Rattle.machine_step.proofs.Tracing.{before_of}
+use Rattle.machine_step.proofs.GivenThread.{between_of, clause_events, ending_of}
+use Rattle.machine_step.proofs.ThreadAfterLoad.{Ending, IsBetween, passed_on, sound_after}
+use Rattle.machine_step.proofs.OpenedPassing.{gate_at, sled_within}
+use Rattle.machine_step.proofs.LoadlessPassing.{nearer_passed, wants_no_load}
+use Rattle.machine_step.proofs.ThreadOnPlainRun.{before_of}
 use Rattle.machine_step.proofs.cpu.Cpu.pass.Goals as goal
 
 pub event_at-event-requires-clause-sled : goal.event_at-event-requires-clause-sled

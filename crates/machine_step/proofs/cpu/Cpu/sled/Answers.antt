@@ -3,9 +3,9 @@ use Rattle.std.specs.Prelude.{slice_get}
 use Rattle.machine_step.specs.declared.end.End.{End}
 use Rattle.machine_step.specs.PlainStep.{Passing, PlainRun, State}
 use Rattle.machine_step.specs.Traced.{Traced}
-use Rattle.machine_step.proofs.Opening.{gate_at, sled_within}
-use Rattle.machine_step.proofs.PassFacts.{passing_here}
-use Rattle.machine_step.proofs.Tracing.{before_of}
+use Rattle.machine_step.proofs.OpenedPassing.{gate_at, sled_within}
+use Rattle.machine_step.proofs.LoadlessPassing.{passing_here}
+use Rattle.machine_step.proofs.ThreadOnPlainRun.{before_of}
 use Rattle.machine_step.proofs.cpu.Cpu.sled.Goals as goal
 
 pub returns-clause-within : goal.returns-clause-within

@@ -5,7 +5,7 @@ use Rattle.machine_step.specs.declared.want.Want.TheVariants.{Load}
 use Rattle.machine_step.specs.private.Inside.{want_at}
 use Rattle.machine_step.specs.private.Stages.{word_at}
 use Rattle.machine_step.specs.Traced.{Traced}
-use Rattle.machine_step.proofs.Opening.{loadable_seen, loading_at, sled_within, stands_seen}
+use Rattle.machine_step.proofs.OpenedPassing.{loadable_seen, loading_at, sled_within, stands_seen}
 use Rattle.machine_step.proofs.cpu.Cpu.want.Goals as goal
 
 pub word_at-requires-clause-exists : goal.word_at-requires-clause-exists

@@ -2,7 +2,7 @@ use Rattle.std.proofs.Common.{◌≡◌, ◌+◌, length, ap, subst, ◌∙◌, 
 use Rattle.std.specs.Option.{option_or}
 use Rattle.patch_script.specs.private.FirstPatches.{AddsFirst}
 use Rattle.patch_script.specs.private.Placing.{step_count}
-use Rattle.patch_script.proofs.Adding.{placed_more}
+use Rattle.patch_script.proofs.AddedCommand.{placed_more}
 use Rattle.patch_script.proofs.placed.PlacedCommands.push.Goals as goal
 
 pub returns-clause-sound : goal.returns-clause-sound

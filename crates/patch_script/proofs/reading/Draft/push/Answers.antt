@@ -6,7 +6,7 @@ use Rattle.patch_script.specs.private.Drafts.{lines_of}
 use Rattle.patch_script.specs.private.Placing.{lines_in}
 use Rattle.patch_script.specs.Refusals.{commands_of}
 use Rattle.patch_script.specs.private.Standing.{IsStanding}
-use Rattle.patch_script.proofs.Holding.{standing_more}
+use Rattle.patch_script.proofs.CommandsSoFar.{standing_more}
 use Rattle.patch_script.proofs.reading.Draft.push.Goals as goal
 
 pub returns : goal.returns

@@ -7,8 +7,8 @@ use Rattle.patch_script.specs.Plans.{Plan, IsWithin}
 use Rattle.patch_script.specs.Refusals.{commands_of}
 use Rattle.patch_script.specs.private.Scripts.{plan_in}
 use Rattle.patch_script.proofs.NoEnd.{end_only_past}
-use Rattle.patch_script.proofs.Orderly.{orderly}
-use Rattle.patch_script.proofs.Within.{micro_within}
+use Rattle.patch_script.proofs.ScriptRows.{orderly}
+use Rattle.patch_script.proofs.MicroNames.{micro_within}
 use Rattle.patch_script.proofs.script.Script.micro_near.Goals as goal
 
 pub returns-clause-end : goal.returns-clause-end

@@ -4,8 +4,8 @@ use Rattle.patch_script.specs.private.Placing.{lines_in}
 use Rattle.patch_script.specs.Plans.{Plan, IsOrderly, IsStore}
 use Rattle.patch_script.specs.Refusals.{commands_of}
 use Rattle.patch_script.specs.private.Scripts.{plan_in}
-use Rattle.patch_script.proofs.Before.{stores_before_go}
-use Rattle.patch_script.proofs.Orderly.{orderly}
+use Rattle.patch_script.proofs.BeforeGo.{stores_before_go}
+use Rattle.patch_script.proofs.ScriptRows.{orderly}
 use Rattle.patch_script.proofs.Steps.{start_within}
 use Rattle.patch_script.proofs.script.Script.start.Goals as goal
 

@@ -1,5 +1,5 @@
 use Rattle.std.proofs.Common.{◌∙◌}
-use Rattle.patch_script.proofs.Holding.{any_held-is}
+use Rattle.patch_script.proofs.CommandsSoFar.{any_held-is}
 use Rattle.patch_script.proofs.standing.Standing.holds_for_good.Goals as goal
 
 pub returns : goal.returns

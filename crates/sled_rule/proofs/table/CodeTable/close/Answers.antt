@@ -3,8 +3,8 @@ use Rattle.patch_script.specs.Plans.{Plan}
 use Rattle.sled_rule.specs.Plans.{IsCodeIn, code_in}
 use Rattle.sled_rule.specs.Seats.{patch_view}
 use Rattle.sled_rule.specs.Slots.{code_slot}
-use Rattle.sled_rule.proofs.Starting.{all_words, code_within}
-use Rattle.sled_rule.proofs.Ending.{read_at, progress_read, last_code, last_given, last_idle, last_progress}
+use Rattle.sled_rule.proofs.RuleAtStart.{all_words, code_within}
+use Rattle.sled_rule.proofs.RuleAtEnd.{read_at, progress_read, last_code, last_given, last_idle, last_progress}
 use Rattle.sled_rule.proofs.table.CodeTable.close.Goals as goal
 
 pub copy_words-requires-clause-room : goal.copy_words-requires-clause-room

@@ -2,7 +2,7 @@ use Rattle.std.proofs.Common.{◌≡◌, ◌≤◌, sym, ap, ◌∙◌, subst, r
 use Rattle.patch_script.specs.Plans.{Plan}
 use Rattle.sled_rule.specs.Slots.{progress_slot}
 use Rattle.sled_rule.specs.Seats.{work_view}
-use Rattle.sled_rule.proofs.Working.{counts}
+use Rattle.sled_rule.proofs.ThreadSteps.{counts}
 use Rattle.sled_rule.proofs.table.CodeTable.count_to.Goals as goal
 
 pub store-requires : goal.store-requires

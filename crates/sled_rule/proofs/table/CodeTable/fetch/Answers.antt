@@ -6,7 +6,7 @@ use Rattle.sled_rule.specs.Steps.{work_of, IsFetched}
 use Rattle.sled_rule.proofs.Laws.{bound_reached}
 use Rattle.sled_rule.proofs.LoadsOf.{fetched_follows}
 use Rattle.sled_rule.proofs.SlotsApart.{slot_within}
-use Rattle.sled_rule.proofs.Working.{fetches}
+use Rattle.sled_rule.proofs.ThreadSteps.{fetches}
 use Rattle.sled_rule.proofs.table.CodeTable.fetch.Goals as goal
 
 pub load-requires : goal.load-requires

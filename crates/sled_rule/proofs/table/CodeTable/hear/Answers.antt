@@ -1,6 +1,6 @@
 use Rattle.std.proofs.Common.{ap, rules, arith}
 use Rattle.sled_rule.specs.Seats.{work_view, note_view}
-use Rattle.sled_rule.proofs.Comings.{hears}
+use Rattle.sled_rule.proofs.SeatChanges.{hears}
 use Rattle.sled_rule.proofs.LoadsOf.{heard_follows}
 use Rattle.sled_rule.proofs.table.CodeTable.hear.Goals as goal
 

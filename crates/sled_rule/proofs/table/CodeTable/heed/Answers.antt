@@ -1,6 +1,6 @@
 use Rattle.std.proofs.Common.{rules, arith}
 use Rattle.sled_rule.specs.Seats.{patch_view, tally_view}
-use Rattle.sled_rule.proofs.Comings.{heeds}
+use Rattle.sled_rule.proofs.SeatChanges.{heeds}
 use Rattle.sled_rule.proofs.table.CodeTable.heed.Goals as goal
 
 pub join_seat-requires : goal.join_seat-requires

@@ -7,7 +7,7 @@ use Rattle.sled_rule.specs.Plans.{micro_in}
 use Rattle.sled_rule.specs.Slots.{progress_slot}
 use Rattle.sled_rule.specs.Steps.{patch_of}
 use Rattle.sled_rule.proofs.Laws.{code_next}
-use Rattle.sled_rule.proofs.Patching.{looks}
+use Rattle.sled_rule.proofs.PatcherSteps.{looks}
 use Rattle.sled_rule.proofs.table.CodeTable.load_progress.Goals as goal
 
 pub load-requires : goal.load-requires

@@ -1,7 +1,7 @@
 use Rattle.std.proofs.Common.{arith}
 use Rattle.sled_rule.specs.Seats.{patch_view, script_of}
 use Rattle.sled_rule.proofs.Laws.{await_within}
-use Rattle.sled_rule.proofs.Staying.{looked_within}
+use Rattle.sled_rule.proofs.PatcherBounds.{looked_within}
 use Rattle.sled_rule.proofs.table.CodeTable.look_for.Goals as goal
 
 pub overflow_add-seat : goal.overflow_add-seat

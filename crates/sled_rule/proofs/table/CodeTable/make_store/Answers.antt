@@ -5,8 +5,8 @@ use Rattle.sled_rule.specs.Plans.{IsCodeIn, micro_in}
 use Rattle.sled_rule.specs.Seats.{patch_view}
 use Rattle.sled_rule.proofs.Laws.{code_next, store_within}
 use Rattle.sled_rule.proofs.SlotsApart.{slot_within}
-use Rattle.sled_rule.proofs.Patching.{patches}
-use Rattle.sled_rule.proofs.Staying.{advanced_within}
+use Rattle.sled_rule.proofs.PatcherSteps.{patches}
+use Rattle.sled_rule.proofs.PatcherBounds.{advanced_within}
 use Rattle.sled_rule.proofs.table.CodeTable.make_store.Goals as goal
 
 pub store-requires : goal.store-requires

@@ -7,8 +7,8 @@ use Rattle.sled_rule.specs.declared.views.View.TheVariants.{Patch}
 use Rattle.sled_rule.specs.Seats.{patch_view, work_view}
 use Rattle.sled_rule.specs.Steps.{patch_of}
 use Rattle.sled_rule.specs.Views.{meeting}
-use Rattle.sled_rule.proofs.Comings.{meets}
-use Rattle.sled_rule.proofs.Patching.{confirms}
+use Rattle.sled_rule.proofs.SeatChanges.{meets}
+use Rattle.sled_rule.proofs.PatcherSteps.{confirms}
 use Rattle.sled_rule.proofs.table.CodeTable.meet.Goals as goal
 
 pub join_seat-requires : goal.join_seat-requires

@@ -1,6 +1,6 @@
 use Rattle.std.proofs.Common.{◌∙◌}
 use Rattle.sled_rule.proofs.Laws.{code_first, few_in}
-use Rattle.sled_rule.proofs.Starting.{count_is, opening_count, starts, for_the_script}
+use Rattle.sled_rule.proofs.RuleAtStart.{count_is, opening_count, starts, for_the_script}
 use Rattle.sled_rule.proofs.table.CodeTable.new.Goals as goal
 
 pub of_words-requires : goal.of_words-requires

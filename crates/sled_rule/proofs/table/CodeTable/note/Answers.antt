@@ -1,6 +1,6 @@
 use Rattle.std.proofs.Common.{rules, arith}
 use Rattle.sled_rule.specs.Seats.{patch_view}
-use Rattle.sled_rule.proofs.Comings.{notes}
+use Rattle.sled_rule.proofs.SeatChanges.{notes}
 use Rattle.sled_rule.proofs.table.CodeTable.note.Goals as goal
 
 pub split_seat-seat-requires : goal.split_seat-seat-requires

@@ -2,7 +2,7 @@ use Rattle.std.proofs.Common.{◌≡◌, ◌<◌, sym, ap, subst, rules, arith}
 use Rattle.patch_script.specs.Plans.{Plan}
 use Rattle.sled_rule.specs.Plans.{start_in}
 use Rattle.sled_rule.specs.Seats.{patch_view}
-use Rattle.sled_rule.proofs.Comings.{gives}
+use Rattle.sled_rule.proofs.SeatChanges.{gives}
 use Rattle.sled_rule.proofs.LoadsOf.{next_follows}
 use Rattle.sled_rule.proofs.table.CodeTable.split.Goals as goal
 

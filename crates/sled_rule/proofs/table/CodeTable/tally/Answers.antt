@@ -1,6 +1,6 @@
 use Rattle.std.proofs.Common.{rules, arith}
 use Rattle.sled_rule.specs.Seats.{work_view}
-use Rattle.sled_rule.proofs.Comings.{tallies}
+use Rattle.sled_rule.proofs.SeatChanges.{tallies}
 use Rattle.sled_rule.proofs.table.CodeTable.tally.Goals as goal
 
 pub split_seat-seat-requires : goal.split_seat-seat-requires

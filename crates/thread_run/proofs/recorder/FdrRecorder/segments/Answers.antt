@@ -1,6 +1,6 @@
 use Rattle.std.proofs.Common.{◌≡◌, ◌+◌, ◌∙◌, rules}
 use Rattle.thread_run.specs.Recordings.{segments_begun}
-use Rattle.thread_run.proofs.Notes.{begun_are}
+use Rattle.thread_run.proofs.NotedEvents.{begun_are}
 use Rattle.thread_run.proofs.recorder.FdrRecorder.segments.Goals as goal
 
 pub returns-clause-count : goal.returns-clause-count

@@ -3,7 +3,7 @@ use Rattle.fdr_buffer.specs.Filled.{Filled}
 use Rattle.buffer_queue.specs.Passes.{IsOf, PassIs}
 use Rattle.thread_run.specs.Recordings.{Recording}
 use Rattle.thread_run.specs.private.Segments.{IsNextOf, IsPreambleOf, in_hand}
-use Rattle.thread_run.proofs.Notes.{hand_next, sealed_of_pool, sealed_preamble, turn_few, turn_leaves}
+use Rattle.thread_run.proofs.NotedEvents.{hand_next, sealed_of_pool, sealed_preamble, turn_few, turn_leaves}
 use Rattle.thread_run.proofs.recorder.FdrRecorder.turn.Goals as goal
 
 pub next_segment-next-requires-clause-next : goal.next_segment-next-requires-clause-next

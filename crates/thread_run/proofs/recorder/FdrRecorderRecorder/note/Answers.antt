@@ -1,6 +1,6 @@
 use Rattle.std.proofs.Common.{sym, subst, ◌++◌, ◌∷◌, []}
 use Rattle.thread_run.specs.Recordings.{Recording, StandsFor}
-use Rattle.thread_run.proofs.Notes.{cuts_anew, put_stands}
+use Rattle.thread_run.proofs.NotedEvents.{cuts_anew, put_stands}
 use Rattle.thread_run.proofs.recorder.FdrRecorderRecorder.note.Goals as goal
 
 pub turn-requires-clause-anew : goal.turn-requires-clause-anew

@@ -1,4 +1,4 @@
-use Rattle.thread_run.proofs.Turns.{more_ended, more_held, more_none, worker_again, worker_then}
+use Rattle.thread_run.proofs.WorkerLoads.{more_ended, more_held, more_none, worker_again, worker_then}
 use Rattle.thread_run.proofs.work.WorkerWork.work.Goals as goal
 
 pub turns-init : goal.turns-init

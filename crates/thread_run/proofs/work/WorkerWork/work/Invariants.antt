@@ -1,5 +1,5 @@
 use Rattle.thread_run.specs.Workers.{IsGoing, IsSameWorker}
-use Rattle.thread_run.proofs.Turns.{HasMore}
+use Rattle.thread_run.proofs.WorkerLoads.{HasMore}
 use Rattle.thread_run.proofs.work.WorkerWork.work.Given as goal
 
 abbrev pub invariant-turns : goal.invariant-turns

@@ -3,8 +3,8 @@ use Rattle.xray_image.specs.Program.{IsAccepted}
 use Rattle.sled_rule.specs.declared.views.WorkView.{WorkView}
 use Rattle.sled_rule.specs.Seats.{work_view, script_of}
 use Rattle.sled_rule.specs.Views.{ended_count}
-use Rattle.thread_run.proofs.Loading.{at_work_counted, marks_follow}
-use Rattle.thread_run.proofs.Turns.{seat_changed}
+use Rattle.thread_run.proofs.LoadAndSeat.{at_work_counted, marks_follow}
+use Rattle.thread_run.proofs.WorkerLoads.{seat_changed}
 use Rattle.thread_run.proofs.worker.Worker.finish.Goals as goal
 
 pub returns-clause-same : goal.returns-clause-same

@@ -2,7 +2,7 @@ use Rattle.std.proofs.Common.{ap, sym, subst, ◌∙◌}
 use Rattle.machine_step.specs.Traced.{IsLoadable, Traced}
 use Rattle.sled_rule.specs.Seats.{work_view}
 use Rattle.thread_run.specs.Workers.{seat_of}
-use Rattle.thread_run.proofs.Turns.{counts_all, leaves_one_out, worker_again}
+use Rattle.thread_run.proofs.WorkerLoads.{counts_all, leaves_one_out, worker_again}
 use Rattle.thread_run.proofs.worker.Worker.go_on.Goals as goal
 
 pub tell-requires-clause-one : goal.tell-requires-clause-one

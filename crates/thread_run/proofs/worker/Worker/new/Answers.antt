@@ -3,8 +3,8 @@ use Rattle.patch_script.specs.Plans.{Plan}
 use Rattle.patch_script.specs.Micros.{start_of, total_of}
 use Rattle.patch_script.specs.Refusals.{commands_of}
 use Rattle.sled_rule.specs.Seats.{work_view, script_of}
-use Rattle.thread_run.proofs.Loading.{fresh_along}
-use Rattle.thread_run.proofs.Turns.{none_noted}
+use Rattle.thread_run.proofs.LoadAndSeat.{fresh_along}
+use Rattle.thread_run.proofs.WorkerLoads.{none_noted}
 use Rattle.thread_run.proofs.worker.Worker.new.Goals as goal
 
 pub returns-clause-going : goal.returns-clause-going

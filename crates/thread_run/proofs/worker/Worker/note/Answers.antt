@@ -1,5 +1,5 @@
 use Rattle.std.proofs.Common.{refl}
-use Rattle.thread_run.proofs.Turns.{same_again, worker_then}
+use Rattle.thread_run.proofs.WorkerLoads.{same_again, worker_then}
 use Rattle.thread_run.proofs.worker.Worker.note.Goals as goal
 
 pub go_on-requires-clause-at : goal.go_on-requires-clause-at

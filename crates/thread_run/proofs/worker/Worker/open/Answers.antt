@@ -4,8 +4,8 @@ use Rattle.handler_word.specs.declared.mark.Mark.{Mark}
 use Rattle.machine_step.specs.Events.{recorded}
 use Rattle.machine_step.specs.Traced.{Traced}
 use Rattle.sled_rule.specs.Seats.{work_view, script_of}
-use Rattle.thread_run.proofs.Loading.{along_same, same_in}
-use Rattle.thread_run.proofs.Turns.{opened_same}
+use Rattle.thread_run.proofs.LoadAndSeat.{along_same, same_in}
+use Rattle.thread_run.proofs.WorkerLoads.{opened_same}
 use Rattle.thread_run.proofs.worker.Worker.open.Goals as goal
 
 pub returns-clause-same : goal.returns-clause-same

@@ -3,7 +3,7 @@ use Rattle.std.proofs.lemmas.Bool.{false≢true}
 use Rattle.machine_step.specs.declared.want.Want.TheVariants.{Load as Loads}
 use Rattle.machine_step.specs.Traced.{Traced, loads_left}
 use Rattle.thread_run.specs.Workers.{cpu_of}
-use Rattle.thread_run.proofs.Turns.{after_taken, goes_on, held_again, made_held, made_none, made_one, moved_on, worker_again, worker_then}
+use Rattle.thread_run.proofs.WorkerLoads.{after_taken, goes_on, held_again, made_held, made_none, made_one, moved_on, worker_again, worker_then}
 use Rattle.thread_run.proofs.worker.Worker.run.Goals as goal
 
 pub loads-init : goal.loads-init

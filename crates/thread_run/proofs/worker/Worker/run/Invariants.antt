@@ -1,5 +1,5 @@
 use Rattle.machine_step.specs.Traced.{loads_left}
-use Rattle.thread_run.proofs.Turns.{GoesOn}
+use Rattle.thread_run.proofs.WorkerLoads.{GoesOn}
 use Rattle.thread_run.proofs.worker.Worker.run.Given as goal
 
 abbrev pub invariant-loads : goal.invariant-loads

@@ -1,5 +1,5 @@
 use Rattle.sled_rule.specs.Seats.{patch_view, script_of, work_view}
-use Rattle.thread_run.proofs.Loading.{fresh_in}
+use Rattle.thread_run.proofs.LoadAndSeat.{fresh_in}
 use Rattle.thread_run.proofs.worker.Worker.start.Goals as goal
 
 pub new-requires-clause-fresh : goal.new-requires-clause-fresh

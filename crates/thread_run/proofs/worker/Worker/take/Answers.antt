@@ -9,8 +9,8 @@ use Rattle.machine_step.specs.declared.want.Want.{Want}
 use Rattle.sled_rule.specs.Seats.{work_view, script_of}
 use Rattle.traced_run.proofs.FitPassings.{run_ids}
 use Rattle.thread_run.specs.Following.{given}
-use Rattle.thread_run.proofs.Events.{any_room, any_recordable, some_ends}
-use Rattle.thread_run.proofs.Loading.{along_more, found_within, is_found, is_kept, not_kept, same_in, the_load, value_allowed, word_there}
+use Rattle.thread_run.proofs.RecordedEvents.{any_room, any_recordable, some_ends}
+use Rattle.thread_run.proofs.LoadAndSeat.{along_more, found_within, is_found, is_kept, not_kept, same_in, the_load, value_allowed, word_there}
 use Rattle.thread_run.proofs.worker.Worker.take.Goals as goal
 
 pub fetch-value-requires-clause-word : goal.fetch-value-requires-clause-word

@@ -1,8 +1,8 @@
 use Rattle.std.proofs.Common.{ap, ◌+◌, ◌∙◌}
 use Rattle.sled_rule.specs.declared.views.WorkView.{WorkView}
 use Rattle.sled_rule.specs.Seats.{work_view}
-use Rattle.thread_run.proofs.Loading.{at_work_counted}
-use Rattle.thread_run.proofs.Turns.{seat_changed}
+use Rattle.thread_run.proofs.LoadAndSeat.{at_work_counted}
+use Rattle.thread_run.proofs.WorkerLoads.{seat_changed}
 use Rattle.thread_run.proofs.worker.Worker.tell.Goals as goal
 
 pub returns-clause-same : goal.returns-clause-same

@@ -1,0 +1,239 @@
+-- What the fields of a buffer say, and how it is filled.
+use Rattle.std.proofs.Common.{◌≡◌, Vec, Global, ℕ, ◌+◌, ◌-◌, ◌^◌, ◌<◌, ◌≤◌, true, leb, ltb, lt-ltb, lit<, List, [], ◌∷◌, ◌++◌, length, take, drop, Option, Some, None, refl, sym, ap, subst, ◌∙◌, append_assoc, arith, inl, inr}
+use Rattle.std.proofs.lemmas.Bool.{cases_Bool, ltb-true, ltb-false, leb-true}
+use Rattle.std.proofs.lemmas.Bool.Decides.{leb_tells, eqb_tells}
+use Rattle.std.proofs.lemmas.List.{length-append, length-take, with_items_is}
+use Rattle.std.specs.Vec.{vec_len, with_items}
+use Rattle.std.proofs.lemmas.List.Concat.{flat_map-append}
+use Rattle.std.proofs.lemmas.List.Elements.{All-from_recursion, All-push}
+use Rattle.xray_io.specs.declared.wall.Wall.{Wall}
+use Rattle.fdr_record.specs.declared.event.Event.{Event}
+use Rattle.fdr_record.specs.Records.{record_bytes}
+use Rattle.fdr_record.specs.Recordable.{ArgFits}
+use Rattle.fdr_buffer.specs.declared.buffer.TheConstants.{LEAST_SIZE, LARGEST_SIZE}
+use Rattle.fdr_buffer.specs.declared.buffer.Buffer.TheInside.{Inside}
+use Rattle.fdr_buffer.specs.Segments.{bytes_of, is_out_of_reach, records_of, records_after, segment_bytes, preamble, body, has_room, EventFits}
+use Rattle.fdr_buffer.specs.declared.lead.Lead.{Lead}
+use Rattle.fdr_buffer.specs.private.Leads.{lead_records}
+use Rattle.fdr_buffer.specs.Filled.{Filled, empty_buffer, used_bytes}
+use Rattle.fdr_buffer.specs.private.Last.{last_of}
+use Rattle.fdr_buffer.specs.Fits.{BufferFits, PreambleFits}
+use Rattle.fdr_buffer.specs.private.Telling.{events_in}
+use Rattle.fdr_buffer.specs.private.Buffer.{filled_with, events_told, filled_in, Holds, IsFilled}
+use Rattle.fdr_buffer.proofs.Records.{last_of-push, segment_bytes-push}
+use Rattle.fdr_buffer.proofs.SegmentBytes.{segment_told, nothing_told}
+
+-- the bytes after the preamble
+after_preamble : (thread : ℕ) (wall : Wall) (pid : ℕ) (events : List Event) → drop 48 (body thread wall pid events) ≡ segment_bytes events
+after_preamble thread wall pid events = refl
+
+-- the events that a buffer says are those that it holds
+pub told_is : (a : Inside) (events : List Event) → Holds a events → events_told a ≡ events
+told_is a events h =
+    elim (cases_Bool (ltb 0 a.used)) [
+      | inl begun ↦
+          ap (λ (bytes : List ℕ). events_in (drop 48 bytes)) (rw begun at h.bytes) ∙ segment_told events h.fit
+      | inr unbegun ↦
+          let none : a.used ≡ 0 = omega (arith, ltb-false 0 a.used unbegun) in
+          ap (λ (bytes : List ℕ). events_in (drop 48 bytes)) (rw unbegun at h.bytes) ∙ nothing_told ∙ sym (h.unbegun none)
+    ]
+
+pub filled_is : (a : Inside) (events : List Event) → Holds a events → filled_in a ≡ filled_with a events
+filled_is a events h = ap (filled_with a) (told_is a events h)
+
+pub is_filled : (a : Inside) (events : List Event) → Holds a events → IsFilled a
+is_filled a events h = subst (Holds a) (sym (told_is a events h)) h
+
+-- how much is used of a buffer that was begun
+pub used_is : (a : Inside) (events : List Event) → Holds a events → ltb 0 a.used ≡ true → a.used ≡ 48 + length (segment_bytes events)
+used_is a events h begun =
+    let bytes : take a.used a.bytes.items ≡ body a.thread a.wall a.pid events = rw begun at h.bytes in
+    let long = ap length bytes in
+    omega (arith, long, length-take a.used a.bytes.items, h.within)
+
+leb_moved : (x used size all : ℕ) → used ≤ size → all ≡ used + x → leb x (size - used) ≡ leb all size
+leb_moved x used size all within e =
+    elim (leb_tells x (size - used)) [
+      | inl there ↦ elim (leb_tells all size) [ inl fits ↦ there.0 ∙ sym fits.0 | inr past ↦ absurd (omega (arith, there.1, past.1)) ]
+      | inr over ↦ elim (leb_tells all size) [ inl fits ↦ absurd (omega (arith, over.1, fits.1)) | inr past ↦ over.0 ∙ sym past.0 ]
+    ]
+
+-- the bytes that are used once an event was added
+longer_by : (a : Inside) (events : List Event) (event : Event) → Holds a events → ltb 0 a.used ≡ true → 48 + length (segment_bytes (events ++ event ∷ [])) ≡ a.used + length (bytes_of (records_of a.last event))
+longer_by a events event h begun =
+    let used = used_is a events h begun in
+    let more = ap length (segment_bytes-push events event) ∙ length-append (segment_bytes events) (bytes_of (records_of (last_of events) event)) in
+    rw h.last (omega (arith, used, more))
+
+pub fits_is : (a : Inside) (events : List Event) (event : Event) → Holds a events → ltb 0 a.used ≡ true → leb (length (bytes_of (records_of a.last event))) (length a.bytes.items - a.used) ≡ has_room (length a.bytes.items) (events ++ event ∷ [])
+fits_is a events event h begun =
+    leb_moved _ a.used (length a.bytes.items) _ h.within (longer_by a events event h begun)
+
+-- b is a with one more event
+pub record Grows (a b : Inside) (event : Event) : Type 0 where
+  pub fits : EventFits event
+  pub thread : b.thread ≡ a.thread
+  pub serial : b.serial ≡ a.serial
+  pub wall : b.wall ≡ a.wall
+  pub pid : b.pid ≡ a.pid
+  pub size : length b.bytes.items ≡ length a.bytes.items
+  pub bytes : take b.used b.bytes.items ≡ take a.used a.bytes.items ++ bytes_of (records_of a.last event)
+  pub used : b.used ≡ a.used + length (bytes_of (records_of a.last event))
+  pub last : b.last ≡ Some event
+  pub count : b.count ≡ a.count + 1
+
+pub room_is : (a : Inside) (events : List Event) (event : Event) → Holds a events → ltb 0 a.used ≡ true → has_room (length a.bytes.items) (events ++ event ∷ []) ≡ true → a.used + length (bytes_of (records_of a.last event)) ≤ length a.bytes.items
+room_is a events event h begun room =
+    let le = leb-true _ _ room in
+    omega (arith, le, longer_by a events event h begun)
+
+still_begun : (a b : Inside) (event : Event) → Grows a b event → ltb 0 a.used ≡ true → ltb 0 b.used ≡ true
+still_begun a b event g begun = lt-ltb 0 b.used (omega (arith, ltb-true 0 a.used begun, g.used))
+
+pub holds_more : (a b : Inside) (events : List Event) (event : Event) → Holds a events → Grows a b event → ltb 0 a.used ≡ true → has_room (length a.bytes.items) (events ++ event ∷ []) ≡ true → Holds b (events ++ event ∷ [])
+holds_more a b events event h g begun room =
+    let within = room_is a events event h begun room in
+    let old : take a.used a.bytes.items ≡ body a.thread a.wall a.pid events = rw begun at h.bytes in
+    let joined : body a.thread a.wall a.pid events ++ bytes_of (records_of a.last event) ≡ body a.thread a.wall a.pid (events ++ event ∷ []) =
+    rw h.last (append_assoc (preamble a.thread a.wall a.pid) (segment_bytes events) (bytes_of (records_of (last_of events) event)) ∙ ap (λ (x : List ℕ). preamble a.thread a.wall a.pid ++ x) (sym (segment_bytes-push events event))) in
+    record {
+      least = omega (arith, h.least, g.size);
+      most = omega (arith, h.most, g.size);
+      within = omega (arith, within, g.used, g.size);
+      preamble = rw (g.thread, g.wall, g.pid) (record { thread = h.preamble.thread; secs = h.preamble.secs; micros = h.preamble.micros; pid = h.preamble.pid });
+      bytes = rw (still_begun a b event g begun, g.thread, g.wall, g.pid) (g.bytes ∙ ap (λ (x : List ℕ). x ++ bytes_of (records_of a.last event)) old ∙ joined);
+      unbegun = λ none. absurd (omega (arith, none, ltb-true 0 b.used (still_begun a b event g begun)));
+      last = g.last ∙ sym (last_of-push events event);
+      count = omega (arith, g.count, h.count, length-append events (event ∷ []));
+      fit = All-push EventFits events event h.fit g.fits;
+    }
+
+-- there are at most as many events as bytes
+records_not_empty : (before : Option Event) (event : Event) → 8 ≤ length (bytes_of (records_of before event))
+records_not_empty None event = omega arith
+records_not_empty (Some before) event =
+    elim (eqb_tells before.cpu event.cpu) [
+      | inl same ↦ rw same.0 (elim (cases_Bool (is_out_of_reach before.tsc event.tsc)) [ inl out ↦ rw out (omega arith) | inr reached ↦ rw reached (omega arith) ])
+      | inr other ↦ rw other.0 (omega arith)
+    ]
+
+events_short : (before : Option Event) (events : List Event) → length events ≤ length (bytes_of (records_after before events))
+events_short before [] = omega arith
+events_short before (event ∷ events) =
+    let all = ap length (flat_map-append record_bytes (records_of before event) (records_after (Some event) events)) ∙ length-append (bytes_of (records_of before event)) (bytes_of (records_after (Some event) events)) in
+    omega (arith, all, records_not_empty before event, events_short (Some event) events)
+
+-- one more event still has a number
+pub count_small : (a : Inside) (events : List Event) → Holds a events → ltb 0 a.used ≡ true → a.count + 1 < 2 ^ 32
+count_small a events h begun =
+    omega (arith, h.count, used_is a events h begun, events_short None events, h.within, h.most)
+
+-- the buffer after that
+pub more_is : (a b : Inside) (events : List Event) (event : Event) → Grows a b event → ltb 0 a.used ≡ true → Holds b (events ++ event ∷ []) → filled_in b ≡ record (filled_with a events) { events = events ++ event ∷ [] }
+more_is a b events event g begun h =
+    filled_is b (events ++ event ∷ []) h ∙ rw (still_begun a b event g begun, begun, g.size, g.thread, g.serial, g.wall, g.pid) refl
+
+-- a buffer without events
+pub holds_none : (a : Inside) → LEAST_SIZE ≤ length a.bytes.items → length a.bytes.items ≤ LARGEST_SIZE → a.used ≤ length a.bytes.items → PreambleFits (filled_with a []) → take a.used a.bytes.items ≡ used_bytes (filled_with a []) → a.last ≡ None → a.count ≡ 0 → Holds a []
+holds_none a least most within preamble bytes last count = record {
+  least = least;
+  most = most;
+  within = within;
+  preamble = preamble;
+  bytes = bytes;
+  unbegun = λ none. refl;
+  last = last;
+  count = count;
+  fit = All-from_recursion EventFits [] tt;
+}
+
+-- a buffer whose bytes were written, with one more event
+abbrev pub grown : Inside → List ℕ → ℕ → Event → Inside
+grown a bytes used event = record a { bytes = with_items a.bytes bytes; used = used; count = a.count + 1; last = Some event }
+
+pub grown_grows : (a : Inside) (bytes : List ℕ) (used : ℕ) (event : Event) → length bytes ≡ length a.bytes.items → EventFits event
+    → take used bytes ≡ take a.used a.bytes.items ++ bytes_of (records_of a.last event) → used ≡ a.used + length (bytes_of (records_of a.last event)) → Grows a (grown a bytes used event) event
+grown_grows a bytes used event size fits written next =
+    let over = with_items_is a.bytes bytes (size ∙ sym a.bytes.ok.0) in
+    record {
+      fits = fits;
+      thread = refl;
+      serial = refl;
+      wall = refl;
+      pid = refl;
+      size = ap length over ∙ size;
+      bytes = ap (take used) over ∙ written;
+      used = next;
+      last = refl;
+      count = refl;
+    }
+
+-- a buffer that was begun has room for an event
+abbrev HasRoomFor : Event → Filled → Type 0
+HasRoomFor event v = has_room v.size (v.events ++ event ∷ []) ≡ true
+
+-- one more event, in a buffer as contracts see it
+abbrev pub with_event : Filled → Event → Filled
+with_event v event = record v { events = v.events ++ event ∷ [] }
+
+-- what is to be written of an event
+pub record IsToldBy (a : Inside) (lead : Lead) (event : Event) : Type 0 where
+  pub records : lead_records lead event ≡ records_of a.last event
+  pub cpu : event.cpu < 2 ^ 16
+  pub tsc : event.tsc < 2 ^ 64
+  pub arg : event.arg < 2 ^ 64
+  pub logged : ArgFits event.kind event.arg
+
+-- adding an event leaves a buffer with one event more
+pub put_leaves : (a : Inside) (now : Filled) (event : Event) (lead : Lead) (bytes : List ℕ) (used : ℕ) → filled_in a ≡ now → IsFilled a → now.begun ≡ true → HasRoomFor event now → event.func < 2 ^ 28 → IsToldBy a lead event
+    → length bytes ≡ length a.bytes.items → take used bytes ≡ take a.used a.bytes.items ++ bytes_of (lead_records lead event) → used ≡ a.used + length (bytes_of (lead_records lead event))
+    → IsFilled (grown a bytes used event) × (filled_in (grown a bytes used event) ≡ with_event now event)
+put_leaves a now event lead bytes used seen filled begun room id told size written next =
+    let begun' : ltb 0 a.used ≡ true = ap (λ (v : Filled). v.begun) seen ∙ begun in
+    let room' : HasRoomFor event (filled_in a) = subst (HasRoomFor event) (sym seen) room in
+    let b = grown a bytes used event in
+    let grows : Grows a b event = grown_grows a bytes used event size (record { cpu = told.cpu; func = id; tsc = told.tsc; arg = told.arg; logged = told.logged }) (written ∙ rw told.records refl) (next ∙ rw told.records refl) in
+    let holds : Holds b (events_told a ++ event ∷ []) = holds_more a b (events_told a) event filled grows begun' room' in
+    (is_filled b (events_told a ++ event ∷ []) holds, more_is a b (events_told a) event grows begun' holds ∙ ap (λ (v : Filled). with_event v event) seen)
+
+-- a buffer whose bytes were written, and which was begun
+abbrev pub begun_as : Inside → List ℕ → ℕ → ℕ → ℕ → Wall → ℕ → Inside
+begun_as a bytes used thread serial wall pid = record { bytes = with_items a.bytes bytes; used = used; thread = thread; serial = serial; wall = wall; pid = pid; count = 0; last = None }
+
+-- beginning a segment leaves a buffer with no events
+pub begin_leaves : (a : Inside) (now : Filled) (bytes : List ℕ) (used thread serial : ℕ) (wall : Wall) (pid : ℕ) → filled_in a ≡ now → IsFilled a
+    → (thread < 2 ^ 32) × (wall.secs < 2 ^ 64) × (wall.micros < 2 ^ 32) × (pid < 2 ^ 32) → length bytes ≡ length a.bytes.items → take used bytes ≡ body thread wall pid [] → used ≡ 48
+    → IsFilled (begun_as a bytes used thread serial wall pid)
+    × (filled_in (begun_as a bytes used thread serial wall pid) ≡ record { size = now.size; begun = true; thread = thread; serial = serial; wall = wall; pid = pid; events = [] })
+begin_leaves a now bytes used thread serial wall pid seen filled (thread_fits, secs_fit, micros_fit, pid_fits) size written next =
+    let b = begun_as a bytes used thread serial wall pid in
+    let begun : ltb 0 used ≡ true = lt-ltb 0 used (omega arith) in
+    let over = with_items_is a.bytes bytes (size ∙ sym a.bytes.ok.0) in
+    let long : length b.bytes.items ≡ length a.bytes.items = ap length over ∙ size in
+    let told : take used b.bytes.items ≡ body thread wall pid [] = ap (take used) over ∙ written in
+    let holds : Holds b [] = holds_none b (omega (arith, filled.least, long)) (omega (arith, filled.most, long)) (omega (arith, filled.least, long))
+    (record { thread = thread_fits; secs = secs_fit; micros = micros_fit; pid = pid_fits }) (rw begun told) refl refl in
+    let size' : length b.bytes.items ≡ now.size = long ∙ ap (λ (v : Filled). v.size) seen in
+    (is_filled b [] holds, filled_is b [] holds ∙ rw (begun, size') refl)
+
+-- a buffer that wasn't begun
+abbrev pub unbegun : Vec ℕ Global → Inside
+unbegun bytes = record { bytes = bytes; used = 0; thread = 0; serial = 0; wall = record { secs = 0; micros = 0 }; pid = 0; count = 0; last = None }
+
+pub new_leaves : (bytes : Vec ℕ Global) (size : ℕ) → LEAST_SIZE ≤ size → size ≤ LARGEST_SIZE → vec_len bytes ≡ size → IsFilled (unbegun bytes) × (filled_in (unbegun bytes) ≡ empty_buffer size)
+new_leaves bytes size least most e =
+    let b = unbegun bytes in
+    let long : length bytes.items ≡ size = sym bytes.ok.0 ∙ e in
+    let holds : Holds b [] = holds_none b (omega arith) (omega arith) (omega arith)
+    (record { thread = lit< tt; secs = lit< tt; micros = lit< tt; pid = lit< tt }) refl refl refl in
+    (is_filled b [] holds, filled_is b [] holds ∙ rw long refl)
+
+-- what a buffer holds fits
+pub holds_fits : (a : Inside) (now : Filled) → filled_in a ≡ now → IsFilled a → BufferFits now
+holds_fits a now seen holds =
+    subst BufferFits seen (record {
+      preamble = holds.preamble;
+      events = holds.fit;
+      within = omega (arith, ap length holds.bytes, length-take a.used a.bytes.items);
+      most = holds.most;
+    })
