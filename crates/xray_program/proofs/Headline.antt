@@ -16,7 +16,7 @@ use Rattle.patch_script.specs.Plans.{waiting_line}
 use Rattle.patch_script.specs.Refusals.{commands_of}
 use Rattle.step_sim.specs.FaultWords.{waits_words}
 use Rattle.step_sim.specs.Replay.{of_thread}
-use Rattle.step_sim.specs.Replayed.{IsReplayOf, LoseOldest}
+use Rattle.step_sim.specs.Replayed.{cast_with, pooling_with}
 use Rattle.step_sim.specs.declared.turns.Turns.{Turns}
 use Rattle.trace_flush.specs.Flush.{trace_bytes}
 use Rattle.trace_flush.specs.Lines.{audit_of_run}
@@ -31,7 +31,7 @@ use Rattle.xray_program.specs.Inputs.{image_form, script_form, schedule_form}
 use Rattle.xray_program.specs.Outcomes.{Outcome, Done}
 use Rattle.xray_program.specs.Outputs.{OutputsAreWhole}
 use Rattle.xray_program.specs.Run.{FollowsPlan, LoadsFollowPlan, RunComes, RunsBeside}
-use Rattle.xray_program.specs.Sim.{FollowsSchedule, Replayed, Replays, SimComes}
+use Rattle.xray_program.specs.Sim.{ComesTo, FollowsSchedule, Replayed, Replays, SimComes}
 use Rattle.xray_program.specs.Setups.{setup_of}
 use Rattle.xray_program.specs.Spoken.{commands_said, turns_given}
 use Rattle.xray_program.specs.Taking.{Form, Leaves, RefuseIf, Sound, Take}
@@ -117,7 +117,7 @@ simulated_by : CallLaws → (before after : World) (i s c t a image script sched
     → (outputs : List (List ℕ × List ℕ)) (text : List ℕ) → before.desk.held i ≡ Holds image → before.desk.held s ≡ Holds script
     → before.desk.held c ≡ Holds schedule → SimComes Sound before.desk.held i s c t a setup (Done outputs text)
     → OutputsAreWhole outputs before.desk.held after.desk.held → Adds before.out.written after.out.written text
-    → IsTraced (FollowsSchedule schedule setup) image script t a setup before after
+    → IsTraced (FollowsSchedule schedule) image script t a setup before after
 simulated_by laws before after i s c t a image script schedule setup is outputs text image_held script_held schedule_held comes whole adds =
     let held = before.desk.held in
     let first = read_on image_form held i
@@ -131,13 +131,13 @@ simulated_by laws before after i s c t a image script schedule setup is outputs 
     let traces = left_alike (Traces (Replayed first.value second.value third.value setup) first.value setup t a) outputs text still.1 in
     let commands = commands_of second.value.lines in
     let loads : ℕ → List Load = λ number. of_thread traces.lawful.last.moment.loads number in
-    let Follows : List Turns → Type 0 = λ turns. (replayed : IsReplayOf first.value commands turns setup traces.runs)
-        × ((number : ℕ) → loads number ≡ of_thread replayed.last.moment.loads number) × LoseOldest setup.size traces.runs replayed.last.stock in
-    let follows : Follows (turns_given schedule) = subst Follows (schedule_gives setup.threads schedule third.value third.reads)
-    (traces.lawful, (λ number. refl), laws.oldest first.value commands schedule third.value setup traces.runs third.reads traces.lawful) in
-    is_traced laws (FollowsSchedule schedule setup) (Replayed first.value second.value third.value setup) before after t a image script setup is
+    let cast = cast_with first.value commands traces.runs in
+    let played : ComesTo cast (turns_given schedule) traces.lawful.last.moment =
+    subst (λ (turns : List Turns). ComesTo cast turns traces.lawful.last.moment) (schedule_gives setup.threads schedule third.value third.reads)
+    (laws.moves cast (pooling_with first.value commands setup traces.runs) third.value traces.lawful.last traces.lawful.replay) in
+    is_traced laws (FollowsSchedule schedule) (Replayed first.value second.value third.value setup) before after t a image script setup is
     outputs text first.value commands first.reads (script_says first.value setup.threads script second.value second.reads) traces whole adds loads
-    (record { replayed = follows.0; loads_are = follows.1; oldest = follows.2 })
+    (record { last = traces.lawful.last.moment; played = played; loads_are = λ number. refl })
     (laws.tears first.value commands schedule third.value setup traces.runs third.reads traces.lawful)
     (laws.loses first.value commands schedule third.value setup traces.runs third.reads traces.lawful)
 

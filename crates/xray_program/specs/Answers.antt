@@ -78,7 +78,7 @@ abbrev pub SimIsTraced : Option Command → (before after : World) → Type 0
 SimIsTraced said before after =
     (i s c t a image script schedule : List ℕ) (options : RunOptions) → said ≡ Some (Sim i s c t a options)
     → before.desk.held i ≡ Holds image → before.desk.held s ≡ Holds script → before.desk.held c ≡ Holds schedule
-    → IsTraced (FollowsSchedule schedule (setup_of options)) image script t a (setup_of options) before after
+    → IsTraced (FollowsSchedule schedule) image script t a (setup_of options) before after
 
 -- if `run` was said, with inputs that the desk holds, then all that threads leave beside the script was written
 abbrev pub RunIsTraced : Option Command → (before after : World) → Type 0
