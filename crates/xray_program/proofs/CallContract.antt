@@ -17,8 +17,8 @@ use Rattle.xray_program.specs.declared.stop.Stop.{Stop}
 use Rattle.xray_program.specs.declared.stop.Stop.TheVariants as stops
 use Rattle.xray_io.specs.World.{DeskView, World}
 use Rattle.xray_program.proofs.Headline.{beside, makes_setup, simulated}
-use Rattle.xray_program.proofs.Ordering.{went_as}
-use Rattle.xray_program.proofs.Saying.{says_nothing}
+use Rattle.xray_program.proofs.CallOrder.{went_as}
+use Rattle.xray_program.proofs.ErrLines.{says_nothing}
 
 -- a number is none of these others
 not_two : (a b n : ℕ) {P : Type 0} → (n ≡ a → ⊥) → (n ≡ b → ⊥) → (n ≡ a) ⊎ (n ≡ b) → P
