@@ -93,8 +93,8 @@ is_traced : CallLaws → (Lawful : Program → List PatchCommand → List Thread
 is_traced laws Lawful Were old new t a image script setup outputs text program commands accepted says traces whole loads lawful decoded losses =
     let hold = files_hold t a setup traces.runs outputs old new traces.outputs_are whole in
     let Ran : List PatchCommand → Type 0 = λ cs. Lawful program cs traces.runs loads
-        × EachThread traces.runs (λ number run. DecodesWhole program setup.threads number (hold_of number cs) run (loads number))
-        × EachThread traces.runs (λ number run. Executes program setup.limits setup.threads number (hold_of number cs) run (loads number)) in
+    × EachThread traces.runs (λ number run. DecodesWhole program setup.threads number (hold_of number cs) run (loads number))
+    × EachThread traces.runs (λ number run. Executes program setup.limits setup.threads number (hold_of number cs) run (loads number)) in
     let executes : EachThread traces.runs (λ number run. Executes program setup.limits setup.threads number (hold_of number commands) run (loads number)) =
     λ i run found. laws.executes image program setup.limits setup.threads (i + 1) (hold_of (i + 1) commands) run (loads (i + 1))
     accepted (traces.run.plain i run found) (decoded i run found) in
