@@ -8,7 +8,7 @@ pub mod ClapWalk
 pub mod Levels
 pub mod Built
 pub mod Pairs
-pub mod GatheredWords
+pub mod Gathering
 pub mod Cuts
 -- Commands: what is made of a line, by the rows of the table (src/words.rt, src/laws.rt)
 pub mod OfRows

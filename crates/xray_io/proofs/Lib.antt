@@ -1,6 +1,6 @@
 -- Reads and writes, one after the other (src/whole.rt)
 pub mod DeskCalls
-pub mod ReadPieces
+pub mod Reading
 -- Texts that are put together (src/text.rt, src/digits.rt)
 pub mod TextSteps
 pub mod Copies

@@ -12,7 +12,7 @@ use Rattle.command_words.specs.private.Allowed.{is_row}
 use Rattle.command_words.specs.private.CodeViews.{line_view, row_view}
 use Rattle.command_words.proofs.Built.{row_is_simple}
 use Rattle.command_words.proofs.Cuts.{answered, cut_is, refused}
-use Rattle.command_words.proofs.GatheredWords.{words_are_text}
+use Rattle.command_words.proofs.Gathering.{words_are_text}
 use Rattle.command_words.proofs.cutting.cut_line.Goals as goal
 
 -- what is found is the line of the definition, except for the names of outputs
