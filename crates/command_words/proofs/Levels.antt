@@ -13,7 +13,7 @@ use Rattle.command_words.specs.private.Clapped.{after}
 use Rattle.command_words.specs.Items.{items_of}
 use Rattle.command_words.proofs.Arguments.{Each, IsOne, leaf, run}
 use Rattle.command_words.proofs.WordShapes.{IsText}
-use Rattle.command_words.proofs.ClapWalk.{walk_is}
+use Rattle.command_words.proofs.Walking.{walk_is}
 
 -- a required argument has no row
 abbrev pub lacks : List Rule → List Row → Bool

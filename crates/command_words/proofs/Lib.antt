@@ -4,7 +4,7 @@ pub mod Texts
 pub mod NumberLemmas
 -- clap: what it makes of words is the line that they say (src/cutting.rt)
 pub mod Arguments
-pub mod ClapWalk
+pub mod Walking
 pub mod Levels
 pub mod Built
 pub mod Pairs
@@ -13,6 +13,6 @@ pub mod Cuts
 -- Commands: what is made of a line, by the rows of the table (src/words.rt, src/laws.rt)
 pub mod OfRows
 pub mod Outputs
-pub mod ReadLines
+pub mod Readings
 -- Worked examples: command lines
 pub mod WorkedLines

@@ -16,7 +16,7 @@ use Rattle.subset_decode.specs.Encoding.{opcode_of, two_registers, distance, spe
 use Rattle.subset_decode.specs.Refusals.{IsCut, IsUnknownByte, NamesReserved, Refuses, Answers}
 use Rattle.subset_decode.specs.Reading.{◌>>=◌, Read, byte_at, field_at, distance_at, register_of, low_register_at, arithmetic_at, escaped_at, instr_at}
 use Rattle.subset_decode.proofs.Fields.{IsBytes, IsBytes-rest, IsBytes-take, cut_field, number_back, number_fits}
-use Rattle.subset_decode.proofs.DecodedEncodings.{one_at, two_at, jump_then, Decides, only_register, begins_none}
+use Rattle.subset_decode.proofs.Decided.{one_at, two_at, jump_then, Decides, only_register, begins_none}
 
 -- what is read stands there, and a fault holds there
 abbrev pub Holds : List ℕ → Read Instr → Type 0

@@ -11,7 +11,7 @@ use Rattle.xray_image.specs.Container.{MapEntry, Parts, base_address, function_c
 use Rattle.xray_image.specs.Program.{Program, AreFunctions, IsEntryOf, EachSled, Reaches, BranchesReach, program_of, IsAccepted}
 use Rattle.xray_image.specs.Table.{Verdict, NeedsUnits, StandUpTo, ReadsProgram, ReadsParts, ReadsAs, BranchesRightly}
 use Rattle.xray_image.proofs.Pieces.{OneInstruction}
-use Rattle.xray_image.proofs.UnitPlaces.{stand_are, units_stand}
+use Rattle.xray_image.proofs.Standing.{stand_are, units_stand}
 use Rattle.xray_image.proofs.TableRows.{OneAnswer, needs_units_one}
 
 -- ---- one verdict

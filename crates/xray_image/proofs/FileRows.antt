@@ -27,7 +27,7 @@ use Rattle.xray_image.proofs.Accepts.{accepted}
 use Rattle.xray_image.proofs.FileParts.{Rows}
 use Rattle.xray_image.proofs.HeaderRows.{past_header}
 use Rattle.xray_image.proofs.JudgedRows.{judged_reads}
-use Rattle.xray_image.proofs.SledFunctions.{places_ascend}
+use Rattle.xray_image.proofs.Lying.{places_ascend}
 use Rattle.xray_image.proofs.Placement.{has_within}
 use Rattle.xray_image.proofs.SoFar.{stand_shown}
 

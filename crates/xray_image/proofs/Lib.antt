@@ -2,12 +2,12 @@
 pub mod Pieces
 pub mod Nops
 pub mod Stuck
-pub mod UnitPlaces
+pub mod Standing
 pub mod SoFar
 pub mod Placement
-pub mod StoredUnits
+pub mod Stored
 pub mod Index
-pub mod RunningSums
+pub mod Summing
 -- The parts of a file: the header, functions and map entries (src/header.rt, src/parts.rt, src/map_entry.rt)
 pub mod HeaderRows
 pub mod FileParts
@@ -15,15 +15,15 @@ pub mod Several
 pub mod MapEntries
 -- The functions of an accepted file: ids, names, and the sleds that lie in them (src/ids.rt, src/functions.rt)
 pub mod Distinct
-pub mod EntryIds
-pub mod FunctionNames
+pub mod Numbering
+pub mod Naming
 pub mod NameText
-pub mod SledFunctions
+pub mod Lying
 pub mod SideBySide
 -- The checks: functions, branches and the sled map, item by item (src/functions.rt, src/branches.rt, src/sled_map.rt)
 pub mod Scans
 pub mod FunctionRows
-pub mod BranchTargets
+pub mod Branching
 pub mod Entries
 pub mod JudgedRows
 -- The verdict: each file has only one, and it is accepted exactly when it is a program (src/laws.rt)
@@ -33,7 +33,7 @@ pub mod Accepts
 pub mod Known
 pub mod SomeVerdict
 -- The image that is made of an accepted file (src/image.rt)
-pub mod ImageLists
+pub mod Making
 pub mod ImageMade
 pub mod FileRows
 pub mod ReadOnce

@@ -24,7 +24,7 @@ use Rattle.xray_image.proofs.Acceptance.{code_is}
 use Rattle.xray_image.proofs.Known.{Known, known_below, known_both, known_branch, known_entry, known_front, known_function, known_item, known_list, known_most, known_option, known_reach}
 use Rattle.xray_image.proofs.Nops.{IsBytes, nop_found}
 use Rattle.xray_image.proofs.Pieces.{piece_has_byte}
-use Rattle.xray_image.proofs.UnitPlaces.{stand_are, units_stand}
+use Rattle.xray_image.proofs.Standing.{stand_are, units_stand}
 use Rattle.xray_image.proofs.Scans.{from_below}
 use Rattle.xray_image.proofs.TableRows.{OneAnswer}
 use Rattle.xray_image.proofs.Stuck.{no_even, no_jump, no_return, no_whole}

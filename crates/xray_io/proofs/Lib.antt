@@ -1,8 +1,8 @@
 -- Reads and writes, one after the other (src/whole.rt)
-pub mod DeskCalls
+pub mod Calling
 pub mod Reading
 -- Texts that are put together (src/text.rt, src/digits.rt)
-pub mod TextSteps
+pub mod Gathering
 pub mod Copies
 pub mod ItemTexts
 pub mod HexDigits

@@ -1,5 +1,5 @@
 use Rattle.std.proofs.Common.{refl}
-use Rattle.xray_image.proofs.StoredUnits.{aligned}
+use Rattle.xray_image.proofs.Stored.{aligned}
 use Rattle.xray_image.proofs.Stuck.{no_whole}
 use Rattle.xray_image.proofs.unit_reader.read_unit.Goals as goal
 

@@ -9,7 +9,7 @@ use Rattle.subset_decode.specs.Encoding.{opcode_of, spelling, IsNamed, Begins}
 use Rattle.subset_decode.specs.Refusals.{Refuses, Answers}
 use Rattle.subset_decode.specs.Reading.{◌>>=◌, Read, instr_at, first_instr}
 use Rattle.subset_decode.proofs.Fields.{IsBytes-drop}
-use Rattle.subset_decode.proofs.OneAnswer.{same_answer}
+use Rattle.subset_decode.proofs.Refused.{same_answer}
 use Rattle.subset_decode.proofs.Found.{found, refused}
 
 -- an instruction stands at the place, and the next place is the one after it

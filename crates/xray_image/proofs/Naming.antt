@@ -20,7 +20,7 @@ use Rattle.xray_image.specs.private.Numbering.{AreNumbersOf}
 use Rattle.xray_image.specs.private.ImageView.{named_function}
 use Rattle.xray_image.proofs.Acceptance.{mapped}
 use Rattle.xray_image.proofs.Distinct.{distinct_few}
-use Rattle.xray_image.proofs.EntryIds.{as_many}
+use Rattle.xray_image.proofs.Numbering.{as_many}
 
 -- ---- functions ascend
 

@@ -12,7 +12,7 @@ use Rattle.map_names.specs.declared.reading.Draft.{Draft}
 use Rattle.map_names.specs.Entries.{Entry, entry_of}
 use Rattle.map_names.specs.MapNames.{named}
 use Rattle.map_names.specs.Maps.{Before, Start, Listed, Whole, ended, is_line, line_rows, map_naming, map_of, names_id, naming_of}
-use Rattle.map_names.proofs.EntryNames.{naming_more}
+use Rattle.map_names.proofs.Namings.{naming_more}
 use Rattle.map_names.specs.private.Drafts.{IsDraftOf, Reads, Stands, Takes, before_in}
 
 -- what the lines after these come to

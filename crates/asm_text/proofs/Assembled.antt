@@ -9,7 +9,7 @@ use Rattle.asm_text.specs.Writing.{image_bytes}
 use Rattle.asm_text.specs.Assembling.{assembled, statements_said, image_of}
 use Rattle.asm_text.specs.private.Laying.{lines_of}
 use Rattle.asm_text.specs.private.Files.{image_laid}
-use Rattle.asm_text.proofs.PlacesInCode.{lines_of-placed}
+use Rattle.asm_text.proofs.Placing.{lines_of-placed}
 
 -- the lines of a text that was laid out
 pub said_lines : (threshold : ℕ) (said : StatementLines) (all : List Placed) → all ≡ lines_placed (by_threshold threshold) said → lines_of all ≡ said

@@ -6,7 +6,7 @@ use Rattle.subset_decode.specs.declared.fault.DecodeFault.TheVariants.{Short, Un
 use Rattle.subset_decode.specs.Encoding.{spelling, IsNamed, IsEncodable, reserved_register, Begins}
 use Rattle.subset_decode.specs.Refusals.{IsCut, IsUnknownByte, NamesReserved, Refuses, Answers}
 use Rattle.subset_decode.proofs.Prefixes.{Begins-trans, Begins-front, Begins-all, nested, following, ends, longer}
-use Rattle.subset_decode.proofs.DecodedEncodings.{named, same_instr, not_reserved}
+use Rattle.subset_decode.proofs.Decided.{named, same_instr, not_reserved}
 
 -- an instruction with a reserved register isn't of the subset
 unreserved : (i : Instr) (n : ℕ) → IsNamed i → reserved_register i ≡ Some n → ⊥

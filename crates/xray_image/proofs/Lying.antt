@@ -15,7 +15,7 @@ use Rattle.xray_image.specs.Container.{Function, MapEntry}
 use Rattle.xray_image.specs.Program.{KindFits, LiesIn, IsEntryOf, EachSled}
 use Rattle.xray_image.specs.private.Views.{entry_of, function_of}
 use Rattle.xray_image.proofs.Placement.{places_above}
-use Rattle.xray_image.proofs.EntryIds.{not_falling}
+use Rattle.xray_image.proofs.Numbering.{not_falling}
 
 -- ---- the function that an address lies in
 
