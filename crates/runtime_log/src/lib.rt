@@ -21,6 +21,7 @@ mod own_event;
 mod packing;
 mod reading;
 mod refusal;
+mod stretch;
 mod taken;
 mod version;
 mod walk;
