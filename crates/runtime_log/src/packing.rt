@@ -148,8 +148,8 @@ impl Packing {
         Ok(())
     }
 
-    /// Adds the events of the stretch that is next of a block, if it has room. `last` is the event that
-    /// was added and noted last.
+    /// Adds the events of the stretch that is next of a block, as many as the buffer has room for. `last`
+    /// is the event that was added last.
     #[inline(always)]
     fn add_stretch(&mut self, block: &LogBlock, last: &Event, events: &mut BlockEvents)
         requires may { MayGive events.old }

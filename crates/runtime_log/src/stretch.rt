@@ -1,15 +1,36 @@
 //! Stretches of function records.
 ghost use Rattle.std.specs.Prelude.{◌≡◌, ◌≤◌, ◌<◌, ◌*◌, ◌^◌, All, IfSome, length};
-ghost use Rattle.runtime_log.specs.private.Stretches.{AreStretch, IsPlain, IsStretch, counter_in, event_in, last_counter};
+ghost use Rattle.runtime_log.specs.private.Stretches.{AreStretch, IsPlain, IsStretch, action_in, counter_in, event_in, last_counter};
 
 use byteorder::{ByteOrder, LittleEndian};
 use fdr_record::{Event, FUNCTION_BYTES, Kind};
 
-/// The place of the delta in a function record.
-const DELTA_AT: usize = 4;
+/// How many values the type of a record has: the lowest bit of its first byte.
+const TYPES: u8 = 2;
 
-/// The lowest bit of the function's id.
+/// The type of a function record.
+const FUNCTION: u8 = 0;
+
+/// The lowest bit of the action in the first byte of a function record.
+const ACTION_SHIFT: u32 = 1;
+
+/// How many values the action has.
+const ACTIONS: u8 = 8;
+
+/// The action of an entry.
+const ENTER: u8 = 0;
+
+/// The action of an exit.
+const EXIT: u8 = 1;
+
+/// The action of a tail exit. Those of the other events are above it.
+const TAIL_EXIT: u8 = 2;
+
+/// The lowest bit of the function's id in the first four bytes.
 const ID_SHIFT: u32 = 4;
+
+/// The place of the delta.
+const DELTA_AT: usize = 4;
 
 /// Function records that stand one after the other in a block. Each is of an entry without an argument,
 /// of an exit or of a tail exit, and the counter doesn't go past 2^64 at it. Their events have exactly
@@ -24,6 +45,15 @@ pub(crate) struct Stretch<'a> {
     pub(crate) last: Event,
 }
 
+/// The action of the function record that bytes begin with.
+#[inline(always)]
+fn action_in(bytes: &[u8]) -> u8
+    requires { 8 ≤ length bytes.now }
+    ensures { result ≡ action_in bytes.now }
+{
+    (bytes[0] >> ACTION_SHIFT) % ACTIONS
+}
+
 /// The counter at the function record that bytes begin with, by the counter before it. `None` if it is
 /// another record, or if it may not be in a stretch.
 #[inline(always)]
@@ -31,8 +61,7 @@ fn counter_after(tsc: u64, bytes: &[u8]) -> Option<u64>
     requires { 8 ≤ length bytes.now }
     ensures { IfSome result (λ next. IsPlain tsc bytes.now × (next ≡ counter_in tsc bytes.now)) }
 {
-    let first = bytes[0];
-    if first % 2 == 1 || (first >> 1) % 8 > 2 {
+    if bytes[0] % TYPES != FUNCTION || action_in(bytes) > TAIL_EXIT {
         return None;
     }
     tsc.checked_add(u64::from(LittleEndian::read_u32(&bytes[DELTA_AT..])))
@@ -43,9 +72,9 @@ fn event_in(cpu: u16, tsc: u64, bytes: &[u8]) -> Event
     requires { 8 ≤ length bytes.now }
     ensures { result ≡ event_in cpu tsc bytes.now }
 {
-    let kind = match (bytes[0] >> 1) % 8 {
-        0 => Kind::Entry,
-        1 => Kind::Exit,
+    let kind = match action_in(bytes) {
+        ENTER => Kind::Entry,
+        EXIT => Kind::Exit,
         _ => Kind::TailExit,
     };
     Event {
