@@ -12,6 +12,7 @@ pub mod Joining
 pub mod Leading
 pub mod LineTexts
 pub mod MergedTurns
+pub mod NoWaits
 pub mod OneAnswer
 pub mod OrderText
 pub mod OrderWords
@@ -22,6 +23,7 @@ pub mod Replaying
 pub mod ScriptSizes
 pub mod Searching
 pub mod Short
+pub mod StopToStop
 pub mod Stopping
 pub mod ThreadLoads
 pub mod TurnsOf

@@ -34,8 +34,11 @@ impl Waits {
         requires threads { script.now.threads ≡ threads }
         ensures { IfOk result (λ waits. waits.places.items ≡ waits_of image.now threads (commands_of script.now.lines)) }
     {
-        let state = state_word(image);
         let mut places = Vec::new(alloc);
+        if script.waits().is_none() {
+            return Ok(Waits { places });
+        }
+        let state = state_word(image);
         let mut near = 0;
         for place in 0..script.total() {
             if is_wait(script.micro_near(place, &mut near), state, threads) {

@@ -1,14 +1,25 @@
-use Rattle.std.proofs.Common.{◌≡◌, ◌<◌, ◌++◌, ◌∷◌, [], true, false, List, ℕ, append-nil, ap, subst, sym, take, ◌∙◌}
-use Rattle.std.specs.Prelude.{not}
+use Rattle.std.proofs.Common.{◌≡◌, ◌<◌, ◌++◌, ◌∷◌, [], Option, None, Some, true, false, List, ℕ, append-nil, ap, refl, subst, sym, take, ◌∙◌}
+use Rattle.std.specs.Prelude.{is_some, not}
 use Rattle.xray_image.specs.Program.{Program}
 use Rattle.patch_script.specs.declared.command.Command.{Command}
 use Rattle.patch_script.specs.Micros.{micro_at, micros, total_of}
+use Rattle.patch_script.specs.Plans.{waiting_line}
 use Rattle.patch_script.specs.Refusals.{commands_of}
 use Rattle.run_order.specs.FreeScripts.{is_free}
 use Rattle.run_order.specs.private.Waits.{waits_from}
 use Rattle.run_order.proofs.Freeing.{not_free, waits_next}
+use Rattle.run_order.proofs.NoWaits.{no_waits}
 use Rattle.run_order.proofs.waits.Waits.of.Goals as goal
 use Rattle.run_order.proofs.waits.Waits.of.Goals.{then-is_wait+in_ok-push, else-is_wait}
+
+none_of : (line : Option ℕ) → is_some line ≡ false → line ≡ None
+none_of None e = refl
+none_of (Some line) e = absurd cc
+
+pub returns-then-is_none : goal.returns-then-is_none
+returns-then-is_none c =
+    let none : waiting_line c.args.script.now.lines ≡ None = sym c.waits.ensures ∙ none_of c.waits.result (c.is_none.ensures ∙ ap not c.if-is_none.true) in
+    c.new-places.ensures.items ∙ sym (no_waits c.args.image.now c.args.threads c.args.script.now.lines none)
 
 pub loop-place-preserved : goal.loop-place-preserved
 loop-place-preserved c =
