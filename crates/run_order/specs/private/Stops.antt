@@ -1,5 +1,5 @@
 -- The loads of threads, as those at one place after those at another.
-use Rattle.std.specs.Prelude.{◌≡◌, ◌<◌, ◌≤◌, ◌+◌, ◌++◌, ◌-◌, ◌==◌, ◌∷◌, ℕ, zero, suc, List, [], All, count_by, length, map, slice_get, take, Some}
+use Rattle.std.specs.Prelude.{◌≡◌, ◌<◌, ◌≤◌, ◌+◌, ◌++◌, ◌-◌, ◌==◌, ◌∷◌, ℕ, List, [], All, count_by, length, map, slice_get, take, Some}
 use Rattle.std.specs.Borrow.{Bor}
 use Rattle.std.specs.List.{enumerate_from, flat_map}
 use Rattle.step_sim.specs.declared.turns.Turns.{Turns}
