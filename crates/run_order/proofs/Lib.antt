@@ -17,6 +17,7 @@ pub mod OneAnswer
 pub mod OrderText
 pub mod OrderWords
 pub mod Ordered
+pub mod Patchings
 pub mod PlacedRuns
 pub mod Replayed
 pub mod Replaying

@@ -60,9 +60,13 @@ none_of_none : (waits : List ℕ) → length waits ≡ 0 → waits ≡ []
 none_of_none [] none = refl
 none_of_none (wait ∷ waits) none = absurd (omega (arith, none))
 
+-- micro steps that all stay have no waits
+pub stay_waits : (program : Program) (threads place : ℕ) (steps : List Micro) → filter (is_free program threads) steps ≡ steps → waits_from program threads place steps ≡ []
+stay_waits program threads place steps stay =
+    none_of_none (waits_from program threads place steps) (omega (arith, waits_and_others program threads place steps, ap length stay))
+
 pub no_waits : (program : Program) (threads : ℕ) (lines : Lines) → waiting_line lines ≡ None → waits_of program threads (commands_of lines) ≡ []
 no_waits program threads lines none =
     let steps : List Micro = micros program threads (commands_of lines) in
-    let stay : filter (is_free program threads) steps ≡ steps =
-    sym (free_micros program threads (commands_of lines) (no_releases threads lines none)) ∙ ap (micros program threads) (all_stay lines none) in
-    none_of_none (waits_of program threads (commands_of lines)) (omega (arith, waits_and_others program threads 0 steps, ap length stay))
+    stay_waits program threads 0 steps
+    (sym (free_micros program threads (commands_of lines) (no_releases threads lines none)) ∙ ap (micros program threads) (all_stay lines none))
