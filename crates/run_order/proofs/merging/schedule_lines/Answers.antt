@@ -1,4 +1,4 @@
-use Rattle.std.proofs.Common.{◌≡◌, ◌∙◌, ◌≤◌, ◌+◌, ◌-◌, ◌++◌, ℕ, List, [], Vec, Global, arith, map, refl, subst, sym}
+use Rattle.std.proofs.Common.{◌≡◌, ◌∙◌, ◌<◌, ◌≤◌, ◌+◌, ◌-◌, ◌++◌, ℕ, List, [], Vec, Global, arith, map, refl, subst, sym}
 use Rattle.std.specs.Prelude.{replicate}
 use Rattle.std.specs.Borrow.{Bor}
 use Rattle.step_sim.specs.declared.turns.Turns.{Turns}
@@ -37,16 +37,17 @@ stops-preserved c =
     let old : List (Bor (List Stop)) = c.stops.left.items in
     let new : List (Bor (List Stop)) = c.add_turns.new.left.items in
     let kept = c.stops.invariant in
+    let within : c.stops.next ≤ c.args.total = omega (arith, c.stops-test.true) in
     let later : AllFrom (c.stops.next + 1) new = stops_left c.stops.next old new c.in_ok-add_turns.ensures.passed kept.none in
     let held : AllFrom (c.stops.next + 1) c.deref-in-stops.result.now = subst (AllFrom (c.stops.next + 1)) (sym c.deref-in-stops.ensures.value) later in
     record {
       count = c.in_ok-add_turns.ensures.passed.count ∙ kept.count;
       low = omega (arith, kept.low, kept.after);
-      high = c.stops-test.true;
+      high = within;
       after = omega (arith, c.next_place-next-in-stops.ensures.late (c.stops.next + 1) (omega (arith, c.stops-test.true, c.requires.total)) held);
       up =
           up_to_next c.args.start c.stops.place c.stops.next c.args.total (map (λ (v : Vec Stop Global). places_of v.items) c.args.threads.now) old new
-          c.stops.lines c.micro_steps.new.self c.add_turns.new.lines kept.low kept.after c.stops-test.true kept.up kept.none
+          c.stops.lines c.micro_steps.new.self c.add_turns.new.lines kept.low kept.after within kept.up kept.none
           c.micro_steps.ensures.joined c.micro_steps.ensures.steps c.in_ok-add_turns.ensures.passed
           c.in_ok-add_turns.ensures.added c.in_ok-add_turns.ensures.steps;
       none = subst (AllFrom c.next_place-next-in-stops.result) c.deref-in-stops.ensures.value (c.next_place-next-in-stops.ensures.next (c.stops.next + 1) held);
@@ -68,6 +69,7 @@ returns c =
     let kept = c.stops.invariant in
     let all : List (List ℕ) = map (λ (v : Vec Stop Global). places_of v.items) c.args.threads.now in
     let steps : ℕ = c.args.total - c.stops.place in
+    let past : c.args.total < c.stops.next = omega (arith, c.stops-test.false) in
     lines_are (λ (v : Vec Turns Global). v.items) c.done.result (kept.up.turns ++ replicate steps (Patcher 1)) (turns_from all c.args.start (c.args.total - c.args.start))
     c.micro_steps-2.new.self (c.micro_steps-2.ensures.joined kept.up.turns kept.up.joined)
-    (up_to_last c.args.start c.stops.place c.stops.next c.args.total all left c.stops.lines kept.up kept.none kept.high c.stops-test.false) c.done.ensures
+    (up_to_last c.args.start c.stops.place c.stops.next c.args.total all left c.stops.lines kept.up kept.none kept.high past) c.done.ensures
