@@ -1,10 +1,10 @@
 //! What `table_bench` does, in ordinary Rust: `table THREADS SLEDS LINES PACE ROUNDS`.
 //!
 //! The words are `AtomicU64`, stored and loaded with `SeqCst`: four for each sled, then the handler
-//! word, the state word and a release word for each thread. The progress words have cache lines of
-//! their own. Each thread loads each word, in order, as often as ROUNDS says, and stores the number
-//! of its rounds after each. LINES times the patcher waits until the first thread has made PACE more
-//! rounds, patches all sleds and unpatches them.
+//! word, the state word, a release word for each thread, and the argument handler's word. The
+//! progress words have cache lines of their own. Each thread loads each word, in order, as often as
+//! ROUNDS says, and stores the number of its rounds after each. LINES times the patcher waits until
+//! the first thread has made PACE more rounds, patches all sleds and unpatches them.
 
 use std::env;
 use std::iter;
@@ -29,7 +29,7 @@ const ORDER: [usize; 4] = [1, 2, 3, 0];
 impl Table {
     fn new(threads: usize, sleds: usize) -> Table {
         let parts = UNPATCHED.into_iter().cycle().take(4 * sleds);
-        let words = parts.chain(iter::repeat_n(0, 2 + threads));
+        let words = parts.chain(iter::repeat_n(0, 3 + threads));
         Table {
             words: words.map(AtomicU64::new).collect(),
             progress: (0..threads).map(|_| Progress(AtomicU64::new(0))).collect(),

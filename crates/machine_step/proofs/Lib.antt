@@ -24,6 +24,7 @@ pub mod OpenedPassing
 pub mod LoadlessPassing
 pub mod ThreadAfterLoad
 pub mod GivenThread
+pub mod UnderwayPassing
 -- Whole passings: allowed loads decode each sled whole, and the thread ends as its plain run does (src/laws.rt)
 pub mod AllowedLoads
 pub mod WholePassings

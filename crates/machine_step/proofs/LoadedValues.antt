@@ -219,7 +219,7 @@ mark_of_part program k part within apart recording value =
     rw (head, handler, state) refl
 
 -- the mark that a load leads to
-abbrev mark_in : Next → List Mark
+abbrev pub mark_in : Next → List Mark
 mark_in (Loads next) = []
 mark_in (Ends mark) = mark ∷ []
 
@@ -281,7 +281,7 @@ mark_at program threads thread k stages.Handler value within some =
 mark_at program threads thread k stages.State value within some = mark_of_state program marks.Recorded value
 mark_at program threads thread k stages.ArgState value within some = mark_of_state program marks.RecordedArg value
 
-mark_left : (a : Inside) → IsSound a → (place k : ℕ) (at_stage : Stage) (value : ℕ) (following : Next) → a.stand ≡ Loading place k at_stage
+pub mark_left : (a : Inside) → IsSound a → (place k : ℕ) (at_stage : Stage) (value : ℕ) (following : Next) → a.stand ≡ Loading place k at_stage
     → after_load (sled_logs_args a.steps.now k) at_stage value ≡ following
     → ending_mark a.steps.now (traced a).recording (traced a).want value ≡ mark_in following
 mark_left a sound place k at_stage value following is leads =

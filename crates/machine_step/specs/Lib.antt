@@ -5,6 +5,7 @@ pub mod Loads
 pub mod Follows
 pub mod Events
 pub mod Traced
+pub mod Underway
 pub mod Whole
 pub mod Ended
 pub mod Texts

@@ -1,6 +1,6 @@
 //! A traced thread.
 
-ghost use Rattle.std.specs.Prelude.{◌≡◌, ◌<◌, ◌≤◌, ◌↔◌, ◌∷◌, ◌++◌, ℕ, List, [], length, slice_get, slice_index, Some, Option, IsTrue, IsSome, IfOk};
+ghost use Rattle.std.specs.Prelude.{◌≡◌, ◌<◌, ◌≤◌, ◌↔◌, ◌∷◌, ◌++◌, ℕ, List, [], length, slice_get, slice_index, Some, Option, IsTrue, IsSome, IfOk, IfSome};
 ghost use Rattle.sled_words.specs.Words.{release_word, state_word};
 ghost use Rattle.machine_step.specs.declared.end.End.{End};
 ghost use Rattle.machine_step.specs.{PlainStep.{Passing, PlainRun, State}, Loads.{Load}, Setups.{AreLimits}};
@@ -10,10 +10,11 @@ use crate::allowed::allows;
 use crate::end::End;
 use crate::limits::Limits;
 use crate::machine::Machine;
-use crate::stage::{Next, after_load, first_stage, word_at};
+use crate::stage::{Next, Stage, after_load, first_stage, word_at};
 use crate::stamp::event_at;
 use crate::stand::{Stand, pass_sled, run_to_sled};
 use crate::steps::Steps;
+use crate::underway::Underway;
 use crate::want::Want;
 use fdr_record::Event;
 use handler_word::{Mark, Marks};
@@ -56,6 +57,7 @@ impl<'a> Model for Cpu<'a> {
 
 impl<'a> Cpu<'a> {
     ghost use Rattle.machine_step.specs.Traced.{Allows, HasLoaded, IsDone, IsFresh, IsGate, IsKept, IsLoad, IsLoadable, IsSameThread, IsThreadOf, MarksAdded, StandsAs, ending_mark, load_of, loads_left};
+    ghost use Rattle.machine_step.specs.Underway.{IsPassingOf, in_passing};
 
     /// A thread before its first load. It has run to its first sled, or to its end if it comes to
     /// none. Threads count from 1. `hold` is the passing before which the script holds the thread.
@@ -188,6 +190,77 @@ impl<'a> Cpu<'a> {
                 event
             }
         }
+    }
+
+    /// The passing that the thread is in, if it wants the head of the sled. Its loads may be made before
+    /// the thread is told of them, by `word`, `after` and `come_to`.
+    #[inline(always)]
+    pub fn underway(&self) -> Option<Underway>
+        ensures of { IfSome result (IsPassingOf self.now) }
+        ensures same { IfSome result (λ underway. in_passing self.now underway ≡ self.now) }
+    {
+        match self.stand {
+            Stand::Loading { sled, stage, .. } => match stage {
+                Stage::Head => Some(Underway { sled, stage }),
+                _ => None,
+            },
+            Stand::Gate { .. } | Stand::Ended { .. } => None,
+        }
+    }
+
+    /// The number of the word that a passing of the thread loads next.
+    #[inline(always)]
+    pub fn word(&self, underway: Underway) -> u32
+        requires { IsPassingOf self.now underway }
+        ensures word { (in_passing self.now underway).want ≡ Want.Load result }
+        ensures there { IsLoadable (in_passing self.now underway) (in_passing self.now underway).want }
+    {
+        word_at(
+            self.steps.image(),
+            self.threads,
+            self.thread,
+            underway.sled,
+            underway.stage,
+        )
+    }
+
+    /// Where the load of this value brings a passing of the thread. The answer is `None` exactly when the
+    /// value ends the passing.
+    #[inline(always)]
+    pub fn after(&self, underway: Underway, value: u64) -> Option<Underway>
+        requires underway { IsPassingOf self.now underway }
+        requires allowed { Allows (in_passing self.now underway) (in_passing self.now underway).want value }
+        ensures of { IfSome result (IsPassingOf self.now) }
+        ensures ends { IsSome result ↔ (ending_mark self.now.program (in_passing self.now underway).recording
+            (in_passing self.now underway).want value ≡ []) }
+        ensures loads { IfSome result (λ next. (passed : List Passing) (loads : List Load)
+            → HasLoaded (in_passing self.now underway) passed loads
+            → HasLoaded (in_passing self.now next) passed (loads ++ load_of (in_passing self.now underway).want value)) }
+        // No load of it can hold the thread. Each brings the thread nearer to its end.
+        ensures free { IsKept (in_passing self.now underway) value → ⊥ }
+        ensures nearer { IfSome result (λ next.
+            loads_left (in_passing self.now next) < loads_left (in_passing self.now underway)) }
+    {
+        match after_load(self.steps.image(), underway.sled, underway.stage, value) {
+            Next::Loads(stage) => Some(Underway {
+                sled: underway.sled,
+                stage,
+            }),
+            Next::Ends(_) => None,
+        }
+    }
+
+    /// Lets the thread come to where its passing is.
+    #[inline(always)]
+    pub fn come_to(&mut self, underway: Underway)
+        requires { IsPassingOf self.old underway }
+        ensures { self.new ≡ in_passing self.old underway }
+    {
+        let Stand::Loading { place, sled, .. } = self.stand else {
+            unreachable!()
+        };
+        let stage = underway.stage;
+        self.stand = Stand::Loading { place, sled, stage };
     }
 
     /// The number of the sled of the passing that the thread wants to be let into.

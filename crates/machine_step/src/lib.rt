@@ -26,6 +26,7 @@ mod stand;
 mod state_text;
 mod step;
 mod steps;
+mod underway;
 mod want;
 
 pub use cpu::Cpu;
@@ -43,4 +44,5 @@ pub use setup::Setup;
 pub use state_text::{add_marks, write_state};
 pub use steps::Steps;
 pub use subset_decode::REGISTERS;
+pub use underway::Underway;
 pub use want::Want;

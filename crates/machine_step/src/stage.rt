@@ -56,6 +56,7 @@ pub(crate) fn first_stage(hold: Option<u32>, passing: u32) -> Stage
 }
 
 /// The number of the word that is loaded at a stage of a passing of this sled.
+#[inline(always)]
 pub(crate) fn word_at(image: &Image, threads: u32, thread: u32, sled: u32, stage: Stage) -> u32
     requires exists { sled < length image.now.sleds }
     requires thread { thread ≤ MAX_THREADS }
@@ -76,7 +77,7 @@ pub(crate) fn word_at(image: &Image, threads: u32, thread: u32, sled: u32, stage
 }
 
 /// What the load of a value leads to, in a passing of this sled.
-#[inline]
+#[inline(always)]
 pub(crate) fn after_load(image: &Image, sled: u32, stage: Stage, value: u64) -> Next
     requires { sled < length image.now.sleds }
     ensures { result ≡ after_load (sled_logs_args image.now sled) stage value }

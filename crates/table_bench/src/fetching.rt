@@ -116,10 +116,9 @@ fn fetch_each(table: &CodeTable, seat: &mut WorkSeat) -> u64
     ensures count { (work_view seat.new).count ≡ (work_view seat.old).count }
 {
     let mut found = 0;
-    'words: for word in 0..table.word_count() {
-        if table.is_code_word(word) {
-            found |= table.fetch(seat, word);
-        }
+    // The argument handler's word is the last of all words. The other code words are the first ones.
+    'words: for word in 0..table.code_word_count() - 1 {
+        found |= table.fetch(seat, word);
     }
-    found
+    found | table.fetch(seat, table.word_count() - 1)
 }

@@ -1,8 +1,8 @@
 //! Threads that load all words of a code table again and again, while a patcher makes the micro steps of a script.
 //!
-//! `table_bench IMAGE SCRIPT THREADS ROUNDS` reads an image and a script. A round of a thread loads each word before
-//! the progress words, in order, and counts as a passing. Each thread makes the ROUNDS that the words say. Then the
-//! program prints how many threads there were, and how many micro steps were made. `bench/table` measures it.
+//! `table_bench IMAGE SCRIPT THREADS ROUNDS` reads an image and a script. A round of a thread loads each code word, in
+//! order, and counts as a passing. Each thread makes the ROUNDS that the words say. Then the program prints how many
+//! threads there were, and how many micro steps were made. `bench/table` measures it.
 #![tactic(auto)]
 
 ghost use Rattle.std.specs.Prelude.{◌≡◌, ◌≤◌};

@@ -2,6 +2,7 @@
 pub mod RecordedEvents
 pub mod LoadAndSeat
 pub mod WorkerLoads
+pub mod PassingLoads
 pub mod WorkersCross
 -- A recorder: one more event in its segments (src/recorder.rt)
 pub mod SegmentCuts

@@ -18,7 +18,7 @@ use Rattle.sled_rule.specs.declared.views.Load.{Load as SeatLoad}
 use Rattle.sled_rule.specs.Seats.{work_view}
 use Rattle.thread_run.specs.declared.worker.Worker.{Worker}
 use Rattle.thread_run.specs.Following.{is_held_by}
-use Rattle.thread_run.specs.private.Steps.{CountIsBehind, HasTaken, IsBehind}
+use Rattle.thread_run.specs.private.Steps.{CountIsBehind, HasTaken, HasTakenOne, IsBehind}
 use Rattle.thread_run.specs.Workers.{HasMade, IsGoing, IsSameWorker, WasHeld, cpu_of, loads_of, seat_of}
 use Rattle.thread_run.proofs.LoadAndSeat.{holds}
 
@@ -190,7 +190,7 @@ opened_same old new e = record {
 -- ---- one load
 
 -- a thread that wants the same word again is held
-pub held_again : {R : Type 0} (word : ℕ) (old new : Worker R) → (taken : HasTaken word old new)
+pub held_again : {R : Type 0} (word : ℕ) (old new : Worker R) → (taken : HasTakenOne word old new)
     → IsSameThread (cpu_of old) (cpu_of new) → (cpu_of old).want ≡ Loads word → (cpu_of new).want ≡ Loads word
     → is_held_by (cpu_of old).program (cpu_of old).thread (taken.load ∷ []) ≡ true
 held_again word old new taken same was is = by_held (is_held_by (cpu_of old).program (cpu_of old).thread (taken.load ∷ [])) refl
@@ -201,7 +201,7 @@ held_again word old new taken same was is = by_held (is_held_by (cpu_of old).pro
     by_held false e = absurd (no_nearer (cpu_of old) (cpu_of new) word same was is taken.marks (taken.goes_on e))
 
 -- a thread that wants anything else isn't
-pub moved_on : {R : Type 0} (word : ℕ) (old new : Worker R) → (taken : HasTaken word old new)
+pub moved_on : {R : Type 0} (word : ℕ) (old new : Worker R) → (taken : HasTakenOne word old new)
     → (cpu_of old).want ≡ Loads word → ((cpu_of new).want ≡ Loads word → ⊥)
     → is_held_by (cpu_of old).program (cpu_of old).thread (taken.load ∷ []) ≡ false
 moved_on word old new taken was moved = by_held (is_held_by (cpu_of old).program (cpu_of old).thread (taken.load ∷ [])) refl
@@ -210,6 +210,11 @@ moved_on word old new taken was moved = by_held (is_held_by (cpu_of old).program
         → is_held_by (cpu_of old).program (cpu_of old).thread (taken.load ∷ []) ≡ false
     by_held true e = absurd (moved (ap (λ (t : Traced). t.want) (taken.held e) ∙ was))
     by_held false e = e
+
+-- the loads that were taken, if none held the thread
+pub made_free : {R : Type 0} (word : ℕ) (old mid new : Worker R) → HasTaken word old mid → ((cpu_of mid).want ≡ Loads word → ⊥)
+    → loads_of new ≡ loads_of mid → HasMade old new
+made_free word old mid new taken moved same = record { made = taken.made; loads = same ∙ taken.loads; free = taken.free moved }
 
 -- ---- before the first load
 

@@ -1,16 +1,17 @@
 //! One traced thread of a run.
 
-ghost use Rattle.std.specs.Prelude.{◌≡◌, ◌<◌, ◌↔◌, ◌+◌, ◌-◌, ◌^◌, ℕ, [], List, Some, length, true, false, IfSome, IsSome, IsTrue};
+ghost use Rattle.std.specs.Prelude.{◌≡◌, ◌<◌, ◌≤◌, ◌↔◌, ◌+◌, ◌-◌, ◌^◌, ℕ, [], List, Some, length, true, false, IfSome, IsSome, IsTrue};
 ghost use Rattle.fdr_record.specs.declared.event.Event.{Event};
 ghost use Rattle.fdr_record.specs.Recordable.{IsRecordable};
 ghost use Rattle.sled_rule.specs.Seats.{patch_view, work_view, script_of, IsPatcherOf, IsWorkerOf};
 ghost use Rattle.sled_rule.specs.{Plans.{start_in}, Views.{giving}};
 ghost use Rattle.machine_step.specs.declared.want.Want.{Want};
 ghost use Rattle.machine_step.specs.Traced.{IsDone, IsLoadable, loads_left};
+ghost use Rattle.machine_step.specs.Underway.{IsPassingOf, in_passing};
 
 use crate::laws::{a_thread_stands_as_it_wants, threads_start_within};
 use fdr_record::{Event, Recorder};
-use machine_step::{Cpu, Want, a_traced_thread_ends_as_its_plain_run};
+use machine_step::{Cpu, Underway, Want, a_traced_thread_ends_as_its_plain_run};
 use sled_rule::{CodeTable, PatchSeat, WorkSeat};
 use traced_run::passings_are_few;
 use xray_io::Gate;
@@ -28,6 +29,15 @@ pub enum Turn {
 /// in pairs.
 const APART: usize = 16;
 
+/// Where a passing is whose loads the thread hasn't been given yet.
+#[derive(Clone, Copy)]
+pub(crate) enum Found {
+    /// Before its next load.
+    More(Underway),
+    /// After its last load, which found this value.
+    Last { underway: Underway, value: u64 },
+}
+
 /// A traced thread, with its seat of a code table and a recorder of its events.
 #[derive(Drop)]
 pub struct Worker<'s, 't, R> {
@@ -41,7 +51,7 @@ pub struct Worker<'s, 't, R> {
 
 impl<'s, 't, R: Recorder> Worker<'s, 't, R> {
     ghost use Rattle.thread_run.specs.Workers.{cpu_of, seat_of, table_of, recorder_of, loads_of, HasEnded, HasMade, IsAtWork, IsFreshIn, IsFreshThread, IsGoing, IsSameWorker, WasHeld};
-    ghost use Rattle.thread_run.specs.private.Steps.{CountIsBehind, HasTaken, Lacks};
+    ghost use Rattle.thread_run.specs.private.Steps.{CountIsBehind, HasCome, HasFetched, HasRead, HasTaken, HasTakenOne, IsFound, IsGiven, IsLast, IsNearer, Lacks, come_to, left_in};
 
     /// A worker before its first load.
     pub fn new(cpu: Cpu<'s>, seat: WorkSeat, table: &'t CodeTable, recorder: R) -> Self
@@ -128,8 +138,10 @@ impl<'s, 't, R: Recorder> Worker<'s, 't, R> {
         self.cpu.want()
     }
 
-    /// Loads the word that the thread wants, and gives it the value. Answers the event that comes of
-    /// it, for the recorder. There is one only if the load ends the passing.
+    /// Loads the word that the thread wants, and gives it the value. If the thread wants the head of a
+    /// sled, makes the other loads of its passing too. Answers the event that comes of them, for the
+    /// recorder. There is one only if the last of them ends the passing.
+    #[inline(always)]
     fn take(&mut self, word: u32) -> Option<Event>
         requires going { IsGoing R.stands self.old }
         requires wants { (cpu_of self.old).want ≡ Want.Load word }
@@ -142,7 +154,149 @@ impl<'s, 't, R: Recorder> Worker<'s, 't, R> {
             × R.stands (recorder_of self.new) events × (length events < 2 ^ 32 - 1)) }
         ensures ends { IsSome result → (next : ℕ) → (cpu_of self.new).want ≡ Want.Load next → ⊥ }
     {
+        match self.cpu.underway() {
+            Some(underway) => self.take_all(underway),
+            None => self.take_one(word),
+        }
+    }
+
+    /// Loads the word that the thread wants, and gives it the value.
+    #[inline(never)]
+    fn take_one(&mut self, word: u32) -> Option<Event>
+        requires going { IsGoing R.stands self.old }
+        requires wants { (cpu_of self.old).want ≡ Want.Load word }
+        requires there { IsLoadable (cpu_of self.old) (cpu_of self.old).want }
+        ensures same { IsSameWorker R.follows self.old self.new }
+        ensures taken { HasTakenOne word self.old self.new }
+        ensures lacks { Lacks R.stands result self.new }
+        ensures recordable { IfSome result (λ event. IsRecordable event) }
+        ensures room { IfSome result (λ event. (events : List Event)
+            × R.stands (recorder_of self.new) events × (length events < 2 ^ 32 - 1)) }
+        ensures ends { IsSome result → (next : ℕ) → (cpu_of self.new).want ≡ Want.Load next → ⊥ }
+    {
+        let found = self.table.fetch(&mut self.seat, word);
+        self.give(found)
+    }
+
+    /// Makes all loads of a passing, from the head of its sled on. The thread learns only where the last
+    /// of them brings it, so that the loads are straight code.
+    #[inline(always)]
+    fn take_all(&mut self, underway: Underway) -> Option<Event>
+        requires going { IsGoing R.stands self.old }
+        requires of { IsPassingOf (cpu_of self.old) underway }
+        requires at { in_passing (cpu_of self.old) underway ≡ cpu_of self.old }
+        ensures same { IsSameWorker R.follows self.old self.new }
+        ensures come { HasCome self.old self.new }
+        ensures made { HasMade self.old self.new }
+        ensures nearer { loads_left (cpu_of self.new) < loads_left (cpu_of self.old) }
+        ensures lacks { Lacks R.stands result self.new }
+        ensures recordable { IfSome result (λ event. IsRecordable event) }
+        ensures room { IfSome result (λ event. (events : List Event)
+            × R.stands (recorder_of self.new) events × (length events < 2 ^ 32 - 1)) }
+        ensures ends { IsSome result → (next : ℕ) → (cpu_of self.new).want ≡ Want.Load next → ⊥ }
+    {
+        let head = self.load(Found::More(underway));
+        match head {
+            Found::Last { .. } => self.end(head),
+            Found::More(_) => self.take_patched(head),
+        }
+    }
+
+    /// Makes the loads of a passing after the head of a patched sled: its id, its opcode and its offset,
+    /// and at most three more.
+    #[inline(always)]
+    fn take_patched(&mut self, head: Found) -> Option<Event>
+        requires found { IsFound R.stands head self.old }
+        ensures same { IsSameWorker R.follows self.old self.new }
+        ensures come { HasCome self.old self.new }
+        ensures made { HasMade self.old self.new }
+        ensures nearer { loads_left (cpu_of self.new) ≤ left_in (cpu_of self.old) head }
+        ensures lacks { Lacks R.stands result self.new }
+        ensures recordable { IfSome result (λ event. IsRecordable event) }
+        ensures room { IfSome result (λ event. (events : List Event)
+            × R.stands (recorder_of self.new) events × (length events < 2 ^ 32 - 1)) }
+        ensures ends { IsSome result → (next : ℕ) → (cpu_of self.new).want ≡ Want.Load next → ⊥ }
+    {
+        let id = self.load(head);
+        let opcode = self.load(id);
+        let offset = self.load(opcode);
+        let found = self.load(offset);
+        let found = self.load(found);
+        let last = self.load(found);
+        self.end(last)
+    }
+
+    /// Makes the next load of a passing, if it has one. Answers where the passing is then.
+    #[inline(always)]
+    fn load(&mut self, found: Found) -> Found
+        requires found { IsFound R.stands found self.old }
+        ensures found { IsFound R.stands result self.new }
+        ensures read { HasRead found result self.old self.new }
+        ensures nearer { IsNearer (cpu_of self.old) found result }
+    {
+        match found {
+            Found::Last { .. } => found,
+            Found::More(underway) => self.load_word(underway),
+        }
+    }
+
+    /// Makes the next load of a passing. Answers where the passing is then.
+    #[inline(always)]
+    fn load_word(&mut self, underway: Underway) -> Found
+        requires of { IsPassingOf (cpu_of self.old) underway }
+        requires going { IsGoing R.stands (come_to self.old underway) }
+        ensures found { IsFound R.stands result self.new }
+        ensures read { HasRead (Found.More underway) result self.old self.new }
+        ensures nearer { IsNearer (cpu_of self.old) (Found.More underway) result }
+    {
+        let word = self.cpu.word(underway);
         let value = self.table.fetch(&mut self.seat, word);
+        match self.cpu.after(underway, value) {
+            Some(next) => Found::More(next),
+            None => Found::Last { underway, value },
+        }
+    }
+
+    /// Lets the thread come to where its passing is, and gives it the value of the last load.
+    #[inline(always)]
+    fn end(&mut self, found: Found) -> Option<Event>
+        requires found { IsFound R.stands found self.old }
+        ensures same { IsSameWorker R.follows self.old self.new }
+        ensures come { HasCome self.old self.new }
+        ensures loads { loads_of self.new ≡ loads_of self.old }
+        ensures left { loads_left (cpu_of self.new) ≤ left_in (cpu_of self.old) found }
+        ensures nearer { IsLast found → loads_left (cpu_of self.new) < left_in (cpu_of self.old) found }
+        ensures lacks { Lacks R.stands result self.new }
+        ensures recordable { IfSome result (λ event. IsRecordable event) }
+        ensures room { IfSome result (λ event. (events : List Event)
+            × R.stands (recorder_of self.new) events × (length events < 2 ^ 32 - 1)) }
+        ensures ends { IsSome result → (next : ℕ) → (cpu_of self.new).want ≡ Want.Load next → ⊥ }
+    {
+        match found {
+            Found::More(underway) => {
+                self.cpu.come_to(underway);
+                None
+            }
+            Found::Last { underway, value } => {
+                self.cpu.come_to(underway);
+                self.give(value)
+            }
+        }
+    }
+
+    /// Gives the thread the value of the load that was made. Answers the event of it.
+    #[inline(always)]
+    fn give(&mut self, value: u64) -> Option<Event>
+        requires fetched { HasFetched R.stands value self.old }
+        ensures same { IsSameWorker R.follows self.old self.new }
+        ensures seat { seat_of self.new ≡ seat_of self.old }
+        ensures given { IsGiven (cpu_of self.old) value (cpu_of self.new) }
+        ensures lacks { Lacks R.stands result self.new }
+        ensures recordable { IfSome result (λ event. IsRecordable event) }
+        ensures room { IfSome result (λ event. (events : List Event)
+            × R.stands (recorder_of self.new) events × (length events < 2 ^ 32 - 1)) }
+        ensures ends { IsSome result → (next : ℕ) → (cpu_of self.new).want ≡ Want.Load next → ⊥ }
+    {
         let event = self.cpu.give(value);
         passings_are_few(&self.cpu);
         event

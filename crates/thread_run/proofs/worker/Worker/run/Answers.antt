@@ -1,9 +1,10 @@
-use Rattle.std.proofs.Common.{◌≡◌, ◌<◌, append-nil, ap, subst, refl, sym, ◌∙◌}
+use Rattle.std.proofs.Common.{◌≡◌, ◌<◌, ◌++◌, List, append-nil, ap, subst, refl, sym, ◌∙◌}
 use Rattle.std.proofs.lemmas.Bool.{false≢true}
 use Rattle.machine_step.specs.declared.want.Want.TheVariants.{Load as Loads}
 use Rattle.machine_step.specs.Traced.{Traced, loads_left}
-use Rattle.thread_run.specs.Workers.{cpu_of}
-use Rattle.thread_run.proofs.WorkerLoads.{after_taken, goes_on, held_again, made_held, made_none, made_one, moved_on, worker_again, worker_then}
+use Rattle.sled_rule.specs.declared.views.Load.{Load as SeatLoad}
+use Rattle.thread_run.specs.Workers.{cpu_of, loads_of}
+use Rattle.thread_run.proofs.WorkerLoads.{after_taken, goes_on, made_free, made_held, made_none, worker_again, worker_then}
 use Rattle.thread_run.proofs.worker.Worker.run.Goals as goal
 
 pub loads-init : goal.loads-init
@@ -43,9 +44,8 @@ returns-in-Done-clause-same g c =
 pub loads-smaller-in-Some : goal.loads-smaller-in-Some
 loads-smaller-in-Some g c =
     let old = c.loads.self in
-    let taken = c.in-Some.ensures.taken in
-    let on = moved_on c.in-Load.word old c.take.new.self taken (sym c.loads.invariant.want ∙ c.in-Load.is) (c.in-Some.ensures.ends refl c.in-Load.word) in
-    subst (λ (t : Traced). loads_left t < loads_left (cpu_of old)) (sym c.note-want.ensures.cpu) (taken.goes_on on)
+    subst (λ (t : Traced). loads_left t < loads_left (cpu_of old)) (sym c.note-want.ensures.cpu)
+    (c.in-Some.ensures.taken.nearer (c.in-Some.ensures.ends refl c.in-Load.word))
 
 pub loads-preserved-in-Some : goal.loads-preserved-in-Some
 loads-preserved-in-Some g c =
@@ -54,10 +54,9 @@ loads-preserved-in-Some g c =
     let new = c.note-want.new.self in
     let took = c.in-Some.ensures in
     let said = c.note-want.ensures in
-    let on = moved_on c.in-Load.word old mid took.taken (sym c.loads.invariant.want ∙ c.in-Load.is) (took.ends refl c.in-Load.word) in
     goes_on g.R.Recorder.stands g.R.Recorder.follows g.met.R.Recorder.follows_along c.args.self.now old new _ _ c.loads.invariant
     (worker_then g.R.Recorder.follows g.met.R.Recorder.follows_along old mid new took.same said.same)
-    (made_one old new took.taken.load (said.loads ∙ took.taken.loads) on) said.going said.want said.there
+    (made_free c.in-Load.word old mid new took.taken (took.ends refl c.in-Load.word) said.loads) said.going said.want said.there
 
 pub returns-then-is_load-clause-same : goal.returns-then-is_load-clause-same
 returns-then-is_load-clause-same g c =
@@ -75,26 +74,28 @@ returns-then-is_load-clause-held g c = λ is.
     let taken = c.in-None.ensures.taken in
     let again : mid.cpu.want ≡ Loads c.in-Load.word =
     ap (λ (t : Traced). t.want) (sym c.go_on-want.ensures.cpu) ∙ sym c.go_on-want.ensures.want ∙ c.is_load.ensures.0 c.if-is_load.true in
-    let held = held_again c.in-Load.word old mid taken c.in-None.ensures.same.thread (sym kept.want ∙ c.in-Load.is) again in (
+    let one = taken.again again in (
       c.go_on-want.ensures.going,
-      made_held c.args.self.now old new taken.load kept.same.thread kept.made (c.go_on-want.ensures.loads ∙ taken.loads) held,
+      made_held c.args.self.now old new one.load kept.same.thread kept.made
+          (c.go_on-want.ensures.loads ∙ taken.loads ∙ ap (λ (made : List SeatLoad). loads_of old ++ made) one.only) one.held,
     )
 
 pub loads-smaller : goal.loads-smaller
 loads-smaller g c =
     let old = c.loads.self in
-    let taken = c.in-None.ensures.taken in
-    let on = moved_on c.in-Load.word old c.take.new.self taken (sym c.loads.invariant.want ∙ c.in-Load.is)
-    (λ again. false≢true (sym c.if-is_load.false ∙ c.is_load.ensures.1 (c.go_on-want.ensures.want ∙ ap (λ (t : Traced). t.want) c.go_on-want.ensures.cpu ∙ again))) in
-    subst (λ (t : Traced). loads_left t < loads_left (cpu_of old)) (sym c.go_on-want.ensures.cpu) (taken.goes_on on)
+    subst (λ (t : Traced). loads_left t < loads_left (cpu_of old)) (sym c.go_on-want.ensures.cpu)
+    (c.in-None.ensures.taken.nearer
+    (λ again. false≢true (sym c.if-is_load.false ∙ c.is_load.ensures.1 (c.go_on-want.ensures.want ∙ ap (λ (t : Traced). t.want) c.go_on-want.ensures.cpu ∙ again))))
 
 pub loads-preserved : goal.loads-preserved
 loads-preserved g c =
     let old = c.loads.self in
+    let mid = c.take.new.self in
+    let new = c.go_on-want.new.self in
     let took = c.in-None.ensures in
     let said = c.go_on-want.ensures in
-    let on = moved_on c.in-Load.word old c.take.new.self took.taken (sym c.loads.invariant.want ∙ c.in-Load.is)
-    (λ again. false≢true (sym c.if-is_load.false ∙ c.is_load.ensures.1 (said.want ∙ ap (λ (t : Traced). t.want) said.cpu ∙ again))) in
-    goes_on g.R.Recorder.stands g.R.Recorder.follows g.met.R.Recorder.follows_along c.args.self.now old c.go_on-want.new.self _ _ c.loads.invariant
-    (worker_then g.R.Recorder.follows g.met.R.Recorder.follows_along old c.take.new.self c.go_on-want.new.self took.same said.same)
-    (made_one old c.go_on-want.new.self took.taken.load (said.loads ∙ took.taken.loads) on) said.going said.want said.there
+    goes_on g.R.Recorder.stands g.R.Recorder.follows g.met.R.Recorder.follows_along c.args.self.now old new _ _ c.loads.invariant
+    (worker_then g.R.Recorder.follows g.met.R.Recorder.follows_along old mid new took.same said.same)
+    (made_free c.in-Load.word old mid new took.taken
+    (λ again. false≢true (sym c.if-is_load.false ∙ c.is_load.ensures.1 (said.want ∙ ap (λ (t : Traced). t.want) said.cpu ∙ again)))
+    said.loads) said.going said.want said.there
