@@ -1,6 +1,7 @@
 //! Threads that fetch the words of a table.
 
-ghost use Rattle.std.specs.{Prelude.{◌≡◌, ◌+◌, ◌<◌, ◌≤◌, All, IfOk}, Thread.{IsSync}};
+ghost use Rattle.std.specs.{Prelude.{◌≡◌, ◌+◌, ◌^◌, ◌<◌, ◌≤◌, All, IfOk}, Thread.{IsSync}};
+ghost use Rattle.sled_words.specs.Words.{code_word_count};
 ghost use Rattle.sled_rule.specs.Plans.{start_in};
 ghost use Rattle.sled_rule.specs.Seats.{patch_view, script_of, work_view, IsPatcherOf, IsWorkerOf};
 ghost use Rattle.table_bench.specs.private.Fetchers.{IsFresh};
@@ -115,10 +116,29 @@ fn fetch_each(table: &CodeTable, seat: &mut WorkSeat) -> u64
     ensures own { IsWorkerOf table.now seat.new }
     ensures count { (work_view seat.new).count ≡ (work_view seat.old).count }
 {
-    let mut found = 0;
     // The argument handler's word is the last of all words. The other code words are the first ones.
-    'words: for word in 0..table.code_word_count() - 1 {
+    let others = table.code_word_count() - 1;
+    let mut found = 0;
+    'fours: for four in 0..others / 4 {
+        found |= fetch_four(table, seat, 4 * four);
+    }
+    'words: for word in others / 4 * 4..others {
         found |= table.fetch(seat, word);
     }
     found | table.fetch(seat, table.word_count() - 1)
+}
+
+/// Fetches four code words, from this one on, and answers the bits of their values.
+#[inline(always)]
+fn fetch_four(table: &CodeTable, seat: &mut WorkSeat, first: u32) -> u64
+    requires own { IsWorkerOf table.now seat.old }
+    requires few { first + 4 < 2 ^ 32 }
+    requires there { first + 4 < code_word_count (script_of table.now).program (script_of table.now).threads }
+    ensures own { IsWorkerOf table.now seat.new }
+    ensures count { (work_view seat.new).count ≡ (work_view seat.old).count }
+{
+    table.fetch(seat, first)
+        | table.fetch(seat, first + 1)
+        | table.fetch(seat, first + 2)
+        | table.fetch(seat, first + 3)
 }
