@@ -15,11 +15,11 @@ use Rattle.step_sim.specs.declared.pool.Pool.{Pool}
 use Rattle.step_sim.specs.declared.thread.Found.{Found}
 use Rattle.step_sim.specs.Plays.{turns}
 use Rattle.step_sim.specs.Pool.{Pooled}
-use Rattle.step_sim.specs.Replay.{Cast, Moment, of_thread, thread_count, thread_turn}
+use Rattle.step_sim.specs.Replay.{Cast, Moment, thread_count, thread_turn}
 use Rattle.step_sim.specs.private.Recording.{LeadsBy, come_to, underway_of, NotesAny, RecordAt, Recording, Records, turn_in}
 use Rattle.step_sim.specs.private.Standing.{StandAt}
 use Rattle.step_sim.proofs.OneRecorded.{load_recorded, record_none, records_on}
-use Rattle.step_sim.proofs.OneThread.{KeepsLoads, leads_none, load_made, same_again, same_then, stand_moved, thread_moved}
+use Rattle.step_sim.proofs.OneThread.{KeepsLoads, leads_none, load_made, same_again, stand_moved, thread_moved}
 use Rattle.step_sim.proofs.Plays.{turns_add}
 
 -- a thread that is let into its passing is where it was

@@ -5,7 +5,7 @@ use Rattle.machine_step.specs.Underway.{in_passing}
 use Rattle.step_sim.specs.Replay.{thread_count}
 use Rattle.step_sim.proofs.OneRecorded.{plays}
 use Rattle.step_sim.proofs.OneThread.{same_again, value_allowed, word_there}
-use Rattle.step_sim.proofs.PassingTurns.{leads_load, leads_nowhere, less_is, on_same, records_by}
+use Rattle.step_sim.proofs.PassingTurns.{leads_load, leads_nowhere, on_same, records_by}
 use Rattle.step_sim.proofs.thread.load_word.Goals as goal
 
 pub load-value-requires : goal.load-value-requires

@@ -1,4 +1,3 @@
-use Rattle.std.proofs.Common.{ℕ}
 use Rattle.machine_step.specs.Traced.{IsSameThread, loads_left}
 use Rattle.step_sim.specs.private.Recording.{LeadsBy}
 use Rattle.step_sim.proofs.thread.run_out.Given as goal
