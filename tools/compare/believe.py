@@ -35,8 +35,8 @@ file comes before the files whose definitions it uses. So you can read from the 
 [MODEL.md](MODEL.md) says the same in words.
 
 `tools/compare/believe.py` makes this page from the sources, and the gate compares them. Lines are those of the
-definitions, with the comments above them. A definition in **bold** is one that the headline reaches: what `sim` and
-`run` promise about threads, marks and traces (`SimIsTraced` and `RunIsTraced`).
+definitions. Comments aren't counted. A definition in **bold** is one that the headline reaches: what `sim` and `run`
+promise about threads, marks and traces (`SimIsTraced` and `RunIsTraced`).
 """
 
 
@@ -185,7 +185,7 @@ class Book:
         return seen, declared
 
     def lines(self, key):
-        return len(self.files[key[:2]].items[key[2]])
+        return sum(not line.lstrip().startswith("--") for line in self.files[key[:2]].items[key[2]])
 
 
 def reading_order(seen):

@@ -11,7 +11,7 @@ use Rattle.machine_step.specs.Follows.{Follows, MarksFollow, none as no_loads, l
 use Rattle.machine_step.specs.Loads.{Load, Reading}
 use Rattle.audit_check.specs.private.Ways.{AreOwn, IsOwn, Tree, Leaf, Node, Held, Passes, Reaches, marked, marks_in, next_in, read, trees_of, wanted}
 use Rattle.audit_check.proofs.TreeLoads.{as_many, marks_are, next_is}
-use Rattle.audit_check.proofs.Walking.{passes_earlier}
+use Rattle.audit_check.proofs.WayParts.{passes_earlier}
 
 All-left : {X : Type 0} (P : X → Type 0) (xs ys : List X) → All P (xs ++ ys) → All P xs
 All-left P [] ys all = All-nil P

@@ -16,8 +16,8 @@ use Rattle.audit_check.specs.private.Judging.{HasJudged}
 use Rattle.audit_check.specs.private.Turns.{IsLeast}
 use Rattle.audit_check.specs.private.Walks.{first_marks}
 use Rattle.audit_check.specs.Rows.{EndsAgree, MarksAgree}
-use Rattle.audit_check.proofs.Judged.{Follow}
-use Rattle.audit_check.proofs.Walked.{first_all, take_all}
+use Rattle.audit_check.proofs.JudgedMarks.{Follow}
+use Rattle.audit_check.proofs.WalkedThread.{first_all, take_all}
 
 -- ---- marks
 

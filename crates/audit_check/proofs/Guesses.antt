@@ -11,7 +11,7 @@ use Rattle.patch_script.specs.declared.command.Command.{Command}
 use Rattle.machine_step.specs.Loads.{is_held_at, logs_args, sled_logs_args}
 use Rattle.audit_check.specs.declared.follower.Follower.{Follower}
 use Rattle.audit_check.specs.private.Judging.{IsReady, Judges, SameButGuesses}
-use Rattle.audit_check.proofs.Judged.{Same, same_judges, same_ready}
+use Rattle.audit_check.proofs.JudgedMarks.{Same, same_judges, same_ready}
 
 -- ---- guesses
 

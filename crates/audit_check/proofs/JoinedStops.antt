@@ -1,6 +1,6 @@
 -- Stops to which loads are added.
-use Rattle.std.proofs.Common.{◌≡◌, ◌≢◌, ℕ, zero, suc, ◌+◌, ◌<◌, List, [], ◌∷◌, ◌++◌, append-nil, append_assoc, refl, sym, ap, ◌∙◌, arith, length, length-append}
-use Rattle.std.specs.Prelude.{replicate}
+use Rattle.std.proofs.Common.{◌≡◌, ◌≢◌, ℕ, zero, suc, ◌+◌, ◌<◌, List, [], ◌∷◌, ◌++◌, append-nil, append_assoc, refl, sym, ap, ◌∙◌, arith, length, length-append, Some, subst}
+use Rattle.std.specs.Prelude.{replicate, slice_get, slice_set}
 use Rattle.std.proofs.lemmas.Grind.{flat_map-append}
 use Rattle.audit_check.specs.declared.stop.Stop.{Stop}
 use Rattle.audit_check.specs.Stops.{AreJoined, places_of}
@@ -73,3 +73,30 @@ last_loads stops last more bound low =
     length_same : (n place : ℕ) → length (replicate n place) ≡ n
     length_same zero place = refl
     length_same (suc n) place = let rest = length_same n place in omega (arith, rest)
+
+-- ---- the last stop
+
+-- the stops before the last one, which others may follow in its place
+pub front_of : (stops : List Stop) (last : Stop) (i : ℕ) → i + 1 ≡ length stops → slice_get stops i ≡ Some last
+    → (front : List Stop) × (stops ≡ front ++ last ∷ []) × ((other : Stop) → slice_set stops i other ≡ front ++ other ∷ [])
+front_of [] last i count there = absurd (omega (arith, count))
+front_of (stop ∷ []) last zero count there =
+    let same : stop ≡ last = cc in
+    ([], ap (λ (s : Stop). s ∷ []) same, λ other. refl)
+front_of (stop ∷ []) last (suc i) count there = absurd (omega (arith, count))
+front_of (stop ∷ next ∷ stops) last zero count there = absurd (omega (arith, count))
+front_of (stop ∷ next ∷ stops) last (suc i) count there =
+    let rest = front_of (next ∷ stops) last i (omega (arith, count)) there in
+    (stop ∷ rest.0, ap (λ (ss : List Stop). stop ∷ ss) rest.1, λ other. ap (λ (ss : List Stop). stop ∷ ss) (rest.2 other))
+
+-- a stop at another place comes after it
+pub joined_after : (old front : List Stop) (last stop : Stop) → old ≡ front ++ last ∷ [] → AreJoined old → 0 < stop.loads → last.place ≢ stop.place
+    → AreJoined (old ++ stop ∷ [])
+joined_after old front last stop is are some apart =
+    subst AreJoined (sym (append_assoc front (last ∷ []) (stop ∷ [])) ∙ ap (λ (ss : List Stop). ss ++ stop ∷ []) (sym is))
+    (joined_more front last stop (subst AreJoined is are) some apart)
+
+-- a first stop
+pub joined_first : (old : List Stop) (stop : Stop) → length old ≡ 0 → 0 < stop.loads → AreJoined (old ++ stop ∷ [])
+joined_first [] stop none some = some
+joined_first (first ∷ old) stop none some = absurd (omega (arith, none))

@@ -32,7 +32,7 @@ use Rattle.audit_check.specs.declared.verdict.Verdict.TheVariants.{Yes}
 use Rattle.audit_check.specs.Rows.{CountsAgree, EndsAgree, MarksAgree, RecycledAgrees}
 use Rattle.audit_check.specs.Statements.{HasCounts, MayState, run_statement}
 use Rattle.audit_check.specs.Verdicts.{AllAgree, AtThread, IsJudged}
-use Rattle.audit_check.proofs.Starting.{each}
+use Rattle.audit_check.proofs.SwitchesAtStart.{each}
 
 -- ---- what is said of each thread
 

@@ -9,9 +9,9 @@ use Rattle.machine_step.specs.Loads.{is_held_at}
 use Rattle.audit_check.specs.private.Turns.{IsLeast}
 use Rattle.audit_check.specs.private.Ways.{Tree, Passes, Reaches, passing_tree, trees_of}
 use Rattle.audit_check.proofs.FollowWays.{marks_pass}
-use Rattle.audit_check.proofs.Owning.{trees_own}
+use Rattle.audit_check.proofs.OwnRelease.{trees_own}
 use Rattle.audit_check.proofs.TreeLoads.{as_many, trees-append}
-use Rattle.audit_check.proofs.Walking.{as_long, passes_last, passes_more, reaches_earlier}
+use Rattle.audit_check.proofs.WayParts.{as_long, passes_last, passes_more, reaches_earlier}
 use Rattle.audit_check.proofs.WaysFollow.{passed_marks}
 
 module _ (program : Program) (threads : ℕ) (code : ℕ → ℕ → ℕ) (start : ℕ) (bound : ℕ → ℕ) (thread : ℕ) (hold : Option ℕ)

@@ -12,7 +12,7 @@ use Rattle.machine_step.specs.Follows.{MarksFollow}
 use Rattle.machine_step.specs.Loads.{is_held_at, sled_logs_args}
 use Rattle.audit_check.specs.private.Ways.{Leaf, Passes, Reaches, Tree, arg_handler_tree, handler_tree, head_tree, id_tree, passing_tree, state_tree, trees_of}
 use Rattle.audit_check.proofs.FollowWays.{marks_pass}
-use Rattle.audit_check.proofs.Owning.{trees_own}
+use Rattle.audit_check.proofs.OwnRelease.{trees_own}
 use Rattle.audit_check.specs.Places.{Search, either_handler, first_among, found_by, handler_searches, has_arg_handler, has_handler, head_searches, is_patched, is_set, log_records, passing_searches, patched_search, places_from}
 
 -- ---- the first place is the least

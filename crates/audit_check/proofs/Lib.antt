@@ -6,9 +6,9 @@ pub mod ReadRows
 pub mod RowTexts
 pub mod RowLines
 pub mod RunTexts
-pub mod Running
+pub mod MarkRuns
 pub mod TakingRuns
-pub mod Readings
+pub mod ReadAudits
 pub mod Refusals
 -- Bytes read as only one statement, or are refused at one line (src/laws.rt)
 pub mod Known
@@ -16,17 +16,17 @@ pub mod OneReading
 pub mod SomeReading
 -- The switches: when each word of the code is on or off (src/turns.rt, src/switches.rt)
 pub mod TurnLemmas
-pub mod Starting
-pub mod Storing
-pub mod Noting
-pub mod Switching
-pub mod Coursing
+pub mod SwitchesAtStart
+pub mod SwitchesAfterStore
+pub mod NotedStores
+pub mod ScriptSwitches
+pub mod ScriptCourse
 -- Ways: marks follow a script exactly when there is a way through its places
-pub mod Walking
+pub mod WayParts
 pub mod TreeLoads
 pub mod FollowWays
 pub mod WaysFollow
-pub mod Owning
+pub mod OwnRelease
 -- The follower: the searches of each passing, and the least places that they find (src/searches.rt, src/follower.rt)
 pub mod Searching
 pub mod SledSearches
@@ -38,26 +38,26 @@ pub mod FirstPlaces
 pub mod Leasts
 pub mod LeastEnds
 pub mod LeastMarks
-pub mod Reached
-pub mod Bounding
-pub mod Waiting
-pub mod Stepping
-pub mod Judged
+pub mod WayToMark
+pub mod PassingBounds
+pub mod PassedWaits
+pub mod FollowerSteps
+pub mod JudgedMarks
 -- The places of the loads of all threads (src/stop.rt, src/placing.rt)
 pub mod JoinedStops
 pub mod PlacedLoads
 -- The segments of a thread, and the trace that they are compared with (src/blocks.rt)
-pub mod Segmenting
-pub mod Recordings
-pub mod Comparing
+pub mod ThreadSegments
+pub mod RecordedSegments
+pub mod ComparedTrace
 -- The judge: a thread is walked through its plain run, and the first fault is found (src/judging.rt)
-pub mod Walked
+pub mod WalkedThread
 pub mod Onward
 pub mod Found
-pub mod Finding
-pub mod Agreeing
+pub mod ThreadFaults
+pub mod SameRows
 pub mod Firsts
-pub mod Deciding
+pub mod AllThreads
 -- The verdict: there is one, only one, and a lawful run is accepted (src/laws.rt)
 pub mod SomeRuns
 pub mod OneVerdict

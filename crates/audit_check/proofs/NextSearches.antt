@@ -19,11 +19,11 @@ use Rattle.audit_check.specs.private.Judging.{ArePassed, FindsBound, FindsPlace,
 use Rattle.audit_check.specs.private.Searches.{FindsAll, FindsNext, HasPlaced, search_of}
 use Rattle.audit_check.specs.private.Switches.{IsCourseOf, is_set as is_on}
 use Rattle.audit_check.proofs.AllSearches.{none_before, with_before}
-use Rattle.audit_check.proofs.Bounding.{bound_within}
+use Rattle.audit_check.proofs.PassingBounds.{bound_within}
 use Rattle.audit_check.proofs.FirstPlaces.{on_is_first}
 use Rattle.audit_check.proofs.Guesses.{judges_again, logs_as}
-use Rattle.audit_check.proofs.Judged.{same_judges}
-use Rattle.audit_check.proofs.Stepping.{stepped, waited}
+use Rattle.audit_check.proofs.JudgedMarks.{same_judges}
+use Rattle.audit_check.proofs.FollowerSteps.{stepped, waited}
 
 -- ---- the release, and then what is sought
 

@@ -21,7 +21,7 @@ use Rattle.audit_check.specs.private.Judging.{HasJudged}
 use Rattle.audit_check.specs.private.Walks.{HasWalked, IsWayOf, Way, first_marks, mark_or_skipped}
 use Rattle.audit_check.specs.Statements.{most_marks}
 use Rattle.audit_check.proofs.OneVerdict.{OneEnd}
-use Rattle.audit_check.proofs.Walked.{first_more, walked_none, walked_some}
+use Rattle.audit_check.proofs.WalkedThread.{first_more, walked_none, walked_some}
 
 -- ---- the same thread
 

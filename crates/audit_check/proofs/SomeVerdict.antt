@@ -28,16 +28,16 @@ use Rattle.audit_check.specs.private.Ways.{Tree, Leaf, Node, Held, Passes, Reach
 use Rattle.audit_check.specs.Rows.{AreRunsOf, CountsAgree, EndsAgree, MarksAgree, RecycledAgrees}
 use Rattle.audit_check.specs.Statements.{NamesThreads, Statement}
 use Rattle.audit_check.specs.Verdicts.{AtThread, IsJudged}
-use Rattle.audit_check.proofs.Agreeing.{of_row, row_of}
+use Rattle.audit_check.proofs.SameRows.{of_row, row_of}
 use Rattle.audit_check.proofs.Firsts.{first_next, none_yet, verdict_is}
 use Rattle.audit_check.proofs.FollowWays.{marks_pass}
 use Rattle.audit_check.proofs.Known.{Known, known_as, known_below, known_both, known_bytes, known_equal, known_test}
 use Rattle.audit_check.proofs.LeastEnds.{least_either, least_same}
-use Rattle.audit_check.proofs.Owning.{trees_own}
+use Rattle.audit_check.proofs.OwnRelease.{trees_own}
 use Rattle.audit_check.proofs.Refusals.{some_item}
 use Rattle.audit_check.proofs.RunTexts.{same_mark}
 use Rattle.audit_check.proofs.SomeRuns.{some_runs}
-use Rattle.audit_check.proofs.Walking.{passes_earlier}
+use Rattle.audit_check.proofs.WayParts.{passes_earlier}
 use Rattle.audit_check.proofs.WaysFollow.{passed_marks}
 
 -- ---- ends and marks that are the same

@@ -12,7 +12,7 @@ use Rattle.machine_step.specs.Follows.{Follows, MarksFollow, none as no_loads, l
 use Rattle.machine_step.specs.Loads.{Load, Reading, Wants, marks_of, next_load}
 use Rattle.audit_check.specs.private.Ways.{AreOwn, IsOwn, Tree, Leaf, Node, Held, Passes, Reaches, marked, marks_in, next_in, read, trees_of, wanted}
 use Rattle.audit_check.proofs.TreeLoads.{as_many, marks_are, next_is}
-use Rattle.audit_check.proofs.Walking.{as_long}
+use Rattle.audit_check.proofs.WayParts.{as_long}
 
 reject : (b : Bool) (x y : Reading) → b ≡ false → (if b then x else y) ≡ y
 reject true x y e = absurd cc

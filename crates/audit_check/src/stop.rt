@@ -1,6 +1,6 @@
 //! The loads of a thread at a place.
 
-ghost use Rattle.std.specs.Prelude.{◌≡◌, ◌<◌, ◌+◌, ◌^◌, ◌++◌, ◌∷◌, [], OnOk, length, replicate};
+ghost use Rattle.std.specs.Prelude.{◌≡◌, ◌≢◌, ◌<◌, ◌+◌, ◌^◌, ◌++◌, OnOk, false, length, replicate, true};
 ghost use Rattle.audit_check.specs.Stops.{AreJoined, places_of};
 
 use xray_io::NoMemory;
@@ -25,29 +25,24 @@ pub fn add_stop(stops: &mut Vec<Stop>, stop: Stop) -> Result<(), NoMemory>
     if stop.loads == 0 {
         return Ok(());
     }
-    match stops.pop() {
-        Some(last) => add_after(stops, last, stop),
-        None => {
-            stops.push(stop)?;
-            Ok(())
-        }
-    }
-}
-
-/// Adds a stop and loads that come after it.
-fn add_after(stops: &mut Vec<Stop>, last: Stop, stop: Stop) -> Result<(), NoMemory>
-    ensures places { OnOk result (places_of stops.new.items ≡ places_of (stops.old.items ++ last ∷ stop ∷ [])) }
-    ensures joined { OnOk result (last.loads + stop.loads < 2 ^ 32 → 0 < stop.loads
-        → AreJoined (stops.old.items ++ last ∷ []) → AreJoined stops.new.items) }
-{
-    if last.place == stop.place && last.loads <= u32::MAX - stop.loads {
-        stops.push(Stop {
+    let count = stops.len();
+    if count > 0 && joins(stops[count - 1], stop) {
+        let last = stops[count - 1];
+        stops[count - 1] = Stop {
             place: last.place,
             loads: last.loads + stop.loads,
-        })?;
+        };
         return Ok(());
     }
-    stops.push(last)?;
     stops.push(stop)?;
     Ok(())
+}
+
+/// Whether loads belong to the last stop: they are at its place, and their number fits it.
+fn joins(last: Stop, stop: Stop) -> bool
+    ensures fits { result ≡ true → last.loads + stop.loads < 2 ^ 32 }
+    ensures same { result ≡ true → last.place ≡ stop.place }
+    ensures apart { result ≡ false → last.loads + stop.loads < 2 ^ 32 → last.place ≢ stop.place }
+{
+    last.place == stop.place && last.loads <= u32::MAX - stop.loads
 }

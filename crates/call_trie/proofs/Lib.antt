@@ -4,11 +4,11 @@ pub mod TableLemmas
 -- The frames of open calls (src/frames.rt)
 pub mod FrameLemmas
 -- The recorder: its fields after one more event, and that they are what stacks say (src/recorder.rt)
-pub mod Recording
-pub mod Standing
+pub mod RecorderFields
+pub mod RecorderEvents
 pub mod Bounds
 -- The tallies of tries, added up (src/nodes.rt, src/merging.rt)
 pub mod Among
-pub mod Grouping
-pub mod Adding
-pub mod Joining
+pub mod GroupedPairs
+pub mod AddedTallies
+pub mod JoinedRecorders

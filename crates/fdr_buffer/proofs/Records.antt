@@ -13,8 +13,12 @@ pub more_records : (front mid all : List ℕ) (r : Rec) (records : List Rec) →
 more_records front mid all r records first rest =
     rest ∙ ap (λ (x : List ℕ). x ++ bytes_of records) first ∙ append_assoc front (record_bytes r) (bytes_of records)
 
--- the last of some events, with one more
-last_after-push : (before : Option Event) (events : List Event) (event : Event) → last_after before (events ++ event ∷ []) ≡ Some event
+-- the last of some events, with more
+pub last_after-append : (before : Option Event) (events more : List Event) → last_after before (events ++ more) ≡ last_after (last_after before events) more
+last_after-append before [] more = refl
+last_after-append before (next ∷ events) more = last_after-append (Some next) events more
+
+pub last_after-push : (before : Option Event) (events : List Event) (event : Event) → last_after before (events ++ event ∷ []) ≡ Some event
 last_after-push before [] event = refl
 last_after-push before (next ∷ events) event = last_after-push (Some next) events event
 

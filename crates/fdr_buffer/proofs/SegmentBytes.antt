@@ -9,7 +9,7 @@ use Rattle.byteorder.specs.Numbers.{little_number-reads_back}
 use Rattle.fdr_record.specs.declared.event.Kind.{Kind}
 use Rattle.fdr_record.specs.declared.event.Kind.TheVariants.{Entry, Exit, TailExit, EntryArgs}
 use Rattle.fdr_record.specs.declared.event.Event.{Event}
-use Rattle.fdr_record.specs.declared.rec.Rec.TheVariants.{NewCpu, TscWrap, CallArg, Function}
+use Rattle.fdr_record.specs.declared.rec.Rec.TheVariants.{NewCpu, TscWrap, Function}
 use Rattle.fdr_record.specs.Records.{action_of, head_of, record_bytes}
 use Rattle.fdr_record.specs.Recordable.{ArgFits}
 use Rattle.fdr_buffer.specs.Segments.{arg_records, function_records, is_out_of_reach, records_on_new_cpu, records_on_same_cpu, records_of, records_after, bytes_of, segment_bytes, EventFits}

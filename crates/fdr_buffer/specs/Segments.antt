@@ -1,5 +1,5 @@
 -- The records of events, and the cut of events into segments.
-use Rattle.std.specs.Prelude.{◌<◌, ◌^◌, ◌+◌, ◌-◌, ◌||◌, ℕ, Bool, List, [], ◌∷◌, ◌++◌, Option, Some, None, length, nat_lt, nat_le, ◌==◌, if◌then◌else◌}
+use Rattle.std.specs.Prelude.{◌≡◌, ◌<◌, ◌^◌, ◌+◌, ◌-◌, ◌||◌, ℕ, Bool, List, [], ◌∷◌, ◌++◌, Option, Some, None, length, nat_lt, nat_le, ◌==◌, All, if◌then◌else◌}
 use Rattle.std.specs.List.{flat_map}
 use Rattle.xray_io.specs.declared.wall.Wall.{Wall}
 use Rattle.fdr_record.specs.declared.event.Event.{Event}
@@ -92,3 +92,11 @@ pub record EventFits (event : Event) : Type 0 where
   pub tsc : event.tsc < 2 ^ 64
   pub arg : event.arg < 2 ^ 64
   pub logged : ArgFits event.kind event.arg
+
+-- A segment goes on with more events, by the bytes of their records. There are this many, and this is the last of them.
+pub record GoesOn (events : List Event) (records : List ℕ) (count : ℕ) (last : Event) (more : List Event) : Type 0 where
+  pub bytes : segment_bytes (events ++ more) ≡ segment_bytes events ++ records
+  pub count_is : length more ≡ count
+  pub earlier : List Event
+  pub parts : more ≡ earlier ++ last ∷ []
+  pub fit : All EventFits more

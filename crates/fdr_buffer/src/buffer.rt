@@ -1,13 +1,14 @@
 //! A buffer with one segment of a thread's events.
 
-ghost use Rattle.std.specs.Prelude.{◌≡◌, ◌<◌, ◌≤◌, ◌^◌, [], ◌∷◌, ◌++◌, true, length, IsTrue, IfOk};
-ghost use Rattle.fdr_buffer.specs.{Segments.{has_room}, Filled.{Filled, empty_buffer, used_bytes}};
+ghost use Rattle.std.specs.Prelude.{◌≡◌, ◌<◌, ◌≤◌, ◌+◌, ◌^◌, [], ◌∷◌, ◌++◌, List, true, length, IsTrue, IfOk};
+ghost use Rattle.fdr_buffer.specs.{Segments.{GoesOn, has_room, preamble_length, segment_bytes}, Filled.{Filled, empty_buffer, used_bytes}};
 ghost use Rattle.fdr_buffer.specs.private.Buffer.{filled_in, IsFilled};
 ghost use Rattle.fdr_buffer.specs.Fits.{BufferFits};
+ghost use Rattle.fdr_record.specs.declared.event.Event.{Event as TheEvent};
 ghost use Rattle.fdr_record.specs.Recordable.{IsRecordable};
 
 use crate::lead::Lead;
-use crate::writing::{put_event, put_preamble};
+use crate::writing::{put_bytes, put_event, put_preamble};
 use fdr_record::Event;
 use std::alloc::Global;
 use std::marker::Model;
@@ -122,6 +123,32 @@ impl Buffer {
         self.used = put_event(&mut self.bytes, self.used, lead, event);
         self.count += 1;
         self.last = Some(*event);
+    }
+
+    /// How many bytes of records there is room for after those in the buffer. The buffer has to be
+    /// begun.
+    pub fn room(&self) -> usize
+        requires { IsTrue self.now.begun }
+        ensures { preamble_length + length (segment_bytes self.now.events) + result ≡ self.now.size }
+    {
+        self.bytes.len() - self.used
+    }
+
+    /// Adds several events after the others, by their records: `records` has the bytes that `put`
+    /// writes for these events, one after the other. `count` is how many events they are, and `last`
+    /// the last of them. The buffer has to be begun, and the records have to fit; `room` says how many
+    /// bytes do.
+    pub fn put_records(&mut self, records: &[u8], count: u32, last: &Event)
+        requires begun { IsTrue self.old.begun }
+        requires room { preamble_length + length (segment_bytes self.old.events) + length records.now
+            ≤ self.old.size }
+        requires says { (more : List TheEvent) × GoesOn self.old.events records.now count last.now more }
+        ensures { (more : List TheEvent) → GoesOn self.old.events records.now count last.now more
+            → self.new ≡ record self.old { events = self.old.events ++ more } }
+    {
+        self.used = put_bytes(&mut self.bytes, self.used, records);
+        self.count += count;
+        self.last = Some(*last);
     }
 
     /// The bytes of the segment, including its preamble. There are none if the buffer isn't begun.

@@ -32,6 +32,17 @@ fn append(bytes: &mut [u8], at: usize, rec: &Rec) -> usize
     put_rec(rec, bytes, at)
 }
 
+/// Writes bytes at the place `at`, where the records so far end. Returns the place after them.
+pub(crate) fn put_bytes(bytes: &mut [u8], at: usize, records: &[u8]) -> usize
+    requires room { at + length records.now ≤ length bytes.old }
+    ensures bytes { take result bytes.new ≡ take at bytes.old ++ records.now }
+    ensures next { result ≡ at + length records.now }
+{
+    let end = at + records.len();
+    bytes[at..end].copy_from_slice(records);
+    end
+}
+
 /// The function record of an event.
 fn function(event: &Event, delta: u32) -> Rec
     ensures { result ≡ function_record event.now delta }

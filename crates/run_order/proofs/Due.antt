@@ -1,15 +1,12 @@
 -- Places at which no thread has loads.
-use Rattle.std.proofs.Common.{◌≡◌, ℕ, zero, suc, ◌+◌, ◌<◌, ◌≤◌, List, [], ◌∷◌, ◌++◌, append-nil, Some, None, refl, sym, ap, subst, ◌∙◌, arith, length}
+use Rattle.std.proofs.Common.{◌≡◌, ℕ, suc, ◌+◌, ◌<◌, ◌≤◌, List, [], ◌∷◌, ◌++◌, Some, None, refl, ap, ◌∙◌, arith}
 use Rattle.std.specs.Prelude.{slice_get}
 use Rattle.std.specs.Borrow.{Bor}
 use Rattle.std.specs.List.{enumerate_from, flat_map}
 use Rattle.std.proofs.lemmas.List.Elements.{All-append, All-cons, All-head, All-nil, All-tail}
-use Rattle.step_sim.specs.declared.turns.Turns.{Turns}
 use Rattle.audit_check.specs.declared.stop.Stop.{Stop}
-use Rattle.run_order.specs.declared.lines.ScheduleLines.{ScheduleLines}
-use Rattle.run_order.specs.Orders.{thread_line, turns_at}
-use Rattle.run_order.specs.private.Lines.{HasJoined}
-use Rattle.run_order.specs.private.Stops.{AllFrom, ArePassed, AreStops, Passes, loads_at, places_in}
+use Rattle.run_order.specs.Orders.{thread_line}
+use Rattle.run_order.specs.private.Stops.{AllFrom, AreStops, loads_at, places_in}
 use Rattle.run_order.proofs.MergedTurns.{line_at}
 use Rattle.run_order.proofs.Stopping.{loads_none}
 
@@ -22,41 +19,13 @@ tail_from : (place : ℕ) (stops : Bor (List Stop)) (left : List (Bor (List Stop
 tail_from place stops left all = λ k d low. all (suc k) d (omega (arith, low))
 
 -- before all of them there are no turns
-no_turns_from : (place next number : ℕ) (left : List (Bor (List Stop))) → AllFrom next left → place < next
+pub no_turns_from : (place next number : ℕ) (left : List (Bor (List Stop))) → AllFrom next left → place < next
     → flat_map (line_at place) (enumerate_from number (places_in left)) ≡ []
 no_turns_from place next number [] all low = refl
 no_turns_from place next number (stops ∷ left) all low =
     let none : loads_at place stops.now ≡ 0 = loads_none place next stops.now (all 0 stops (omega arith)) low in
     ap (λ n. thread_line number n ++ flat_map (line_at place) (enumerate_from (number + 1) (places_in left))) none
     ∙ no_turns_from place next (number + 1) left (tail_from next stops left all) low
-
-pub none_due : (place next : ℕ) (left : List (Bor (List Stop))) (turns : List Turns) (lines : ScheduleLines) → AllFrom next left → place < next
-    → HasJoined turns lines → HasJoined (turns ++ turns_at (places_in left) place) lines
-none_due place next left turns lines all low joined =
-    subst (λ (ls : List Turns). HasJoined ls lines)
-    (sym (ap (λ (ls : List Turns). turns ++ ls) (no_turns_from place next 1 left all low) ∙ append-nil turns)) joined
-
--- and none is passed there
-pub none_passed : (place next : ℕ) (left : List (Bor (List Stop))) → AllFrom next left → place < next → ArePassed place (length left) left left
-none_passed place next left all low = record {
-  count = refl;
-  passed = λ i was is within there here.
-      let same : Some was ≡ Some is = sym there ∙ here in
-      let equal : was ≡ is = cc in
-      subst (λ (s : Bor (List Stop)). Passes place was.now s.now) equal (itself was (at_index left i was within there all));
-  left = λ i high. refl;
-}
-  where
-    itself : (was : Bor (List Stop)) → AreStops next was.now → Passes place was.now was.now
-    itself was are = record { stops = λ _. stops_from (place + 1) next was.now (omega (arith, low)) are; same = λ other _ after. refl }
-
-    at_index : (left : List (Bor (List Stop))) (i : ℕ) (was : Bor (List Stop)) → i < length left → slice_get left i ≡ Some was → AllFrom next left
-        → AreStops next was.now
-    at_index [] i was within there all = absurd cc
-    at_index (stops ∷ left) zero was within there all =
-        let same : stops ≡ was = cc in
-        subst (λ (s : Bor (List Stop)). AreStops next s.now) same (all 0 stops (omega arith))
-    at_index (stops ∷ left) (suc i) was within there all = at_index left i was (omega (arith, within)) there (tail_from next stops left all)
 
 -- ---- the first place at which loads are left
 
@@ -96,3 +65,18 @@ own_first after (first ∷ later) stop is low from are =
 pub own_none : (after : ℕ) (stops : List Stop) → slice_get stops 0 ≡ None → (from : ℕ) → AreStops from stops → AreStops after stops
 own_none after [] none from are = tt
 own_none after (first ∷ later) none from are = absurd cc
+
+-- ---- no stop is before the first place
+
+-- one more thread
+pub late_more : (most next after : ℕ) (front : List (Bor (List Stop))) (stops : Bor (List Stop))
+    → ((from : ℕ) → from ≤ next → AreStops from stops.now → from ≤ after) → ((from : ℕ) → from ≤ most → AllFrom from front → from ≤ next)
+    → (from : ℕ) → from ≤ most → AllFrom from (front ++ stops ∷ []) → from ≤ after
+late_more most next after front stops own before from low all =
+    own from (before from low (front_from from front (stops ∷ []) all)) (last_from from front stops all)
+
+pub late_first : (stops : List Stop) (stop : Stop) → slice_get stops 0 ≡ Some stop → (from : ℕ) → AreStops from stops → from ≤ stop.place
+late_first [] stop is from are = absurd cc
+late_first (first ∷ later) stop is from are =
+    let same : first ≡ stop = cc in
+    omega (arith, are.0, ap (λ (s : Stop). s.place) same)

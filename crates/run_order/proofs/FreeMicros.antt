@@ -44,7 +44,7 @@ module _ (program : Program) (threads : ℕ) where
   goes thread value some within = grind (arith, nat_tests)
 
   -- sleds with numbers below one
-  abbrev AreBelow : ℕ → List Numbered → Type 0
+  abbrev pub AreBelow : ℕ → List Numbered → Type 0
   AreBelow count [] = Unit {0}
   AreBelow count ((k, sled) ∷ sleds) = (k < count) × AreBelow count sleds
 
@@ -52,7 +52,7 @@ module _ (program : Program) (threads : ℕ) where
   numbers_below n [] count h = tt
   numbers_below n (sled ∷ sleds) count h = (omega (arith, h), numbers_below (n + 1) sleds count (omega (arith, h)))
 
-  filter_below : (p : Numbered → Bool) (count : ℕ) (sleds : List Numbered) → AreBelow count sleds → AreBelow count (filter p sleds)
+  pub filter_below : (p : Numbered → Bool) (count : ℕ) (sleds : List Numbered) → AreBelow count sleds → AreBelow count (filter p sleds)
   filter_below p count [] h = tt
   filter_below p count ((k, sled) ∷ sleds) h = by_test (p (k, sled)) (filter_below p count sleds h.1)
     where
@@ -60,7 +60,7 @@ module _ (program : Program) (threads : ℕ) where
       by_test true rest = (h.0, rest)
       by_test false rest = rest
 
-  all_below : AreBelow (length program.sleds) (all_sleds program)
+  pub all_below : AreBelow (length program.sleds) (all_sleds program)
   all_below = numbers_below 0 program.sleds (length program.sleds) (omega arith)
 
   part_low : (k : ℕ) (part : Part) → k < length program.sleds → word_of k part ≤ state_word program
@@ -78,7 +78,7 @@ module _ (program : Program) (threads : ℕ) where
       ap (λ b. cond b (step ∷ filter (is_free program threads) steps) (filter (is_free program threads) steps)) e
       ∙ ap (λ (ss : List Micro). step ∷ ss) rest
 
-  patches_stay : (sleds : List Numbered) → AreBelow (length program.sleds) sleds → AllStay (flat_map (patch_sled program) sleds)
+  pub patches_stay : (sleds : List Numbered) → AreBelow (length program.sleds) sleds → AllStay (flat_map (patch_sled program) sleds)
   patches_stay [] h = refl
   patches_stay ((k, sled) ∷ sleds) h =
       let rest = patches_stay sleds h.1 in

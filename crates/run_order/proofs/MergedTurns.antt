@@ -1,5 +1,5 @@
 -- The turns of all threads, place by place.
-use Rattle.std.proofs.Common.{◌≡◌, ◌≢◌, inl, inr, ℕ, zero, suc, ◌+◌, ◌-◌, ◌<◌, ◌≤◌, List, [], ◌∷◌, ◌++◌, append-nil, append_assoc, Some, refl, sym, ap, subst, ◌∙◌, arith, length, map, take, get_or}
+use Rattle.std.proofs.Common.{◌≡◌, ◌≢◌, inl, inr, ℕ, zero, suc, ◌+◌, ◌<◌, ◌≤◌, List, [], ◌∷◌, ◌++◌, append-nil, append_assoc, Some, refl, sym, ap, subst, ◌∙◌, arith, length, map, take, get_or}
 use Rattle.std.specs.Prelude.{◌==◌, ◌⊎◌, All, count_by, option_map, slice_get, slice_set}
 use Rattle.std.specs.Borrow.{Bor}
 use Rattle.std.specs.List.{enumerate_from, flat_map}
@@ -9,13 +9,12 @@ use Rattle.std.proofs.lemmas.List.FromFn.{length-enumerate_from}
 use Rattle.std.proofs.lemmas.Option.{slice_get-get_or}
 use Rattle.step_sim.proofs.AllThreads.{set_cases}
 use Rattle.step_sim.specs.declared.turns.Turns.{Turns}
-use Rattle.step_sim.specs.declared.turns.Turns.TheVariants.{Patcher}
 use Rattle.run_order.specs.declared.lines.ScheduleLines.{ScheduleLines}
 use Rattle.audit_check.specs.declared.stop.Stop.{Stop}
-use Rattle.run_order.specs.Orders.{thread_line, turns_at, turns_from}
+use Rattle.run_order.specs.Orders.{thread_line, turns_at}
 use Rattle.run_order.specs.private.Lines.{HasJoined}
 use Rattle.audit_check.specs.Stops.{places_of}
-use Rattle.run_order.specs.private.Stops.{AllFrom, ArePassed, AreStops, HaveAdded, IsUpTo, Passes, loads_at, places_in, turns_after}
+use Rattle.run_order.specs.private.Stops.{AllFrom, ArePassed, AreStops, HaveAdded, Passes, loads_at, places_in}
 use Rattle.run_order.proofs.Replaying.{take_next}
 
 -- the line of a thread at a place, by its number and the places of its loads
@@ -102,7 +101,7 @@ passed_tail place n was is old new are = record {
 }
 
 -- the turns at a later place are those of what is left
-same_turns : (place other number : ℕ) (old new : List (Bor (List Stop))) → ArePassed place (length old) old new → AllFrom place old → place < other
+pub same_turns : (place other number : ℕ) (old new : List (Bor (List Stop))) → ArePassed place (length old) old new → AllFrom place old → place < other
     → flat_map (line_at other) (enumerate_from number (places_in new)) ≡ flat_map (line_at other) (enumerate_from number (places_in old))
 same_turns place other number [] [] are stops after = refl
 same_turns place other number [] (is ∷ new) are stops after = absurd (omega (arith, are.count))
@@ -120,75 +119,6 @@ stops_left place old new are stops k d low =
     let within : k < length old = omega (arith, low, are.count) in
     let was : slice_get old k ≡ Some (get_or old k d) = slice_get-get_or old k d within in
     (are.passed k (get_or old k d) (get_or new k d) within was there).stops (stops k d within)
-
--- ---- from place to place
-
-same_from : (steps from : ℕ) (all left : List (List ℕ)) → ((place : ℕ) → from ≤ place → turns_at left place ≡ turns_at all place)
-    → turns_from left from steps ≡ turns_from all from steps
-same_from zero from all left same = same from (omega arith)
-same_from (suc steps) from all left same =
-    ap (λ (ls : List Turns). ls ++ Patcher 1 ∷ turns_from left (from + 1) steps) (same from (omega arith))
-    ∙ ap (λ (ls : List Turns). turns_at all from ++ Patcher 1 ∷ ls) (same_from steps (from + 1) all left (λ place low. same place (omega (arith, low))))
-
-split_turns : (steps place : ℕ) (all : List (List ℕ)) → turns_from all place steps ≡ turns_at all place ++ turns_after all place steps
-split_turns zero place all = sym (append-nil (turns_at all place))
-split_turns (suc steps) place all = refl
-
-same_after : (steps place : ℕ) (old new : List (Bor (List Stop))) → ArePassed place (length old) old new → AllFrom place old
-    → turns_after (places_in new) place steps ≡ turns_after (places_in old) place steps
-same_after zero place old new are stops = refl
-same_after (suc steps) place old new are stops =
-    ap (λ (ls : List Turns). Patcher 1 ∷ ls)
-    (same_from steps (place + 1) (places_in old) (places_in new) (λ other low. same_turns place other 1 old new are stops (omega (arith, low))))
-
--- at the first place
-pub up_to_first : (start total : ℕ) (old new : List (Bor (List Stop))) (first lines : ScheduleLines)
-    → HasJoined [] first → first.steps ≡ 0 → ArePassed start (length old) old new → AllFrom start old
-    → ((turns : List Turns) → HasJoined turns first → HasJoined (turns ++ turns_at (places_in old) start) lines) → lines.steps ≤ first.steps
-    → IsUpTo start start total (places_in old) new lines
-up_to_first start total old new first lines joined none are stops added steps = record {
-  turns = turns_at (places_in old) start;
-  joined = added [] joined;
-  whole =
-      ap (λ (ls : List Turns). turns_at (places_in old) start ++ ls) (same_after (total - start) start old new are stops)
-      ∙ sym (split_turns (total - start) start (places_in old));
-  stops = stops_left start old new are stops;
-  steps = let e : lines.steps ≤ start - start = omega (arith, none, steps) in e;
-}
-
--- and at the next one
-pub up_to_next : (start place total : ℕ) (all : List (List ℕ)) (old new : List (Bor (List Stop))) (before mid lines : ScheduleLines)
-    → start ≤ place → place < total → IsUpTo start place total all old before
-    → ((turns : List Turns) → HasJoined turns before → HasJoined (turns ++ Patcher 1 ∷ []) mid) → mid.steps ≡ before.steps + 1
-    → ArePassed (place + 1) (length old) old new
-    → ((turns : List Turns) → HasJoined turns mid → HasJoined (turns ++ turns_at (places_in old) (place + 1)) lines) → lines.steps ≤ mid.steps
-    → IsUpTo start (place + 1) total all new lines
-up_to_next start place total all old new before mid lines low high up stepped count are added steps =
-    let left : ℕ = total - (place + 1) in
-    let more : total - place ≡ suc left = omega (arith, high) in
-    let here : List Turns = turns_at (places_in old) (place + 1) in
-    let rest : List Turns = turns_after (places_in new) (place + 1) left in
-    let following : turns_after (places_in old) place (suc left) ≡ Patcher 1 ∷ (here ++ rest) =
-    ap (λ (ls : List Turns). Patcher 1 ∷ ls)
-    (split_turns left (place + 1) (places_in old) ∙ ap (λ (ls : List Turns). here ++ ls) (sym (same_after left (place + 1) old new are up.stops))) in
-    let e : ((up.turns ++ Patcher 1 ∷ []) ++ here) ++ rest ≡ turns_from all start (total - start) =
-    append_assoc (up.turns ++ Patcher 1 ∷ []) here rest ∙ append_assoc up.turns (Patcher 1 ∷ []) (here ++ rest)
-    ∙ ap (λ (ls : List Turns). up.turns ++ ls) (sym following)
-    ∙ ap (λ n. up.turns ++ turns_after (places_in old) place n) (sym more) ∙ up.whole in
-    record {
-      turns = (up.turns ++ Patcher 1 ∷ []) ++ here;
-      joined = added (up.turns ++ Patcher 1 ∷ []) (stepped up.turns up.joined);
-      whole = e;
-      stops = stops_left (place + 1) old new are up.stops;
-      steps = let e : lines.steps ≤ place + 1 - start = omega (arith, steps, count, up.steps, low) in e;
-    }
-
--- at the last place they are all
-pub up_to_last : (start place total : ℕ) (all : List (List ℕ)) (left : List (Bor (List Stop))) (lines : ScheduleLines) (up : IsUpTo start place total all left lines)
-    → total ≤ place → up.turns ≡ turns_from all start (total - start)
-up_to_last start place total all left lines up past =
-    let none : total - place ≡ 0 = omega (arith, past) in
-    sym (append-nil up.turns) ∙ ap (λ n. up.turns ++ turns_after (places_in left) place n) (sym none) ∙ up.whole
 
 -- ---- the first stops
 

@@ -1,6 +1,6 @@
 //! The lines of a schedule that is being made.
 
-ghost use Rattle.std.specs.Prelude.{◌≡◌, ◌<◌, ◌+◌, ◌^◌, ◌∷◌, ◌++◌, [], List, IfOk, OnOk};
+ghost use Rattle.std.specs.Prelude.{◌≡◌, ◌<◌, ◌+◌, ◌^◌, ◌∷◌, ◌++◌, [], List, IfOk, OnOk, replicate};
 ghost use Rattle.step_sim.specs.declared.turns.Turns.{Turns as Line};
 ghost use Rattle.step_sim.specs.declared.turns.Turns.TheVariants.{Thread, Patcher};
 ghost use Rattle.run_order.specs.Orders.{joined};
@@ -31,14 +31,14 @@ impl ScheduleLines {
         }
     }
 
-    /// Adds a micro step.
-    pub(crate) fn step(&mut self)
-        requires { self.old.steps + 1 < 2 ^ 32 }
+    /// Adds micro steps.
+    pub(crate) fn micro_steps(&mut self, count: u32)
+        requires { self.old.steps + count < 2 ^ 32 }
         ensures joined { (turns : List Line) → HasJoined turns self.old
-            → HasJoined (turns ++ Patcher 1 ∷ []) self.new }
-        ensures steps { self.new.steps ≡ self.old.steps + 1 }
+            → HasJoined (turns ++ replicate count (Patcher 1)) self.new }
+        ensures steps { self.new.steps ≡ self.old.steps + count }
     {
-        self.steps += 1;
+        self.steps += count;
     }
 
     /// Adds loads of a thread.

@@ -16,7 +16,7 @@ use xray_io::NoMemory;
 
 /// The schedule of the loads of threads, thread 1 first, and of the micro steps from the start of the
 /// threads up to the end of the script. At a place the threads come in their order, and then the patcher
-/// goes on.
+/// goes on. Takes time in proportion to the stops.
 pub(crate) fn schedule_lines(
     alloc: Global,
     threads: &[Vec<Stop>],
@@ -31,18 +31,22 @@ pub(crate) fn schedule_lines(
 {
     let mut left = all_left(alloc, threads)?;
     let mut lines = ScheduleLines::new(alloc);
-    add_turns(&mut left, start, &mut lines)?;
+    let mut place = start;
     let mut next = next_place(&left);
-    for place in start..total {
-        lines.step();
-        add_due(&mut left, place + 1, &mut next, &mut lines)?;
+    'stops: while next <= total {
+        lines.micro_steps(next - place);
+        add_turns(&mut left, next, &mut lines)?;
+        place = next;
+        next = next_place(&left);
     }
+    lines.micro_steps(total - place);
     lines.done()
 }
 
 /// The first place at which loads are left, or the last place that there may be.
 fn next_place(left: &[&[Stop]]) -> u32
-    ensures { (from : ℕ) → AllFrom from left.now → AllFrom result left.now }
+    ensures next { (from : ℕ) → AllFrom from left.now → AllFrom result left.now }
+    ensures late { (from : ℕ) → from ≤ u32.MAX → AllFrom from left.now → from ≤ result }
 {
     let mut next = u32::MAX;
     for stops in left {
@@ -51,30 +55,6 @@ fn next_place(left: &[&[Stop]]) -> u32
         }
     }
     next
-}
-
-/// Adds the turns at a place, thread by thread. No loads are left before `next`, and it is kept so.
-fn add_due(
-    left: &mut Vec<&[Stop]>,
-    place: u32,
-    next: &mut u32,
-    lines: &mut ScheduleLines,
-) -> Result<(), NoMemory>
-    requires few { length left.old.items ≤ 16 }
-    requires stops { AllFrom place left.old.items }
-    requires none { AllFrom next.old left.old.items }
-    ensures passed { OnOk result (ArePassed place (length left.old.items) left.old.items left.new.items) }
-    ensures added { OnOk result ((turns : List Line) → HasJoined turns lines.old
-        → HasJoined (turns ++ turns_at (places_in left.old.items) place) lines.new) }
-    ensures steps { OnOk result (lines.new.steps ≤ lines.old.steps) }
-    ensures none { OnOk result (AllFrom next.new left.new.items) }
-{
-    if place < *next {
-        return Ok(());
-    }
-    add_turns(left, place, lines)?;
-    *next = next_place(left);
-    Ok(())
 }
 
 /// The stops of each thread that are left, before the first place.

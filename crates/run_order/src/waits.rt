@@ -1,19 +1,22 @@
 //! The places of a script, as those of the script without its waits.
 
-ghost use Rattle.std.specs.Prelude.{◌≡◌, ◌<◌, ◌^◌, All, IfOk, length, map, not};
+ghost use Rattle.std.specs.Prelude.{◌≡◌, ◌<◌, ◌^◌, All, IfOk, length, map, not, true};
 ghost use Rattle.xray_image.specs.Program.{Program};
 ghost use Rattle.sled_words.specs.Words.{state_word};
 ghost use Rattle.patch_script.specs.Refusals.{commands_of};
 ghost use Rattle.audit_check.specs.Stops.{AreJoined, places_of};
 ghost use Rattle.run_order.specs.FreeScripts.{is_free};
-ghost use Rattle.run_order.specs.private.Waits.{AreWaits, freed, waits_of};
+ghost use Rattle.run_order.specs.private.Waits.{AreWaits, BeginsPatch, freed, waits_of};
 
 use audit_check::{Stop, add_stop};
 use patch_script::{Micro, Script};
-use sled_words::state_word;
+use sled_words::{PARTS, Part, state_word};
 use std::alloc::Global;
 use xray_image::Image;
 use xray_io::NoMemory;
+
+/// How many stores patch a sled. The first of them stores its id.
+const PATCH_STORES: u64 = PARTS as u64;
 
 /// The waits of a script: the places of its awaits and of its stores in release words. The script
 /// without waits makes all other micro steps.
@@ -23,7 +26,8 @@ pub(crate) struct Waits {
 }
 
 impl Waits {
-    /// The waits of a script for this image.
+    /// The waits of a script for this image. If it has some, takes time in proportion to the sleds that its
+    /// commands patch or unpatch.
     pub(crate) fn of(
         alloc: Global,
         image: &Image,
@@ -34,12 +38,23 @@ impl Waits {
         requires threads { script.now.threads ≡ threads }
         ensures { IfOk result (λ waits. waits.places.items ≡ waits_of image.now threads (commands_of script.now.lines)) }
     {
-        let state = state_word(image);
         let mut places = Vec::new(alloc);
+        if script.waits().is_none() {
+            return Ok(Waits { places });
+        }
+        let state = state_word(image);
+        let total = script.total();
         let mut near = 0;
-        for place in 0..script.total() {
-            if is_wait(script.micro_near(place, &mut near), state, threads) {
-                places.push(place as u32)?;
+        let mut place = 0;
+        'steps: while place < total {
+            let micro = script.micro_near(place, &mut near);
+            if begins_patch(micro, state) {
+                place += PATCH_STORES;
+            } else {
+                if is_wait(micro, state, threads) {
+                    places.push(place as u32)?;
+                }
+                place += 1;
             }
         }
         Ok(Waits { places })
@@ -51,6 +66,16 @@ impl Waits {
         ensures { result ≡ freed self.now.places.items place }
     {
         place - self.places.partition_point(|wait| *wait < place) as u32
+    }
+}
+
+/// Whether a micro step is the first of those that patch a sled. `state` is the number of the log's word.
+fn begins_patch(micro: Micro, state: u32) -> bool
+    ensures { (program : Program) → state ≡ state_word program → result ≡ true → BeginsPatch program micro }
+{
+    match micro {
+        Micro::Store { word, .. } => word < state && word % PARTS == Part::Id as u32,
+        Micro::Await { .. } | Micro::End => false,
     }
 }
 

@@ -45,7 +45,7 @@ noted_again events old n has = record {
   fallen = has.fallen;
 }
 
-said_again : (blocks : List LogBlock) (old new : Facts) → SameLog old new → SaysOfLog blocks old → SaysOfLog blocks new
+pub said_again : (blocks : List LogBlock) (old new : Facts) → SameLog old new → SaysOfLog blocks old → SaysOfLog blocks new
 said_again blocks old new same says = record {
   custom = same.custom ∙ says.custom;
   typed = same.typed ∙ says.typed;

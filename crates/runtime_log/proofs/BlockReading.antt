@@ -1,5 +1,6 @@
 -- What has been read of a log, after one more record or block.
-use Rattle.std.proofs.Common.{◌≡◌, ℕ, ◌+◌, ◌-◌, ◌<◌, ◌≤◌, List, [], ◌∷◌, ◌++◌, length, drop, take, Option, Some, None, Result, Ok, Err, refl, sym, ap, ◌∙◌, arith}
+use Rattle.std.proofs.Common.{◌≡◌, ℕ, ◌+◌, ◌-◌, ◌*◌, ◌<◌, ◌≤◌, List, [], ◌∷◌, ◌++◌, length, drop, take, Option, Some, None, Result, Ok, Err, refl, sym, ap, subst, ◌∙◌, inl, inr, arith}
+use Rattle.std.specs.Prelude.{◌≢◌}
 use Rattle.std.specs.Option.{option_or}
 use Rattle.std.proofs.lemmas.List.{drop-drop, length-drop}
 use Rattle.xray_io.specs.Rows.{InTurn, ◌>>=◌}
@@ -18,8 +19,10 @@ use Rattle.runtime_log.specs.declared.walk.BlockWalk.{BlockWalk}
 use Rattle.runtime_log.specs.Logs.{BlockSoFar, LogBlock, block_content, block_opened, block_said, block_size_rows, content_rows, log_block_in, log_places, log_record_rows, block_with, one_custom, one_typed, said_rows}
 use Rattle.runtime_log.specs.OwnEvents.{log_record_length, own_kind}
 use Rattle.runtime_log.specs.private.Choices.{IsAt, Shows, counter_first}
-use Rattle.runtime_log.specs.private.Readings.{ReadsOn, walk_reads}
+use Rattle.runtime_log.specs.private.Readings.{MayPass, ReadsOn, walk_reads}
+use Rattle.runtime_log.specs.private.Stretches.{stretch_events}
 use Rattle.runtime_log.specs.private.Walks.{IsOpened, IsPast}
+use Rattle.runtime_log.proofs.Stretches.{so_past, walk_read}
 use Rattle.runtime_log.proofs.Walking.{rows_first, rows_none, so_with}
 
 -- ---- the records of a block
@@ -91,6 +94,41 @@ reads_stop so old before first new placed walk fault r v some is =
 pub reads_all : (so : BlockSoFar) (old : LogBlocks) (before : Placed) (first : BlockWalk) (new : LogBlocks) (placed : Placed) (walk : BlockWalk) (r : ReadsOn so old before first new placed walk)
     → length walk.rest.now ≡ 0 → walk_reads first so ≡ Ok r.now
 reads_all so old before first new placed walk r none = r.on ∙ rows_none first.version r.now walk.at walk.rest.now none
+
+-- ---- a stretch of a block
+
+-- the first counter stays if there are more events
+counter_kept : (events more : List Event) → counter_first events ≢ None → counter_first (events ++ more) ≡ counter_first events
+counter_kept [] more some = absurd (some refl)
+counter_kept (event ∷ events) more some = refl
+
+-- a walk that may be past a stretch ends where it did
+pub passed : (walk next : BlockWalk) (first : Option ℕ) → MayPass walk first next
+    → (next.version ≡ walk.version) × (next.at + length next.rest.now ≡ walk.at + length walk.rest.now) × (walk.at ≤ next.at)
+passed walk next first (inl same) = rw same (refl, refl, omega arith)
+passed walk next first (inr (some, stretch, p)) =
+    (p.version, omega (arith, p.at_is, ap length p.rest, length-drop (stretch.count * 8) walk.rest.now, p.is.within), omega (arith, p.at_is))
+
+pub reads_past : (so : BlockSoFar) (old : LogBlocks) (before : Placed) (first : BlockWalk) (new : LogBlocks) (placed : Placed) (walk next : BlockWalk)
+    → ReadsOn so old before first new placed walk → walk.version ≡ first.version → MayPass walk placed.first next → ReadsOn so old before first new placed next
+reads_past so old before first new placed walk next r v (inl same) = subst (ReadsOn so old before first new placed) (sym same) r
+reads_past so old before first new placed walk next r v (inr (some, stretch, p)) =
+    let es = stretch_events stretch.count p.base.cpu p.base.tsc walk.rest.now in
+    record {
+      now = so_past r.now next.stage es;
+      on = r.on ∙ walk_read walk stretch next p first.version r.now v r.stage;
+      stage = refl;
+      shows = λ s.
+          let shown = r.shows s in
+          record {
+            thread = shown.thread;
+            pid = shown.pid;
+            wall = shown.wall;
+            first = shown.first ∙ sym (counter_kept r.now.block.events es (λ none. some (shown.first ∙ none)));
+          };
+      custom = r.custom;
+      typed = r.typed;
+    }
 
 -- ---- a block
 

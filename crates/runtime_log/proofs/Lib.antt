@@ -13,11 +13,14 @@ pub mod Recordable
 pub mod Runs
 pub mod Coming
 pub mod GivenEvents
+-- Stretches of function records (src/stretch.rt, src/walk.rt)
+pub mod Stretches
 -- The import: which blocks are taken, and the file that they are packed into (src/import.rt, src/packing.rt)
 pub mod Contents
 pub mod Taking
 pub mod Packed
 pub mod Adding
+pub mod StretchPacking
 pub mod Importing
 -- A log is imported in only one way, and the import reads back (src/laws.rt)
 pub mod FileOrder

@@ -1,4 +1,5 @@
 -- What the contracts of private functions cite. No promise of this crate rests on it.
+pub mod Stretches
 pub mod Walks
 pub mod Records
 pub mod Headers

@@ -1,10 +1,11 @@
 //! The blocks of a log, by their places.
-ghost use Rattle.std.specs.Prelude.{◌≡◌, ◌<◌, ◌+◌, ◌++◌, ◌^◌, All, IfSome, None, [], ◌∷◌, length, option_to_list};
+ghost use Rattle.std.specs.Prelude.{◌≡◌, ◌<◌, ◌+◌, ◌++◌, ◌^◌, ◌≤◌, ℕ, All, List, IfSome, None, [], ◌∷◌, length, option_to_list};
 ghost use Rattle.fdr_record.specs.Recordable.{IsRecordable};
 ghost use Rattle.runtime_log.specs.Logs.{LogBlock as SaidBlock};
-ghost use Rattle.runtime_log.specs.private.{Choices.{IsAt, LiesWithin, head_length}, Coming.{MayGive, events_to_come, recorder_events}, Walks.{settled, walk_events}};
+ghost use Rattle.runtime_log.specs.private.{Choices.{IsAt, LiesWithin, head_length}, Coming.{MayGive, events_to_come, recorder_events}, Stretches.{SaysStretch}, Walks.{settled, walk_events}};
 
 use crate::basic::BasicEvents;
+use crate::stretch::Stretch;
 use crate::version::LogVersion;
 use crate::walk::BlockWalk;
 use fdr_file::Told;
@@ -118,7 +119,7 @@ fn next_told(walk: &mut BlockWalk) -> (Option<Event>, Option<Event>)
     (None, None)
 }
 
-impl RecorderEvents<'_> {
+impl<'a> RecorderEvents<'a> {
     /// The next event.
     #[inline(always)]
     fn next(&mut self) -> Option<Event>
@@ -133,6 +134,25 @@ impl RecorderEvents<'_> {
         let (event, later) = next_told(&mut self.walk);
         self.pending = later;
         event
+    }
+
+    /// The stretch that is next after an event, with at most so many bytes, if the last record is that of
+    /// the event. Its events are gone past.
+    #[inline(always)]
+    fn stretch(&mut self, after: &Event, most: usize) -> Option<Stretch<'a>>
+        requires few { self.old.walk.at + length self.old.walk.rest.now < 2 ^ 32 }
+        ensures few { self.new.walk.at + length self.new.walk.rest.now < 2 ^ 32 }
+        ensures gives { IfSome result (λ stretch. (bytes : List ℕ)
+            × SaysStretch after.now stretch bytes (recorder_events self.old) (recorder_events self.new)) }
+        ensures none { result ≡ None → recorder_events self.new ≡ recorder_events self.old }
+        ensures within { IfSome result (λ stretch. length stretch.records.now ≤ most) }
+    {
+        if self.pending.is_some() || !self.walk.is_at(after) {
+            return None;
+        }
+        let (stretch, walk) = self.walk.stretch(most)?;
+        self.walk = walk;
+        Some(stretch)
     }
 }
 
@@ -173,6 +193,23 @@ impl<'a> BlockEvents<'a> {
             BlockEvents::Recorder(events) => events.next(),
             BlockEvents::Basic(events) => events.next(),
             BlockEvents::Done => None,
+        }
+    }
+
+    /// The stretch that is next after an event, with at most so many bytes. Its events are gone past.
+    /// `None` if no stretch is next, or if the last record isn't that of the event.
+    #[inline(always)]
+    pub(crate) fn stretch(&mut self, after: &Event, most: usize) -> Option<Stretch<'a>>
+        requires may { MayGive self.old }
+        ensures may { MayGive self.new }
+        ensures gives { IfSome result (λ stretch. (bytes : List ℕ)
+            × SaysStretch after.now stretch bytes (events_to_come self.old) (events_to_come self.new)) }
+        ensures none { result ≡ None → events_to_come self.new ≡ events_to_come self.old }
+        ensures within { IfSome result (λ stretch. length stretch.records.now ≤ most) }
+    {
+        match self {
+            BlockEvents::Recorder(events) => events.stretch(after, most),
+            BlockEvents::Basic(_) | BlockEvents::Done => None,
         }
     }
 }

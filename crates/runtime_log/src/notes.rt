@@ -3,7 +3,7 @@ ghost use Rattle.std.specs.Prelude.{◌≡◌, ◌≤◌, ◌<◌, ◌+◌, ◌+
 ghost use Rattle.std.specs.Option.{option_map_or};
 ghost use Rattle.fdr_file.specs.ThreadEvents.{ThreadEvent};
 ghost use Rattle.fdr_file.specs.Traces.{logs_arg};
-ghost use Rattle.runtime_log.specs.private.Notes.{AreFew, HasNoted, NotesCounter, SameLog, does_fall, is_number, is_of};
+ghost use Rattle.runtime_log.specs.private.Notes.{AreFew, EndsWith, HasNoted, NotesCounter, SameLog, does_fall, is_number, is_of, noted_to};
 
 use crate::facts::Facts;
 use fdr_record::{Event, Kind};
@@ -135,6 +135,7 @@ impl Notes {
         requires room { self.old.facts.events < 2 ^ 63 }
         ensures few { AreFew self.new.facts }
         ensures events { self.new.facts.events ≡ self.old.facts.events + 1 }
+        ensures ends { EndsWith self.new thread event.now.tsc }
         ensures notes { (events : List ThreadEvent) (e : ThreadEvent) → HasNoted events self.old
             → e.thread ≡ thread → e.event ≡ event.now → HasNoted (events ++ e ∷ []) self.new }
         ensures log { SameLog self.old.facts self.new.facts }
@@ -142,5 +143,17 @@ impl Notes {
         self.facts.events += 1;
         self.facts.arguments += arguments_of(event.kind);
         self.note_counter(thread, event.tsc);
+    }
+
+    /// Takes so many events of the last event's thread. Their counters rise to this one, and none logs
+    /// an argument.
+    #[inline(always)]
+    pub(crate) fn note_stretch(&mut self, thread: u32, count: u32, tsc: u64)
+        requires room { self.old.facts.events + count < 2 ^ 64 }
+        ensures { self.new ≡ noted_to self.old thread count tsc }
+    {
+        self.facts.events += u64::from(count);
+        self.facts.last = Some(greatest(self.facts.last, tsc));
+        self.last = Some(LastEvent { thread, tsc });
     }
 }

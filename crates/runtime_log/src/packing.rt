@@ -1,12 +1,14 @@
 //! The events of blocks as the file of a trace.
-ghost use Rattle.std.specs.Prelude.{◌≡◌, ◌≢◌, ◌<◌, ◌+◌, ◌++◌, ◌^◌, ℕ, All, IsTrue, List, [], ◌∷◌, IfOk, OnOk, length, map, sum};
+ghost use Rattle.std.specs.Prelude.{◌≡◌, ◌≢◌, ◌≤◌, ◌<◌, ◌+◌, ◌++◌, ◌^◌, ℕ, All, IsTrue, List, [], ◌∷◌, IfOk, OnOk, length, map, sum};
 ghost use Rattle.fdr_buffer.specs.declared.buffer.TheConstants.{LARGEST_SIZE};
 ghost use Rattle.fdr_file.specs.Files.{block_bytes, file_bytes};
 ghost use Rattle.fdr_file.specs.declared.header.Header.{Header as TheHeader};
 ghost use Rattle.fdr_record.specs.declared.event.Event.{Event as TheEvent};
 ghost use Rattle.fdr_record.specs.Recordable.{IsRecordable};
+ghost use Rattle.runtime_log.specs.declared.blocks.BlockEvents.{BlockEvents as TheEvents};
+ghost use Rattle.runtime_log.specs.declared.packing.Packing.{Packing as ThePacking};
 ghost use Rattle.runtime_log.specs.Logs.{LogBlock as SaidBlock};
-ghost use Rattle.runtime_log.specs.private.{Choices.{AreLeftOut, Shows}, Coming.{MayGive, events_to_come}, Notes.{AreFew}, Packings.{Fills, HasPacked, NoEvents, SaysOfLog, filled_for}};
+ghost use Rattle.runtime_log.specs.private.{Choices.{AreLeftOut, Shows}, Coming.{MayGive, events_to_come}, Notes.{AreFew, EndsWith}, Packings.{Adds, EndsIn, Fills, HasPacked, NoEvents, SaysOfLog, filled_for}};
 
 use crate::blocks::{BlockEvents, LogBlock};
 use crate::facts::Facts;
@@ -133,6 +135,7 @@ impl Packing {
         ensures fills { (file : List ℕ) (events : List TheEvent) → Fills block.now file events self.old
             → OnOk result (Fills block.now file (events ++ event.now ∷ []) self.new) }
         ensures begun { IsTrue self.new.buffer.begun × (self.new.buffer.size ≡ LARGEST_SIZE) }
+        ensures last { OnOk result (EndsIn self.new.buffer event.now) }
         ensures notes { self.new.notes ≡ self.old.notes }
     {
         a_segment_grows();
@@ -143,6 +146,36 @@ impl Packing {
             self.begin(block, event);
         }
         Ok(())
+    }
+
+    /// Adds the events of the stretch that is next of a block, as many as the buffer has room for. `last`
+    /// is the event that was added last.
+    #[inline(always)]
+    fn add_stretch(&mut self, block: &LogBlock, last: &Event, events: &mut BlockEvents)
+        requires may { MayGive events.old }
+        requires begun { IsTrue self.old.buffer.begun × (self.old.buffer.size ≡ LARGEST_SIZE) }
+        requires last { EndsIn self.old.buffer last.now × EndsWith self.old.notes block.now.thread last.now.tsc }
+        requires room { self.old.notes.facts.events + length (events_to_come events.old) < 2 ^ 63 }
+        requires few { AreFew self.old.notes.facts }
+        ensures may { MayGive events.new }
+        ensures begun { IsTrue self.new.buffer.begun × (self.new.buffer.size ≡ LARGEST_SIZE) }
+        ensures adds { (first : ThePacking) (all : TheEvents) → Adds block.now first all events.old self.old
+            → Adds block.now first all events.new self.new }
+        ensures recordable { All IsRecordable (events_to_come events.old)
+            → All IsRecordable (events_to_come events.new) }
+        ensures room { self.new.notes.facts.events + length (events_to_come events.new)
+            ≡ self.old.notes.facts.events + length (events_to_come events.old) }
+        ensures fewer { length (events_to_come events.new) ≤ length (events_to_come events.old) }
+        ensures few { AreFew self.new.notes.facts }
+    {
+        a_segment_grows();
+        let Some(stretch) = events.stretch(last, self.buffer.room()) else {
+            return;
+        };
+        self.notes
+            .note_stretch(block.thread, stretch.count, stretch.last.tsc);
+        self.buffer
+            .put_records(stretch.records, stretch.count, &stretch.last);
     }
 
     /// Adds the events of a block, as one block or as several. It has events.
@@ -171,6 +204,7 @@ impl Packing {
         'events: while let Some(event) = events.next() {
             self.notes.note(block.thread, &event);
             self.put(block, &event)?;
+            self.add_stretch(block, &event, &mut events);
         }
         self.flush()
     }

@@ -10,7 +10,7 @@ ghost use Rattle.runtime_log.specs.BasicLogs.{BasicRun, runs_with, single_run, t
 ghost use Rattle.runtime_log.specs.private.Choices.{IsAt, Shows, counter_first};
 ghost use Rattle.runtime_log.specs.private.Records.{counter_of};
 ghost use Rattle.runtime_log.specs.private.Headers.{header_for, mode_of};
-ghost use Rattle.runtime_log.specs.private.Readings.{AreRead, AreRuns, BelongsAt, HasRead, IsRun, RecordsRead, blocks_said, walk_reads};
+ghost use Rattle.runtime_log.specs.private.Readings.{AreRead, AreRuns, BelongsAt, HasRead, IsRun, MayPass, RecordsRead, blocks_said, walk_reads};
 
 use crate::basic::{BasicRec, Owner, may_follow, record_in, same_owner};
 use crate::blocks::{LogBlock, LogBlocks, Mode};
@@ -82,6 +82,22 @@ fn first_counter(entry: Option<Event>, event: Option<Event>) -> Option<u64>
         (Some(entry), _) => Some(entry.tsc),
         (None, Some(event)) => Some(event.tsc),
         (None, None) => None,
+    }
+}
+
+/// The way after the stretch that is next in a block, if one is, and if the counter of the block's first
+/// event is known.
+#[inline(always)]
+fn past_stretch<'a>(walk: BlockWalk<'a>, first: Option<u64>) -> BlockWalk<'a>
+    requires few { walk.at + length walk.rest.now < 2 ^ 32 }
+    ensures { MayPass walk.entry first result }
+{
+    if first.is_none() {
+        return walk;
+    }
+    match walk.stretch(usize::MAX) {
+        Some((_, next)) => next,
+        None => walk,
     }
 }
 
@@ -216,6 +232,7 @@ impl LogBlocks {
             let (told, own) = walk.step()?;
             self.count(own);
             block.hear(told);
+            walk = past_stretch(walk, block.first);
         }
         block.end = walk.at() as usize;
         Ok(())

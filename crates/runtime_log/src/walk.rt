@@ -1,16 +1,19 @@
 //! The records of a block of the Flight Data Recorder mode.
-ghost use Rattle.std.specs.Prelude.{◌≡◌, ◌<◌, ◌≤◌, ◌+◌, ◌^◌, Err, IfErr, IfOk, IfSome, None, Ok, OnOk, drop, length};
+ghost use Rattle.std.specs.Prelude.{◌≡◌, ◌<◌, ◌≤◌, ◌+◌, ◌^◌, Err, IfErr, IfOk, IfSome, IsTrue, None, Ok, OnOk, drop, length};
+ghost use Rattle.fdr_file.specs.declared.events.Base.{Base as TheBase};
+ghost use Rattle.fdr_file.specs.declared.stage.Span.{Span as TheSpan};
 ghost use Rattle.runtime_log.specs.Logs.{block_size_rows, log_record_rows};
 ghost use Rattle.runtime_log.specs.OwnEvents.{counter_inside, counter_so_far, log_record_in, log_record_length, own_kind};
-ghost use Rattle.runtime_log.specs.private.Walks.{OpensTo, StepsTo};
+ghost use Rattle.runtime_log.specs.private.Walks.{IsCounted, IsPastStretch, OpensTo, StepsTo};
 
 use crate::own_event::{OwnKind, own_delta, own_kind, own_size};
+use crate::stretch::Stretch;
 use crate::version::LogVersion;
 use fdr_file::{
-    Inside, Span, Stage, Told, TraceFault, end_among, judge, record_len, record_of, stage_at,
-    take_step, within_events,
+    Argument, Base, Inside, Span, Stage, Told, TraceFault, end_among, judge, record_len, record_of,
+    stage_at, take_step, within_events,
 };
-use fdr_record::{METADATA_BYTES, Rec, RecFault};
+use fdr_record::{Event, METADATA_BYTES, Rec, RecFault};
 
 /// A way through the records of a block, from one to the next. A record of the program's own stands
 /// for the record of a trace that says the counter at it.
@@ -214,6 +217,55 @@ impl<'a> BlockWalk<'a> {
             return Err(fault);
         }
         Ok((self.past(stage, found.len), told, found.own))
+    }
+
+    /// The block's place, and the CPU and the counter of the last record, if the next one is among the
+    /// events of the block, and may not be an argument.
+    #[inline(always)]
+    fn counted(&self) -> Option<(Span, Base)>
+        requires few { self.now.at + length self.now.rest.now < 2 ^ 32 }
+        ensures { IfSome result (λ x. IsCounted self.now x.0 x.1) }
+    {
+        let (span, base) = within_events(self.stage)?;
+        let Argument::Barred = base.argument else {
+            return None;
+        };
+        if u128::from(self.at) + self.rest.len() as u128 != span.end {
+            return None;
+        }
+        Some((span, base))
+    }
+
+    /// Whether the last record was on the CPU and at the counter of an event.
+    #[inline(always)]
+    pub(crate) fn is_at(&self, event: &Event) -> bool
+        requires few { self.now.at + length self.now.rest.now < 2 ^ 32 }
+        ensures { IsTrue result → (span : TheSpan) × (base : TheBase) × IsCounted self.now span base
+            × (base.cpu ≡ event.now.cpu) × (base.tsc ≡ event.now.tsc) }
+    {
+        match self.counted() {
+            Some((_, base)) => base.cpu == event.cpu && base.tsc == event.tsc,
+            None => false,
+        }
+    }
+
+    /// The longest stretch that is next and has at most so many bytes, and the way after it.
+    #[inline(always)]
+    pub(crate) fn stretch(&self, most: usize) -> Option<(Stretch<'a>, BlockWalk<'a>)>
+        requires few { self.now.at + length self.now.rest.now < 2 ^ 32 }
+        ensures past { IfSome result (λ x. IsPastStretch self.now x.0 x.1) }
+        ensures within { IfSome result (λ x. length x.0.records.now ≤ most) }
+    {
+        let (span, base) = self.counted()?;
+        let stretch = Stretch::of(base.cpu, base.tsc, self.rest, most)?;
+        let len = stretch.records.len();
+        let base = Base {
+            tsc: stretch.last.tsc,
+            ..base
+        };
+        let next = u128::from(self.at) + len as u128;
+        let stage = stage_at(span, next, Inside::Events { base: Some(base) });
+        Some((stretch, self.past(stage, len)))
     }
 
     /// Goes past the next record. Returns what it says, and its kind if it is an event of the

@@ -20,6 +20,7 @@ pub mod Folding
 -- Paths: their numbers and their tallies (src/path_sums.rt, src/node.rt)
 pub mod Trees
 pub mod Nodes
+pub mod Linked
 pub mod Sums
 -- The rows of a report are those of all threads (src/rows.rt, src/laws.rt)
 pub mod RowsOf

@@ -1,14 +1,13 @@
 -- The nodes of the tree of paths, and the steps that they are.
-use Rattle.std.proofs.Common.{◌≡◌, ◌+◌, ◌-◌, ◌++◌, ◌<◌, ◌≤◌, ◌∙◌, ℕ, zero, suc, List, [], ◌∷◌, length, map, drop, reverse, refl, ap, sym, subst, arith, get_or, set, length-drop}
+use Rattle.std.proofs.Common.{◌≡◌, ◌+◌, ◌-◌, ◌++◌, ◌<◌, ◌≤◌, ◌∙◌, ℕ, Option, List, [], ◌∷◌, length, map, drop, reverse, refl, ap, sym, subst, arith, get_or, length-drop}
 use Rattle.std.proofs.lemmas.List.{drop-append-le, get_or-map, length-map, map-append}
-use Rattle.std.proofs.Math.Seq.{map-set_same}
 use Rattle.std.proofs.lemmas.Grind.{get_or_after_one}
 use Rattle.stack_rebuild.specs.declared.node.Node.{Node}
 use Rattle.stack_rebuild.specs.declared.node.Step.{Step}
 use Rattle.stack_rebuild.specs.declared.tally.Tally.{Tally}
-use Rattle.stack_rebuild.specs.private.PathNumbers.{AreNumbered, Numbers, path_by, paths_after}
+use Rattle.stack_rebuild.specs.private.PathNumbers.{AreNumbered, path_by, paths_after}
 use Rattle.stack_rebuild.specs.PathSums.{no_tally, path_at}
-use Rattle.stack_rebuild.specs.private.PathTree.{child_in, children_in, paths_in, step_of, steps_in, tallies_in, tally_in}
+use Rattle.stack_rebuild.specs.private.PathTree.{paths_in, step_of, steps_in, tallies_in, tally_in}
 use Rattle.stack_rebuild.proofs.Trees.{paths_more}
 
 pub steps_long : (nodes : List Node) → length (steps_in nodes) ≡ length nodes - 1
@@ -21,29 +20,6 @@ length_steps nodes some = omega (arith, some, length-drop 1 (map step_of nodes),
 pub tallies_some : (nodes : List Node) → 0 < length nodes → tallies_in nodes ≡ map tally_in nodes
 tallies_some [] some = absurd (omega (arith, some))
 tallies_some (node ∷ nodes) some = refl
-
--- the links of nodes, if there is a node
-pub children_some : (nodes : List Node) → 0 < length nodes → children_in nodes ≡ map child_in nodes
-children_some [] some = absurd (omega (arith, some))
-children_some (node ∷ nodes) some = refl
-
-pub children_same : (nodes nodes' : List Node) → 0 < length nodes → 0 < length nodes' → map child_in nodes' ≡ map child_in nodes → children_in nodes' ≡ children_in nodes
-children_same nodes nodes' some still same = children_some nodes' still ∙ same ∙ sym (children_some nodes some)
-
--- a node in place of another that has the same link
-pub children_set : (nodes : List Node) (i : ℕ) (node d : Node) → child_in node ≡ child_in (get_or nodes i d) → children_in (set nodes i node) ≡ children_in nodes
-children_set [] i node d same = refl
-children_set (first ∷ nodes) zero node d same = map-set_same child_in (first ∷ nodes) zero node d same
-children_set (first ∷ nodes) (suc i) node d same = map-set_same child_in (first ∷ nodes) (suc i) node d same
-
-pub child_is : (nodes : List Node) (n : ℕ) → get_or (map child_in nodes) n 0 ≡ get_or (children_in nodes) n 0
-child_is [] zero = refl
-child_is [] (suc n) = refl
-child_is (node ∷ nodes) n = refl
-
-pub length_children : (nodes : List Node) → length (children_in nodes) ≡ length (steps_in nodes) + 1
-length_children [] = refl
-length_children (node ∷ nodes) = omega (arith, length_steps (node ∷ nodes) (omega arith), length-map (node ∷ nodes) child_in)
 
 -- one more node
 pub steps_more : (nodes : List Node) (node : Node) → 0 < length nodes → steps_in (nodes ++ node ∷ []) ≡ steps_in nodes ++ step_of node ∷ []
@@ -64,13 +40,13 @@ pub paths_pushed : (nodes nodes' : List Node) (node : Node) → 0 < length nodes
 paths_pushed nodes nodes' node some same =
     ap (λ (steps : List Step). paths_after (reverse steps)) (ap (drop 1) same ∙ steps_more nodes node some) ∙ paths_more (steps_in nodes) (step_of node)
 
-pub tallies_pushed : (nodes nodes' : List Node) (node : Node) → node.tally ≡ no_tally → map tally_in nodes' ≡ map tally_in (nodes ++ node ∷ [])
+pub tallies_pushed : (nodes nodes' : List Node) (node : Node) → tally_in node ≡ no_tally → map tally_in nodes' ≡ map tally_in (nodes ++ node ∷ [])
     → map tally_in nodes' ≡ map tally_in nodes ++ no_tally ∷ []
 tallies_pushed nodes nodes' node none same =
     same ∙ (map-append tally_in nodes (node ∷ []) ∙ ap (λ (t : Tally). map tally_in nodes ++ t ∷ []) none)
 
 -- the step to a path
-pub climbs_to : (nodes : List Node) (numbers : Numbers) (n : ℕ) (node : Node) → AreNumbered (paths_in nodes) (steps_in nodes) numbers → 0 < n → n < length nodes
+pub climbs_to : (nodes : List Node) (numbers : Step → Option ℕ) (n : ℕ) (node : Node) → AreNumbered (paths_in nodes) (steps_in nodes) numbers → 0 < n → n < length nodes
     → ((step_of (get_or nodes n node)).parent < n) × (path_at (paths_in nodes) n ≡ path_by (paths_in nodes) (step_of (get_or nodes n node)))
 climbs_to nodes numbers n node tree some within =
     let s = step_of node in

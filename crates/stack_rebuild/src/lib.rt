@@ -3,7 +3,7 @@
 //! The stacks of a trace, too. `calls` takes the events of a thread, and keeps its open calls
 //! (`open_calls`, `counts`). For stacks, `fold` takes blocks and events one by one, and
 //! `thread_stack` adds each pair to the `tally` of its path. `path_sums` has the paths as a tree
-//! (`node`). `rows` makes the rows, and `stack_text` prints them. `stacks_of` folds a whole trace.
+//! (`node`, `links`). `rows` makes the rows, and `stack_text` prints them. `stacks_of` folds a whole trace.
 #![tactic(auto)]
 
 mod call;
@@ -11,6 +11,7 @@ mod calls;
 mod counts;
 mod fold;
 mod laws;
+mod links;
 mod matching;
 mod node;
 mod open_calls;

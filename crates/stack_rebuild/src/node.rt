@@ -1,9 +1,11 @@
 //! The tree of paths.
 
-ghost use Rattle.std.specs.Prelude.{◌≡◌, ◌<◌, length, map, if◌then◌else◌, OnOk, slice_index_or, slice_set};
-ghost use Rattle.stack_rebuild.specs.private.PathTree.{child_in, children_in, depth_in, has_no_child, sibling_in, step_of, steps_in, tallies_in, tally_in};
+ghost use Rattle.std.specs.Prelude.{◌≡◌, ◌<◌, length, map, OnOk, slice_index_or, slice_set};
+ghost use Rattle.stack_rebuild.specs.private.Links.{links_by, no_links, with_link};
+ghost use Rattle.stack_rebuild.specs.private.PathTree.{all_links, depth_in, links_in, sibling_in, step_of, steps_in, tallies_in, tally_in};
 ghost use Rattle.stack_rebuild.specs.PathSums.{both_tallies, no_tally, with_pair};
 
+use crate::links::{Link, Links};
 use crate::tally::Tally;
 use xray_io::NoMemory;
 
@@ -12,60 +14,59 @@ use xray_io::NoMemory;
 #[derive(Clone, Copy, PartialEq, Eq, Hash)]
 pub(crate) struct Step {
     /// The number of the path without its last function.
-    pub(crate) parent: usize,
+    pub(crate) parent: u32,
     /// The id of the function.
     pub(crate) func: u32,
 }
 
-/// A path and its tally.
-///
-/// The links and the depth only save time. Each number that a link gives is compared with the step
-/// that is looked for.
+/// A path and its tally. The next sibling and the depth only save time.
 #[derive(Clone, Copy)]
 pub(crate) struct Node {
-    /// The number of the path without its last function.
-    parent: usize,
-    /// The number of the first path that went on from this one, or 0.
-    child: usize,
-    /// The next path with the same parent: after the first the latest one, and after any other the
-    /// one before it. 0 if there is none.
-    sibling: usize,
-    /// The id of the last function.
-    func: u32,
+    /// The step that leads to the path.
+    step: Step,
+    /// The path that was the latest one with the same parent before this one, or 0 if there is none.
+    sibling: u32,
     /// How many functions the path has.
     depth: u32,
-    tally: Tally,
+    /// The paths that go on from it.
+    links: Links,
+    /// Its tally. As fields, these take 16 bytes fewer than a `Tally`, which ends at a multiple of 16.
+    count: u64,
+    sum: u128,
+    own: u128,
 }
 
 impl Node {
     /// The empty path, without a pair. No step leads to it.
     pub(crate) fn empty() -> Node
-        ensures child { result.child ≡ 0 }
-        ensures tally { result.tally ≡ no_tally }
+        ensures links { result.links ≡ no_links }
+        ensures tally { tally_in result ≡ no_tally }
     {
         Node {
-            parent: 0,
-            child: 0,
+            step: Step { parent: 0, func: 0 },
             sibling: 0,
-            func: 0,
             depth: 0,
-            tally: Tally::none(),
+            links: Links::none(),
+            count: 0,
+            sum: 0,
+            own: 0,
         }
     }
 
     /// The path of a step, without a pair.
     pub(crate) fn after(nodes: &[Node], step: Step) -> Node
         ensures step { step_of result ≡ step }
-        ensures child { result.child ≡ 0 }
-        ensures tally { result.tally ≡ no_tally }
+        ensures links { result.links ≡ no_links }
+        ensures tally { tally_in result ≡ no_tally }
     {
         Node {
-            parent: step.parent,
-            child: 0,
-            sibling: sibling_of(nodes, child_of(nodes, step.parent)),
-            func: step.func,
-            depth: depth_of(nodes, step.parent).saturating_add(1),
-            tally: Tally::none(),
+            step,
+            sibling: links_of(nodes, step.parent).latest.number,
+            depth: depth_of(nodes, step.parent as usize).saturating_add(1),
+            links: Links::none(),
+            count: 0,
+            sum: 0,
+            own: 0,
         }
     }
 
@@ -73,28 +74,66 @@ impl Node {
     pub(crate) fn step(&self) -> Step
         ensures { result ≡ step_of self.now }
     {
-        Step {
-            parent: self.parent,
-            func: self.func,
+        self.step
+    }
+
+    /// The tally of the path.
+    fn tally(&self) -> Tally
+        ensures { result ≡ tally_in self.now }
+    {
+        Tally {
+            count: self.count,
+            sum: self.sum,
+            own: self.own,
         }
+    }
+
+    /// One more pair of the path.
+    #[inline(always)]
+    fn add(&mut self, duration: u64, own: u128) -> Result<(), NoMemory>
+        ensures step { step_of self.new ≡ step_of self.old }
+        ensures links { links_in self.new ≡ links_in self.old }
+        ensures tally { OnOk result (tally_in self.new ≡ with_pair duration own (tally_in self.old)) }
+    {
+        let mut tally = self.tally();
+        tally.add(duration, own)?;
+        self.count = tally.count;
+        self.sum = tally.sum;
+        self.own = tally.own;
+        Ok(())
+    }
+
+    /// More pairs of the path.
+    fn add_all(&mut self, more: &Tally) -> Result<(), NoMemory>
+        ensures step { step_of self.new ≡ step_of self.old }
+        ensures links { links_in self.new ≡ links_in self.old }
+        ensures tally { OnOk result (tally_in self.new ≡ both_tallies (tally_in self.old) more.now) }
+    {
+        let mut tally = self.tally();
+        tally.add_all(more)?;
+        self.count = tally.count;
+        self.sum = tally.sum;
+        self.own = tally.own;
+        Ok(())
     }
 }
 
-/// The number of the first path that went on from this one, or 0.
-pub(crate) fn child_of(nodes: &[Node], number: usize) -> usize
-    ensures { result ≡ slice_index_or (map child_in nodes.now) number 0 }
+/// The paths that go on from the path with this number.
+#[inline(always)]
+pub(crate) fn links_of(nodes: &[Node], number: u32) -> Links
+    ensures { result ≡ links_by (map links_in nodes.now) number }
 {
-    match nodes.get(number) {
-        Some(node) => node.child,
-        None => 0,
+    match nodes.get(number as usize) {
+        Some(node) => node.links,
+        None => Links::none(),
     }
 }
 
 /// The number of the next path with the same parent, or 0.
-pub(crate) fn sibling_of(nodes: &[Node], number: usize) -> usize
+pub(crate) fn sibling_of(nodes: &[Node], number: u32) -> u32
     ensures { result ≡ slice_index_or (map sibling_in nodes.now) number 0 }
 {
-    match nodes.get(number) {
+    match nodes.get(number as usize) {
         Some(node) => node.sibling,
         None => 0,
     }
@@ -114,7 +153,7 @@ pub(crate) fn depth_of(nodes: &[Node], number: usize) -> u32
 pub(crate) fn plant(nodes: &mut Vec<Node>) -> Result<(), NoMemory>
     ensures some { OnOk result (0 < length nodes.new.items) }
     ensures steps { steps_in nodes.new.items ≡ steps_in nodes.old.items }
-    ensures children { children_in nodes.new.items ≡ children_in nodes.old.items }
+    ensures links { all_links nodes.new.items ≡ all_links nodes.old.items }
     ensures tallies { tallies_in nodes.new.items ≡ tallies_in nodes.old.items }
 {
     if nodes.is_empty() {
@@ -123,26 +162,16 @@ pub(crate) fn plant(nodes: &mut Vec<Node>) -> Result<(), NoMemory>
     Ok(())
 }
 
-/// Links the latest path with its parent. The first path that went on from the parent stays first,
-/// since most calls go the same way. The latest comes next.
-pub(crate) fn link(nodes: &mut Vec<Node>, parent: usize, latest: usize)
+/// Links a path with its parent, whose number this is.
+pub(crate) fn link(nodes: &mut Vec<Node>, parent: u32, link: Link)
     ensures steps { map step_of nodes.new.items ≡ map step_of nodes.old.items }
-    ensures children { parent < length nodes.old.items → map child_in nodes.new.items
-        ≡ (if has_no_child nodes.old.items parent then slice_set (map child_in nodes.old.items) parent latest
-        else map child_in nodes.old.items) }
+    ensures links { parent < length nodes.old.items → map links_in nodes.new.items
+        ≡ slice_set (map links_in nodes.old.items) parent
+        (with_link link (links_by (map links_in nodes.old.items) parent)) }
     ensures tallies { map tally_in nodes.new.items ≡ map tally_in nodes.old.items }
 {
-    match child_of(nodes, parent) {
-        0 => {
-            if let Some(node) = nodes.get_mut(parent) {
-                node.child = latest;
-            }
-        }
-        first => {
-            if let Some(node) = nodes.get_mut(first) {
-                node.sibling = latest;
-            }
-        }
+    if let Some(node) = nodes.get_mut(parent as usize) {
+        node.links = node.links.with(link);
     }
 }
 
@@ -151,7 +180,7 @@ pub(crate) fn tally_of(nodes: &[Node], number: usize) -> Tally
     ensures { result ≡ slice_index_or (map tally_in nodes.now) number no_tally }
 {
     match nodes.get(number) {
-        Some(node) => node.tally,
+        Some(node) => node.tally(),
         None => Tally::none(),
     }
 }
@@ -164,13 +193,13 @@ pub(crate) fn add_pair(
     own: u128,
 ) -> Result<(), NoMemory>
     ensures steps { map step_of nodes.new.items ≡ map step_of nodes.old.items }
-    ensures children { children_in nodes.new.items ≡ children_in nodes.old.items }
+    ensures links { all_links nodes.new.items ≡ all_links nodes.old.items }
     ensures tallies { OnOk result (number < length nodes.old.items → map tally_in nodes.new.items
         ≡ slice_set (map tally_in nodes.old.items) number
         (with_pair duration own (slice_index_or (map tally_in nodes.old.items) number no_tally))) }
 {
     match nodes.get_mut(number) {
-        Some(node) => node.tally.add(duration, own),
+        Some(node) => node.add(duration, own),
         None => Ok(()),
     }
 }
@@ -178,13 +207,13 @@ pub(crate) fn add_pair(
 /// More pairs of the path with this number.
 pub(crate) fn add_pairs(nodes: &mut Vec<Node>, number: usize, tally: &Tally) -> Result<(), NoMemory>
     ensures steps { map step_of nodes.new.items ≡ map step_of nodes.old.items }
-    ensures children { children_in nodes.new.items ≡ children_in nodes.old.items }
+    ensures links { all_links nodes.new.items ≡ all_links nodes.old.items }
     ensures tallies { OnOk result (number < length nodes.old.items → map tally_in nodes.new.items
         ≡ slice_set (map tally_in nodes.old.items) number
         (both_tallies (slice_index_or (map tally_in nodes.old.items) number no_tally) tally.now)) }
 {
     match nodes.get_mut(number) {
-        Some(node) => node.tally.add_all(tally),
+        Some(node) => node.add_all(tally),
         None => Ok(()),
     }
 }

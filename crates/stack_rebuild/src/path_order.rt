@@ -2,7 +2,7 @@
 
 ghost use Rattle.std.specs.{Prelude.{◌≡◌, length, IfOk, IsPermutation}, List.{range_with_len}};
 
-use crate::node::{Node, child_of, sibling_of};
+use crate::node::{Node, links_of, sibling_of};
 use std::alloc::Global;
 use xray_io::NoMemory;
 
@@ -13,14 +13,17 @@ use xray_io::NoMemory;
 ///
 /// The tree is walked, and each number is exchanged with the one that stands at its place. So
 /// whatever the links say, each number stays there once.
-pub(crate) fn in_order(alloc: Global, nodes: &[Node]) -> Result<Vec<usize>, NoMemory>
+pub(crate) fn in_order(alloc: Global, nodes: &[Node]) -> Result<Vec<u32>, NoMemory>
     ensures { IfOk result (λ order. IsPermutation (range_with_len 0 (length nodes.now)) order.items) }
 {
-    let mut order = numbers_below(alloc, nodes.len())?;
-    let mut places = numbers_below(alloc, nodes.len())?;
+    let Ok(count) = u32::try_from(nodes.len()) else {
+        return Err(NoMemory);
+    };
+    let mut order = numbers_below(alloc, count)?;
+    let mut places = numbers_below(alloc, count)?;
     let mut ahead = Vec::new(alloc);
     ahead.push(0)?;
-    'walking: for place in 0..nodes.len() {
+    'walking: for place in 0..count {
         let Some(number) = ahead.pop() else {
             break;
         };
@@ -31,32 +34,34 @@ pub(crate) fn in_order(alloc: Global, nodes: &[Node]) -> Result<Vec<usize>, NoMe
 }
 
 /// Exchanges a number with the one that stands at a place. `places` has the place of each number.
-fn bring(order: &mut Vec<usize>, places: &mut [usize], number: usize, place: usize)
+fn bring(order: &mut Vec<u32>, places: &mut [u32], number: u32, place: u32)
     ensures { IsPermutation order.old.items order.new.items }
 {
-    let Some(from) = places.get(number).copied() else {
+    let Some(noted) = places.get(number as usize).copied() else {
         return;
     };
-    if from < order.len() && place < order.len() {
-        let other = order[place];
-        order.swap(from, place);
+    let from = noted as usize;
+    let to = place as usize;
+    if from < order.len() && to < order.len() {
+        let other = order[to];
+        order.swap(from, to);
         put_place(places, number, place);
-        put_place(places, other, from);
+        put_place(places, other, noted);
     }
 }
 
 /// Notes the place of a number.
-fn put_place(places: &mut [usize], number: usize, place: usize) {
-    if let Some(noted) = places.get_mut(number) {
+fn put_place(places: &mut [u32], number: u32, place: u32) {
+    if let Some(noted) = places.get_mut(number as usize) {
         *noted = place;
     }
 }
 
 /// The numbers below a count.
-fn numbers_below(alloc: Global, count: usize) -> Result<Vec<usize>, NoMemory>
+fn numbers_below(alloc: Global, count: u32) -> Result<Vec<u32>, NoMemory>
     ensures { IfOk result (λ numbers. numbers.items ≡ range_with_len 0 count) }
 {
-    let mut numbers = Vec::with_capacity(alloc, count)?;
+    let mut numbers = Vec::with_capacity(alloc, count as usize)?;
     'listing: for number in 0..count {
         numbers.push(number)?;
     }
@@ -64,15 +69,18 @@ fn numbers_below(alloc: Global, count: usize) -> Result<Vec<usize>, NoMemory>
 }
 
 /// Adds the numbers of the paths that go on from a path, from the last path to the first.
-fn add_next(ahead: &mut Vec<usize>, nodes: &[Node], parent: usize) -> Result<(), NoMemory> {
+fn add_next(ahead: &mut Vec<u32>, nodes: &[Node], parent: u32) -> Result<(), NoMemory> {
     let start = ahead.len();
-    let mut number = child_of(nodes, parent);
+    let links = links_of(nodes, parent);
+    let mut number = links.first.number;
+    let mut next = links.latest.number;
     'adding: for _ in 1..nodes.len() {
         if number == 0 {
             break;
         }
         ahead.push(number)?;
-        number = sibling_of(nodes, number);
+        number = next;
+        next = sibling_of(nodes, number);
     }
     let added = &mut ahead[start..];
     added.sort_unstable_by(|one, other| func_of(nodes, *other).cmp(&func_of(nodes, *one)));
@@ -80,7 +88,7 @@ fn add_next(ahead: &mut Vec<usize>, nodes: &[Node], parent: usize) -> Result<(),
 }
 
 /// The last function of a path.
-fn func_of(nodes: &[Node], number: usize) -> Option<u32> {
-    let node = nodes.get(number)?;
+fn func_of(nodes: &[Node], number: u32) -> Option<u32> {
+    let node = nodes.get(number as usize)?;
     Some(node.step().func)
 }

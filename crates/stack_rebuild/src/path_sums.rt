@@ -1,15 +1,14 @@
 //! The paths so far, and the sums over the pairs of each.
 
-ghost use Rattle.std.specs.Prelude.{◌≡◌, ◌<◌, ◌++◌, ℕ, List, [], ◌∷◌, length, if◌then◌else◌, IfOk, IfSome, IsFalse, IsTrue, IsPermutation, OnErr, OnOk, Some, slice_index_or};
+ghost use Rattle.std.specs.Prelude.{◌≡◌, ◌<◌, ◌++◌, ℕ, List, [], ◌∷◌, length, IfOk, IfSome, IsPermutation, MatchOption, OnErr, OnOk, slice_index_or};
 ghost use Rattle.std.specs.List.{range_with_len};
-ghost use Rattle.stack_rebuild.specs.private.PathNumbers.{is_step, number_in, path_by};
-ghost use Rattle.stack_rebuild.specs.private.PathTree.{has_no_child};
+ghost use Rattle.stack_rebuild.specs.private.Links.{entered_link};
+ghost use Rattle.stack_rebuild.specs.private.PathNumbers.{number_in, path_by};
 ghost use Rattle.stack_rebuild.specs.PathSums.{AreOfPath, AreSums, HasNumber, no_tally, path_at};
 ghost use Rattle.stack_rebuild.specs.Stacks.{Timed};
 
-use crate::node::{
-    Node, Step, add_pair, add_pairs, child_of, depth_of, link, plant, sibling_of, tally_of,
-};
+use crate::links::Link;
+use crate::node::{Node, Step, add_pair, add_pairs, depth_of, link, links_of, plant, tally_of};
 use crate::path_order::in_order;
 use crate::tally::Tally;
 use std::alloc::Global;
@@ -17,39 +16,34 @@ use std::collections::HashMap;
 use std::marker::Model;
 use xray_io::NoMemory;
 
-/// How many of the paths that go on from a path are looked at before the table is asked.
-const MOST_LOOKS: usize = 4;
-
 /// The paths so far, each with a number and a tally. The empty path has number 0. In contracts they
 /// are a list of paths and a list of tallies, both by the numbers.
 ///
 /// They form a tree. A path is its last function, and the number of the path before that. The empty
-/// path is put there with the first other path, so that no memory is taken before.
+/// path is put there with the first other path, so that no memory is taken before. Numbers are less
+/// than 2^32.
 #[derive(Drop)]
 pub struct PathSums {
     /// The paths, by their numbers.
     nodes: Vec<Node>,
-    /// The numbers of the paths by their steps, without those that are the first to go on from their
-    /// parents. Links lead to these.
-    numbers: HashMap<Step, usize>,
+    /// The numbers of the paths by their steps, without those that links lead to.
+    numbers: HashMap<Step, u32>,
 }
 
-/// Enters the number of a step in the table, unless its path is the first that goes on from its parent.
-fn enter(
-    nodes: &[Node],
-    numbers: &mut HashMap<Step, usize>,
-    step: Step,
-    number: usize,
-) -> Result<(), NoMemory>
+/// Enters the number of a linked path in the table, since another path is to take the place of the link.
+fn enter(numbers: &mut HashMap<Step, u32>, parent: u32, link: Link) -> Result<(), NoMemory>
     ensures entered { OnOk result ((other : Step) → number_in numbers.new other
-        ≡ (if has_no_child nodes.now step.parent then number_in numbers.old other
-        else (if is_step step other then Some number else number_in numbers.old other))) }
+        ≡ entered_link parent link numbers.old other) }
     ensures same { OnErr result ((other : Step) → number_in numbers.new other ≡ number_in numbers.old other) }
 {
-    if child_of(nodes, step.parent) == 0 {
+    if link.number == 0 {
         return Ok(());
     }
-    numbers.insert(step, number)?;
+    let step = Step {
+        parent,
+        func: link.func,
+    };
+    numbers.insert(step, link.number)?;
     Ok(())
 }
 
@@ -77,7 +71,8 @@ impl PathSums {
     }
 
     /// The number of a path with one more function. `parent` is the number of the path without it.
-    /// `NoMemory` means that an allocation was refused. The sums are then as they were.
+    /// `NoMemory` means that an allocation was refused, or that there are 2^32 paths. The sums are
+    /// then as they were.
     #[inline(always)]
     pub fn number_of(&mut self, parent: usize, func: u32) -> Result<usize, NoMemory>
         requires { parent < length self.old.paths }
@@ -87,44 +82,44 @@ impl PathSums {
             → AreSums self.old.paths self.old.tallies pairs
             → AreSums self.new.paths self.new.tallies pairs) }
     {
+        let Ok(parent) = u32::try_from(parent) else {
+            return Err(NoMemory);
+        };
         let step = Step { parent, func };
-        match self.among_first(step) {
+        match self.linked(step) {
             Some(number) => Ok(number),
             None => self.number_of_step(step),
         }
     }
 
-    /// The number of a step's path, if it is among those that are looked at: the first that went on
-    /// from its parent, and the latest ones.
+    /// The number of a step's path, if a link leads to it.
     #[inline(always)]
-    fn among_first(&self, step: Step) -> Option<usize>
+    fn linked(&self, step: Step) -> Option<usize>
         ensures { IfSome result (λ n.
             HasNumber (path_by self.now.paths step) n self.now.paths self.now.paths) }
     {
-        let mut number = child_of(&self.nodes, step.parent);
-        'looking: for _ in 0..MOST_LOOKS {
-            if self.is_path_of(number, step) {
-                return Some(number);
-            }
-            number = sibling_of(&self.nodes, number);
-        }
-        None
+        let number = links_of(&self.nodes, step.parent).to(step.func)?;
+        Some(number as usize)
     }
 
-    /// Whether the path with this number is that of a step.
-    fn is_path_of(&self, number: usize, step: Step) -> bool
-        ensures is { IsTrue result →
-            HasNumber (path_by self.now.paths step) number self.now.paths self.now.paths }
-        ensures other { IsFalse result → step.parent < length self.now.paths
-            → 0 < number → number < length self.now.paths
-            → path_at self.now.paths number ≡ path_by self.now.paths step → ⊥ }
+    /// The number of a step's path, if it has one.
+    fn found(&self, step: Step) -> Option<usize>
+        requires { step.parent < length self.now.paths }
+        ensures { MatchOption result
+            ((n : ℕ) → n < length self.now.paths
+            → path_at self.now.paths n ≡ path_by self.now.paths step → ⊥)
+            (λ n. HasNumber (path_by self.now.paths step) n self.now.paths self.now.paths) }
     {
-        if number == 0 {
-            return false;
-        }
-        match self.nodes.get(number) {
-            Some(node) => node.step() == step,
-            None => false,
+        let links = links_of(&self.nodes, step.parent);
+        match links.to(step.func) {
+            Some(number) => Some(number as usize),
+            None => {
+                if links.before.number == 0 {
+                    return None;
+                }
+                let number = self.numbers.get(&step)?;
+                Some(*number as usize)
+            }
         }
     }
 
@@ -138,12 +133,8 @@ impl PathSums {
             → AreSums self.old.paths self.old.tallies pairs
             → AreSums self.new.paths self.new.tallies pairs) }
     {
-        let first = child_of(&self.nodes, step.parent);
-        if self.is_path_of(first, step) {
-            return Ok(first);
-        }
-        match self.numbers.get(&step) {
-            Some(number) => Ok(*number),
+        match self.found(step) {
+            Some(number) => Ok(number),
             None => self.add_path(step),
         }
     }
@@ -160,19 +151,16 @@ impl PathSums {
             → AreSums self.new.paths self.new.tallies pairs) }
     {
         plant(&mut self.nodes)?;
-        let number = self.nodes.len();
+        let Ok(number) = u32::try_from(self.nodes.len()) else {
+            return Err(NoMemory);
+        };
+        let before = links_of(&self.nodes, step.parent).before;
+        enter(&mut self.numbers, step.parent, before)?;
         let node = Node::after(&self.nodes, step);
         self.nodes.push(node)?;
-        match enter(&self.nodes, &mut self.numbers, step, number) {
-            Ok(_) => {
-                link(&mut self.nodes, step.parent, number);
-                Ok(number)
-            }
-            Err(_) => {
-                self.nodes.pop();
-                Err(NoMemory)
-            }
-        }
+        let func = step.func;
+        link(&mut self.nodes, step.parent, Link { number, func });
+        Ok(number as usize)
     }
 
     /// One more pair of a path with this number.
@@ -223,7 +211,7 @@ impl PathSums {
         'climbing: while number > 0 {
             let step = self.step_to(number);
             path.push(step.func)?;
-            number = step.parent;
+            number = step.parent as usize;
         }
         path.reverse();
         Ok(path)
@@ -240,7 +228,7 @@ impl PathSums {
     }
 
     /// The numbers of all paths, each once.
-    pub(crate) fn order(&mut self, alloc: Global) -> Result<Vec<usize>, NoMemory>
+    pub(crate) fn order(&mut self, alloc: Global) -> Result<Vec<u32>, NoMemory>
         ensures order { IfOk result (λ order.
             IsPermutation (range_with_len 0 (length self.old.paths)) order.items) }
         ensures same { self.new ≡ self.old }

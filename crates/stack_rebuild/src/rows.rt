@@ -26,14 +26,14 @@ pub fn rows_of(alloc: Global, mut sums: PathSums) -> Result<Vec<StackRow>, NoMem
 }
 
 /// A row for each of the paths with these numbers that has a pair, in the order of the numbers.
-fn listed(alloc: Global, sums: &PathSums, numbers: &[usize]) -> Result<Vec<StackRow>, NoMemory>
+fn listed(alloc: Global, sums: &PathSums, numbers: &[u32]) -> Result<Vec<StackRow>, NoMemory>
     requires { All (λ number. number < length sums.now.paths) numbers.now }
     ensures { IfOk result (λ rows. map told rows.items
         ≡ rows_for sums.now.paths sums.now.tallies numbers.now) }
 {
     let mut rows = Vec::new(alloc);
     'listing: for number in numbers {
-        add_row(alloc, &mut rows, sums, *number)?;
+        add_row(alloc, &mut rows, sums, *number as usize)?;
     }
     Ok(rows)
 }

@@ -14,6 +14,6 @@ pub mod ButR10
 pub mod SledBytes
 pub mod AcceptedCode
 pub mod OneExecution
-pub mod Executing
+pub mod ExecutedRuns
 -- Worked examples: the step of a sled
 mod ExecutedRows

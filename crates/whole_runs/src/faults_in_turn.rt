@@ -232,23 +232,29 @@ fn desk_for(alloc: Global, command: &Command, failing: &[u64]) -> Result<MemDesk
     Ok(desk)
 }
 
+/// A desk for a command and streams, which fail at these calls, before a run.
+fn before_run(alloc: Global, command: &Command, failing: Failing) -> Result<Left, Fail> {
+    let desk = desk_for(alloc, command, failing.desk)?;
+    let out = Vec::from_slice(alloc, failing.out)?;
+    let err = Vec::from_slice(alloc, failing.err)?;
+    Ok(Left {
+        status: 0,
+        desk: WatchedDesk::new(alloc, desk),
+        out: WatchedSink::new(MemSink::new(alloc, out)),
+        err: WatchedSink::new(MemSink::new(alloc, err)),
+    })
+}
+
 /// Runs a command over a desk and streams that fail at these calls.
 fn run_with<R: Threads + Wait + Sync + AllocGlobal>(
     rt: &R,
     command: &Command,
     failing: Failing,
 ) -> Result<Left, Fail> {
-    let alloc = rt.alloc();
-    let mut desk = WatchedDesk::new(alloc, desk_for(alloc, command, failing.desk)?);
-    let mut out = WatchedSink::new(MemSink::new(alloc, Vec::from_slice(alloc, failing.out)?));
-    let mut err = WatchedSink::new(MemSink::new(alloc, Vec::from_slice(alloc, failing.err)?));
-    let status = status_of(rt, command.words, &mut desk, &mut out, &mut err, &OpenGate)?;
-    Ok(Left {
-        status,
-        desk,
-        out,
-        err,
-    })
+    let mut left = before_run(rt.alloc(), command, failing)?;
+    let (desk, out, err) = (&mut left.desk, &mut left.out, &mut left.err);
+    left.status = status_of(rt, command.words, desk, out, err, &OpenGate)?;
+    Ok(left)
 }
 
 /// Runs a command without a fault, over a desk that gives and takes all bytes that are asked for.

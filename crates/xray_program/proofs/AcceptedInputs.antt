@@ -56,7 +56,7 @@ use Rattle.xray_program.specs.Traced.{Traces}
 use Rattle.xray_program.proofs.ConvertLaws.{converts_done}
 use Rattle.xray_program.proofs.DumpLaws.{readable_decided}
 use Rattle.xray_program.proofs.LogForms.{log_decided}
-use Rattle.xray_program.proofs.Meanings.{IsDecided, any_decided, decided_by}
+use Rattle.xray_program.proofs.InputMeanings.{IsDecided, any_decided, decided_by}
 use Rattle.xray_program.proofs.OrderLaws.{AfterAudit as OrderAfterAudit, AfterImage as OrderAfterImage, OneOrder, whole_decided}
 use Rattle.xray_program.proofs.Reports.{trace_decided}
 

@@ -8,7 +8,7 @@ use Rattle.xray_program.specs.Commands.{TellsAll}
 use Rattle.xray_program.specs.Inputs.{image_form, trace_form}
 use Rattle.xray_program.specs.Outcomes.{Done}
 use Rattle.xray_program.specs.Taking.{Sound}
-use Rattle.xray_program.proofs.Meanings.{AnyOutcome, HoldsBytes, IsAlone, IsDecided, IsJudged, SomeOutcome}
+use Rattle.xray_program.proofs.InputMeanings.{AnyOutcome, HoldsBytes, IsAlone, IsDecided, IsJudged, SomeOutcome}
 use Rattle.xray_program.proofs.Reports.{report_alone, report_some, trace_decided, trace_judged}
 
 pub account_alone : IsDecided image_form → (held : List ℕ → Entry) (trace : List ℕ) (source : NameSource) (options : AccountOptions)

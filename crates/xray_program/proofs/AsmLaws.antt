@@ -8,7 +8,7 @@ use Rattle.xray_program.specs.Commands.{TellsAll}
 use Rattle.xray_program.specs.Inputs.{text_form, text_limit}
 use Rattle.xray_program.specs.Outcomes.{Done}
 use Rattle.xray_program.specs.Taking.{Sound}
-use Rattle.xray_program.proofs.Meanings.{AnyOutcome, HoldsBytes, IsAlone, SomeOutcome, decided_by, judged_by, some_take, take_alone}
+use Rattle.xray_program.proofs.InputMeanings.{AnyOutcome, HoldsBytes, IsAlone, SomeOutcome, decided_by, judged_by, some_take, take_alone}
 
 pub asm_alone : (held : List ℕ → Entry) (text image : List ℕ) (threshold : ℕ) (relative : Bool) → TellsAll held
     → IsAlone AnyOutcome (AsmComes Sound held text image threshold relative)

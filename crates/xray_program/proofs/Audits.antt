@@ -5,7 +5,7 @@ use Rattle.audit_check.specs.Reading.{ReadsAs}
 use Rattle.audit_check.specs.Statements.{Statement}
 use Rattle.audit_check.specs.Texts.{audit_words}
 use Rattle.xray_program.specs.Inputs.{audit_form, refused_for}
-use Rattle.xray_program.proofs.Meanings.{IsDecided, IsJudged}
+use Rattle.xray_program.proofs.InputMeanings.{IsDecided, IsJudged}
 
 -- what the reader of audits says: any bytes read as one statement, or are refused at one line
 abbrev pub OneReading : Type 0

@@ -17,7 +17,7 @@ use Rattle.xray_program.specs.Inputs.{audit_form, image_form, script_form, scrip
 use Rattle.xray_program.specs.Outcomes.{Outcome, Done}
 use Rattle.xray_program.specs.Taking.{Sound, Take}
 use Rattle.xray_program.proofs.Audits.{OneReading, SomeReading, audit_decided, audit_judged}
-use Rattle.xray_program.proofs.Meanings.{AnyOutcome, HoldsBytes, IsAlone, IsDecided, IsJudged as IsJudgedKind, SomeOutcome, any_decided, any_judged, decided_by, judged_by, some_take, take_alone}
+use Rattle.xray_program.proofs.InputMeanings.{AnyOutcome, HoldsBytes, IsAlone, IsDecided, IsJudged as IsJudgedKind, SomeOutcome, any_decided, any_judged, decided_by, judged_by, some_take, take_alone}
 
 -- what the judge of audits says: there is one verdict, for an accepted image
 abbrev pub OneJudgement : Type 0

@@ -23,7 +23,7 @@ use Rattle.runtime_log.specs.Laws.{OneImport, SomeImport}
 use Rattle.xray_program.proofs.Images.{Accepts, OneVerdict, SomeVerdict, image_decided, image_judged}
 use Rattle.xray_program.proofs.ImportLaws.{import_alone, import_some}
 use Rattle.xray_program.proofs.Logs.{imported_decided, imported_judged}
-use Rattle.xray_program.proofs.Meanings.{AnyOutcome, HoldsBytes, IsAlone, IsRefusal, SomeOutcome, refusal_alone}
+use Rattle.xray_program.proofs.InputMeanings.{AnyOutcome, HoldsBytes, IsAlone, IsRefusal, SomeOutcome, refusal_alone}
 use Rattle.xray_program.proofs.OrderLaws.{OneOrder, SomeOrder, order_alone, order_some}
 use Rattle.xray_program.proofs.PlainLaws.{OneEnd, SomeEnd, plain_alone, plain_some}
 use Rattle.xray_program.proofs.ProfileLaws.{profile_refuses, profile_some}

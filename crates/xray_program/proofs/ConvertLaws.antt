@@ -21,7 +21,7 @@ use Rattle.xray_program.specs.declared.log.Log.TheVariants as logs
 use Rattle.xray_program.specs.private.Logs.{BytesFit, LogMeans, TraceFits, bytes_text}
 use Rattle.xray_program.specs.Taking.{Sound}
 use Rattle.xray_program.proofs.LogForms.{log_decided, log_judged}
-use Rattle.xray_program.proofs.Meanings.{AnyOutcome, HoldsBytes, IsAlone, IsDecided, IsJudged, SomeOutcome, refuse_alone, some_refuse}
+use Rattle.xray_program.proofs.InputMeanings.{AnyOutcome, HoldsBytes, IsAlone, IsDecided, IsJudged, SomeOutcome, refuse_alone, some_refuse}
 use Rattle.xray_program.proofs.Reports.{report_alone, report_some}
 use Rattle.yaml_convert.specs.Yaml.{yaml_read}
 

@@ -18,7 +18,7 @@ use Rattle.xray_program.specs.Outcomes.{Outcome, Done}
 use Rattle.xray_program.specs.Taking.{Sound}
 use Rattle.xray_program.specs.declared.stop.Stop.{Stop}
 use Rattle.xray_program.specs.private.Takes.{IsTaken}
-use Rattle.xray_program.proofs.Meanings.{AnyOutcome, HoldsBytes, IsAlone, IsDecided, IsJudged, SomeOutcome, some_take, take_alone}
+use Rattle.xray_program.proofs.InputMeanings.{AnyOutcome, HoldsBytes, IsAlone, IsDecided, IsJudged, SomeOutcome, some_take, take_alone}
 
 -- ---- the longest prefix
 

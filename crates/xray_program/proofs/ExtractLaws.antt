@@ -7,7 +7,7 @@ use Rattle.xray_program.specs.Extract.{ExtractComes}
 use Rattle.xray_program.specs.Inputs.{image_form}
 use Rattle.xray_program.specs.Outcomes.{Done}
 use Rattle.xray_program.specs.Taking.{Sound}
-use Rattle.xray_program.proofs.Meanings.{AnyOutcome, HoldsBytes, IsAlone, IsDecided, IsJudged, SomeOutcome, some_take, take_alone}
+use Rattle.xray_program.proofs.InputMeanings.{AnyOutcome, HoldsBytes, IsAlone, IsDecided, IsJudged, SomeOutcome, some_take, take_alone}
 
 pub extract_alone : IsDecided image_form → (held : List ℕ → Entry) (image : List ℕ) → TellsAll held
     → IsAlone AnyOutcome (ExtractComes Sound held image)

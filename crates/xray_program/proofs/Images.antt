@@ -4,7 +4,7 @@ use Rattle.xray_image.specs.FaultWords.{image_words}
 use Rattle.xray_image.specs.Program.{Program, IsAccepted}
 use Rattle.xray_image.specs.Table.{Verdict, ReadsAs}
 use Rattle.xray_program.specs.Inputs.{image_form, refused_for}
-use Rattle.xray_program.proofs.Meanings.{AreBytes, IsDecided, IsJudged}
+use Rattle.xray_program.proofs.InputMeanings.{AreBytes, IsDecided, IsJudged}
 
 -- what the reader of images says: each file has only one verdict, and is accepted exactly when that is a program
 abbrev pub OneVerdict : Type 0

@@ -7,7 +7,7 @@ use Rattle.xray_program.specs.Import.{ImportComes}
 use Rattle.xray_program.specs.Inputs.{imported_form}
 use Rattle.xray_program.specs.Outcomes.{Done}
 use Rattle.xray_program.specs.Taking.{Sound}
-use Rattle.xray_program.proofs.Meanings.{AnyOutcome, HoldsBytes, IsAlone, IsDecided, IsJudged, SomeOutcome, some_take, take_alone}
+use Rattle.xray_program.proofs.InputMeanings.{AnyOutcome, HoldsBytes, IsAlone, IsDecided, IsJudged, SomeOutcome, some_take, take_alone}
 
 pub import_alone : IsDecided imported_form → (held : List ℕ → Entry) (log trace : List ℕ) → TellsAll held
     → IsAlone AnyOutcome (ImportComes Sound held log trace)

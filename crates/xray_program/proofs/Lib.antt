@@ -1,8 +1,8 @@
 -- The call: what words mean, and how a call ends (src/call.rt, src/work.rt, src/laws.rt)
 pub mod CommandLaws
-pub mod Answering
-pub mod Endings
-pub mod Saying
+pub mod CallContract
+pub mod WorkEndings
+pub mod ErrLines
 pub mod AcceptedInputs
 -- The headline of `sim` and of `run`
 pub mod Headline
@@ -14,12 +14,12 @@ pub mod AuditLengths
 -- What `order` writes is replayed by `sim` (src/laws.rt)
 pub mod OrderReplays
 -- The trace of a run is imported as itself (src/laws.rt)
-pub mod RunsImported
+pub mod ImportedRuns
 -- Inputs: in their turn, what comes of each, and of one that is refused (src/input.rt, src/inputs.rt)
 pub mod Turns
-pub mod Ordering
-pub mod Meanings
-pub mod Judging
+pub mod CallOrder
+pub mod InputMeanings
+pub mod InputReaders
 pub mod Images
 pub mod Audits
 pub mod Logs
@@ -31,7 +31,7 @@ pub mod CheckTurns
 pub mod SimTurns
 pub mod OrderTurns
 -- Outputs and texts (src/delivery.rt, src/traced.rt, src/summary.rt)
-pub mod Outputting
+pub mod MadeOutputs
 pub mod TextLists
 pub mod RunWritten
 pub mod SoakTexts
@@ -39,7 +39,7 @@ pub mod SoakTexts
 pub mod RunSetups
 pub mod PlainThreads
 pub mod RunExists
-pub mod Profiling
+pub mod ProfiledThreads
 pub mod SoakReads
 -- Each command: something comes of it, and one thing only if it is deterministic (src/laws.rt)
 pub mod AccountLaws

@@ -6,7 +6,7 @@ use Rattle.command_words.specs.declared.report_options.InputForm.TheVariants.{Fd
 use Rattle.trace_forms.specs.BasicLogs.{basic_of}
 use Rattle.trace_forms.specs.FaultWords.{basic_words}
 use Rattle.xray_program.specs.Convert.{log_form}
-use Rattle.xray_program.proofs.Meanings.{IsDecided, IsJudged, decided_by, judged_by}
+use Rattle.xray_program.proofs.InputMeanings.{IsDecided, IsJudged, decided_by, judged_by}
 use Rattle.xray_program.proofs.Reports.{trace_decided, trace_judged}
 
 -- both have one name and one limit

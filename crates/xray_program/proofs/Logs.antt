@@ -7,7 +7,7 @@ use Rattle.runtime_log.specs.Imports.{IsImport}
 use Rattle.runtime_log.specs.Laws.{OneImport, SomeImport}
 use Rattle.runtime_log.specs.Logs.{Log, logged}
 use Rattle.xray_program.specs.Inputs.{imported_form, refused_for}
-use Rattle.xray_program.proofs.Meanings.{IsDecided, IsJudged}
+use Rattle.xray_program.proofs.InputMeanings.{IsDecided, IsJudged}
 
 never : (log : Log) (fault : LogFault) → (let v : Result Log LogFault = Ok log in let w : Result Log LogFault = Err fault in v ≡ w) → ⊥
 never log fault e = cc

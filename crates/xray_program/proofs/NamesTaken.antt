@@ -21,8 +21,8 @@ use Rattle.xray_program.specs.private.Takes.{AreTakings, IsStopAtInput, IsTaken}
 use Rattle.xray_program.specs.declared.names.TakenNames.{TakenNames}
 use Rattle.xray_program.specs.declared.stop.Stop.{Stop}
 use Rattle.xray_program.specs.declared.stop.Stop.TheVariants as stops
-use Rattle.xray_program.proofs.Meanings.{HoldsBytes, IsAlone, IsDecided, IsJudged, SomeOutcome, decided_by, judged_by, some_take, take_alone}
-use Rattle.xray_program.proofs.Ordering.{read_on, stop_handed}
+use Rattle.xray_program.proofs.InputMeanings.{HoldsBytes, IsAlone, IsDecided, IsJudged, SomeOutcome, decided_by, judged_by, some_take, take_alone}
+use Rattle.xray_program.proofs.CallOrder.{read_on, stop_handed}
 use Rattle.xray_program.proofs.Turns.{Leads, leads_on, stops_at}
 
 -- ---- a map of which the names are kept

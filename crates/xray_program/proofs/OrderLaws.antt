@@ -16,7 +16,7 @@ use Rattle.xray_program.specs.LoadOrder.{OrderComes, Orders, order_outcome}
 use Rattle.xray_program.specs.Outcomes.{Outcome}
 use Rattle.xray_program.specs.Taking.{Sound, Take}
 use Rattle.xray_program.proofs.Audits.{OneReading, SomeReading, audit_decided, audit_judged}
-use Rattle.xray_program.proofs.Meanings.{AnyOutcome, HoldsBytes, IsAlone, IsDecided, IsJudged, SomeOutcome, decided_by, judged_by, some_take, take_alone}
+use Rattle.xray_program.proofs.InputMeanings.{AnyOutcome, HoldsBytes, IsAlone, IsDecided, IsJudged, SomeOutcome, decided_by, judged_by, some_take, take_alone}
 
 -- what orders say: there is one answer to an audit, for an accepted image
 abbrev pub OneOrder : Type 0

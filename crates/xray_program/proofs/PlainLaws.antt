@@ -13,7 +13,7 @@ use Rattle.xray_program.specs.Plain.{IsPlainText, PlainComes, PlainPrints}
 use Rattle.xray_program.specs.Setups.{plain_limits}
 use Rattle.xray_program.specs.Taking.{Sound, Prints}
 use Rattle.command_words.specs.declared.run_options.Bounds.{Bounds}
-use Rattle.xray_program.proofs.Meanings.{AnyOutcome, HoldsBytes, IsAlone, IsDecided, IsJudged, SomeOutcome, leaves_alone, some_leaves, some_take, take_alone}
+use Rattle.xray_program.proofs.InputMeanings.{AnyOutcome, HoldsBytes, IsAlone, IsDecided, IsJudged, SomeOutcome, leaves_alone, some_leaves, some_take, take_alone}
 use Rattle.xray_program.proofs.TextLists.{made, made_first, made_length, same_list}
 
 -- what the machine says: the plain run of a thread of an accepted image has one end, and has an end

@@ -12,7 +12,7 @@ use Rattle.xray_program.specs.Outcomes.{Outcome}
 use Rattle.xray_program.specs.Profile.{ProfileComes, Profiles, profile_of}
 use Rattle.xray_program.specs.Setups.{limits_of}
 use Rattle.xray_program.specs.Taking.{Sound, Take, ended_by}
-use Rattle.xray_program.proofs.Meanings.{HoldsBytes, IsAlone, IsDecided, IsJudged, IsRefusal, SomeOutcome, decided_by, judged_by, some_take, take_alone}
+use Rattle.xray_program.proofs.InputMeanings.{HoldsBytes, IsAlone, IsDecided, IsJudged, IsRefusal, SomeOutcome, decided_by, judged_by, some_take, take_alone}
 use Rattle.xray_program.proofs.RunExists.{SomeRuns}
 
 -- what comes of an image

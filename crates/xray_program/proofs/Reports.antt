@@ -24,9 +24,9 @@ use Rattle.xray_program.specs.Taking.{Form, IsAcceptedAs, Sound}
 use Rattle.xray_program.specs.declared.names.TakenNames.{TakenNames}
 use Rattle.xray_program.specs.declared.report_inputs.ReportInputs.{ReportInputs}
 use Rattle.xray_program.specs.declared.stop.Stop.{Stop}
-use Rattle.xray_program.proofs.Meanings.{HoldsBytes, IsAlone, IsDecided, IsJudged, SomeOutcome, decided_by, judged_by, some_take, take_alone}
+use Rattle.xray_program.proofs.InputMeanings.{HoldsBytes, IsAlone, IsDecided, IsJudged, SomeOutcome, decided_by, judged_by, some_take, take_alone}
 use Rattle.xray_program.proofs.NamesTaken.{names_alone, names_handed, names_lead_on, names_read, names_stop_at, some_names}
-use Rattle.xray_program.proofs.Ordering.{all_taken}
+use Rattle.xray_program.proofs.CallOrder.{all_taken}
 use Rattle.xray_program.proofs.Turns.{Leads, leads, leads_on, stops_at}
 
 -- ---- the turns

@@ -11,7 +11,7 @@ use Rattle.xray_program.specs.Outcomes.{Outcome}
 use Rattle.xray_program.specs.Run.{FollowsPlan, RunComes, RunsBeside}
 use Rattle.xray_program.specs.Taking.{Sound, Take}
 use Rattle.xray_program.specs.Traced.{Traces, state_texts, written_of}
-use Rattle.xray_program.proofs.Meanings.{HoldsBytes, IsAlone, IsDecided, IsJudged, IsRefusal, SomeOutcome, decided_by, judged_by, leaves_no_refusal, some_leaves, some_take, take_alone}
+use Rattle.xray_program.proofs.InputMeanings.{HoldsBytes, IsAlone, IsDecided, IsJudged, IsRefusal, SomeOutcome, decided_by, judged_by, leaves_no_refusal, some_leaves, some_take, take_alone}
 use Rattle.xray_program.proofs.RunExists.{SomeRuns}
 
 -- what comes of an image

@@ -18,7 +18,7 @@ use Rattle.xray_program.specs.Outcomes.{Outcome}
 use Rattle.xray_program.specs.Sim.{Replayed, Replays, SimComes}
 use Rattle.xray_program.specs.Taking.{Leaves, Sound, Take}
 use Rattle.xray_program.specs.Traced.{Traces, state_texts, written_of}
-use Rattle.xray_program.proofs.Meanings.{AnyOutcome, HoldsBytes, IsAlone, IsDecided, IsJudged, SomeOutcome, decided_by, judged_by, leaves_alone, refuse_alone, some_leaves, some_refuse, some_take, take_alone}
+use Rattle.xray_program.proofs.InputMeanings.{AnyOutcome, HoldsBytes, IsAlone, IsDecided, IsJudged, SomeOutcome, decided_by, judged_by, leaves_alone, refuse_alone, some_leaves, some_refuse, some_take, take_alone}
 
 -- what replays say: a schedule leaves only one list of runs, and it leaves runs if nothing waits
 abbrev pub OneRun : Type 0

@@ -22,7 +22,7 @@ use Rattle.xray_image.specs.Program.{IsAccepted, Program}
 use Rattle.xray_program.specs.Inputs.{image_form}
 use Rattle.xray_program.specs.Soak.{AreInputs, IsSummary, SoakComes, soak_setup, soak_summary}
 use Rattle.xray_program.specs.private.Drawn.{InputLaws}
-use Rattle.xray_program.proofs.Meanings.{AnyOutcome, IsAlone, IsDecided, SomeOutcome, leaves_alone, some_leaves}
+use Rattle.xray_program.proofs.InputMeanings.{AnyOutcome, IsAlone, IsDecided, SomeOutcome, leaves_alone, some_leaves}
 use Rattle.xray_program.proofs.RunSetups.{soak_is_setup}
 use Rattle.xray_program.proofs.SimLaws.{OneRun, StillRun}
 

@@ -18,7 +18,7 @@ use Rattle.xray_program.specs.Outcomes.{Outcome, Done}
 use Rattle.xray_program.specs.Stack.{StackComes, StacksCome, stacks_text}
 use Rattle.xray_program.specs.Taking.{Sound}
 use Rattle.xray_program.specs.private.Meant.{RowsMean}
-use Rattle.xray_program.proofs.Meanings.{AnyOutcome, HoldsBytes, IsAlone, IsDecided, IsJudged, SomeOutcome, refuse_alone, some_refuse}
+use Rattle.xray_program.proofs.InputMeanings.{AnyOutcome, HoldsBytes, IsAlone, IsDecided, IsJudged, SomeOutcome, refuse_alone, some_refuse}
 use Rattle.xray_program.proofs.Reports.{report_alone, report_some, trace_decided, trace_judged}
 
 abbrev reason : Trace → Option (List ℕ)

@@ -1,9 +1,10 @@
 -- The contract of the top call: what was said, the world before the call and after it, and the status.
 use Rattle.std.specs.Prelude.{◌≡◌, ◌≢◌, ◌⊎◌, ◌↔◌, ℕ, List, Contains, Option, Some, None}
 use Rattle.xray_io.specs.Calls.{Call, Went}
-use Rattle.xray_io.specs.Desk.{Absent, Holds}
+use Rattle.xray_io.specs.Desk.{Absent, Entry, Holds}
 use Rattle.xray_io.specs.Faults.{Rose}
 use Rattle.xray_io.specs.Sink.{Adds, AddsPrefix}
+use Rattle.machine_step.specs.Setups.{IsSetup}
 use Rattle.command_words.specs.declared.run_options.RunOptions.{RunOptions}
 use Rattle.xray_program.specs.Commands.{Means, HadItsTurn, outputs_named}
 use Rattle.xray_program.specs.Order.{InOrder, IsNoCall}
@@ -73,19 +74,25 @@ IsAnswer said before after status =
     ⊎ ((status ≡ 3) × Rose before.desk.read_faults after.desk.read_faults)
     ⊎ ((status ≡ 4) × (Rose before.desk.write_faults after.desk.write_faults ⊎ Rose before.out.faults after.out.faults))
 
--- if `sim` was said, with inputs that the desk holds, then all that the schedule leaves was written
-abbrev pub SimIsTraced : Option Command → (before after : World) → Type 0
-SimIsTraced said before after =
-    (i s c t a image script schedule : List ℕ) (options : RunOptions) → said ≡ Some (Sim i s c t a options)
-    → before.desk.held i ≡ Holds image → before.desk.held s ≡ Holds script → before.desk.held c ≡ Holds schedule
-    → IsTraced (FollowsSchedule schedule (setup_of options)) image script t a (setup_of options) before after
+-- the options of a `sim` or a `run` make a setup that a run may have
+abbrev pub MakesSetup : Option Command → Type 0
+MakesSetup said =
+    (i s c t a : List ℕ) (options : RunOptions)
+    → (said ≡ Some (Sim i s c t a options)) ⊎ (said ≡ Some (Run i s t a options)) → IsSetup (setup_of options)
 
--- if `run` was said, with inputs that the desk holds, then all that threads leave beside the script was written
-abbrev pub RunIsTraced : Option Command → (before after : World) → Type 0
-RunIsTraced said before after =
+-- if `sim` was said, with inputs that the desk held, then the files of what the schedule leaves were written
+abbrev pub SimIsTraced : Option Command → (old new : List ℕ → Entry) → Type 0
+SimIsTraced said old new =
+    (i s c t a image script schedule : List ℕ) (options : RunOptions) → said ≡ Some (Sim i s c t a options)
+    → old i ≡ Holds image → old s ≡ Holds script → old c ≡ Holds schedule
+    → IsTraced (FollowsSchedule schedule) image script t a (setup_of options) old new
+
+-- if `run` was said, with inputs that the desk held, then the files of what threads leave beside the script were written
+abbrev pub RunIsTraced : Option Command → (old new : List ℕ → Entry) → Type 0
+RunIsTraced said old new =
     (i s t a image script : List ℕ) (options : RunOptions) → said ≡ Some (Run i s t a options)
-    → before.desk.held i ≡ Holds image → before.desk.held s ≡ Holds script
-    → IsTraced (LoadsFollowPlan (setup_of options)) image script t a (setup_of options) before after
+    → old i ≡ Holds image → old s ≡ Holds script
+    → IsTraced (LoadsFollowPlan (setup_of options)) image script t a (setup_of options) old new
 
 -- The whole contract of a call. Its status and its line on err are those of one ending.
 pub record Answered (said : Option Command) (before after : World) (Way : List Call → Type 0) (answer : ℕ) : Type 0 where
@@ -112,5 +119,6 @@ pub record Answered (said : Option Command) (before after : World) (Way : List C
   pub order : Went Way (InOrder said before.desk after.desk ending)
   -- what is meant comes, unless memory runs out or a fault is counted
   pub complete : IsAnswer said before after answer
-  -- the headline, of `sim` and of `run`
-  pub headline : answer ≡ 0 → SimIsTraced said before after × RunIsTraced said before after
+  -- The headline, of `sim` and of `run`. What is printed of these runs is part of `done`.
+  pub headline : answer ≡ 0 → SimIsTraced said before.desk.held after.desk.held × RunIsTraced said before.desk.held after.desk.held
+  pub setup : answer ≡ 0 → MakesSetup said

@@ -9,8 +9,9 @@ use Rattle.machine_step.specs.declared.setup.Setup.{Setup}
 use Rattle.machine_step.specs.Loads.{Load}
 use Rattle.step_sim.specs.declared.turns.Turns.{Turns}
 use Rattle.step_sim.specs.FaultWords.{waits_words}
-use Rattle.step_sim.specs.Replay.{of_thread}
-use Rattle.step_sim.specs.Replayed.{IsReplayOf, LoseOldest}
+use Rattle.step_sim.specs.Plays.{Plays}
+use Rattle.step_sim.specs.Replay.{Cast, Moment, first_moment, moment_rules, of_thread, thread_count}
+use Rattle.step_sim.specs.Replayed.{IsReplayOf, cast_with}
 use Rattle.traced_run.specs.Runs.{ThreadRun}
 use Rattle.xray_program.specs.Inputs.{image_form, script_form, schedule_form}
 use Rattle.xray_program.specs.Spoken.{turns_given}
@@ -37,11 +38,14 @@ SimComes reads held image script schedule trace audit setup =
     Take (schedule_form setup.threads) reads held schedule (λ turns.
     Replays script trace audit setup program plan turns)))
 
--- The headline's law for `sim`. The runs are those that the turns of the schedule's lines leave, with their marks and
--- the numbers of their lost segments. The loads of each thread are those that it has made when the replay leaves these
--- runs. The segments whose buffers were taken from the queue are each thread's oldest.
-pub record FollowsSchedule (schedule : List ℕ) (setup : Setup) (program : Program) (script : List Command) (runs : List ThreadRun)
-    (loads : ℕ → List Load) : Type 0 where
-  pub replayed : IsReplayOf program script (turns_given schedule) setup runs
-  pub loads_are : (number : ℕ) → loads number ≡ of_thread replayed.last.moment.loads number
-  pub oldest : LoseOldest setup.size runs replayed.last.stock
+-- The turns of a schedule bring its threads and its script from the start to a moment at which each thread has ended.
+abbrev pub ComesTo : Cast → List Turns → Moment → Type 0
+ComesTo cast schedule last = Plays (moment_rules cast) (thread_count cast) (first_moment cast) schedule last
+
+-- The headline's law for `sim`. The turns of the schedule's lines are played, and the loads of each thread are those that
+-- it has made at the end.
+pub record FollowsSchedule (schedule : List ℕ) (program : Program) (script : List Command) (runs : List ThreadRun) (loads : ℕ → List Load)
+    : Type 0 where
+  pub last : Moment
+  pub played : ComesTo (cast_with program script runs) (turns_given schedule) last
+  pub loads_are : (number : ℕ) → loads number ≡ of_thread last.loads number

@@ -2,14 +2,11 @@
 use Rattle.std.specs.Prelude.{◌≡◌, ◌≤◌, ◌+◌, ℕ, List, [], ◌∷◌, ◌++◌, Ok, length}
 use Rattle.command_words.specs.Limits.{trace_limit}
 use Rattle.fdr_file.specs.Traces.{trace_of}
-use Rattle.xray_io.specs.Desk.{made_to_hold}
-use Rattle.xray_io.specs.Sink.{Adds}
-use Rattle.xray_io.specs.World.{World}
+use Rattle.xray_io.specs.Desk.{Entry, made_to_hold}
 use Rattle.xray_image.specs.Program.{Program, IsAccepted}
 use Rattle.patch_script.specs.Micros.{hold_of}
 use Rattle.patch_script.specs.declared.command.Command.{Command}
 use Rattle.machine_step.specs.Buffers.{spare_of}
-use Rattle.machine_step.specs.Setups.{IsSetup}
 use Rattle.machine_step.specs.declared.setup.Setup.{Setup}
 use Rattle.machine_step.specs.Loads.{Load}
 use Rattle.machine_step.specs.Texts.{state_text}
@@ -60,25 +57,23 @@ pub record RanLawfully (Lawful : Program → List Command → List ThreadRun →
   pub executes : EachThread runs
       (λ number run. Executes program setup.limits setup.threads number (hold_of number (commands_said script)) run (loads number))
 
--- The files of runs are written, and their state texts. The trace holds exactly the bytes of the trace of these runs. The
--- audit holds how they ended: each thread's end, segments, lost segments and marks. The state texts were given to out,
--- thread 1 first.
-pub record LeftFiles (trace audit : List ℕ) (setup : Setup) (runs : List ThreadRun) (before after : World) : Type 0 where
-  pub trace_holds : after.desk.held trace ≡ made_to_hold (before.desk.held trace) (trace_bytes setup runs)
-  pub audit_holds : after.desk.held audit ≡ made_to_hold (before.desk.held audit) (audit_of_run setup runs)
-  pub out : Adds before.out.written after.out.written (state_texts 1 runs)
+-- The files of runs are written. The desk held the old entries before, and holds the new ones after that. The trace holds
+-- exactly the bytes of the trace of these runs. The audit holds how they ended: each thread's end, segments, lost segments
+-- and marks.
+pub record LeftFiles (trace audit : List ℕ) (setup : Setup) (runs : List ThreadRun) (old new : List ℕ → Entry) : Type 0 where
+  pub trace_holds : new trace ≡ made_to_hold (old trace) (trace_bytes setup runs)
+  pub audit_holds : new audit ≡ made_to_hold (old audit) (audit_of_run setup runs)
 
 -- The threads have run by this law, and their files are written. Each thread that has segments of events keeps its last
--- one; if there are more other segments than spare buffers, exactly the excess is lost, and otherwise none is. The
--- setup is one that a run may have. So the trace reads back: for each thread it has the last whole
--- segments of exactly the entries and exits that its marks record (the law `reports_take_a_run`).
+-- one; if there are more other segments than spare buffers, exactly the excess is lost, and otherwise none is. If the
+-- setup is one that a run may have, the trace reads back: for each thread it has the last whole segments of exactly the
+-- entries and exits that its marks record (the law `reports_take_a_run`).
 pub record IsTraced (Lawful : Program → List Command → List ThreadRun → (ℕ → List Load) → Type 0) (image script trace audit : List ℕ)
-    (setup : Setup) (before after : World) : Type 0 where
-  pub is_setup : IsSetup setup
+    (setup : Setup) (old new : List ℕ → Entry) : Type 0 where
   pub runs : List ThreadRun
   pub ran : RanLawfully Lawful image script setup runs
   pub losses : AreLost setup.size (spare_of setup) runs
-  pub left : LeftFiles trace audit setup runs before after
+  pub left : LeftFiles trace audit setup runs old new
 
 -- ---- what the reports read of it
 

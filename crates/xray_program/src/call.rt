@@ -33,7 +33,7 @@ use patch_script::each_script_keeps_sleds;
 use std::alloc::Global;
 use std::sync::Wait;
 use std::thread::Threads;
-use step_sim::{a_replay_loses_few, lost_segments_are_the_oldest, no_replay_tears_a_sled};
+use step_sim::{a_replay_loses_few, buffers_change_no_replay, no_replay_tears_a_sled};
 use traced_run::a_whole_run_executes_to_its_end;
 use xray_io::{Desk, Gate, Sink, Wall};
 
@@ -135,7 +135,7 @@ pub fn out_of_memory<E: Sink>(err: &mut E) -> u8
 
 /// A law. No thread of a replay decodes a torn sled, and none of a run does. So each thread that
 /// executes its code always comes to the end of its plain run. A replay loses as few segments as its
-/// buffers allow, and a thread's lost segments are its oldest ones.
+/// buffers allow, and makes the same loads as one without buffers.
 fn what_runs_leave()
     ensures { CallLaws }
 {
@@ -143,7 +143,7 @@ fn what_runs_leave()
     each_script_keeps_sleds();
     what_follows_is_allowed();
     a_replay_loses_few();
-    lost_segments_are_the_oldest();
+    buffers_change_no_replay();
     a_whole_run_executes_to_its_end();
 }
 

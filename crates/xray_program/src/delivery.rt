@@ -46,7 +46,7 @@ impl<'a> Outputs<'a> for NoOutputs {
 
     ghost ready = { λ _. ⊤ };
 
-    #[tactic(auto, using(crate::proofs::Outputting::none_whole))]
+    #[tactic(auto, using(crate::proofs::MadeOutputs::none_whole))]
     fn write<D: Desk>(&self, _desk: &mut D) -> Result<(), Stop<'a>> {
         Ok(())
     }

@@ -13,7 +13,9 @@ ghost use Rattle.xray_io.specs.World.{World};
 ghost use Rattle.xray_program.specs.{Accepted.{AreAccepted, CountsNoFault}, Answers.{IsAnswer}};
 ghost use Rattle.xray_program.specs.Commands.{IsDecided, IsProfile, Means, TellsAll, inputs_of};
 ghost use Rattle.xray_program.specs.{
-    Import.{RunsImportThemselves}, OrderReplays.{LeavesRunsOf}, Setups.{setup_of},
+  Import.{RunsImportThemselves},
+  OrderReplays.{LeavesRunsOf},
+  Setups.{setup_of},
 };
 ghost use Rattle.xray_program.specs.Outcomes.{Done, Outcome, status_of, written_by};
 ghost use Rattle.machine_step.specs.Setups.{IsSetup};

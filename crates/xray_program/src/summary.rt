@@ -54,7 +54,7 @@ fn summed_up(
     requires { length lines.now ≡ length cpus.now }
     ensures { IfOk result (λ sink. sink_bytes sink
         ≡ summary_with number (thread_audits lines.now cpus.now) (recycled_by lines.now)
-            back.now.bytes back.now.rows.items) }
+        back.now.bytes back.now.rows.items) }
 {
     let mut sink = MemSink::new(alloc, Vec::new(alloc));
     let summary = Summary {

@@ -1,9 +1,8 @@
 -- The loads of threads, as those at one place after those at another.
-use Rattle.std.specs.Prelude.{◌≡◌, ◌<◌, ◌≤◌, ◌+◌, ◌++◌, ◌-◌, ◌==◌, ◌∷◌, ℕ, zero, suc, List, [], All, count_by, length, map, slice_get, take, Some}
+use Rattle.std.specs.Prelude.{◌≡◌, ◌<◌, ◌≤◌, ◌+◌, ◌++◌, ◌-◌, ◌==◌, ◌∷◌, ℕ, List, [], All, count_by, length, map, slice_get, take, Some}
 use Rattle.std.specs.Borrow.{Bor}
 use Rattle.std.specs.List.{enumerate_from, flat_map}
 use Rattle.step_sim.specs.declared.turns.Turns.{Turns}
-use Rattle.step_sim.specs.declared.turns.Turns.TheVariants.{Patcher}
 use Rattle.run_order.specs.declared.lines.ScheduleLines.{ScheduleLines}
 use Rattle.audit_check.specs.declared.stop.Stop.{Stop}
 use Rattle.audit_check.specs.Stops.{places_of}
@@ -49,15 +48,9 @@ HaveAdded place threads left old new =
 
 -- ---- all places
 
--- after the turns at a place, this many micro steps before the end
-abbrev pub turns_after : List (List ℕ) → ℕ → ℕ → List Turns
-turns_after places place zero = []
-turns_after places place (suc steps) = Patcher 1 ∷ turns_from places (place + 1) steps
-
--- The lines are those of the turns up to a place. With those that are left they are the turns of all places.
+-- The lines are those of the turns before the loads at a place. With those that are left they are the turns of all places.
 pub record IsUpTo (start place total : ℕ) (all : List (List ℕ)) (left : List (Bor (List Stop))) (lines : ScheduleLines) : Type 0 where
   pub turns : List Turns
   pub joined : HasJoined turns lines
-  pub whole : turns ++ turns_after (places_in left) place (total - place) ≡ turns_from all start (total - start)
-  pub stops : AllFrom (place + 1) left
+  pub whole : turns ++ turns_from (places_in left) place (total - place) ≡ turns_from all start (total - start)
   pub steps : lines.steps ≤ place - start

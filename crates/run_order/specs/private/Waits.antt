@@ -1,8 +1,11 @@
 -- The waits of a script, and its places without them.
-use Rattle.std.specs.Prelude.{◌≡◌, ◌+◌, ◌-◌, ◌∷◌, ℕ, List, [], count_by, if◌then◌else◌, nat_lt}
+use Rattle.std.specs.Prelude.{◌≡◌, ◌<◌, ◌+◌, ◌-◌, ◌∷◌, ℕ, List, [], count_by, if◌then◌else◌, length, nat_lt}
 use Rattle.xray_image.specs.Program.{Program}
+use Rattle.sled_words.specs.declared.part.Part.TheVariants.{Id}
+use Rattle.sled_words.specs.Words.{word_of}
 use Rattle.patch_script.specs.declared.command.Command.{Command}
 use Rattle.patch_script.specs.declared.micro.Micro.{Micro}
+use Rattle.patch_script.specs.declared.micro.Micro.TheVariants.{Store}
 use Rattle.patch_script.specs.Micros.{micros}
 use Rattle.run_order.specs.FreeScripts.{is_free}
 
@@ -25,3 +28,10 @@ pub record AreWaits (waits : List ℕ) : Type 0 where
 -- a place, counted without the waits before it
 abbrev pub freed : List ℕ → ℕ → ℕ
 freed waits place = place - count_by (λ wait. nat_lt wait place) waits
+
+-- the store of a sled's id, with which its patching begins
+pub record BeginsPatch (program : Program) (step : Micro) : Type 0 where
+  pub sled : ℕ
+  pub value : ℕ
+  pub within : sled < length program.sleds
+  pub is : step ≡ Store (word_of sled Id) value

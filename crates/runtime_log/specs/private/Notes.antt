@@ -57,6 +57,17 @@ pub record NotesCounter (old : Notes) (thread tsc : ℕ) (new : Notes) : Type 0 
   pub arguments : new.facts.arguments ≡ old.facts.arguments
   pub log : SameLog old.facts new.facts
 
+-- the last event is of this thread, with this counter
+abbrev pub EndsWith : Notes → ℕ → ℕ → Type 0
+EndsWith notes thread tsc = notes.last ≡ Some (record { thread = thread; tsc = tsc })
+
+-- so many more events of the last event's thread, whose counters rise to this one; none logs an argument
+abbrev pub noted_to : Notes → ℕ → ℕ → ℕ → Notes
+noted_to old thread count tsc = record old {
+  facts = record old.facts { events = old.facts.events + count; last = Some (option_map_or (λ n. max n tsc) old.facts.last tsc) };
+  last = Some (record { thread = thread; tsc = tsc });
+}
+
 -- the notes of these events
 pub record HasNoted (events : List ThreadEvent) (notes : Notes) : Type 0 where
   pub count : notes.facts.events ≡ length events

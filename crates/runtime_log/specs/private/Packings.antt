@@ -48,6 +48,10 @@ filled_for placed events = record {
   events = events;
 }
 
+-- this is the last event of a buffer
+abbrev pub EndsIn : Filled → Event → Type 0
+EndsIn buffer event = (earlier : List Event) × (buffer.events ≡ earlier ++ event ∷ [])
+
 -- These events of a block are in the file behind what was there before, and in the buffer.
 pub record Fills (placed : Placed) (file : List ℕ) (events : List Event) (packing : Packing) : Type 0 where
   pub whole : List (List Event)

@@ -1,5 +1,5 @@
 -- The blocks of a log, as they are read.
-use Rattle.std.specs.Prelude.{◌≡◌, ◌≤◌, ◌⊎◌, ⊤, ℕ, ◌+◌, ◌*◌, List, [], ◌∷◌, length, drop, map, sum, take, Option, Result, Ok, Err}
+use Rattle.std.specs.Prelude.{◌≡◌, ◌≢◌, ◌≤◌, ◌⊎◌, ⊤, ℕ, ◌+◌, ◌*◌, List, [], ◌∷◌, length, drop, map, sum, take, Option, None, Result, Ok, Err}
 use Rattle.std.specs.List.{AllZip}
 use Rattle.fdr_file.specs.declared.fault.TraceFault.{TraceFault}
 use Rattle.fdr_file.specs.declared.fault.TraceFault.TheVariants.{NoMemory}
@@ -9,6 +9,7 @@ use Rattle.runtime_log.specs.declared.blocks.LogBlocks.{LogBlocks}
 use Rattle.runtime_log.specs.declared.blocks.Mode.{Mode}
 use Rattle.runtime_log.specs.declared.blocks.Mode.TheVariants.{Recorder, Basic}
 use Rattle.runtime_log.specs.declared.fault.LogFault.{LogFault}
+use Rattle.runtime_log.specs.declared.stretch.Stretch.{Stretch}
 use Rattle.runtime_log.specs.declared.version.LogVersion.{LogVersion}
 use Rattle.runtime_log.specs.declared.walk.BlockWalk.{BlockWalk}
 use Rattle.fdr_file.specs.Places.{starts}
@@ -19,6 +20,7 @@ use Rattle.runtime_log.specs.Logs.{BlockSoFar, LogBlock, as_log, basic_blocks, l
 use Rattle.xray_io.specs.Rows.{InTurn}
 use Rattle.runtime_log.specs.private.Choices.{AreAt, IsAt, Shows}
 use Rattle.runtime_log.specs.private.Records.{records_in}
+use Rattle.runtime_log.specs.private.Walks.{IsPastStretch}
 
 -- the blocks of a log of this mode
 abbrev pub blocks_said : Mode → List ℕ → Result (List LogBlock) LogFault
@@ -59,6 +61,10 @@ pub record ReadsOn (so : BlockSoFar) (old : LogBlocks) (before : Placed) (first 
   pub shows : Shows before so.block → Shows placed now.block
   pub custom : new.custom + so.custom ≡ old.custom + now.custom
   pub typed : new.typed + so.typed ≡ old.typed + now.typed
+
+-- a walk after a stretch, if the first counter of its block is known; or the same walk
+abbrev pub MayPass : BlockWalk → Option ℕ → BlockWalk → Type 0
+MayPass walk first next = (next ≡ walk) ⊎ ((first ≢ None) × (stretch : Stretch) × IsPastStretch walk stretch next)
 
 -- the blocks up to a place were read
 pub record BlocksRead (version : LogVersion) (bytes : List ℕ) (at : ℕ) (blocks : LogBlocks) : Type 0 where

@@ -1,16 +1,24 @@
 -- A way through the records of a block, from one to the next.
-use Rattle.std.specs.Prelude.{◌≡◌, ◌<◌, ◌≤◌, ℕ, ◌+◌, List, [], ◌∷◌, ◌++◌, drop, length, option_to_list, Option, Result, Ok, Err}
+use Rattle.std.specs.Prelude.{◌≡◌, ◌<◌, ◌≤◌, ℕ, ◌+◌, ◌*◌, ◌^◌, All, List, [], ◌∷◌, ◌++◌, drop, length, option_to_list, Option, Some, Result, Ok, Err}
 use Rattle.fdr_record.specs.declared.event.Event.{Event}
 use Rattle.fdr_record.specs.Records.{metadata_length}
+use Rattle.fdr_file.specs.declared.events.Argument.TheVariants.{Barred}
+use Rattle.fdr_file.specs.declared.events.Base.{Base}
 use Rattle.fdr_file.specs.declared.fault.TraceFault.{TraceFault}
+use Rattle.fdr_file.specs.declared.stage.Inside.TheVariants.{Events}
+use Rattle.fdr_file.specs.declared.stage.Span.{Span}
 use Rattle.fdr_file.specs.declared.stage.Stage.{Stage}
+use Rattle.fdr_file.specs.declared.stage.Stage.TheVariants.{Within}
 use Rattle.fdr_file.specs.declared.stage.Told.{Told}
 use Rattle.fdr_file.specs.declared.stage.Told.TheVariants.{Nothing, Begun, Noted}
+use Rattle.fdr_file.specs.Scanning.{stage_after}
 use Rattle.runtime_log.specs.declared.own_event.OwnKind.{OwnKind}
+use Rattle.runtime_log.specs.declared.stretch.Stretch.{Stretch}
 use Rattle.runtime_log.specs.declared.version.LogVersion.{LogVersion}
 use Rattle.runtime_log.specs.declared.walk.BlockWalk.{BlockWalk}
 use Rattle.runtime_log.specs.Logs.{block_content, block_opened, block_size_rows, log_places, log_record_rows}
 use Rattle.runtime_log.specs.OwnEvents.{log_record_length, own_kind}
+use Rattle.runtime_log.specs.private.Stretches.{IsStretch}
 
 -- a walk before the first record of a block that begins at a place and has this size
 pub record IsOpened (version : LogVersion) (at size : ℕ) (bytes : List ℕ) (walk : BlockWalk) : Type 0 where
@@ -39,6 +47,24 @@ StepsTo old new (Ok x) =
     (log_record_rows old.version old.stage (old.at, old.rest.now) ≡ Ok (new.stage, x.0))
     × (x.1 ≡ own_kind old.version old.rest.now) × IsPast old new
 StepsTo old new (Err fault) = (log_record_rows old.version old.stage (old.at, old.rest.now) ≡ Err fault) × (new ≡ old)
+
+-- among the events of a block, after a record with this CPU and this counter that no argument may follow
+pub record IsCounted (walk : BlockWalk) (span : Span) (base : Base) : Type 0 where
+  pub stage : walk.stage ≡ Within span (Events (Some base))
+  pub barred : base.argument ≡ Barred
+  pub end : walk.at + length walk.rest.now ≡ span.end
+
+-- a walk after the stretch that was next
+pub record IsPastStretch (old : BlockWalk) (stretch : Stretch) (new : BlockWalk) : Type 0 where
+  pub span : Span
+  pub base : Base
+  pub counted : IsCounted old span base
+  pub is : IsStretch base.cpu base.tsc old.rest.now stretch
+  pub fit : All (λ b. b < 256) old.rest.now × (base.cpu < 2 ^ 16)
+  pub version : new.version ≡ old.version
+  pub rest : new.rest.now ≡ drop (stretch.count * 8) old.rest.now
+  pub at_is : new.at ≡ old.at + stretch.count * 8
+  pub stage : new.stage ≡ stage_after span new.at (Events (Some (record base { tsc = stretch.last.tsc })))
 
 -- ---- what a walk has still to say
 

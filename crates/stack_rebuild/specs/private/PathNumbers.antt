@@ -1,5 +1,5 @@
 -- Numbers for paths, for the contracts of private functions.
-use Rattle.std.specs.Prelude.{◌≡◌, ◌<◌, ◌≤◌, ◌+◌, ◌-◌, ◌++◌, ◌==◌, ◌&&◌, ◌⊎◌, Bool, ℕ, List, [], ◌∷◌, length, Option, Some, slice_index_or}
+use Rattle.std.specs.Prelude.{◌≡◌, ◌<◌, ◌≤◌, ◌+◌, ◌-◌, ◌++◌, ◌==◌, ◌&&◌, Bool, ℕ, List, [], ◌∷◌, length, Option, Some, slice_index_or}
 use Rattle.std.specs.HashMap.{get, HashMap}
 use Rattle.std.specs.declared.hash.FoldHasher.{FoldHasher}
 use Rattle.std.specs.declared.hash.BuildHasherDefault.{BuildHasherDefault}
@@ -31,18 +31,11 @@ pub record Climbs (paths : List (List ℕ)) (i : ℕ) (step : Step) : Type 0 whe
   pub lower : step.parent ≤ i
   pub is : path_at paths (i + 1) ≡ path_by paths step
 
--- each number in a table is that of its step, and the steps make the paths
-pub record AreNumbered (paths : List (List ℕ)) (steps : List Step) (numbers : Numbers) : Type 0 where
+-- the steps make the paths, and each has the number of its path
+pub record AreNumbered (paths : List (List ℕ)) (steps : List Step) (number_of : Step → Option ℕ) : Type 0 where
   pub count : length paths ≡ length steps + 1
   pub root : path_at paths 0 ≡ []
   pub climbs : (i : ℕ) (d : Step) → i < length steps → Climbs paths i (slice_index_or steps i d)
-  pub found : (step : Step) (n : ℕ) → number_in numbers step ≡ Some n → (0 < n) × (n ≤ length steps) × (slice_index_or steps (n - 1) step ≡ step)
+  pub told : (i : ℕ) (d : Step) → i < length steps → number_of (slice_index_or steps i d) ≡ Some (i + 1)
+  pub found : (step : Step) (n : ℕ) → number_of step ≡ Some n → (0 < n) × (n ≤ length steps) × (slice_index_or steps (n - 1) step ≡ step)
   pub apart : AreApart paths
-
--- a table has the number of a step, or a link leads to it, since its path is the first that went on from its parent
-abbrev pub IsTold : List ℕ → Numbers → Step → ℕ → Type 0
-IsTold children numbers step n = (number_in numbers step ≡ Some n) ⊎ (slice_index_or children step.parent 0 ≡ n)
-
--- each step is found
-pub record AreTold (steps : List Step) (children : List ℕ) (numbers : Numbers) : Type 0 where
-  pub told : (i : ℕ) (d : Step) → i < length steps → IsTold children numbers (slice_index_or steps i d) (i + 1)

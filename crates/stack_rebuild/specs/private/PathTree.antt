@@ -1,22 +1,24 @@
 -- The tree of paths: what its nodes, and the fields of sums, say.
-use Rattle.std.specs.Prelude.{ℕ, Bool, ◌==◌, List, [], ◌∷◌, drop, map, reverse, slice_index_or}
+use Rattle.std.specs.Prelude.{ℕ, List, [], ◌∷◌, drop, map, reverse}
+use Rattle.stack_rebuild.specs.declared.links.Links.{Links}
 use Rattle.stack_rebuild.specs.declared.node.Node.{Node}
 use Rattle.stack_rebuild.specs.declared.node.Step.{Step}
 use Rattle.stack_rebuild.specs.declared.tally.Tally.{Tally}
 use Rattle.stack_rebuild.specs.declared.path_sums.PathSums.TheInside.{Inside}
-use Rattle.stack_rebuild.specs.private.PathNumbers.{AreNumbered, AreTold, paths_after}
+use Rattle.stack_rebuild.specs.private.Links.{ArePastLinks, no_links, told_by}
+use Rattle.stack_rebuild.specs.private.PathNumbers.{AreNumbered, paths_after}
 use Rattle.stack_rebuild.specs.PathSums.{Summed, no_tally}
 
 -- the step that leads to a path
 abbrev pub step_of : Node → Step
-step_of node = record { parent = node.parent; func = node.func }
+step_of node = node.step
 
 abbrev pub tally_in : Node → Tally
-tally_in node = node.tally
+tally_in node = record { count = node.count; sum = node.sum; own = node.own }
 
 -- the links of a path, and how many functions it has
-abbrev pub child_in : Node → ℕ
-child_in node = node.child
+abbrev pub links_in : Node → Links
+links_in node = node.links
 
 abbrev pub sibling_in : Node → ℕ
 sibling_in node = node.sibling
@@ -37,19 +39,15 @@ abbrev pub tallies_in : List Node → List Tally
 tallies_in [] = no_tally ∷ []
 tallies_in (node ∷ nodes) = map tally_in (node ∷ nodes)
 
--- the first paths that went on from the paths of nodes, by their numbers; if there is no node yet, none went on
-abbrev pub children_in : List Node → List ℕ
-children_in [] = 0 ∷ []
-children_in (node ∷ nodes) = map child_in (node ∷ nodes)
-
--- no path went on from the path with this number
-abbrev pub has_no_child : List Node → ℕ → Bool
-has_no_child nodes number = slice_index_or (map child_in nodes) number 0 == 0
+-- the links of the paths of nodes, by their numbers; if there is no node yet, no path goes on
+abbrev pub all_links : List Node → List Links
+all_links [] = no_links ∷ []
+all_links (node ∷ nodes) = map links_in (node ∷ nodes)
 
 abbrev pub summed_in : Inside → Summed
 summed_in a = record { paths = paths_in a.nodes.items; tallies = tallies_in a.nodes.items }
 
--- the numbers in the table are those of the steps, and a step that it lacks is found by a link
+-- the numbers of the steps are those that the links and the table have
 pub record IsTree (a : Inside) : Type 0 where
-  pub numbered : AreNumbered (paths_in a.nodes.items) (steps_in a.nodes.items) a.numbers
-  pub told : AreTold (steps_in a.nodes.items) (children_in a.nodes.items) a.numbers
+  pub numbered : AreNumbered (paths_in a.nodes.items) (steps_in a.nodes.items) (told_by (all_links a.nodes.items) a.numbers)
+  pub past : ArePastLinks (all_links a.nodes.items) a.numbers

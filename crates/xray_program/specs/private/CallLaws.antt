@@ -1,5 +1,5 @@
 -- What the crates below say of runs, and the contract of a call rests on.
-use Rattle.std.specs.Prelude.{◌≡◌, ℕ, List, Option, Ok}
+use Rattle.std.specs.Prelude.{◌≡◌, ℕ, List, Option, Ok, length}
 use Rattle.xray_image.specs.Program.{IsAccepted, Program}
 use Rattle.sled_words.specs.ChangingCode.{KeepsSleds}
 use Rattle.patch_script.specs.CodeAt.{code_at}
@@ -16,8 +16,10 @@ use Rattle.traced_run.specs.Decoded.{DecodesWhole}
 use Rattle.traced_run.specs.Executed.{Executes}
 use Rattle.traced_run.specs.Losses.{AreLost}
 use Rattle.traced_run.specs.Runs.{EachThread, ThreadRun}
-use Rattle.step_sim.specs.Replay.{of_thread}
-use Rattle.step_sim.specs.Replayed.{IsReplayOf, LoseOldest}
+use Rattle.step_sim.specs.Plays.{Plays}
+use Rattle.step_sim.specs.Pool.{Pooled, PooledReplay, Pooling}
+use Rattle.step_sim.specs.Replay.{Cast, first_moment, moment_rules, of_thread}
+use Rattle.step_sim.specs.Replayed.{IsReplayOf}
 use Rattle.step_sim.specs.Schedules.{schedule_of}
 use Rattle.step_sim.specs.declared.turns.Turns.{Turns}
 
@@ -27,11 +29,10 @@ TearsNone = (program : Program) (script : List PatchCommand) (text : List ℕ) (
     → schedule_of setup.threads text ≡ Ok schedule → (replay : IsReplayOf program script schedule setup runs)
     → EachThread runs (λ number run. DecodesWhole program setup.threads number (hold_of number script) run (of_thread replay.last.moment.loads number))
 
--- the segments that a replay loses are each thread's oldest
-abbrev pub LosesOldest : Type 0
-LosesOldest = (program : Program) (script : List PatchCommand) (text : List ℕ) (schedule : List Turns) (setup : Setup) (runs : List ThreadRun)
-    → schedule_of setup.threads text ≡ Ok schedule → (replay : IsReplayOf program script schedule setup runs)
-    → LoseOldest setup.size runs replay.last.stock
+-- without its buffers, a replay comes to the same moment
+abbrev pub MovesAlike : Type 0
+MovesAlike = (cast : Cast) (pooling : Pooling) (schedule : List Turns) (last : Pooled) → PooledReplay cast pooling schedule last
+    → Plays (moment_rules cast) (length cast.passings) (first_moment cast) schedule last.moment
 
 -- the stores of any script keep sleds whole
 abbrev pub ScriptsKeep : Type 0
@@ -65,7 +66,7 @@ LosesAsQueued = (program : Program) (script : List PatchCommand) (text : List �
 pub record CallLaws : Type 0 where
   pub tears : TearsNone
   pub loses : LosesAsQueued
-  pub oldest : LosesOldest
+  pub moves : MovesAlike
   pub keeps : ScriptsKeep
   pub wanted : FollowsWanted
   pub follows : FollowsWhole

@@ -2,7 +2,7 @@ use Rattle.std.proofs.Common.{◌∙◌, [], ap, append-nil}
 use Rattle.fdr_file.specs.Files.{file_bytes, header_bytes}
 use Rattle.xray_io.specs.Memory.{sink_bytes}
 use Rattle.xray_io.specs.Writes.{text_of_writes}
-use Rattle.audit_check.proofs.Comparing.{all_written}
+use Rattle.audit_check.proofs.ComparedTrace.{all_written}
 use Rattle.audit_check.proofs.blocks.header_of.Goals as goal
 
 pub returns-in-Ok : goal.returns-in-Ok

@@ -7,8 +7,8 @@ use Rattle.audit_check.specs.Statements.{statement_of}
 use Rattle.audit_check.specs.Verdicts.{IsVerdict}
 use Rattle.audit_check.specs.declared.audit.AuditEntry.{AuditEntry}
 use Rattle.audit_check.specs.private.Switches.{IsCourseOf}
-use Rattle.audit_check.proofs.Agreeing.{Judged, judged_none}
-use Rattle.audit_check.proofs.Deciding.{Finds, entry_count, entry_number, entry_within, judged_entry, verdict_of_all}
+use Rattle.audit_check.proofs.SameRows.{Judged, judged_none}
+use Rattle.audit_check.proofs.AllThreads.{Finds, entry_count, entry_number, entry_within, judged_entry, verdict_of_all}
 use Rattle.audit_check.proofs.SomeRuns.{some_runs}
 use Rattle.audit_check.proofs.judging.check_audit.Goals as goal
 

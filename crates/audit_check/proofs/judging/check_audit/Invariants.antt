@@ -3,7 +3,7 @@ use Rattle.patch_script.specs.Refusals.{commands_of}
 use Rattle.traced_run.specs.Runs.{ThreadRun}
 use Rattle.audit_check.specs.Rows.{AreRunsOf}
 use Rattle.audit_check.specs.Statements.{statement_of}
-use Rattle.audit_check.proofs.Agreeing.{Judged}
+use Rattle.audit_check.proofs.SameRows.{Judged}
 use Rattle.audit_check.proofs.judging.check_audit.Given as goal
 
 -- the threads so far were judged

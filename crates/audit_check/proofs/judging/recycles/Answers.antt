@@ -1,7 +1,7 @@
 use Rattle.std.proofs.Common.{◌≡◌, ◌-◌, List, ap, eq-eqb, eqb-true, sym, ◌∙◌}
 use Rattle.std.specs.Prelude.{sum_by}
 use Rattle.audit_check.specs.declared.audit.AuditEntry.{AuditEntry}
-use Rattle.audit_check.proofs.Deciding.{recycled_so}
+use Rattle.audit_check.proofs.AllThreads.{recycled_so}
 use Rattle.audit_check.proofs.judging.recycles.Goals as goal
 
 pub returns-then-recycled-lost : goal.returns-then-recycled-lost

@@ -17,8 +17,8 @@ use Rattle.audit_check.specs.Statements.{Statement, said_by, statement_of}
 use Rattle.audit_check.specs.Stops.{places_of}
 use Rattle.audit_check.specs.private.Placed.{IsThreadPlaced}
 use Rattle.audit_check.specs.private.Walks.{first_of}
-use Rattle.audit_check.proofs.Agreeing.{same_at}
-use Rattle.audit_check.proofs.Deciding.{entry_count, entry_number, entry_within, run_at, said_at}
+use Rattle.audit_check.proofs.SameRows.{same_at}
+use Rattle.audit_check.proofs.AllThreads.{entry_count, entry_number, entry_within, run_at, said_at}
 use Rattle.audit_check.proofs.PlacedLoads.{PlacedUpTo, all_placed, faults, placed_next}
 use Rattle.audit_check.proofs.SomeRuns.{some_runs}
 use Rattle.audit_check.proofs.placing.place_loads.Goals as goal

@@ -2,7 +2,7 @@ use Rattle.std.proofs.Common.{map, refl, ◌∙◌, arith}
 use Rattle.std.proofs.lemmas.List.{length-map}
 use Rattle.std.proofs.lemmas.Result.{err_from_is_err_and}
 use Rattle.audit_check.specs.Statements.{said_by}
-use Rattle.audit_check.proofs.Readings.{all_may, refused_reads}
+use Rattle.audit_check.proofs.ReadAudits.{all_may, refused_reads}
 use Rattle.audit_check.proofs.reading.read_audit.Goals as goal
 
 pub returns-in_err-format : goal.returns-in_err-format

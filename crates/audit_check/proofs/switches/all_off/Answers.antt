@@ -1,7 +1,7 @@
 use Rattle.std.proofs.Common.{◌∷◌, [], length, ap, arith, sym, subst, length-append}
 use Rattle.std.specs.Prelude.{All}
 use Rattle.std.proofs.lemmas.List.Elements.{All-append, All-cons, All-nil}
-use Rattle.audit_check.proofs.Starting.{IsOff}
+use Rattle.audit_check.proofs.SwitchesAtStart.{IsOff}
 use Rattle.audit_check.proofs.switches.all_off.Goals as goal
 
 pub loop-word-preserved : goal.loop-word-preserved

@@ -7,7 +7,7 @@ use Rattle.call_trie.specs.declared.state.TrieState.TheVariants.{Live}
 use Rattle.stack_rebuild.specs.Stacks.{timed_pairs}
 use Rattle.call_trie.specs.Merging.{AllStandFor}
 use Rattle.call_trie.specs.Tries.{Trie}
-use Rattle.call_trie.proofs.Joining.{sums_joined, sums_none}
+use Rattle.call_trie.proofs.JoinedRecorders.{sums_joined, sums_none}
 use Rattle.call_trie.proofs.merging.merged.Goals as goal
 
 pub merging-init : goal.merging-init

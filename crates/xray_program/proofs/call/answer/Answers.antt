@@ -3,7 +3,7 @@ use Rattle.xray_io.specs.World.{sink_view}
 use Rattle.xray_program.specs.Answers.{Says}
 use Rattle.xray_program.specs.declared.stop.Stop.{Stop}
 use Rattle.xray_program.specs.private.Stops.{told_of}
-use Rattle.xray_program.proofs.Saying.{nothing_said}
+use Rattle.xray_program.proofs.ErrLines.{nothing_said}
 use Rattle.xray_program.proofs.call.answer.Goals as goal
 
 pub returns-in-Ok-clause-says : goal.returns-in-Ok-clause-says

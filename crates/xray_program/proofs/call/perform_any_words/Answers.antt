@@ -1,5 +1,5 @@
 use Rattle.std.proofs.Common.{[], refl}
-use Rattle.xray_program.proofs.Endings.{unsaid_on}
+use Rattle.xray_program.proofs.WorkEndings.{unsaid_on}
 use Rattle.xray_program.proofs.call.perform_any_words.Goals as goal
 
 pub returns-in_err-command-clause-ends : goal.returns-in_err-command-clause-ends

@@ -4,7 +4,7 @@ pub returns : goal.returns
 returns c = record {
   tears = c.no_replay_tears_a_sled.ensures.runs;
   loses = c.a_replay_loses_few.ensures.read;
-  oldest = c.lost_segments_are_the_oldest.ensures.read;
+  moves = c.buffers_change_no_replay.ensures.moments;
   keeps = c.each_script_keeps_sleds.ensures;
   wanted = c.what_follows_is_allowed.ensures.wanted;
   follows = c.what_follows_is_allowed.ensures.whole;

@@ -1,4 +1,4 @@
-use Rattle.xray_program.proofs.Answering.{answers_its_end}
+use Rattle.xray_program.proofs.CallContract.{answers_its_end}
 use Rattle.xray_program.proofs.call.xray_still.Goals as goal
 
 pub returns : goal.returns

@@ -1,8 +1,8 @@
 use Rattle.std.proofs.Common.{inr, refl}
 use Rattle.xray_io.specs.Writes.{prefix_of}
 use Rattle.xray_io.specs.World.{desk_view, sink_view}
-use Rattle.xray_program.proofs.Endings.{output_stops}
-use Rattle.xray_program.proofs.Ordering.{went_as}
+use Rattle.xray_program.proofs.WorkEndings.{output_stops}
+use Rattle.xray_program.proofs.CallOrder.{went_as}
 use Rattle.xray_program.proofs.delivery.deliver.Goals as goal
 
 pub returns-in_err-write-clause-delivers : goal.returns-in_err-write-clause-delivers

@@ -1,4 +1,4 @@
-use Rattle.xray_program.proofs.RunsImported.{run_imported}
+use Rattle.xray_program.proofs.ImportedRuns.{run_imported}
 use Rattle.xray_program.proofs.laws.a_run_is_imported_as_itself.Goals as goal
 
 pub returns : goal.returns

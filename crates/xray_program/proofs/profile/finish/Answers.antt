@@ -16,8 +16,8 @@ use Rattle.xray_program.specs.Profile.{states_before, trouble_of}
 use Rattle.xray_program.specs.Stack.{rows_text}
 use Rattle.xray_program.specs.Traced.{state_texts}
 use Rattle.xray_program.specs.declared.stop.Stop.TheVariants as stops
-use Rattle.xray_program.proofs.Endings.{finishes, refuses}
-use Rattle.xray_program.proofs.Profiling.{all_live, profile_done, profile_fell}
+use Rattle.xray_program.proofs.WorkEndings.{finishes, refuses}
+use Rattle.xray_program.proofs.ProfiledThreads.{all_live, profile_done, profile_fell}
 use Rattle.xray_program.proofs.RunWritten.{threads_ended, threads_printed}
 use Rattle.xray_program.proofs.profile.finish.Goals as goal
 

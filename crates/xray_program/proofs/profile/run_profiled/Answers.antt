@@ -3,7 +3,7 @@ use Rattle.call_trie.specs.Tries.{HasSameRoom, StandsFor}
 use Rattle.patch_script.specs.Plans.{Plan}
 use Rattle.sled_rule.specs.Seats.{work_view}
 use Rattle.thread_run.specs.Recorded.{HaveRecorded}
-use Rattle.xray_program.proofs.Profiling.{profiled, recorders_few}
+use Rattle.xray_program.proofs.ProfiledThreads.{profiled, recorders_few}
 use Rattle.xray_program.proofs.profile.run_profiled.Goals as goal
 
 pub returns-clause-profiled : goal.returns-clause-profiled

@@ -3,7 +3,7 @@ use Rattle.command_words.specs.Views.{source_view}
 use Rattle.xray_io.specs.World.{desk_view}
 use Rattle.xray_program.specs.Reports.{names_inputs, report_inputs}
 use Rattle.xray_program.specs.Accepted.{AcceptsReport}
-use Rattle.xray_program.proofs.Ordering.{first_handed, read_first}
+use Rattle.xray_program.proofs.CallOrder.{first_handed, read_first}
 use Rattle.xray_program.proofs.Reports.{both_read, names_stopped, stop_of_log, stop_of_names}
 use Rattle.xray_program.proofs.report_inputs.take_report.Goals as goal
 

@@ -10,7 +10,7 @@ use Rattle.xray_program.specs.private.RunInputs.{comes_of}
 use Rattle.xray_program.specs.Traced.{Traces, state_texts, written_of}
 use Rattle.xray_program.specs.private.Works.{Finishes}
 use Rattle.xray_program.specs.declared.stop.Stop.TheVariants as stops
-use Rattle.xray_program.proofs.Endings.{finishes, refuses}
+use Rattle.xray_program.proofs.WorkEndings.{finishes, refuses}
 use Rattle.xray_program.proofs.RunWritten.{leaves_same}
 use Rattle.xray_program.proofs.run.finish.Goals as goal
 

@@ -1,7 +1,7 @@
 use Rattle.std.proofs.Common.{Ok, Err}
 use Rattle.xray_io.specs.World.{desk_view, sink_view}
 use Rattle.xray_program.specs.private.RunInputs.{comes_of, said_by}
-use Rattle.xray_program.proofs.Endings.{ends_at_input, ends_with_work}
+use Rattle.xray_program.proofs.WorkEndings.{ends_at_input, ends_with_work}
 use Rattle.xray_program.proofs.Scripts.{script_taken}
 use Rattle.xray_program.specs.Run.{RunsBeside}
 use Rattle.xray_program.specs.Setups.{setup_of}

@@ -2,7 +2,7 @@ use Rattle.std.proofs.Common.{[], ◌∷◌, refl}
 use Rattle.xray_io.specs.World.{desk_view}
 use Rattle.xray_program.specs.Accepted.{AcceptsScript}
 use Rattle.xray_program.specs.Inputs.{image_form, image_limit, script_form, script_limit}
-use Rattle.xray_program.proofs.Ordering.{all_taken, first_handed, read_first, read_on, stop_handed}
+use Rattle.xray_program.proofs.CallOrder.{all_taken, first_handed, read_first, read_on, stop_handed}
 use Rattle.xray_program.proofs.Scripts.{stop_of_image, stop_of_script}
 use Rattle.xray_program.proofs.SimTurns.{given_before}
 use Rattle.xray_program.proofs.script_inputs.take_script.Goals as goal

@@ -1,4 +1,4 @@
-use Rattle.xray_program.proofs.Saying.{line_said}
+use Rattle.xray_program.proofs.ErrLines.{line_said}
 use Rattle.xray_program.proofs.stop.say.Goals as goal
 
 pub returns : goal.returns

@@ -1,5 +1,5 @@
 use Rattle.xray_io.specs.World.{desk_view, sink_view}
-use Rattle.xray_program.proofs.Endings.{ends_at_input, ends_with_work}
+use Rattle.xray_program.proofs.WorkEndings.{ends_at_input, ends_with_work}
 use Rattle.xray_program.proofs.work.perform.Goals as goal
 
 pub returns-in_err-inputs : goal.returns-in_err-inputs

@@ -1,5 +1,5 @@
 use Rattle.std.proofs.Common.{◌∙◌, sym}
-use Rattle.audit_check.proofs.Recordings.{compared_empty, compared_last, count_none, count_open}
+use Rattle.audit_check.proofs.RecordedSegments.{compared_empty, compared_last, count_none, count_open}
 use Rattle.audit_check.proofs.blocks.Recording.finish.Goals as goal
 
 pub returns-then-begun-clause-segments : goal.returns-then-begun-clause-segments

@@ -1,6 +1,6 @@
 use Rattle.std.proofs.Common.{refl, ap}
 use Rattle.fdr_buffer.specs.Filled.{Filled}
-use Rattle.audit_check.proofs.Recordings.{noted_none}
+use Rattle.audit_check.proofs.RecordedSegments.{noted_none}
 use Rattle.audit_check.proofs.blocks.Recording.new.Goals as goal
 
 pub returns-clause-noted : goal.returns-clause-noted

@@ -2,7 +2,7 @@ use Rattle.std.proofs.Common.{◌++◌, ◌∷◌, [], subst, sym, ◌∙◌}
 use Rattle.fdr_buffer.specs.Filled.{Filled}
 use Rattle.audit_check.specs.declared.blocks.Recording.{Recording}
 use Rattle.audit_check.specs.private.Blocks.{HasNoted}
-use Rattle.audit_check.proofs.Recordings.{compared_cut, compared_joined, noted_cut, noted_joined}
+use Rattle.audit_check.proofs.RecordedSegments.{compared_cut, compared_joined, noted_cut, noted_joined}
 use Rattle.audit_check.proofs.blocks.Recording.note.Goals as goal
 
 pub returns-then-fits-clause-noted : goal.returns-then-fits-clause-noted

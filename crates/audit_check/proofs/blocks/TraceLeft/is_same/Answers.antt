@@ -1,7 +1,7 @@
 use Rattle.std.proofs.Common.{◌≡◌, [], Bool, false, ap, length, subst, sym, ◌∙◌, eq-eqb, eqb-true}
 use Rattle.std.specs.Prelude.{◌&&◌, ◌↔◌, IsTrue}
 use Rattle.std.proofs.lemmas.List.{nil_from_length}
-use Rattle.audit_check.proofs.Comparing.{is_all}
+use Rattle.audit_check.proofs.ComparedTrace.{is_all}
 use Rattle.audit_check.proofs.blocks.TraceLeft.is_same.Goals as goal
 
 pub returns-then-self : goal.returns-then-self

@@ -1,6 +1,6 @@
 use Rattle.std.proofs.Common.{[], ℕ, List, refl, subst, ◌∙◌}
 use Rattle.audit_check.specs.private.Blocks.{HasCompared}
-use Rattle.audit_check.proofs.Comparing.{compared_none}
+use Rattle.audit_check.proofs.ComparedTrace.{compared_none}
 use Rattle.audit_check.proofs.blocks.TraceLeft.new.Goals as goal
 
 pub returns : goal.returns

@@ -1,7 +1,7 @@
 use Rattle.std.proofs.Common.{Some, None, refl}
 use Rattle.std.proofs.lemmas.Bool.Decides.{Decides-eqb}
 use Rattle.std.proofs.lemmas.Slice.Eq.{strip_prefix_is}
-use Rattle.audit_check.proofs.Comparing.{differs, goes_on}
+use Rattle.audit_check.proofs.ComparedTrace.{differs, goes_on}
 use Rattle.audit_check.proofs.blocks.TraceLeft.take.Goals as goal
 
 pub returns-in-Some : goal.returns-in-Some

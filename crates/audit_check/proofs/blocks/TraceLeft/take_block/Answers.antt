@@ -1,6 +1,6 @@
 use Rattle.std.proofs.Common.{◌++◌, ℕ, List, append_assoc, ap, refl, subst, ◌∙◌}
 use Rattle.audit_check.specs.private.Blocks.{HasCompared}
-use Rattle.audit_check.proofs.Comparing.{block_is}
+use Rattle.audit_check.proofs.ComparedTrace.{block_is}
 use Rattle.audit_check.proofs.blocks.TraceLeft.take_block.Goals as goal
 
 pub returns : goal.returns

@@ -3,7 +3,7 @@ use Rattle.std.specs.Prelude.{slice_get}
 use Rattle.std.proofs.lemmas.Bool.{ltb-false, ltb-true}
 use Rattle.std.proofs.lemmas.Option.{slice_get_read}
 use Rattle.audit_check.specs.declared.switches.Awaited.{Awaited}
-use Rattle.audit_check.proofs.Waiting.{bound_none, bound_some}
+use Rattle.audit_check.proofs.PassedWaits.{bound_none, bound_some}
 use Rattle.audit_check.proofs.follower.Follower.bound.Goals as goal
 
 pub returns-in-Some-clause-bound : goal.returns-in-Some-clause-bound

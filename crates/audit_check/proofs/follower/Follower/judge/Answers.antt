@@ -1,7 +1,7 @@
 use Rattle.std.proofs.Common.{◌<◌, length, subst, sym}
 use Rattle.audit_check.specs.declared.follower.Follower.{Follower}
 use Rattle.audit_check.proofs.NextSearches.{placed_step}
-use Rattle.audit_check.proofs.Stepping.{judged_step, step_passing, step_ready, step_same, waited_ready}
+use Rattle.audit_check.proofs.FollowerSteps.{judged_step, step_passing, step_ready, step_same, waited_ready}
 use Rattle.audit_check.proofs.follower.Follower.judge.Goals as goal
 
 pub next_place-self-requires-clause-ready : goal.next_place-self-requires-clause-ready

@@ -1,7 +1,7 @@
 use Rattle.std.proofs.Common.{◌≡◌, ◌≤◌, arith, length, refl, subst}
 use Rattle.patch_script.specs.Refusals.{commands_of}
 use Rattle.audit_check.proofs.NextSearches.{placed_first}
-use Rattle.audit_check.proofs.Stepping.{begins}
+use Rattle.audit_check.proofs.FollowerSteps.{begins}
 use Rattle.audit_check.proofs.follower.Follower.new.Goals as goal
 
 pub returns-clause-judged : goal.returns-clause-judged

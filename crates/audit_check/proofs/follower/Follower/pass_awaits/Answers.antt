@@ -1,7 +1,7 @@
 use Rattle.std.proofs.Common.{◌+◌, ◌<◌, length, ap, refl, sym, arith, ◌∙◌}
 use Rattle.std.proofs.lemmas.Option.{slice_get_read}
 use Rattle.audit_check.specs.declared.follower.Follower.{Follower}
-use Rattle.audit_check.proofs.Waiting.{passed_next}
+use Rattle.audit_check.proofs.PassedWaits.{passed_next}
 use Rattle.audit_check.proofs.follower.Follower.pass_awaits.Goals as goal
 
 pub awaits-preserved : goal.awaits-preserved

@@ -2,7 +2,7 @@ use Rattle.std.proofs.Common.{[], ◌∷◌, ◌++◌, sym, subst, arith}
 use Rattle.std.proofs.lemmas.Result.{err_from_is_err_and}
 use Rattle.audit_check.specs.private.Lines.{HasTaken, first_rows}
 use Rattle.audit_check.proofs.ReadRows.{counts_found, setup_tells}
-use Rattle.audit_check.proofs.Readings.{counts_refused, row_another, row_missing, unread_counts}
+use Rattle.audit_check.proofs.ReadAudits.{counts_refused, row_another, row_missing, unread_counts}
 use Rattle.audit_check.proofs.Refusals.{IsCountsRow}
 use Rattle.audit_check.proofs.reading.Rows.counts.Goals as goal
 

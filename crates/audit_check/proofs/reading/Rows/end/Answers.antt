@@ -1,7 +1,7 @@
 use Rattle.std.proofs.Common.{◌≡◌, length, true, false, eq-eqb, eqb-true, sym, ap, ◌∙◌}
 use Rattle.std.proofs.lemmas.List.{nil_from_length}
 use Rattle.audit_check.proofs.ReadRows.{setup_tells}
-use Rattle.audit_check.proofs.Readings.{end_refused, whole_text}
+use Rattle.audit_check.proofs.ReadAudits.{end_refused, whole_text}
 use Rattle.audit_check.proofs.reading.Rows.end.Goals as goal
 
 pub returns-then-is_empty : goal.returns-then-is_empty

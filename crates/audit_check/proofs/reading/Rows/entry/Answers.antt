@@ -1,5 +1,5 @@
 use Rattle.std.proofs.lemmas.Result.{err_from_is_err_and}
-use Rattle.audit_check.proofs.Readings.{entry_taken}
+use Rattle.audit_check.proofs.ReadAudits.{entry_taken}
 use Rattle.audit_check.proofs.reading.Rows.entry.Goals as goal
 
 pub returns-in_err-counts-clause-rows : goal.returns-in_err-counts-clause-rows

@@ -3,7 +3,7 @@ use Rattle.std.proofs.lemmas.Result.{err_from_is_err_and}
 use Rattle.std.proofs.lemmas.Slice.Eq.{bytes_eq-Decides}
 use Rattle.audit_check.specs.private.Lines.{HasTaken}
 use Rattle.audit_check.specs.private.Parts.{format_row}
-use Rattle.audit_check.proofs.Readings.{format_refused, row_another, row_missing}
+use Rattle.audit_check.proofs.ReadAudits.{format_refused, row_another, row_missing}
 use Rattle.audit_check.proofs.Refusals.{IsFormatRow}
 use Rattle.audit_check.proofs.reading.Rows.format.Goals as goal
 

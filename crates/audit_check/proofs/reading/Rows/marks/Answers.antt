@@ -2,7 +2,7 @@ use Rattle.std.proofs.Common.{◌≡◌, true, false, [], ◌∷◌, ◌++◌, s
 use Rattle.std.proofs.lemmas.Result.{err_from_is_err_and}
 use Rattle.audit_check.specs.private.Lines.{HasTaken, counts_row, first_rows}
 use Rattle.audit_check.proofs.ReadRows.{setup_tells}
-use Rattle.audit_check.proofs.Readings.{marks_refused, row_another, row_missing, unread_marks}
+use Rattle.audit_check.proofs.ReadAudits.{marks_refused, row_another, row_missing, unread_marks}
 use Rattle.audit_check.proofs.Refusals.{IsMarksRow, counted_rows}
 use Rattle.audit_check.proofs.reading.Rows.marks.Goals as goal
 

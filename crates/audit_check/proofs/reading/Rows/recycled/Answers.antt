@@ -2,7 +2,7 @@ use Rattle.std.proofs.Common.{[], ◌∷◌, ◌++◌, sym, subst}
 use Rattle.std.proofs.lemmas.Result.{err_from_is_err_and}
 use Rattle.audit_check.specs.private.Lines.{HasTaken, first_rows}
 use Rattle.audit_check.proofs.ReadRows.{recycled_found, setup_tells}
-use Rattle.audit_check.proofs.Readings.{recycled_refused, row_another, row_missing, unread_recycled}
+use Rattle.audit_check.proofs.ReadAudits.{recycled_refused, row_another, row_missing, unread_recycled}
 use Rattle.audit_check.proofs.Refusals.{IsRecycledRow}
 use Rattle.audit_check.proofs.reading.Rows.recycled.Goals as goal
 

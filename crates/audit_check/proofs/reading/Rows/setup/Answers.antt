@@ -2,7 +2,7 @@ use Rattle.std.proofs.Common.{[], ◌∷◌, subst}
 use Rattle.std.proofs.lemmas.Result.{err_from_is_err_and}
 use Rattle.audit_check.specs.private.Lines.{HasTaken}
 use Rattle.audit_check.specs.private.Parts.{format_row}
-use Rattle.audit_check.proofs.Readings.{row_another, row_missing, setup_refused, unread_setup}
+use Rattle.audit_check.proofs.ReadAudits.{row_another, row_missing, setup_refused, unread_setup}
 use Rattle.audit_check.proofs.Refusals.{IsSetupRow}
 use Rattle.audit_check.proofs.reading.Rows.setup.Goals as goal
 

@@ -2,8 +2,8 @@ use Rattle.std.proofs.Common.{refl, subst, ◌∙◌}
 use Rattle.patch_script.specs.declared.micro.Micro.TheVariants.{Store}
 use Rattle.patch_script.specs.CodeAt.{code_at}
 use Rattle.patch_script.specs.Plans.{IsWithin}
-use Rattle.audit_check.proofs.Coursing.{course_stays, course_stores, course_waits, follows}
-use Rattle.audit_check.proofs.Switching.{next_stored}
+use Rattle.audit_check.proofs.ScriptCourse.{course_stays, course_stores, course_waits, follows}
+use Rattle.audit_check.proofs.ScriptSwitches.{next_stored}
 use Rattle.audit_check.proofs.switches.Course.take.Goals as goal
 
 pub store-requires : goal.store-requires

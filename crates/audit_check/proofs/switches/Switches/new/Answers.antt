@@ -1,4 +1,4 @@
-use Rattle.audit_check.proofs.Starting.{starts}
+use Rattle.audit_check.proofs.SwitchesAtStart.{starts}
 use Rattle.audit_check.proofs.switches.Switches.new.Goals as goal
 
 pub returns-clause-switches : goal.returns-clause-switches

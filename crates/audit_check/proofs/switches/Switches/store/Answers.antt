@@ -2,7 +2,7 @@ use Rattle.std.proofs.Common.{◌-◌, refl, arith}
 use Rattle.std.specs.Vec.{with_item}
 use Rattle.std.proofs.lemmas.Result.{on_ok_weaker}
 use Rattle.audit_check.specs.declared.switches.Switches.{Switches}
-use Rattle.audit_check.proofs.Noting.{notes_arg_handler, notes_handler, notes_log, notes_release, release_at}
+use Rattle.audit_check.proofs.NotedStores.{notes_arg_handler, notes_handler, notes_log, notes_release, release_at}
 use Rattle.audit_check.proofs.switches.Switches.store.Goals as goal
 
 pub returns-then-word-self-2-clause-switches : goal.returns-then-word-self-2-clause-switches

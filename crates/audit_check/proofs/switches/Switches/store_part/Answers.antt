@@ -2,7 +2,7 @@ use Rattle.std.proofs.Common.{◌/◌, refl, arith}
 use Rattle.std.proofs.lemmas.Result.{on_ok_weaker}
 use Rattle.audit_check.specs.declared.switches.Switches.{Switches}
 use Rattle.std.specs.Vec.{with_item}
-use Rattle.audit_check.proofs.Noting.{head_within, notes_head, notes_no_head}
+use Rattle.audit_check.proofs.NotedStores.{head_within, notes_head, notes_no_head}
 use Rattle.audit_check.proofs.switches.Switches.store_part.Goals as goal
 
 pub returns-then-word-eq0-clause-switches : goal.returns-then-word-eq0-clause-switches

@@ -2,7 +2,7 @@ use Rattle.std.proofs.Common.{◌≡◌, ◌++◌, ◌∙◌, ℕ, List, [], ◌
 use Rattle.stack_rebuild.specs.declared.tally.Tally.{Tally}
 use Rattle.stack_rebuild.specs.PathSums.{AreOfPath, path_at}
 use Rattle.call_trie.specs.private.Paths.{Climb, Numbered}
-use Rattle.call_trie.proofs.Adding.{adds_all, adds_more, adds_none, parent_low, parent_number}
+use Rattle.call_trie.proofs.AddedTallies.{adds_all, adds_more, adds_none, parent_low, parent_number}
 use Rattle.call_trie.proofs.TableLemmas.{any_default}
 use Rattle.call_trie.proofs.nodes.Nodes.add_to.Goals as goal
 

@@ -1,4 +1,4 @@
-use Rattle.call_trie.proofs.Adding.{Adds}
+use Rattle.call_trie.proofs.AddedTallies.{Adds}
 use Rattle.call_trie.proofs.nodes.Nodes.add_to.Given as goal
 
 abbrev pub invariant-adding : goal.invariant-adding

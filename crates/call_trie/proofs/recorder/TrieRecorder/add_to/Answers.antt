@@ -2,7 +2,7 @@ use Rattle.std.proofs.Common.{◌∙◌, ap}
 use Rattle.std.proofs.lemmas.Result.{on_ok_weaker}
 use Rattle.stack_rebuild.specs.Stacks.{timed_pairs}
 use Rattle.call_trie.specs.Tries.{Trie, paths_opened}
-use Rattle.call_trie.proofs.Standing.{known_after}
+use Rattle.call_trie.proofs.RecorderEvents.{known_after}
 use Rattle.call_trie.proofs.recorder.TrieRecorder.add_to.Goals as goal
 
 pub returns-clause-sums : goal.returns-clause-sums

@@ -1,6 +1,6 @@
 use Rattle.std.proofs.Common.{◌<◌, arith, length}
 use Rattle.stack_rebuild.specs.Stacks.{most_open}
-use Rattle.call_trie.proofs.Recording.{AreKept, below, entered, entered_deep, entered_full, kept_entered, kept_full}
+use Rattle.call_trie.proofs.RecorderFields.{AreKept, below, entered, entered_deep, entered_full, kept_entered, kept_full}
 use Rattle.call_trie.proofs.recorder.TrieRecorder.enter.Goals as goal
 
 pub node_of-requires : goal.node_of-requires

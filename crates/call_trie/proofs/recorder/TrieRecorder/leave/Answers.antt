@@ -1,6 +1,6 @@
 use Rattle.std.proofs.Common.{ap, arith, refl}
 use Rattle.call_trie.specs.private.Paths.{Numbered}
-use Rattle.call_trie.proofs.Recording.{AreKept, frames_roomy, kept_left, left_ended, node_roomy, node_within}
+use Rattle.call_trie.proofs.RecorderFields.{AreKept, frames_roomy, kept_left, left_ended, node_roomy, node_within}
 use Rattle.call_trie.proofs.recorder.TrieRecorder.leave.Goals as goal
 
 pub spend-requires : goal.spend-requires

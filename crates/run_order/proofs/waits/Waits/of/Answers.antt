@@ -1,34 +1,67 @@
-use Rattle.std.proofs.Common.{◌≡◌, ◌<◌, ◌++◌, ◌∷◌, [], true, false, List, ℕ, append-nil, ap, subst, sym, take, ◌∙◌}
-use Rattle.std.specs.Prelude.{not}
+use Rattle.std.proofs.Common.{◌≡◌, ◌<◌, ◌++◌, ◌∷◌, [], Option, None, Some, true, false, List, ℕ, append-nil, ap, arith, refl, subst, sym, take, ◌∙◌}
+use Rattle.std.specs.Prelude.{is_some, not}
 use Rattle.xray_image.specs.Program.{Program}
 use Rattle.patch_script.specs.declared.command.Command.{Command}
 use Rattle.patch_script.specs.Micros.{micro_at, micros, total_of}
+use Rattle.patch_script.specs.Plans.{waiting_line}
 use Rattle.patch_script.specs.Refusals.{commands_of}
 use Rattle.run_order.specs.FreeScripts.{is_free}
 use Rattle.run_order.specs.private.Waits.{waits_from}
 use Rattle.run_order.proofs.Freeing.{not_free, waits_next}
+use Rattle.run_order.proofs.NoWaits.{no_waits}
+use Rattle.run_order.proofs.Patchings.{patch_next}
 use Rattle.run_order.proofs.waits.Waits.of.Goals as goal
 use Rattle.run_order.proofs.waits.Waits.of.Goals.{then-is_wait+in_ok-push, else-is_wait}
 
-pub loop-place-preserved : goal.loop-place-preserved
-loop-place-preserved c =
+none_of : (line : Option ℕ) → is_some line ≡ false → line ≡ None
+none_of None e = refl
+none_of (Some line) e = absurd cc
+
+pub returns-then-is_none : goal.returns-then-is_none
+returns-then-is_none c =
+    let none : waiting_line c.args.script.now.lines ≡ None = sym c.waits.ensures ∙ none_of c.waits.result (c.is_none.ensures ∙ ap not c.if-is_none.true) in
+    c.new-places.ensures.items ∙ sym (no_waits c.args.image.now c.args.threads c.args.script.now.lines none)
+
+pub steps-preserved-then-begins_patch : goal.steps-preserved-then-begins_patch
+steps-preserved-then-begins_patch c =
     let program : Program = c.args.image.now in
     let threads : ℕ = c.args.threads in
     let script : List Command = commands_of c.args.script.now.lines in
     let own = c.args.script.now in
-    let place : ℕ = c.loop-place.place in
-    let total : c.total-place-end.result ≡ total_of program threads script =
-    c.total-place-end.ensures.total ∙ (ap (λ (p : Program). total_of p own.threads script) c.requires.program ∙ ap (λ n. total_of program n script) c.requires.threads) in
-    let micro : c.micro_near.result ≡ micro_at program threads script place =
-    c.micro_near.ensures.micro ∙ (ap (λ (p : Program). micro_at p own.threads script place) c.requires.program ∙ ap (λ n. micro_at program n script place) c.requires.threads) in
-    let low : place < total_of program threads script = subst (λ n. place < n) total c.loop-place-test.true in
-    let decides : c.is_wait.result ≡ not (is_free program threads c.micro_near.result) = c.is_wait.ensures program c.state_word-state.ensures in
+    let place : ℕ = c.steps.place in
+    let total : c.total-total.result ≡ total_of program threads script =
+    c.total-total.ensures.total ∙ (ap (λ (p : Program). total_of p own.threads script) c.requires.program ∙ ap (λ n. total_of program n script) c.requires.threads) in
+    let micro : c.micro_near-micro.result ≡ micro_at program threads script place =
+    c.micro_near-micro.ensures.micro ∙ (ap (λ (p : Program). micro_at p own.threads script place) c.requires.program ∙ ap (λ n. micro_at program n script place) c.requires.threads) in
+    let low : place < total_of program threads script = subst (λ n. place < n) total c.steps-test.true in
+    let next = patch_next program threads script place c.micro_near-micro.result low micro (c.begins_patch.ensures program c.state_word-state.ensures c.if-begins_patch.true) in
+    record {
+      within = omega (arith, next.0, total);
+      waits = c.steps.invariant.waits ∙ sym next.1;
+    }
+
+pub steps-preserved : goal.steps-preserved
+steps-preserved c =
+    let program : Program = c.args.image.now in
+    let threads : ℕ = c.args.threads in
+    let script : List Command = commands_of c.args.script.now.lines in
+    let own = c.args.script.now in
+    let place : ℕ = c.steps.place in
+    let total : c.total-total.result ≡ total_of program threads script =
+    c.total-total.ensures.total ∙ (ap (λ (p : Program). total_of p own.threads script) c.requires.program ∙ ap (λ n. total_of program n script) c.requires.threads) in
+    let micro : c.micro_near-micro.result ≡ micro_at program threads script place =
+    c.micro_near-micro.ensures.micro ∙ (ap (λ (p : Program). micro_at p own.threads script place) c.requires.program ∙ ap (λ n. micro_at program n script place) c.requires.threads) in
+    let low : place < total_of program threads script = subst (λ n. place < n) total c.steps-test.true in
+    let decides : c.is_wait.result ≡ not (is_free program threads c.micro_near-micro.result) = c.is_wait.ensures program c.state_word-state.ensures in
     let before : List ℕ = waits_from program threads 0 (take place (micros program threads script)) in
-    elim c.if-is_wait.branch [
-      | then-is_wait+in_ok-push w ↦
-          ap (λ places. places.items) w.places-is ∙ w.in_ok-push.ensures.items ∙ ap (λ (ws : List ℕ). ws ++ place ∷ []) c.loop-place.invariant
-          ∙ sym (waits_next program threads script place c.micro_near.result false low micro (not_free _ true (sym decides ∙ w.if-is_wait.true)))
-      | else-is_wait w ↦
-          ap (λ places. places.items) w.places-is ∙ c.loop-place.invariant ∙ sym (append-nil before)
-          ∙ sym (waits_next program threads script place c.micro_near.result true low micro (not_free _ false (sym decides ∙ w.if-is_wait.false)))
-    ]
+    record {
+      within = omega (arith, c.steps-test.true);
+      waits = elim c.if-is_wait.branch [
+        | then-is_wait+in_ok-push w ↦
+            ap (λ places. places.items) w.places-is ∙ w.in_ok-push.ensures.items ∙ ap (λ (ws : List ℕ). ws ++ place ∷ []) c.steps.invariant.waits
+            ∙ sym (waits_next program threads script place c.micro_near-micro.result false low micro (not_free _ true (sym decides ∙ w.if-is_wait.true)))
+        | else-is_wait w ↦
+            ap (λ places. places.items) w.places-is ∙ c.steps.invariant.waits ∙ sym (append-nil before)
+            ∙ sym (waits_next program threads script place c.micro_near-micro.result true low micro (not_free _ false (sym decides ∙ w.if-is_wait.false)))
+      ];
+    }

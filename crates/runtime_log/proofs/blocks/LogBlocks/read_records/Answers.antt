@@ -4,7 +4,7 @@ use Rattle.std.proofs.lemmas.Result.{err_from_is_err_and}
 use Rattle.runtime_log.specs.declared.own_event.OwnKind.{OwnKind}
 use Rattle.runtime_log.specs.Logs.{one_custom, one_typed}
 use Rattle.runtime_log.specs.OwnEvents.{log_record_length}
-use Rattle.runtime_log.proofs.BlockReading.{custom_few, reads_all, reads_more, reads_stop, typed_few}
+use Rattle.runtime_log.proofs.BlockReading.{custom_few, passed, reads_all, reads_more, reads_past, reads_stop, typed_few}
 use Rattle.runtime_log.proofs.blocks.LogBlocks.read_records.Goals as goal
 
 pub records-init : goal.records-init
@@ -26,13 +26,16 @@ records-preserved c =
     let own = c.in_ok-told.own in
     let custom = c.count.ensures.custom ∙ ap (λ (o : Option OwnKind). c.records.self.custom + one_custom o) said.1 in
     let typed = c.count.ensures.typed ∙ ap (λ (o : Option OwnKind). c.records.self.typed + one_typed o) said.1 in
+    let onward = passed c.step.new.self c.past_stretch-walk.result c.hear.new.self.first c.past_stretch-walk.ensures in
     record {
-      end = omega (arith, past.at_is, past.fits, ap length past.rest, length-drop (log_record_length c.records.walk.version c.records.walk.rest.now) c.records.walk.rest.now, i.end);
-      version = past.version ∙ i.version;
-      counts = (omega (arith, c.count.ensures.custom, custom_few own, past.at_is, past.some, i.counts.0), omega (arith, c.count.ensures.typed, typed_few own, past.at_is, past.some, i.counts.1));
+      end = omega (arith, onward.1, past.at_is, past.fits, ap length past.rest, length-drop (log_record_length c.records.walk.version c.records.walk.rest.now) c.records.walk.rest.now, i.end);
+      version = onward.0 ∙ past.version ∙ i.version;
+      counts = (omega (arith, onward.2, c.count.ensures.custom, custom_few own, past.at_is, past.some, i.counts.0), omega (arith, onward.2, c.count.ensures.typed, typed_few own, past.at_is, past.some, i.counts.1));
       reads = λ so stage.
-          reads_more so c.args.self.now c.args.block.now c.args.walk c.records.self c.records.block c.records.walk c.count.new.self c.hear.new.self c.step.new.self c.in_ok-told.told (i.reads so stage)
-          c.hear.ensures.shows i.version some said.0 past custom typed;
+          reads_past so c.args.self.now c.args.block.now c.args.walk c.count.new.self c.hear.new.self c.step.new.self c.past_stretch-walk.result
+          (reads_more so c.args.self.now c.args.block.now c.args.walk c.records.self c.records.block c.records.walk c.count.new.self c.hear.new.self c.step.new.self c.in_ok-told.told (i.reads so stage)
+          c.hear.ensures.shows i.version some said.0 past custom typed)
+          (past.version ∙ i.version) c.past_stretch-walk.ensures;
       begin = c.hear.ensures.places.0 ∙ i.begin;
       others = (c.count.ensures.others.0 ∙ i.others.0, c.count.ensures.others.1 ∙ i.others.1);
     }

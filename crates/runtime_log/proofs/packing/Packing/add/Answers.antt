@@ -42,17 +42,22 @@ events-preserved c =
     let event = c.in-Some-next.event in
     let gives = c.in-Some-next.ensures.gives in
     let noted = sym c.put.ensures.notes in
+    let put = c.put.new.self in
+    let added = adds_more block old mid put c.args.events c.events.events c.next-in-events.new.self event i.adds gives
+    (λ es fills. c.in_ok-put.ensures.fills old.file.items es (fills_again block old.file.items es mid (record mid { notes = c.note-in-Some-next.new.self }) refl refl fills))
+    (subst (λ (n : Notes). NotesEvent block.thread event mid.notes n) noted c.note-in-Some-next.ensures.notes)
+    (subst (λ (n : Notes). SameLog mid.notes.facts n.facts) noted c.note-in-Some-next.ensures.log) in
     record {
-      may = c.in-Some-next.ensures.may;
-      recordable = All-tail IsRecordable event (events_to_come c.next-in-events.new.self) (subst (All IsRecordable) gives i.recordable);
-      few = subst (λ (n : Notes). AreFew n.facts) noted c.note-in-Some-next.ensures.few;
-      begun = c.put.ensures.begun;
-      adds = adds_more block old mid c.put.new.self c.args.events c.events.events c.next-in-events.new.self event i.adds gives
-          (λ es fills. c.in_ok-put.ensures.fills old.file.items es (fills_again block old.file.items es mid (record mid { notes = c.note-in-Some-next.new.self }) refl refl fills))
-          (subst (λ (n : Notes). NotesEvent block.thread event mid.notes n) noted c.note-in-Some-next.ensures.notes)
-          (subst (λ (n : Notes). SameLog mid.notes.facts n.facts) noted c.note-in-Some-next.ensures.log);
-      room = omega (arith, i.room, c.note-in-Some-next.ensures.events, ap (λ (n : Notes). n.facts.events) c.put.ensures.notes, ap length gives);
+      may = c.add_stretch.ensures.may;
+      recordable = c.add_stretch.ensures.recordable (All-tail IsRecordable event (events_to_come c.next-in-events.new.self) (subst (All IsRecordable) gives i.recordable));
+      few = c.add_stretch.ensures.few;
+      begun = c.add_stretch.ensures.begun;
+      adds = c.add_stretch.ensures.adds old c.args.events added;
+      room = omega (arith, i.room, c.add_stretch.ensures.room, c.note-in-Some-next.ensures.events, ap (λ (n : Notes). n.facts.events) c.put.ensures.notes, ap length gives);
     }
+
+pub events-smaller : goal.events-smaller
+events-smaller c = omega (arith, c.add_stretch.ensures.fewer, ap length c.in-Some-next.ensures.gives)
 
 pub returns-clause-packs : goal.returns-clause-packs
 returns-clause-packs c = λ header said taken b packed shows some is.

@@ -13,7 +13,7 @@ use Rattle.xray_program.specs.Outcomes.{Done}
 use Rattle.xray_program.specs.private.Meant.{AccountMeans}
 use Rattle.xray_program.specs.private.NamesTaken.{named_by}
 use Rattle.xray_program.specs.private.ReportTakes.{ComesOfMeant}
-use Rattle.xray_program.proofs.Endings.{finishes}
+use Rattle.xray_program.proofs.WorkEndings.{finishes}
 use Rattle.xray_program.proofs.account.AccountWork.finish.Goals as goal
 
 pub returns-clause-finishes : goal.returns-clause-finishes

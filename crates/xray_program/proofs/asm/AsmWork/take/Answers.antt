@@ -2,7 +2,7 @@ use Rattle.std.proofs.Common.{◌≡◌, [], ◌∷◌}
 use Rattle.xray_io.specs.World.{desk_view}
 use Rattle.xray_program.specs.Inputs.{text_form}
 use Rattle.xray_program.specs.Outcomes.{Done}
-use Rattle.xray_program.proofs.Ordering.{only_taking}
+use Rattle.xray_program.proofs.CallOrder.{only_taking}
 use Rattle.xray_program.proofs.Turns.{only_taken}
 use Rattle.xray_program.proofs.asm.AsmWork.take.Goals as goal
 

@@ -5,7 +5,7 @@ use Rattle.audit_check.specs.Verdicts.{IsJudged}
 use Rattle.patch_script.specs.Refusals.{commands_of}
 use Rattle.xray_io.specs.World.{desk_view, sink_view}
 use Rattle.xray_program.specs.Check.{Judges}
-use Rattle.xray_program.proofs.Endings.{finishes}
+use Rattle.xray_program.proofs.WorkEndings.{finishes}
 use Rattle.xray_program.proofs.check.CheckWork.finish.Goals as goal
 
 pub returns-clause-finishes : goal.returns-clause-finishes

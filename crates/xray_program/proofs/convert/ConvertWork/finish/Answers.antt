@@ -9,7 +9,7 @@ use Rattle.xray_program.specs.private.Logs.{LogMeans, bytes_text}
 use Rattle.xray_program.specs.private.NamesTaken.{named_by}
 use Rattle.xray_program.specs.private.ReportTakes.{ComesOfMeant}
 use Rattle.xray_program.proofs.ConvertLaws.{bytes_kept, bytes_say, convert_prints, trace_kept}
-use Rattle.xray_program.proofs.Endings.{finishes}
+use Rattle.xray_program.proofs.WorkEndings.{finishes}
 use Rattle.xray_program.proofs.convert.ConvertWork.finish.Goals as goal
 
 pub returns-in-Fdr-clause-finishes : goal.returns-in-Fdr-clause-finishes

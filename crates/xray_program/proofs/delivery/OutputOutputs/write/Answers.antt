@@ -1,5 +1,5 @@
 use Rattle.xray_io.specs.World.{desk_view}
-use Rattle.xray_program.proofs.Outputting.{fails_one, makes_one, unmade_one}
+use Rattle.xray_program.proofs.MadeOutputs.{fails_one, makes_one, unmade_one}
 use Rattle.xray_program.proofs.delivery.OutputOutputs.write.Goals as goal
 
 pub returns-in-Err-clause-stops : goal.returns-in-Err-clause-stops

@@ -1,4 +1,4 @@
-use Rattle.xray_program.proofs.Outputting.{fails_first, fails_second, makes_two, unmade_first, unmade_second}
+use Rattle.xray_program.proofs.MadeOutputs.{fails_first, fails_second, makes_two, unmade_first, unmade_second}
 use Rattle.xray_program.proofs.delivery.TwoOutputsOutputs.write.Goals as goal
 
 pub returns-in-Ok-write_output-clause-made : goal.returns-in-Ok-write_output-clause-made

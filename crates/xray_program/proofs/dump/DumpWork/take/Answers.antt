@@ -1,7 +1,7 @@
 use Rattle.xray_io.specs.World.{desk_view}
 use Rattle.xray_program.specs.Inputs.{readable_form}
 use Rattle.xray_program.proofs.DumpLaws.{dumped, file_fits}
-use Rattle.xray_program.proofs.Ordering.{only_taking}
+use Rattle.xray_program.proofs.CallOrder.{only_taking}
 use Rattle.xray_program.proofs.Turns.{only_taken, taken_as}
 use Rattle.xray_program.proofs.dump.DumpWork.take.Goals as goal
 

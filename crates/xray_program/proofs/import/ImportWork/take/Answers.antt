@@ -3,7 +3,7 @@ use Rattle.runtime_log.specs.Facts.{facts_text}
 use Rattle.xray_io.specs.World.{desk_view}
 use Rattle.xray_program.specs.Inputs.{imported_form}
 use Rattle.xray_program.specs.Outcomes.{Done}
-use Rattle.xray_program.proofs.Ordering.{only_taking}
+use Rattle.xray_program.proofs.CallOrder.{only_taking}
 use Rattle.xray_program.proofs.Turns.{only_taken}
 use Rattle.xray_program.proofs.import.ImportWork.take.Goals as goal
 

@@ -1,4 +1,4 @@
-use Rattle.xray_program.proofs.Judging.{image_refuses}
+use Rattle.xray_program.proofs.InputReaders.{image_refuses}
 use Rattle.xray_program.proofs.inputs.ImageKindKind.judge.Goals as goal
 
 pub returns-clause-refuses : goal.returns-clause-refuses

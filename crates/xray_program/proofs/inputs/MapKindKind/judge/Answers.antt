@@ -1,4 +1,4 @@
-use Rattle.xray_program.proofs.Judging.{map_refuses}
+use Rattle.xray_program.proofs.InputReaders.{map_refuses}
 use Rattle.xray_program.proofs.inputs.MapKindKind.judge.Goals as goal
 
 pub returns-clause-refuses : goal.returns-clause-refuses

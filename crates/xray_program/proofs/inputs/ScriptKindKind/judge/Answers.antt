@@ -1,5 +1,5 @@
 use Rattle.std.proofs.Common.{arith}
-use Rattle.xray_program.proofs.Judging.{few_lines}
+use Rattle.xray_program.proofs.InputReaders.{few_lines}
 use Rattle.xray_program.proofs.inputs.ScriptKindKind.judge.Goals as goal
 
 pub read_script-requires-clause-few_lines : goal.read_script-requires-clause-few_lines

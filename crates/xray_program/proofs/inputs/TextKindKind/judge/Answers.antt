@@ -1,4 +1,4 @@
-use Rattle.xray_program.proofs.Judging.{few_lines}
+use Rattle.xray_program.proofs.InputReaders.{few_lines}
 use Rattle.xray_program.proofs.inputs.TextKindKind.judge.Goals as goal
 
 pub assemble-requires : goal.assemble-requires

@@ -8,7 +8,7 @@ use Rattle.step_sim.specs.WrittenSchedules.{schedule_text}
 use Rattle.xray_io.specs.World.{desk_view, sink_view}
 use Rattle.xray_program.specs.LoadOrder.{Orders}
 use Rattle.xray_program.specs.Outcomes.{Done}
-use Rattle.xray_program.proofs.Endings.{finishes}
+use Rattle.xray_program.proofs.WorkEndings.{finishes}
 use Rattle.xray_program.proofs.OrderTurns.{is_answer, is_refused, order_refuses}
 use Rattle.xray_program.proofs.load_order.LoadOrderWork.finish.Goals as goal
 

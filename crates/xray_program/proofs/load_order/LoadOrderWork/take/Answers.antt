@@ -2,7 +2,7 @@ use Rattle.std.proofs.Common.{[], ◌∷◌, refl, ◌∙◌, arith}
 use Rattle.xray_io.specs.World.{desk_view}
 use Rattle.xray_program.specs.Inputs.{audit_form, audit_limit, image_form, image_limit, script_limit, whole_script_form}
 use Rattle.xray_program.proofs.OrderTurns.{Accepts, AfterAudit, AfterImage, AfterScript, Comes, accepted_for, comes_of, to_audit, to_script, to_script_for}
-use Rattle.xray_program.proofs.Ordering.{all_taken, first_handed, read_first, read_on, stop_handed}
+use Rattle.xray_program.proofs.CallOrder.{all_taken, first_handed, read_first, read_on, stop_handed}
 use Rattle.xray_program.proofs.SimTurns.{given_before}
 use Rattle.xray_program.proofs.Turns.{first_stop, later_stop, leads, leads_on}
 use Rattle.xray_program.proofs.load_order.LoadOrderWork.take.Goals as goal

@@ -4,7 +4,7 @@ use Rattle.xray_io.specs.World.{desk_view, sink_view}
 use Rattle.xray_program.specs.private.Ends.{end_text}
 use Rattle.xray_program.specs.Plain.{PlainPrints}
 use Rattle.xray_program.specs.Taking.{Prints}
-use Rattle.xray_program.proofs.Endings.{finishes}
+use Rattle.xray_program.proofs.WorkEndings.{finishes}
 use Rattle.xray_program.proofs.PlainThreads.{prints_all}
 use Rattle.xray_program.proofs.plain.PlainWork.finish.Goals as goal
 

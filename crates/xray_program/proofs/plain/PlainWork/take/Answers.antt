@@ -2,7 +2,7 @@ use Rattle.xray_io.specs.World.{desk_view}
 use Rattle.xray_program.specs.Inputs.{image_form}
 use Rattle.xray_program.specs.Plain.{PlainPrints}
 use Rattle.xray_program.specs.Taking.{Prints}
-use Rattle.xray_program.proofs.Ordering.{only_taking}
+use Rattle.xray_program.proofs.CallOrder.{only_taking}
 use Rattle.xray_program.proofs.Turns.{only_taken}
 use Rattle.xray_program.proofs.plain.PlainWork.take.Goals as goal
 

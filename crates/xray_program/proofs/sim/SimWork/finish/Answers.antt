@@ -13,7 +13,7 @@ use Rattle.xray_program.specs.Sim.{Replayed, Replays}
 use Rattle.xray_program.specs.Taking.{Leaves}
 use Rattle.xray_program.specs.Traced.{Traces, state_texts, written_of}
 use Rattle.xray_program.specs.private.Works.{Finishes}
-use Rattle.xray_program.proofs.Endings.{finishes}
+use Rattle.xray_program.proofs.WorkEndings.{finishes}
 use Rattle.xray_program.proofs.RunWritten.{leaves_same}
 use Rattle.xray_program.proofs.SimTurns.{sim_leaves, sim_refuses}
 use Rattle.xray_program.proofs.sim.SimWork.finish.Goals as goal

@@ -2,7 +2,7 @@ use Rattle.std.proofs.Common.{[], ◌∷◌, refl, ◌∙◌, arith}
 use Rattle.xray_io.specs.World.{desk_view}
 use Rattle.xray_program.specs.Inputs.{image_form, script_form, schedule_form, image_limit, script_limit, schedule_limit}
 use Rattle.xray_program.proofs.SimTurns.{Accepts, AfterImage, AfterSchedule, AfterScript, Comes, comes_of, given_before, to_schedule, to_script}
-use Rattle.xray_program.proofs.Ordering.{all_taken, first_handed, read_first, read_on, stop_handed}
+use Rattle.xray_program.proofs.CallOrder.{all_taken, first_handed, read_first, read_on, stop_handed}
 use Rattle.xray_program.proofs.Turns.{first_stop, later_stop, leads, leads_on}
 use Rattle.xray_program.proofs.sim.SimWork.take.Goals as goal
 

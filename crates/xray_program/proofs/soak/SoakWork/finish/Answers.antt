@@ -1,7 +1,7 @@
 use Rattle.std.proofs.Common.{[], None, refl, subst, sym}
 use Rattle.xray_io.specs.World.{desk_view, sink_view}
 use Rattle.xray_program.specs.Soak.{IsSummary, SoakComes}
-use Rattle.xray_program.proofs.Endings.{finishes}
+use Rattle.xray_program.proofs.WorkEndings.{finishes}
 use Rattle.xray_program.proofs.soak.SoakWork.finish.Goals as goal
 
 pub returns-clause-finishes : goal.returns-clause-finishes

@@ -11,7 +11,7 @@ use Rattle.xray_program.specs.Stack.{StacksCome, rows_text, stacks_text}
 use Rattle.xray_program.specs.private.Meant.{StacksMean}
 use Rattle.xray_program.specs.private.NamesTaken.{named_by}
 use Rattle.xray_program.specs.private.ReportTakes.{ComesOfMeant}
-use Rattle.xray_program.proofs.Endings.{finishes}
+use Rattle.xray_program.proofs.WorkEndings.{finishes}
 use Rattle.xray_program.proofs.StackLaws.{stack_prints, stacks_told}
 use Rattle.xray_program.proofs.stack.StackWork.finish.Goals as goal
 

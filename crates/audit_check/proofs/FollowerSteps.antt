@@ -17,9 +17,9 @@ use Rattle.audit_check.specs.private.Searches.{FindsNext}
 use Rattle.audit_check.specs.private.Switches.{IsCourseOf}
 use Rattle.audit_check.specs.private.Turns.{IsLeast}
 use Rattle.audit_check.specs.private.Ways.{Reaches, passing_tree}
-use Rattle.audit_check.proofs.Bounding.{bound_within}
-use Rattle.audit_check.proofs.Reached.{passing_is_least}
-use Rattle.audit_check.proofs.Judged.{Same, judged_first, judged_more, same_judges, same_ready}
+use Rattle.audit_check.proofs.PassingBounds.{bound_within}
+use Rattle.audit_check.proofs.WayToMark.{passing_is_least}
+use Rattle.audit_check.proofs.JudgedMarks.{Same, judged_first, judged_more, same_judges, same_ready}
 
 pub begins : (f : Follower) (program : Program) (threads : ℕ) (script : List Command) → f.image.now ≡ program → IsCourseOf program threads script f.course.now
     → length f.passed.heads.items ≡ length f.image.now.sleds → 0 < f.thread → f.thread ≤ threads → f.hold ≡ hold_of f.thread script → f.passing ≡ 0

@@ -16,9 +16,9 @@ use Rattle.xray_program.specs.private.Works.{Ends, KeepsOthers, SaidHasRanges, S
 use Rattle.xray_program.specs.declared.stop.Stop.{Stop}
 use Rattle.xray_program.specs.declared.stop.Stop.TheVariants as stops
 use Rattle.xray_io.specs.World.{DeskView, World}
-use Rattle.xray_program.proofs.Headline.{beside, simulated}
-use Rattle.xray_program.proofs.Ordering.{went_as}
-use Rattle.xray_program.proofs.Saying.{says_nothing}
+use Rattle.xray_program.proofs.Headline.{beside, makes_setup, simulated}
+use Rattle.xray_program.proofs.CallOrder.{went_as}
+use Rattle.xray_program.proofs.ErrLines.{says_nothing}
 
 -- a number is none of these others
 not_two : (a b n : ℕ) {P : Type 0} → (n ≡ a → ⊥) → (n ≡ b → ⊥) → (n ≡ a) ⊎ (n ≡ b) → P
@@ -97,6 +97,7 @@ by_ending laws Way said before after (With BadLine) ranges (is, nothing) kept or
   names = kept;
   complete = inl (BadLine, means_bad said before.desk.held is, refl);
   headline = λ e. absurd cc;
+  setup = λ e. absurd cc;
 }
 by_ending laws Way said before after (With (Refused n kind refusal)) ranges (meant, nothing) kept order told = record {
   ending = With (Refused n kind refusal);
@@ -115,6 +116,7 @@ by_ending laws Way said before after (With (Refused n kind refusal)) ranges (mea
   names = kept;
   complete = inl (Refused n kind refusal, meant, refl);
   headline = λ e. absurd cc;
+  setup = λ e. absurd cc;
 }
 by_ending laws Way said before after (With (TooLong n)) ranges (meant, nothing) kept order told = record {
   ending = With (TooLong n);
@@ -133,6 +135,7 @@ by_ending laws Way said before after (With (TooLong n)) ranges (meant, nothing) 
   names = kept;
   complete = inl (TooLong n, meant, refl);
   headline = λ e. absurd cc;
+  setup = λ e. absurd cc;
 }
 by_ending laws Way said before after (With (Unread n)) ranges ((turn, cause), nothing) kept order told = record {
   ending = With (Unread n);
@@ -151,6 +154,7 @@ by_ending laws Way said before after (With (Unread n)) ranges ((turn, cause), no
   names = kept;
   complete = answers cause;
   headline = λ e. absurd cc;
+  setup = λ e. absurd cc;
 }
   where
     answers : Rose before.desk.read_faults after.desk.read_faults ⊎ ((before.desk.held n ≡ Absent) × Means said before.desk.held (Unread n))
@@ -174,9 +178,10 @@ by_ending laws Way said before after (With (Done outputs text)) ranges (meant, w
   names = kept;
   complete = inl (Done outputs text, meant, refl);
   headline = λ e. (
-    simulated laws said before after (ranges refl) outputs text meant writes.whole writes.printed,
-    beside laws said before after (ranges refl) outputs text meant writes.whole writes.printed,
+    simulated laws said before.desk.held after.desk.held outputs text meant writes.whole,
+    beside laws said before.desk.held after.desk.held outputs text meant writes.whole,
   );
+  setup = λ e. makes_setup said (ranges refl);
 }
 by_ending laws Way said before after (With (Fell outputs text trouble)) ranges (meant, writes) kept order told = record {
   ending = With (Fell outputs text trouble);
@@ -195,6 +200,7 @@ by_ending laws Way said before after (With (Fell outputs text trouble)) ranges (
   names = kept;
   complete = inl (Fell outputs text trouble, meant, refl);
   headline = λ e. absurd cc;
+  setup = λ e. absurd cc;
 }
 by_ending laws Way said before after (Unwritten n outputs) ranges fails kept order told = record {
   ending = Unwritten n outputs;
@@ -222,6 +228,7 @@ by_ending laws Way said before after (Unwritten n outputs) ranges fails kept ord
   names = kept;
   complete = inr (inr (inr (refl, fault fails.failed)));
   headline = λ e. absurd cc;
+  setup = λ e. absurd cc;
 }
   where
     fault : FailsWriting fails.outputs fails.text before.desk after.desk before.out after.out n
@@ -245,6 +252,7 @@ by_ending laws Way said before after NoMemory ranges nothing kept order told = r
   names = kept;
   complete = inr (inl refl);
   headline = λ e. absurd cc;
+  setup = λ e. absurd cc;
 }
 
 -- a call that ended in this way, with its line on err

@@ -8,7 +8,7 @@ use Rattle.sled_words.specs.Words.{arg_handler_word, handler_word, release_word,
 use Rattle.audit_check.specs.declared.switches.Switches.{Switches}
 use Rattle.audit_check.specs.declared.turns.Turns.{Turns}
 use Rattle.audit_check.specs.private.Switches.{AreSwitches, AreTurnsOf, IsNext, IsOfWords, is_patched, is_recording, is_set}
-use Rattle.audit_check.proofs.Switching.{get_set, kept_turns}
+use Rattle.audit_check.proofs.ScriptSwitches.{get_set, kept_turns}
 
 -- a store in a word, at the last place of the switches
 module _ (program : Program) (threads : ℕ) (code : ℕ → ℕ → ℕ) (last place : ℕ) (is : place ≡ last + 1) (s : Switches) (words : IsOfWords program threads s)

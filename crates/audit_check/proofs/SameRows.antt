@@ -23,7 +23,7 @@ use Rattle.audit_check.specs.Rows.{CountsAgree, EndsAgree, MarksAgree}
 use Rattle.audit_check.specs.Statements.{Statement}
 use Rattle.audit_check.specs.Verdicts.{AllAgree, AtThread, CountsRow, EndsRow, MarksRow}
 use Rattle.audit_check.proofs.Firsts.{fewer, first_next, last, none_yet}
-use Rattle.audit_check.proofs.Walked.{take_all}
+use Rattle.audit_check.proofs.WalkedThread.{take_all}
 
 -- ---- lists
 

@@ -16,7 +16,7 @@ use Rattle.audit_check.specs.private.Judging.{ArePassed, FindsBound, HasJudged, 
 use Rattle.audit_check.specs.private.Switches.{IsCourseOf}
 use Rattle.audit_check.specs.private.Turns.{IsLeast}
 use Rattle.audit_check.specs.private.Ways.{Tree, Leaf, Node, Held, Reaches, passing_tree}
-use Rattle.audit_check.proofs.Bounding.{bound_within, bounds_later}
+use Rattle.audit_check.proofs.PassingBounds.{bound_within, bounds_later}
 use Rattle.audit_check.proofs.LeastMarks as least
 
 -- ways end within what their places are within

@@ -12,8 +12,8 @@ use Rattle.audit_check.specs.declared.follower.Follower.{Follower}
 use Rattle.audit_check.specs.declared.switches.Awaited.{Awaited}
 use Rattle.audit_check.specs.private.Judging.{ArePassed, FindsBound, Judges, StopsAt, bounds_passing}
 use Rattle.audit_check.specs.private.Switches.{awaits_from}
-use Rattle.audit_check.proofs.Bounding.{bound_at, no_bound}
-use Rattle.audit_check.proofs.Walked.{take_all}
+use Rattle.audit_check.proofs.PassingBounds.{bound_at, no_bound}
+use Rattle.audit_check.proofs.WalkedThread.{take_all}
 
 -- one more wait is passed
 pub passed_one : (f : Follower) (passing count : ℕ) (awaited : Awaited) → slice_get f.course.now.awaits.items count ≡ Some awaited

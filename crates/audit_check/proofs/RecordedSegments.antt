@@ -12,7 +12,7 @@ use Rattle.traced_run.specs.Kept.{buffer_of, stamp_of}
 use Rattle.audit_check.specs.declared.blocks.Recording.{Recording}
 use Rattle.audit_check.specs.declared.blocks.TraceLeft.{TraceLeft}
 use Rattle.audit_check.specs.private.Blocks.{HasCompared, HasNoted, IsOpen, IsUnopened, begun_with, kept_bytes, whole_of}
-use Rattle.audit_check.proofs.Segmenting.{kept_more, opens, whole_is}
+use Rattle.audit_check.proofs.ThreadSegments.{kept_more, opens, whole_is}
 
 -- ---- laws of segments
 

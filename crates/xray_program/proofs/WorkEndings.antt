@@ -19,7 +19,7 @@ use Rattle.xray_program.specs.Taking.{DeskReads, Sound, AllAccepted, ended_by}
 use Rattle.command_words.specs.Words.{Command, outputs_of}
 use Rattle.xray_program.specs.private.Works.{AreMakings, Delivers, Ends, Finishes, KeepsOthers, StandsAfter, StopsOutputs, Writes}
 use Rattle.xray_io.specs.World.{DeskView, SinkView}
-use Rattle.xray_program.proofs.Ordering.{went_as}
+use Rattle.xray_program.proofs.CallOrder.{went_as}
 use Rattle.xray_program.specs.declared.stop.Stop.{Stop}
 use Rattle.xray_program.specs.declared.stop.Stop.TheVariants as stops
 

@@ -10,7 +10,7 @@ use Rattle.call_trie.specs.declared.table.Step.{Step}
 use Rattle.call_trie.specs.private.Chains.{IsNumberOf}
 use Rattle.call_trie.specs.private.Paths.{AreTallies, Climb, HasRoot, IsAt, path_by}
 use Rattle.call_trie.proofs.Among.{Has}
-use Rattle.call_trie.proofs.Grouping.{are_of_path, grouped, grouped_more, pairs_with, sums_of_all}
+use Rattle.call_trie.proofs.GroupedPairs.{are_of_path, grouped, grouped_more, pairs_with, sums_of_all}
 
 -- The tallies of the first so many paths after the empty one were added. Each of these paths has a number in the sums.
 pub record Adds (old now : Summed) (paths : List (List ℕ)) (tallies : List Tally) (numbers : List ℕ) (k : ℕ) : Type 0 where

@@ -9,7 +9,7 @@ use Rattle.audit_check.specs.declared.switches.Switches.{Switches}
 use Rattle.audit_check.specs.declared.turns.Turns.{Turns}
 use Rattle.audit_check.specs.private.Switches.{AreSwitches, AreTurnsOf, IsNext, IsOfWords, TakesStore, is_patched, is_recording, is_set}
 use Rattle.audit_check.specs.private.Turns.{IsTurned}
-use Rattle.audit_check.proofs.Storing.{stored_arg_handler, stored_handler, stored_head, stored_log, stored_part, stored_release}
+use Rattle.audit_check.proofs.SwitchesAfterStore.{stored_arg_handler, stored_handler, stored_head, stored_log, stored_part, stored_release}
 
 -- the word is on, or off, from a place on
 abbrev pub Notes : ℕ → Bool → Turns → Turns → Type 0

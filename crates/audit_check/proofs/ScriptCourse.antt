@@ -12,8 +12,8 @@ use Rattle.patch_script.specs.Micros.{micro_at, micros, total_of}
 use Rattle.audit_check.specs.declared.switches.Awaited.{Awaited}
 use Rattle.audit_check.specs.declared.switches.Course.{Course}
 use Rattle.audit_check.specs.private.Switches.{AreSwitches, IsCourseUpTo, IsOfWords, awaits_from}
-use Rattle.audit_check.proofs.Bounding.{awaits-append}
-use Rattle.audit_check.proofs.Switching.{Follows, next_waits, stays}
+use Rattle.audit_check.proofs.PassingBounds.{awaits-append}
+use Rattle.audit_check.proofs.ScriptSwitches.{Follows, next_waits, stays}
 
 module _ (program : Program) (threads : ℕ) (script : List Command) where
   abbrev steps : List Micro
