@@ -18,6 +18,7 @@ pub mod Bounds
 pub mod OneThread
 pub mod AllThreads
 pub mod OneRecorded
+pub mod PassingTurns
 pub mod AllRecorded
 -- The pool: its buffers from event to event (src/pool.rt)
 pub mod PoolLemmas

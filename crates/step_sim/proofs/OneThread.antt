@@ -57,7 +57,7 @@ pub patcher_stays : (cast : Cast) (m m' : Moment) (p : Patcher) → m'.place ≡
     → IsPatcherAt cast.program (thread_count cast) cast.script m'.place p
 patcher_stays cast m m' p e at = subst (λ (q : ℕ). IsPatcherAt cast.program (thread_count cast) cast.script q p) (sym e) at
 
-stand_moved : (cast : Cast) (m m' : Moment) (p : Patcher) (old new : Traced) → StandAt cast m p old → IsSameThread old new
+pub stand_moved : (cast : Cast) (m m' : Moment) (p : Patcher) (old new : Traced) → StandAt cast m p old → IsSameThread old new
     → m'.place ≡ m.place → IsAlong cast m' → IsThreadAt cast m' new → StandAt cast m' p new
 stand_moved cast m m' p old new at same e along there = record {
   along = along;

@@ -1,6 +1,6 @@
 -- The marks of a replay in which nothing waits follow its script.
 use Rattle.std.proofs.Common.{◌≡◌, ◌≢◌, ℕ, ◌+◌, ◌<◌, ◌≤◌, List, [], ◌∷◌, ◌++◌, length, map, Option, Some, None, refl, sym, ap, subst, ◌∙◌, arith}
-use Rattle.std.specs.Prelude.{All, slice_get}
+use Rattle.std.specs.Prelude.{All}
 use Rattle.std.specs.List.{flat_map, position_or_len}
 use Rattle.std.proofs.lemmas.List.{length-map}
 use Rattle.std.proofs.lemmas.List.Elements.{All-append, All-cons, All-nil}
@@ -16,17 +16,16 @@ use Rattle.patch_script.specs.CodeAt.{code_at}
 use Rattle.patch_script.specs.Micros.{Numbered, all_sleds, hold_of, micros_after, numbers, patch_sled, patches, sleds_of, start_of, steps_of, total_of, unpatch_sled}
 use Rattle.patch_script.specs.Plans.{waiting_line}
 use Rattle.patch_script.specs.Refusals.{Lines, commands_of}
-use Rattle.handler_word.specs.declared.mark.Mark.{Mark}
 use Rattle.machine_step.specs.declared.end.End.{End as How}
 use Rattle.machine_step.specs.declared.limits.Limits.{Limits}
 use Rattle.machine_step.specs.declared.setup.Setup.{Setup}
-use Rattle.machine_step.specs.Follows.{Follows, MarksFollow, none, later, loaded}
-use Rattle.machine_step.specs.Loads.{Load, marks_of, next_load}
+use Rattle.machine_step.specs.Follows.{Follows, none, later, loaded}
+use Rattle.machine_step.specs.Loads.{Load, marks_of}
 use Rattle.machine_step.specs.PlainStep.{Passing, PlainRun, State}
 use Rattle.machine_step.specs.Traced.{sleds_passed}
 use Rattle.machine_step.proofs.WantedWords.{release_wanted}
 use Rattle.traced_run.specs.Decoded.{DecodesWhole}
-use Rattle.traced_run.specs.Following.{AllMarksFollow, MarksFollowScript}
+use Rattle.traced_run.specs.Following.{AllMarksFollow}
 use Rattle.traced_run.specs.Runs.{ThreadRun}
 use Rattle.step_sim.specs.declared.turns.Turns.{Turns}
 use Rattle.step_sim.specs.Along.{IsAlong, NamesThread}

@@ -57,6 +57,7 @@ impl<'a> Patcher<'a> {
     }
 
     /// The value of a word.
+    #[inline(always)]
     pub(crate) fn load(&self, word: u32) -> u64
         requires { word < vec_len self.now.words }
         ensures { (program : Program) (threads : ℕ) (script : List Command) (place : ℕ)

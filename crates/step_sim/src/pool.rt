@@ -71,6 +71,7 @@ impl Pool {
     }
 
     /// Notes the event of a load of a thread, if there is one.
+    #[inline(always)]
     pub(crate) fn note_any(&mut self, thread: u32, event: Option<Event>)
         requires { IfSome event (λ event. CanNote self.old thread × IsRecordable event) }
         ensures { NotesAny self.old self.new thread event }

@@ -6,16 +6,17 @@ ghost use Rattle.patch_script.specs.Refusals.{commands_of};
 ghost use Rattle.machine_step.specs.declared.want.Want.{Want};
 ghost use Rattle.machine_step.specs.{Loads.{Load}, PlainStep.{Passing}, Setups.{IsSetup}};
 ghost use Rattle.machine_step.specs.Traced.{HasLoaded, IsGate, IsSameThread, loads_left};
+ghost use Rattle.machine_step.specs.Underway.{IsPassingOf, in_passing};
 ghost use Rattle.step_sim.specs.{Plays.{turns}, Replay.{Cast, Moment, thread_turn}};
 ghost use Rattle.step_sim.specs.private.{Turns.{RunsOut}, Standing.{HasBegun, Rests, StandAt}};
 ghost use Rattle.step_sim.specs.Pool.{Pooled};
 ghost use Rattle.step_sim.specs.private.Turns.{PooledRunsOut};
-ghost use Rattle.step_sim.specs.private.Recording.{RecordAt, Recording, Records, pooling_in, turn_in};
+ghost use Rattle.step_sim.specs.private.Recording.{IsFound, LeadsBy, RecordAt, Recording, Records, come_to, pooling_in, turn_in, underway_of};
 
 use crate::along::a_replay_reads_along;
 use crate::patcher::Patcher;
 use crate::pool::Pool;
-use machine_step::{Cpu, Setup, Steps, Want, some_end};
+use machine_step::{Cpu, Setup, Steps, Underway, Want, some_end};
 use patch_script::Script;
 use std::alloc::Global;
 use traced_run::{passings_are_few, some_file_holds};
@@ -41,6 +42,7 @@ pub(crate) fn new_thread<'a>(
 }
 
 /// Lets a thread into its next passing, if it is before one.
+#[inline(always)]
 fn let_in(cpu: &mut Cpu)
     ensures thread { IsSameThread cpu.old cpu.new }
     ensures loads { (passed : List Passing) (loads : List Load)
@@ -55,6 +57,7 @@ fn let_in(cpu: &mut Cpu)
 
 /// The word that a thread loads next. The thread is let into its passing for that. `None` if it has
 /// ended.
+#[inline(always)]
 fn next_word(cpu: &mut Cpu) -> Option<u32>
     ensures thread { IsSameThread cpu.old cpu.new }
     ensures loads { (passed : List Passing) (loads : List Load)
@@ -73,6 +76,7 @@ fn next_word(cpu: &mut Cpu) -> Option<u32>
 
 /// A turn of a thread: its next load. Answers whether there was one. A thread that has ended makes
 /// none.
+#[inline(always)]
 fn make_load(cpu: &mut Cpu, patcher: &Patcher, pool: &mut Pool) -> bool
     requires records { Records patcher.now cpu.old pool.old }
     ensures thread { IsSameThread cpu.old cpu.new }
@@ -112,6 +116,110 @@ pub(crate) fn make_loads(cpu: &mut Cpu, patcher: &Patcher, pool: &mut Pool, coun
     }
 }
 
+/// Where a passing is whose loads the thread hasn't been given yet.
+#[derive(Clone, Copy)]
+pub(crate) enum Found {
+    /// Before a load.
+    More(Underway),
+    /// Before its last load.
+    Last(Underway),
+}
+
+/// A turn of a thread for which it isn't given the value: the load at which its passing is, unless it is
+/// the last one. Answers where the passing is then.
+#[inline(always)]
+fn load_word(cpu: &Cpu, underway: Underway, patcher: &Patcher, pool: &mut Pool) -> Found
+    requires of { IsPassingOf cpu.now underway }
+    requires records { Records patcher.now (in_passing cpu.now underway) pool.old }
+    ensures found { IsFound patcher.now cpu.now pool.new result }
+    ensures leads { LeadsBy patcher.now (in_passing cpu.now underway) pool.old (come_to cpu.now result) pool.new }
+    ensures nearer { loads_left (come_to cpu.now result) ≤ loads_left (in_passing cpu.now underway) }
+{
+    a_replay_reads_along();
+    passings_are_few(cpu);
+    let word = cpu.word(underway);
+    let value = patcher.load(word);
+    match cpu.after(underway, value) {
+        Some(next) => {
+            pool.note_any(cpu.thread(), None);
+            Found::More(next)
+        }
+        None => Found::Last(underway),
+    }
+}
+
+/// A turn of a thread in its passing, unless only the last load is left.
+#[inline(always)]
+fn load_next(cpu: &Cpu, found: Found, patcher: &Patcher, pool: &mut Pool) -> Found
+    requires found { IsFound patcher.now cpu.now pool.old found }
+    ensures found { IsFound patcher.now cpu.now pool.new result }
+    ensures leads { LeadsBy patcher.now (come_to cpu.now found) pool.old (come_to cpu.now result) pool.new }
+    ensures nearer { loads_left (come_to cpu.now result) ≤ loads_left (come_to cpu.now found) }
+{
+    match found {
+        Found::More(underway) => load_word(cpu, underway, patcher, pool),
+        Found::Last(_) => found,
+    }
+}
+
+/// Lets a thread come to where its passing is.
+#[inline(always)]
+fn come_to(cpu: &mut Cpu, found: Found)
+    requires { IsPassingOf cpu.old (underway_of found) }
+    ensures { cpu.new ≡ come_to cpu.old found }
+{
+    match found {
+        Found::More(underway) | Found::Last(underway) => cpu.come_to(underway),
+    }
+}
+
+/// The turns of a thread from the head of a sled up to the last load of its passing. The thread learns
+/// only where they bring it, so that the loads are straight code.
+#[inline(always)]
+fn load_to_last(cpu: &mut Cpu, head: Underway, patcher: &Patcher, pool: &mut Pool)
+    requires of { IsPassingOf cpu.old head }
+    requires at { in_passing cpu.old head ≡ cpu.old }
+    requires records { Records patcher.now cpu.old pool.old }
+    ensures thread { IsSameThread cpu.old cpu.new }
+    ensures leads { LeadsBy patcher.now cpu.old pool.old cpu.new pool.new }
+    ensures nearer { loads_left cpu.new ≤ loads_left cpu.old }
+{
+    let head = load_next(cpu, Found::More(head), patcher, pool);
+    let id = load_next(cpu, head, patcher, pool);
+    let opcode = load_next(cpu, id, patcher, pool);
+    let offset = load_next(cpu, opcode, patcher, pool);
+    let handler = load_next(cpu, offset, patcher, pool);
+    let last = load_next(cpu, handler, patcher, pool);
+    come_to(cpu, last);
+}
+
+/// The turns of a thread before the last one of its passing, if it wants the head of a sled. Otherwise none.
+#[inline(always)]
+fn load_all_but_last(cpu: &mut Cpu, patcher: &Patcher, pool: &mut Pool)
+    requires { Records patcher.now cpu.old pool.old }
+    ensures thread { IsSameThread cpu.old cpu.new }
+    ensures leads { LeadsBy patcher.now cpu.old pool.old cpu.new pool.new }
+    ensures nearer { loads_left cpu.new ≤ loads_left cpu.old }
+{
+    if let Some(head) = cpu.underway() {
+        load_to_last(cpu, head, patcher, pool);
+    }
+}
+
+/// Turns of a thread: all loads of its passing, or its next load. Answers whether there was one. A thread
+/// that has ended makes none.
+fn make_passing(cpu: &mut Cpu, patcher: &Patcher, pool: &mut Pool) -> bool
+    requires records { Records patcher.now cpu.old pool.old }
+    ensures thread { IsSameThread cpu.old cpu.new }
+    ensures leads { LeadsBy patcher.now cpu.old pool.old cpu.new pool.new }
+    ensures ended { OnFalse result (Rests cpu.new) }
+    ensures nearer { OnTrue result (loads_left cpu.new < loads_left cpu.old) }
+{
+    let_in(cpu);
+    load_all_but_last(cpu, patcher, pool);
+    make_load(cpu, patcher, pool)
+}
+
 /// Makes all turns of a thread up to its end.
 pub(crate) fn run_out(cpu: &mut Cpu, patcher: &Patcher, pool: &mut Pool)
     requires records { Records patcher.now cpu.old pool.old }
@@ -123,5 +231,5 @@ pub(crate) fn run_out(cpu: &mut Cpu, patcher: &Patcher, pool: &mut Pool)
         × RecordAt r last patcher.now cpu.new pool.new }
     ensures ended { Rests cpu.new }
 {
-    'loads: while make_load(cpu, patcher, pool) {}
+    'passings: while make_passing(cpu, patcher, pool) {}
 }

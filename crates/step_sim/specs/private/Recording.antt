@@ -6,10 +6,15 @@ use Rattle.machine_step.specs.declared.limits.Limits.{Limits}
 use Rattle.machine_step.specs.Events.{events_in}
 use Rattle.machine_step.specs.PlainStep.{Passing, PlainRun, State}
 use Rattle.machine_step.specs.Traced.{Traced, sleds_passed}
+use Rattle.machine_step.specs.declared.underway.Underway.{Underway}
+use Rattle.machine_step.specs.Underway.{IsPassingOf, in_passing}
 use Rattle.step_sim.specs.declared.patcher.Patcher.{Patcher}
+use Rattle.step_sim.specs.declared.thread.Found.{Found}
+use Rattle.step_sim.specs.declared.thread.Found.TheVariants.{Last, More}
 use Rattle.step_sim.specs.declared.pool.Pool.{Pool}
 use Rattle.step_sim.specs.declared.turns.Turns.{Turns}
-use Rattle.step_sim.specs.Replay.{Cast, Moment, of_thread}
+use Rattle.step_sim.specs.Plays.{turns}
+use Rattle.step_sim.specs.Replay.{Cast, Moment, of_thread, thread_turn}
 use Rattle.step_sim.specs.Pool.{Pooled, Pooling, Stock, pooled_turn, stock_after}
 use Rattle.step_sim.specs.private.Turns.{pooled_line}
 use Rattle.traced_run.specs.Kept.{Stamp}
@@ -59,6 +64,28 @@ Records p t pool = (r : Recording) × (pooled : Pooled) × RecordAt r pooled p t
 -- a thread's turn
 abbrev pub turn_in : Recording → ℕ → Pooled → Pooled
 turn_in r thread pooled = pooled_turn r.cast (pooling_in r) thread pooled
+
+-- some turns of a thread lead it and the pool on
+pub record LeadsBy (p : Patcher) (old : Traced) (pool : Pool) (new : Traced) (pool' : Pool) : Type 0 where
+  pub count : ℕ
+  pub at : (cast : Cast) (moment : Moment) → StandAt cast moment p old → StandAt cast (turns count (thread_turn cast old.thread) moment) p new
+  pub records : (r : Recording) (pooled : Pooled) → RecordAt r pooled p old pool → RecordAt r (turns count (turn_in r old.thread) pooled) p new pool'
+
+-- ---- the loads of a passing
+
+-- where the passing is
+abbrev pub underway_of : Found → Underway
+underway_of (More u) = u
+underway_of (Last u) = u
+
+-- the thread, once it has come there
+abbrev pub come_to : Traced → Found → Traced
+come_to t found = in_passing t (underway_of found)
+
+-- the passing is the thread's, and the thread would be somewhere in a replay once it has come there
+pub record IsFound (p : Patcher) (t : Traced) (pool : Pool) (found : Found) : Type 0 where
+  pub of : IsPassingOf t (underway_of found)
+  pub records : Records p (come_to t found) pool
 
 -- a pool with the events of one load of a thread, whatever it held
 abbrev pub NotesAny : Pool → Pool → ℕ → Option Event → Type 0
