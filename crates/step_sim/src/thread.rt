@@ -74,7 +74,7 @@ fn next_word(cpu: &mut Cpu) -> Option<u32>
     }
 }
 
-/// A turn of a thread: its next load. Answers whether there was one. A thread that has ended makes
+/// A turn of a thread: its next load. Returns whether there was one. A thread that has ended makes
 /// none.
 #[inline(always)]
 fn make_load(cpu: &mut Cpu, patcher: &Patcher, pool: &mut Pool) -> bool
@@ -126,7 +126,7 @@ pub(crate) enum Found {
 }
 
 /// A turn of a thread for which it isn't given the value: the load at which its passing is, unless it is
-/// the last one. Answers where the passing is then.
+/// the last one. Returns where the passing is then.
 #[inline(always)]
 fn load_word(cpu: &Cpu, underway: Underway, patcher: &Patcher, pool: &mut Pool) -> Found
     requires of { IsPassingOf cpu.now underway }
@@ -206,7 +206,7 @@ fn load_all_but_last(cpu: &mut Cpu, patcher: &Patcher, pool: &mut Pool)
     }
 }
 
-/// Turns of a thread: all loads of its passing, or its next load. Answers whether there was one. A thread
+/// Turns of a thread: all loads of its passing, or its next load. Returns whether there was one. A thread
 /// that has ended makes none.
 fn make_passing(cpu: &mut Cpu, patcher: &Patcher, pool: &mut Pool) -> bool
     requires records { Records patcher.now cpu.old pool.old }

@@ -110,7 +110,7 @@ fn fetch_rounds(table: &CodeTable, fetcher: &mut Fetcher, rounds: u32)
     table.ended(&mut fetcher.seat);
 }
 
-/// Fetches each code word, and answers the bits of all values.
+/// Fetches each code word, and returns the bits of all values.
 fn fetch_each(table: &CodeTable, seat: &mut WorkSeat) -> u64
     requires own { IsWorkerOf table.now seat.old }
     ensures own { IsWorkerOf table.now seat.new }
@@ -128,7 +128,7 @@ fn fetch_each(table: &CodeTable, seat: &mut WorkSeat) -> u64
     found | table.fetch(seat, table.word_count() - 1)
 }
 
-/// Fetches four code words, from this one on, and answers the bits of their values.
+/// Fetches four code words, from this one on, and returns the bits of their values.
 #[inline(always)]
 fn fetch_four(table: &CodeTable, seat: &mut WorkSeat, first: u32) -> u64
     requires own { IsWorkerOf table.now seat.old }

@@ -121,7 +121,7 @@ impl<'s, 't, R: Recorder> Worker<'s, 't, R> {
         }
     }
 
-    /// Passes the gate, and lets the thread into the passing that it wants to be let into. Answers
+    /// Passes the gate, and lets the thread into the passing that it wants to be let into. Returns
     /// what the thread wants then.
     fn open<G: Gate>(&mut self, gate: &G, passing: u32) -> Want
         requires going { IsGoing R.stands self.old }
@@ -139,7 +139,7 @@ impl<'s, 't, R: Recorder> Worker<'s, 't, R> {
     }
 
     /// Loads the word that the thread wants, and gives it the value. If the thread wants the head of a
-    /// sled, makes the other loads of its passing too. Answers the event that comes of them, for the
+    /// sled, makes the other loads of its passing too. Returns the event that comes of them, for the
     /// recorder. There is one only if the last of them ends the passing.
     #[inline(always)]
     fn take(&mut self, word: u32) -> Option<Event>
@@ -226,7 +226,7 @@ impl<'s, 't, R: Recorder> Worker<'s, 't, R> {
         self.end(last)
     }
 
-    /// Makes the next load of a passing, if it has one. Answers where the passing is then.
+    /// Makes the next load of a passing, if it has one. Returns where the passing is then.
     #[inline(always)]
     fn load(&mut self, found: Found) -> Found
         requires found { IsFound R.stands found self.old }
@@ -240,7 +240,7 @@ impl<'s, 't, R: Recorder> Worker<'s, 't, R> {
         }
     }
 
-    /// Makes the next load of a passing. Answers where the passing is then.
+    /// Makes the next load of a passing. Returns where the passing is then.
     #[inline(always)]
     fn load_word(&mut self, underway: Underway) -> Found
         requires of { IsPassingOf (cpu_of self.old) underway }
@@ -284,7 +284,7 @@ impl<'s, 't, R: Recorder> Worker<'s, 't, R> {
         }
     }
 
-    /// Gives the thread the value of the load that was made. Answers the event of it.
+    /// Gives the thread the value of the load that was made. Returns the event of it.
     #[inline(always)]
     fn give(&mut self, value: u64) -> Option<Event>
         requires fetched { HasFetched R.stands value self.old }
@@ -320,7 +320,7 @@ impl<'s, 't, R: Recorder> Worker<'s, 't, R> {
         self.go_on()
     }
 
-    /// Counts the passing if the last load ended it. Answers what the thread wants next.
+    /// Counts the passing if the last load ended it. Returns what the thread wants next.
     fn go_on(&mut self) -> Want
         requires at { IsAtWork R.stands self.old }
         requires following { CountIsBehind self.old }
