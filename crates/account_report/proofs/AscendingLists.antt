@@ -12,7 +12,7 @@ use Rattle.std.proofs.lemmas.Cmp.{tied_itself}
 use Rattle.std.proofs.lemmas.List.Sums.{sum-map, sum_by-cons}
 use Rattle.std.proofs.lemmas.List.Sorted.{sum_by-IsPermutation}
 use Rattle.std.proofs.lemmas.Map.Keys.{IsDistinct-head, IsDistinct-tail}
-use Rattle.stack_rebuild.proofs.Ascents.{Strict, each_in}
+use Rattle.stack_rebuild.proofs.AscendingLists.{Strict, each_in}
 use Rattle.stack_rebuild.proofs.Items.{IsIn}
 use Rattle.account_report.specs.Ascending.{ascending, put_in}
 

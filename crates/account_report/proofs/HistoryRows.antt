@@ -15,7 +15,7 @@ use Rattle.std.proofs.lemmas.Map.Made.{is_some-lookup}
 use Rattle.std.proofs.lemmas.List.Elements.{All-cons, All-head, All-nil, All-tail}
 use Rattle.std.proofs.lemmas.List.Sorted.{All-permutation, IsPermutation-map, IsPermutation-sym}
 use Rattle.fdr_file.specs.ThreadEvents.{ThreadEvent}
-use Rattle.stack_rebuild.proofs.Ascents.{is_each_once, strict-each_once}
+use Rattle.stack_rebuild.proofs.AscendingLists.{is_each_once, strict-each_once}
 use Rattle.stack_rebuild.proofs.Items.{IsIn, any-in, any-mapped, in-any, in_permutation, mapped-any}
 use Rattle.account_report.specs.declared.row.AccountRow.{AccountRow}
 use Rattle.account_report.specs.Account.{durations_of, functions_in, is_entry_of, is_exit_of, lone_entries, lone_exits, row_from, function_row}

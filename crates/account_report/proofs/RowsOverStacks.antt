@@ -11,10 +11,10 @@ use Rattle.fdr_file.specs.ThreadEvents.{ThreadEvent, thread_events}
 use Rattle.stack_rebuild.specs.Ascending.{each_once}
 use Rattle.stack_rebuild.specs.Histories.{ThreadPair, events_of_thread, history_of, pairs_of_blocks}
 use Rattle.stack_rebuild.specs.Stacks.{PathRow, Timed, all_timed, has_path, open_before, path_cmp, path_of, path_row, timed}
-use Rattle.stack_rebuild.proofs.Ascents.{each_once-in, strict-each_once}
+use Rattle.stack_rebuild.proofs.AscendingLists.{each_once-in, strict-each_once}
 use Rattle.stack_rebuild.proofs.Groups.{IsGrouped, counts_once, sum_by-filter, sum_by-groups, sum_by-map, sum_by-none, sum_by-same}
 use Rattle.stack_rebuild.proofs.Items.{in-map}
-use Rattle.stack_rebuild.proofs.Pairing.{entries_apart, pairs_are_whole}
+use Rattle.stack_rebuild.proofs.PairFacts.{entries_apart, pairs_are_whole}
 use Rattle.stack_rebuild.proofs.Sums.{has_own, has_path-same, path_cmp_equal}
 use Rattle.account_report.specs.declared.row.AccountRow.{AccountRow}
 use Rattle.account_report.specs.Account.{account_of, durations_of, function_row, functions_in, is_entry_of, is_exit_of}

@@ -20,11 +20,11 @@ use Rattle.asm_text.specs.Layout.{StatementLines, Fixed, Jump, Placed, Owner, Ch
 use Rattle.asm_text.specs.private.Laying.{earlier, lines_of}
 use Rattle.asm_text.specs.Refusals.{is_defined, is_missing, target_name, is_unresolved}
 use Rattle.asm_text.specs.Assembling.{statements_said}
-use Rattle.asm_text.proofs.Fitting.{NamesNoPlace, IsShort}
+use Rattle.asm_text.proofs.ReadStatements.{NamesNoPlace, IsShort}
 use Rattle.asm_text.proofs.TargetLemmas.{next_place-cons}
 use Rattle.asm_text.proofs.EndingLemmas.{label_unresolved}
 use Rattle.asm_text.proofs.WidthLemmas.{at_parity, widths_aligned_branch}
-use Rattle.asm_text.proofs.Placing.{parts_length, lines_of-placed}
+use Rattle.asm_text.proofs.PlacesInCode.{parts_length, lines_of-placed}
 use Rattle.asm_text.proofs.SaidLines.{IsAllowed, Allowed, Settled, AreSaid, are_said, all_filled}
 use Rattle.asm_text.proofs.Addresses.{addresses_from, addresses-units}
 use Rattle.asm_text.proofs.OwnPlaces.{Stands, own_places}

@@ -17,11 +17,11 @@ pub mod FileLemmas
 pub mod WriteLemmas
 -- A text that was read can be laid out and written (src/laid_text.rt)
 pub mod Monotone
-pub mod Placing
-pub mod Fitting
+pub mod PlacesInCode
+pub mod ReadStatements
 pub mod Writable
 -- The verdict on a text, from what its lines say (src/assembling.rt)
-pub mod Assembled
+pub mod TextVerdict
 -- An assembled file is accepted, with the program that its text says (src/laws.rt)
 pub mod SaidLemmas
 pub mod SaidLines
@@ -34,7 +34,7 @@ pub mod EntryLaw
 pub mod FunctionsLaw
 pub mod BranchesLaw
 pub mod ReadBack
-pub mod FileFitting
+pub mod FileFields
 pub mod FileLaw
 pub mod Versions
 pub mod ProgramLaw

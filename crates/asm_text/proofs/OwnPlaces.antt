@@ -10,7 +10,7 @@ use Rattle.asm_text.specs.declared.statement.Branch.TheVariants as branches
 use Rattle.asm_text.specs.Statements.{Operation, Plain, Go, TailJump, Return, Statement, Base, Entry, Func, Label, Does}
 use Rattle.asm_text.specs.Layout.{StatementLines, Part, Fixed, Jump, Placed, Owner, Choosing, owner_of, owner_at, instruction_lines, parts_of_line, aligned, placed_from, widths, sled_shift, piece_of, line_pieces, own_place}
 use Rattle.asm_text.proofs.WidthLemmas.{at_parity}
-use Rattle.asm_text.proofs.Placing.{parts_length}
+use Rattle.asm_text.proofs.PlacesInCode.{parts_length}
 use Rattle.asm_text.proofs.SaidLines.{IsFilled, AllFilled}
 use Rattle.asm_text.proofs.Addresses.{addresses_from, addresses-append, first_address, address_within}
 

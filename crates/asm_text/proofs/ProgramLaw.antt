@@ -14,13 +14,13 @@ use Rattle.std.proofs.lemmas.List.{length-map}
 use Rattle.asm_text.specs.Writing.{image_bytes, in_version, map_version}
 use Rattle.asm_text.specs.Assembling.{statements_said, image_of, assembled}
 use Rattle.asm_text.specs.Programs.{sled_said, entry_address, trampolines_at, program_said, IsProgramOf}
-use Rattle.asm_text.proofs.Placing.{all_lie, code_length, functions_count, sleds_count}
+use Rattle.asm_text.proofs.PlacesInCode.{all_lie, code_length, functions_count, sleds_count}
 use Rattle.asm_text.proofs.Monotone.{no_more}
 use Rattle.asm_text.proofs.WriteLemmas.{length-functions, length-map_entries}
 use Rattle.asm_text.proofs.ReadBack.{FileFits}
 use Rattle.asm_text.proofs.Versions.{agreeing, fitting, reaching, same_sleds, sleds_same}
-use Rattle.asm_text.proofs.FileFitting.{image_fits}
-use Rattle.asm_text.proofs.Fitting.{base_aligned, base_fits}
+use Rattle.asm_text.proofs.FileFields.{image_fits}
+use Rattle.asm_text.proofs.ReadStatements.{base_aligned, base_fits}
 use Rattle.asm_text.proofs.UnitsLaw.{code_is_units}
 use Rattle.asm_text.proofs.SledMapLaw.{sled_lines, place_for, entry_for, places_by_lines, map_by_lines, even_sleds, map_order, entries_tell, near_sleds}
 use Rattle.asm_text.proofs.SaidLemmas.{said_fits, said_within}

@@ -14,7 +14,7 @@ use Rattle.asm_text.specs.Layout.{StatementLines, is_function, unless_never, all
 use Rattle.asm_text.specs.private.Fits.{AllFit}
 use Rattle.asm_text.specs.Refusals.{statement_judged, statement_spoken, with_words, statement_with_line, read_statements, is_statement_misplaced, names_reserved, is_out_of_range, repeats, exceeds_limits, ends_early, is_unresolved, resolved, text_ended}
 use Rattle.asm_text.specs.Assembling.{statements_said}
-use Rattle.asm_text.proofs.Fitting.{Good, read_good}
+use Rattle.asm_text.proofs.ReadStatements.{Good, read_good}
 
 -- ---- a property that each line that is taken keeps
 

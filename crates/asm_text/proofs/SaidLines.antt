@@ -10,7 +10,7 @@ use Rattle.asm_text.specs.Language.{statement_keyword_of, statement_of}
 use Rattle.asm_text.specs.Layout.{StatementLines, is_function, is_instruction, instruction_lines, defines}
 use Rattle.asm_text.specs.Refusals.{has_function, is_bare, is_statement_misplaced, is_defined, repeats, is_unresolved, resolved}
 use Rattle.asm_text.specs.Assembling.{statements_said}
-use Rattle.asm_text.proofs.Fitting.{IsShort, SaysShort, line_short}
+use Rattle.asm_text.proofs.ReadStatements.{IsShort, SaysShort, line_short}
 use Rattle.asm_text.proofs.SaidLemmas.{Keeps, not_refused, said_parts, said_keeps}
 use Rattle.std.proofs.lemmas.Bool.{or_parts, not-false}
 

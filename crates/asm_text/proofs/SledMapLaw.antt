@@ -13,7 +13,7 @@ use Rattle.asm_text.specs.declared.statement.Branch.{Branch}
 use Rattle.asm_text.specs.declared.statement.Branch.TheVariants as branches
 use Rattle.asm_text.specs.Statements.{Plain, Go, TailJump, Return, Statement, Base, Entry, Func, Label, Does}
 use Rattle.asm_text.specs.Layout.{StatementLines, Part, Fixed, Jump, Placed, Owner, Choosing, owner_of, no_owner, parts_of_line, parts_at, aligned, placed_from, lines_placed, widths, sled_shift, piece_of, line_pieces, pieces, sled_kind, entry_in, map_entries, functions}
-use Rattle.asm_text.proofs.Placing.{AllLie, parts_length}
+use Rattle.asm_text.proofs.PlacesInCode.{AllLie, parts_length}
 use Rattle.asm_text.specs.Programs.{trampolines_at}
 use Rattle.asm_text.proofs.Owners.{LiesAmong, lines_lie}
 

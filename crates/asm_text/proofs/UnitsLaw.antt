@@ -11,7 +11,7 @@ use Rattle.asm_text.specs.declared.statement.Branch.TheVariants as branches
 use Rattle.asm_text.specs.Statements.{Operation, Plain, Go, TailJump, Return, Statement, Base, Entry, Func, Label, Does}
 use Rattle.asm_text.specs.private.Fits.{Fits, OperationFits, AllFit}
 use Rattle.asm_text.specs.Layout.{StatementLines, Part, Fixed, Jump, Placed, Owner, Choosing, owner_of, no_owner, parts_of_line, parts_at, plain_parts, traced_parts, aligned, placed_from, lines_placed, all_parts, width, widths, sled_shift, branch_to, piece_of, line_pieces, pieces, place_of}
-use Rattle.asm_text.proofs.Placing.{AllLie, all_lie, name_within}
+use Rattle.asm_text.proofs.PlacesInCode.{AllLie, all_lie, name_within}
 
 all_both : {X : Type 0} (P : X → Type 0) (xs ys : List X) → AllByRecursion P xs → AllByRecursion P ys → AllByRecursion P (xs ++ ys)
 all_both P [] ys first second = second

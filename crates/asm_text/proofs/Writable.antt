@@ -12,8 +12,8 @@ use Rattle.asm_text.specs.private.Laying.{lines_of, next_places}
 use Rattle.asm_text.specs.private.LaidTexts.{all_in}
 use Rattle.asm_text.specs.private.Files.{IsWritable}
 use Rattle.asm_text.proofs.Monotone.{no_more}
-use Rattle.asm_text.proofs.Placing.{AllLie, lines_of-placed, all_lie, laid_lie, name_within, code_length, functions_count, sleds_count}
-use Rattle.asm_text.proofs.Fitting.{base_fits, names_fit}
+use Rattle.asm_text.proofs.PlacesInCode.{AllLie, lines_of-placed, all_lie, laid_lie, name_within, code_length, functions_count, sleds_count}
+use Rattle.asm_text.proofs.ReadStatements.{base_fits, names_fit}
 
 -- the code has at most as many bytes as were counted
 pub code_fits : (threshold : ℕ) (said : StatementLines) (t : Totals) → IsTotals said t → IsWithin t → widths (all_parts (by_threshold threshold) said) ≤ 1048576

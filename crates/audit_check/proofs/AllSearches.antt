@@ -12,9 +12,9 @@ use Rattle.audit_check.specs.Places.{Search, first_place, found_by}
 use Rattle.audit_check.specs.Stops.{places_of}
 use Rattle.audit_check.specs.private.Judging.{Judges, SameButGuesses}
 use Rattle.audit_check.specs.private.Searches.{Finds, FindsAll, no_stop, search_of, stop_of}
-use Rattle.audit_check.proofs.Guesses.{judges_again}
+use Rattle.audit_check.proofs.FollowerGuesses.{judges_again}
 use Rattle.audit_check.proofs.OneSearch.{stop_by}
-use Rattle.audit_check.proofs.Searching.{was_made}
+use Rattle.audit_check.proofs.SearchResults.{was_made}
 
 -- ---- stops of which some have no loads
 

@@ -21,7 +21,7 @@ use Rattle.audit_check.specs.Rows.{AreRunsOf, RecycledAgrees}
 use Rattle.audit_check.specs.Statements.{NamesThreads, Statement, said_by, statement_of}
 use Rattle.audit_check.specs.Verdicts.{IsVerdict}
 use Rattle.audit_check.proofs.SameRows.{Judged, all_bytes, first_bytes, judged_next, same_at, way_of}
-use Rattle.audit_check.proofs.Firsts.{verdict_is}
+use Rattle.audit_check.proofs.FirstDifferences.{verdict_is}
 
 -- ---- an entry of an audit
 

@@ -6,8 +6,8 @@ use Rattle.audit_check.specs.Places.{first_among, first_place}
 use Rattle.audit_check.specs.private.Judging.{lesser}
 use Rattle.audit_check.specs.private.Turns.{IsLeast, IsMet}
 use Rattle.audit_check.proofs.LeastEnds.{least_same}
-use Rattle.audit_check.proofs.Leasts.{first_least}
-use Rattle.audit_check.proofs.Searching.{first_there, place_there}
+use Rattle.audit_check.proofs.LeastPlaces.{first_least}
+use Rattle.audit_check.proofs.SearchResults.{first_there, place_there}
 
 least_is_first : (test : ℕ → Bool) (from bound : ℕ) (x : Option ℕ) → IsLeast (λ p. (from ≤ p) × (p ≤ bound) × (test p ≡ true)) x → x ≡ first_place test from bound
 least_is_first test from bound x least = by (first_place test from bound) refl x least

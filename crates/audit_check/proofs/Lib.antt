@@ -11,7 +11,7 @@ pub mod TakingRuns
 pub mod ReadAudits
 pub mod Refusals
 -- Bytes read as only one statement, or are refused at one line (src/laws.rt)
-pub mod Known
+pub mod KnownFacts
 pub mod OneReading
 pub mod SomeReading
 -- The switches: when each word of the code is on or off (src/turns.rt, src/switches.rt)
@@ -28,14 +28,14 @@ pub mod FollowWays
 pub mod WaysFollow
 pub mod OwnRelease
 -- The follower: the searches of each passing, and the least places that they find (src/searches.rt, src/follower.rt)
-pub mod Searching
+pub mod SearchResults
 pub mod SledSearches
 pub mod OneSearch
 pub mod AllSearches
 pub mod NextSearches
-pub mod Guesses
+pub mod FollowerGuesses
 pub mod FirstPlaces
-pub mod Leasts
+pub mod LeastPlaces
 pub mod LeastEnds
 pub mod LeastMarks
 pub mod WayToMark
@@ -52,14 +52,14 @@ pub mod RecordedSegments
 pub mod ComparedTrace
 -- The judge: a thread is walked through its plain run, and the first fault is found (src/judging.rt)
 pub mod WalkedThread
-pub mod Onward
-pub mod Found
+pub mod WalkSteps
+pub mod FoundAtEnd
 pub mod ThreadFaults
 pub mod SameRows
-pub mod Firsts
+pub mod FirstDifferences
 pub mod AllThreads
 -- The verdict: there is one, only one, and a lawful run is accepted (src/laws.rt)
 pub mod SomeRuns
 pub mod OneVerdict
 pub mod SomeVerdict
-pub mod Lawful
+pub mod LawfulRuns

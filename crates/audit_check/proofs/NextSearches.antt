@@ -21,7 +21,7 @@ use Rattle.audit_check.specs.private.Switches.{IsCourseOf, is_set as is_on}
 use Rattle.audit_check.proofs.AllSearches.{none_before, with_before}
 use Rattle.audit_check.proofs.PassingBounds.{bound_within}
 use Rattle.audit_check.proofs.FirstPlaces.{on_is_first}
-use Rattle.audit_check.proofs.Guesses.{judges_again, logs_as}
+use Rattle.audit_check.proofs.FollowerGuesses.{judges_again, logs_as}
 use Rattle.audit_check.proofs.JudgedMarks.{same_judges}
 use Rattle.audit_check.proofs.FollowerSteps.{stepped, waited}
 

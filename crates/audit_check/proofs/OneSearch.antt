@@ -13,7 +13,7 @@ use Rattle.audit_check.specs.private.Judging.{FindsPlace, SameButGuesses, lesser
 use Rattle.audit_check.specs.private.Searches.{Finds, search_of, stop_of}
 use Rattle.audit_check.specs.private.Switches.{is_set}
 use Rattle.audit_check.proofs.FirstPlaces.{either_is_first, first_at, not_first_at, off_is_first, on_is_first}
-use Rattle.audit_check.proofs.Guesses.{judges_again}
+use Rattle.audit_check.proofs.FollowerGuesses.{judges_again}
 
 -- the stop at the first place of a search
 abbrev pub stop_by : Search → Option ℕ → Option Stop

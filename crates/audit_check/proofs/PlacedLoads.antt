@@ -30,8 +30,8 @@ use Rattle.audit_check.specs.private.Placed.{HasStopped, IsThreadPlaced, fault_b
 use Rattle.audit_check.specs.private.Searches.{HasPlaced}
 use Rattle.audit_check.specs.private.Walks.{IsFirst, first_marks, first_of, mark_or_skipped}
 use Rattle.audit_check.proofs.SameRows.{decides_row, of_row}
-use Rattle.audit_check.proofs.Firsts.{fewer, first_next, last, none_yet}
-use Rattle.audit_check.proofs.Found.{marks_found, marks_whole}
+use Rattle.audit_check.proofs.FirstDifferences.{fewer, first_next, last, none_yet}
+use Rattle.audit_check.proofs.FoundAtEnd.{marks_found, marks_whole}
 use Rattle.audit_check.proofs.WalkedThread.{first_more, sleds_more, take_all}
 
 -- ---- one passing more

@@ -22,7 +22,7 @@ use Rattle.audit_check.specs.private.Walks.{IsFirst, IsFound, Way, first_of}
 use Rattle.audit_check.specs.Rows.{CountsAgree, EndsAgree, MarksAgree}
 use Rattle.audit_check.specs.Statements.{Statement}
 use Rattle.audit_check.specs.Verdicts.{AllAgree, AtThread, CountsRow, EndsRow, MarksRow}
-use Rattle.audit_check.proofs.Firsts.{fewer, first_next, last, none_yet}
+use Rattle.audit_check.proofs.FirstDifferences.{fewer, first_next, last, none_yet}
 use Rattle.audit_check.proofs.WalkedThread.{take_all}
 
 -- ---- lists

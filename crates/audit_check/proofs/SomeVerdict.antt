@@ -29,9 +29,9 @@ use Rattle.audit_check.specs.Rows.{AreRunsOf, CountsAgree, EndsAgree, MarksAgree
 use Rattle.audit_check.specs.Statements.{NamesThreads, Statement}
 use Rattle.audit_check.specs.Verdicts.{AtThread, IsJudged}
 use Rattle.audit_check.proofs.SameRows.{of_row, row_of}
-use Rattle.audit_check.proofs.Firsts.{first_next, none_yet, verdict_is}
+use Rattle.audit_check.proofs.FirstDifferences.{first_next, none_yet, verdict_is}
 use Rattle.audit_check.proofs.FollowWays.{marks_pass}
-use Rattle.audit_check.proofs.Known.{Known, known_as, known_below, known_both, known_bytes, known_equal, known_test}
+use Rattle.audit_check.proofs.KnownFacts.{Known, known_as, known_below, known_both, known_bytes, known_equal, known_test}
 use Rattle.audit_check.proofs.LeastEnds.{least_either, least_same}
 use Rattle.audit_check.proofs.OwnRelease.{trees_own}
 use Rattle.audit_check.proofs.Refusals.{some_item}

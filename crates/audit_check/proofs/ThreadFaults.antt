@@ -23,8 +23,8 @@ use Rattle.audit_check.specs.private.Blocks.{HasCompared, HasNoted, kept_bytes, 
 use Rattle.audit_check.specs.private.Judging.{HasJudged}
 use Rattle.audit_check.specs.private.Walks.{AreCounted, HasWalked, IsFound, Way, first_marks}
 use Rattle.audit_check.specs.Rows.{EndsAgree, MarksAgree}
-use Rattle.audit_check.proofs.Found.{events_are, marks_found}
-use Rattle.audit_check.proofs.Lawful.{recorded_is}
+use Rattle.audit_check.proofs.FoundAtEnd.{events_are, marks_found}
+use Rattle.audit_check.proofs.LawfulRuns.{recorded_is}
 
 -- ---- before the first passing
 

@@ -10,8 +10,8 @@ use Rattle.machine_step.specs.Loads.{sled_logs_args}
 use Rattle.audit_check.specs.Places.{Search, either_handler, found_by, handler_searches, has_arg_handler, has_handler, head_searches, is_patched, is_set, log_records, one_load, passing_searches, patched_search}
 use Rattle.audit_check.specs.private.Turns.{IsLeast}
 use Rattle.audit_check.specs.private.Ways.{Leaf, Node, Reaches, Tree, arg_handler_tree, handler_tree, head_tree, id_tree, passing_tree, state_tree}
-use Rattle.audit_check.proofs.Leasts.{passing_least}
-use Rattle.audit_check.proofs.Searching.{found_none, found_on}
+use Rattle.audit_check.proofs.LeastPlaces.{passing_least}
+use Rattle.audit_check.proofs.SearchResults.{found_none, found_on}
 
 not_not : (b : Bool) → not (not b) ≡ true → b ≡ true
 not_not true e = refl

@@ -9,7 +9,7 @@ use Rattle.stack_rebuild.specs.Stacks.{Timed}
 use Rattle.call_trie.specs.declared.table.Step.{Step}
 use Rattle.call_trie.specs.private.Chains.{IsNumberOf}
 use Rattle.call_trie.specs.private.Paths.{AreTallies, Climb, HasRoot, IsAt, path_by}
-use Rattle.call_trie.proofs.Among.{Has}
+use Rattle.call_trie.proofs.AmongPaths.{Has}
 use Rattle.call_trie.proofs.GroupedPairs.{are_of_path, grouped, grouped_more, pairs_with, sums_of_all}
 
 -- The tallies of the first so many paths after the empty one were added. Each of these paths has a number in the sums.

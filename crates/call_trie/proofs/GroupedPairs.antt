@@ -9,7 +9,7 @@ use Rattle.std.proofs.lemmas.List.Sums.{sum_by-append, sum_by-cons}
 use Rattle.stack_rebuild.specs.declared.tally.Tally.{Tally}
 use Rattle.stack_rebuild.specs.PathSums.{AllNumbered, AreApart, AreOfPath, AreSums, path_at, tally_of}
 use Rattle.stack_rebuild.specs.Stacks.{Timed, has_path}
-use Rattle.call_trie.proofs.Among.{Has, has_other, has_own, same_tally}
+use Rattle.call_trie.proofs.AmongPaths.{Has, has_other, has_own, same_tally}
 
 -- the pairs of a path
 abbrev pub pairs_with : List Timed → List ℕ → List Timed

@@ -6,9 +6,9 @@ pub mod FrameLemmas
 -- The recorder: its fields after one more event, and that they are what stacks say (src/recorder.rt)
 pub mod RecorderFields
 pub mod RecorderEvents
-pub mod Bounds
+pub mod TrieBounds
 -- The tallies of tries, added up (src/nodes.rt, src/merging.rt)
-pub mod Among
+pub mod AmongPaths
 pub mod GroupedPairs
 pub mod AddedTallies
 pub mod JoinedRecorders

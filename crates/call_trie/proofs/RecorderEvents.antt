@@ -16,7 +16,7 @@ use Rattle.call_trie.specs.declared.state.TrieState.TheVariants.{Live, Full, Dee
 use Rattle.call_trie.specs.private.Paths.{IsAt, IsNew}
 use Rattle.call_trie.specs.private.Steps.{Enters, Leaves, deep, ended, fresh, full, known, none}
 use Rattle.call_trie.specs.Tries.{StandsFor, Trie, excess, first_stop, is_among, paths_in, paths_opened, state_after, state_in, with_path}
-use Rattle.call_trie.proofs.Among.{Has, Keeps, at_among, has_kept, new_among, none_has, numbered_append, numbered_kept, tallies_more, with_is, with_known, with_new}
+use Rattle.call_trie.proofs.AmongPaths.{Has, Keeps, at_among, has_kept, new_among, none_has, numbered_append, numbered_kept, tallies_more, with_is, with_known, with_new}
 
 -- what one more event changes, as stacks say it
 abbrev pub Law : Type 0

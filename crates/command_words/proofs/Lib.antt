@@ -4,15 +4,15 @@ pub mod Texts
 pub mod NumberLemmas
 -- clap: what it makes of words is the line that they say (src/cutting.rt)
 pub mod Arguments
-pub mod Walking
-pub mod Levels
-pub mod Built
+pub mod ClapWalk
+pub mod ClapCommand
+pub mod ClapArguments
 pub mod Pairs
-pub mod Gathering
-pub mod Cuts
+pub mod ClapMatches
+pub mod ReadWords
 -- Commands: what is made of a line, by the rows of the table (src/words.rt, src/laws.rt)
 pub mod OfRows
 pub mod Outputs
-pub mod Readings
+pub mod ReadLines
 -- Worked examples: command lines
 pub mod WorkedLines

@@ -16,7 +16,7 @@ use Rattle.command_words.specs.Items.{Item, File, Given, Bare, dashed, values_of
 use Rattle.command_words.specs.Rows.{FileRow}
 use Rattle.command_words.specs.private.Allowed.{are_distinct}
 use Rattle.command_words.proofs.Arguments.{Each, run, run_none, used_one}
-use Rattle.command_words.proofs.Built.{at_place, built_file, built_option, long_is, rules_from}
+use Rattle.command_words.proofs.ClapArguments.{at_place, built_file, built_option, long_is, rules_from}
 use Rattle.command_words.proofs.Texts.{all_alike, distinct_parts, each_all, each_among, each_append, each_mapped, each_with, equal_texts, not_all, other_way, same_text}
 
 -- what a value is for, and the value

@@ -49,7 +49,7 @@ impl OptionRow {
 
 impl Values {
     /// The number that a value stands for. `None` if the value isn't allowed.
-    #[tactic(auto, using(crate::proofs::Gathering::position_of_texts))]
+    #[tactic(auto, using(crate::proofs::ClapMatches::position_of_texts))]
     pub(crate) fn number_of(&self, value: &str) -> Option<u64>
         ensures number { result ≡ number_of (values_view self.now) value.now }
         ensures within { IfSome result (IsAmongValues (values_view self.now)) }

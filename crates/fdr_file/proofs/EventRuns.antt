@@ -21,7 +21,7 @@ use Rattle.fdr_file.specs.Scanning.{event_on, blocks_given, record_or, stage_aft
 use Rattle.fdr_file.specs.Traces.{record_in, record_length}
 use Rattle.fdr_file.specs.Streams.{Scans}
 use Rattle.fdr_file.specs.private.Scan.{Advances, CanTell, EventsNext, among_events, record_advanced}
-use Rattle.fdr_file.proofs.Following.{record_advances}
+use Rattle.fdr_file.proofs.ScanSteps.{record_advances}
 
 -- a record among the events of a block
 pub runs_judged : (version : Version) (span : Span) (at : ℕ) (start base : Base) (entry event : Option Event) (bytes : List ℕ) → at + record_length bytes ≤ span.end

@@ -21,14 +21,14 @@ use Rattle.fdr_file.specs.Prefixes.{IsHeaderFault, IsReadable, ReadsAsTrace}
 use Rattle.fdr_file.specs.Scanning.{header_on, scan_start, Scanned, scanned, scanned_ends, scanned_from, scanned_next, scanned_on, stage_ends, stage_judged, version_read, with_told}
 use Rattle.fdr_file.specs.Traces.{header_in, record_in, record_length, trace_of}
 use Rattle.fdr_file.specs.private.Prefixes.{ReadsTo, end_after, passed_at}
-use Rattle.fdr_file.proofs.Agreeing.{run_agrees}
-use Rattle.fdr_file.proofs.Deciding.{versioned}
-use Rattle.fdr_file.proofs.Following.{headed, header_again, step_cut, step_whole, unheaded}
+use Rattle.fdr_file.proofs.ReadingAndRecords.{run_agrees}
+use Rattle.fdr_file.proofs.PlacesDecide.{versioned}
+use Rattle.fdr_file.proofs.ScanSteps.{headed, header_again, step_cut, step_whole, unheaded}
 use Rattle.fdr_file.proofs.PartFaults.{IsBlockFault, IsOfPart, fault_first, fault_of, header_is}
-use Rattle.fdr_file.proofs.Steps.{at_stage, reads_none, stays_faulty}
+use Rattle.fdr_file.proofs.RecordSteps.{at_stage, reads_none, stays_faulty}
 use Rattle.fdr_file.proofs.TraceRows.{header_first, header_has}
-use Rattle.fdr_file.proofs.Walking.{length_some}
-use Rattle.fdr_file.proofs.Whole.{cut_is_short, length_again, whole_again}
+use Rattle.fdr_file.proofs.NextParts.{length_some}
+use Rattle.fdr_file.proofs.WholeRecords.{cut_is_short, length_again, whole_again}
 
 -- ---- a block is due where a trace ends
 

@@ -9,8 +9,8 @@ use Rattle.fdr_file.specs.Grammar.{AreBlocks, IsBlock, IsTrace}
 use Rattle.fdr_file.specs.Places.{starts}
 use Rattle.fdr_file.specs.Prefixes.{block_end, first_blocks, longer_trace, trace_ends}
 use Rattle.fdr_file.specs.Traces.{block_length, version_of}
-use Rattle.fdr_file.proofs.Accepting.{block_stands, header_reads, one_trace}
-use Rattle.fdr_file.proofs.Walking.{starts_first}
+use Rattle.fdr_file.proofs.GrammarIsRead.{block_stands, header_reads, one_trace}
+use Rattle.fdr_file.proofs.NextParts.{starts_first}
 
 -- ---- one more block
 

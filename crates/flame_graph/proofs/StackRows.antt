@@ -15,7 +15,7 @@ use Rattle.stack_rebuild.specs.Calls.{pairs_of}
 use Rattle.stack_rebuild.specs.declared.call.Pair.{Pair}
 use Rattle.stack_rebuild.specs.Histories.{ThreadPair, events_of_thread, pairs_of_blocks}
 use Rattle.stack_rebuild.specs.Stacks.{PathRow, Timed, all_timed, open_before, pair_path, path_cmp, path_of, path_row, rows_of_pairs, stack_of, stack_of_threads, timed, timed_pairs}
-use Rattle.stack_rebuild.proofs.Ascents.{Strict, in-each_once, strict-each_once}
+use Rattle.stack_rebuild.proofs.AscendingLists.{Strict, in-each_once, strict-each_once}
 use Rattle.stack_rebuild.proofs.Items.{IsIn, map-in}
 use Rattle.flame_graph.specs.Frames.{AreAscending, AreStacks, Precedes}
 use Rattle.flame_graph.proofs.Orders.{Ascends, IsBefore, ascending_from}

@@ -1,4 +1,4 @@
 -- The reader: a name between quotation marks (src/quote.rt), and the lines of a map in turn (src/reading.rt)
 pub mod Letters
-pub mod Namings
-pub mod Taking
+pub mod EntryNames
+pub mod TakenLines

@@ -11,7 +11,7 @@ use Rattle.patch_script.specs.CodeAt.{code_at}
 use Rattle.patch_script.specs.Micros.{hold_of, start_of}
 use Rattle.machine_step.specs.Loads.{is_held_at, sled_logs_args}
 use Rattle.audit_check.specs.Places.{Search, found_by, handler_searches, has_arg_handler, head_searches, load_places, passing_searches, places_from}
-use Rattle.audit_check.proofs.Searching.{found_none, found_on, was_made, went_on}
+use Rattle.audit_check.proofs.SearchResults.{found_none, found_on, was_made, went_on}
 use Rattle.run_order.specs.FreeScripts.{free_place}
 use Rattle.run_order.specs.Places.{free_places}
 

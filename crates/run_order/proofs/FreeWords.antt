@@ -9,7 +9,7 @@ use Rattle.patch_script.specs.declared.command.Command.TheVariants as commands
 use Rattle.patch_script.specs.Language.{command_of, keyword_of, keywords}
 use Rattle.patch_script.specs.Plans.{is_waiting}
 use Rattle.run_order.specs.FreeScripts.{begins_wait}
-use Rattle.audit_check.proofs.Searching.{was_made, went_on}
+use Rattle.audit_check.proofs.SearchResults.{was_made, went_on}
 
 -- ---- words of a table
 

@@ -15,7 +15,7 @@ use Rattle.run_order.specs.Orders.{thread_line, turns_at}
 use Rattle.run_order.specs.private.Lines.{HasJoined}
 use Rattle.audit_check.specs.Stops.{places_of}
 use Rattle.run_order.specs.private.Stops.{AllFrom, ArePassed, AreStops, HaveAdded, Passes, loads_at, places_in}
-use Rattle.run_order.proofs.Replaying.{take_next}
+use Rattle.run_order.proofs.ReplayAlongPlaces.{take_next}
 
 -- the line of a thread at a place, by its number and the places of its loads
 abbrev pub line_at : ℕ → ℕ × List ℕ → List Turns

@@ -21,7 +21,7 @@ use Rattle.run_order.specs.declared.fault.OrderFault.TheVariants.{Ends, Marks, L
 use Rattle.run_order.specs.Answers.{EndsAgree, IsAnswer, IsOrdered, MarksAgree}
 use Rattle.run_order.specs.Orders.{is_long}
 use Rattle.run_order.specs.RunOrders.{IsOrderOf}
-use Rattle.run_order.proofs.Replayed.{one_order, some_order}
+use Rattle.run_order.proofs.OrderLeavesRun.{one_order, some_order}
 use Rattle.std.proofs.lemmas.Bool.{cases_order}
 
 -- ---- one answer

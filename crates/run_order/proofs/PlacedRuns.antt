@@ -34,9 +34,9 @@ use Rattle.run_order.specs.private.Stops.{AreStops}
 use Rattle.run_order.specs.private.Waits.{freed, waits_of}
 use Rattle.run_order.proofs.FewLoads.{loads_few}
 use Rattle.run_order.proofs.FreeMicros.{AllRelease, free_start, free_total, places_rise}
-use Rattle.run_order.proofs.Freeing.{freed_is}
-use Rattle.run_order.proofs.Ordered.{none_there}
-use Rattle.run_order.proofs.Replayed.{BoundsWithin, run_exists, sleds_exist, starts_within}
+use Rattle.run_order.proofs.WaitsBefore.{freed_is}
+use Rattle.run_order.proofs.OrderOfRun.{none_there}
+use Rattle.run_order.proofs.OrderLeavesRun.{BoundsWithin, run_exists, sleds_exist, starts_within}
 use Rattle.run_order.proofs.ThreadLoads.{passings_placed, rise_mapped}
 
 abbrev pub Answer : Type 0

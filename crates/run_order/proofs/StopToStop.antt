@@ -9,7 +9,7 @@ use Rattle.run_order.specs.declared.lines.ScheduleLines.{ScheduleLines}
 use Rattle.run_order.specs.Orders.{joined, turns_at, turns_from}
 use Rattle.run_order.specs.private.Lines.{HasJoined}
 use Rattle.run_order.specs.private.Stops.{AllFrom, ArePassed, IsUpTo, places_in}
-use Rattle.run_order.proofs.Due.{no_turns_from}
+use Rattle.run_order.proofs.PlacesWithoutLoads.{no_turns_from}
 use Rattle.run_order.proofs.MergedTurns.{same_turns, stops_left}
 
 -- ---- after a stop

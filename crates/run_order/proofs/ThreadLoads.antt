@@ -16,9 +16,9 @@ use Rattle.run_order.specs.FreeScripts.{free_commands, free_place}
 use Rattle.run_order.specs.Placed.{ArePlaced, Rise}
 use Rattle.audit_check.specs.Places.{Search, found_by, load_places, passing_searches, places_from}
 use Rattle.run_order.proofs.FreeMicros.{AllRelease, free_code, free_start, free_total, places_rise}
-use Rattle.run_order.proofs.Leading.{IsLoadAt, Leads, passing_led}
-use Rattle.audit_check.proofs.Searching.{found_on, was_made, went_on}
-use Rattle.run_order.proofs.Searching.{found_rises}
+use Rattle.run_order.proofs.PassingLoads.{IsLoadAt, Leads, passing_led}
+use Rattle.audit_check.proofs.SearchResults.{found_on, was_made, went_on}
+use Rattle.run_order.proofs.RisingSearches.{found_rises}
 
 -- ---- lists
 

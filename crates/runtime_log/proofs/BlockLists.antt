@@ -25,7 +25,7 @@ use Rattle.runtime_log.specs.OwnEvents.{log_record_in, own_kind}
 use Rattle.runtime_log.specs.Versions.{trace_version}
 use Rattle.runtime_log.specs.private.Choices.{AreAt, IsAt}
 use Rattle.runtime_log.specs.private.Readings.{BlocksRead}
-use Rattle.runtime_log.proofs.Walking.{starts_first, starts_none}
+use Rattle.runtime_log.proofs.RecordWalk.{starts_first, starts_none}
 
 -- ---- the size of a block
 

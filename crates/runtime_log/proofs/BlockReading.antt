@@ -23,7 +23,7 @@ use Rattle.runtime_log.specs.private.Readings.{MayPass, ReadsOn, walk_reads}
 use Rattle.runtime_log.specs.private.Stretches.{stretch_events}
 use Rattle.runtime_log.specs.private.Walks.{IsOpened, IsPast}
 use Rattle.runtime_log.proofs.Stretches.{so_past, walk_read}
-use Rattle.runtime_log.proofs.Walking.{rows_first, rows_none, so_with}
+use Rattle.runtime_log.proofs.RecordWalk.{rows_first, rows_none, so_with}
 
 -- ---- the records of a block
 

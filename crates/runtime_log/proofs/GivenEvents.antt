@@ -17,9 +17,9 @@ use Rattle.runtime_log.specs.private.Choices.{IsAt, content_at}
 use Rattle.runtime_log.specs.private.Records.{records_in}
 use Rattle.runtime_log.specs.private.Walks.{IsOpened, events_told, walk_events}
 use Rattle.runtime_log.proofs.RecordFits.{AreBytes}
-use Rattle.runtime_log.proofs.Recordable.{events_fit, fit_recordable, starts_fit}
+use Rattle.runtime_log.proofs.RecordableLogs.{events_fit, fit_recordable, starts_fit}
 use Rattle.runtime_log.proofs.Runs.{basic_few, basic_recordable}
-use Rattle.runtime_log.proofs.Walking.{events_few, events_said, starts_few}
+use Rattle.runtime_log.proofs.RecordWalk.{events_few, events_said, starts_few}
 use Rattle.runtime_log.proofs.WholeLogs.{block_parts}
 
 pub are_bytes : (bytes : List ℕ) → ((k : ℕ) → get_or bytes k 0 < 2 ^ 8) → AreBytes bytes

@@ -35,9 +35,9 @@ use Rattle.runtime_log.specs.private.Headers.{header_for}
 use Rattle.runtime_log.specs.private.Readings.{blocks_said}
 use Rattle.runtime_log.proofs.OneImport.{taken_hold}
 use Rattle.runtime_log.proofs.RecordFits.{AreBytes, number_below}
-use Rattle.runtime_log.proofs.Recordable.{PlacesFit, SaidFits, StageFits, ToldFits, row_fits, settled_fit, starts_fit}
+use Rattle.runtime_log.proofs.RecordableLogs.{PlacesFit, SaidFits, StageFits, ToldFits, row_fits, settled_fit, starts_fit}
 use Rattle.runtime_log.proofs.Runs.{OwnerFits, ReadFits, RecordFits, RecordsFit, basic_fit, read_fits}
-use Rattle.runtime_log.proofs.Walking.{so_with}
+use Rattle.runtime_log.proofs.RecordWalk.{so_with}
 use Rattle.runtime_log.proofs.WholeLogs.{block_parts, log_parts}
 
 -- the fields of a block fit the records of a trace

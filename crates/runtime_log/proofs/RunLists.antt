@@ -20,7 +20,7 @@ use Rattle.runtime_log.specs.private.Choices.{AreAt, counter_first}
 use Rattle.runtime_log.specs.private.Readings.{AreRuns, BelongsAt, EndsAt, IsRun, RunsRead}
 use Rattle.runtime_log.specs.private.Records.{counter_of, records_in, records_read}
 use Rattle.runtime_log.proofs.Runs.{first_more, read_more, tagged_again}
-use Rattle.runtime_log.proofs.Walking.{starts_first, starts_none}
+use Rattle.runtime_log.proofs.RecordWalk.{starts_first, starts_none}
 
 -- ---- a run
 

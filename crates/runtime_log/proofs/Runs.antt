@@ -24,7 +24,7 @@ use Rattle.runtime_log.specs.BasicLogs.{argument_in, basic_events, func_in, kind
 use Rattle.runtime_log.specs.private.Choices.{counter_first}
 use Rattle.runtime_log.specs.private.Records.{counter_of, record_before, records_in, records_read}
 use Rattle.runtime_log.proofs.RecordFits.{AreBytes, byte_below, number_below}
-use Rattle.runtime_log.proofs.Recordable.{fit_recordable}
+use Rattle.runtime_log.proofs.RecordableLogs.{fit_recordable}
 
 -- ---- one record
 

@@ -31,8 +31,8 @@ use Rattle.runtime_log.specs.private.Coming.{events_to_come}
 use Rattle.runtime_log.specs.private.Notes.{EndsWith, HasNoted, NotesCounter, SameLog, last_event, noted_to}
 use Rattle.runtime_log.specs.private.Packings.{Adds, Fills}
 use Rattle.runtime_log.specs.private.Stretches.{AreStretch, IsPlain, SaysStretch, action_in, counter_in, event_in, kind_in, last_counter, stretch_events}
-use Rattle.runtime_log.proofs.Adding.{event_of, said_again}
-use Rattle.runtime_log.proofs.Noting.{counting, noted_more}
+use Rattle.runtime_log.proofs.AddedBlocks.{event_of, said_again}
+use Rattle.runtime_log.proofs.NotedEvents.{counting, noted_more}
 use Rattle.runtime_log.proofs.RecordFits.{AreBytes, byte_below, number_below}
 use Rattle.runtime_log.proofs.Stretches.{kind_by, no_argument, record_of}
 

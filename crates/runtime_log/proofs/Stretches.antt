@@ -32,7 +32,7 @@ use Rattle.runtime_log.specs.Logs.{BlockSoFar, log_places, log_record_rows, said
 use Rattle.runtime_log.specs.OwnEvents.{first_kind, log_record_length, own_kind}
 use Rattle.runtime_log.specs.private.Stretches.{AreStretch, IsPlain, IsStretch, SaysStretch, action_in, counter_in, event_in, kind_in, last_counter, stretch_events}
 use Rattle.runtime_log.specs.private.Walks.{IsCounted, IsPastStretch, events_by, events_told, walk_events}
-use Rattle.runtime_log.proofs.Walking.{events_first, rows_first, so_with}
+use Rattle.runtime_log.proofs.RecordWalk.{events_first, rows_first, so_with}
 
 -- ---- one record
 

@@ -40,7 +40,7 @@ use Rattle.runtime_log.specs.private.Headers.{mode_of}
 use Rattle.runtime_log.proofs.BlockLists.{Onward, block_first, block_sized, size_is}
 use Rattle.runtime_log.proofs.BlockReading.{block_is}
 use Rattle.runtime_log.proofs.RecordCuts.{extents_long, long_as, not_own, record_as, record_cut, record_short}
-use Rattle.runtime_log.proofs.Walking.{places_first, record_some, rows_none, so_with, starts_first, starts_none}
+use Rattle.runtime_log.proofs.RecordWalk.{places_first, record_some, rows_none, so_with, starts_first, starts_none}
 use Rattle.runtime_log.proofs.WholeLogs.{log_read}
 
 -- ---- the reading of a trace

@@ -19,8 +19,8 @@ use Rattle.stack_rebuild.specs.Calls.{Standing, cycles_between, from_innermost, 
 use Rattle.stack_rebuild.specs.Stacks.{Timed, path_of, spent_in}
 use Rattle.stack_rebuild.specs.PathSums.{AreSums, path_at}
 use Rattle.stack_rebuild.specs.private.Scanning.{AreFrames, Follows, IsFrame, Keeps, Opens, spending, timed_now, top_of, with_spent}
-use Rattle.stack_rebuild.proofs.Nesting.{AllBefore, Nested, ended_by, nested_ended, nested_history, pair_by}
-use Rattle.stack_rebuild.proofs.Spending.{adds, made, path_of-cons, spent_at_end, spent_more, timed_new}
+use Rattle.stack_rebuild.proofs.NestedCalls.{AllBefore, Nested, ended_by, nested_ended, nested_history, pair_by}
+use Rattle.stack_rebuild.proofs.SpentTimes.{adds, made, path_of-cons, spent_at_end, spent_more, timed_new}
 
 -- ---- the innermost frame
 

@@ -5,7 +5,7 @@ use Rattle.std.specs.declared.cmp.Ordering.{Ordering}
 use Rattle.std.specs.declared.cmp.Ordering.TheVariants.{Less}
 use Rattle.std.specs.Cmp.{IsTotalOrder}
 use Rattle.std.proofs.lemmas.List.Sums.{sum_by-cons}
-use Rattle.stack_rebuild.proofs.Ascents.{Strict, never_both}
+use Rattle.stack_rebuild.proofs.AscendingLists.{Strict, never_both}
 use Rattle.stack_rebuild.proofs.Items.{IsIn}
 
 -- ---- sums

@@ -22,7 +22,7 @@ use Rattle.stack_rebuild.specs.PathSums.{AllNumbered, AreSums, no_tally, path_at
 use Rattle.stack_rebuild.specs.private.Rows.{row_before, row_by, rows_at, rows_for}
 use Rattle.stack_rebuild.specs.Stacks.{PathRow, Timed, has_path, path_cmp, path_row, told}
 use Rattle.stack_rebuild.proofs.Orders.{order_all, order_distinct, order_low}
-use Rattle.stack_rebuild.proofs.Ascents.{Strict, each_in, is_each_once}
+use Rattle.stack_rebuild.proofs.AscendingLists.{Strict, each_in, is_each_once}
 use Rattle.stack_rebuild.proofs.Items.{IsIn, all_in, in_permutation, map-in}
 use Rattle.stack_rebuild.proofs.Sums.{has_own, has_path-same, path_cmp_equal}
 

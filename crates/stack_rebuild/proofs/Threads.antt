@@ -15,7 +15,7 @@ use Rattle.stack_rebuild.specs.Ascending.{each_once}
 use Rattle.stack_rebuild.specs.Calls.{pairs_of}
 use Rattle.stack_rebuild.specs.Histories.{ThreadPair, events_of_thread, history_of, pair_after, pairs_after, pairs_of_blocks, pairs_of_thread, thread_event, thread_pair}
 use Rattle.stack_rebuild.specs.Stacks.{AreThreadsOf, PathRow, Timed, all_timed, has_path, path_cmp, path_row, rows_of_pairs, stack_of, stack_of_threads, timed, timed_pairs}
-use Rattle.stack_rebuild.proofs.Ascents.{each_once-in, in-each_once, is_each_once, strict-each_once}
+use Rattle.stack_rebuild.proofs.AscendingLists.{each_once-in, in-each_once, is_each_once, strict-each_once}
 use Rattle.stack_rebuild.proofs.Items.{IsIn, all_in, in_from_Contains}
 use Rattle.stack_rebuild.proofs.RowsOf.{counted-in, in-counted}
 use Rattle.stack_rebuild.proofs.Sums.{path_cmp_equal}

@@ -20,7 +20,7 @@ use Rattle.step_sim.specs.private.Holding.{PoolHolds}
 use Rattle.step_sim.specs.private.Recording.{AllRecord, AllRecordAt, PoolAt, RecordAt, Recording, Records, histories, line_in, pooling_in, turn_in}
 use Rattle.step_sim.proofs.AllThreads.{RunOut, found_at, run_count, stand_of, turns_moved}
 use Rattle.step_sim.proofs.OneRecorded.{holds_same}
-use Rattle.step_sim.proofs.Plays.{one_more_out}
+use Rattle.step_sim.proofs.PlayLemmas.{one_more_out}
 use Rattle.step_sim.proofs.PooledReplay.{line_moment, thread_moment}
 
 -- a replay with buffers is a replay

@@ -18,7 +18,7 @@ use Rattle.step_sim.specs.Plays.{turns}
 use Rattle.step_sim.specs.Replay.{Cast, Moment, moment_rules, of_thread, patcher_turn, thread_turn, thread_count}
 use Rattle.step_sim.specs.private.Turns.{AllRunOut, RunsOut, line_turns}
 use Rattle.step_sim.specs.private.Standing.{AllPlay, AllStandAt, IsPatcherAt, IsThreadAt, Rests, StandAt}
-use Rattle.step_sim.proofs.Plays.{one_more_out}
+use Rattle.step_sim.proofs.PlayLemmas.{one_more_out}
 use Rattle.step_sim.proofs.ReplayAlong.{patcher_keeps, turns_keep}
 use Rattle.step_sim.proofs.TurnLemmas.{patcher_turns, turns_length, turns_other}
 use Rattle.step_sim.proofs.OneThread.{same_again, thread_moved}

@@ -6,7 +6,7 @@ pub mod ScheduleFaults
 pub mod SaidTurns
 pub mod WrittenLemmas
 -- Turns in general: a schedule brings a state to one end at most (src/turns.rt, src/ring.rt)
-pub mod Plays
+pub mod PlayLemmas
 pub mod TurnLemmas
 pub mod Queues
 -- Replays without buffers: only one, and one in any case if no thread is held (src/laws.rt)
@@ -22,15 +22,15 @@ pub mod PassingTurns
 pub mod AllRecorded
 -- The pool: its buffers from event to event (src/pool.rt)
 pub mod PoolLemmas
-pub mod Gathering
+pub mod GatheredBuffers
 -- Replays with buffers: what is left when all threads have ended (src/start.rt)
 pub mod PooledReplay
-pub mod Recordings
-pub mod Beginnings
+pub mod RecordedReplay
+pub mod ReplayStart
 pub mod EndedRuns
-pub mod Simulated
+pub mod EndedReplay
 -- Losses: as many segments as the queue has no buffers for, the oldest of each thread (src/laws.rt)
-pub mod Counting
+pub mod CountedSegments
 pub mod MoreLoads
 pub mod StockRuns
 pub mod LostRuns

@@ -30,7 +30,7 @@ use Rattle.step_sim.specs.Replay.{Cast, Moment, of_thread, thread_count, thread_
 use Rattle.step_sim.specs.Replayed.{IsReplayOf, LoseOldest, cast_with, passed_of, pooling_with}
 use Rattle.machine_step.specs.Buffers.{spare_of}
 use Rattle.step_sim.specs.Schedules.{AreTurnsOf}
-use Rattle.step_sim.proofs.Counting.{fresh_serials}
+use Rattle.step_sim.proofs.CountedSegments.{fresh_serials}
 use Rattle.step_sim.proofs.EndedRuns.{enumerated_map, no_run, of_thread_at, some_run}
 use Rattle.step_sim.proofs.MoreLoads.{IsSameOrNext, no_marks, turn_segments}
 use Rattle.step_sim.proofs.PoolLemmas.{same_items, serial_other, serial_own, serials_of-append, stock_stays}

@@ -20,7 +20,7 @@ use Rattle.step_sim.specs.Replay.{Cast, Moment, of_thread, thread_count, thread_
 use Rattle.step_sim.specs.private.Standing.{IsThreadAt, Play, Rests, StandAt}
 use Rattle.step_sim.proofs.Bounds.{marks_alike, run_alike}
 use Rattle.step_sim.proofs.OneThread.{KeepsLoads, ended_turn, none_wanted, rest_wants_none, same_again, same_then}
-use Rattle.step_sim.proofs.Plays.{turns_add, turns_still}
+use Rattle.step_sim.proofs.PlayLemmas.{turns_add, turns_still}
 use Rattle.step_sim.proofs.PooledReplay.{ended_still}
 use Rattle.step_sim.proofs.ReplayAlong.{turn_without}
 use Rattle.step_sim.proofs.TurnLemmas.{turn_other}

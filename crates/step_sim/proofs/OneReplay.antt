@@ -3,7 +3,7 @@ use Rattle.std.proofs.Common.{◌≡◌, ℕ, List, length, None, refl, sym, ap,
 use Rattle.handler_word.specs.declared.mark.Mark.{Mark}
 use Rattle.step_sim.specs.declared.turns.Turns.{Turns}
 use Rattle.step_sim.specs.Replay.{Cast, Moment, Replay, first_moment, marks_at, moment_rules, thread_turn, wanted_by}
-use Rattle.step_sim.proofs.Plays.{one_end}
+use Rattle.step_sim.proofs.PlayLemmas.{one_end}
 
 -- the turn of a thread that has ended does nothing
 ended_still : (cast : Cast) (thread : ℕ) (m : Moment) → wanted_by cast thread m ≡ None → thread_turn cast thread m ≡ m

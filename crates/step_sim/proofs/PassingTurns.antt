@@ -20,7 +20,7 @@ use Rattle.step_sim.specs.private.Recording.{LeadsBy, come_to, underway_of, Note
 use Rattle.step_sim.specs.private.Standing.{StandAt}
 use Rattle.step_sim.proofs.OneRecorded.{load_recorded, record_none, records_on}
 use Rattle.step_sim.proofs.OneThread.{KeepsLoads, leads_none, load_made, same_again, stand_moved, thread_moved}
-use Rattle.step_sim.proofs.Plays.{turns_add}
+use Rattle.step_sim.proofs.PlayLemmas.{turns_add}
 
 -- a thread that is let into its passing is where it was
 stand_let_in : (cast : Cast) (m : Moment) (p : Patcher) (old mid : Traced) → StandAt cast m p old → IsSameThread old mid → KeepsLoads old mid

@@ -8,7 +8,7 @@ use Rattle.step_sim.specs.Plays.{Plays, turns}
 use Rattle.step_sim.specs.Replay.{Cast, Replay, first_moment, marks_at, moment_rules, thread_turn, wanted_by}
 use Rattle.step_sim.specs.private.Turns.{line_turns, pooled_line}
 use Rattle.step_sim.specs.Pool.{Pooled, PooledReplay, Pooling, first_pooled, pooled_rules, pooled_turn}
-use Rattle.step_sim.proofs.Plays.{Shows, line_shown, one_end, play_after, play_shown, turns_shown}
+use Rattle.step_sim.proofs.PlayLemmas.{Shows, line_shown, one_end, play_after, play_shown, turns_shown}
 use Rattle.step_sim.proofs.ReplayAlong.{turn_without}
 
 -- ---- moments

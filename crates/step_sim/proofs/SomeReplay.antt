@@ -18,7 +18,7 @@ use Rattle.step_sim.specs.Plays.{turns}
 use Rattle.step_sim.specs.Replay.{Cast, Moment, Replay, first_moment, marks_at, moment_rules, of_thread, patcher_turn, thread_turn, wanted_by, thread_count}
 use Rattle.step_sim.specs.private.Turns.{line_turns, scheduled}
 use Rattle.step_sim.proofs.Bounds.{no_holds}
-use Rattle.step_sim.proofs.Plays.{Ends, all_run_out}
+use Rattle.step_sim.proofs.PlayLemmas.{Ends, all_run_out}
 use Rattle.step_sim.proofs.TurnLemmas.{turn_length, turn_own, turns_hold, turns_length}
 
 -- ---- a passing

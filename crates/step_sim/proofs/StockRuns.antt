@@ -23,7 +23,7 @@ use Rattle.step_sim.specs.private.Recording.{Recording, histories}
 use Rattle.step_sim.specs.Plays.{turns}
 use Rattle.step_sim.specs.Replay.{Cast, of_thread, thread_turn}
 use Rattle.step_sim.specs.Schedules.{AreTurnsOf}
-use Rattle.step_sim.proofs.Counting.{IsItemOf, IsSegmentOf, all_segments, first_segments, fresh_serials, front_items, pushed_items, segment_items, summed, summed_among, summed_runs}
+use Rattle.step_sim.proofs.CountedSegments.{IsItemOf, IsSegmentOf, all_segments, first_segments, fresh_serials, front_items, pushed_items, segment_items, summed, summed_among, summed_runs}
 use Rattle.step_sim.proofs.EndedRuns.{IsRunOf}
 use Rattle.step_sim.proofs.OneRecorded.{history_is}
 use Rattle.step_sim.proofs.PoolLemmas.{length-below, serials_of-append}

@@ -5,7 +5,7 @@ use Rattle.patch_script.specs.CodeAt.{code_at}
 use Rattle.patch_script.specs.Micros.{total_of}
 use Rattle.step_sim.specs.Plays.{turns}
 use Rattle.step_sim.specs.Replay.{Cast, Moment, of_thread, patcher_turn, thread_turn, wanted_by, thread_count}
-use Rattle.step_sim.proofs.Plays.{turns_add, turns_still}
+use Rattle.step_sim.proofs.PlayLemmas.{turns_add, turns_still}
 use Rattle.step_sim.proofs.ReplayAlong.{set_other, set_same, thread_stays, turn_with, turn_without}
 
 abbrev pub Turn : Type 0

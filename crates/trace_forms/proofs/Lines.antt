@@ -20,7 +20,7 @@ use Rattle.fault_words.specs.declared.words.Words.{Words}
 use Rattle.trace_words.specs.TraceWords.{trace_words}
 use Rattle.xray_io.specs.Piece.{piece_text}
 use Rattle.trace_forms.specs.Dumps.{fault_of, header_line, record_lines, standing_line}
-use Rattle.fdr_file.proofs.Walking.{starts_first}
+use Rattle.fdr_file.proofs.NextParts.{starts_first}
 use Rattle.trace_forms.proofs.Places.{starts_none}
 
 -- the lines of the records from a place on

@@ -17,7 +17,7 @@ use Rattle.trace_forms.specs.declared.basic.BasicFault.TheVariants as faults
 use Rattle.basic_record.specs.BasicRecords.{basic_length}
 use Rattle.trace_forms.specs.BasicLogs.{EventFits, TraceFits, basic_bytes, basic_header, basic_header_rows, basic_of, event_bytes, events_rows, log_bytes, passing_in, record_rows, record_starts}
 use Rattle.trace_forms.specs.Runs.{runs}
-use Rattle.fdr_file.proofs.Walking.{starts_first}
+use Rattle.fdr_file.proofs.NextParts.{starts_first}
 use Rattle.trace_forms.proofs.Places.{starts_none}
 use Rattle.trace_forms.proofs.LogRecords.{event_again, record_reads}
 use Rattle.trace_forms.proofs.RunLaws.{runs_are}

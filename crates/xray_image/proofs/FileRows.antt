@@ -23,11 +23,11 @@ use Rattle.xray_image.specs.Table.{Verdict, StandUpTo, UnitsStop, NeedsUnits, Re
 use Rattle.xray_image.specs.private.UnitTable.{units_in}
 use Rattle.xray_image.specs.private.Views.{entry_of, function_of, place_of, places_in, parts_of_view, program_read, trampolines_of, IsHeaderOf}
 use Rattle.xray_image.proofs.Acceptance.{parts_count, code_short}
-use Rattle.xray_image.proofs.Accepts.{accepted}
+use Rattle.xray_image.proofs.AcceptedFiles.{accepted}
 use Rattle.xray_image.proofs.FileParts.{Rows}
 use Rattle.xray_image.proofs.HeaderRows.{past_header}
 use Rattle.xray_image.proofs.JudgedRows.{judged_reads}
-use Rattle.xray_image.proofs.Lying.{places_ascend}
+use Rattle.xray_image.proofs.SledFunctions.{places_ascend}
 use Rattle.xray_image.proofs.Placement.{has_within}
 use Rattle.xray_image.proofs.SoFar.{stand_shown}
 

@@ -26,7 +26,7 @@ use Rattle.xray_image.specs.Program.{BeginsAfter, IsFunction, addresses}
 use Rattle.xray_image.specs.Table.{FunctionIsFit}
 use Rattle.xray_image.specs.private.Views.{function_of}
 use Rattle.xray_image.proofs.Scans.{item_at}
-use Rattle.xray_image.proofs.Naming.{last_taken}
+use Rattle.xray_image.proofs.FunctionNames.{last_taken}
 
 -- ---- a look-up
 

@@ -25,8 +25,8 @@ use Rattle.xray_image.specs.Table.{FunctionIsFit}
 use Rattle.xray_image.specs.private.UnitTable.{units_in}
 use Rattle.xray_image.specs.private.Views.{entry_of, function_of, place_of, places_in, program_read, trampolines_of}
 use Rattle.xray_image.proofs.JudgedRows.{in_order, as_many}
-use Rattle.xray_image.proofs.Lying.{lines_known, lines_in_order}
-use Rattle.xray_image.proofs.Naming.{functions_ascend}
+use Rattle.xray_image.proofs.SledFunctions.{lines_known, lines_in_order}
+use Rattle.xray_image.proofs.FunctionNames.{functions_ascend}
 use Rattle.xray_image.proofs.Scans.{item_at}
 
 -- functions that are fit have names of allowed bytes

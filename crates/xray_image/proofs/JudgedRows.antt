@@ -21,8 +21,8 @@ use Rattle.xray_image.specs.Program.{Program, addresses, IsEntryOf, Reaches}
 use Rattle.xray_image.specs.private.Reading.{IsFirstFault}
 use Rattle.xray_image.specs.Table.{FunctionIsFit, HasOneAddress, FitsAt, BranchesRightly, place_of_unit, ReadsProgram}
 use Rattle.xray_image.specs.private.Views.{entry_of, function_of, place_of, places_in, program_read, trampolines_of}
-use Rattle.xray_image.proofs.Lying.{kinds_known}
-use Rattle.xray_image.proofs.Naming.{functions_ascend}
+use Rattle.xray_image.proofs.SledFunctions.{kinds_known}
+use Rattle.xray_image.proofs.FunctionNames.{functions_ascend}
 use Rattle.xray_image.proofs.Scans.{same_items}
 
 -- ---- the table

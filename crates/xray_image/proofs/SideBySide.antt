@@ -11,8 +11,8 @@ use Rattle.xray_image.specs.Container.{MapEntry, base_address}
 use Rattle.xray_image.specs.Program.{Program, IsAccepted, distinct, sled_of}
 use Rattle.xray_image.proofs.Acceptance.{as_many, sleds_are, entry_total}
 use Rattle.xray_image.proofs.Distinct.{front_first, place_of_number}
-use Rattle.xray_image.proofs.Lying.{lies_in_order, places_ascend}
-use Rattle.xray_image.proofs.Naming.{functions_ascend}
+use Rattle.xray_image.proofs.SledFunctions.{lies_in_order, places_ascend}
+use Rattle.xray_image.proofs.FunctionNames.{functions_ascend}
 
 -- a prefix of a prefix
 take_front : (xs : List ℕ) (i j : ℕ) → i ≤ j → (m : List ℕ) × (take j xs ≡ take i xs ++ m)

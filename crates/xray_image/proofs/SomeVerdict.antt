@@ -21,13 +21,13 @@ use Rattle.xray_image.specs.Container.{Function, MapEntry, Parts, base_address, 
 use Rattle.xray_image.specs.Program.{BranchReaches, IsEntryOf, IsFunction, Program, Reaches, program_of}
 use Rattle.xray_image.specs.Table.{BeginsAsSled, BranchesRightly, FitsAt, FunctionIsFit, HasOneAddress, NeedsUnits, ReadsAs, ReadsParts, ReadsProgram, StandUpTo, StandsAt, UnitFault, Verdict, place_of_unit}
 use Rattle.xray_image.proofs.Acceptance.{code_is}
-use Rattle.xray_image.proofs.Known.{Known, known_below, known_both, known_branch, known_entry, known_front, known_function, known_item, known_list, known_most, known_option, known_reach}
+use Rattle.xray_image.proofs.KnownConditions.{Known, known_below, known_both, known_branch, known_entry, known_front, known_function, known_item, known_list, known_most, known_option, known_reach}
 use Rattle.xray_image.proofs.Nops.{IsBytes, nop_found}
 use Rattle.xray_image.proofs.Pieces.{piece_has_byte}
-use Rattle.xray_image.proofs.Standing.{stand_are, units_stand}
+use Rattle.xray_image.proofs.UnitPlaces.{stand_are, units_stand}
 use Rattle.xray_image.proofs.Scans.{from_below}
 use Rattle.xray_image.proofs.TableRows.{OneAnswer}
-use Rattle.xray_image.proofs.Stuck.{no_even, no_jump, no_return, no_whole}
+use Rattle.xray_image.proofs.NoUnits.{no_even, no_jump, no_return, no_whole}
 
 -- ---- bytes
 

@@ -10,7 +10,7 @@ use Rattle.xray_image.specs.declared.fault.ImageFault.TheVariants as faults
 use Rattle.xray_image.specs.Units.{Piece}
 use Rattle.xray_image.specs.Table.{Verdict, NeedsUnits, UnitFault, UnitsStop, StandUpTo}
 use Rattle.xray_image.proofs.Pieces.{OneInstruction}
-use Rattle.xray_image.proofs.Standing.{IsFront, stuck_at_end, one_front}
+use Rattle.xray_image.proofs.UnitPlaces.{IsFront, stuck_at_end, one_front}
 
 -- bytes have at most one answer
 abbrev pub OneAnswer : Type 0

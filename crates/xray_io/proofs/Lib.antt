@@ -1,8 +1,8 @@
 -- Reads and writes, one after the other (src/whole.rt)
-pub mod Calling
-pub mod Reading
+pub mod DeskCalls
+pub mod ReadPieces
 -- Texts that are put together (src/text.rt, src/digits.rt)
-pub mod Gathering
+pub mod TextSteps
 pub mod Copies
 pub mod ItemTexts
 pub mod HexDigits

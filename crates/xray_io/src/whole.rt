@@ -84,7 +84,7 @@ pub fn read_whole<D: Desk>(
 }
 
 /// Reads to the end of the name, a piece at a time.
-#[tactic(auto, using(crate::proofs::Reading::front_none))]
+#[tactic(auto, using(crate::proofs::ReadPieces::front_none))]
 fn read_on<D: Desk, F: Feed>(
     desk: &mut D,
     name: &str,
@@ -124,7 +124,7 @@ fn read_on<D: Desk, F: Feed>(
 
 /// Reads from a byte on, and feeds what it got, unless that is too much. Returns how many bytes that
 /// was. None is the end.
-#[tactic(auto, using(crate::proofs::Reading::front_more, crate::proofs::Reading::there_are))]
+#[tactic(auto, using(crate::proofs::ReadPieces::front_more, crate::proofs::ReadPieces::there_are))]
 fn feed_piece<D: Desk, F: Feed>(
     desk: &mut D,
     name: &str,

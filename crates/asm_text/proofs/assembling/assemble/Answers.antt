@@ -10,7 +10,7 @@ use Rattle.asm_text.specs.private.LaidTexts.{all_in}
 use Rattle.asm_text.specs.Assembling.{assembled}
 use Rattle.asm_text.specs.Writing.{image_bytes}
 use Rattle.asm_text.specs.private.Files.{image_laid}
-use Rattle.asm_text.proofs.Assembled.{assembled_fault, assembled_file, said_whole}
+use Rattle.asm_text.proofs.TextVerdict.{assembled_fault, assembled_file, said_whole}
 use Rattle.asm_text.proofs.ProgramLaw.{holds_program}
 use Rattle.asm_text.proofs.assembling.assemble.Goals as goal
 use Rattle.asm_text.proofs.assembling.assemble.Goals.{In_err-resolve, In_ok-write_file}

@@ -3,7 +3,7 @@ use Rattle.std.specs.Prelude.{Ok}
 use Rattle.text_lines.specs.Lines.{numbered_lines}
 use Rattle.asm_text.specs.Refusals.{read_statements}
 use Rattle.asm_text.specs.private.FirstPass.{lines_in}
-use Rattle.asm_text.proofs.Fitting.{Good, read_good}
+use Rattle.asm_text.proofs.ReadStatements.{Good, read_good}
 use Rattle.asm_text.proofs.first_pass.read_text.Goals as goal
 
 pub returns-clause-fit : goal.returns-clause-fit

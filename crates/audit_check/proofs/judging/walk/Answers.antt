@@ -4,7 +4,7 @@ use Rattle.handler_word.specs.declared.mark.Mark.{Mark}
 use Rattle.traced_run.proofs.RecordedEvents.{event_recordable}
 use Rattle.audit_check.specs.private.Walks.{HasWalked, mark_or_skipped}
 use Rattle.audit_check.proofs.OneVerdict.{OneEnd}
-use Rattle.audit_check.proofs.Onward.{accepted_again, at_gate, ends_so, one_more, plain_again, plain_of_way, same_itself, same_thread, stands_first, stands_none, stands_some, still_few}
+use Rattle.audit_check.proofs.WalkSteps.{accepted_again, at_gate, ends_so, one_more, plain_again, plain_of_way, same_itself, same_thread, stands_first, stands_none, stands_some, still_few}
 use Rattle.audit_check.proofs.judging.walk.Goals as goal
 
 pub gates-init : goal.gates-init

@@ -1,5 +1,5 @@
 use Rattle.std.proofs.Common.{refl}
-use Rattle.audit_check.proofs.Lawful.{accepted, stated}
+use Rattle.audit_check.proofs.LawfulRuns.{accepted, stated}
 use Rattle.audit_check.proofs.laws.a_lawful_run_is_accepted.Goals as goal
 
 pub returns-clause-read : goal.returns-clause-read

@@ -3,7 +3,7 @@ use Rattle.xray_image.specs.Program.{Program}
 use Rattle.audit_check.specs.private.Placed.{HasStopped}
 use Rattle.audit_check.specs.private.Walks.{mark_or_skipped}
 use Rattle.audit_check.proofs.OneVerdict.{OneEnd}
-use Rattle.audit_check.proofs.Onward.{accepted_again, at_gate, ends_so, one_more, plain_again, same_itself, same_thread, still_few}
+use Rattle.audit_check.proofs.WalkSteps.{accepted_again, at_gate, ends_so, one_more, plain_again, same_itself, same_thread, still_few}
 use Rattle.audit_check.proofs.PlacedLoads.{stopped_first, stopped_next}
 use Rattle.audit_check.proofs.placing.walk_places.Goals as goal
 

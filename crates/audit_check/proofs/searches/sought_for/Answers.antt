@@ -1,6 +1,6 @@
 use Rattle.std.proofs.Common.{ap, ◌∙◌}
 use Rattle.machine_step.specs.Loads.{logs_args}
-use Rattle.audit_check.proofs.Guesses.{no_args}
+use Rattle.audit_check.proofs.FollowerGuesses.{no_args}
 use Rattle.audit_check.proofs.SledSearches.{searches_are}
 use Rattle.audit_check.proofs.searches.sought_for.Goals as goal
 

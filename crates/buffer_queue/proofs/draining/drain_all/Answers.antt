@@ -6,7 +6,7 @@ use Rattle.buffer_queue.specs.declared.view.View.{View}
 use Rattle.buffer_queue.specs.Left.{IsLeft}
 use Rattle.buffer_queue.specs.private.Steps.{MayDrain}
 use Rattle.buffer_queue.specs.Rule.{KeepsPool}
-use Rattle.buffer_queue.proofs.Endings.{ends}
+use Rattle.buffer_queue.proofs.PoolEnds.{ends}
 use Rattle.buffer_queue.proofs.draining.drain_all.Goals as goal
 
 may_still : (v w : View) (drained : List Filled) → w ≡ record v { drained = drained } → MayDrain v → MayDrain w

@@ -1,4 +1,4 @@
-use Rattle.buffer_queue.proofs.Endings.{drains, drains_some}
+use Rattle.buffer_queue.proofs.PoolEnds.{drains, drains_some}
 use Rattle.buffer_queue.proofs.draining.drain_one.Goals as goal
 
 pub pop_as-requires-clause-rule : goal.pop_as-requires-clause-rule

@@ -1,6 +1,6 @@
 use Rattle.std.proofs.Common.{ap, ◌∙◌}
 use Rattle.buffer_queue.specs.Passes.{PassIs}
-use Rattle.buffer_queue.proofs.Endings.{merges}
+use Rattle.buffer_queue.proofs.PoolEnds.{merges}
 use Rattle.buffer_queue.proofs.draining.take_in.Goals as goal
 
 pub absorb-requires-clause-rule : goal.absorb-requires-clause-rule

@@ -3,7 +3,7 @@ use Rattle.machine_step.specs.declared.setup.Setup.{Setup}
 use Rattle.buffer_queue.specs.declared.view.View.{View}
 use Rattle.buffer_queue.specs.private.Changes.{new_view}
 use Rattle.buffer_queue.specs.private.Ready.{IsReady}
-use Rattle.buffer_queue.proofs.Openings.{gives}
+use Rattle.buffer_queue.proofs.PoolOpens.{gives}
 use Rattle.buffer_queue.proofs.stocking.give.Goals as goal
 
 pub another-pass-requires-clause-rule : goal.another-pass-requires-clause-rule

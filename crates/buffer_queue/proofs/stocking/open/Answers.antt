@@ -5,7 +5,7 @@ use Rattle.buffer_queue.specs.declared.view.View.{View}
 use Rattle.buffer_queue.specs.Views.{opener, spent}
 use Rattle.buffer_queue.specs.private.Changes.{head_view}
 use Rattle.buffer_queue.specs.Rule.{KeepsPool}
-use Rattle.buffer_queue.proofs.Openings.{opens}
+use Rattle.buffer_queue.proofs.PoolOpens.{opens}
 use Rattle.buffer_queue.proofs.stocking.open.Goals as goal
 
 opens_as : (place : ℕ) (v : View) (s t : Setup) → v ≡ opener → t ≡ s → 1 ≤ s.threads → s.threads ≤ s.max → Forks KeepsPool place v spent (head_view t 1 0)

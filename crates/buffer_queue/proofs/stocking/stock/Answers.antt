@@ -1,5 +1,5 @@
-use Rattle.buffer_queue.proofs.Openings.{stocks}
-use Rattle.buffer_queue.proofs.Turns.{has_room}
+use Rattle.buffer_queue.proofs.PoolOpens.{stocks}
+use Rattle.buffer_queue.proofs.PutAndTake.{has_room}
 use Rattle.buffer_queue.proofs.stocking.stock.Goals as goal
 
 pub push_as-requires-clause-rule : goal.push_as-requires-clause-rule

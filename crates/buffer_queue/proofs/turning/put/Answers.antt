@@ -1,4 +1,4 @@
-use Rattle.buffer_queue.proofs.Turns.{puts, has_room}
+use Rattle.buffer_queue.proofs.PutAndTake.{puts, has_room}
 use Rattle.buffer_queue.proofs.turning.put.Goals as goal
 
 pub push_as-requires-clause-rule : goal.push_as-requires-clause-rule

@@ -1,4 +1,4 @@
-use Rattle.buffer_queue.proofs.Turns.{takes, has_some}
+use Rattle.buffer_queue.proofs.PutAndTake.{takes, has_some}
 use Rattle.buffer_queue.proofs.turning.take.Goals as goal
 
 pub pop_as-requires-clause-rule : goal.pop_as-requires-clause-rule

@@ -3,7 +3,7 @@ use Rattle.std.proofs.lemmas.Result.{IfOk-weaker}
 use Rattle.clap.specs.Simple.{with_rule}
 use Rattle.command_words.specs.private.Clapped.{file_rule, option_rule}
 use Rattle.command_words.specs.private.CodeViews.{file_view, option_view}
-use Rattle.command_words.proofs.Gathering.{mapped_twice}
+use Rattle.command_words.proofs.ClapMatches.{mapped_twice}
 use Rattle.command_words.proofs.cutting.clap_command.Goals as goal
 
 pub returns : goal.returns

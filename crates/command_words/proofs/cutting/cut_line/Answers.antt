@@ -10,9 +10,9 @@ use Rattle.command_words.specs.Lines.{is_cut, line_by, outputs_differ}
 use Rattle.command_words.specs.Rows.{CommandRow}
 use Rattle.command_words.specs.private.Allowed.{is_row}
 use Rattle.command_words.specs.private.CodeViews.{line_view, row_view}
-use Rattle.command_words.proofs.Built.{row_is_simple}
-use Rattle.command_words.proofs.Cuts.{answered, cut_is, refused}
-use Rattle.command_words.proofs.Gathering.{words_are_text}
+use Rattle.command_words.proofs.ClapArguments.{row_is_simple}
+use Rattle.command_words.proofs.ReadWords.{answered, cut_is, refused}
+use Rattle.command_words.proofs.ClapMatches.{words_are_text}
 use Rattle.command_words.proofs.cutting.cut_line.Goals as goal
 
 -- what is found is the line of the definition, except for the names of outputs

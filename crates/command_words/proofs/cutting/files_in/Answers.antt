@@ -1,6 +1,6 @@
 use Rattle.std.proofs.Common.{◌∙◌, arith, ap, option_copied}
 use Rattle.command_words.specs.private.Clapped.{rows_in}
-use Rattle.command_words.proofs.Gathering.{names_from, none_more, one_more, value_of_row}
+use Rattle.command_words.proofs.ClapMatches.{names_from, none_more, one_more, value_of_row}
 use Rattle.command_words.proofs.cutting.files_in.Goals as goal
 use Rattle.command_words.proofs.cutting.files_in.Goals.{in-Some+in_ok-push, in_default}
 

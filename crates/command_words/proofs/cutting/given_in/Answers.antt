@@ -1,6 +1,6 @@
 use Rattle.std.proofs.Common.{◌∙◌, ◌<◌, arith, length, ap, option_copied, option_map}
 use Rattle.command_words.specs.private.Clapped.{rows_in}
-use Rattle.command_words.proofs.Gathering.{given_from, none_more, one_more, value_of_row}
+use Rattle.command_words.proofs.ClapMatches.{given_from, none_more, one_more, value_of_row}
 use Rattle.command_words.proofs.cutting.given_in.Goals as goal
 use Rattle.command_words.proofs.cutting.given_in.Goals.{in-Some+in_ok-push, in_default}
 

@@ -1,7 +1,7 @@
 use Rattle.std.proofs.Common.{◌≡◌, ◌∙◌, ◌<◌, ◌≤◌, ◌==◌, ℕ, Bool, List, Bor, ap, sym, refl, length, map, count_by, true}
 use Rattle.std.specs.Str.{bytes_eq}
 use Rattle.std.proofs.lemmas.Bool.{ltb-false, ltb-true, ne_eqb}
-use Rattle.command_words.proofs.Gathering.{pass_end, pass_fails, pass_passes, pass_skips}
+use Rattle.command_words.proofs.ClapMatches.{pass_end, pass_fails, pass_passes, pass_skips}
 use Rattle.command_words.proofs.cutting.outputs_differ.Goals as goal
 use Rattle.command_words.proofs.cutting.outputs_differ.Goals.{else-is_written-via-then-is_written+else-count_of-ne1, else-is_written-via-else-is_written}
 

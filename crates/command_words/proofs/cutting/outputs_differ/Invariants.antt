@@ -1,6 +1,6 @@
 use Rattle.std.proofs.Common.{◌≡◌, ◌==◌, count_by, map}
 use Rattle.std.specs.Str.{bytes_eq}
-use Rattle.command_words.proofs.Gathering.{pass_from}
+use Rattle.command_words.proofs.ClapMatches.{pass_from}
 use Rattle.command_words.proofs.cutting.outputs_differ.Given as goal
 
 abbrev pub invariant-loop-place : goal.invariant-loop-place

@@ -4,7 +4,7 @@ use Rattle.command_words.specs.Lines.{line_of}
 use Rattle.command_words.specs.private.CodeViews.{line_view}
 use Rattle.command_words.specs.private.Verbs.{row_by}
 use Rattle.command_words.proofs.Outputs.{differ_in}
-use Rattle.command_words.proofs.Readings.{read_line}
+use Rattle.command_words.proofs.ReadLines.{read_line}
 use Rattle.command_words.proofs.words.read_words.Goals as goal
 
 pub command_in-requires-clause-outputs : goal.command_in-requires-clause-outputs

@@ -1,6 +1,6 @@
 use Rattle.std.proofs.Common.{sym, ◌∙◌, drop, inr}
 use Rattle.std.proofs.lemmas.Result.{err_from_is_err_and}
-use Rattle.fdr_file.proofs.Deciding.{block_decided, block_fails, ends_so, no_end}
+use Rattle.fdr_file.proofs.PlacesDecide.{block_decided, block_fails, ends_so, no_end}
 use Rattle.fdr_file.proofs.block.read_block.Goals as goal
 
 pub returns-in_err-end-clause-reads : goal.returns-in_err-end-clause-reads

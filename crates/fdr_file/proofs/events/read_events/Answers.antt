@@ -4,7 +4,7 @@ use Rattle.std.proofs.Math.ListN.{drop_of_length-le}
 use Rattle.std.proofs.lemmas.List.{length-drop}
 use Rattle.std.proofs.lemmas.Result.{err_from_is_err_and}
 use Rattle.fdr_file.specs.Scanning.{step_on}
-use Rattle.fdr_file.proofs.Walking.{end_at, events_done, events_more, events_refuse, events_stop}
+use Rattle.fdr_file.proofs.NextParts.{end_at, events_done, events_more, events_refuse, events_stop}
 use Rattle.fdr_file.proofs.events.read_events.Goals as goal
 
 pub returns-in_err-rec : goal.returns-in_err-rec

@@ -1,4 +1,4 @@
-use Rattle.fdr_file.proofs.Agreeing.{given_none, given_reads, run_agrees}
+use Rattle.fdr_file.proofs.ReadingAndRecords.{given_none, given_reads, run_agrees}
 use Rattle.fdr_file.proofs.laws.a_file_is_read_by_records.Goals as goal
 
 pub returns-clause-ends : goal.returns-clause-ends

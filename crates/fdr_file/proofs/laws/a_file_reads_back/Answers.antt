@@ -1,5 +1,5 @@
-use Rattle.fdr_file.proofs.Returning.{file_is_trace}
-use Rattle.fdr_file.proofs.Accepting.{trace_again}
+use Rattle.fdr_file.proofs.WrittenIsGrammar.{file_is_trace}
+use Rattle.fdr_file.proofs.GrammarIsRead.{trace_again}
 use Rattle.fdr_file.specs.Files.{file_bytes, trace_told}
 use Rattle.fdr_file.proofs.laws.a_file_reads_back.Goals as goal
 

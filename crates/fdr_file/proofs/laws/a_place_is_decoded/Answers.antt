@@ -1,4 +1,4 @@
-use Rattle.fdr_file.proofs.Described.{decoded}
+use Rattle.fdr_file.proofs.ReadIsGrammar.{decoded}
 use Rattle.fdr_file.proofs.laws.a_place_is_decoded.Goals as goal
 
 pub returns : goal.returns

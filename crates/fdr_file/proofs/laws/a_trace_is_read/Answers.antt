@@ -1,4 +1,4 @@
-use Rattle.fdr_file.proofs.Accepting.{one_trace, trace_again}
+use Rattle.fdr_file.proofs.GrammarIsRead.{one_trace, trace_again}
 use Rattle.fdr_file.proofs.laws.a_trace_is_read.Goals as goal
 
 pub returns-clause-read : goal.returns-clause-read

@@ -1,4 +1,4 @@
-use Rattle.fdr_file.proofs.Described.{trace_described}
+use Rattle.fdr_file.proofs.ReadIsGrammar.{trace_described}
 use Rattle.fdr_file.proofs.laws.what_is_read_is_a_trace.Goals as goal
 
 pub returns : goal.returns

@@ -5,7 +5,7 @@ use Rattle.std.proofs.lemmas.Result.{err_from_is_err_and}
 use Rattle.fdr_file.specs.declared.fault.TraceFault.{TraceFault}
 use Rattle.fdr_file.specs.declared.trace.Block.{Block}
 use Rattle.fdr_file.specs.declared.trace.Trace.{Trace}
-use Rattle.fdr_file.proofs.Deciding.{file_ends, file_more, file_refused}
+use Rattle.fdr_file.proofs.PlacesDecide.{file_ends, file_more, file_refused}
 use Rattle.fdr_file.proofs.TraceRows.{rows_decide}
 use Rattle.fdr_file.proofs.reading.read_trace.Goals as goal
 

@@ -1,4 +1,4 @@
-use Rattle.fdr_file.proofs.Decoding.{taken_is}
+use Rattle.fdr_file.proofs.DecodedRecords.{taken_is}
 use Rattle.fdr_file.proofs.records.taken_at.Goals as goal
 
 pub returns : goal.returns

@@ -2,7 +2,7 @@ use Rattle.std.proofs.Common.{List, subst, sym, ap, ◌∙◌}
 use Rattle.std.proofs.lemmas.Result.{on_ok_weaker}
 use Rattle.fdr_file.specs.declared.trace.Block.{Block}
 use Rattle.fdr_file.specs.Scanning.{last_longer}
-use Rattle.fdr_file.proofs.Steps.{longer_last}
+use Rattle.fdr_file.proofs.RecordSteps.{longer_last}
 use Rattle.fdr_file.proofs.scan.note.Goals as goal
 
 pub returns-in-Some-clause-took : goal.returns-in-Some-clause-took

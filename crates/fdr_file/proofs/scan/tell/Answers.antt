@@ -3,7 +3,7 @@ use Rattle.std.proofs.lemmas.Result.{on_ok_weaker}
 use Rattle.fdr_file.specs.declared.trace.Block.{Block}
 use Rattle.fdr_file.specs.Scanning.{with_event}
 use Rattle.fdr_file.specs.Streams.{HasLast}
-use Rattle.fdr_file.proofs.Following.{one_has}
+use Rattle.fdr_file.proofs.ScanSteps.{one_has}
 use Rattle.fdr_file.proofs.scan.tell.Goals as goal
 
 pub note-requires-in-Noted : goal.note-requires-in-Noted

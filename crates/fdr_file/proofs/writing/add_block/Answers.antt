@@ -1,6 +1,6 @@
 use Rattle.std.proofs.Common.{refl, subst}
 use Rattle.xray_io.specs.Text.{AddsText}
-use Rattle.fdr_file.proofs.Gathered.{block_parts}
+use Rattle.fdr_file.proofs.FileBytes.{block_parts}
 use Rattle.fdr_file.proofs.writing.add_block.Goals as goal
 
 pub returns-clause-adds : goal.returns-clause-adds

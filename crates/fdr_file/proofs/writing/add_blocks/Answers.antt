@@ -5,7 +5,7 @@ use Rattle.std.proofs.lemmas.List.Elements.{All-push}
 use Rattle.xray_io.specs.Text.{AddsText, adds_nothing, adds_more, adds_within, adds_failed}
 use Rattle.fdr_buffer.specs.Filled.{Filled}
 use Rattle.fdr_file.specs.Files.{BlockFits, block_bytes}
-use Rattle.fdr_file.proofs.Gathered.{blocks_more, blocks_split}
+use Rattle.fdr_file.proofs.FileBytes.{blocks_more, blocks_split}
 use Rattle.fdr_file.proofs.writing.add_blocks.Goals as goal
 
 pub loop-buffer-init : goal.loop-buffer-init

@@ -2,7 +2,7 @@ use Rattle.std.specs.List.{flat_map}
 use Rattle.std.proofs.lemmas.Result.{on_ok_weaker}
 use Rattle.xray_io.specs.Text.{adds_more, adds_stop, adds_failed}
 use Rattle.fdr_file.specs.Files.{block_bytes}
-use Rattle.fdr_file.proofs.Returning.{file_is_trace}
+use Rattle.fdr_file.proofs.WrittenIsGrammar.{file_is_trace}
 use Rattle.fdr_file.proofs.writing.add_file.Goals as goal
 
 pub returns-in_err-add_header-clause-adds : goal.returns-in_err-add_header-clause-adds

@@ -1,7 +1,7 @@
 use Rattle.std.proofs.Common.{ap, subst, ◌∙◌}
 use Rattle.byteorder.specs.Endian.{little_bytes}
 use Rattle.xray_io.specs.Text.{AddsText}
-use Rattle.fdr_file.proofs.Gathered.{header_parts}
+use Rattle.fdr_file.proofs.FileBytes.{header_parts}
 use Rattle.fdr_file.proofs.writing.add_header.Goals as goal
 
 pub returns-clause-adds : goal.returns-clause-adds

@@ -1,4 +1,4 @@
-use Rattle.fdr_record.proofs.Answering.{some_answer}
+use Rattle.fdr_record.proofs.OneReading.{some_answer}
 use Rattle.fdr_record.proofs.laws.one_answer.Goals as goal
 
 pub returns-clause-some : goal.returns-clause-some

@@ -1,5 +1,5 @@
 use Rattle.std.proofs.lemmas.List.{take_rest}
-use Rattle.fdr_record.proofs.Answering.{function_answers, metadata_answers}
+use Rattle.fdr_record.proofs.OneReading.{function_answers, metadata_answers}
 use Rattle.fdr_record.proofs.Fields.{are_bytes}
 use Rattle.fdr_record.proofs.reading.record.Goals as goal
 

@@ -2,7 +2,7 @@ use Rattle.std.proofs.Common.{◌∙◌, [], sym, ap, inr}
 use Rattle.xray_io.specs.Rows.{InTurn}
 use Rattle.map_names.specs.Maps.{Listed, line_rows}
 use Rattle.map_names.specs.private.Drafts.{before_in}
-use Rattle.map_names.proofs.Taking.{empty_refused, first_taken}
+use Rattle.map_names.proofs.TakenLines.{empty_refused, first_taken}
 use Rattle.map_names.proofs.reading.read_lines.Goals as goal
 
 pub returns-in_default : goal.returns-in_default

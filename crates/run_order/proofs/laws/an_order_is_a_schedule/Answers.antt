@@ -1,6 +1,6 @@
 use Rattle.std.proofs.Common.{arith}
 use Rattle.run_order.proofs.OrderText.{order_written}
-use Rattle.run_order.proofs.Short.{few_lines, text_short}
+use Rattle.run_order.proofs.ShortSchedules.{few_lines, text_short}
 use Rattle.run_order.proofs.laws.an_order_is_a_schedule.Goals as goal
 
 pub returns-clause-reads : goal.returns-clause-reads

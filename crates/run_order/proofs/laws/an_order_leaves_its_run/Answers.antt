@@ -3,7 +3,7 @@ use Rattle.step_sim.specs.declared.turns.Turns.{Turns as Line}
 use Rattle.step_sim.specs.Schedules.{AreTurnsOf}
 use Rattle.patch_script.specs.Refusals.{commands_of}
 use Rattle.run_order.proofs.FreeReading.{free_plan}
-use Rattle.run_order.proofs.Replayed.{order_leaves}
+use Rattle.run_order.proofs.OrderLeavesRun.{order_leaves}
 use Rattle.run_order.proofs.TurnsOf.{ordered_turns}
 use Rattle.run_order.proofs.laws.an_order_leaves_its_run.Goals as goal
 

@@ -1,5 +1,5 @@
 use Rattle.patch_script.specs.Refusals.{commands_of}
-use Rattle.run_order.proofs.Replayed.{one_order, some_order}
+use Rattle.run_order.proofs.OrderLeavesRun.{one_order, some_order}
 use Rattle.run_order.proofs.laws.each_lawful_run_has_one_order.Goals as goal
 
 pub returns-clause-some : goal.returns-clause-some

@@ -4,7 +4,7 @@ use Rattle.audit_check.specs.declared.stop.Stop.{Stop}
 use Rattle.run_order.specs.Orders.{thread_line}
 use Rattle.run_order.specs.private.Lines.{HasJoined}
 use Rattle.run_order.specs.private.Stops.{AreStops, loads_at}
-use Rattle.run_order.proofs.Stopping.{first_line, none_added, other_line}
+use Rattle.run_order.proofs.StopLemmas.{first_line, none_added, other_line}
 use Rattle.run_order.proofs.merging.add_loads.Goals as goal
 
 pub returns-then-stop-place-clause-added : goal.returns-then-stop-place-clause-added

@@ -6,8 +6,8 @@ use Rattle.std.proofs.lemmas.List.{take_all}
 use Rattle.std.proofs.lemmas.Option.{slice_get-get_or}
 use Rattle.audit_check.specs.declared.stop.Stop.{Stop}
 use Rattle.run_order.specs.private.Stops.{AllFrom}
-use Rattle.run_order.proofs.Due.{due_more, late_first, late_more, own_first, own_none}
-use Rattle.run_order.proofs.Replaying.{take_next}
+use Rattle.run_order.proofs.PlacesWithoutLoads.{due_more, late_first, late_more, own_first, own_none}
+use Rattle.run_order.proofs.ReplayAlongPlaces.{take_next}
 use Rattle.run_order.proofs.merging.next_place.Goals as goal
 use Rattle.run_order.proofs.merging.next_place.Goals.{in-Some, in_default}
 

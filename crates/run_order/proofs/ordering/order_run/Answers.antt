@@ -16,7 +16,7 @@ use Rattle.run_order.specs.private.Waits.{freed}
 use Rattle.run_order.proofs.FreeMicros.{AllRelease}
 use Rattle.run_order.proofs.FreeReading.{free_plan}
 use Rattle.run_order.proofs.PlacedRuns.{Answer, PassingsLimited, all_are_placed, answer_is, fault_answer, loads_fit, order_is, others_freed, others_rise, own_place, starts_low}
-use Rattle.run_order.proofs.Replayed.{BoundsWithin}
+use Rattle.run_order.proofs.OrderLeavesRun.{BoundsWithin}
 use Rattle.run_order.proofs.ordering.order_run.Goals as goal
 
 pub returns-in-Err : goal.returns-in-Err

@@ -5,7 +5,7 @@ use Rattle.std.proofs.lemmas.Option.{slice_get-get_or}
 use Rattle.audit_check.specs.declared.stop.Stop.{Stop}
 use Rattle.audit_check.specs.Stops.{places_of}
 use Rattle.run_order.specs.private.Waits.{freed}
-use Rattle.run_order.proofs.Freeing.{few_more, freed_more}
+use Rattle.run_order.proofs.WaitsBefore.{few_more, freed_more}
 use Rattle.run_order.proofs.waits.free_stops.Goals as goal
 
 pub loop-stop-preserved : goal.loop-stop-preserved

@@ -4,7 +4,7 @@ use Rattle.std.proofs.lemmas.List.{length-drop}
 use Rattle.fdr_record.specs.declared.event.Event.{Event}
 use Rattle.runtime_log.specs.OwnEvents.{log_record_length}
 use Rattle.runtime_log.specs.private.Walks.{walk_events}
-use Rattle.runtime_log.proofs.Coming.{settles_none, walk_end, walk_step, walk_stop}
+use Rattle.runtime_log.proofs.EventsToCome.{settles_none, walk_end, walk_step, walk_stop}
 use Rattle.runtime_log.proofs.blocks.next_told.Goals as goal
 
 pub returns-in-Err-clause-ends : goal.returns-in-Err-clause-ends

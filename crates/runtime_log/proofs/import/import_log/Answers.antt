@@ -3,8 +3,8 @@ use Rattle.std.specs.Prelude.{All}
 use Rattle.runtime_log.specs.declared.blocks.LogBlock.{LogBlock as Placed}
 use Rattle.runtime_log.specs.declared.blocks.Mode.{Mode}
 use Rattle.runtime_log.specs.private.Choices.{AreAt, LiesWithin}
-use Rattle.runtime_log.proofs.Importing.{imported, taken_few, taken_some}
-use Rattle.runtime_log.proofs.Taking.{at_length, at_within}
+use Rattle.runtime_log.proofs.ImportedBlocks.{imported, taken_few, taken_some}
+use Rattle.runtime_log.proofs.TakenBlocks.{at_length, at_within}
 use Rattle.runtime_log.proofs.import.import_log.Goals as goal
 
 pub take_blocks-requires : goal.take_blocks-requires

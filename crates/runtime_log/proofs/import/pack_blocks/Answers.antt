@@ -2,8 +2,8 @@ use Rattle.std.proofs.Common.{◌+◌, ◌∙◌, ℕ, List, subst, ap, arith}
 use Rattle.std.proofs.lemmas.List.{take_all}
 use Rattle.runtime_log.specs.Logs.{LogBlock}
 use Rattle.runtime_log.specs.private.Packings.{HasPacked}
-use Rattle.runtime_log.proofs.Importing.{facts_packed, has_some, packed_next}
-use Rattle.runtime_log.proofs.Taking.{at_index, at_length}
+use Rattle.runtime_log.proofs.ImportedBlocks.{facts_packed, has_some, packed_next}
+use Rattle.runtime_log.proofs.TakenBlocks.{at_index, at_length}
 use Rattle.runtime_log.proofs.import.pack_blocks.Goals as goal
 
 pub adding-preserved : goal.adding-preserved

@@ -1,7 +1,7 @@
 use Rattle.std.proofs.Common.{Bor, List, ℕ, map, ap, ◌∙◌}
 use Rattle.std.specs.Prelude.{not}
 use Rattle.runtime_log.specs.Taken.{is_among}
-use Rattle.runtime_log.proofs.Contents.{among_keys, among_insert}
+use Rattle.runtime_log.proofs.ByteSets.{among_keys, among_insert}
 use Rattle.runtime_log.proofs.taken.add_content.Goals as goal
 
 pub returns-clause-own : goal.returns-clause-own

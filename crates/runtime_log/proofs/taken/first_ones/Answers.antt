@@ -7,7 +7,7 @@ use Rattle.runtime_log.specs.declared.blocks.LogBlock.{LogBlock as Placed}
 use Rattle.runtime_log.specs.Logs.{LogBlock}
 use Rattle.runtime_log.specs.Taken.{first_ones, is_among}
 use Rattle.runtime_log.specs.private.Choices.{AreAt, KeepsFirst}
-use Rattle.runtime_log.proofs.Taking.{at_index, at_length, keeps_doubled, keeps_own}
+use Rattle.runtime_log.proofs.TakenBlocks.{at_index, at_length, keeps_doubled, keeps_own}
 use Rattle.runtime_log.proofs.taken.first_ones.Goals.{then-branch+in_ok-push, else-branch}
 use Rattle.runtime_log.proofs.taken.first_ones.Goals as goal
 

@@ -6,7 +6,7 @@ use Rattle.std.proofs.lemmas.List.Sorted.{length_permutation, ranks_by}
 use Rattle.runtime_log.specs.declared.blocks.LogBlock.{LogBlock as Placed}
 use Rattle.runtime_log.specs.Taken.{chosen, undoubled}
 use Rattle.runtime_log.specs.private.Choices.{AreAt, time_key}
-use Rattle.runtime_log.proofs.Taking.{at_filter, at_length, at_ordered, empty_count, is_earlier}
+use Rattle.runtime_log.proofs.TakenBlocks.{at_filter, at_length, at_ordered, empty_count, is_earlier}
 use Rattle.runtime_log.proofs.taken.take_blocks.Goals as goal
 
 pub returns : goal.returns

@@ -1,5 +1,5 @@
 use Rattle.std.proofs.Common.{reverse}
-use Rattle.stack_rebuild.proofs.Pairing.{entries_apart, exits_rise}
+use Rattle.stack_rebuild.proofs.PairFacts.{entries_apart, exits_rise}
 use Rattle.stack_rebuild.proofs.laws.each_exit_ends_one_call.Goals as goal
 
 pub returns-clause-exits : goal.returns-clause-exits

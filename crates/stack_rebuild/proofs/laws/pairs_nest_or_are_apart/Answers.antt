@@ -1,5 +1,5 @@
 use Rattle.std.proofs.Common.{reverse}
-use Rattle.stack_rebuild.proofs.Closing.{nest_or_apart}
+use Rattle.stack_rebuild.proofs.CallEnds.{nest_or_apart}
 use Rattle.stack_rebuild.proofs.laws.pairs_nest_or_are_apart.Goals as goal
 
 pub returns : goal.returns

@@ -2,7 +2,7 @@ use Rattle.std.proofs.Common.{◌≡◌, ◌∙◌, ap, sym, get_or, set, map}
 use Rattle.std.proofs.Math.Seq.{map-set_same}
 use Rattle.std.proofs.lemmas.List.{get_or-map, map-set}
 use Rattle.std.proofs.lemmas.Result.{on_ok_weaker}
-use Rattle.stack_rebuild.proofs.Linked.{links_set}
+use Rattle.stack_rebuild.proofs.PathLinks.{links_set}
 use Rattle.stack_rebuild.specs.private.PathTree.{links_in, step_of, tally_in}
 use Rattle.stack_rebuild.specs.PathSums.{no_tally, with_pair}
 use Rattle.stack_rebuild.proofs.node.add_pair.Goals as goal

@@ -3,7 +3,7 @@ use Rattle.std.proofs.Math.Seq.{map-set_same}
 use Rattle.std.proofs.lemmas.List.{get_or-map, map-set}
 use Rattle.std.proofs.lemmas.Result.{on_ok_weaker}
 use Rattle.stack_rebuild.specs.declared.tally.Tally.{Tally}
-use Rattle.stack_rebuild.proofs.Linked.{links_set}
+use Rattle.stack_rebuild.proofs.PathLinks.{links_set}
 use Rattle.stack_rebuild.specs.private.PathTree.{links_in, step_of, tally_in}
 use Rattle.stack_rebuild.specs.PathSums.{both_tallies, no_tally}
 use Rattle.stack_rebuild.proofs.node.add_pairs.Goals as goal

@@ -1,6 +1,6 @@
 use Rattle.std.proofs.Common.{◌≡◌, ◌<◌, true, arith, ap, sym, ◌∙◌, length, get_or}
 use Rattle.fdr_buffer.specs.Filled.{Filled}
-use Rattle.step_sim.proofs.Gathering.{remove_other, same_read, take_step}
+use Rattle.step_sim.proofs.GatheredBuffers.{remove_other, same_read, take_step}
 use Rattle.step_sim.proofs.pool.take_of.Goals as goal
 
 pub loop-place-preserved-then-thread : goal.loop-place-preserved-then-thread

@@ -1,6 +1,6 @@
 use Rattle.std.proofs.Common.{◌++◌, Ok, refl}
 use Rattle.subset_decode.specs.Encoding.{spelling}
-use Rattle.subset_decode.proofs.Refused.{same_answer}
+use Rattle.subset_decode.proofs.OneAnswer.{same_answer}
 use Rattle.subset_decode.proofs.laws.an_encoding_reads_back.Goals as goal
 
 pub returns : goal.returns

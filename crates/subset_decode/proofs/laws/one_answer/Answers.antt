@@ -1,7 +1,7 @@
 use Rattle.subset_decode.proofs.Fields.{IsBytes-from_All}
 use Rattle.subset_decode.specs.Reading.{instr_at}
-use Rattle.subset_decode.proofs.Found.{answer_of, Answers_is, instr_holds}
-use Rattle.subset_decode.proofs.Refused.{same_answer}
+use Rattle.subset_decode.proofs.TrueAnswers.{answer_of, Answers_is, instr_holds}
+use Rattle.subset_decode.proofs.OneAnswer.{same_answer}
 use Rattle.subset_decode.proofs.laws.one_answer.Goals as goal
 
 pub returns-clause-some : goal.returns-clause-some

@@ -1,4 +1,4 @@
-use Rattle.subset_decode.proofs.Decoding.{stands, refuses, decodes_found, decodes_refused, first_found, first_refused}
+use Rattle.subset_decode.proofs.DecodeClauses.{stands, refuses, decodes_found, decodes_refused, first_found, first_refused}
 use Rattle.subset_decode.proofs.reading.decode.Goals as goal
 
 pub overflow_sub-result : goal.overflow_sub-result

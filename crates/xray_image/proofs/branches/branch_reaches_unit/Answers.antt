@@ -2,7 +2,7 @@ use Rattle.std.proofs.Common.{◌≡◌, subst}
 use Rattle.std.specs.Prelude.{ℤ, unsigned_abs}
 use Rattle.std.specs.Int.{w64, w128, FitsUnsigned}
 use Rattle.std.proofs.lemmas.Int.{to_z-of_z}
-use Rattle.xray_image.proofs.Branching.{arrives, outside}
+use Rattle.xray_image.proofs.BranchTargets.{arrives, outside}
 use Rattle.xray_image.proofs.FunctionRows.{found_is}
 use Rattle.xray_image.specs.Program.{addresses}
 use Rattle.xray_image.proofs.branches.branch_reaches_unit.Goals as goal

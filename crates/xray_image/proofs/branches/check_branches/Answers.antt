@@ -4,7 +4,7 @@ use Rattle.std.proofs.lemmas.Option.{slice_get_within, get_or_from_slice_get}
 use Rattle.xray_image.specs.declared.fault.ImageFault.TheVariants.{Target}
 use Rattle.xray_image.specs.Table.{BranchesRightly}
 use Rattle.xray_image.specs.private.UnitTable.{units_in}
-use Rattle.xray_image.proofs.Branching.{address_within, rightly, wrongly, no_unit}
+use Rattle.xray_image.proofs.BranchTargets.{address_within, rightly, wrongly, no_unit}
 use Rattle.xray_image.proofs.Index.{address_above, address_read}
 use Rattle.xray_image.proofs.Scans.{from_below}
 use Rattle.xray_image.proofs.branches.check_branches.Goals as goal

@@ -1,7 +1,7 @@
 use Rattle.std.proofs.Common.{rules}
 use Rattle.std.specs.Prelude.{nat_lt}
 use Rattle.std.proofs.lemmas.List.Sorted.{IsPartitionPoint-from_clause, IsPartitionedBy-ltb}
-use Rattle.xray_image.proofs.Numbering.{not_falling, stands_there}
+use Rattle.xray_image.proofs.EntryIds.{not_falling, stands_there}
 use Rattle.xray_image.proofs.ids.number_of.Goals as goal
 
 pub returns : goal.returns

@@ -1,4 +1,4 @@
-use Rattle.xray_image.proofs.Accepts.{one_verdict, accepted}
+use Rattle.xray_image.proofs.AcceptedFiles.{one_verdict, accepted}
 use Rattle.xray_image.proofs.laws.one_verdict.Goals as goal
 
 pub returns-clause-one : goal.returns-clause-one

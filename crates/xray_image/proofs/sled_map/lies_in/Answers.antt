@@ -3,7 +3,7 @@ use Rattle.std.specs.Prelude.{nat_le}
 use Rattle.std.proofs.lemmas.Bool.{eq-eqb, eqb-true, ltb-true}
 use Rattle.std.proofs.lemmas.Option.{none-some, same_Some}
 use Rattle.std.proofs.lemmas.List.Sorted.{IsPartitionPoint-from_clause, IsPartitionedBy-leb}
-use Rattle.xray_image.proofs.Numbering.{not_falling}
+use Rattle.xray_image.proofs.EntryIds.{not_falling}
 use Rattle.xray_image.proofs.Entries.{ascend_entries, last_function, no_function_below}
 use Rattle.xray_image.proofs.sled_map.lies_in.Goals as goal
 

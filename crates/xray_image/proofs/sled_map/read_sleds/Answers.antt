@@ -1,4 +1,4 @@
-use Rattle.xray_image.proofs.Making.{sled_more, all_sleds}
+use Rattle.xray_image.proofs.ImageLists.{sled_more, all_sleds}
 use Rattle.xray_image.proofs.sled_map.read_sleds.Goals as goal
 
 pub loop-number-preserved : goal.loop-number-preserved

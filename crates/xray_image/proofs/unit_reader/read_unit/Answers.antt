@@ -1,6 +1,6 @@
 use Rattle.std.proofs.Common.{refl}
-use Rattle.xray_image.proofs.Stored.{aligned}
-use Rattle.xray_image.proofs.Stuck.{no_whole}
+use Rattle.xray_image.proofs.StoredUnits.{aligned}
+use Rattle.xray_image.proofs.NoUnits.{no_whole}
 use Rattle.xray_image.proofs.unit_reader.read_unit.Goals as goal
 
 pub returns-then-bytes-clause-what : goal.returns-then-bytes-clause-what

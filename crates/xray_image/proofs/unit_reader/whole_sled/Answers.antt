@@ -1,4 +1,4 @@
-use Rattle.xray_image.proofs.Stuck.{no_jump, no_return}
+use Rattle.xray_image.proofs.NoUnits.{no_jump, no_return}
 use Rattle.xray_image.proofs.unit_reader.whole_sled.Goals as goal
 
 pub returns-in_err-shift-clause-only : goal.returns-in_err-shift-clause-only

@@ -1,5 +1,5 @@
 use Rattle.std.proofs.Common.{arith}
-use Rattle.xray_io.proofs.Reading.{there_are}
+use Rattle.xray_io.proofs.ReadPieces.{there_are}
 use Rattle.xray_io.proofs.whole.feed_piece.Goals as goal
 
 pub returns-then-len-limit-clause-too_long : goal.returns-then-len-limit-clause-too_long

@@ -1,8 +1,8 @@
 use Rattle.std.proofs.Common.{ℕ, ◌≡◌, ◌+◌, List, length, take, ◌∙◌, refl, ap, subst, arith, rules, length-take}
 use Rattle.std.proofs.Math.Nat.{add-zero}
 use Rattle.xray_io.specs.private.Pieces.{IsFedFront}
-use Rattle.xray_io.proofs.Reading.{front_all}
-use Rattle.xray_io.proofs.Calling.{reads_more, reads_end, reads_stop}
+use Rattle.xray_io.proofs.ReadPieces.{front_all}
+use Rattle.xray_io.proofs.DeskCalls.{reads_more, reads_end, reads_stop}
 use Rattle.xray_io.proofs.whole.read_on.Goals as goal
 
 pub returns-in_err-len-clause-calls : goal.returns-in_err-len-clause-calls

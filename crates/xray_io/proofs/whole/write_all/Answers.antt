@@ -1,6 +1,6 @@
 use Rattle.std.proofs.Common.{rules}
 use Rattle.xray_io.specs.Writes.{sends_rest}
-use Rattle.xray_io.proofs.Calling.{sends_more, sends_none}
+use Rattle.xray_io.proofs.DeskCalls.{sends_more, sends_none}
 use Rattle.xray_io.proofs.whole.write_all.Goals as goal
 
 pub writing-preserved : goal.writing-preserved

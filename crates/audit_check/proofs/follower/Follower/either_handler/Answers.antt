@@ -1,5 +1,5 @@
 use Rattle.std.proofs.Common.{refl, sym, ap, ◌∙◌, cond}
-use Rattle.audit_check.proofs.Guesses.{is_another, is_that}
+use Rattle.audit_check.proofs.FollowerGuesses.{is_another, is_that}
 use Rattle.audit_check.proofs.OneSearch.{find_either, find_none_either}
 use Rattle.audit_check.proofs.follower.Follower.either_handler.Goals as goal
 

@@ -2,7 +2,7 @@ use Rattle.std.proofs.Common.{◌<◌, arith, length, ◌∙◌}
 use Rattle.std.proofs.lemmas.List.{length-set}
 use Rattle.std.proofs.lemmas.Option.{slice_get-get_or}
 use Rattle.audit_check.proofs.AllSearches.{goes_next, none_after}
-use Rattle.audit_check.proofs.Guesses.{same_then}
+use Rattle.audit_check.proofs.FollowerGuesses.{same_then}
 use Rattle.audit_check.proofs.follower.Follower.find_all.Goals as goal
 
 pub loop-i-preserved : goal.loop-i-preserved

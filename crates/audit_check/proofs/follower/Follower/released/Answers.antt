@@ -1,5 +1,5 @@
 use Rattle.std.proofs.Common.{◌≡◌, false, sym, true, ◌∙◌}
-use Rattle.audit_check.proofs.Guesses.{held_here, is_another, is_that, not_held}
+use Rattle.audit_check.proofs.FollowerGuesses.{held_here, is_another, is_that, not_held}
 use Rattle.audit_check.proofs.follower.Follower.released.Goals as goal
 
 pub returns-then-eq-clause-free : goal.returns-then-eq-clause-free

@@ -5,7 +5,7 @@ use Rattle.machine_step.specs.declared.limits.Limits.{Limits}
 use Rattle.audit_check.specs.private.Walks.{IsWayOf, Way}
 use Rattle.audit_check.specs.Statements.{most_marks, said_by}
 use Rattle.audit_check.proofs.ThreadFaults.{along, found}
-use Rattle.audit_check.proofs.Onward.{plain_of_way}
+use Rattle.audit_check.proofs.WalkSteps.{plain_of_way}
 use Rattle.audit_check.proofs.judging.Judge.thread.Goals as goal
 
 pub new-requires : goal.new-requires

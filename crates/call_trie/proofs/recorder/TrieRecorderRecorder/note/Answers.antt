@@ -1,6 +1,6 @@
 use Rattle.std.proofs.Common.{◌∙◌, ap, sym}
 use Rattle.call_trie.specs.Tries.{Trie}
-use Rattle.call_trie.proofs.Bounds.{roomy}
+use Rattle.call_trie.proofs.TrieBounds.{roomy}
 use Rattle.call_trie.proofs.RecorderFields.{entered_room, left_room}
 use Rattle.call_trie.proofs.RecorderEvents.{stands_entered, stands_left}
 use Rattle.call_trie.proofs.recorder.TrieRecorderRecorder.note.Goals as goal

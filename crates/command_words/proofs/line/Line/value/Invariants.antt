@@ -1,5 +1,5 @@
 use Rattle.std.proofs.Common.{◌≡◌}
-use Rattle.command_words.proofs.Gathering.{given_from_place}
+use Rattle.command_words.proofs.ClapMatches.{given_from_place}
 use Rattle.command_words.proofs.line.Line.value.Given as goal
 
 abbrev pub invariant-loop-given : goal.invariant-loop-given

@@ -1,4 +1,4 @@
-use Rattle.fdr_file.proofs.Cursoring.{new_events}
+use Rattle.fdr_file.proofs.CursorSteps.{new_events}
 use Rattle.fdr_file.proofs.cursor.EventCursor.new.Goals as goal
 
 pub returns-clause-events : goal.returns-clause-events

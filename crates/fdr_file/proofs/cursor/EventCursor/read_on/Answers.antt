@@ -1,5 +1,5 @@
 use Rattle.std.proofs.Common.{◌∙◌}
-use Rattle.fdr_file.proofs.Cursoring.{left_none, pass_header, pass_none, pass_some, pass_bytes}
+use Rattle.fdr_file.proofs.CursorSteps.{left_none, pass_header, pass_none, pass_some, pass_bytes}
 use Rattle.fdr_file.proofs.cursor.EventCursor.read_on.Goals as goal
 
 pub returns-in-Some-clause-next : goal.returns-in-Some-clause-next

@@ -1,5 +1,5 @@
 use Rattle.std.proofs.Common.{length, take}
-use Rattle.fdr_file.proofs.Following.{header_advances, record_advances, refused_advances}
+use Rattle.fdr_file.proofs.ScanSteps.{header_advances, record_advances, refused_advances}
 use Rattle.fdr_file.proofs.scan.TraceScan.advance.Goals as goal
 
 pub returns-in-Due-clause-advances : goal.returns-in-Due-clause-advances

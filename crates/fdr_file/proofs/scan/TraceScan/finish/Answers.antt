@@ -2,7 +2,7 @@ use Rattle.std.proofs.Common.{Result, ap, ◌∙◌}
 use Rattle.fdr_file.specs.declared.fault.TraceFault.{TraceFault}
 use Rattle.fdr_file.specs.declared.header.Header.{Header}
 use Rattle.fdr_file.specs.Scanning.{blocks_given, with_blocks}
-use Rattle.fdr_file.proofs.Following.{never_refused, scan_ends}
+use Rattle.fdr_file.proofs.ScanSteps.{never_refused, scan_ends}
 use Rattle.fdr_file.proofs.scan.TraceScan.finish.Goals as goal
 
 pub returns-clause-reads : goal.returns-clause-reads

@@ -1,7 +1,7 @@
 use Rattle.std.proofs.Common.{◌∙◌, sym, ap}
 use Rattle.std.specs.Prelude.{option_map}
 use Rattle.map_names.specs.private.Parts.{entry_read}
-use Rattle.map_names.proofs.Taking.{line_listed}
+use Rattle.map_names.proofs.TakenLines.{line_listed}
 use Rattle.map_names.proofs.reading.Draft.take_line.Goals as goal
 
 pub returns : goal.returns

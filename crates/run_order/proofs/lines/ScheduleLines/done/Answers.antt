@@ -1,5 +1,5 @@
 use Rattle.std.proofs.Common.{◌∙◌}
-use Rattle.run_order.proofs.Joining.{all_joined}
+use Rattle.run_order.proofs.MadeLines.{all_joined}
 use Rattle.run_order.proofs.lines.ScheduleLines.done.Goals as goal
 
 pub returns : goal.returns

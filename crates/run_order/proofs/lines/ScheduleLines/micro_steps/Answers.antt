@@ -1,5 +1,5 @@
 use Rattle.std.proofs.Common.{refl}
-use Rattle.run_order.proofs.Joining.{steps_joined}
+use Rattle.run_order.proofs.MadeLines.{steps_joined}
 use Rattle.run_order.proofs.lines.ScheduleLines.micro_steps.Goals as goal
 
 pub returns-clause-joined : goal.returns-clause-joined

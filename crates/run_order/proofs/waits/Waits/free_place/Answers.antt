@@ -2,7 +2,7 @@ use Rattle.std.proofs.Common.{◌≡◌, ◌≤◌, ◌-◌, ℕ, List, ap, arit
 use Rattle.std.specs.Prelude.{nat_lt}
 use Rattle.std.specs.List.Sorted.{IsNonDecreasingBy}
 use Rattle.std.proofs.lemmas.List.Sorted.{IsPartitionPoint-from_clause, IsPartitionedBy-ltb}
-use Rattle.run_order.proofs.Freeing.{before, before_point, few_waits, waits_sorted}
+use Rattle.run_order.proofs.WaitsBefore.{before, before_point, few_waits, waits_sorted}
 use Rattle.run_order.proofs.waits.Waits.free_place.Goals as goal
 
 pub overflow_cast-result : goal.overflow_cast-result

@@ -7,9 +7,9 @@ use Rattle.patch_script.specs.Plans.{waiting_line}
 use Rattle.patch_script.specs.Refusals.{commands_of}
 use Rattle.run_order.specs.FreeScripts.{is_free}
 use Rattle.run_order.specs.private.Waits.{waits_from}
-use Rattle.run_order.proofs.Freeing.{not_free, waits_next}
+use Rattle.run_order.proofs.WaitsBefore.{not_free, waits_next}
 use Rattle.run_order.proofs.NoWaits.{no_waits}
-use Rattle.run_order.proofs.Patchings.{patch_next}
+use Rattle.run_order.proofs.SledStores.{patch_next}
 use Rattle.run_order.proofs.waits.Waits.of.Goals as goal
 use Rattle.run_order.proofs.waits.Waits.of.Goals.{then-is_wait+in_ok-push, else-is_wait}
 

@@ -1,4 +1,4 @@
-use Rattle.runtime_log.proofs.Coming.{gives_some, match_some}
+use Rattle.runtime_log.proofs.EventsToCome.{gives_some, match_some}
 use Rattle.runtime_log.proofs.blocks.BlockEvents.next.Goals as goal
 
 pub returns-in-Recorder-clause-gives : goal.returns-in-Recorder-clause-gives

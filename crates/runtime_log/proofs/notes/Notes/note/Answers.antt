@@ -2,7 +2,7 @@ use Rattle.std.proofs.Common.{ℕ, subst, sym, ap, ◌∙◌, cond}
 use Rattle.fdr_record.specs.declared.event.Event.{Event}
 use Rattle.fdr_file.specs.Traces.{logs_arg}
 use Rattle.runtime_log.specs.private.Notes.{NotesCounter}
-use Rattle.runtime_log.proofs.Noting.{counting, noted_more}
+use Rattle.runtime_log.proofs.NotedEvents.{counting, noted_more}
 use Rattle.runtime_log.proofs.notes.Notes.note.Goals as goal
 
 pub returns-clause-notes : goal.returns-clause-notes

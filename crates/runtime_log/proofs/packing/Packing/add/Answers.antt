@@ -8,8 +8,8 @@ use Rattle.fdr_buffer.specs.Filled.{Filled}
 use Rattle.runtime_log.specs.declared.notes.Notes.{Notes}
 use Rattle.runtime_log.specs.private.Coming.{events_to_come}
 use Rattle.runtime_log.specs.private.Notes.{AreFew, SameLog}
-use Rattle.runtime_log.proofs.Adding.{NotesEvent, adds_first, adds_more, counted, fills_again, packed_more}
-use Rattle.runtime_log.proofs.Packed.{fills_first}
+use Rattle.runtime_log.proofs.AddedBlocks.{NotesEvent, adds_first, adds_more, counted, fills_again, packed_more}
+use Rattle.runtime_log.proofs.PackedFile.{fills_first}
 use Rattle.runtime_log.proofs.packing.Packing.add.Goals as goal
 
 pub events-init : goal.events-init

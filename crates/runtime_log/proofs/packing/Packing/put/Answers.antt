@@ -1,5 +1,5 @@
 use Rattle.std.proofs.Common.{◌∙◌, ap, sym}
-use Rattle.runtime_log.proofs.Packed.{fills_cut}
+use Rattle.runtime_log.proofs.PackedFile.{fills_cut}
 use Rattle.runtime_log.proofs.packing.Packing.put.Goals as goal
 
 pub returns-in_ok-flush-clause-fills : goal.returns-in_ok-flush-clause-fills

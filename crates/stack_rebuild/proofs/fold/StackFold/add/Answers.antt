@@ -1,7 +1,7 @@
 use Rattle.std.proofs.Common.{◌≡◌, false, refl, true}
 use Rattle.stack_rebuild.specs.Stacks.{most_open}
-use Rattle.stack_rebuild.proofs.Deep.{deep_now, shallow_exit, shallow_now}
-use Rattle.stack_rebuild.proofs.Folding.{folds_deeper, folds_past, folds_same, stack_within}
+use Rattle.stack_rebuild.proofs.DeepThreads.{deep_now, shallow_exit, shallow_now}
+use Rattle.stack_rebuild.proofs.FoldSteps.{folds_deeper, folds_past, folds_same, stack_within}
 use Rattle.stack_rebuild.proofs.fold.StackFold.add.Goals as goal
 
 pub take-requires : goal.take-requires

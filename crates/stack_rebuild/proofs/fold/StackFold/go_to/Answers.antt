@@ -1,7 +1,7 @@
 use Rattle.std.proofs.Common.{◌∙◌, subst, sym}
 use Rattle.stack_rebuild.specs.declared.thread_stack.ThreadStack.{ThreadStack}
 use Rattle.stack_rebuild.specs.private.Folding.{IsStack}
-use Rattle.stack_rebuild.proofs.Folding.{folds_gone, folds_here}
+use Rattle.stack_rebuild.proofs.FoldSteps.{folds_gone, folds_here}
 use Rattle.stack_rebuild.proofs.fold.StackFold.go_to.Goals as goal
 
 pub returns-then-thread-self-clause-gone : goal.returns-then-thread-self-clause-gone

@@ -1,7 +1,7 @@
 use Rattle.std.proofs.Common.{◌∙◌, ap, sym}
 use Rattle.stack_rebuild.specs.Stacks.{most_open, rows_of_pairs}
-use Rattle.stack_rebuild.proofs.Deep.{least_deep}
-use Rattle.stack_rebuild.proofs.Growing.{timed_blocks}
+use Rattle.stack_rebuild.proofs.DeepThreads.{least_deep}
+use Rattle.stack_rebuild.proofs.GrowingHistories.{timed_blocks}
 use Rattle.stack_rebuild.proofs.fold.StackFold.rows.Goals as goal
 
 pub returns-in-Some-clause-deep : goal.returns-in-Some-clause-deep

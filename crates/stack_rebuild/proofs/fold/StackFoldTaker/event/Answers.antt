@@ -1,7 +1,7 @@
 use Rattle.std.proofs.Common.{◌++◌, [], ◌∷◌}
 use Rattle.std.proofs.lemmas.Result.{on_ok_weaker}
 use Rattle.fdr_file.specs.Scanning.{longer_block}
-use Rattle.stack_rebuild.proofs.Folding.{folds_counted}
+use Rattle.stack_rebuild.proofs.FoldSteps.{folds_counted}
 use Rattle.stack_rebuild.proofs.fold.StackFoldTaker.event.Goals as goal
 
 pub returns-clause-took : goal.returns-clause-took

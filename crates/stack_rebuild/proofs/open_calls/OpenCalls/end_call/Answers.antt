@@ -1,7 +1,7 @@
 use Rattle.std.proofs.Common.{◌≡◌, ◌∙◌, false, arith, count_by, nat_lt, sym}
 use Rattle.std.proofs.lemmas.Bool.Decides.{nat_tests}
 use Rattle.stack_rebuild.specs.private.Counts.{is_of}
-use Rattle.stack_rebuild.proofs.Opening.{from_innermost-none}
+use Rattle.stack_rebuild.proofs.InnermostCall.{from_innermost-none}
 use Rattle.stack_rebuild.proofs.open_calls.OpenCalls.end_call.Goals as goal
 
 pub returns-then-not-branch : goal.returns-then-not-branch

@@ -9,7 +9,7 @@ use Rattle.stack_rebuild.specs.private.Links.{ArePastLinks, entered_link, links_
 use Rattle.stack_rebuild.specs.private.PathNumbers.{AreNumbered, number_in, path_by, paths_after}
 use Rattle.stack_rebuild.specs.private.PathTree.{all_links, links_in, paths_in, step_of, steps_in, tallies_in, tally_in}
 use Rattle.stack_rebuild.specs.PathSums.{AreSums, Summed, no_tally}
-use Rattle.stack_rebuild.proofs.Linked.{links_are, links_linked, past_entered, past_more, past_same, told_entered, told_more, told_same}
+use Rattle.stack_rebuild.proofs.PathLinks.{links_are, links_linked, past_entered, past_more, past_same, told_entered, told_more, told_same}
 use Rattle.stack_rebuild.proofs.Nodes.{length_steps, paths_pushed, steps_more, tallies_pushed, tallies_some}
 use Rattle.stack_rebuild.proofs.Sums.{sums_fresh}
 use Rattle.stack_rebuild.proofs.Trees.{none_told, tree_more, tree_same}

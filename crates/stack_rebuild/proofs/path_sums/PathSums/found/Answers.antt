@@ -4,7 +4,7 @@ use Rattle.stack_rebuild.specs.declared.node.Node.{Node}
 use Rattle.stack_rebuild.specs.private.Links.{linked_to, links_by, told_by}
 use Rattle.stack_rebuild.specs.private.PathTree.{all_links, links_in, steps_in}
 use Rattle.stack_rebuild.specs.PathSums.{Summed}
-use Rattle.stack_rebuild.proofs.Linked.{links_are, told_else, told_linked}
+use Rattle.stack_rebuild.proofs.PathLinks.{links_are, told_else, told_linked}
 use Rattle.stack_rebuild.proofs.Trees.{absent_path, number_told}
 use Rattle.stack_rebuild.proofs.path_sums.PathSums.found.Goals as goal
 

@@ -1,5 +1,5 @@
 use Rattle.std.proofs.Common.{◌∙◌, ◌+◌, arith}
-use Rattle.step_sim.proofs.Gathering.{gather_step}
+use Rattle.step_sim.proofs.GatheredBuffers.{gather_step}
 use Rattle.step_sim.proofs.pool.Pool.collect.Goals as goal
 
 pub loop-before-preserved : goal.loop-before-preserved

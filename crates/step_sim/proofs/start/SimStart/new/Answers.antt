@@ -4,7 +4,7 @@ use Rattle.sled_words.specs.Words.{word_count}
 use Rattle.patch_script.specs.Micros.{start_of}
 use Rattle.patch_script.specs.Refusals.{commands_of}
 use Rattle.step_sim.specs.private.Standing.{IsPatcherAt}
-use Rattle.step_sim.proofs.Beginnings.{at_start}
+use Rattle.step_sim.proofs.ReplayStart.{at_start}
 use Rattle.step_sim.proofs.Bounds.{no_holds}
 use Rattle.step_sim.proofs.start.SimStart.new.Goals as goal
 

@@ -3,9 +3,9 @@ use Rattle.std.specs.Prelude.{All}
 use Rattle.step_sim.specs.declared.turns.Turns.{Turns}
 use Rattle.step_sim.specs.Schedules.{AreTurnsOf}
 use Rattle.step_sim.specs.Starts.{Start}
-use Rattle.step_sim.proofs.Beginnings.{holds_start, played, records}
-use Rattle.step_sim.proofs.Recordings.{has_room_for_all, recording}
-use Rattle.step_sim.proofs.Simulated.{is_simulated, sealed_fit}
+use Rattle.step_sim.proofs.ReplayStart.{holds_start, played, records}
+use Rattle.step_sim.proofs.RecordedReplay.{has_room_for_all, recording}
+use Rattle.step_sim.proofs.EndedReplay.{is_simulated, sealed_fit}
 use Rattle.step_sim.proofs.start.SimStart.play.Goals as goal
 
 pub play-requires-clause-records : goal.play-requires-clause-records

@@ -1,5 +1,5 @@
 use Rattle.std.proofs.Common.{arith, rules}
-use Rattle.subset_decode.proofs.Padding.{padded_on}
+use Rattle.subset_decode.proofs.CodePadding.{padded_on}
 use Rattle.subset_decode.proofs.code.Code.push_all.Goals as goal
 
 pub invariant_of-self-clause-padded : goal.invariant_of-self-clause-padded

@@ -3,7 +3,7 @@ use Rattle.std.proofs.lemmas.List.{length-map}
 use Rattle.xray_image.specs.private.UnitTable.{units_in}
 use Rattle.xray_image.specs.private.Views.{piece_of, place_of}
 use Rattle.xray_image.proofs.SoFar.{next_read, stops_here}
-use Rattle.xray_image.proofs.Stored.{unit_told}
+use Rattle.xray_image.proofs.StoredUnits.{unit_told}
 use Rattle.xray_image.proofs.code_units.CodeUnits.add_next.Goals as goal
 
 pub returns-in_ok-add-in-Ok-clause-read : goal.returns-in_ok-add-in-Ok-clause-read

@@ -2,7 +2,7 @@ use Rattle.std.proofs.Common.{◌<◌, map, length, sym, ◌∙◌, arith, rules
 use Rattle.std.proofs.lemmas.List.{length-map, get_or-map}
 use Rattle.xray_image.specs.Program.{id_of}
 use Rattle.xray_image.specs.private.Views.{entry_of}
-use Rattle.xray_image.proofs.Numbering.{id_at, counted_more}
+use Rattle.xray_image.proofs.EntryIds.{id_at, counted_more}
 use Rattle.xray_image.proofs.ids.FunctionIds.new.Goals as goal
 
 pub loop-entry-preserved : goal.loop-entry-preserved

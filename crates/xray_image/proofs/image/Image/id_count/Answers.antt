@@ -3,7 +3,7 @@ use Rattle.xray_image.specs.Program.{Program}
 use Rattle.xray_image.specs.Ids.{id_count}
 use Rattle.xray_image.specs.private.ImageView.{program_in}
 use Rattle.xray_image.proofs.Acceptance.{sled_total}
-use Rattle.xray_image.proofs.Naming.{accepted_ascend, numbers_few}
+use Rattle.xray_image.proofs.FunctionNames.{accepted_ascend, numbers_few}
 use Rattle.xray_image.proofs.image.Image.id_count.Goals as goal
 
 pub overflow_cast-result : goal.overflow_cast-result

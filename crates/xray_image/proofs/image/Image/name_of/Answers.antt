@@ -2,7 +2,7 @@ use Rattle.std.proofs.Common.{◌≡◌, ◌-◌, suc, Some, refl, sym, ap, subs
 use Rattle.xray_image.specs.Program.{Program}
 use Rattle.xray_image.specs.Ids.{id_count, name_of}
 use Rattle.xray_image.specs.private.ImageView.{program_in}
-use Rattle.xray_image.proofs.Naming.{accepted_ascend, id_within, number_within, name_read}
+use Rattle.xray_image.proofs.FunctionNames.{accepted_ascend, id_within, number_within, name_read}
 use Rattle.xray_image.proofs.image.Image.name_of.Goals as goal
 
 pub index-number-requires : goal.index-number-requires

@@ -1,4 +1,4 @@
-use Rattle.xray_image.proofs.Making.{name_at}
+use Rattle.xray_image.proofs.ImageLists.{name_at}
 use Rattle.xray_image.proofs.image.reading.named_functions.Goals as goal
 
 pub new-requires : goal.new-requires

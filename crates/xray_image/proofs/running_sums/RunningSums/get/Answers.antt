@@ -1,5 +1,5 @@
 use Rattle.std.proofs.Common.{◌≡◌, ℕ, get_or, sym, subst, arith}
-use Rattle.xray_image.proofs.Summing.{step_there, block_there, sum_below, sum_read}
+use Rattle.xray_image.proofs.RunningSums.{step_there, block_there, sum_below, sum_read}
 use Rattle.xray_image.proofs.running_sums.RunningSums.get.Goals as goal
 
 pub index-requires : goal.index-requires

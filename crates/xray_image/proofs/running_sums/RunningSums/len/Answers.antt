@@ -1,5 +1,5 @@
 use Rattle.std.proofs.Common.{arith}
-use Rattle.xray_image.proofs.Summing.{length-sums}
+use Rattle.xray_image.proofs.RunningSums.{length-sums}
 use Rattle.xray_image.proofs.running_sums.RunningSums.len.Goals as goal
 
 pub returns : goal.returns

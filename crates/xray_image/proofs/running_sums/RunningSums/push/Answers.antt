@@ -1,6 +1,6 @@
 use Rattle.std.proofs.Common.{◌≡◌, ℕ, ◌-◌, [], ◌∷◌, ◌++◌, length, ap, ◌∙◌, arith}
 use Rattle.xray_image.specs.private.RunningSums.{sums_from}
-use Rattle.xray_image.proofs.Summing.{total_pushed}
+use Rattle.xray_image.proofs.RunningSums.{total_pushed}
 use Rattle.xray_image.proofs.running_sums.RunningSums.push.Goals as goal
 
 pub returns-clause-sums : goal.returns-clause-sums

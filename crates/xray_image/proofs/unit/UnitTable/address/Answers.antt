@@ -1,6 +1,6 @@
 use Rattle.std.proofs.Common.{ap, ◌+◌, arith}
 use Rattle.xray_image.specs.private.RunningSums.{sums_in}
-use Rattle.xray_image.proofs.Stored.{length-units, address_there}
+use Rattle.xray_image.proofs.StoredUnits.{length-units, address_there}
 use Rattle.xray_image.proofs.unit.UnitTable.address.Goals as goal
 
 pub get-requires-clause-exists : goal.get-requires-clause-exists

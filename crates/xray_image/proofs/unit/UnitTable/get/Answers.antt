@@ -2,7 +2,7 @@ use Rattle.std.proofs.Common.{ℕ, ◌+◌, Some, drop, sym, ap, ◌∙◌, arit
 use Rattle.xray_image.specs.declared.unit.What.{What}
 use Rattle.xray_image.specs.private.RunningSums.{sums_in}
 use Rattle.xray_image.specs.private.UnitTable.{what_at}
-use Rattle.xray_image.proofs.Stored.{length-units, unit_read}
+use Rattle.xray_image.proofs.StoredUnits.{length-units, unit_read}
 use Rattle.xray_image.proofs.unit.UnitTable.get.Goals as goal
 
 pub get-place-requires-clause-exists : goal.get-place-requires-clause-exists

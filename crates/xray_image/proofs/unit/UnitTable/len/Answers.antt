@@ -1,6 +1,6 @@
 use Rattle.std.proofs.Common.{sym, ◌∙◌}
 use Rattle.xray_image.specs.private.RunningSums.{sums_in}
-use Rattle.xray_image.proofs.Stored.{length-units}
+use Rattle.xray_image.proofs.StoredUnits.{length-units}
 use Rattle.xray_image.proofs.unit.UnitTable.len.Goals as goal
 
 pub returns : goal.returns

@@ -1,5 +1,5 @@
 use Rattle.xray_image.specs.private.RunningSums.{sums_in}
-use Rattle.xray_image.proofs.Stored.{unit_push}
+use Rattle.xray_image.proofs.StoredUnits.{unit_push}
 use Rattle.xray_image.proofs.unit.UnitTable.push.Goals as goal
 
 pub returns-clause-units : goal.returns-clause-units

@@ -1,4 +1,4 @@
-use Rattle.xray_io.proofs.Gathering.{adds_after}
+use Rattle.xray_io.proofs.TextSteps.{adds_after}
 use Rattle.xray_io.proofs.text.Text.bytes.Goals as goal
 
 pub returns-clause-adds : goal.returns-clause-adds
