@@ -8,6 +8,7 @@ is reported.
 import dataclasses
 import os
 import resource
+import statistics
 import subprocess
 import sys
 import time
@@ -35,12 +36,40 @@ def measured(words, folder, output=None):
     return Measured(int(status), float(processor), float(elapsed), int(memory))
 
 
+def passed(words, folder, output=None):
+    """A run of a command. If it fails, it ends the bench."""
+    run = measured(words, folder, output)
+    if run.status != 0:
+        sys.exit(f"{' '.join(map(str, words))}: {(folder / 'err').read_text(errors='replace')[:500]}")
+    return run
+
+
 def best(words, folder, runs, output=None):
     """The run with the least processor time. A run that fails ends the bench."""
-    every = [measured(words, folder, output) for _ in range(runs)]
-    if any(run.status != 0 for run in every):
-        sys.exit(f"{' '.join(map(str, words))}: {(folder / 'err').read_text(errors='replace')[:500]}")
-    return min(every, key=lambda run: run.processor)
+    return min((passed(words, folder, output) for _ in range(runs)), key=lambda run: run.processor)
+
+
+def in_turns(commands, folder, rounds):
+    """For each name of a command its runs, one in each round. The commands, each its words and the name of its output, take
+    turns, so that a host whose speed changes slows all of them. A run that fails ends the bench."""
+    runs = {name: [] for name in commands}
+    for _ in range(rounds):
+        for name, (words, output) in commands.items():
+            runs[name].append(passed(words, folder, output))
+    return runs
+
+
+def median(runs, field):
+    return statistics.median(getattr(run, field) for run in runs)
+
+
+def quotient(ones, others, field="processor"):
+    """The median of what runs took as fractions of what others took in the same rounds."""
+    return statistics.median(getattr(one, field) / getattr(other, field) for one, other in zip(ones, others, strict=True))
+
+
+def peak(runs):
+    return max(run.memory for run in runs)
 
 
 def megabytes(count):
