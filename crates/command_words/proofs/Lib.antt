@@ -9,6 +9,7 @@ pub mod ClapCommand
 pub mod ClapArguments
 pub mod Pairs
 pub mod ClapMatches
+pub mod CommandSteps
 pub mod ReadWords
 -- Commands: what is made of a line, by the rows of the table (src/words.rt, src/laws.rt)
 pub mod OfRows

@@ -1,5 +1,5 @@
 -- A command and its row in the table.
-use Rattle.std.proofs.Common.{◌≡◌, ◌∙◌, ◌==◌, ℕ, Bool, true, false, List, [], ◌∷◌, Option, Some, None, refl, sym, ap, subst, arith}
+use Rattle.std.proofs.Common.{◌≡◌, ◌∙◌, ◌==◌, ℕ, Bool, true, false, List, [], ◌∷◌, Option, Some, None, refl, sym, ap, subst}
 use Rattle.std.specs.List.{cons_option}
 use Rattle.std.specs.Option.{option_map_or}
 use Rattle.std.specs.Prelude.{if◌then◌else◌, option_and_then, option_map}
@@ -42,6 +42,7 @@ never command e = cc
 -- ---- a line for each command
 
 sim_of : (wall : Wall) (line : Line) (command : Command) → sim_in wall line ≡ Some command → IsOfLine sim_row line command
+unfolding run_options_in
 sim_of wall line command says = go line.files (run_options_in wall line) refl refl
   where
     go : (names : List (List ℕ)) (options : Option RunOptions) → line.files ≡ names → run_options_in wall line ≡ options → IsOfLine sim_row line command
@@ -57,6 +58,7 @@ sim_of wall line command says = go line.files (run_options_in wall line) refl re
     go (a ∷ b ∷ c ∷ d ∷ g ∷ h ∷ names) options e f = absurd (never command (rw e at says))
 
 run_of : (wall : Wall) (line : Line) (command : Command) → run_in wall line ≡ Some command → IsOfLine run_row line command
+unfolding run_options_in
 run_of wall line command says = go line.files (run_options_in wall line) refl refl
   where
     go : (names : List (List ℕ)) (options : Option RunOptions) → line.files ≡ names → run_options_in wall line ≡ options → IsOfLine run_row line command
@@ -196,6 +198,7 @@ order_of line command says = go line.files refl
     go (a ∷ b ∷ c ∷ d ∷ g ∷ h ∷ names) e = absurd (never command (rw e at says))
 
 profile_of : (line : Line) (command : Command) → profile_in line ≡ Some command → IsOfLine profile_row line command
+unfolding profile_options_in
 profile_of line command says = go line.files (profile_options_in line) refl refl
   where
     go : (names : List (List ℕ)) (options : Option ProfileOptions) → line.files ≡ names → profile_options_in line ≡ options → IsOfLine profile_row line command
@@ -234,7 +237,26 @@ import_of line command says = go line.files refl
 
 -- the outputs of each
 pub outputs_of_row : OutputsAreOfTheRow
-outputs_of_row = grind arith
+outputs_of_row (Sim image script schedule trace audit options) = refl
+outputs_of_row (Run image script trace audit options) = refl
+outputs_of_row (Plain image bounds) = refl
+outputs_of_row (Extract image) = refl
+outputs_of_row (Asm text image threshold relative) = refl
+outputs_of_row (Account trace ByIds options) = refl
+outputs_of_row (Account trace (ByImage name) options) = refl
+outputs_of_row (Account trace (ByMap name) options) = refl
+outputs_of_row (Stack trace ByIds format) = refl
+outputs_of_row (Stack trace (ByImage name) format) = refl
+outputs_of_row (Stack trace (ByMap name) format) = refl
+outputs_of_row (Convert trace ByIds options) = refl
+outputs_of_row (Convert trace (ByImage name) options) = refl
+outputs_of_row (Convert trace (ByMap name) options) = refl
+outputs_of_row (Dump trace) = refl
+outputs_of_row (Check image script trace audit) = refl
+outputs_of_row (Order image script audit free schedule) = refl
+outputs_of_row (Profile image script options) = refl
+outputs_of_row (Soak number) = refl
+outputs_of_row (Import log trace) = refl
 
 -- ---- all words
 

@@ -6,7 +6,7 @@ use Rattle.command_words.specs.Reports.{ByIds, ByImage, ByMap}
 use Rattle.command_words.specs.declared.report_options.ConvertFormat.TheVariants as formats
 use Rattle.command_words.specs.declared.report_options.InputForm.TheVariants as inputs
 use Rattle.command_words.specs.declared.report_options.StackFormat.TheVariants as stacks
-use Rattle.command_words.specs.Words.{Command, Sim, Plain, Extract, Asm, Stack, Convert, Dump, Check, Order, Profile, Soak, Import, outputs_of, reading}
+use Rattle.command_words.specs.Words.{Command, Sim, Plain, Extract, Asm, Stack, Convert, Dump, Check, Order, Profile, Soak, Import, outputs_of, profile_options_in, reading, run_options_in}
 
 -- a wall time that is passed in
 noon : Wall
@@ -86,6 +86,7 @@ replay : says (codes "sim" ∷ codes "s" ∷ codes "s" ∷ codes "c" ∷ codes "
       pid = 1;
       wall = noon;
     }))
+unfolding run_options_in
 replay = refl
 
 -- an output may not have the name of an input or of the other output
@@ -138,12 +139,14 @@ profiled : says (codes "profile" ∷ codes "i" ∷ codes "--nodes=1" ∷ codes "
       nodes = 1;
       format = stacks.Flame;
     }))
+unfolding profile_options_in
 profiled = refl
 
 no_frequency : says (codes "profile" ∷ codes "i" ∷ codes "s" ∷ codes "--frequency=1" ∷ []) ≡ None
 no_frequency = refl
 
 no_node : says (codes "profile" ∷ codes "i" ∷ codes "s" ∷ codes "--nodes=0" ∷ []) ≡ None
+unfolding profile_options_in
 no_node = refl
 
 -- a number that stands in the place of a file: any of 64 bits

@@ -79,7 +79,7 @@ have_room options = nat_le options.bounds.threads options.buffers.max
     && nat_le (options.buffers.max * (options.buffers.size + 16) + 32) trace_limit
 
 -- all options of a run
-abbrev pub run_options_in : Wall → Line → Option RunOptions
+unfoldable pub run_options_in : Wall → Line → Option RunOptions
 run_options_in wall line = of_parts (bounds_in line) (stamps_in line) (number_in frequency_option line) (buffers_in line)
     (number_in pid_option line) (wall_in wall line)
   where
@@ -99,7 +99,7 @@ run_options_in wall line = of_parts (bounds_in line) (stamps_in line) (number_in
     of_parts _ _ _ _ _ _ = None
 
 -- all options of a profile
-abbrev pub profile_options_in : Line → Option ProfileOptions
+unfoldable pub profile_options_in : Line → Option ProfileOptions
 profile_options_in line = of_parts (bounds_in line) (stamps_in line) (number_in nodes_option line)
     (choice_in stack_format_option stack_formats line)
   where

@@ -1,7 +1,7 @@
 //! Cutting words into a line with `clap`, by the row of a command.
 ghost use Rattle.std.specs.Prelude.{◌≡◌, IfOk, count_by, fold, map, option_map, true};
 ghost use Rattle.std.specs.Str.{bytes_eq};
-ghost use Rattle.clap.specs.{Faults.{is_simple_and_free}, Simple.{app_of, with_rule}};
+ghost use Rattle.clap.specs.Simple.{app_of, with_rule};
 ghost use Rattle.command_words.specs.private.Clapped.{app_by, bare_app, clap_rows, file_rule, given_in, line_in, names_in, option_rule, rows_in};
 ghost use Rattle.command_words.specs.{Items.{items_of, texts}, Lines.{line_of, outputs_differ}};
 ghost use Rattle.command_words.specs.private.Allowed.{is_row};
@@ -23,8 +23,7 @@ pub(crate) fn cut_line<'a>(
     ensures { IfOk result (λ line. option_map line_view line
         ≡ line_of (row_view row.now) (items_of (texts words.entry.now))) }
 {
-    let command = clap_command(alloc, row)?;
-    let Some(matches) = matches_of(command, words)? else {
+    let Some(matches) = matches_of(alloc, row, words)? else {
         return Ok(None);
     };
     let line = line_in(alloc, row, &matches)?;
@@ -33,15 +32,6 @@ pub(crate) fn cut_line<'a>(
     } else {
         Ok(None)
     }
-}
-
-/// The command of clap that takes what a row says.
-fn clap_command<'a>(alloc: Global, row: &CommandRow) -> Result<clap::Command<'a>, AllocError>
-    ensures { IfOk result (λ c. app_of c ≡ app_by (row_view row.now)) }
-{
-    let bare = bare_command(alloc, row.word);
-    let command = with_files(alloc, bare, row.files)?;
-    with_options(alloc, command, row.options)
 }
 
 /// A command without arguments. clap gets the words after the command's own, and knows no words for
@@ -69,17 +59,13 @@ fn with_file<'a>(
     command.arg(positional)
 }
 
-/// The command with these files more.
-fn with_files<'a>(
-    alloc: Global,
-    command: clap::Command<'a>,
-    files: &[FileRow],
-) -> Result<clap::Command<'a>, AllocError>
+/// A command that takes the files of a row.
+fn command_of_files<'a>(alloc: Global, row: &CommandRow) -> Result<clap::Command<'a>, AllocError>
     ensures { IfOk result (λ c. app_of c
-        ≡ fold with_rule (app_of command.entry) (map (λ file. file_rule (file_view file)) files.now)) }
+        ≡ fold with_rule (bare_app row.now.word.now) (map (λ file. file_rule (file_view file)) row.now.files.now)) }
 {
-    let mut command = command;
-    for file in files {
+    let mut command = bare_command(alloc, row.word);
+    for file in row.files {
         command = with_file(alloc, command, file)?;
     }
     Ok(command)
@@ -97,31 +83,28 @@ fn with_option<'a>(
     command.arg(option)
 }
 
-/// The command with these options more.
-fn with_options<'a>(
-    alloc: Global,
-    command: clap::Command<'a>,
-    options: &[OptionRow],
-) -> Result<clap::Command<'a>, AllocError>
-    ensures { IfOk result (λ c. app_of c
-        ≡ fold with_rule (app_of command.entry) (map (λ option. option_rule option.name.now) options.now)) }
+/// The command of clap that takes what a row says.
+fn clap_command<'a>(alloc: Global, row: &CommandRow) -> Result<clap::Command<'a>, AllocError>
+    ensures { IfOk result (λ c. app_of c ≡ app_by (row_view row.now)) }
 {
-    let mut command = command;
-    for option in options {
+    let mut command = command_of_files(alloc, row)?;
+    for option in row.options {
         command = with_option(alloc, command, option.name)?;
     }
     Ok(command)
 }
 
-/// The matches, if the command takes the words.
+/// The matches, if the command of a row takes the words.
 fn matches_of<'a>(
-    command: clap::Command<'a>,
+    alloc: Global,
+    row: &CommandRow,
     words: &'a [String],
 ) -> Result<Option<ArgMatches<'a>>, AllocError>
-    requires { is_simple_and_free (app_of command) ≡ true }
+    requires { is_row (row_view row.now) ≡ true }
     ensures { IfOk result (λ found.
-        option_map rows_in found ≡ clap_rows (app_of command.entry) (texts words.entry.now)) }
+        option_map rows_in found ≡ clap_rows (app_by (row_view row.now)) (texts words.entry.now)) }
 {
+    let command = clap_command(alloc, row)?;
     match command.try_get_matches_from(words) {
         Ok(matches) => Ok(Some(matches)),
         Err(error) => match error.kind() {

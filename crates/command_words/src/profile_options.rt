@@ -10,7 +10,7 @@ use crate::run_options::{Bounds, Stamps, bounds_in, stamps_in};
 use crate::tables::NODES;
 
 /// All options of a profile.
-#[derive(Clone, Copy, Debug, PartialEq, Eq)]
+#[derive(Clone, Copy)]
 pub struct ProfileOptions {
     /// The limits of its threads.
     pub bounds: Bounds,
@@ -23,6 +23,7 @@ pub struct ProfileOptions {
 }
 
 /// All options of a profile. `None` if a value isn't allowed.
+#[tactic(auto, unfolding(crate::specs::Words::profile_options_in))]
 pub(crate) fn profile_options_in(line: &Line<'_>) -> Option<ProfileOptions>
     ensures reads { result ≡ profile_options_in (line_view line.now) }
     ensures ranges { IfSome result AreProfileOptions }

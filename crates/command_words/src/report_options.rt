@@ -33,7 +33,7 @@ pub enum NameSource<'a> {
 }
 
 /// The column by which the rows of an account are sorted.
-#[derive(Clone, Copy, Debug, PartialEq, Eq)]
+#[derive(Clone, Copy, Debug)]
 pub enum SortColumn {
     /// The id of the function.
     FuncId,
@@ -54,7 +54,7 @@ pub enum SortColumn {
 }
 
 /// The order in which the rows of an account are sorted.
-#[derive(Clone, Copy, Debug, PartialEq, Eq)]
+#[derive(Clone, Copy, Debug)]
 pub enum SortOrder {
     /// The least value comes first.
     Ascending,
@@ -63,7 +63,7 @@ pub enum SortOrder {
 }
 
 /// The form in which an account is printed.
-#[derive(Clone, Copy, Debug, PartialEq, Eq)]
+#[derive(Clone, Copy, Debug)]
 pub enum AccountFormat {
     /// Columns, for readers.
     Text,
@@ -72,7 +72,7 @@ pub enum AccountFormat {
 }
 
 /// The form in which stacks are printed.
-#[derive(Clone, Copy, Debug, PartialEq, Eq)]
+#[derive(Clone, Copy, Debug)]
 pub enum StackFormat {
     /// Columns, for readers.
     Human,
@@ -83,7 +83,7 @@ pub enum StackFormat {
 }
 
 /// The options of an account.
-#[derive(Clone, Copy, Debug, PartialEq, Eq)]
+#[derive(Clone, Copy)]
 pub struct AccountOptions {
     /// The column by which the rows are sorted.
     pub sort: SortColumn,
@@ -96,7 +96,7 @@ pub struct AccountOptions {
 }
 
 /// The form that a trace is converted to.
-#[derive(Clone, Copy, Debug, PartialEq, Eq)]
+#[derive(Clone, Copy, Debug)]
 pub enum ConvertFormat {
     /// A YAML document.
     Yaml,
@@ -107,7 +107,7 @@ pub enum ConvertFormat {
 }
 
 /// The form of a trace that is read.
-#[derive(Clone, Copy, Debug, PartialEq, Eq)]
+#[derive(Clone, Copy, Debug)]
 pub enum InputForm {
     /// A trace file of the Flight Data Recorder mode.
     Fdr,
@@ -116,7 +116,7 @@ pub enum InputForm {
 }
 
 /// The options of a conversion.
-#[derive(Clone, Copy, Debug, PartialEq, Eq)]
+#[derive(Clone, Copy)]
 pub struct ConvertOptions {
     /// The form that the trace is converted to.
     pub format: ConvertFormat,

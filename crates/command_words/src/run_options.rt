@@ -21,7 +21,7 @@ const HEADER_BYTES: u64 = 32;
 const EXTENTS_BYTES: u64 = 16;
 
 /// The limits of a run's threads.
-#[derive(Clone, Copy, Debug, PartialEq, Eq)]
+#[derive(Clone, Copy)]
 pub struct Bounds {
     /// How many threads there are, from 1 to 16.
     pub threads: u32,
@@ -32,7 +32,7 @@ pub struct Bounds {
 }
 
 /// How the passings of threads are stamped.
-#[derive(Clone, Copy, Debug, PartialEq, Eq)]
+#[derive(Clone, Copy)]
 pub struct Stamps {
     /// By how many cycles each instruction advances the counter (TSC).
     pub tick: u64,
@@ -45,7 +45,7 @@ pub struct Stamps {
 }
 
 /// The buffers of a run's events.
-#[derive(Clone, Copy, Debug, PartialEq, Eq)]
+#[derive(Clone, Copy)]
 pub struct Buffers {
     /// The size of a buffer in bytes, from 88 to 1,048,576.
     pub size: u32,
@@ -54,7 +54,7 @@ pub struct Buffers {
 }
 
 /// All options of a run.
-#[derive(Clone, Copy, Debug, PartialEq, Eq)]
+#[derive(Clone, Copy)]
 pub struct RunOptions {
     /// The limits of its threads.
     pub bounds: Bounds,
@@ -138,6 +138,7 @@ fn wall_in(wall: Wall, line: &Line<'_>) -> Option<Wall>
 
 /// All options of a run. It begins at this wall time, unless the line gives another. `None` if a
 /// value isn't allowed, or if the buffers don't fit.
+#[tactic(auto, unfolding(crate::specs::Words::run_options_in))]
 pub(crate) fn run_options_in(wall: Wall, line: &Line<'_>) -> Option<RunOptions>
     requires { IsTime wall }
     ensures reads { result ≡ run_options_in wall (line_view line.now) }

@@ -2,7 +2,7 @@
 ghost use Rattle.std.specs.Prelude.{◌≡◌, IfOk, IfSome, find, option_map, true};
 ghost use Rattle.fdr_buffer.specs.Times.{IsTime};
 ghost use Rattle.command_words.specs.{Items.{texts}, Lines.{outputs_differ}, Ranges.{HasRanges}};
-ghost use Rattle.command_words.specs.{Tables.{order_row, run_row, sim_row}, Views.{command_view}, Words.{asm_in, check_in, order_in, profile_in, reading, run_in, sim_in}};
+ghost use Rattle.command_words.specs.{Tables.{order_row, run_row, sim_row}, Views.{command_view}, Words.{asm_in, check_in, dump_in, extract_in, import_in, order_in, plain_in, profile_in, reading, run_in, sim_in, soak_in}};
 ghost use Rattle.command_words.specs.private.CodeViews.{line_view, row_view};
 ghost use Rattle.command_words.specs.private.Verbs.{command_by, is_word_of, report_said, row_by, verb_of};
 
@@ -23,7 +23,7 @@ use std::alloc::{AllocError, Global};
 use xray_io::Wall;
 
 /// What the program is asked to do: the command, the names of its files, and its options.
-#[derive(Clone, Copy, Debug)]
+#[derive(Clone, Copy)]
 pub enum Command<'a> {
     /// Replays a schedule over an image and a script.
     Sim {
@@ -295,41 +295,44 @@ fn command_in<'a>(verb: Verb, wall: Wall, line: &Line<'a>) -> Option<Command<'a>
     ensures reads { option_map command_view result ≡ command_by verb wall (line_view line.now) }
     ensures ranges { IfSome (option_map command_view result) HasRanges }
 {
-    let files = line.files.as_slice();
     match verb {
-        Verb::Plain => match files {
-            [image] => {
-                let bounds = bounds_in(line)?;
-                Some(Command::Plain { image, bounds })
-            }
-            _ => None,
-        },
-        Verb::Extract => match files {
-            [image] => Some(Command::Extract { image }),
-            _ => None,
-        },
+        Verb::Plain => plain_in(line),
+        Verb::Extract => extract_in(line),
         Verb::Sim => sim_in(wall, line),
         Verb::Run => run_in(wall, line),
         Verb::Asm => asm_in(line),
         Verb::Report(report) => report_in(report, line),
-        Verb::Dump => match files {
-            [trace] => Some(Command::Dump { trace }),
-            _ => None,
-        },
+        Verb::Dump => dump_in(line),
         Verb::Check => check_in(line),
         Verb::Order => order_in(line),
         Verb::Profile => profile_in(line),
-        Verb::Soak => match files {
-            [seed] => {
-                let number = SEEDS.number_of(seed)?;
-                Some(Command::Soak { number })
-            }
-            _ => None,
-        },
-        Verb::Import => match files {
-            [log, trace] => Some(Command::Import { log, trace }),
-            _ => None,
-        },
+        Verb::Soak => soak_in(line),
+        Verb::Import => import_in(line),
+    }
+}
+
+/// The plain run that a line asks for. `None` if it lacks the image, or if a value isn't allowed.
+fn plain_in<'a>(line: &Line<'a>) -> Option<Command<'a>>
+    ensures reads { option_map command_view result ≡ plain_in (line_view line.now) }
+    ensures ranges { IfSome (option_map command_view result) HasRanges }
+{
+    match line.files.as_slice() {
+        [image] => Some(Command::Plain {
+            image,
+            bounds: bounds_in(line)?,
+        }),
+        _ => None,
+    }
+}
+
+/// The extraction that a line asks for. `None` if it lacks the image.
+fn extract_in<'a>(line: &Line<'a>) -> Option<Command<'a>>
+    ensures reads { option_map command_view result ≡ extract_in (line_view line.now) }
+    ensures ranges { IfSome (option_map command_view result) HasRanges }
+{
+    match line.files.as_slice() {
+        [image] => Some(Command::Extract { image }),
+        _ => None,
     }
 }
 
@@ -459,5 +462,40 @@ fn report_in<'a>(report: Report, line: &Line<'a>) -> Option<Command<'a>>
             names,
             options: convert_options_in(line)?,
         }),
+    }
+}
+
+/// The dump that a line asks for. `None` if it lacks the trace.
+fn dump_in<'a>(line: &Line<'a>) -> Option<Command<'a>>
+    ensures reads { option_map command_view result ≡ dump_in (line_view line.now) }
+    ensures ranges { IfSome (option_map command_view result) HasRanges }
+{
+    match line.files.as_slice() {
+        [trace] => Some(Command::Dump { trace }),
+        _ => None,
+    }
+}
+
+/// The soak that a line asks for. `None` if it lacks the number, or if its word isn't one.
+fn soak_in<'a>(line: &Line<'a>) -> Option<Command<'a>>
+    ensures reads { option_map command_view result ≡ soak_in (line_view line.now) }
+    ensures ranges { IfSome (option_map command_view result) HasRanges }
+{
+    match line.files.as_slice() {
+        [seed] => Some(Command::Soak {
+            number: SEEDS.number_of(seed)?,
+        }),
+        _ => None,
+    }
+}
+
+/// The import that a line asks for. `None` if it lacks a file.
+fn import_in<'a>(line: &Line<'a>) -> Option<Command<'a>>
+    ensures reads { option_map command_view result ≡ import_in (line_view line.now) }
+    ensures ranges { IfSome (option_map command_view result) HasRanges }
+{
+    match line.files.as_slice() {
+        [log, trace] => Some(Command::Import { log, trace }),
+        _ => None,
     }
 }

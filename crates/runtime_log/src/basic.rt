@@ -28,7 +28,7 @@ const ARGUMENT_PROCESS_AT: usize = 12;
 const VALUE_AT: usize = 16;
 
 /// Whose record it is.
-#[derive(Clone, Copy, Debug, PartialEq, Eq)]
+#[derive(Clone, Copy)]
 pub struct Owner {
     /// The thread's id.
     pub thread: u32,
@@ -37,7 +37,7 @@ pub struct Owner {
 }
 
 /// What a record says.
-#[derive(Clone, Copy, Debug, PartialEq, Eq)]
+#[derive(Clone, Copy)]
 pub enum BasicRec {
     /// A passing.
     Passed {

@@ -13,7 +13,7 @@ use fdr_record::Event;
 use xray_io::Wall;
 
 /// The mode that a log was written in.
-#[derive(Clone, Copy, Debug, PartialEq, Eq)]
+#[derive(Clone, Copy)]
 pub(crate) enum Mode {
     /// The Flight Data Recorder mode, in a version.
     Recorder(LogVersion),
@@ -34,7 +34,7 @@ impl Mode {
 }
 
 /// A block: where it is, and what it says without its events.
-#[derive(Clone, Copy, Debug, PartialEq, Eq)]
+#[derive(Clone, Copy)]
 pub(crate) struct LogBlock {
     /// The place where it begins.
     pub(crate) begin: usize,

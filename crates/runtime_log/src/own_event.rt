@@ -19,7 +19,7 @@ const SIZE_AT: usize = 1;
 const DELTA_AT: usize = 5;
 
 /// A kind of events that a program logs itself.
-#[derive(Clone, Copy, Debug, PartialEq, Eq)]
+#[derive(Clone, Copy)]
 pub enum OwnKind {
     /// By `__xray_customevent`.
     Custom,

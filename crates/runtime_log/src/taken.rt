@@ -13,7 +13,7 @@ use std::collections::BTreeSet;
 use xray_io::NoMemory;
 
 /// How many blocks were left out.
-#[derive(Clone, Copy, Debug, PartialEq, Eq)]
+#[derive(Clone, Copy)]
 pub(crate) struct LeftOut {
     /// Those whose bytes are those of a block before them.
     pub(crate) doubled: u64,

@@ -5,7 +5,7 @@ ghost use Rattle.runtime_log.specs.Versions.{log_version_of, trace_version};
 use fdr_file::Version;
 
 /// A version of logs that is read.
-#[derive(Clone, Copy, Debug, PartialEq, Eq)]
+#[derive(Clone, Copy)]
 pub enum LogVersion {
     /// Version 2. No record names a process.
     Two,
