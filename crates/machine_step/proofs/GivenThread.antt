@@ -1,21 +1,18 @@
 -- What giving a value to a traced thread leaves, in the words of the contract.
-use Rattle.std.proofs.Common.{◌≡◌, ◌==◌, ℕ, Bool, true, false, List, [], ◌∷◌, ◌++◌, Option, Some, None, refl, sym, ap, ◌∙◌, subst}
-use Rattle.std.specs.Prelude.{if◌then◌else◌, slice_get}
+use Rattle.std.proofs.Common.{◌≡◌, ℕ, Bool, List, [], ◌∷◌, ◌++◌, Option, Some, sym, ap, ◌∙◌, subst}
+use Rattle.std.specs.Prelude.{slice_get}
 use Rattle.fdr_record.specs.declared.event.Event.{Event}
 use Rattle.xray_image.specs.declared.sled.Sled.{Sled}
 use Rattle.xray_image.specs.Program.{Program}
-use Rattle.sled_words.specs.Parts.{patched_head}
 use Rattle.sled_words.specs.Allowed.{IsAllowed}
 use Rattle.handler_word.specs.declared.mark.Mark.{Mark}
-use Rattle.handler_word.specs.declared.mark.Mark.TheVariants as marks
-use Rattle.handler_word.specs.MarkList.{MarkList, is_recorded}
+use Rattle.handler_word.specs.MarkList.{MarkList}
 use Rattle.machine_step.specs.declared.cpu.Cpu.TheInside.{Inside}
 use Rattle.machine_step.specs.declared.end.End.{End}
 use Rattle.machine_step.specs.declared.machine.Machine.{Machine}
 use Rattle.machine_step.specs.declared.stage.Next.{Next}
 use Rattle.machine_step.specs.declared.stage.Next.TheVariants.{Loads, Ends}
 use Rattle.machine_step.specs.declared.stage.Stage.{Stage}
-use Rattle.machine_step.specs.declared.stage.Stage.TheVariants as stages
 use Rattle.machine_step.specs.declared.stand.Stand.{Stand}
 use Rattle.machine_step.specs.declared.stand.Stand.TheVariants.{Loading}
 use Rattle.machine_step.specs.Events.{event_of, events_in, recorded}

@@ -1,5 +1,5 @@
 -- A passing that a traced thread makes without loads.
-use Rattle.std.proofs.Common.{◌≡◌, ℕ, suc, ◌+◌, ◌*◌, ◌-◌, ◌<◌, ◌≤◌, List, [], ◌∷◌, ◌++◌, length, Some, sym, ap, subst, ◌∙◌, arith, length-append}
+use Rattle.std.proofs.Common.{◌≡◌, ℕ, ◌+◌, ◌*◌, ◌-◌, ◌<◌, ◌≤◌, List, [], ◌∷◌, ◌++◌, length, Some, sym, ap, subst, ◌∙◌, arith, length-append}
 use Rattle.std.specs.Prelude.{slice_get}
 use Rattle.handler_word.specs.declared.mark.Mark.{Mark}
 use Rattle.handler_word.specs.MarkList.{MarkList}
@@ -11,7 +11,7 @@ use Rattle.machine_step.specs.declared.stand.Stand.{Stand}
 use Rattle.machine_step.specs.declared.stand.Stand.TheVariants.{Gate, Loading, Ended}
 use Rattle.machine_step.specs.private.Inside.{traced, want_at, IsSound}
 use Rattle.machine_step.specs.PlainStep.{Passing, PlainRun, State}
-use Rattle.machine_step.specs.Traced.{IsLoad, Traced, loads_left, stage_count, steps_left}
+use Rattle.machine_step.specs.Traced.{IsLoad, loads_left, stage_count, steps_left}
 use Rattle.machine_step.proofs.ThreadAfterLoad.{IsBetween, passed_on}
 use Rattle.machine_step.proofs.OpenedPassing.{gate_at}
 use Rattle.machine_step.proofs.ThreadOnPlainRun.{before_of, found_after, goes_on_by}

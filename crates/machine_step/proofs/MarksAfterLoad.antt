@@ -9,7 +9,7 @@ use Rattle.machine_step.specs.declared.stage.Stage.{Stage}
 use Rattle.machine_step.specs.declared.stage.Stage.TheVariants as stages
 use Rattle.machine_step.specs.declared.stage.Next.{Next}
 use Rattle.machine_step.specs.declared.stage.Next.TheVariants.{Loads, Ends}
-use Rattle.machine_step.specs.Loads.{Load, Reading, Wants, Marked, from_start, from_release, from_head, from_id, from_opcode, from_offset, from_arg_handler, from_handler, from_handlers, from_state, is_held_at, marks_from, next_from, recording_from, sled_logs_args}
+use Rattle.machine_step.specs.Loads.{Load, Reading, Wants, Marked, from_start, from_release, from_head, from_id, from_opcode, from_offset, from_arg_handler, from_handler, from_state, is_held_at, marks_from, next_from, recording_from, sled_logs_args}
 use Rattle.machine_step.specs.private.Stages.{word_at, recording_at, stage_by, first_stage, handlers_by, after_load}
 
 -- ---- one passing

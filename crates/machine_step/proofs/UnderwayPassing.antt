@@ -1,5 +1,5 @@
 -- A passing whose loads are made before the thread is told of them.
-use Rattle.std.proofs.Common.{◌≡◌, ◌<◌, ◌++◌, ℕ, Bool, List, length, refl, sym, ap, ◌∙◌, subst, arith}
+use Rattle.std.proofs.Common.{◌≡◌, ◌<◌, ◌++◌, ℕ, Bool, List, length, refl, sym, ap, ◌∙◌, arith}
 use Rattle.xray_image.specs.Program.{Program}
 use Rattle.sled_words.specs.declared.part.Part.TheVariants.{Head}
 use Rattle.sled_words.specs.Words.{release_word, word_of}
@@ -11,14 +11,13 @@ use Rattle.machine_step.specs.declared.stage.Stage.TheVariants as stages
 use Rattle.machine_step.specs.declared.stand.Stand.{Stand}
 use Rattle.machine_step.specs.declared.stand.Stand.TheVariants.{Gate, Loading, Ended}
 use Rattle.machine_step.specs.declared.underway.Underway.{Underway}
-use Rattle.machine_step.specs.declared.want.Want.{Want}
 use Rattle.machine_step.specs.declared.want.Want.TheVariants as wants
 use Rattle.machine_step.specs.private.Inside.{traced, want_at, IsSound}
 use Rattle.machine_step.specs.private.Stages.{after_load, word_at}
 use Rattle.machine_step.specs.Loads.{Load, sled_logs_args}
 use Rattle.machine_step.specs.PlainStep.{Passing}
 use Rattle.machine_step.specs.Traced.{Allows, HasLoaded, IsKept, Traced, ending_mark, load_of, loads_left}
-use Rattle.machine_step.specs.Underway.{IsPassingOf, in_passing}
+use Rattle.machine_step.specs.Underway.{IsPassingOf, WantsHead, in_passing}
 use Rattle.machine_step.proofs.GivenThread.{clause_goes_on}
 use Rattle.machine_step.proofs.LoadedValues.{mark_in, mark_left, nearer_on}
 use Rattle.machine_step.proofs.MarksAfterLoad.{release_after}
@@ -119,3 +118,6 @@ passing_of a sound place u is head = record {
       ∙ ap (λ (s : Stage). wants.Load (word_at a.steps.now a.threads a.thread u.sled s)) head;
   free = λ held. let same : stages.Head ≡ stages.Release = sym head ∙ held in cc;
 }
+
+pub wants_head_of : (t : Traced) (u : Underway) → IsPassingOf t u → WantsHead t
+wants_head_of t u of = record { sled = u.sled; exists = of.exists; head = of.head }

@@ -1,5 +1,5 @@
 -- A passing whose loads are made before the thread is told of them.
-use Rattle.std.specs.Prelude.{◌≡◌, ◌<◌, length}
+use Rattle.std.specs.Prelude.{◌≡◌, ◌<◌, ℕ, length}
 use Rattle.sled_words.specs.declared.part.Part.TheVariants.{Head}
 use Rattle.sled_words.specs.Words.{word_of}
 use Rattle.machine_step.specs.declared.stage.Stage.TheVariants as stages
@@ -20,3 +20,9 @@ pub record IsPassingOf (t : Traced) (u : Underway) : Type 0 where
   pub exists : u.sled < length t.program.sleds
   pub head : t.want ≡ Loads (word_of u.sled Head)
   pub free : u.stage ≡ stages.Release → ⊥
+
+-- the thread wants the head of a sled
+pub record WantsHead (t : Traced) : Type 0 where
+  pub sled : ℕ
+  pub exists : sled < length t.program.sleds
+  pub head : t.want ≡ Loads (word_of sled Head)

@@ -1,7 +1,7 @@
 //! A traced thread.
 
 ghost use Rattle.std.specs.Prelude.{◌≡◌, ◌<◌, ◌≤◌, ◌↔◌, ◌∷◌, ◌++◌, ℕ, List, [], length, slice_get, slice_index, Some, Option, IsTrue, IsSome, IfOk, IfSome};
-ghost use Rattle.sled_words.specs.Words.{release_word, state_word};
+ghost use Rattle.sled_words.specs.Words.{state_word};
 ghost use Rattle.machine_step.specs.declared.end.End.{End};
 ghost use Rattle.machine_step.specs.{PlainStep.{Passing, PlainRun, State}, Loads.{Load}, Setups.{AreLimits}};
 ghost use Rattle.machine_step.specs.Events.{events_in, recorded};
@@ -56,8 +56,8 @@ impl<'a> Model for Cpu<'a> {
 }
 
 impl<'a> Cpu<'a> {
-    ghost use Rattle.machine_step.specs.Traced.{Allows, HasLoaded, IsDone, IsFresh, IsGate, IsKept, IsLoad, IsLoadable, IsSameThread, IsThreadOf, MarksAdded, StandsAs, ending_mark, load_of, loads_left};
-    ghost use Rattle.machine_step.specs.Underway.{IsPassingOf, in_passing};
+    ghost use Rattle.machine_step.specs.Traced.{Allows, HasLoaded, IsFresh, IsGate, IsKept, IsLoad, IsLoadable, IsSameThread, IsThreadOf, MarksAdded, StandsAs, ending_mark, load_of, loads_left};
+    ghost use Rattle.machine_step.specs.Underway.{IsPassingOf, WantsHead, in_passing};
 
     /// A thread before its first load. It has run to its first sled, or to its end if it comes to
     /// none. Threads count from 1. `hold` is the passing before which the script holds the thread.
@@ -192,10 +192,11 @@ impl<'a> Cpu<'a> {
         }
     }
 
-    /// The passing that the thread is in, if it wants the head of the sled. Its loads may be made before
-    /// the thread is told of them, by `word`, `after` and `come_to`.
+    /// The passing that the thread is in, exactly if it wants the head of a sled. Its loads may be made
+    /// before the thread is told of them, by `word`, `after` and `come_to`.
     #[inline(always)]
     pub fn underway(&self) -> Option<Underway>
+        ensures some { IsSome result ↔ WantsHead self.now }
         ensures of { IfSome result (IsPassingOf self.now) }
         ensures same { IfSome result (λ underway. in_passing self.now underway ≡ self.now) }
     {

@@ -1,6 +1,6 @@
 //! A thread between two steps, and what a step does to it.
 
-ghost use Rattle.std.specs.Prelude.{◌≡◌, ◌<◌, ◌+◌, ◌^◌, ◌==◌, ◌&&◌, false, [], IfOk, IsSome};
+ghost use Rattle.std.specs.Prelude.{◌≡◌, ◌<◌, ◌+◌, ◌^◌, ◌==◌, ◌&&◌, false, IfOk, IsSome};
 ghost use Rattle.machine_step.specs.private.Machine.{first_machine, IsWithin, loading, computing, pushing, popping, returning, putting, going, staying, leaving, passing, acting, stepping};
 ghost use Rattle.machine_step.specs.private.Steps.{sled_at, wants_fuel};
 

@@ -1,5 +1,5 @@
 //! One passing of a sled, load by load.
-ghost use Rattle.std.specs.Prelude.{◌≡◌, ◌≤◌, ◌<◌, ◌+◌, length};
+ghost use Rattle.std.specs.Prelude.{◌≡◌, ◌≤◌, ◌<◌, length};
 ghost use Rattle.machine_step.specs.Loads.{sled_logs_args};
 ghost use Rattle.machine_step.specs.private.Stages.{after_load, first_stage, handlers_by, word_at};
 

@@ -1,6 +1,5 @@
 //! The state text of a thread: its plain text, and the marks of its passings.
 
-ghost use Rattle.std.specs.Prelude.{◌≡◌};
 ghost use Rattle.machine_step.specs.Texts.{marks_line, plain_text, state_text};
 ghost use Rattle.machine_step.specs.{Traced.{IsDone, state_at}, EndedText.{ended_text, thread_text}};
 ghost use Rattle.xray_io.specs.Text.{AddsText};

@@ -1,6 +1,6 @@
 //! How a thread begins its next segment.
 
-ghost use Rattle.std.specs.Prelude.{◌≡◌, ◌≢◌, ◌<◌, ◌-◌, ◌^◌, [], ◌∷◌, length, true};
+ghost use Rattle.std.specs.Prelude.{◌≡◌, ◌<◌, ◌-◌, [], ◌∷◌, length, true};
 ghost use Rattle.fdr_record.specs.Recordable.{IsRecordable};
 ghost use Rattle.buffer_queue.specs.Passes.{IsOf};
 ghost use Rattle.traced_run.specs.Kept.{buffer_of, stamp_of};

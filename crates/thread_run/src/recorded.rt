@@ -1,6 +1,6 @@
 //! A run of threads beside a script, whatever records their events.
 
-ghost use Rattle.std.specs.Prelude.{◌≡◌, ◌≤◌, ◌+◌, ◌-◌, ◌++◌, [], ◌∷◌, All, List, IfOk, OnErr, OnOk, length, map, vec_capacity, vec_len};
+ghost use Rattle.std.specs.Prelude.{◌≡◌, ◌≤◌, ◌+◌, ◌-◌, [], All, IfOk, OnErr, OnOk, length, map};
 ghost use Rattle.machine_step.specs.Setups.{AreLimits};
 ghost use Rattle.sled_rule.specs.{Plans.{start_in}, Seats.{patch_view, script_of, work_view, IsPatcherOf, IsWorkerOf}};
 ghost use Rattle.thread_run.specs.Recorded.{HaveRecorded, IsAtStart};

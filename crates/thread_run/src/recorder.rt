@@ -1,6 +1,6 @@
 //! A recorder over the buffers of a pool.
 
-ghost use Rattle.std.specs.Prelude.{◌≡◌, ◌≤◌, ◌<◌, ◌-◌, ◌^◌, [], ◌∷◌, ◌++◌, List, IsTrue, length, true, false};
+ghost use Rattle.std.specs.Prelude.{◌≡◌, ◌<◌, ◌-◌, ◌^◌, [], ◌∷◌, ◌++◌, List, IsTrue, length, true, false};
 ghost use Rattle.fdr_record.specs.declared.event.Event.{Event};
 ghost use Rattle.fdr_record.specs.Recordable.{IsRecordable};
 ghost use Rattle.fdr_buffer.specs.Segments.{has_room};

@@ -1,6 +1,6 @@
 //! One traced thread of a run.
 
-ghost use Rattle.std.specs.Prelude.{◌≡◌, ◌<◌, ◌≤◌, ◌↔◌, ◌+◌, ◌-◌, ◌^◌, ℕ, [], List, Some, length, true, false, IfSome, IsSome, IsTrue};
+ghost use Rattle.std.specs.Prelude.{◌≡◌, ◌<◌, ◌≤◌, ◌↔◌, ◌+◌, ◌-◌, ◌^◌, ℕ, [], List, Some, length, false, IfSome, IsSome, IsTrue};
 ghost use Rattle.fdr_record.specs.declared.event.Event.{Event};
 ghost use Rattle.fdr_record.specs.Recordable.{IsRecordable};
 ghost use Rattle.sled_rule.specs.Seats.{patch_view, work_view, script_of, IsPatcherOf, IsWorkerOf};
@@ -156,7 +156,11 @@ impl<'s, 't, R: Recorder> Worker<'s, 't, R> {
     {
         match self.cpu.underway() {
             Some(underway) => self.take_all(underway),
-            None => self.take_one(word),
+            None => {
+                // Without a variable of its own, the event of each passing would go through memory.
+                let event = self.take_one(word);
+                event
+            }
         }
     }
 

@@ -1,7 +1,7 @@
-use Rattle.std.proofs.Common.{◌≡◌, ◌∙◌, ap, sym, ℕ, Some}
+use Rattle.std.proofs.Common.{◌∙◌, ap, sym, ℕ, Some}
 use Rattle.fdr_record.specs.declared.event.Event.{Event}
 use Rattle.fdr_record.specs.declared.event.Kind.TheVariants as events
-use Rattle.machine_step.specs.Events.{event_kind, event_of, stamped}
+use Rattle.machine_step.specs.Events.{event_of, stamped}
 use Rattle.machine_step.specs.private.Machine.{state_at}
 use Rattle.machine_step.specs.PlainStep.{passing_at}
 use Rattle.machine_step.proofs.stamp.event_at.Goals as goal

@@ -1,14 +1,13 @@
 use Rattle.std.proofs.Common.{◌≡◌, ◌<◌, ◌∷◌, ◌++◌, List, [], Some, length, sym, subst, arith}
 use Rattle.std.specs.Prelude.{slice_get}
-use Rattle.xray_image.specs.declared.sled.Sled.{Sled}
 use Rattle.xray_image.specs.Program.{Program}
 use Rattle.machine_step.specs.declared.end.End.{End}
 use Rattle.machine_step.specs.Events.{events_in, recorded}
-use Rattle.machine_step.specs.private.Inside.{traced, IsAtPassing}
+use Rattle.machine_step.specs.private.Inside.{traced}
 use Rattle.machine_step.specs.PlainStep.{Passing, PlainRun, State}
 use Rattle.machine_step.specs.Traced.{Traced, loads_left}
 use Rattle.machine_step.proofs.GivenThread.{between_of, clause_events, ending_of}
-use Rattle.machine_step.proofs.ThreadAfterLoad.{Ending, IsBetween, passed_on, sound_after}
+use Rattle.machine_step.proofs.ThreadAfterLoad.{passed_on, sound_after}
 use Rattle.machine_step.proofs.OpenedPassing.{gate_at, sled_within}
 use Rattle.machine_step.proofs.LoadlessPassing.{nearer_passed, wants_no_load}
 use Rattle.machine_step.proofs.ThreadOnPlainRun.{before_of}

@@ -4,13 +4,13 @@ use Rattle.patch_script.specs.Micros.{total_of}
 use Rattle.patch_script.specs.Refusals.{commands_of}
 use Rattle.sled_rule.specs.declared.views.WorkView.{WorkView}
 use Rattle.machine_step.specs.Events.{recorded}
-use Rattle.machine_step.specs.Traced.{Allows, IsLoadable}
+use Rattle.machine_step.specs.Traced.{Allows}
 use Rattle.machine_step.specs.declared.want.Want.{Want}
 use Rattle.sled_rule.specs.Seats.{work_view, script_of}
 use Rattle.traced_run.proofs.FitPassings.{run_ids}
 use Rattle.thread_run.specs.Following.{given}
 use Rattle.thread_run.proofs.RecordedEvents.{any_room, any_recordable, some_ends}
-use Rattle.thread_run.proofs.LoadAndSeat.{along_more, found_within, is_found, is_kept, not_kept, same_in, the_load, value_allowed, word_there}
+use Rattle.thread_run.proofs.LoadAndSeat.{along_more, found_within, is_found, same_in, value_allowed}
 use Rattle.thread_run.proofs.worker.Worker.give.Goals as goal
 
 pub give-event-requires : goal.give-event-requires

@@ -8,5 +8,5 @@ returns-in-Some-clause-taken g c =
 
 pub returns-in-None-clause-taken : goal.returns-in-None-clause-taken
 returns-in-None-clause-taken g c =
-    let said = c.take_one.ensures in
-    taken_one c.args.word c.args.self.now c.take_one.new.self said.taken said.same.thread c.requires.wants
+    let said = c.take_one-event.ensures in
+    taken_one c.args.word c.args.self.now c.take_one-event.new.self said.taken said.same.thread c.requires.wants
