@@ -18,6 +18,7 @@ pub mod ImportedRuns
 -- Inputs: in their turn, what comes of each, and of one that is refused (src/input.rt, src/inputs.rt)
 pub mod Turns
 pub mod CallOrder
+pub mod TakenInputs
 pub mod InputMeanings
 pub mod InputReaders
 pub mod Images

@@ -1,5 +1,5 @@
 -- `order`: the turns of its three inputs, and an audit that has no order.
-use Rattle.std.proofs.Common.{◌≡◌, ◌⊎◌, ◌∙◌, ℕ, List, Some, None, Result, Ok, Err, inl, inr, ap, refl, subst, sym, codes}
+use Rattle.std.proofs.Common.{◌≡◌, ◌⊎◌, ◌∙◌, ℕ, List, [], ◌∷◌, Some, None, Result, Ok, Err, inl, inr, ap, refl, subst, sym, codes}
 use Rattle.audit_check.specs.Statements.{Statement}
 use Rattle.command_words.specs.Words as words
 use Rattle.fault_words.specs.Words.{words_text}
@@ -11,22 +11,22 @@ use Rattle.run_order.specs.declared.fault.OrderFault.{OrderFault}
 use Rattle.run_order.specs.declared.fault.OrderFault.TheVariants as ordering
 use Rattle.step_sim.specs.declared.turns.Turns.{Turns}
 use Rattle.xray_image.specs.Program.{Program}
-use Rattle.xray_io.specs.Calls.{Call, Went}
+use Rattle.xray_io.specs.Calls.{Call, Composes, HoldsOfNone, Went}
 use Rattle.xray_io.specs.Desk.{Entry}
 use Rattle.xray_io.specs.World.{DeskView, SinkView}
 use Rattle.xray_program.specs.Accepted.{AcceptsInputs}
-use Rattle.xray_program.specs.Inputs.{WholeScript, audit_form, image_form, refused_for, whole_script_form}
+use Rattle.xray_program.specs.Inputs.{WholeScript, audit_form, audit_limit, image_form, image_limit, refused_for, script_limit, whole_script_form}
 use Rattle.xray_program.specs.LoadOrder.{OrderComes, Orders}
 use Rattle.xray_program.specs.Order.{IsNoCall}
 use Rattle.xray_program.specs.Outcomes.{Outcome, Refused}
-use Rattle.xray_program.specs.Taking.{DeskReads, IsAcceptedAs, Take}
+use Rattle.xray_program.specs.Taking.{DeskReads, Take}
 use Rattle.xray_program.specs.declared.load_order.LoadOrder.{LoadOrder}
 use Rattle.xray_program.specs.declared.order_inputs.OrderInputs.{OrderInputs}
 use Rattle.xray_program.specs.declared.stop.Stop.{Stop}
 use Rattle.xray_program.specs.declared.stop.Stop.TheVariants as stops
 use Rattle.xray_program.specs.private.Takes.{IsFaultStop}
 use Rattle.xray_program.specs.private.Works.{Finishes}
-use Rattle.xray_program.proofs.Turns.{Leads, leads, leads_on}
+use Rattle.xray_program.proofs.TakenInputs.{Gives, HasTaken, given_first, no_input, one_more, turn_of}
 
 -- its first inputs are accepted
 abbrev pub Accepts : (List ℕ → Entry) → LoadOrder → (count : ℕ) → Type 0
@@ -49,27 +49,34 @@ AfterImage held o reads program = Take audit_form reads held o.audit.now (AfterA
 abbrev pub comes_of : LoadOrder → OrderInputs → Outcome → Type 0
 comes_of o inputs = Orders o.audit.now o.free.now o.schedule.now inputs.image inputs.audit inputs.script
 
--- how far the inputs lead
-module _ (held : List ℕ → Entry) (o : LoadOrder) (program : Program) (image : IsAcceptedAs image_form (held o.image.now) program) where
-  pub to_audit : Leads (Comes held o) (λ reads. AfterImage held o reads program)
-  to_audit = leads_on image_form (Comes held o) held o.image.now (AfterImage held o) program (leads (Comes held o)) image
+-- what is known before the first input, and after each
+module _ {S : Type 0} {along : S → S → List Call → Type 0} (both : Composes along) (none : HoldsOfNone along) (desk : S → DeskView) (c : LoadOrder) (first : S) where
+  pub at_first : HasTaken along desk (Comes (desk first).held c) (Comes (desk first).held c) (Accepts (desk first).held c) [] first first
+  at_first = no_input desk none (Comes (desk first).held c) (Accepts (desk first).held c) tt first
 
-  module _ (statement : Statement) (audit : IsAcceptedAs audit_form (held o.audit.now) statement) where
-    pub to_script : Leads (Comes held o) (λ reads. AfterAudit held o program reads statement)
-    to_script = leads_on audit_form (Comes held o) held o.audit.now (AfterAudit held o program) statement to_audit audit
+  pub after_image : {now : S} (program : Program) → Gives along desk image_form c.image.now first now program
+      → HasTaken along desk (Comes (desk first).held c) (λ reads. AfterImage (desk first).held c reads program) (Accepts (desk first).held c)
+      ((c.image.now, image_limit) ∷ []) first now
+  after_image program image = one_more both image_form c.image.now (AfterImage (desk first).held c) program at_first image (λ given. (program, given, tt))
 
-    -- for a number of threads that is the audit's
-    pub to_script_for : (threads : ℕ) → threads ≡ statement.setup.threads
-        → Leads (Comes held o) (λ reads. Take (whole_script_form program threads) reads held o.script.now (AfterScript o program statement reads))
-    to_script_for threads same =
-        subst
-        (λ (n : ℕ). Leads (Comes held o) (λ reads. Take (whole_script_form program n) reads held o.script.now (AfterScript o program statement reads)))
-        (sym same) to_script
+  pub after_audit : {mid now : S} (program : Program) (statement : Statement) → Gives along desk image_form c.image.now first mid program
+      → Gives along desk audit_form c.audit.now mid now statement
+      → HasTaken along desk (Comes (desk first).held c) (λ reads. AfterAudit (desk first).held c program reads statement) (Accepts (desk first).held c)
+      ((c.image.now, image_limit) ∷ (c.audit.now, audit_limit) ∷ []) first now
+  after_audit program statement image audit =
+      one_more both audit_form c.audit.now (AfterAudit (desk first).held c program) statement (after_image program image) audit
+      (λ given. (program, image.taken, (statement, given, tt)))
 
--- what is accepted as a script for a number of threads is accepted for an equal number
-pub accepted_for : (program : Program) (n m : ℕ) (entry : Entry) (whole : WholeScript) → n ≡ m → IsAcceptedAs (whole_script_form program n) entry whole
-    → IsAcceptedAs (whole_script_form program m) entry whole
-accepted_for program n m entry whole same = subst (λ (k : ℕ). IsAcceptedAs (whole_script_form program k) entry whole) same
+  -- the script is read for a number of threads that is the audit's
+  pub after_script : {mid late now : S} (program : Program) (statement : Statement) (whole : WholeScript) {threads : ℕ} → threads ≡ statement.setup.threads
+      → Gives along desk image_form c.image.now first mid program → Gives along desk audit_form c.audit.now mid late statement
+      → Gives along desk (whole_script_form program threads) c.script.now late now whole
+      → HasTaken along desk (Comes (desk first).held c) (λ reads. AfterScript c program statement reads whole) (Accepts (desk first).held c)
+      ((c.image.now, image_limit) ∷ (c.audit.now, audit_limit) ∷ (c.script.now, script_limit) ∷ []) first now
+  after_script program statement whole same image audit script =
+      let stated = given_first audit_form c.audit.now statement (after_image program image) audit.taken in
+      one_more both (whole_script_form program statement.setup.threads) c.script.now (AfterScript c program statement) whole (after_audit program statement image audit)
+      (turn_of (whole_script_form program) c.script.now same script) (λ given. (program, image.taken, (statement, stated, (whole, given, tt))))
 
 -- what was answered, or memory ran out
 abbrev Answers : (Result (List Turns) OrderFault → Type 0) → Result (List Turns) OrderFault → Type 0

@@ -1,5 +1,5 @@
 -- `sim`: the turns of its three inputs, and a script that waits.
-use Rattle.std.proofs.Common.{◌≡◌, ℕ, List, Option, Some, None, Err, option_map, refl, subst, codes}
+use Rattle.std.proofs.Common.{◌≡◌, ℕ, List, [], ◌∷◌, Option, Some, None, Err, option_map, refl, codes}
 use Rattle.fault_words.specs.Words.{words_text}
 use Rattle.machine_step.specs.declared.setup.Setup.{Setup}
 use Rattle.patch_script.specs.Plans.{Plan, waiting_line}
@@ -8,24 +8,24 @@ use Rattle.step_sim.specs.declared.sim_fault.SimFault.{SimFault}
 use Rattle.step_sim.specs.declared.sim_fault.SimFault.TheVariants as replaying
 use Rattle.step_sim.specs.declared.turns.Turns.{Turns}
 use Rattle.xray_image.specs.Program.{Program}
-use Rattle.xray_io.specs.Calls.{Call, Went}
+use Rattle.xray_io.specs.Calls.{Call, Composes, HoldsOfNone, Went}
 use Rattle.xray_io.specs.Desk.{Entry}
 use Rattle.xray_io.specs.World.{DeskView, SinkView}
 use Rattle.command_words.specs.Words as words
 use Rattle.xray_program.specs.Accepted.{AcceptsInputs}
-use Rattle.xray_program.specs.Inputs.{image_form, script_form, schedule_form}
+use Rattle.xray_program.specs.Inputs.{image_form, image_limit, schedule_form, schedule_limit, script_form, script_limit}
 use Rattle.xray_program.specs.Order.{IsNoCall}
 use Rattle.xray_program.specs.Outcomes.{Outcome, Refused}
 use Rattle.xray_program.specs.Sim.{Replays, SimComes}
 use Rattle.xray_program.specs.private.Takes.{IsFaultStop}
 use Rattle.xray_program.specs.Setups.{setup_of}
-use Rattle.xray_program.specs.Taking.{DeskReads, Form, RefuseIf, Sound, Take, IsAcceptedAs}
+use Rattle.xray_program.specs.Taking.{DeskReads, RefuseIf, Sound, Take}
 use Rattle.xray_program.specs.private.Works.{Finishes}
 use Rattle.xray_program.specs.declared.sim.Sim.{Sim}
 use Rattle.xray_program.specs.declared.sim_inputs.SimInputs.{SimInputs}
 use Rattle.xray_program.specs.declared.stop.Stop.{Stop}
 use Rattle.xray_program.specs.declared.stop.Stop.TheVariants as stops
-use Rattle.xray_program.proofs.Turns.{Leads, leads, leads_on}
+use Rattle.xray_program.proofs.TakenInputs.{Gives, HasTaken, given_first, no_input, one_more}
 
 -- its first inputs are accepted
 abbrev pub Accepts : (List ℕ → Entry) → Sim → (count : ℕ) → Type 0
@@ -52,23 +52,33 @@ AfterImage held sim reads program =
 abbrev pub comes_of : Sim → SimInputs → Outcome → Type 0
 comes_of sim inputs = AfterSchedule sim inputs.image inputs.script Sound inputs.schedule
 
--- how far the inputs lead
-pub to_script : (held : List ℕ → Entry) (sim : Sim) (program : Program) → IsAcceptedAs image_form (held sim.image.now) program
-    → Leads (Comes held sim) (λ reads. AfterImage held sim reads program)
-to_script held sim program image =
-    leads_on image_form (Comes held sim) held sim.image.now (AfterImage held sim) program (leads (Comes held sim)) image
+-- what is known before the first input, and after each
+module _ {S : Type 0} {along : S → S → List Call → Type 0} (both : Composes along) (none : HoldsOfNone along) (desk : S → DeskView) (c : Sim) (first : S) where
+  pub at_first : HasTaken along desk (Comes (desk first).held c) (Comes (desk first).held c) (Accepts (desk first).held c) [] first first
+  at_first = no_input desk none (Comes (desk first).held c) (Accepts (desk first).held c) tt first
 
-pub to_schedule : (held : List ℕ → Entry) (sim : Sim) (program : Program) (plan : Plan) → IsAcceptedAs image_form (held sim.image.now) program
-    → IsAcceptedAs (script_form program sim.options.bounds.threads) (held sim.script.now) plan
-    → Leads (Comes held sim) (λ reads. AfterScript held sim program reads plan)
-to_schedule held sim program plan image script =
-    leads_on (script_form program sim.options.bounds.threads) (Comes held sim) held sim.script.now (AfterScript held sim program) plan
-    (to_script held sim program image) script
+  pub after_image : {now : S} (program : Program) → Gives along desk image_form c.image.now first now program
+      → HasTaken along desk (Comes (desk first).held c) (λ reads. AfterImage (desk first).held c reads program) (Accepts (desk first).held c)
+      ((c.image.now, image_limit) ∷ []) first now
+  after_image program image = one_more both image_form c.image.now (AfterImage (desk first).held c) program at_first image (λ given. (program, given, tt))
 
--- a value that a desk gave that holds what another held
-pub given_before : {X : Type 0} (form : Form X) (held mid : List ℕ → Entry) (name : List ℕ) (value : X) → mid ≡ held
-    → IsAcceptedAs form (mid name) value → IsAcceptedAs form (held name) value
-given_before form held mid name value same = subst (λ (h : List ℕ → Entry). IsAcceptedAs form (h name) value) same
+  pub after_script : {mid now : S} (program : Program) (plan : Plan) → Gives along desk image_form c.image.now first mid program
+      → Gives along desk (script_form program c.options.bounds.threads) c.script.now mid now plan
+      → HasTaken along desk (Comes (desk first).held c) (λ reads. AfterScript (desk first).held c program reads plan) (Accepts (desk first).held c)
+      ((c.image.now, image_limit) ∷ (c.script.now, script_limit) ∷ []) first now
+  after_script program plan image script =
+      one_more both (script_form program c.options.bounds.threads) c.script.now (AfterScript (desk first).held c program) plan (after_image program image) script
+      (λ given. (program, image.taken, (plan, given, tt)))
+
+  pub after_schedule : {mid late now : S} (program : Program) (plan : Plan) (turns : List Turns)
+      → Gives along desk image_form c.image.now first mid program → Gives along desk (script_form program c.options.bounds.threads) c.script.now mid late plan
+      → Gives along desk (schedule_form c.options.bounds.threads) c.schedule.now late now turns
+      → HasTaken along desk (Comes (desk first).held c) (λ reads. AfterSchedule c program plan reads turns) (Accepts (desk first).held c)
+      ((c.image.now, image_limit) ∷ (c.script.now, script_limit) ∷ (c.schedule.now, schedule_limit) ∷ []) first now
+  after_schedule program plan turns image script schedule =
+      let read = given_first (script_form program c.options.bounds.threads) c.script.now plan (after_image program image) script.taken in
+      one_more both (schedule_form c.options.bounds.threads) c.schedule.now (AfterSchedule c program plan) turns (after_script program plan image script) schedule
+      (λ given. (program, image.taken, (plan, read, (turns, given, tt))))
 
 -- a script that waits is refused, and if memory runs out nothing is written
 pub sim_refuses : (s t a : List ℕ) (setup : Setup) (program : Program) (plan : Plan) (turns : List Turns) (desk : DeskView) (out : SinkView)

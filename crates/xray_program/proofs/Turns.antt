@@ -118,7 +118,7 @@ pub handed_on : {X : Type 0} (comes : DeskReads → Outcome → Type 0) (yields 
 handed_on comes yields before after (Ok inputs) stop is stands = absurd is
 handed_on comes yields before after (Err s) stop is stands = rw is stands
 
--- so an input after these that was a stop, and the first one
+-- so an input after these that was a stop
 pub later_stop : {X Y : Type 0} (form : Form X) (comes : DeskReads → Outcome → Type 0) (yields : Y → Outcome → Type 0)
     (before mid after : DeskView) (name : List ℕ) (next : DeskReads → X → Outcome → Type 0) (result : Result Y Stop) (stop : Stop)
     → IsErrAnd result (λ s. s ≡ stop) → Leads comes (λ reads. Take form reads before.held name (next reads))
@@ -126,13 +126,6 @@ pub later_stop : {X Y : Type 0} (form : Form X) (comes : DeskReads → Outcome �
     → AreTaken comes yields before after result
 later_stop form comes yields before mid after name next result stop is leads same up taken =
     handed_on comes yields before after result stop is (stops_at form comes before mid after name next stop leads same up taken)
-
-pub first_stop : {X Y : Type 0} (form : Form X) (comes : DeskReads → Outcome → Type 0) (yields : Y → Outcome → Type 0) (before after : DeskView)
-    (name : List ℕ) (next : DeskReads → X → Outcome → Type 0) (result : Result Y Stop) (stop : Stop) → IsErrAnd result (λ s. s ≡ stop)
-    → Leads comes (λ reads. Take form reads before.held name (next reads)) → IsTaken form name before after (Err stop)
-    → AreTaken comes yields before after result
-first_stop form comes yields before after name next result stop is leads taken =
-    later_stop form comes yields before before after name next result stop is leads refl (le_refl _) taken
 
 -- an input whose value is what it reads as
 pub taken_as : {X : Type 0} (form : Form X) (name : List ℕ) (before after : DeskView) (result : Result X Stop)

@@ -13,7 +13,7 @@ use Rattle.xray_program.specs.Order.{FailsAtOutput, InOrder, IsNoCall, IsUnmade,
 use Rattle.xray_program.specs.Outcomes.{Outcome, BadLine, Unread, TooLong, Refused, Done, Fell, Ending, With, Unwritten, NoMemory, status_at, err_line_at, written_by}
 use Rattle.xray_program.specs.Outputs.{OutputsAreWhole, AreUntouched, FailsAt, FailsAtOut, FailsWriting, HoldsPrefix, WritesNothing}
 use Rattle.xray_program.specs.private.Stops.{IsUnsaid, answer_of, stop_line, stop_status, told_of}
-use Rattle.xray_program.specs.private.Takes.{IsStopAtInput, StopsTakings}
+use Rattle.xray_program.specs.private.Takes.{IsStopAtInput, StopsTakings, TakesAll}
 use Rattle.xray_program.specs.Accepted.{AcceptsInputs}
 use Rattle.xray_program.specs.Taking.{DeskReads, Sound, AllAccepted, ended_by}
 use Rattle.command_words.specs.Words.{Command, outputs_of}
@@ -254,6 +254,25 @@ ends_with_work along both first second third command yields desk mid desk_now ou
       order = went_on along both first second third (ReadsAll (inputs_of command)) IsNoCall (InOrder (Some command) desk desk_now NoMemory) read left.1
           (λ calls later p q. inr (inr (taken.are.0, read_only (inputs_of command) calls later p q)));
     }
+
+-- a command that took its inputs, or stopped at one of them
+pub ends_at_turns : {X : Type 0} (command : Command) (yields : X → Outcome → Type 0) (desk desk_now : DeskView) (out : SinkView) (Way : List Call → Type 0)
+    (result : Result (Unit {0}) Stop) (stop : Stop) → IsErrAnd result (λ s. s ≡ stop)
+    → (let turns : Result X Stop = Err stop in TakesAll (λ reads. Comes reads desk.held command) yields (AcceptsInputs desk.held command) (inputs_of command)
+    desk desk_now Way turns)
+    → Ends (Some command) desk desk_now out out Way (answer_of result) (told_of result)
+ends_at_turns command yields desk desk_now out Way result stop is turns =
+    ends_at_input command desk desk_now out Way result stop is turns.taken turns.held turns.calls
+
+pub ends_after_turns : {S X : Type 0} (along : S → S → List Call → Type 0) → Composes along → (desk : S → DeskView) (command : Command)
+    (yields : X → Outcome → Type 0) (inputs : X) (first second third : S) (out out_now : SinkView) (result : Result (Unit {0}) Stop)
+    → TakesAll (λ reads. Comes reads (desk first).held command) yields (AcceptsInputs (desk first).held command) (inputs_of command) (desk first) (desk second)
+    (along first second) (Ok inputs)
+    → Finishes (yields inputs) (desk second) (desk third) out out_now (along second third) result → KeepsOthers (outputs_of command) (desk second) (desk third)
+    → Ends (Some command) (desk first) (desk third) out out_now (along first third) (answer_of result) (told_of result)
+ends_after_turns along both desk command yields inputs first second third out out_now result turns done others =
+    ends_with_work along both first second third command (yields inputs) (desk first) (desk second) (desk third) out out_now result turns.taken turns.held
+    turns.calm turns.writes done others turns.calls
 
 -- words that say no command
 bad_line : (said : Option Command) (desk : DeskView) (out : SinkView) (Way : List Call → Type 0) → said ≡ None → Went Way IsNoCall

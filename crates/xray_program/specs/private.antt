@@ -5,6 +5,7 @@ pub mod OrderInputs
 pub mod Drawn
 pub mod Ends
 pub mod Logs
+pub mod Meanings
 pub mod Meant
 pub mod NamesTaken
 pub mod Profiled

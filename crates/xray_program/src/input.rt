@@ -1,8 +1,8 @@
 //! An input in its turn: it is read, measured and judged before the next one is opened.
 //! Here it is kept whole for that; `stream` has inputs that are taken piece by piece.
-ghost use Rattle.std.specs.Prelude.{◌≡◌, ◌≤◌, ℕ, List, Some, length, IfOk, IfErr, OnOk};
-ghost use Rattle.xray_io.specs.{Calls.{Went}, World.{desk_view}};
-ghost use Rattle.xray_program.specs.private.Takes.{IsFaultStop, IsReadStop, IsTaken, IsTaking};
+ghost use Rattle.std.specs.Prelude.{◌≡◌, ◌≤◌, ℕ, List, Some, length, IfOk, IfErr};
+ghost use Rattle.xray_io.specs.World.{desk_view};
+ghost use Rattle.xray_program.specs.private.Takes.{IsFaultStop, IsReadStop, TakesInput};
 ghost use Rattle.xray_program.specs.Taking.{Form, any_bytes};
 
 use crate::file_bytes::FileBytes;
@@ -50,14 +50,9 @@ pub(crate) fn take<'a, K: Kind, D: Desk>(
     name: &'a str,
     kind: &K,
 ) -> Result<K::Value, Stop<'a>>
-    ensures taken { let seen = desk_view D.held D.read_faults D.write_faults in
-        IsTaken (K.form kind.now) name.now (seen desk.old) (seen desk.new) result }
+    ensures turn { let seen = desk_view D.held D.read_faults D.write_faults in
+        TakesInput (K.form kind.now) name.now (seen desk.old) (seen desk.new) (D.along desk.old desk.new) result }
     ensures fits { IfOk result (K.fits kind.now) }
-    ensures held { D.held desk.new ≡ D.held desk.old }
-    ensures later { D.read_faults desk.old ≤ D.read_faults desk.new }
-    ensures writes { D.write_faults desk.new ≡ D.write_faults desk.old }
-    ensures calm { OnOk result (D.read_faults desk.new ≡ D.read_faults desk.old) }
-    ensures calls { Went (D.along desk.old desk.new) (IsTaking name.now (K.form kind.now).limit result) }
 {
     match read_whole(alloc, desk, name, kind.limit()) {
         Ok(bytes) => match kind.judge(alloc, &bytes) {
@@ -75,13 +70,8 @@ pub(crate) fn take_bytes<'a, D: Desk>(
     name: &'a str,
     limit: u64,
 ) -> Result<FileBytes, Stop<'a>>
-    ensures taken { let seen = desk_view D.held D.read_faults D.write_faults in (kind : List ℕ)
-        → IsTaken (any_bytes kind limit) name.now (seen desk.old) (seen desk.new) result }
-    ensures held { D.held desk.new ≡ D.held desk.old }
-    ensures later { D.read_faults desk.old ≤ D.read_faults desk.new }
-    ensures writes { D.write_faults desk.new ≡ D.write_faults desk.old }
-    ensures calm { OnOk result (D.read_faults desk.new ≡ D.read_faults desk.old) }
-    ensures calls { Went (D.along desk.old desk.new) (IsTaking name.now limit result) }
+    ensures { let seen = desk_view D.held D.read_faults D.write_faults in (kind : List ℕ)
+        → TakesInput (any_bytes kind limit) name.now (seen desk.old) (seen desk.new) (D.along desk.old desk.new) result }
 {
     match read_whole(alloc, desk, name, limit) {
         Ok(bytes) => Ok(FileBytes { bytes }),

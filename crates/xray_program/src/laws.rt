@@ -18,6 +18,7 @@ ghost use Rattle.xray_program.specs.{
   Setups.{setup_of},
 };
 ghost use Rattle.xray_program.specs.Outcomes.{Done, Outcome, status_of, written_by};
+ghost use Rattle.xray_program.specs.private.Meanings.{OneMeaning, RefusalIsAlone};
 ghost use Rattle.machine_step.specs.Setups.{IsSetup};
 ghost use Rattle.xray_program.specs.Traced.{IsReported};
 ghost use Rattle.command_words.specs.Ranges.{AreRunOptions};
@@ -50,13 +51,7 @@ pub fn one_meaning()
     ensures { (said : Option Command) (held : List ℕ → Entry) (one other : Outcome)
         → TellsAll held → IsDecided said → Means said held one → Means said held other → one ≡ other }
 {
-    one_verdict();
-    one_end();
-    one_run();
-    one_reading();
-    audit_check::one_verdict();
-    one_order_of_an_audit();
-    one_import();
+    meanings_are_unique();
 }
 
 /// If words mean an outcome that writes nothing, they mean nothing else, over a desk that reports
@@ -65,6 +60,13 @@ pub fn refusal_is_the_only_meaning()
     ensures { (said : Option Command) (held : List ℕ → Entry) (refusal other : Outcome)
         → TellsAll held → written_by refusal ≡ None → Means said held refusal → Means said held other
         → other ≡ refusal }
+{
+    meanings_are_unique();
+}
+
+/// A law: the two laws above.
+fn meanings_are_unique()
+    ensures { OneMeaning × RefusalIsAlone }
 {
     one_verdict();
     one_end();

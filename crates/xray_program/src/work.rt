@@ -1,10 +1,10 @@
 //! A command: which inputs it takes, and what it does with them.
-ghost use Rattle.std.specs.Prelude.{◌≡◌, ◌≤◌, ℕ, List, Some, IfOk, OnOk};
+ghost use Rattle.std.specs.Prelude.{ℕ, List, Some, IfOk};
 ghost use Rattle.command_words.specs.Words.{Command, outputs_of};
-ghost use Rattle.xray_io.specs.{Calls.{Went}, World.{desk_view, sink_view}};
+ghost use Rattle.xray_io.specs.World.{desk_view, sink_view};
 ghost use Rattle.xray_program.specs.{Accepted.{AcceptsInputs}, Commands.{Comes, inputs_of}, Outcomes.{Outcome}};
 ghost use Rattle.xray_program.specs.private.Stops.{answer_of, told_of};
-ghost use Rattle.xray_program.specs.private.Takes.{AreTaken, AreTakings};
+ghost use Rattle.xray_program.specs.private.Takes.{TakesAll};
 ghost use Rattle.xray_program.specs.private.Works.{Ends, Finishes, KeepsOthers};
 
 use crate::stop::Stop;
@@ -31,16 +31,11 @@ pub(crate) trait Work<'a> {
 
     /// Takes the inputs in their order (`inputs_of`). The first that fails decides.
     fn take<D: Desk>(&self, alloc: Global, desk: &mut D) -> Result<Self::Inputs, Stop<'a>>
-        ensures taken { let seen = desk_view D.held D.read_faults D.write_faults in
-            AreTaken (λ reads. Comes reads (D.held desk.old) (says self.now)) (yields self.now)
-            (seen desk.old) (seen desk.new) result }
-        ensures fits { IfOk result (fits self.now) }
-        ensures held { D.held desk.new ≡ D.held desk.old }
-        ensures later { D.read_faults desk.old ≤ D.read_faults desk.new }
-        ensures writes { D.write_faults desk.new ≡ D.write_faults desk.old }
-        ensures calm { OnOk result (D.read_faults desk.new ≡ D.read_faults desk.old) }
-        ensures calls { Went (D.along desk.old desk.new)
-            (AreTakings (AcceptsInputs (D.held desk.old) (says self.now)) (inputs_of (says self.now)) result) };
+        ensures turns { let seen = desk_view D.held D.read_faults D.write_faults in
+            TakesAll (λ reads. Comes reads (D.held desk.old) (says self.now)) (yields self.now)
+            (AcceptsInputs (D.held desk.old) (says self.now)) (inputs_of (says self.now))
+            (seen desk.old) (seen desk.new) (D.along desk.old desk.new) result }
+        ensures fits { IfOk result (fits self.now) };
 
     /// Does the work over the inputs, and writes what comes of them.
     fn finish<D: Desk, O: Sink>(

@@ -1,6 +1,6 @@
 -- How the turns of inputs end: with values, or with a stop.
-use Rattle.std.specs.Prelude.{◌≡◌, ◌⊎◌, ◌<◌, ◌≤◌, ◌+◌, ℕ, List, [], length, Option, Some, None, Result, Ok, Err, ⊤}
-use Rattle.xray_io.specs.Calls.{Call}
+use Rattle.std.specs.Prelude.{◌≡◌, ◌⊎◌, ◌<◌, ◌≤◌, ◌+◌, ℕ, List, [], length, Option, Some, None, OnOk, Result, Ok, Err, ⊤}
+use Rattle.xray_io.specs.Calls.{Call, Went}
 use Rattle.xray_io.specs.Desk.{Entry, Absent}
 use Rattle.xray_io.specs.Reads.{Reads, ReadsSome, ReadsUpToFault}
 use Rattle.xray_io.specs.Faults.{Rose}
@@ -109,3 +109,27 @@ StopsTakings Accepts inputs stop calls =
 abbrev pub AreTakings : {X : Type 0} → (Accepts : (count : ℕ) → Type 0) → List (List ℕ × ℕ) → Result X Stop → List Call → Type 0
 AreTakings Accepts inputs (Ok value) calls = Accepts (length inputs) × ReadsAll inputs calls
 AreTakings Accepts inputs (Err stop) calls = StopsTakings Accepts inputs stop calls
+
+-- ---- all that the turns of inputs do
+
+-- The turns ended in this way, and these were their calls. The desk holds what it held. Only faults of reading were added,
+-- and none if the turns gave a value.
+pub record TakesInputs {X : Type 0} (Taken : Type 0) (Calls : List Call → Type 0) (before after : DeskView) (Way : List Call → Type 0)
+    (result : Result X Stop) : Type 0 where
+  pub taken : Taken
+  pub calls : Went Way Calls
+  pub held : after.held ≡ before.held
+  pub later : before.read_faults ≤ after.read_faults
+  pub writes : after.write_faults ≡ before.write_faults
+  pub calm : OnOk result (after.read_faults ≡ before.read_faults)
+
+-- so an input of this name and this form
+abbrev pub TakesInput : {X : Type 0} → Form X → List ℕ → (before after : DeskView) → (Way : List Call → Type 0) → Result X Stop → Type 0
+TakesInput form name before after Way result =
+    TakesInputs (IsTaken form name before after result) (IsTaking name form.limit result) before after Way result
+
+-- so all inputs of a command, of which this comes
+abbrev pub TakesAll : {X : Type 0} → (comes : DeskReads → Outcome → Type 0) → (yields : X → Outcome → Type 0) → (Accepts : (count : ℕ) → Type 0)
+    → List (List ℕ × ℕ) → (before after : DeskView) → (Way : List Call → Type 0) → Result X Stop → Type 0
+TakesAll comes yields Accepts inputs before after Way result =
+    TakesInputs (AreTaken comes yields before after result) (AreTakings Accepts inputs result) before after Way result

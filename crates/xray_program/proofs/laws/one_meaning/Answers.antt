@@ -1,17 +1,4 @@
-use Rattle.xray_program.proofs.CommandLaws.{one_means}
 use Rattle.xray_program.proofs.laws.one_meaning.Goals as goal
 
 pub returns : goal.returns
-returns c said held one other told decided a b =
-    one_means
-    (record {
-      verdict = c.one_verdict.ensures.one;
-      accepts = c.one_verdict.ensures.accepted;
-      end = c.one_end.ensures;
-      run = c.one_run.ensures;
-      audit = c.one_reading.ensures;
-      judged = c.one_verdict-2.ensures;
-      orders = c.one_order_of_an_audit.ensures.one;
-      imports = c.one_import.ensures;
-    })
-    said held one other told decided a b
+returns c = c.meanings_are_unique.ensures.0

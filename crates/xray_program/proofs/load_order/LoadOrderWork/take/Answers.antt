@@ -1,120 +1,45 @@
-use Rattle.std.proofs.Common.{[], ◌∷◌, refl, ◌∙◌, arith}
+use Rattle.std.proofs.Common.{[], ◌∷◌, refl}
 use Rattle.xray_io.specs.World.{desk_view}
-use Rattle.xray_program.specs.Inputs.{audit_form, audit_limit, image_form, image_limit, script_limit, whole_script_form}
-use Rattle.xray_program.proofs.OrderTurns.{Accepts, AfterAudit, AfterImage, AfterScript, Comes, accepted_for, comes_of, to_audit, to_script, to_script_for}
-use Rattle.xray_program.proofs.CallOrder.{all_taken, first_handed, read_first, read_on, stop_handed}
-use Rattle.xray_program.proofs.SimTurns.{given_before}
-use Rattle.xray_program.proofs.Turns.{first_stop, later_stop, leads, leads_on}
+use Rattle.xray_program.specs.Inputs.{audit_form, audit_limit, image_form, script_limit, whole_script_form}
+use Rattle.xray_program.proofs.OrderTurns.{AfterAudit, AfterImage, AfterScript, after_audit, after_image, after_script, at_first, comes_of}
+use Rattle.xray_program.proofs.TakenInputs.{all_given, one_stopped, turn_of}
 use Rattle.xray_program.proofs.load_order.LoadOrderWork.take.Goals as goal
 
--- ---- what was taken
-
-pub returns-in_err-image-clause-taken : goal.returns-in_err-image-clause-taken
-returns-in_err-image-clause-taken g c =
-    let seen = desk_view g.D.Desk.held g.D.Desk.read_faults g.D.Desk.write_faults in
+pub returns-in_err-image-clause-turns : goal.returns-in_err-image-clause-turns
+returns-in_err-image-clause-turns g c =
+    let desk = desk_view g.D.Desk.held g.D.Desk.read_faults g.D.Desk.write_faults in
     let s = c.args.self.now in
-    let comes = Comes (g.D.Desk.held c.args.desk.now) s in
-    first_stop image_form comes (comes_of s) (seen c.args.desk.now) (seen c.take.new.desk) s.image.now
-    (AfterImage (g.D.Desk.held c.args.desk.now) s) c.from_residual.result _ c.from_residual.ensures.1 (leads comes) c.in_err-image.ensures.taken
+    one_stopped g.met.D.Desk.along_both image_form s.image.now (AfterImage (g.D.Desk.held c.args.desk.now) s) (comes_of s) _
+    ((s.audit.now, audit_limit) ∷ (s.script.now, script_limit) ∷ []) c.from_residual.result _ c.from_residual.ensures.1
+    (at_first g.met.D.Desk.along_both g.met.D.Desk.along_none desk s c.args.desk.now) refl c.in_err-image.ensures.turn
 
-pub returns-in_err-audit-clause-taken : goal.returns-in_err-audit-clause-taken
-returns-in_err-audit-clause-taken g c =
-    let seen = desk_view g.D.Desk.held g.D.Desk.read_faults g.D.Desk.write_faults in
+pub returns-in_err-audit-clause-turns : goal.returns-in_err-audit-clause-turns
+returns-in_err-audit-clause-turns g c =
+    let desk = desk_view g.D.Desk.held g.D.Desk.read_faults g.D.Desk.write_faults in
     let s = c.args.self.now in
-    let held = g.D.Desk.held c.args.desk.now in
-    later_stop audit_form (Comes held s) (comes_of s) (seen c.args.desk.now) (seen c.take.new.desk) (seen c.take-2.new.desk) s.audit.now
-    (AfterAudit held s c.in_ok-image.image) c.from_residual-in_err-audit.result _ c.from_residual-in_err-audit.ensures.1
-    (to_audit held s c.in_ok-image.image c.in_ok-image.ensures.taken) c.take.ensures.held c.take.ensures.later c.in_err-audit.ensures.taken
+    let program = c.in_ok-image.image in
+    one_stopped g.met.D.Desk.along_both audit_form s.audit.now (AfterAudit (g.D.Desk.held c.args.desk.now) s program) (comes_of s) _
+    ((s.script.now, script_limit) ∷ []) c.from_residual-in_err-audit.result _ c.from_residual-in_err-audit.ensures.1
+    (after_image g.met.D.Desk.along_both g.met.D.Desk.along_none desk s c.args.desk.now program c.in_ok-image.ensures.turn) refl c.in_err-audit.ensures.turn
 
-pub returns-in_err-script-clause-taken : goal.returns-in_err-script-clause-taken
-returns-in_err-script-clause-taken g c =
-    let seen = desk_view g.D.Desk.held g.D.Desk.read_faults g.D.Desk.write_faults in
+pub returns-in_err-script-clause-turns : goal.returns-in_err-script-clause-turns
+returns-in_err-script-clause-turns g c =
+    let desk = desk_view g.D.Desk.held g.D.Desk.read_faults g.D.Desk.write_faults in
     let s = c.args.self.now in
-    let held = g.D.Desk.held c.args.desk.now in
     let program = c.in_ok-image.image in
     let statement = c.in_ok-audit.audit in
-    let audit = given_before audit_form held (g.D.Desk.held c.take.new.desk) s.audit.now statement c.take.ensures.held c.in_ok-audit.ensures.taken in
-    let threads = c.threads-threads.result in
-    later_stop (whole_script_form program threads) (Comes held s) (comes_of s) (seen c.args.desk.now) (seen c.take-2.new.desk)
-    (seen c.take-3.new.desk) s.script.now (AfterScript s program statement) c.from_residual-in_err-script.result _
-    c.from_residual-in_err-script.ensures.1
-    (to_script_for held s program c.in_ok-image.ensures.taken statement audit threads c.threads-threads.ensures)
-    (c.take-2.ensures.held ∙ c.take.ensures.held) (omega (arith, c.take.ensures.later, c.take-2.ensures.later)) c.in_err-script.ensures.taken
+    one_stopped g.met.D.Desk.along_both (whole_script_form program statement.setup.threads) s.script.now (AfterScript s program statement) (comes_of s) _ []
+    c.from_residual-in_err-script.result _ c.from_residual-in_err-script.ensures.1
+    (after_audit g.met.D.Desk.along_both g.met.D.Desk.along_none desk s c.args.desk.now program statement
+    c.in_ok-image.ensures.turn c.in_ok-audit.ensures.turn) refl (turn_of (whole_script_form program) s.script.now c.threads-threads.ensures c.in_err-script.ensures.turn)
 
-pub returns-clause-taken : goal.returns-clause-taken
-returns-clause-taken g c = λ reads outcome yields.
+pub returns-clause-turns : goal.returns-clause-turns
+returns-clause-turns g c =
+    let desk = desk_view g.D.Desk.held g.D.Desk.read_faults g.D.Desk.write_faults in
     let s = c.args.self.now in
-    let held = g.D.Desk.held c.args.desk.now in
     let program = c.in_ok-image.image in
     let statement = c.in_ok-audit.audit in
     let whole = c.in_ok-script.script in
-    let audit = given_before audit_form held (g.D.Desk.held c.take.new.desk) s.audit.now statement c.take.ensures.held c.in_ok-audit.ensures.taken in
-    leads_on (whole_script_form program statement.setup.threads) (Comes held s) held s.script.now (AfterScript s program statement) whole
-    (to_script held s program c.in_ok-image.ensures.taken statement audit)
-    (given_before (whole_script_form program statement.setup.threads) held (g.D.Desk.held c.take-2.new.desk) s.script.now whole
-    (c.take-2.ensures.held ∙ c.take.ensures.held)
-    (accepted_for program c.threads-threads.result statement.setup.threads (g.D.Desk.held c.take-2.new.desk s.script.now) whole c.threads-threads.ensures
-    c.in_ok-script.ensures.taken)) reads outcome yields
-
--- ---- the calls
-
-pub returns-in_err-image-clause-calls : goal.returns-in_err-image-clause-calls
-returns-in_err-image-clause-calls g c =
-    let seen = desk_view g.D.Desk.held g.D.Desk.read_faults g.D.Desk.write_faults in
-    let s = c.args.self.now in
-    first_handed g.D.Desk.along g.met.D.Desk.along_both g.met.D.Desk.along_none c.args.desk.now c.take.new.desk image_form (seen c.args.desk.now)
-    (seen c.take.new.desk) _ ((s.audit.now, audit_limit) ∷ (s.script.now, script_limit) ∷ []) s.image.now
-    c.from_residual.result _ (Accepts (g.D.Desk.held c.args.desk.now) s) tt c.from_residual.ensures.1 refl c.in_err-image.ensures.taken
-    c.in_err-image.ensures.calls
-
-pub returns-in_err-audit-clause-calls : goal.returns-in_err-audit-clause-calls
-returns-in_err-audit-clause-calls g c =
-    let seen = desk_view g.D.Desk.held g.D.Desk.read_faults g.D.Desk.write_faults in
-    let s = c.args.self.now in
-    let held = g.D.Desk.held c.args.desk.now in
-    stop_handed g.D.Desk.along g.met.D.Desk.along_both c.args.desk.now c.take.new.desk c.take-2.new.desk audit_form (seen c.take.new.desk)
-    (seen c.take-2.new.desk) _ ((s.image.now, image_limit) ∷ []) ((s.script.now, script_limit) ∷ []) s.audit.now
-    c.from_residual-in_err-audit.result _ (Accepts held s) (c.in_ok-image.image, c.in_ok-image.ensures.taken, tt)
-    c.from_residual-in_err-audit.ensures.1 refl c.in_err-audit.ensures.taken
-    (read_first g.D.Desk.along g.met.D.Desk.along_both g.met.D.Desk.along_none c.args.desk.now c.take.new.desk s.image.now image_limit
-    c.in_ok-image.ensures.calls) c.in_err-audit.ensures.calls
-
-pub returns-in_err-script-clause-calls : goal.returns-in_err-script-clause-calls
-returns-in_err-script-clause-calls g c =
-    let seen = desk_view g.D.Desk.held g.D.Desk.read_faults g.D.Desk.write_faults in
-    let along = g.D.Desk.along in
-    let both = g.met.D.Desk.along_both in
-    let s = c.args.self.now in
-    let held = g.D.Desk.held c.args.desk.now in
-    let program = c.in_ok-image.image in
-    let statement = c.in_ok-audit.audit in
-    let audit = given_before audit_form held (g.D.Desk.held c.take.new.desk) s.audit.now statement c.take.ensures.held c.in_ok-audit.ensures.taken in
-    let first = (s.image.now, image_limit) ∷ [] in
-    stop_handed along both c.args.desk.now c.take-2.new.desk c.take-3.new.desk (whole_script_form program c.threads-threads.result)
-    (seen c.take-2.new.desk) (seen c.take-3.new.desk) _ ((s.image.now, image_limit) ∷ (s.audit.now, audit_limit) ∷ []) []
-    s.script.now c.from_residual-in_err-script.result _ (Accepts held s) (program, c.in_ok-image.ensures.taken, (statement, audit, tt))
-    c.from_residual-in_err-script.ensures.1 refl c.in_err-script.ensures.taken
-    (read_on along both c.args.desk.now c.take.new.desk c.take-2.new.desk first s.audit.now audit_limit
-    (read_first along both g.met.D.Desk.along_none c.args.desk.now c.take.new.desk s.image.now image_limit c.in_ok-image.ensures.calls)
-    c.in_ok-audit.ensures.calls) c.in_err-script.ensures.calls
-
-pub returns-clause-calls : goal.returns-clause-calls
-returns-clause-calls g c =
-    let along = g.D.Desk.along in
-    let both = g.met.D.Desk.along_both in
-    let s = c.args.self.now in
-    let held = g.D.Desk.held c.args.desk.now in
-    let program = c.in_ok-image.image in
-    let statement = c.in_ok-audit.audit in
-    let whole = c.in_ok-script.script in
-    let audit = given_before audit_form held (g.D.Desk.held c.take.new.desk) s.audit.now statement c.take.ensures.held c.in_ok-audit.ensures.taken in
-    let script = given_before (whole_script_form program statement.setup.threads) held (g.D.Desk.held c.take-2.new.desk) s.script.now whole
-    (c.take-2.ensures.held ∙ c.take.ensures.held)
-    (accepted_for program c.threads-threads.result statement.setup.threads (g.D.Desk.held c.take-2.new.desk s.script.now) whole c.threads-threads.ensures
-    c.in_ok-script.ensures.taken) in
-    let one = read_first along both g.met.D.Desk.along_none c.args.desk.now c.take.new.desk s.image.now image_limit c.in_ok-image.ensures.calls in
-    let two = read_on along both c.args.desk.now c.take.new.desk c.take-2.new.desk ((s.image.now, image_limit) ∷ []) s.audit.now audit_limit one
-    c.in_ok-audit.ensures.calls in
-    all_taken {Accepted = Accepts held s 3} (program, c.in_ok-image.ensures.taken, (statement, audit, (whole, script, tt)))
-    (read_on along both c.args.desk.now c.take-2.new.desk c.take-3.new.desk ((s.image.now, image_limit) ∷ (s.audit.now, audit_limit) ∷ [])
-    s.script.now script_limit two c.in_ok-script.ensures.calls)
+    all_given (comes_of s) (record { image = program; audit = statement; script = whole })
+    (after_script g.met.D.Desk.along_both g.met.D.Desk.along_none desk s c.args.desk.now program statement whole c.threads-threads.ensures
+    c.in_ok-image.ensures.turn c.in_ok-audit.ensures.turn c.in_ok-script.ensures.turn) (λ _ _ yields. yields)

@@ -4,14 +4,13 @@ use Rattle.xray_program.specs.Stack.{StacksCome}
 use Rattle.xray_program.specs.Inputs.{trace_form}
 use Rattle.xray_program.specs.private.Meant.{StacksMean}
 use Rattle.xray_program.proofs.Reports.{report_taken}
+use Rattle.xray_program.proofs.TakenInputs.{turns_as}
 use Rattle.xray_program.proofs.stack.StackWork.take.Goals as goal
 
-pub returns-clause-taken : goal.returns-clause-taken
-returns-clause-taken g c =
+pub returns-clause-turns : goal.returns-clause-turns
+returns-clause-turns g c =
     let seen = desk_view g.D.Desk.held g.D.Desk.read_faults g.D.Desk.write_faults in
     let s = c.args.self.now in
-    report_taken trace_form StacksMean s.trace.now (source_view s.names) (λ t names. StacksCome s.trace.now s.format t names)
-    (seen c.args.desk.now) (seen c.take_report.new.desk) c.take_report.result c.take_report.ensures.taken
-
-pub returns-clause-calls : goal.returns-clause-calls
-returns-clause-calls g c = c.take_report.ensures.calls
+    turns_as c.take_report.ensures
+    (report_taken trace_form StacksMean s.trace.now (source_view s.names) (λ t names. StacksCome s.trace.now s.format t names) (seen c.args.desk.now)
+    (seen c.take_report.new.desk) c.take_report.result)
