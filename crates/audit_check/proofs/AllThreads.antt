@@ -1,9 +1,9 @@
 -- The verdict on all threads.
 use Rattle.std.proofs.Common.{◌≡◌, ℕ, ◌+◌, ◌-◌, ◌<◌, ◌≤◌, Bool, List, [], ◌∷◌, length, map, Some, refl, sym, ap, subst, ◌∙◌, arith, inl, inr}
-use Rattle.std.specs.Prelude.{◌↔◌, IsTrue, option_map, slice_get, sum_by}
+use Rattle.std.specs.Prelude.{◌↔◌, IsTrue, get_or, option_map, slice_get, sum_by}
 use Rattle.std.proofs.lemmas.List.{length-map}
 use Rattle.std.proofs.lemmas.List.Sums.{sum_by-cons}
-use Rattle.std.proofs.lemmas.Option.{slice_get-map, slice_get_cases, slice_get_within}
+use Rattle.std.proofs.lemmas.Option.{slice_get-map, slice_get_cases, slice_get_read, slice_get_within}
 use Rattle.xray_image.specs.Program.{Program}
 use Rattle.patch_script.specs.declared.command.Command.{Command}
 use Rattle.machine_step.specs.PlainStep.{PlainRun}
@@ -36,6 +36,18 @@ module _ (audit : Audit) (names : NamesThreads (statement_of audit)) (i : ℕ) (
   entry_within =
       let low = slice_get_within (statement_of audit).threads i (said_by entry) said_at in
       let count = names.count in omega (arith, low, count)
+
+  pub entry_named : (1 ≤ entry.thread) × (entry.thread ≤ audit.setup.threads)
+  entry_named =
+      let number = entry_number in
+      let within = entry_within in
+      (omega (arith, number), omega (arith, number, within))
+
+-- an entry that was read from all of them
+pub entry_here : (audit : Audit) (entries : List AuditEntry) (i : ℕ) (entry : AuditEntry) → entries ≡ audit.entries.items → i < length entries
+    → entry ≡ get_or entries i entry → slice_get audit.entries.items i ≡ Some entry
+entry_here audit entries i entry all within is =
+    sym (ap (λ (es : List AuditEntry). slice_get es i) all) ∙ slice_get_read entries (length entries) i entry refl within is
 
 -- as many entries as threads
 pub entry_count : (audit : Audit) → NamesThreads (statement_of audit) → length audit.entries.items ≡ audit.setup.threads

@@ -1,7 +1,7 @@
 -- A trace that is compared with bytes.
-use Rattle.std.proofs.Common.{◌≡◌, ◌≢◌, ℕ, Bool, true, false, List, [], ◌++◌, length, Some, refl, sym, ap, subst, ◌∙◌, append-nil, append_assoc}
-use Rattle.std.specs.Prelude.{◌&&◌, ◌↔◌, IsTrue}
-use Rattle.std.proofs.lemmas.List.{append_cancel_left}
+use Rattle.std.proofs.Common.{◌≡◌, ◌≢◌, ℕ, Bool, true, false, List, [], ◌++◌, length, Some, refl, sym, ap, subst, ◌∙◌, append-nil, append_assoc, eq-eqb, eqb-true}
+use Rattle.std.specs.Prelude.{◌==◌, ◌&&◌, ◌↔◌, IsTrue}
+use Rattle.std.proofs.lemmas.List.{append_cancel_left, nil_from_length}
 use Rattle.std.proofs.lemmas.Option.{same_Some}
 use Rattle.xray_io.specs.Sink.{Adds}
 use Rattle.fdr_record.specs.declared.rec.Rec.TheVariants.{Extents}
@@ -54,6 +54,13 @@ pub block_is : (buffer : Filled) (extents bytes : List ℕ) (size : ℕ) → byt
 block_is buffer extents bytes size are count is =
     ap (λ (l : List ℕ). l ++ bytes) (is ∙ ap (λ n. record_bytes (Extents n)) (count ∙ ap length are))
     ∙ ap (λ (l : List ℕ). record_bytes (Extents (length (used_bytes buffer))) ++ l) are
+
+-- no bytes are left
+pub none_left : (bytes : List ℕ) (empty : Bool) → empty ≡ (length bytes == 0) → IsTrue empty ↔ (bytes ≡ [])
+none_left bytes empty is = (
+  (λ done. nil_from_length bytes (eqb-true (length bytes) 0 (sym is ∙ done))),
+  (λ none. is ∙ eq-eqb (length bytes) 0 (ap length none)),
+)
 
 -- it is all of the bytes
 pub is_all : (trace bytes : List ℕ) (t : TraceLeft) (empty : Bool) → IsTrue empty ↔ (t.left.now ≡ []) → HasCompared trace bytes t

@@ -30,6 +30,15 @@ places_both stops last stop same =
     ∙ ap (λ (ps : List ℕ). replicate last.loads last.place ++ ps) (sym (append-nil (replicate stop.loads stop.place))))
     ∙ sym (places-append stops (last ∷ stop ∷ []))
 
+-- loads at a last place, and more of them
+pub more_at_last : (earlier : List Stop) (last stop : Stop) → last.place ≡ stop.place
+    → places_of earlier ++ replicate (last.loads + stop.loads) last.place
+    ≡ (places_of earlier ++ replicate last.loads last.place) ++ replicate stop.loads stop.place
+more_at_last earlier last stop same =
+    ap (λ (ps : List ℕ). places_of earlier ++ ps) (replicate_add last.loads stop.loads last.place)
+    ∙ sym (append_assoc (places_of earlier) (replicate last.loads last.place) (replicate stop.loads last.place))
+    ∙ ap (λ place. (places_of earlier ++ replicate last.loads last.place) ++ replicate stop.loads place) same
+
 -- a last stop, and loads after it
 pub places_after : (old rest : List Stop) (last stop : Stop) → old ≡ rest ++ last ∷ []
     → places_of (rest ++ last ∷ stop ∷ []) ≡ places_of old ++ replicate stop.loads stop.place

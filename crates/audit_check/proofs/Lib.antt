@@ -21,6 +21,7 @@ pub mod SwitchesAfterStore
 pub mod NotedStores
 pub mod ScriptSwitches
 pub mod ScriptCourse
+pub mod OwnScript
 -- Ways: marks follow a script exactly when there is a way through its places
 pub mod WayParts
 pub mod TreeLoads

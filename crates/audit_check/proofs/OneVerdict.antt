@@ -18,14 +18,14 @@ use Rattle.audit_check.specs.Verdicts.{AllAgree, FirstToDiffer, IsJudged, IsVerd
 -- ---- one thread
 
 module _ (threads : ℕ) (Row : ℕ → Type 0) where
-  first_same : (t u : ℕ) → FirstToDiffer threads Row t → FirstToDiffer threads Row u → t ≡ u
+  pub first_same : (t u : ℕ) → FirstToDiffer threads Row t → FirstToDiffer threads Row u → t ≡ u
   first_same t u a b = elim (cases_order t u) [
     | inl same ↦ same
     | inr (inl less) ↦ absurd (a.differs (b.earlier t a.some less))
     | inr (inr more) ↦ absurd (b.differs (a.earlier u b.some more))
   ]
 
-  not_first : (t : ℕ) → AllAgree threads Row → FirstToDiffer threads Row t → ⊥
+  pub not_first : (t : ℕ) → AllAgree threads Row → FirstToDiffer threads Row t → ⊥
   not_first t all first = first.differs (all t first.some first.within)
 
 -- ---- one verdict on some runs

@@ -9,7 +9,7 @@ use Rattle.patch_script.specs.declared.command.Command.{Command}
 use Rattle.patch_script.specs.CodeAt.{code_at}
 use Rattle.patch_script.specs.Micros.{start_of}
 use Rattle.machine_step.specs.declared.end.End.{End}
-use Rattle.machine_step.specs.PlainStep.{Passing}
+use Rattle.machine_step.specs.PlainStep.{Passing, PlainRun, State}
 use Rattle.machine_step.specs.Traced.{Traced, sleds_passed}
 use Rattle.traced_run.specs.Runs.{ThreadRun}
 use Rattle.trace_flush.specs.Audit.{ThreadAudit}
@@ -18,10 +18,9 @@ use Rattle.audit_check.specs.declared.judging.FirstThreads.{FirstThreads}
 use Rattle.audit_check.specs.declared.placing.PlaceFault.{PlaceFault}
 use Rattle.audit_check.specs.declared.placing.PlaceFault.TheVariants.{Ends as Differs, Marks as Follows}
 use Rattle.audit_check.specs.declared.placing.PlacedThread.{PlacedThread}
-use Rattle.audit_check.specs.declared.stop.Stop.{Stop}
 use Rattle.audit_check.specs.Places.{load_places}
 use Rattle.audit_check.specs.Placings.{IsPlacing}
-use Rattle.audit_check.specs.Rows.{EndsAgree, MarksAgree}
+use Rattle.audit_check.specs.Rows.{AreRunsOf, EndsAgree, MarksAgree}
 use Rattle.audit_check.specs.Statements.{Statement}
 use Rattle.audit_check.specs.Stops.{places_of}
 use Rattle.audit_check.specs.Verdicts.{AllAgree, EndsRow, MarksRow}
@@ -31,29 +30,30 @@ use Rattle.audit_check.specs.private.Searches.{HasPlaced}
 use Rattle.audit_check.specs.private.Walks.{IsFirst, first_marks, first_of, mark_or_skipped}
 use Rattle.audit_check.proofs.SameRows.{decides_row, of_row}
 use Rattle.audit_check.proofs.FirstDifferences.{fewer, first_next, last, none_yet}
+use Rattle.audit_check.proofs.SomeRuns.{some_runs}
 use Rattle.audit_check.proofs.FoundAtEnd.{marks_found, marks_whole}
 use Rattle.audit_check.proofs.WalkedThread.{first_more, sleds_more, take_all}
 
 -- ---- one passing more
 
 -- no passing was made
-pub stopped_first : (program : Program) (threads : ℕ) (script : List Command) (all : List Mark) (passed : List Passing) (t : Traced) (f : Follower) (stops : List Stop)
-    → t.marks ≡ [] → HasStopped program threads script all passed 0 f stops
-    → (t.marks ≡ first_marks (length t.marks) all) × HasStopped program threads script all passed (length t.marks) f stops
-stopped_first program threads script all passed t f stops none has =
-    subst (λ (ms : List Mark). (ms ≡ first_marks (length ms) all) × HasStopped program threads script all passed (length ms) f stops) (sym none) (refl, has)
+pub stopped_first : (program : Program) (threads : ℕ) (script : List Command) (all : List Mark) (passed : List Passing) (t : Traced) (f : Follower) (places : List ℕ)
+    → t.marks ≡ [] → HasStopped program threads script all passed 0 f places
+    → (t.marks ≡ first_marks (length t.marks) all) × HasStopped program threads script all passed (length t.marks) f places
+stopped_first program threads script all passed t f places none has =
+    subst (λ (ms : List Mark). (ms ≡ first_marks (length ms) all) × HasStopped program threads script all passed (length ms) f places) (sym none) (refl, has)
 
 module _ (program : Program) (threads : ℕ) (script : List Command) (all : List Mark) (passed : List Passing) where
-  stopped_more : (n : ℕ) (p : Passing) (f g : Follower) (sled : ℕ) (mark : Mark) (stops stops' own : List Stop) → slice_get passed n ≡ Some p → p.sled ≡ sled
+  stopped_more : (n : ℕ) (p : Passing) (f g : Follower) (sled : ℕ) (mark : Mark) (before after own : List ℕ) → slice_get passed n ≡ Some p → p.sled ≡ sled
       → mark ≡ mark_or_skipped all n
       → ((program : Program) (threads : ℕ) (script : List Command) (sleds : List ℕ) (marks : List Mark) → HasJudged program threads script f sleds marks
       → HasJudged program threads script g (sleds ++ sled ∷ []) (marks ++ mark ∷ []))
       → ((program : Program) (threads : ℕ) (script : List Command) (sleds : List ℕ) (marks : List Mark) (places : List ℕ) → HasJudged program threads script f sleds marks
       → HasPlaced program threads script f sleds marks places
-      → HasPlaced program threads script g (sleds ++ sled ∷ []) (marks ++ mark ∷ []) (places ++ places_of own))
-      → places_of stops' ≡ places_of stops ++ places_of own → HasStopped program threads script all passed n f stops
-      → HasStopped program threads script all passed (n + 1) g stops'
-  stopped_more n p f g sled mark stops stops' own found of_sled mark_is judges places added has =
+      → HasPlaced program threads script g (sleds ++ sled ∷ []) (marks ++ mark ∷ []) (places ++ own))
+      → after ≡ before ++ own → HasStopped program threads script all passed n f before
+      → HasStopped program threads script all passed (n + 1) g after
+  stopped_more n p f g sled mark before after own found of_sled mark_is judges places added has =
       let sleds : List ℕ = sleds_passed (take n passed) in
       let marks : List Mark = first_marks n all in
       let sleds_are : sleds ++ sled ∷ [] ≡ sleds_passed (take (n + 1) passed) =
@@ -65,29 +65,29 @@ module _ (program : Program) (threads : ℕ) (script : List Command) (all : List
             (subst (λ (ms : List Mark). HasJudged program threads script g (sleds ++ sled ∷ []) ms) marks_are (judges program threads script sleds marks has.judged));
         placed =
             subst (λ (ps : List ℕ). HasPlaced program threads script g (sleds_passed (take (n + 1) passed)) (first_marks (n + 1) all) ps) (sym added)
-            (subst (λ (ss : List ℕ). HasPlaced program threads script g ss (first_marks (n + 1) all) (places_of stops ++ places_of own)) sleds_are
-            (subst (λ (ms : List Mark). HasPlaced program threads script g (sleds ++ sled ∷ []) ms (places_of stops ++ places_of own)) marks_are
-            (places program threads script sleds marks (places_of stops) has.judged has.placed)));
+            (subst (λ (ss : List ℕ). HasPlaced program threads script g ss (first_marks (n + 1) all) (before ++ own)) sleds_are
+            (subst (λ (ms : List Mark). HasPlaced program threads script g (sleds ++ sled ∷ []) ms (before ++ own)) marks_are
+            (places program threads script sleds marks before has.judged has.placed)));
       }
 
   -- as many passings were made as a thread has marks
-  pub stopped_next : (t u : Traced) (p : Passing) (f g : Follower) (sled : ℕ) (mark : Mark) (stops stops' own : List Stop) → slice_get passed (length t.marks) ≡ Some p
+  pub stopped_next : (t u : Traced) (p : Passing) (f g : Follower) (sled : ℕ) (mark : Mark) (before after own : List ℕ) → slice_get passed (length t.marks) ≡ Some p
       → p.sled ≡ sled → mark ≡ mark_or_skipped all (length t.marks) → u.marks ≡ t.marks ++ mark ∷ []
       → ((program : Program) (threads : ℕ) (script : List Command) (sleds : List ℕ) (marks : List Mark) → HasJudged program threads script f sleds marks
       → HasJudged program threads script g (sleds ++ sled ∷ []) (marks ++ mark ∷ []))
       → ((program : Program) (threads : ℕ) (script : List Command) (sleds : List ℕ) (marks : List Mark) (places : List ℕ) → HasJudged program threads script f sleds marks
       → HasPlaced program threads script f sleds marks places
-      → HasPlaced program threads script g (sleds ++ sled ∷ []) (marks ++ mark ∷ []) (places ++ places_of own))
-      → places_of stops' ≡ places_of stops ++ places_of own
-      → (t.marks ≡ first_marks (length t.marks) all) × HasStopped program threads script all passed (length t.marks) f stops
-      → (u.marks ≡ first_marks (length u.marks) all) × HasStopped program threads script all passed (length u.marks) g stops'
-  stopped_next t u p f g sled mark stops stops' own found of_sled mark_is more judges places added (same, has) =
+      → HasPlaced program threads script g (sleds ++ sled ∷ []) (marks ++ mark ∷ []) (places ++ own))
+      → after ≡ before ++ own
+      → (t.marks ≡ first_marks (length t.marks) all) × HasStopped program threads script all passed (length t.marks) f before
+      → (u.marks ≡ first_marks (length u.marks) all) × HasStopped program threads script all passed (length u.marks) g after
+  stopped_next t u p f g sled mark before after own found of_sled mark_is more judges places added (same, has) =
       let n : ℕ = length t.marks in
       let count : length u.marks ≡ n + 1 = ap length more ∙ length-append t.marks (mark ∷ []) in
       let next : u.marks ≡ first_marks (n + 1) all =
       more ∙ ap (λ (m : Mark). t.marks ++ m ∷ []) mark_is ∙ ap (λ (ms : List Mark). ms ++ mark_or_skipped all n ∷ []) same ∙ sym (first_more n all) in
-      subst (λ m. (u.marks ≡ first_marks m all) × HasStopped program threads script all passed m g stops') (sym count)
-      (next, stopped_more n p f g sled mark stops stops' own found of_sled mark_is judges places added has)
+      subst (λ m. (u.marks ≡ first_marks m all) × HasStopped program threads script all passed m g after) (sym count)
+      (next, stopped_more n p f g sled mark before after own found of_sled mark_is judges places added has)
 
 -- ---- a thread
 
@@ -96,9 +96,9 @@ right_of true b both = both
 right_of false b both = absurd (let q : false ≡ true = both in cc)
 
 module _ (program : Program) (threads : ℕ) (script : List Command) (thread : ℕ) (f : Follower) (thread_is : f.thread ≡ thread) (said : ThreadAudit) (run : ThreadRun)
-    (stops : List Stop) (has : HasStopped program threads script said.marks run.passed (length run.passed) f stops) where
+    (places : List ℕ) (has : HasStopped program threads script said.marks run.passed (length run.passed) f places) where
   places_found : EndsAgree said run → MarksAgree program threads script thread said run
-      → load_places program threads script thread (sleds_passed run.passed) said.marks ≡ Some (places_of stops)
+      → load_places program threads script thread (sleds_passed run.passed) said.marks ≡ Some places
   places_found ends agree =
       let code : ℕ → ℕ → ℕ = code_at program threads script in
       let start : ℕ = start_of program threads script in
@@ -108,21 +108,21 @@ module _ (program : Program) (threads : ℕ) (script : List Command) (thread : �
       let marks_are : marks ++ [] ≡ said.marks = append-nil marks ∙ marks_whole said.marks (length run.passed) (agree.each ∙ ends.passings) in
       let follows = right_of (length said.marks == said.passings) (is_some f.place)
       ((marks_found program threads script thread f thread_is said run has.judged ends).1 agree) in
-      let whole : load_places program threads script f.thread (sleds_passed run.passed) said.marks ≡ Some (places_of stops) =
+      let whole : load_places program threads script f.thread (sleds_passed run.passed) said.marks ≡ Some places =
       ap (λ (ss : List ℕ). load_places program threads script f.thread ss said.marks) (sym sleds_are)
       ∙ ap (λ (ms : List Mark). load_places program threads script f.thread (sleds ++ []) ms) (sym marks_are)
       ∙ has.placed.goes_on [] [] ∙ at_end f.place follows in
-      subst (λ t. load_places program threads script t (sleds_passed run.passed) said.marks ≡ Some (places_of stops)) thread_is whole
+      subst (λ t. load_places program threads script t (sleds_passed run.passed) said.marks ≡ Some places) thread_is whole
     where
       at_end : (place : Option ℕ) → IsTrue (is_some place)
-          → option_and_then (λ (from : ℕ). option_map (λ (later : List ℕ). places_of stops ++ later) (Some [])) place ≡ Some (places_of stops)
+          → option_and_then (λ (from : ℕ). option_map (λ (later : List ℕ). places ++ later) (Some [])) place ≡ Some places
       at_end None is = absurd (let q : false ≡ true = is in cc)
-      at_end (Some from) is = ap Some (append-nil (places_of stops))
+      at_end (Some from) is = ap Some (append-nil places)
 
-  pub thread_placed : (placed : PlacedThread) (end : End) (passings : ℕ) → end ≡ run.end → passings ≡ length run.passed → placed.stops.items ≡ stops
+  pub thread_placed : (placed : PlacedThread) (end : End) (passings : ℕ) → end ≡ run.end → passings ≡ length run.passed → places_of placed.stops.items ≡ places
       → IsTrue placed.agreement.ends ↔ (said.end ≡ end) × (said.passings ≡ passings)
       → placed.agreement.marks ≡ ((length said.marks == said.passings) && is_some f.place) → IsThreadPlaced program threads script thread said run placed
-  thread_placed placed end passings end_is passings_are stops_are by_ends by_marks = record {
+  thread_placed placed end passings end_is passings_are own_places by_ends by_marks = record {
     ends = (
       (λ is. let both = by_ends.0 is in record { end = both.0 ∙ end_is; passings = both.1 ∙ passings_are }),
       (λ agree. by_ends.1 (agree.end ∙ sym end_is, agree.passings ∙ sym passings_are)),
@@ -130,7 +130,7 @@ module _ (program : Program) (threads : ℕ) (script : List Command) (thread : �
     marks = λ ends.
         subst (λ b. IsTrue b ↔ MarksAgree program threads script thread said run) (sym by_marks)
         (marks_found program threads script thread f thread_is said run has.judged ends);
-    places = λ ends agree. places_found ends agree ∙ ap (λ (ss : List Stop). Some (places_of ss)) (sym stops_are);
+    places = λ ends agree. places_found ends agree ∙ ap Some (sym own_places);
   }
 
 -- ---- the first threads
@@ -238,3 +238,15 @@ module _ (program : Program) (script : List Command) (statement : Statement) (ru
               up.each all all' i run (omega (arith, within, count)) at ∙ ap (slice_get places) (sym back);
         },
       )
+
+-- ---- some runs of which an audit speaks
+
+-- all of their threads were placed, after as many as there are
+pub some_placed : (program : Program) (script : List Command) (statement : Statement) (first : FirstThreads) (places : List (List ℕ)) (threads : ℕ)
+    → length statement.threads ≡ statement.setup.threads → threads ≡ statement.setup.threads
+    → ((thread : ℕ) → (passed : List Passing) × (end : End) × (last : State) × PlainRun program statement.setup.limits thread passed end last)
+    → ((runs : List ThreadRun) → AreRunsOf program statement runs → PlacedUpTo program script statement runs threads first places)
+    → (runs : List ThreadRun) × AreRunsOf program statement runs × PlacedUpTo program script statement runs statement.setup.threads first places
+some_placed program script statement first places threads count all ends up =
+    let some = some_runs program statement count ends in
+    (some.0, some.1, subst (λ n. PlacedUpTo program script statement some.0 n first places) all (up some.0 some.1))

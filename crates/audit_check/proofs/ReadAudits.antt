@@ -20,7 +20,7 @@ use Rattle.audit_check.specs.private.Parts.{HasShortCounts, format_row, setup_ro
 use Rattle.audit_check.specs.private.Taking.{counts_in, recycled_in}
 use Rattle.audit_check.specs.Reading.{IsRefused, ReadsAs, whole_lines}
 use Rattle.audit_check.specs.Statements.{HasCounts, MayState, Statement, most_marks, text_of}
-use Rattle.audit_check.proofs.Refusals.{IsCountsRow, IsFormatRow, IsMarksRow, IsRecycledRow, IsSetupRow, TellsSetup, Unlike, counted_rows, one_more, refused_counts, refused_end, refused_format, refused_marks, refused_recycled, refused_setup, text_by_rows}
+use Rattle.audit_check.proofs.Refusals.{IsCountsRow, IsFormatRow, IsMarksRow, IsRecycledRow, IsSetupRow, TellsSetup, Unlike, counted_rows, one_more, refused_counts, refused_end, refused_format, refused_marks, refused_recycled, refused_setup, said_of, text_by_rows}
 use Rattle.audit_check.proofs.ReadRows.{counts_only, recycled_only}
 use Rattle.audit_check.proofs.RowLines.{joined_lines}
 
@@ -117,18 +117,6 @@ pub rows_more : (setup : Setup) (threads : List ThreadAudit) (said : ThreadAudit
 rows_more setup threads said =
     ap (λ (l : List (List ℕ)). format_row ∷ setup_row setup ∷ l)
     (sym (flat_map-append rows_of threads (said ∷ [])))
-
--- what is said of a thread by its two rows
-abbrev pub said_of : ℕ → Counts → List Mark → ThreadAudit
-said_of thread counts marks = record {
-  thread = thread;
-  end = counts.end;
-  passings = counts.passings;
-  recorded = counts.recorded;
-  segments = counts.segments;
-  first = counts.first;
-  marks = marks;
-}
 
 pub entry_taken : (bytes : List ℕ) (setup : Setup) (threads : List ThreadAudit) (thread : ℕ) (counts : Counts) (marks : List Mark) (rows : Rows)
     → HasTaken bytes rows (first_rows setup threads ++ counts_row thread counts ∷ marks_line marks ∷ []) → AreFirst setup threads

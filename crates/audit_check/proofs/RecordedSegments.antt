@@ -53,6 +53,19 @@ module _ (setup : Setup) (thread lost : ℕ) (events : List Event) (r : Recordin
   pub open_one : r.buffer.begun ≡ true → IsOpen setup thread events r
   open_one begun = subst (λ b. MatchBool b (IsOpen setup thread events r) (IsUnopened events r)) begun has.opened
 
+  -- other events, with the same stamps
+  noted_again : (others : List Event) (g : Recording) → g.thread ≡ r.thread → g.lost ≡ r.lost → g.buffer.size ≡ r.buffer.size → g.wall ≡ r.wall → g.pid ≡ r.pid
+      → MatchBool g.buffer.begun (IsOpen setup thread others g) (IsUnopened others g) → HasNoted setup thread lost others g
+  noted_again others g thread_is lost_is size wall pid opened = record {
+    least = has.least;
+    thread_is = thread_is ∙ has.thread_is;
+    lost_is = lost_is ∙ has.lost_is;
+    size = size ∙ has.size;
+    wall = wall ∙ has.wall;
+    pid = pid ∙ has.pid;
+    opened = opened;
+  }
+
   -- a segment that is begun
   abbrev filled : ℕ → ℕ → Wall → ℕ → Event → ℕ → Filled
   filled size number wall pid event serial =
@@ -73,15 +86,9 @@ module _ (setup : Setup) (thread lost : ℕ) (events : List Event) (r : Recordin
     one_segment = ap (segments setup.size) one_event ∙ first setup.size event
 
     pub noted_first : HasNoted setup thread lost (events ++ event ∷ []) (begun_with r event)
-    noted_first = record {
-      least = has.least;
-      thread_is = has.thread_is;
-      lost_is = has.lost_is;
-      size = has.size;
-      wall = has.wall;
-      pid = has.pid;
-      opened = opens setup thread (events ++ event ∷ []) (event ∷ []) [] (begun_with r event) one_segment refl (unopened closed).whole (buffer_is event r.whole);
-    }
+    noted_first =
+        noted_again (events ++ event ∷ []) (begun_with r event) refl refl refl refl refl
+        (opens setup thread (events ++ event ∷ []) (event ∷ []) [] (begun_with r event) one_segment refl (unopened closed).whole (buffer_is event r.whole))
 
     pub compared_first : (all before : List ℕ) (t : TraceLeft) → HasCompared all (before ++ kept_bytes setup lost thread (whole_of setup.size events)) t
         → HasCompared all (before ++ kept_bytes setup lost thread (whole_of setup.size (events ++ event ∷ []))) t
@@ -101,17 +108,11 @@ module _ (setup : Setup) (thread lost : ℕ) (events : List Event) (r : Recordin
         (subst (λ n. IsTrue (has_room n (r.buffer.events ++ event ∷ []))) has.size room)
 
     pub noted_joined : HasNoted setup thread lost (events ++ event ∷ []) with_event
-    noted_joined = record {
-      least = has.least;
-      thread_is = has.thread_is;
-      lost_is = has.lost_is;
-      size = has.size;
-      wall = has.wall;
-      pid = has.pid;
-      opened = subst (λ b. MatchBool b (IsOpen setup thread (events ++ event ∷ []) with_event) (IsUnopened (events ++ event ∷ []) with_event)) (sym begun)
-          (opens setup thread (events ++ event ∷ []) (r.buffer.events ++ event ∷ []) (whole_of setup.size events) with_event joined_segments refl (open_one begun).whole
-          (ap (λ (b : Filled). record b { events = r.buffer.events ++ event ∷ [] }) (open_one begun).buffer));
-    }
+    noted_joined =
+        noted_again (events ++ event ∷ []) with_event refl refl refl refl refl
+        (subst (λ b. MatchBool b (IsOpen setup thread (events ++ event ∷ []) with_event) (IsUnopened (events ++ event ∷ []) with_event)) (sym begun)
+        (opens setup thread (events ++ event ∷ []) (r.buffer.events ++ event ∷ []) (whole_of setup.size events) with_event joined_segments refl (open_one begun).whole
+        (ap (λ (b : Filled). record b { events = r.buffer.events ++ event ∷ [] }) (open_one begun).buffer)))
 
     pub compared_joined : (all before : List ℕ) (t : TraceLeft) → HasCompared all (before ++ kept_bytes setup lost thread (whole_of setup.size events)) t
         → HasCompared all (before ++ kept_bytes setup lost thread (whole_of setup.size (events ++ event ∷ []))) t
@@ -165,15 +166,9 @@ module _ (setup : Setup) (thread lost : ℕ) (events : List Event) (r : Recordin
         let before = (open_one begun).whole in omega (arith, before, length-append (whole_of setup.size events) (r.buffer.events ∷ []))
 
     pub noted_cut : HasNoted setup thread lost (events ++ event ∷ []) next_one
-    noted_cut = record {
-      least = has.least;
-      thread_is = has.thread_is;
-      lost_is = has.lost_is;
-      size = has.size;
-      wall = has.wall;
-      pid = has.pid;
-      opened = opens setup thread (events ++ event ∷ []) (event ∷ []) whole_now next_one cut_segments refl count (buffer_is event (r.whole + 1));
-    }
+    noted_cut =
+        noted_again (events ++ event ∷ []) next_one refl refl refl refl refl
+        (opens setup thread (events ++ event ∷ []) (event ∷ []) whole_now next_one cut_segments refl count (buffer_is event (r.whole + 1)))
 
     pub compared_cut : (all before : List ℕ) (t t' : TraceLeft) → Compares t t'
         → HasCompared all (before ++ kept_bytes setup lost thread (whole_of setup.size events)) t

@@ -383,17 +383,21 @@ refused_counts tells bytes setup threads rest are low lines other =
 
 -- ---- the marks of a thread
 
--- what is said of a thread with these counts and no marks
-abbrev unmarked : ℕ → Counts → ThreadAudit
-unmarked thread counts = record {
+-- what is said of a thread by its two rows
+abbrev pub said_of : ℕ → Counts → List Mark → ThreadAudit
+said_of thread counts marks = record {
   thread = thread;
   end = counts.end;
   passings = counts.passings;
   recorded = counts.recorded;
   segments = counts.segments;
   first = counts.first;
-  marks = [];
+  marks = marks;
 }
+
+-- what is said of a thread with these counts and no marks
+abbrev unmarked : ℕ → Counts → ThreadAudit
+unmarked thread counts = said_of thread counts []
 
 -- the rows with the counts of one more thread
 abbrev pub counted_rows : Setup → List ThreadAudit → ℕ → Counts → List (List ℕ)

@@ -21,8 +21,8 @@ use Rattle.audit_check.specs.Reading.{IsRefused, ReadsAs, whole_lines}
 use Rattle.audit_check.specs.Statements.{MayState, Statement, most_marks}
 use Rattle.audit_check.proofs.KnownFacts.{Known, known_as, known_below, known_both, known_bytes, known_most}
 use Rattle.audit_check.proofs.ReadRows.{SaysCounts, counts_found, recycled_found, setup_found, setup_only, setup_tells}
-use Rattle.audit_check.proofs.ReadAudits.{all_may, none_first, rows_more, said_of, unread_counts, unread_recycled}
-use Rattle.audit_check.proofs.Refusals.{IsCountsRow, IsRecycledRow, IsSetupRow, counted_rows, one_more, refused_counts, refused_end, refused_format, refused_marks, refused_recycled, refused_setup, text_by_rows}
+use Rattle.audit_check.proofs.ReadAudits.{all_may, none_first, rows_more, unread_counts, unread_recycled}
+use Rattle.audit_check.proofs.Refusals.{IsCountsRow, IsRecycledRow, IsSetupRow, counted_rows, one_more, refused_counts, refused_end, refused_format, refused_marks, refused_recycled, refused_setup, said_of, text_by_rows}
 
 -- ---- some marks
 

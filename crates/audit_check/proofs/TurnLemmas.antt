@@ -3,7 +3,7 @@ use mathlib.Core.Bool.{beq}
 use Rattle.std.proofs.Common.{◌≡◌, ◌≢◌, ℕ, zero, suc, ◌+◌, ◌-◌, ◌%◌, ◌==◌, ◌<◌, ◌≤◌, Bool, true, false, not, List, [], ◌∷◌, ◌++◌, length, get_or, Some, None, refl, sym, ap, ◌∙◌, arith, inl, inr, length-append, eqb-true, eq-eqb}
 use Rattle.std.specs.Prelude.{◌⊎◌, slice_get}
 use Rattle.std.proofs.lemmas.Bool.{cases_lt, eqb-false, ne_eqb}
-use Rattle.std.proofs.lemmas.Option.{slice_get-get_or, slice_get_within}
+use Rattle.std.proofs.lemmas.Option.{slice_get-get_or, slice_get_read, slice_get_within}
 use Rattle.audit_check.specs.private.Turns.{AreMade, IsLeast, IsMet, IsTurned, is_odd}
 
 -- ---- odd and even
@@ -45,6 +45,12 @@ not_false true e = refl
 not_false false e = absurd cc
 
 -- ---- places in a list
+
+-- the turn of a number, as it is read
+pub turn_read : (places read : List ℕ) (made turn at : ℕ) → read ≡ places → made < length read → turn ≡ get_or read made turn → at ≡ turn
+    → slice_get places made ≡ Some at
+turn_read places read made turn at all within is same =
+    sym (ap (λ (l : List ℕ). slice_get l made) all) ∙ (slice_get_read read (length read) made turn refl within is ∙ ap Some (sym same))
 
 left : (xs : List ℕ) (i x y : ℕ) → slice_get xs i ≡ Some x → slice_get (xs ++ y ∷ []) i ≡ Some x
 left [] i x y is = absurd cc

@@ -73,6 +73,12 @@ at_gate want result passing is gate = subst IsGate (sym gate ∙ is) tt
 
 -- ---- one passing
 
+-- the mark of a passing
+pub mark_of_way : (way : Way) (marks : List Mark) (t : Traced) (passing : ℕ) (mark : Mark) → way.marks ≡ marks → passing ≡ length t.marks
+    → mark ≡ mark_or_skipped marks passing → mark ≡ mark_or_skipped way.marks (length t.marks)
+mark_of_way way marks t passing mark are number is =
+    is ∙ (ap (mark_or_skipped marks) number ∙ ap (λ (ms : List Mark). mark_or_skipped ms (length t.marks)) (sym are))
+
 -- as many passings were made as a thread has marks
 abbrev pub Stands : Way → List Passing → Traced → Follower → Recording → TraceLeft → Type 0
 Stands way passed t f r left = (t.marks ≡ first_marks (length t.marks) way.marks) × HasWalked way passed (length t.marks) f r left
@@ -146,3 +152,19 @@ ends_so t want result end end' passed last one is done stands run =
     let here = at_end t want result end is done stands in
     let same = one t.limits t.thread here.passed passed end end' (state_at here.address t) last here.run run in
     (same.1, sym here.count ∙ ap length same.0)
+
+-- a plain run has one end, as `one_end` says
+abbrev pub EndsOnce : Type 0
+EndsOnce =
+    (bytes : List ℕ) (program : Program) (limits : Limits) (thread : ℕ) (passed passed' : List Passing) (end end' : End) (last last' : State)
+    → IsAccepted bytes program → PlainRun program limits thread passed end last → PlainRun program limits thread passed' end' last'
+    → (passed ≡ passed') × (end ≡ end') × (last ≡ last')
+
+-- a walk ends as the plain run of the thread that began it
+pub walk_ends : (s t : Traced) (want result : Want) (end end' : End) (bytes : List ℕ) (passed : List Passing) (last : State) → EndsOnce → IsSameThread s t
+    → IsAccepted bytes s.program → result ≡ want → result ≡ Done end → StandsAs t want → PlainRun s.program s.limits s.thread passed end' last
+    → (end ≡ end') × (length t.marks ≡ length passed)
+walk_ends s t want result end end' bytes passed last once same accepted is done stands run =
+    let one : OneEnd t.program = λ limits thread before after first second state other.
+    once bytes t.program limits thread before after first second state other (accepted_again s t same bytes accepted) in
+    ends_so t want result end end' passed last one is done stands (plain_again s t passed end' last same run)

@@ -8,6 +8,7 @@ pub mod Switches
 pub mod Ways
 pub mod Judging
 pub mod Searches
+pub mod LoadStops
 pub mod Placed
 pub mod Blocks
 pub mod Walks

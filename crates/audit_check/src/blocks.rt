@@ -193,7 +193,8 @@ impl Recording {
     /// Compares the open segment with the trace, unless it is lost.
     fn compare(&self, trace: &mut TraceLeft)
         ensures { (all before : List ℕ) → HasCompared all before trace.old
-            → HasCompared all (before ++ (if nat_le self.now.lost self.now.whole then block_bytes self.now.buffer else []))
+            → HasCompared all
+            (before ++ (if nat_le self.now.lost self.now.whole then block_bytes self.now.buffer else []))
             trace.new }
     {
         if self.lost <= self.whole {

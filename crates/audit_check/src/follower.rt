@@ -15,7 +15,7 @@ ghost use Rattle.audit_check.specs.Stops.{places_of};
 ghost use Rattle.audit_check.specs.declared.searches.Sought.TheVariants.{EitherHandler as Either};
 
 use crate::searches::{Sought, sought_for};
-use crate::stop::Stop;
+use crate::stop::{NO_STOP, Stop};
 use crate::switches::{Awaited, Course};
 use handler_word::Mark;
 use patch_script::Script;
@@ -26,9 +26,6 @@ use xray_io::NoMemory;
 
 /// The most stops of a passing: at its head, at two handlers, and at the log's state.
 pub(crate) const MOST_STOPS: usize = 4;
-
-/// No loads.
-const NO_STOP: Stop = Stop { place: 0, loads: 0 };
 
 /// For each word on which marks depend, how many of its turns were passed.
 #[derive(Drop)]
@@ -150,7 +147,8 @@ impl<'a> Follower<'a> {
         ensures placed { (program : Program) (threads : ℕ) (script : List Command) (sleds : List ℕ)
             (marks : List Mark) (places : List ℕ) → HasJudged program threads script self.old sleds marks
             → HasPlaced program threads script self.old sleds marks places
-            → HasPlaced program threads script self.new (sleds ++ sled ∷ []) (marks ++ mark ∷ []) (places ++ places_of result) }
+            → HasPlaced program threads script self.new (sleds ++ sled ∷ []) (marks ++ mark ∷ [])
+            (places ++ places_of result) }
     {
         let bound = self.bound();
         let mut stops = [NO_STOP; MOST_STOPS];
@@ -162,7 +160,8 @@ impl<'a> Follower<'a> {
     /// The last place for the loads of the next passing.
     fn bound(&mut self) -> u32
         ensures same { self.new ≡ record self.old { awaits = self.new.awaits } }
-        ensures bound { ArePassed self.old self.old.passing self.old.awaits → FindsBound self.old self.old.passing result }
+        ensures bound { ArePassed self.old self.old.passing self.old.awaits
+            → FindsBound self.old self.old.passing result }
         ensures passed { ArePassed self.old self.old.passing self.old.awaits
             → ArePassed self.new self.old.passing self.new.awaits }
     {
@@ -219,7 +218,8 @@ impl<'a> Follower<'a> {
         ensures same { SameButGuesses self.old self.new }
         ensures free { is_held_at self.old.hold self.old.passing ≡ false → result ≡ Some from }
         ensures held { is_held_at self.old.hold self.old.passing ≡ true
-            → FindsPlace self.old (λ program threads. release_word program self.old.thread) is_set true from bound result }
+            → FindsPlace self.old (λ program threads. release_word program self.old.thread) is_set true from bound
+            result }
     {
         if self.hold == Some(self.passing) {
             self.release(from, bound)
@@ -295,7 +295,8 @@ impl<'a> Follower<'a> {
     fn release(&mut self, from: u32, bound: u32) -> Option<u32>
         requires { IsReady self.old }
         ensures same { SameButGuesses self.old self.new }
-        ensures place { FindsPlace self.old (λ program threads. release_word program self.old.thread) is_set true from bound result }
+        ensures place { FindsPlace self.old (λ program threads. release_word program self.old.thread) is_set true
+            from bound result }
     {
         let release = &self.course.switches.releases[self.thread as usize - 1];
         release.first(true, from, bound, &mut self.passed.release)
@@ -307,7 +308,8 @@ impl<'a> Follower<'a> {
         requires ready { IsReady self.old }
         requires sled { sled < length self.old.image.now.sleds }
         ensures same { SameButGuesses self.old self.new }
-        ensures place { FindsPlace self.old (λ program threads. word_of sled Head) is_patched patched from bound result }
+        ensures place { FindsPlace self.old (λ program threads. word_of sled Head) is_patched patched
+            from bound result }
     {
         let passed = &mut self.passed.heads[sled as usize];
         self.course.switches.heads[sled as usize].first(patched, from, bound, passed)
@@ -329,7 +331,8 @@ impl<'a> Follower<'a> {
     #[inline]
     fn arg_handler(&mut self, set: bool, from: u32, bound: u32) -> Option<u32>
         ensures same { SameButGuesses self.old self.new }
-        ensures place { FindsPlace self.old (λ program threads. arg_handler_word program threads) is_set set from bound result }
+        ensures place { FindsPlace self.old (λ program threads. arg_handler_word program threads) is_set set
+            from bound result }
     {
         self.course
             .switches
@@ -341,7 +344,8 @@ impl<'a> Follower<'a> {
     #[inline]
     fn log(&mut self, records: bool, from: u32, bound: u32) -> Option<u32>
         ensures same { SameButGuesses self.old self.new }
-        ensures place { FindsPlace self.old (λ program threads. state_word program) is_recording records from bound result }
+        ensures place { FindsPlace self.old (λ program threads. state_word program) is_recording records
+            from bound result }
     {
         self.course
             .switches

@@ -11,15 +11,15 @@ ghost use Rattle.traced_run.specs.Runs.{ThreadRun};
 ghost use Rattle.audit_check.specs.declared.placing.PlaceFault.TheVariants.{NoMemory as OutOfMemory};
 ghost use Rattle.audit_check.specs.Placings.{ArePlaced, placed_by};
 ghost use Rattle.audit_check.specs.Statements.{NamesThreads, most_marks, said_by, statement_of};
-ghost use Rattle.audit_check.specs.Stops.{places_of};
 ghost use Rattle.audit_check.specs.private.Judging.{IsReady};
+ghost use Rattle.audit_check.specs.private.LoadStops.{places_in};
 ghost use Rattle.audit_check.specs.private.Placed.{HasStopped, IsThreadPlaced, fault_by};
 ghost use Rattle.audit_check.specs.private.Switches.{IsCourseOf};
 
 use crate::audit::{Audit, AuditEntry};
 use crate::follower::Follower;
 use crate::judging::{Agreement, FirstThreads, Judge, Walked, ends_agree, mark_at, marks_agree};
-use crate::stop::{Stop, add_stop};
+use crate::stop::{LoadStops, Stop};
 use crate::switches::Course;
 use handler_word::Marks;
 use machine_step::{Cpu, Steps, Want, one_end, passings_are_limited, some_end};
@@ -148,14 +148,17 @@ impl Judge<'_> {
             None,
             self.setup.limits,
         )?;
-        let mut stops = Vec::new(alloc);
-        let walked = walk_places(&mut cpu, &entry.marks, &mut follower, &mut stops)?;
+        let mut loads = LoadStops::new(alloc);
+        let walked = walk_places(&mut cpu, &entry.marks, &mut follower, &mut loads)?;
         let agreement = Agreement {
             ends: ends_agree(entry, walked),
             marks: marks_agree(entry, &follower),
             counts: true,
         };
-        Ok(PlacedThread { agreement, stops })
+        Ok(PlacedThread {
+            agreement,
+            stops: loads.done()?,
+        })
     }
 }
 
@@ -165,7 +168,7 @@ fn walk_places(
     cpu: &mut Cpu,
     marks: &Marks,
     follower: &mut Follower,
-    stops: &mut Vec<Stop>,
+    loads: &mut LoadStops,
 ) -> Result<Walked, NoMemory>
     requires accepted { (bytes : List ℕ) × IsAccepted bytes cpu.old.program }
     requires between { IsLoad cpu.old.want → ⊥ }
@@ -181,8 +184,9 @@ fn walk_places(
     ensures walked { OnOk result ((bytes : List ℕ) (threads : ℕ) (script : List Command)
         (passed : List Passing) (end : How) (last : State) → IsAccepted bytes cpu.old.program
         → PlainRun cpu.old.program cpu.old.limits cpu.old.thread passed end last → cpu.old.marks ≡ []
-        → HasStopped cpu.old.program threads script marks.now.items passed 0 follower.old stops.old.items
-        → HasStopped cpu.old.program threads script marks.now.items passed (length passed) follower.new stops.new.items) }
+        → HasStopped cpu.old.program threads script marks.now.items passed 0 follower.old (places_in loads.old)
+        → HasStopped cpu.old.program threads script marks.now.items passed (length passed) follower.new
+        (places_in loads.new)) }
     ensures thread { OnOk result (follower.new.thread ≡ follower.old.thread) }
 {
     one_end();
@@ -193,7 +197,7 @@ fn walk_places(
             Want::Gate(passing) => {
                 let mark = mark_at(marks, passing);
                 let found = follower.judge(cpu.sled(), mark);
-                add_stops(stops, &found)?;
+                loads.add_all(&found)?;
                 let _event = cpu.pass(mark);
             }
             Want::Done(end) => {
@@ -205,14 +209,4 @@ fn walk_places(
             Want::Load(_) => unreachable!(),
         }
     }
-}
-
-/// Adds the loads of a passing.
-fn add_stops(stops: &mut Vec<Stop>, found: &[Stop]) -> Result<(), NoMemory>
-    ensures { OnOk result (places_of stops.new.items ≡ places_of stops.old.items ++ places_of found.now) }
-{
-    for stop in found {
-        add_stop(stops, *stop)?;
-    }
-    Ok(())
 }

@@ -113,7 +113,8 @@ impl<'a> Rows<'a> {
         requires { self.old.number ≡ 1 }
         ensures number { self.new.number ≡ 2 }
         ensures rows { (bytes : List ℕ) → HasTaken bytes self.old (format_row ∷ [])
-            → MatchResult result (λ setup. IsSetup setup × HasTaken bytes self.new (first_rows setup [])) (Refuses bytes) }
+            → MatchResult result (λ setup. IsSetup setup × HasTaken bytes self.new (first_rows setup []))
+            (Refuses bytes) }
     {
         let row = self.take()?;
         match read_setup(row) {
@@ -188,7 +189,8 @@ impl<'a> Rows<'a> {
             → HasTaken bytes self.old (first_rows setup threads ++ counts_row thread counts ∷ [])
             → AreFirst setup threads → HasShortCounts counts → thread ≡ length threads + 1 → thread ≤ setup.threads
             → MatchResult result (λ marks. (length marks.items ≤ most_marks)
-            × HasTaken bytes self.new (first_rows setup threads ++ counts_row thread counts ∷ marks_line marks.items ∷ []))
+            × HasTaken bytes self.new
+            (first_rows setup threads ++ counts_row thread counts ∷ marks_line marks.items ∷ []))
             (Refuses bytes) }
     {
         a_written_number_is_itself();

@@ -88,6 +88,20 @@ before_all from last place (number ∷ numbers) rise high =
       before_all number last place numbers rise.2 high,
     )
 
+-- none is before or at a number before the first
+none_up_to : (number last place : ℕ) (numbers : List ℕ) → Rise number last numbers → place < number
+    → before place (number ∷ numbers) + at place (number ∷ numbers) ≡ 0
+none_up_to number last place numbers rise more =
+    omega (
+      arith,
+      before-cons place number numbers,
+      at-cons place number numbers,
+      not_before place number (omega (arith, more)),
+      not_at place number more,
+      before_none number last place numbers rise (omega (arith, more)),
+      at_none number last place numbers rise more,
+    )
+
 -- those at a number come after those before it
 pub at_places : (from last place i : ℕ) (numbers : List ℕ) → Rise from last numbers → before place numbers ≤ i
     → i < before place numbers + at place numbers → slice_get numbers i ≡ Some place
@@ -97,17 +111,7 @@ at_places from last place zero (number ∷ numbers) rise low high =
       | inl same ↦ ap Some same
       | inr apart ↦ elim apart [
         | inl less ↦ absurd (omega (arith, low, before-cons place number numbers, is_before place number less))
-        | inr more ↦
-            absurd (omega (
-              arith,
-              high,
-              before-cons place number numbers,
-              at-cons place number numbers,
-              not_before place number (omega (arith, more)),
-              not_at place number more,
-              before_none number last place numbers rise.2 (omega (arith, more)),
-              at_none number last place numbers rise.2 more,
-            ))
+        | inr more ↦ absurd (omega (arith, high, none_up_to number last place numbers rise.2 more))
       ]
     ]
 at_places from last place (suc i) (number ∷ numbers) rise low high =
@@ -135,16 +139,6 @@ at_places from last place (suc i) (number ∷ numbers) rise low high =
               is_before place number less,
               not_at_less place number less,
             ))
-        | inr more ↦
-            absurd (omega (
-              arith,
-              high,
-              before-cons place number numbers,
-              at-cons place number numbers,
-              not_before place number (omega (arith, more)),
-              not_at place number more,
-              before_none number last place numbers rise.2 (omega (arith, more)),
-              at_none number last place numbers rise.2 more,
-            ))
+        | inr more ↦ absurd (omega (arith, high, none_up_to number last place numbers rise.2 more))
       ]
     ]

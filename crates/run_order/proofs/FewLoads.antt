@@ -11,9 +11,10 @@ use Rattle.patch_script.specs.CodeAt.{code_at}
 use Rattle.patch_script.specs.Micros.{hold_of, start_of}
 use Rattle.machine_step.specs.Loads.{is_held_at, sled_logs_args}
 use Rattle.audit_check.specs.Places.{Search, found_by, handler_searches, has_arg_handler, head_searches, load_places, passing_searches, places_from}
-use Rattle.audit_check.proofs.SearchResults.{found_none, found_on, was_made, went_on}
+use Rattle.audit_check.proofs.SearchResults.{found_none, found_on}
 use Rattle.run_order.specs.FreeScripts.{free_place}
 use Rattle.run_order.specs.Places.{free_places}
+use Rattle.run_order.proofs.FirstPassing.{go_on}
 
 -- ---- how many loads a passing makes
 
@@ -76,16 +77,12 @@ module _ (program : Program) (threads : ℕ) (code : ℕ → ℕ → ℕ) where
   passings_few bound thread hold number from [] (mark ∷ marks) places e = absurd cc
   passings_few bound thread hold number from (sled ∷ sleds) [] places e = absurd cc
   passings_few bound thread hold number from (sled ∷ sleds) (mark ∷ marks) places e =
+      let first = go_on program threads code bound thread hold number from sled mark sleds marks places e in
       let searches = passing_searches program threads code thread (is_held_at hold number) sled mark in
-      let went = went_on
-      (λ (found : ℕ × List ℕ). option_map (λ (later : List ℕ). found.1 ++ later) (places_from program threads code bound thread hold (number + 1) found.0 sleds marks))
-      (found_by (bound number) from searches) places e in
-      let found : ℕ × List ℕ = went.value in
-      let made = was_made (λ (later : List ℕ). found.1 ++ later) (places_from program threads code bound thread hold (number + 1) found.0 sleds marks) places went.gives in
       let few = passing_few thread (is_held_at hold number) sled mark in
-      let own = found_few (bound number) from searches found few.0 went.given_is in
-      let rest = passings_few bound thread hold (number + 1) found.0 sleds marks made.value made.given_is in
-      omega (arith, own, few.1, rest, ap length made.makes, length-append found.1 made.value)
+      let own = found_few (bound number) from searches first.found few.0 first.found_is in
+      let rest = passings_few bound thread hold (number + 1) first.found.0 sleds marks first.later first.later_are in
+      omega (arith, own, few.1, rest, ap length first.makes, length-append first.found.1 first.later)
 
 -- there is a mark for each sled
 as_many : (program : Program) (threads : ℕ) (code : ℕ → ℕ → ℕ) (bound : ℕ → ℕ) (thread : ℕ) (hold : Option ℕ) (number from : ℕ) (sleds : List ℕ) (marks : List Mark)
@@ -94,12 +91,8 @@ as_many program threads code bound thread hold number from [] [] places e = refl
 as_many program threads code bound thread hold number from [] (mark ∷ marks) places e = absurd cc
 as_many program threads code bound thread hold number from (sled ∷ sleds) [] places e = absurd cc
 as_many program threads code bound thread hold number from (sled ∷ sleds) (mark ∷ marks) places e =
-    let went = went_on
-    (λ (found : ℕ × List ℕ). option_map (λ (later : List ℕ). found.1 ++ later) (places_from program threads code bound thread hold (number + 1) found.0 sleds marks))
-    (found_by (bound number) from (passing_searches program threads code thread (is_held_at hold number) sled mark)) places e in
-    let made = was_made (λ (later : List ℕ). went.value.1 ++ later)
-    (places_from program threads code bound thread hold (number + 1) went.value.0 sleds marks) places went.gives in
-    let rest = as_many program threads code bound thread hold (number + 1) went.value.0 sleds marks made.value made.given_is in
+    let first = go_on program threads code bound thread hold number from sled mark sleds marks places e in
+    let rest = as_many program threads code bound thread hold (number + 1) first.found.0 sleds marks first.later first.later_are in
     omega (arith, rest)
 
 -- by the sleds that the thread passes

@@ -19,6 +19,7 @@ use Rattle.patch_script.specs.declared.micro.Micro.TheVariants.{Store, Await, En
 use Rattle.patch_script.specs.CodeAt.{code_at, initial_value, stored_in}
 use Rattle.patch_script.specs.Micros.{Numbered, all_sleds, head_left, is_go, micros, micros_after, numbers, patch_sled, patches, sleds_of, start_of, steps_of, total_of, unpatch_sled}
 use Rattle.patch_script.specs.Plans.{is_waiting}
+use Rattle.audit_check.proofs.TurnLemmas.{not_false}
 use Rattle.run_order.specs.FreeScripts.{free_commands, free_place, is_free, is_release_word}
 
 -- ---- a script's releases are of its threads
@@ -230,10 +231,6 @@ module _ (program : Program) (threads : ℕ) where
       let differ : (other == word) ≡ false = not_same other word (λ e. cc (ap (is_release_word program threads) e, release, apart)) in
       ap (λ b. cond b (Some value) None) differ
     where
-      not_false : (b : Bool) → not b ≡ false → b ≡ true
-      not_false true e = refl
-      not_false false e = absurd cc
-
       not_same : (a b : ℕ) → (a ≡ b → ⊥) → (a == b) ≡ false
       not_same a b apart = grind (arith, nat_tests)
   goes_unstored word (Await thread count) apart gone = refl
@@ -296,7 +293,8 @@ front_kept {X = X} keeps passes gone (x ∷ xs) = by_tests (keeps x) (passes x) 
         absurd cc
 
 -- `go` is no command that waits
-go_stays : (command : Command) → not (is_waiting command) ≡ false → not (is_go command) ≡ true
+pub go_stays : (command : Command) → is_waiting command ≡ true → is_go command ≡ false
+go_stays commands.Go e = absurd cc
 go_stays commands.Patch e = refl
 go_stays commands.Unpatch e = refl
 go_stays (commands.PatchFunction id) e = refl
@@ -307,10 +305,12 @@ go_stays commands.SetArgHandler e = refl
 go_stays commands.RemoveArgHandler e = refl
 go_stays commands.Init e = refl
 go_stays commands.Finalize e = refl
-go_stays commands.Go e = absurd cc
 go_stays (commands.Hold thread passing) e = refl
 go_stays (commands.Release thread) e = refl
 go_stays (commands.Await thread count) e = refl
+
+others_go_on : (command : Command) → not (is_waiting command) ≡ false → not (is_go command) ≡ true
+others_go_on command e = ap not (go_stays command (not_false (is_waiting command) e))
 
 -- the micro steps of the first commands come first
 front_micros : (program : Program) (threads : ℕ) (earlier : List ℕ) (n : ℕ) (script : List Command)
@@ -342,6 +342,6 @@ pub free_start : (program : Program) (threads : ℕ) (script : List Command) →
 free_start program threads script are =
     let passes : Command → Bool = λ c. not (is_go c) in
     let n : ℕ = prefix_len passes script in
-    ap (λ (cs : List Command). length (micros program threads cs)) (front_kept (λ c. not (is_waiting c)) passes go_stays script)
+    ap (λ (cs : List Command). length (micros program threads cs)) (front_kept (λ c. not (is_waiting c)) passes others_go_on script)
     ∙ ap length (free_micros program threads (take n script) (all_release_front threads n script are))
     ∙ ap (λ (ss : List Micro). length (filter (is_free program threads) ss)) (sym (front_micros program threads [] n script))

@@ -22,7 +22,7 @@ use Rattle.patch_script.specs.Plans.{Plan, is_waiting, plan_of, waiting_line}
 use Rattle.patch_script.specs.Refusals.{Lines, commands_of, has_go, holds_for_good, names_no_function, names_no_thread, is_beyond, is_finalize, is_init, is_misplaced, breaks_hold, breaks_log, waits_for_itself, IsAdmitted, judged, spoken, command_in, with_line, read_lines, ended}
 use Rattle.run_order.specs.FreeScripts.{begins_wait, free_commands, free_text}
 use Rattle.run_order.proofs.FreeLines.{free_lines, stays_line}
-use Rattle.run_order.proofs.FreeMicros.{AllRelease, Releases}
+use Rattle.run_order.proofs.FreeMicros.{AllRelease, Releases, go_stays}
 use Rattle.run_order.proofs.FreeWords.{first_word_tells}
 
 -- ---- results
@@ -50,22 +50,6 @@ any_stays test none (command ∷ script) = by_waiting (is_waiting command) refl 
     by_waiting false is rest =
         ap (λ b. list_any test (cond (not b) (command ∷ free_commands script) (free_commands script))) is
         ∙ ap (λ b. test command || b) rest
-
-go_stays : (command : Command) → is_waiting command ≡ true → is_go command ≡ false
-go_stays commands.Go e = absurd cc
-go_stays commands.Patch e = refl
-go_stays commands.Unpatch e = refl
-go_stays (commands.PatchFunction id) e = refl
-go_stays (commands.UnpatchFunction id) e = refl
-go_stays commands.SetHandler e = refl
-go_stays commands.RemoveHandler e = refl
-go_stays commands.SetArgHandler e = refl
-go_stays commands.RemoveArgHandler e = refl
-go_stays commands.Init e = refl
-go_stays commands.Finalize e = refl
-go_stays (commands.Hold thread passing) e = refl
-go_stays (commands.Release thread) e = refl
-go_stays (commands.Await thread count) e = refl
 
 init_stays : (command : Command) → is_waiting command ≡ true → is_init command ≡ false
 init_stays commands.Init e = absurd cc

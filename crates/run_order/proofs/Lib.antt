@@ -1,5 +1,6 @@
 pub mod Counts
 pub mod PlacesWithoutLoads
+pub mod FirstPassing
 pub mod FewLoads
 pub mod FreeLengths
 pub mod FreeLines

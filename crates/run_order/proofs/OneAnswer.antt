@@ -1,5 +1,5 @@
 -- There is one answer to an audit, and always some answer.
-use Rattle.std.proofs.Common.{◌≡◌, inl, inr, ℕ, ◌+◌, ◌-◌, Bool, true, false, List, [], Some, None, Option, refl, sym, ap, subst, ◌∙◌, arith, map}
+use Rattle.std.proofs.Common.{◌≡◌, ℕ, ◌+◌, ◌-◌, Bool, true, false, List, [], Some, None, Option, refl, sym, ap, subst, ◌∙◌, arith, map}
 use Rattle.std.specs.Prelude.{Result, Ok, Err, option_map, slice_get}
 use Rattle.std.proofs.lemmas.Option.{slice_get-map, slice_get_within}
 use Rattle.xray_image.specs.Program.{Program}
@@ -14,28 +14,16 @@ use Rattle.audit_check.specs.declared.verdict.Verdict.{Verdict}
 use Rattle.audit_check.specs.declared.verdict.Verdict.TheVariants as verdicts
 use Rattle.audit_check.specs.Rows.{AreRunsOf}
 use Rattle.audit_check.specs.Statements.{NamesThreads, Statement}
-use Rattle.audit_check.specs.Verdicts.{AllAgree, FirstToDiffer, IsJudged}
-use Rattle.audit_check.proofs.OneVerdict.{OneEnd, runs_same}
+use Rattle.audit_check.specs.Verdicts.{IsJudged}
+use Rattle.audit_check.proofs.OneVerdict.{OneEnd, first_same, not_first, runs_same}
 use Rattle.run_order.specs.declared.fault.OrderFault.{OrderFault}
 use Rattle.run_order.specs.declared.fault.OrderFault.TheVariants.{Ends, Marks, Long, NoMemory}
 use Rattle.run_order.specs.Answers.{EndsAgree, IsAnswer, IsOrdered, MarksAgree}
 use Rattle.run_order.specs.Orders.{is_long}
 use Rattle.run_order.specs.RunOrders.{IsOrderOf}
 use Rattle.run_order.proofs.OrderLeavesRun.{one_order, some_order}
-use Rattle.std.proofs.lemmas.Bool.{cases_order}
 
 -- ---- one answer
-
-module _ (threads : ℕ) (Row : ℕ → Type 0) where
-  first_same : (t u : ℕ) → FirstToDiffer threads Row t → FirstToDiffer threads Row u → t ≡ u
-  first_same t u a b = elim (cases_order t u) [
-    | inl same ↦ same
-    | inr (inl less) ↦ absurd (a.differs (b.earlier t a.some less))
-    | inr (inr more) ↦ absurd (b.differs (a.earlier u b.some more))
-  ]
-
-  not_first : (t : ℕ) → AllAgree threads Row → FirstToDiffer threads Row t → ⊥
-  not_first t all first = first.differs (all t first.some first.within)
 
 abbrev Answer : Type 0
 Answer = Result (List Turns) OrderFault

@@ -260,9 +260,3 @@ all_are_placed program script statement answer threads same placed = by_case (su
     by_case (inr are) = are
 
 -- ---- a script
-
--- the places at which the threads start, and at which the script ends, by its own program and threads
-pub own_place : (of : Program → ℕ → List Command → ℕ) (program own : Program) (number owns : ℕ) (script : List Command) (place : ℕ) → own ≡ program → owns ≡ number
-    → place ≡ of own owns script → place ≡ of program number script
-own_place of program own number owns script place same equal is =
-    is ∙ ap (λ (p : Program). of p owns script) same ∙ ap (λ n. of program n script) equal

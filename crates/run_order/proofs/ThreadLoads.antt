@@ -1,6 +1,6 @@
 -- The loads of a thread, at the places that the searches of its passings find.
 use Rattle.std.proofs.Common.{◌≡◌, inl, inr, ℕ, zero, suc, ◌+◌, ◌<◌, ◌≤◌, Bool, true, false, List, [], ◌∷◌, ◌++◌, Option, Some, None, refl, sym, ap, subst, ◌∙◌, arith, length, length-append, map, take}
-use Rattle.std.specs.Prelude.{◌⊎◌, option_map, slice_get}
+use Rattle.std.specs.Prelude.{◌⊎◌, slice_get}
 use Rattle.std.proofs.lemmas.List.{length-map}
 use Rattle.xray_image.specs.Program.{Program}
 use Rattle.handler_word.specs.declared.mark.Mark.{Mark}
@@ -16,8 +16,9 @@ use Rattle.run_order.specs.FreeScripts.{free_commands, free_place}
 use Rattle.run_order.specs.Placed.{ArePlaced, Rise}
 use Rattle.audit_check.specs.Places.{Search, found_by, load_places, passing_searches, places_from}
 use Rattle.run_order.proofs.FreeMicros.{AllRelease, free_code, free_start, free_total, places_rise}
+use Rattle.run_order.proofs.FirstPassing.{go_on}
 use Rattle.run_order.proofs.PassingLoads.{IsLoadAt, Leads, passing_led}
-use Rattle.audit_check.proofs.SearchResults.{found_on, was_made, went_on}
+use Rattle.audit_check.proofs.SearchResults.{found_on}
 use Rattle.run_order.proofs.RisingSearches.{found_rises}
 
 -- ---- lists
@@ -215,22 +216,18 @@ module _ (program : Program) (threads : ℕ) (code : ℕ → ℕ → ℕ) where
     passings_placed bound hold last within number from [] (mark ∷ marks) places exist e = absurd cc
     passings_placed bound hold last within number from (sled ∷ sleds) [] places exist e = absurd cc
     passings_placed bound hold last within number from (sled ∷ sleds) (mark ∷ marks) places exist e =
-        let searches = passing_searches program threads code thread (is_held_at hold number) sled mark in
-        let went = went_on
-        (λ (found : ℕ × List ℕ). option_map (λ (later : List ℕ). found.1 ++ later) (places_from program threads code bound thread hold (number + 1) found.0 sleds marks))
-        (found_by (bound number) from searches) places e in
-        let found : ℕ × List ℕ = went.value in
-        let made = was_made (λ (later : List ℕ). found.1 ++ later) (places_from program threads code bound thread hold (number + 1) found.0 sleds marks) places went.gives in
-        let later : List ℕ = made.value in
-        let own = passing_led program threads code sled exist.0 thread (is_held_at hold number) mark (bound number) from found went.given_is in
-        let rest = passings_placed bound hold last within (number + 1) found.0 sleds marks later exist.1 made.given_is in
-        let rises = passing_rises (is_held_at hold number) sled mark (bound number) from found went.given_is in
+        let first = go_on program threads code bound thread hold number from sled mark sleds marks places e in
+        let found : ℕ × List ℕ = first.found in
+        let later : List ℕ = first.later in
+        let own = passing_led program threads code sled exist.0 thread (is_held_at hold number) mark (bound number) from found first.found_is in
+        let rest = passings_placed bound hold last within (number + 1) found.0 sleds marks later exist.1 first.later_are in
+        let rises = passing_rises (is_held_at hold number) sled mark (bound number) from found first.found_is in
         let whole : Placed bound number from last (sled ∷ sleds) (mark ∷ marks) (found.1 ++ later) = record {
           loads = own.loads ++ rest.loads;
           are = more_loads number sled sleds mark marks found.1 later own.loads rest.loads own.leads rest.are;
           rise = rise_join from found.0 last found.1 later rises.0 (omega (arith, rises.1, within number)) rises.2 rest.rise;
         } in
-        subst (λ (ps : List ℕ). Placed bound number from last (sled ∷ sleds) (mark ∷ marks) ps) made.makes whole
+        subst (λ (ps : List ℕ). Placed bound number from last (sled ∷ sleds) (mark ∷ marks) ps) first.makes whole
 
 -- ---- a script without waits
 

@@ -1,10 +1,11 @@
 -- The waits of a script, and how many come before a place.
 use Rattle.std.proofs.Common.{◌≡◌, ℕ, zero, suc, ◌+◌, ◌<◌, ◌≤◌, Bool, true, false, cond, List, [], ◌∷◌, ◌++◌, Option, Some, refl, sym, ap, subst, ◌∙◌, arith, inl, inr, length, length-append, length-take-le, map, take, get_or}
 use Rattle.std.specs.Prelude.{count_by, filter, nat_lt, not, replicate, slice_get, unwrap_or}
-use Rattle.std.specs.List.Sorted.{IsNonDecreasingBy, IsPartitionPoint}
+use Rattle.std.specs.List.Sorted.{IsNonDecreasingBy, IsPartitionPoint, IsPartitionedBy}
 use Rattle.std.proofs.lemmas.Bool.{cases_lt}
 use Rattle.std.proofs.lemmas.Bool.Decides.{nat_tests}
 use Rattle.std.proofs.lemmas.List.{length-replicate, map-append}
+use Rattle.std.proofs.lemmas.List.Sorted.{IsPartitionedBy-ltb}
 use Rattle.std.proofs.lemmas.List.Sums.{count_by-le-length, sum_by-cons}
 use Rattle.std.proofs.lemmas.Option.{slice_get-get_or}
 use Rattle.xray_image.specs.Program.{Program}
@@ -166,6 +167,16 @@ waits_sorted waits are =
 pub few_waits : (waits : List ℕ) (place : ℕ) → AreWaits waits → before place waits ≤ place
 few_waits waits place are =
     subst (λ (ws : List ℕ). before place ws ≤ place) (sym are.are) (few_before are.program are.threads are.script place)
+
+-- so many of them come before a place as a partition point says
+pub counted_before : (waits read : List ℕ) (place point : ℕ) → read ≡ waits → AreWaits waits → point ≤ length read
+    → (IsPartitionedBy (λ wait. nat_lt wait place) read
+    → IsPartitionPoint (λ wait. nat_lt wait place ≡ true) (λ wait. nat_lt wait place ≡ false) read point)
+    → before place read ≡ point
+counted_before waits read place point same are within parts =
+    let sorted : IsNonDecreasingBy (λ wait. wait) read =
+    subst (λ (ws : List ℕ). IsNonDecreasingBy (λ wait. wait) ws) (sym same) (waits_sorted waits are) in
+    before_point place point read within (parts (IsPartitionedBy-ltb (λ wait. wait) read place sorted))
 
 -- ---- the stops of a thread
 

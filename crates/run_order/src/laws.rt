@@ -23,7 +23,8 @@ use step_sim::{a_written_schedule_is_read, buffers_change_no_replay};
 /// these commands (`reads`). Nothing waits in it, so it can be replayed. It isn't longer than the text of
 /// the script (`short`).
 pub fn a_script_reads_without_its_waits()
-    ensures reads { (program : Program) (threads : ℕ) (text : List ℕ) (plan : Plan) → plan_of program threads text ≡ Ok plan
+    ensures reads { (program : Program) (threads : ℕ) (text : List ℕ) (plan : Plan)
+        → plan_of program threads text ≡ Ok plan
         → (free : Plan) × (plan_of program threads (free_text text) ≡ Ok free)
         × (commands_of free.lines ≡ free_commands (commands_of plan.lines)) × (waiting_line free.lines ≡ None) }
     ensures short { (text : List ℕ) → length (free_text text) ≤ length text }

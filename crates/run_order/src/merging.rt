@@ -27,7 +27,8 @@ pub(crate) fn schedule_lines(
     requires start { start ≤ total }
     requires total { total ≤ most_micros }
     requires stops { All (λ stops. AreStops start stops.items) threads.now }
-    ensures { IfOk result (λ lines. lines.items ≡ ordered start total (map (λ stops. places_of stops.items) threads.now)) }
+    ensures { IfOk result (λ lines. lines.items
+        ≡ ordered start total (map (λ stops. places_of stops.items) threads.now)) }
 {
     let mut left = all_left(alloc, threads)?;
     let mut lines = ScheduleLines::new(alloc);

@@ -34,7 +34,8 @@ pub fn order_run(
     requires program { script.now.program ≡ image.now }
     requires threads { script.now.threads ≡ audit.now.setup.threads }
     requires names { NamesThreads (statement_of audit.now) }
-    ensures { (result ≡ Err NoMemory) ⊎ IsOrdered image.now (commands_of script.now.lines) (statement_of audit.now) result }
+    ensures { (result ≡ Err NoMemory)
+        ⊎ IsOrdered image.now (commands_of script.now.lines) (statement_of audit.now) result }
 {
     awaits_bound_passings();
     passings_are_limited();

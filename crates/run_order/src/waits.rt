@@ -36,7 +36,8 @@ impl Waits {
     ) -> Result<Waits, NoMemory>
         requires program { script.now.program ≡ image.now }
         requires threads { script.now.threads ≡ threads }
-        ensures { IfOk result (λ waits. waits.places.items ≡ waits_of image.now threads (commands_of script.now.lines)) }
+        ensures { IfOk result (λ waits. waits.places.items
+            ≡ waits_of image.now threads (commands_of script.now.lines)) }
     {
         let mut places = Vec::new(alloc);
         if script.waits().is_none() {

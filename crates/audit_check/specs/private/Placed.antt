@@ -11,7 +11,6 @@ use Rattle.audit_check.specs.declared.follower.Follower.{Follower}
 use Rattle.audit_check.specs.declared.placing.PlaceFault.{PlaceFault}
 use Rattle.audit_check.specs.declared.placing.PlaceFault.TheVariants.{Ends, Marks}
 use Rattle.audit_check.specs.declared.placing.PlacedThread.{PlacedThread}
-use Rattle.audit_check.specs.declared.stop.Stop.{Stop}
 use Rattle.audit_check.specs.Places.{load_places}
 use Rattle.audit_check.specs.Rows.{EndsAgree, MarksAgree}
 use Rattle.audit_check.specs.Stops.{places_of}
@@ -19,12 +18,12 @@ use Rattle.audit_check.specs.private.Judging.{HasJudged}
 use Rattle.audit_check.specs.private.Searches.{HasPlaced}
 use Rattle.audit_check.specs.private.Walks.{first_marks}
 
--- the first passings of a plain run, as many as `made` says, were made: their marks were judged, and their loads are at
--- these stops
+-- the first passings of a plain run, as many as `made` says, were made: their marks were judged, and their loads have
+-- these places
 pub record HasStopped (program : Program) (threads : ℕ) (script : List Command) (marks : List Mark) (passed : List Passing) (made : ℕ) (follower : Follower)
-    (stops : List Stop) : Type 0 where
+    (places : List ℕ) : Type 0 where
   pub judged : HasJudged program threads script follower (sleds_passed (take made passed)) (first_marks made marks)
-  pub placed : HasPlaced program threads script follower (sleds_passed (take made passed)) (first_marks made marks) (places_of stops)
+  pub placed : HasPlaced program threads script follower (sleds_passed (take made passed)) (first_marks made marks) places
 
 -- what was found of a thread: the places of its loads, if its end and its marks agree
 pub record IsThreadPlaced (program : Program) (threads : ℕ) (script : List Command) (thread : ℕ) (said : ThreadAudit) (run : ThreadRun) (placed : PlacedThread)

@@ -1,14 +1,11 @@
-use Rattle.std.proofs.Common.{◌≡◌, List, Some, length, refl, sym, ap, subst, ◌∙◌, arith}
-use Rattle.std.specs.Prelude.{slice_get}
-use Rattle.std.proofs.lemmas.Option.{slice_get_read}
+use Rattle.std.proofs.Common.{◌≡◌, sym, subst, ◌∙◌, arith}
 use Rattle.xray_image.specs.Program.{Program}
 use Rattle.patch_script.specs.Refusals.{commands_of}
 use Rattle.audit_check.specs.Statements.{statement_of}
 use Rattle.audit_check.specs.Verdicts.{IsVerdict}
-use Rattle.audit_check.specs.declared.audit.AuditEntry.{AuditEntry}
 use Rattle.audit_check.specs.private.Switches.{IsCourseOf}
 use Rattle.audit_check.proofs.SameRows.{Judged, judged_none}
-use Rattle.audit_check.proofs.AllThreads.{Finds, entry_count, entry_number, entry_within, judged_entry, verdict_of_all}
+use Rattle.audit_check.proofs.AllThreads.{Finds, entry_count, entry_here, entry_named, judged_entry, verdict_of_all}
 use Rattle.audit_check.proofs.SomeRuns.{some_runs}
 use Rattle.audit_check.proofs.judging.check_audit.Goals as goal
 
@@ -25,13 +22,8 @@ thread-requires-clause-number c =
     let audit = c.args.audit.now in
     let i = c.loop-entry.entry-index in
     let entry = c.entry-item.result in
-    let items = c.deref-entry-items.result.now in
-    let there : slice_get items i ≡ Some entry = slice_get_read items (length items) i entry refl c.loop-entry-test.true c.entry-item.is in
-    let at : slice_get audit.entries.items i ≡ Some entry =
-    sym (ap (λ (l : List AuditEntry). slice_get l i) c.deref-entry-items.ensures.value) ∙ there in
-    let number = entry_number audit c.requires.names i entry at in
-    let within = entry_within audit c.requires.names i entry at in
-    (omega (arith, number), omega (arith, number, within))
+    let at = entry_here audit c.deref-entry-items.result.now i entry c.deref-entry-items.ensures.value c.loop-entry-test.true c.entry-item.is in
+    entry_named audit c.requires.names i entry at
 
 pub thread-requires-clause-course : goal.thread-requires-clause-course
 thread-requires-clause-course c =
@@ -46,10 +38,7 @@ loop-entry-preserved c = λ runs are.
     let trace = c.args.trace.now in
     let i = c.loop-entry.entry-index in
     let entry = c.entry-item.result in
-    let items = c.deref-entry-items.result.now in
-    let there : slice_get items i ≡ Some entry = slice_get_read items (length items) i entry refl c.loop-entry-test.true c.entry-item.is in
-    let at : slice_get audit.entries.items i ≡ Some entry =
-    sym (ap (λ (l : List AuditEntry). slice_get l i) c.deref-entry-items.ensures.value) ∙ there in
+    let at = entry_here audit c.deref-entry-items.result.now i entry c.deref-entry-items.ensures.value c.loop-entry-test.true c.entry-item.is in
     let agreement = c.in_ok-agreement.agreement in
     let new = c.note.new.self in
     let t = c.loop-entry.left in

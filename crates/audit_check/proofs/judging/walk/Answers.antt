@@ -1,10 +1,8 @@
 use Rattle.std.proofs.Common.{◌≡◌, ◌+◌, ◌<◌, Bor, List, length, ap, arith, subst, sym, ◌∙◌}
 use Rattle.xray_image.specs.Program.{IsAccepted, Program}
-use Rattle.handler_word.specs.declared.mark.Mark.{Mark}
 use Rattle.traced_run.proofs.RecordedEvents.{event_recordable}
-use Rattle.audit_check.specs.private.Walks.{HasWalked, mark_or_skipped}
-use Rattle.audit_check.proofs.OneVerdict.{OneEnd}
-use Rattle.audit_check.proofs.WalkSteps.{accepted_again, at_gate, ends_so, one_more, plain_again, plain_of_way, same_itself, same_thread, stands_first, stands_none, stands_some, still_few}
+use Rattle.audit_check.specs.private.Walks.{HasWalked}
+use Rattle.audit_check.proofs.WalkSteps.{accepted_again, at_gate, mark_of_way, one_more, plain_again, plain_of_way, same_itself, same_thread, stands_first, stands_none, stands_some, still_few, walk_ends}
 use Rattle.audit_check.proofs.judging.walk.Goals as goal
 
 pub gates-init : goal.gates-init
@@ -57,11 +55,9 @@ gates-preserved-in-Some c =
       walked = λ way passed end last is plain none has.
           let run = plain_again s t passed end last kept.same (plain_of_way way s c.args.marks.now.items passed end last is plain) in
           let found = c.sled.ensures.passing passed end last run in
-          let mark_is : mark ≡ mark_or_skipped way.marks (length t.marks) =
-          c.mark_at-mark.ensures ∙ (ap (mark_or_skipped c.args.marks.now.items) (c.want.ensures.gate c.in-Gate.passing c.in-Gate.is)
-          ∙ ap (λ (ms : List Mark). mark_or_skipped ms (length t.marks)) (sym is.marks_are)) in
-          stands_some way passed t u c.sled.result mark c.gates.follower c.judge.new.self found.0 found.1 found.2 mark_is made.mark c.judge.ensures.thread
-          c.judge.ensures.judged c.gates.recording c.note.new.self c.gates.trace c.note.new.trace c.in-Some.event (made.event passed end last run)
+          stands_some way passed t u c.sled.result mark c.gates.follower c.judge.new.self found.0 found.1 found.2
+          (mark_of_way way c.args.marks.now.items t c.in-Gate.passing mark is.marks_are (c.want.ensures.gate c.in-Gate.passing c.in-Gate.is) c.mark_at-mark.ensures)
+          made.mark c.judge.ensures.thread c.judge.ensures.judged c.gates.recording c.note.new.self c.gates.trace c.note.new.trace c.in-Some.event (made.event passed end last run)
           c.note.ensures.noted c.note.ensures.compared (kept.walked way passed end last is plain none has);
     }
 
@@ -84,32 +80,25 @@ gates-preserved c =
       walked = λ way passed end last is plain none has.
           let run = plain_again s t passed end last kept.same (plain_of_way way s c.args.marks.now.items passed end last is plain) in
           let found = c.sled.ensures.passing passed end last run in
-          let mark_is : mark ≡ mark_or_skipped way.marks (length t.marks) =
-          c.mark_at-mark.ensures ∙ (ap (mark_or_skipped c.args.marks.now.items) (c.want.ensures.gate c.in-Gate.passing c.in-Gate.is)
-          ∙ ap (λ (ms : List Mark). mark_or_skipped ms (length t.marks)) (sym is.marks_are)) in
-          stands_none way passed t u c.sled.result mark c.gates.follower c.judge.new.self found.0 found.1 found.2 mark_is made.mark c.judge.ensures.thread
-          c.judge.ensures.judged c.gates.recording c.gates.trace (made.event passed end last run) (kept.walked way passed end last is plain none has);
+          stands_none way passed t u c.sled.result mark c.gates.follower c.judge.new.self found.0 found.1 found.2
+          (mark_of_way way c.args.marks.now.items t c.in-Gate.passing mark is.marks_are (c.want.ensures.gate c.in-Gate.passing c.in-Gate.is) c.mark_at-mark.ensures)
+          made.mark c.judge.ensures.thread c.judge.ensures.judged c.gates.recording c.gates.trace (made.event passed end last run) (kept.walked way passed end last is plain none has);
     }
 
 pub returns-in-Done-clause-end : goal.returns-in-Done-clause-end
 returns-in-Done-clause-end c = λ bytes passed end last accepted run.
-    let s = c.args.cpu.now in
     let t = c.gates.cpu in
-    let kept = c.gates.invariant in
-    let one : OneEnd t.program = λ limits thread passed passed' end end' last last'.
-    c.one_end.ensures bytes t.program limits thread passed passed' end end' last last' (accepted_again s t kept.same bytes accepted) in
-    let so = ends_so t t.want c.want.result c.in-Done.end end passed last one c.want.ensures.want c.in-Done.is c.want.ensures.stands
-    (plain_again s t passed end last kept.same run) in
+    let so = walk_ends c.args.cpu.now t t.want c.want.result c.in-Done.end end bytes passed last c.one_end.ensures c.gates.invariant.same accepted
+    c.want.ensures.want c.in-Done.is c.want.ensures.stands run in
     (so.0, c.passings.ensures ∙ so.1)
 
 pub returns-in-Done-clause-walked : goal.returns-in-Done-clause-walked
 returns-in-Done-clause-walked c = λ bytes way passed end last accepted is plain none has.
     let s = c.args.cpu.now in
     let t = c.gates.cpu in
-    let kept = c.gates.invariant in
     let own : IsAccepted bytes s.program = subst (IsAccepted bytes) (sym is.program) accepted in
-    let one : OneEnd t.program = λ limits thread passed passed' end end' last last'.
-    c.one_end.ensures bytes t.program limits thread passed passed' end end' last last' (accepted_again s t kept.same bytes own) in
-    let so = ends_so t t.want c.want.result c.in-Done.end end passed last one c.want.ensures.want c.in-Done.is c.want.ensures.stands
-    (plain_again s t passed end last kept.same (plain_of_way way s c.args.marks.now.items passed end last is plain)) in
-    subst (λ n. HasWalked way passed n c.gates.follower c.gates.recording c.gates.trace) so.1 (kept.walked way passed end last is plain none has).1
+    let run = plain_of_way way s c.args.marks.now.items passed end last is plain in
+    let so = walk_ends s t t.want c.want.result c.in-Done.end end bytes passed last c.one_end.ensures c.gates.invariant.same own c.want.ensures.want
+    c.in-Done.is c.want.ensures.stands run in
+    subst (λ n. HasWalked way passed n c.gates.follower c.gates.recording c.gates.trace) so.1
+    (c.gates.invariant.walked way passed end last is plain none has).1

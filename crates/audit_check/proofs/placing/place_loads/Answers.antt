@@ -2,7 +2,6 @@ use Rattle.std.proofs.Common.{◌≡◌, ◌+◌, ◌∷◌, ◌++◌, [], inl, 
 use Rattle.std.specs.Prelude.{Err, Ok, Result, slice_get}
 use Rattle.std.specs.Result.{IsErrAnd}
 use Rattle.std.proofs.lemmas.List.{map-append}
-use Rattle.std.proofs.lemmas.Option.{slice_get_read}
 use Rattle.xray_image.specs.Program.{Program}
 use Rattle.patch_script.specs.declared.command.Command.{Command}
 use Rattle.patch_script.specs.Refusals.{commands_of}
@@ -13,14 +12,14 @@ use Rattle.audit_check.specs.declared.audit.Audit.{Audit}
 use Rattle.audit_check.specs.declared.audit.AuditEntry.{AuditEntry}
 use Rattle.audit_check.specs.declared.placing.PlacedThread.{PlacedThread}
 use Rattle.audit_check.specs.declared.stop.Stop.{Stop}
+use Rattle.audit_check.specs.Placings.{all_places}
 use Rattle.audit_check.specs.Statements.{Statement, said_by, statement_of}
 use Rattle.audit_check.specs.Stops.{places_of}
 use Rattle.audit_check.specs.private.Placed.{IsThreadPlaced}
 use Rattle.audit_check.specs.private.Walks.{first_of}
 use Rattle.audit_check.proofs.SameRows.{same_at}
-use Rattle.audit_check.proofs.AllThreads.{entry_count, entry_number, entry_within, run_at, said_at}
-use Rattle.audit_check.proofs.PlacedLoads.{PlacedUpTo, all_placed, faults, placed_next}
-use Rattle.audit_check.proofs.SomeRuns.{some_runs}
+use Rattle.audit_check.proofs.AllThreads.{entry_count, entry_here, entry_named, entry_number, entry_within, run_at, said_at}
+use Rattle.audit_check.proofs.PlacedLoads.{PlacedUpTo, all_placed, faults, placed_next, some_placed}
 use Rattle.audit_check.proofs.placing.place_loads.Goals as goal
 
 fault_is : {A E : Type 0} (result : Result A E) (fault : E) → IsErrAnd result (λ f. f ≡ fault) → result ≡ Err fault
@@ -32,13 +31,8 @@ place-requires-clause-number c =
     let audit = c.args.audit.now in
     let i = c.loop-entry.entry-index in
     let entry = c.entry-item.result in
-    let items = c.deref-entry-items.result.now in
-    let there : slice_get items i ≡ Some entry = slice_get_read items (length items) i entry refl c.loop-entry-test.true c.entry-item.is in
-    let at : slice_get audit.entries.items i ≡ Some entry =
-    sym (ap (λ (l : List AuditEntry). slice_get l i) c.deref-entry-items.ensures.value) ∙ there in
-    let number = entry_number audit c.requires.names i entry at in
-    let within = entry_within audit c.requires.names i entry at in
-    (omega (arith, number), omega (arith, number, within))
+    let at = entry_here audit c.deref-entry-items.result.now i entry c.deref-entry-items.ensures.value c.loop-entry-test.true c.entry-item.is in
+    entry_named audit c.requires.names i entry at
 
 pub returns-in_err-placed : goal.returns-in_err-placed
 returns-in_err-placed c = inl (fault_is _ _ c.from_residual-in_err-placed.ensures.1)
@@ -54,10 +48,7 @@ loop-entry-preserved c = λ runs are.
     let statement : Statement = statement_of audit in
     let i : ℕ = c.loop-entry.entry-index in
     let entry : AuditEntry = c.entry-item.result in
-    let items = c.deref-entry-items.result.now in
-    let there : slice_get items i ≡ Some entry = slice_get_read items (length items) i entry refl c.loop-entry-test.true c.entry-item.is in
-    let at : slice_get audit.entries.items i ≡ Some entry =
-    sym (ap (λ (l : List AuditEntry). slice_get l i) c.deref-entry-items.ensures.value) ∙ there in
+    let at = entry_here audit c.deref-entry-items.result.now i entry c.deref-entry-items.ensures.value c.loop-entry-test.true c.entry-item.is in
     let said = said_at audit c.requires.names i entry at in
     let number = entry_number audit c.requires.names i entry at in
     let within = entry_within audit c.requires.names i entry at in
@@ -86,16 +77,15 @@ returns-in-Some c =
     let program : Program = c.args.image.now in
     let script : List Command = commands_of c.args.script.now.lines in
     let audit : Audit = c.args.audit.now in
-    let accepted = c.each_was_accepted.ensures in
-    let some = some_runs program (statement_of audit) c.requires.names.count
-    (λ thread. c.some_end.ensures accepted.0 program audit.setup.limits thread accepted.1) in
+    let first = c.loop-entry.first in
+    let places : List (List ℕ) = all_places c.loop-entry.threads in
     let all : c.loop-entry.entry-index ≡ audit.setup.threads = omega (arith, c.loop-entry-test.false, entry_count audit c.requires.names) in
-    let places : List (List ℕ) = map (λ (stops : Vec Stop Global). places_of stops.items) c.loop-entry.threads.items in
+    let some = some_placed program script (statement_of audit) first places c.loop-entry.entry-index c.requires.names.count all
+    (λ thread. c.some_end.ensures c.each_was_accepted.ensures.0 program audit.setup.limits thread c.each_was_accepted.ensures.1) c.loop-entry.invariant in
     inr (record {
       runs = some.0;
       are = some.1;
-      placing = faults program script (statement_of audit) some.0 c.loop-entry.first.ends c.loop-entry.first.marks c.loop-entry.first places c.in-Some.fault refl refl
-          (subst (λ n. PlacedUpTo program script (statement_of audit) some.0 n c.loop-entry.first places) all (c.loop-entry.invariant some.0 some.1))
+      placing = faults program script (statement_of audit) some.0 first.ends first.marks first places c.in-Some.fault refl refl some.2
           (sym c.fault_of.ensures ∙ c.in-Some.is);
     })
 
@@ -103,16 +93,17 @@ pub returns : goal.returns
 returns c =
     let program : Program = c.args.image.now in
     let script : List Command = commands_of c.args.script.now.lines in
-    let audit : Audit = c.args.audit.now in
+    let statement : Statement = statement_of c.args.audit.now in
+    let first = c.loop-entry.first in
+    let places : List (List ℕ) = all_places c.loop-entry.threads in
     let accepted = c.each_was_accepted.ensures in
-    let some = some_runs program (statement_of audit) c.requires.names.count
-    (λ thread. c.some_end.ensures accepted.0 program audit.setup.limits thread accepted.1) in
-    let all : c.loop-entry.entry-index ≡ audit.setup.threads = omega (arith, c.loop-entry-test.false, entry_count audit c.requires.names) in
-    let places : List (List ℕ) = map (λ (stops : Vec Stop Global). places_of stops.items) c.loop-entry.threads.items in
+    let all : c.loop-entry.entry-index ≡ statement.setup.threads =
+    omega (arith, c.loop-entry-test.false, entry_count c.args.audit.now c.requires.names) in
+    let some = some_placed program script statement first places c.loop-entry.entry-index c.requires.names.count all
+    (λ thread. c.some_end.ensures accepted.0 program statement.setup.limits thread accepted.1) c.loop-entry.invariant in
     inr (record {
       runs = some.0;
       are = some.1;
-      placing = all_placed program script (statement_of audit) some.0 c.loop-entry.first.ends c.loop-entry.first.marks c.loop-entry.first places refl refl some.1.run.count
-          (subst (λ n. PlacedUpTo program script (statement_of audit) some.0 n c.loop-entry.first places) all (c.loop-entry.invariant some.0 some.1))
+      placing = all_placed program script statement some.0 first.ends first.marks first places refl refl some.1.run.count some.2
           (sym c.fault_of.ensures ∙ c.in-None.is);
     })

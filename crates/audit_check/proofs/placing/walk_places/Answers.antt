@@ -1,9 +1,10 @@
 use Rattle.std.proofs.Common.{◌≡◌, ◌+◌, ◌<◌, Bor, length, ap, refl, subst, sym, ◌∙◌}
 use Rattle.xray_image.specs.Program.{Program}
+use Rattle.audit_check.specs.Stops.{places_of}
+use Rattle.audit_check.specs.private.LoadStops.{places_in}
 use Rattle.audit_check.specs.private.Placed.{HasStopped}
 use Rattle.audit_check.specs.private.Walks.{mark_or_skipped}
-use Rattle.audit_check.proofs.OneVerdict.{OneEnd}
-use Rattle.audit_check.proofs.WalkSteps.{accepted_again, at_gate, ends_so, one_more, plain_again, same_itself, same_thread, still_few}
+use Rattle.audit_check.proofs.WalkSteps.{at_gate, one_more, plain_again, same_itself, same_thread, still_few, walk_ends}
 use Rattle.audit_check.proofs.PlacedLoads.{stopped_first, stopped_next}
 use Rattle.audit_check.proofs.placing.walk_places.Goals as goal
 
@@ -17,7 +18,7 @@ gates-init c = record {
   few = c.requires.few;
   thread = refl;
   walked = λ threads script passed end last plain none has.
-      stopped_first c.args.cpu.now.program threads script c.args.marks.now.items passed c.args.cpu.now c.args.follower.now c.args.stops.now.items none has;
+      stopped_first c.args.cpu.now.program threads script c.args.marks.now.items passed c.args.cpu.now c.args.follower.now (places_in c.args.loads.now) none has;
 }
 
 pub sled-requires : goal.sled-requires
@@ -51,29 +52,22 @@ gates-preserved c =
           let mark_is : mark ≡ mark_or_skipped c.args.marks.now.items (length t.marks) =
           c.mark_at-mark.ensures ∙ ap (mark_or_skipped c.args.marks.now.items) (c.want.ensures.gate c.in-Gate.passing c.in-Gate.is) in
           stopped_next s.program threads script c.args.marks.now.items passed t u found.0 c.gates.follower c.judge-found.new.self c.sled.result mark
-          c.gates.stops.items c.add_stops.new.stops.items c.judge-found.result found.1 found.2 mark_is made.mark c.judge-found.ensures.judged
-          c.judge-found.ensures.placed c.in_ok-add_stops-in-Gate.ensures (kept.walked threads script passed end last plain none has);
+          (places_in c.gates.loads) (places_in c.add_all.new.self) (places_of c.judge-found.result) found.1 found.2 mark_is made.mark c.judge-found.ensures.judged
+          c.judge-found.ensures.placed c.in_ok-add_all-in-Gate.ensures (kept.walked threads script passed end last plain none has);
     }
 
 pub returns-in-Done-clause-end : goal.returns-in-Done-clause-end
 returns-in-Done-clause-end c = λ bytes passed end last accepted run.
-    let s = c.args.cpu.now in
     let t = c.gates.cpu in
-    let kept = c.gates.invariant in
-    let one : OneEnd t.program = λ limits thread passed passed' end end' last last'.
-    c.one_end.ensures bytes t.program limits thread passed passed' end end' last last' (accepted_again s t kept.same bytes accepted) in
-    let so = ends_so t t.want c.want.result c.in-Done.end end passed last one c.want.ensures.want c.in-Done.is c.want.ensures.stands
-    (plain_again s t passed end last kept.same run) in
+    let so = walk_ends c.args.cpu.now t t.want c.want.result c.in-Done.end end bytes passed last c.one_end.ensures c.gates.invariant.same accepted
+    c.want.ensures.want c.in-Done.is c.want.ensures.stands run in
     (so.0, c.passings.ensures ∙ so.1)
 
 pub returns-in-Done-clause-walked : goal.returns-in-Done-clause-walked
 returns-in-Done-clause-walked c = λ bytes threads script passed end last accepted plain none has.
     let s = c.args.cpu.now in
     let t = c.gates.cpu in
-    let kept = c.gates.invariant in
-    let one : OneEnd t.program = λ limits thread passed passed' end end' last last'.
-    c.one_end.ensures bytes t.program limits thread passed passed' end end' last last' (accepted_again s t kept.same bytes accepted) in
-    let so = ends_so t t.want c.want.result c.in-Done.end end passed last one c.want.ensures.want c.in-Done.is c.want.ensures.stands
-    (plain_again s t passed end last kept.same plain) in
-    subst (λ n. HasStopped s.program threads script c.args.marks.now.items passed n c.gates.follower c.gates.stops.items) so.1
-    (kept.walked threads script passed end last plain none has).1
+    let so = walk_ends s t t.want c.want.result c.in-Done.end end bytes passed last c.one_end.ensures c.gates.invariant.same accepted c.want.ensures.want
+    c.in-Done.is c.want.ensures.stands plain in
+    subst (λ n. HasStopped s.program threads script c.args.marks.now.items passed n c.gates.follower (places_in c.gates.loads)) so.1
+    (c.gates.invariant.walked threads script passed end last plain none has).1

@@ -9,13 +9,14 @@ use Rattle.audit_check.specs.declared.stop.Stop.{Stop}
 use Rattle.audit_check.specs.Placings.{all_places}
 use Rattle.audit_check.specs.Statements.{Statement, statement_of}
 use Rattle.audit_check.specs.Stops.{places_of}
+use Rattle.audit_check.proofs.OwnScript.{own_place}
 use Rattle.run_order.specs.Answers.{IsOrdered}
 use Rattle.run_order.specs.Orders.{ordered}
 use Rattle.run_order.specs.private.Stops.{AreStops}
 use Rattle.run_order.specs.private.Waits.{freed}
 use Rattle.run_order.proofs.FreeMicros.{AllRelease}
 use Rattle.run_order.proofs.FreeReading.{free_plan}
-use Rattle.run_order.proofs.PlacedRuns.{Answer, PassingsLimited, all_are_placed, answer_is, fault_answer, loads_fit, order_is, others_freed, others_rise, own_place, starts_low}
+use Rattle.run_order.proofs.PlacedRuns.{Answer, PassingsLimited, all_are_placed, answer_is, fault_answer, loads_fit, order_is, others_freed, others_rise, starts_low}
 use Rattle.run_order.proofs.OrderLeavesRun.{BoundsWithin}
 use Rattle.run_order.proofs.ordering.order_run.Goals as goal
 
@@ -52,10 +53,10 @@ of_stops-requires-clause-start c =
     let waits : List ℕ = c.in_ok-waits.waits.places.items in
     let begin : c.free_place-start.result ≡ freed waits (start_of program statement.setup.threads script) =
     c.free_place-start.ensures
-    ∙ ap (freed waits) (own_place start_of program own.program statement.setup.threads own.threads script c.start.result c.requires.program c.requires.threads c.start.ensures.start) in
+    ∙ ap (freed waits) (own_place program own.program statement.setup.threads own.threads script c.requires.program c.requires.threads start_of c.start.result c.start.ensures.start) in
     let end : c.free_place-total.result ≡ freed waits (total_of program statement.setup.threads script) =
     c.free_place-total.ensures
-    ∙ ap (freed waits) (own_place total_of program own.program statement.setup.threads own.threads script c.total.result c.requires.program c.requires.threads c.total.ensures.total) in
+    ∙ ap (freed waits) (own_place program own.program statement.setup.threads own.threads script c.requires.program c.requires.threads total_of c.total.result c.total.ensures.total) in
     let low = starts_low bounds program script statement placed.runs placed.are (all_places threads) placed.placing.2 waits c.in_ok-waits.ensures in
     omega (arith, low, begin, end)
 
@@ -71,7 +72,7 @@ of_stops-requires-clause-stops c =
     let waits : List ℕ = c.in_ok-waits.waits.places.items in
     let begin : c.free_place-start.result ≡ freed waits (start_of program statement.setup.threads script) =
     c.free_place-start.ensures
-    ∙ ap (freed waits) (own_place start_of program own.program statement.setup.threads own.threads script c.start.result c.requires.program c.requires.threads c.start.ensures.start) in
+    ∙ ap (freed waits) (own_place program own.program statement.setup.threads own.threads script c.requires.program c.requires.threads start_of c.start.result c.start.ensures.start) in
     let free : List (Vec Stop Global) = c.in_ok-free.free.items in
     let freed_are : map (λ (stops : Vec Stop Global). places_of stops.items) free
     ≡ map (λ (stops : Vec Stop Global). map (freed waits) (places_of stops.items)) threads.items =
@@ -93,10 +94,10 @@ returns c =
     let waits : List ℕ = c.in_ok-waits.waits.places.items in
     let begin : c.free_place-start.result ≡ freed waits (start_of program statement.setup.threads script) =
     c.free_place-start.ensures
-    ∙ ap (freed waits) (own_place start_of program own.program statement.setup.threads own.threads script c.start.result c.requires.program c.requires.threads c.start.ensures.start) in
+    ∙ ap (freed waits) (own_place program own.program statement.setup.threads own.threads script c.requires.program c.requires.threads start_of c.start.result c.start.ensures.start) in
     let end : c.free_place-total.result ≡ freed waits (total_of program statement.setup.threads script) =
     c.free_place-total.ensures
-    ∙ ap (freed waits) (own_place total_of program own.program statement.setup.threads own.threads script c.total.result c.requires.program c.requires.threads c.total.ensures.total) in
+    ∙ ap (freed waits) (own_place program own.program statement.setup.threads own.threads script c.requires.program c.requires.threads total_of c.total.result c.total.ensures.total) in
     let free : List (Vec Stop Global) = c.in_ok-free.free.items in
     let freed_are : map (λ (stops : Vec Stop Global). places_of stops.items) free
     ≡ map (λ (stops : Vec Stop Global). map (freed waits) (places_of stops.items)) threads.items =

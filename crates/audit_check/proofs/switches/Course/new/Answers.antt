@@ -1,9 +1,10 @@
-use Rattle.std.proofs.Common.{rules, ◌≡◌, ◌<◌, ◌≤◌, sym, ap, subst, ◌∙◌, arith}
+use Rattle.std.proofs.Common.{rules, ◌≡◌, ◌≤◌, sym, subst, ◌∙◌, arith}
 use Rattle.xray_image.specs.Program.{Program}
-use Rattle.patch_script.specs.Micros.{micro_at, start_of, total_of}
+use Rattle.patch_script.specs.Micros.{start_of, total_of}
 use Rattle.patch_script.specs.Limits.{most_micros}
 use Rattle.patch_script.specs.Refusals.{commands_of}
 use Rattle.audit_check.specs.private.Switches.{IsCourseUpTo, IsOfWords}
+use Rattle.audit_check.proofs.OwnScript.{own_micro, own_place, own_within}
 use Rattle.audit_check.proofs.switches.Course.new.Goals as goal
 
 pub loop-place-init : goal.loop-place-init
@@ -12,10 +13,8 @@ loop-place-init c =
     let threads = c.args.threads in
     let script = commands_of c.args.script.now.lines in
     let own = c.args.script.now in
-    let total : c.total-total.result ≡ total_of program threads script =
-    c.total-total.ensures.total ∙ (ap (λ (p : Program). total_of p own.threads script) c.requires.program ∙ ap (λ n. total_of program n script) c.requires.threads) in
-    let start : c.start.result ≡ start_of program threads script =
-    c.start.ensures.start ∙ (ap (λ (p : Program). start_of p own.threads script) c.requires.program ∙ ap (λ n. start_of program n script) c.requires.threads) in
+    let total = own_place program own.program threads own.threads script c.requires.program c.requires.threads total_of c.total-total.result c.total-total.ensures.total in
+    let start = own_place program own.program threads own.threads script c.requires.program c.requires.threads start_of c.start.result c.start.ensures.start in
     record {
       words = c.in_ok-new.ensures.words;
       switches = c.in_ok-new.ensures.switches script;
@@ -39,16 +38,14 @@ take-requires-clause-step c =
 pub loop-place-preserved : goal.loop-place-preserved
 loop-place-preserved c =
     let program = c.args.image.now in
-    let threads = c.args.threads in
     let script = commands_of c.args.script.now.lines in
     let own = c.args.script.now in
     let place = c.loop-place.place in
-    let total : c.total-total.result ≡ total_of program threads script =
-    c.total-total.ensures.total ∙ (ap (λ (p : Program). total_of p own.threads script) c.requires.program ∙ ap (λ n. total_of program n script) c.requires.threads) in
-    let micro : c.micro_near.result ≡ micro_at program threads script place =
-    c.micro_near.ensures.micro ∙ (ap (λ (p : Program). micro_at p own.threads script place) c.requires.program ∙ ap (λ n. micro_at program n script place) c.requires.threads) in
-    let low : place < total_of program threads script = subst (λ n. place < n) total c.loop-place-test.true in
-    c.in_ok-take.ensures.step program threads script c.loop-place.invariant low (sym micro)
+    let micro = own_micro program own.program c.args.threads own.threads script c.requires.program c.requires.threads place c.micro_near.result
+    c.micro_near.ensures.micro in
+    let low = own_within program own.program c.args.threads own.threads script c.requires.program c.requires.threads place c.total-total.result
+    c.total-total.ensures.total c.loop-place-test.true in
+    c.in_ok-take.ensures.step program c.args.threads script c.loop-place.invariant low (sym micro)
 
 pub returns : goal.returns
 returns c =
@@ -56,7 +53,6 @@ returns c =
     let threads = c.args.threads in
     let script = commands_of c.args.script.now.lines in
     let own = c.args.script.now in
-    let total : c.total-total.result ≡ total_of program threads script =
-    c.total-total.ensures.total ∙ (ap (λ (p : Program). total_of p own.threads script) c.requires.program ∙ ap (λ n. total_of program n script) c.requires.threads) in
+    let total = own_place program own.program threads own.threads script c.requires.program c.requires.threads total_of c.total-total.result c.total-total.ensures.total in
     let all : c.loop-place.place ≡ c.total-total.result = omega (arith, c.loop-place-test.false, c.loop-place.auto.place-end) in
     subst (λ n. IsCourseUpTo program threads script n c.loop-place.course) (all ∙ total) c.loop-place.invariant

@@ -1,8 +1,6 @@
-use Rattle.std.proofs.Common.{◌≡◌, ℕ, List, Some, length, arith, refl, sym, ap, subst, ◌∙◌}
-use Rattle.std.specs.Prelude.{slice_get}
-use Rattle.std.proofs.lemmas.Option.{slice_get_read}
+use Rattle.std.proofs.Common.{◌≡◌, ℕ, Some, arith, sym, subst, ◌∙◌}
 use Rattle.audit_check.specs.private.Turns.{AreMade, IsLeast, IsMet, is_odd}
-use Rattle.audit_check.proofs.TurnLemmas.{apart_sides, at_once, at_turn, past_bound, same_sides, turn_past}
+use Rattle.audit_check.proofs.TurnLemmas.{apart_sides, at_once, at_turn, past_bound, same_sides, turn_past, turn_read}
 use Rattle.audit_check.proofs.turns.Turns.first.Goals.{then-is_odd-on, else-is_odd-on+in_ok-at}
 use Rattle.audit_check.proofs.turns.Turns.first.Goals as goal
 
@@ -18,12 +16,8 @@ returns-then-at-bound c = λ values last turned low.
           subst (λ n. IsLeast (IsMet values c.args.on c.args.from c.args.bound) (Some n)) (sym at)
           (at_once values last places turned c.args.on c.args.from c.args.bound made low are is (omega (arith, at, c.if-at-bound.true)))
       | else-is_odd-on+in_ok-at w ↦
-          let at : c.if-is_odd-on.at ≡ w.in_ok-at.field-0.now = w.at-is in
           let look = w.in_ok-at.ensures.lookup in
-          let there : slice_get w.deref.result.now made ≡ Some w.in_ok-at.field-0.now =
-          slice_get_read w.deref.result.now (length w.deref.result.now) made w.in_ok-at.field-0.now refl (omega (arith, look.0)) look.1 in
-          let found : slice_get places made ≡ Some c.if-is_odd-on.at =
-          sym (ap (λ (l : List ℕ). slice_get l made) w.deref.ensures.value) ∙ (there ∙ ap Some (sym at)) in
+          let found = turn_read places w.deref.result.now made w.in_ok-at.field-0.now c.if-is_odd-on.at w.deref.ensures.value (omega (arith, look.0)) look.1 w.at-is in
           at_turn values last places turned c.args.on c.args.from c.args.bound made low are
           (λ e. apart_sides c.is_odd.result c.args.on w.if-is_odd-on.false (c.is_odd.ensures ∙ e)) c.if-is_odd-on.at found c.if-at-bound.true
     ]
@@ -38,12 +32,8 @@ returns-else-at-bound c = λ values last turned low.
           let at : c.if-is_odd-on.at ≡ c.args.from = w.at-is in
           past_bound values last places turned c.args.on c.args.from c.args.bound made low are (omega (arith, at, c.if-at-bound.false))
       | else-is_odd-on+in_ok-at w ↦
-          let at : c.if-is_odd-on.at ≡ w.in_ok-at.field-0.now = w.at-is in
           let look = w.in_ok-at.ensures.lookup in
-          let there : slice_get w.deref.result.now made ≡ Some w.in_ok-at.field-0.now =
-          slice_get_read w.deref.result.now (length w.deref.result.now) made w.in_ok-at.field-0.now refl (omega (arith, look.0)) look.1 in
-          let found : slice_get places made ≡ Some c.if-is_odd-on.at =
-          sym (ap (λ (l : List ℕ). slice_get l made) w.deref.ensures.value) ∙ (there ∙ ap Some (sym at)) in
+          let found = turn_read places w.deref.result.now made w.in_ok-at.field-0.now c.if-is_odd-on.at w.deref.ensures.value (omega (arith, look.0)) look.1 w.at-is in
           turn_past values last places turned c.args.on c.args.from c.args.bound made low are
           (λ e. apart_sides c.is_odd.result c.args.on w.if-is_odd-on.false (c.is_odd.ensures ∙ e))
           (λ next is. let same : next ≡ c.if-is_odd-on.at = one next c.if-is_odd-on.at (sym is ∙ found) in omega (arith, same, c.if-at-bound.false))

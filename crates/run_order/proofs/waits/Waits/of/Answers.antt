@@ -2,9 +2,10 @@ use Rattle.std.proofs.Common.{◌≡◌, ◌<◌, ◌++◌, ◌∷◌, [], Optio
 use Rattle.std.specs.Prelude.{is_some, not}
 use Rattle.xray_image.specs.Program.{Program}
 use Rattle.patch_script.specs.declared.command.Command.{Command}
-use Rattle.patch_script.specs.Micros.{micro_at, micros, total_of}
+use Rattle.patch_script.specs.Micros.{micros, total_of}
 use Rattle.patch_script.specs.Plans.{waiting_line}
 use Rattle.patch_script.specs.Refusals.{commands_of}
+use Rattle.audit_check.proofs.OwnScript.{own_micro, own_place, own_within}
 use Rattle.run_order.specs.FreeScripts.{is_free}
 use Rattle.run_order.specs.private.Waits.{waits_from}
 use Rattle.run_order.proofs.WaitsBefore.{not_free, waits_next}
@@ -29,11 +30,11 @@ steps-preserved-then-begins_patch c =
     let script : List Command = commands_of c.args.script.now.lines in
     let own = c.args.script.now in
     let place : ℕ = c.steps.place in
-    let total : c.total-total.result ≡ total_of program threads script =
-    c.total-total.ensures.total ∙ (ap (λ (p : Program). total_of p own.threads script) c.requires.program ∙ ap (λ n. total_of program n script) c.requires.threads) in
-    let micro : c.micro_near-micro.result ≡ micro_at program threads script place =
-    c.micro_near-micro.ensures.micro ∙ (ap (λ (p : Program). micro_at p own.threads script place) c.requires.program ∙ ap (λ n. micro_at program n script place) c.requires.threads) in
-    let low : place < total_of program threads script = subst (λ n. place < n) total c.steps-test.true in
+    let total = own_place program own.program threads own.threads script c.requires.program c.requires.threads total_of c.total-total.result c.total-total.ensures.total in
+    let micro = own_micro program own.program threads own.threads script c.requires.program c.requires.threads place c.micro_near-micro.result
+    c.micro_near-micro.ensures.micro in
+    let low = own_within program own.program threads own.threads script c.requires.program c.requires.threads place c.total-total.result
+    c.total-total.ensures.total c.steps-test.true in
     let next = patch_next program threads script place c.micro_near-micro.result low micro (c.begins_patch.ensures program c.state_word-state.ensures c.if-begins_patch.true) in
     record {
       within = omega (arith, next.0, total);
@@ -47,11 +48,10 @@ steps-preserved c =
     let script : List Command = commands_of c.args.script.now.lines in
     let own = c.args.script.now in
     let place : ℕ = c.steps.place in
-    let total : c.total-total.result ≡ total_of program threads script =
-    c.total-total.ensures.total ∙ (ap (λ (p : Program). total_of p own.threads script) c.requires.program ∙ ap (λ n. total_of program n script) c.requires.threads) in
-    let micro : c.micro_near-micro.result ≡ micro_at program threads script place =
-    c.micro_near-micro.ensures.micro ∙ (ap (λ (p : Program). micro_at p own.threads script place) c.requires.program ∙ ap (λ n. micro_at program n script place) c.requires.threads) in
-    let low : place < total_of program threads script = subst (λ n. place < n) total c.steps-test.true in
+    let micro = own_micro program own.program threads own.threads script c.requires.program c.requires.threads place c.micro_near-micro.result
+    c.micro_near-micro.ensures.micro in
+    let low = own_within program own.program threads own.threads script c.requires.program c.requires.threads place c.total-total.result
+    c.total-total.ensures.total c.steps-test.true in
     let decides : c.is_wait.result ≡ not (is_free program threads c.micro_near-micro.result) = c.is_wait.ensures program c.state_word-state.ensures in
     let before : List ℕ = waits_from program threads 0 (take place (micros program threads script)) in
     record {
