@@ -5,12 +5,12 @@
 //! the desk or of out follows the one that failed. If err fails, only its line is lost.
 use crate::checks::{check_same, check_same_at};
 use crate::runs::{IMAGE, Run, assert_held, assert_no_fault, run_line, status_of};
-use crate::trace_bytes::{LOG_OF_ONE_CALL, ONE_CALL, RECURSION, file};
 use std::alloc::Global;
 use std::process::Abort;
 use std::sync::Wait;
 use std::test::Fail;
 use std::thread::Threads;
+use test_helpers::trace_parts::{LOG_OF_ONE_CALL, ONE_CALL, RECURSION, file};
 use test_helpers::{DeskCall, DeskFault, WatchedDesk, WatchedSink};
 use xray_io::{MemDesk, MemSink, OpenGate};
 
