@@ -6,7 +6,7 @@ ghost use Rattle.call_trie.specs.Tries.{StandsFor};
 
 use crate::checks::{check_same, check_same_text};
 use crate::draws::draw;
-use crate::event_traces::{NESTED, Said, printed, trace_of};
+use crate::event_traces::{NESTED, Said, TURNS, printed, trace_of};
 use call_trie::{MOST_NODES, TrieRecorder, TrieState, merged};
 use fdr_record::{Event, Kind, Recorder};
 use function_names::Names;
@@ -125,18 +125,9 @@ const ROWS: [(&[Said], &str); 9] = [
         &NESTED,
         "         1         35         25 #1;#1\n         1         10         10 #1;#1;#1\n",
     ),
-    // Each exit ends a call of its own thread. The exit of 7 in thread 2 ends that of 9 with it.
+    // Each exit ends a call of its own thread.
     (
-        &[
-            (1, Kind::Entry, 7, 0),
-            (2, Kind::Entry, 7, 100),
-            (1, Kind::Entry, 8, 1),
-            (2, Kind::Entry, 9, 110),
-            (1, Kind::Exit, 8, 4),
-            (2, Kind::Exit, 7, 140),
-            (1, Kind::Exit, 7, 10),
-            (2, Kind::Exit, 9, 150),
-        ],
+        &TURNS,
         "         2         50         47 #7\n         1          3          3 #7;#8\n",
     ),
     // The counter wraps.

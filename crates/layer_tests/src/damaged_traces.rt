@@ -3,12 +3,13 @@
 ghost use Rattle.std.specs.Prelude.{◌<◌, ⊤};
 
 use crate::checks::check_same_at;
-use crate::trace_files::{FIELDS_OF_72, HEADER_FIELDS, THREE_BLOCKS, file, one_block};
+use crate::trace_files::{FIELDS_OF_88, HEADER_FIELDS, one_block};
 use fdr_file::*;
 use fdr_record::{Event, Kind, RecFault};
 use std::alloc::Global;
 use std::process::Abort;
 use std::test::Fail;
+use test_helpers::trace_parts::{THREE_BLOCKS, file};
 use xray_io::{NoMemory, Wall};
 
 /// Counts the blocks and the events of a trace.
@@ -179,7 +180,7 @@ fn prefixes_that_end_with_a_block_are_traces(rt: HostRuntime) -> Result<(), Fail
     for len in 0..=bytes.len() {
         let prefix = &bytes[..len];
         match prefix_wanted(len) {
-            Ok(blocks) => check_trace(&rt, prefix, FIELDS_OF_72, blocks, blocks),
+            Ok(blocks) => check_trace(&rt, prefix, FIELDS_OF_88, blocks, blocks),
             Err((fault, longest)) => {
                 check_fault(&rt, rt.alloc(), prefix, fault, longest, len);
             }

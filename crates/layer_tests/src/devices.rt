@@ -7,7 +7,7 @@ use std::fmt::Display;
 use std::io::Write;
 use std::test::Fail;
 use std::{fs, io};
-use test_helpers::Trickle;
+use test_helpers::WatchedDesk;
 use xray_io::{
     Desk, Each, ErrSink, FileDesk, MemDesk, MemSink, OutSink, Piece, ReadError, ReadFail, Text,
     WriteFault, read_whole, write_all, write_output, write_text,
@@ -83,12 +83,12 @@ fn a_name_is_read_whole_within_its_limit(rt: HostRuntime) -> Result<(), Fail> {
 }
 
 /// What a reading of five bytes, one byte a call, leaves after.
-fn read_five(alloc: Global, limit: u64) -> Result<(Result<usize, ReadError>, Trickle), Fail> {
+fn read_five(alloc: Global, limit: u64) -> Result<(Result<usize, ReadError>, WatchedDesk), Fail> {
     let mut desk = MemDesk::new(alloc, Vec::new(alloc));
     desk.put("five", b"hello")?;
-    let mut trickle = Trickle::new(desk);
-    let read = whole_length(alloc, &mut trickle, "five", limit);
-    Ok((read, trickle))
+    let mut watched = WatchedDesk::new(alloc, desk);
+    let read = whole_length(alloc, &mut watched, "five", limit);
+    Ok((read, watched))
 }
 
 /// Limits, and what comes of such a reading: the answer, the place after the last byte that was
@@ -106,11 +106,11 @@ const FIVE: [(u64, Result<usize, ReadError>, u64, u64); 6] = [
 #[test]
 fn short_reads_go_on_and_ask_for_no_byte_twice_or_in_vain(rt: HostRuntime) -> Result<(), Fail> {
     for (limit, wanted, next, greatest) in &FIVE {
-        let (read, trickle) = read_five(rt.alloc(), *limit)?;
+        let (read, watched) = read_five(rt.alloc(), *limit)?;
         check_same_at(&rt, &read, wanted, limit);
-        assert!(rt; trickle.is_in_order());
-        check_same_at(&rt, &trickle.next(), next, limit);
-        check_same_at(&rt, &trickle.greatest(), greatest, limit);
+        assert!(rt; watched.is_in_order());
+        check_same_at(&rt, &watched.next(), next, limit);
+        check_same_at(&rt, &watched.greatest(), greatest, limit);
     }
     Ok(())
 }

@@ -20,6 +20,19 @@ pub const NESTED: [Said; 5] = [
     (1, Kind::Exit, 1, 45),
 ];
 
+/// Two threads whose events take turns. Each exit ends a call of its own thread. The exit of 7 in
+/// thread 2 ends the call of 9 too.
+pub const TURNS: [Said; 8] = [
+    (1, Kind::Entry, 7, 0),
+    (2, Kind::Entry, 7, 100),
+    (1, Kind::Entry, 8, 1),
+    (2, Kind::Entry, 9, 110),
+    (1, Kind::Exit, 8, 4),
+    (2, Kind::Exit, 7, 140),
+    (1, Kind::Exit, 7, 10),
+    (2, Kind::Exit, 9, 150),
+];
+
 const HEADER: Header = Header {
     version: 3,
     constant: true,

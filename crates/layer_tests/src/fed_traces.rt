@@ -8,10 +8,8 @@ use crate::event_traces::Said;
 use fdr_file::{Header, Taker, TraceFault, TraceScan};
 use fdr_record::{Event, Kind};
 use std::alloc::{AllocError, Global};
+use test_helpers::trace_parts::HEADER;
 use xray_io::{NoMemory, Wall};
-
-/// A header with a constant and nonstop counter, and with buffers of 16,384 bytes.
-const HEADER: &[u8] = b"\x03\0\x01\0\x03\0\0\0\0\0\0\0\0\0\0\0\0\x40\0\0\0\0\0\0\0\0\0\0\0\0\0\0";
 
 /// Extents of 72 bytes, and the first byte of a record that names a thread.
 const EXTENTS_72: &[u8] = b"\x0F\x48\0\0\0\0\0\0\0\0\0\0\0\0\0\0\x01";

@@ -12,27 +12,10 @@ use fdr_record::{Event, Kind};
 use std::alloc::{AllocError, Global};
 use std::process::Abort;
 use std::test::Fail;
+use test_helpers::trace_parts::{BASIC_HEADER, LOG_OF_ONE_CALL, ONE_CALL, file};
 use trace_forms::*;
 use xray_image::{Image, read_image};
 use xray_io::{MemSink, Wall};
-
-/// A header with a constant and nonstop counter, and with buffers of 16,384 bytes. Then the extents
-/// of a block of 80 bytes, and its records: thread 1, the wall time 0, process 1, CPU 0 with the
-/// counter 0, an entry of function 1, and its exit two cycles later.
-const TRACE: [u8; 128] =
-    *b"\x03\0\x01\0\x03\0\0\0\0\0\0\0\0\0\0\0\0\x40\0\0\0\0\0\0\0\0\0\0\0\0\0\0\
-\x0F\x50\0\0\0\0\0\0\0\0\0\0\0\0\0\0\
-\x01\x01\0\0\0\0\0\0\0\0\0\0\0\0\0\0\
-\x09\0\0\0\0\0\0\0\0\0\0\0\0\0\0\0\
-\x13\x01\0\0\0\0\0\0\0\0\0\0\0\0\0\0\
-\x05\0\0\0\0\0\0\0\0\0\0\0\0\0\0\0\
-\x10\0\0\0\0\0\0\0\
-\x12\0\0\0\x02\0\0\0";
-
-/// The basic log of this trace.
-const LOG: [u8; 96] = *b"\x03\0\0\0\x03\0\0\0\0\0\0\0\0\0\0\0\0\0\0\0\0\0\0\0\0\0\0\0\0\0\0\0\
-\0\0\0\0\x01\0\0\0\0\0\0\0\0\0\0\0\x01\0\0\0\x01\0\0\0\0\0\0\0\0\0\0\0\
-\0\0\0\x01\x01\0\0\0\x02\0\0\0\0\0\0\0\x01\0\0\0\x01\0\0\0\0\0\0\0\0\0\0\0";
 
 /// Some first bytes of the trace, and how many. Their trace events, and how many bytes of the log
 /// are theirs.
@@ -147,9 +130,11 @@ fn check_forms(
 
 #[test]
 fn a_trace_has_each_form(rt: HostRuntime) -> Result<(), Fail> {
+    let trace = file(rt.alloc(), &ONE_CALL)?;
+    let basic = file(rt.alloc(), &LOG_OF_ONE_CALL)?;
     for (read, events, written) in &FORMS {
-        let bytes = TRACE.get(..*read).ok_or("bytes")?;
-        let log = LOG.get(..*written).ok_or("log")?;
+        let bytes = trace.get(..*read).ok_or("bytes")?;
+        let log = basic.get(..*written).ok_or("log")?;
         check_forms(&rt, rt.alloc(), bytes, events, log)?;
     }
     Ok(())
@@ -157,32 +142,35 @@ fn a_trace_has_each_form(rt: HostRuntime) -> Result<(), Fail> {
 
 #[test]
 fn a_file_is_dumped(rt: HostRuntime) -> Result<(), Fail> {
+    let trace = file(rt.alloc(), &ONE_CALL)?;
     for (read, text) in &DUMPS {
-        let dump = dump_of(rt.alloc(), TRACE.get(..*read).ok_or("bytes")?)?;
+        let dump = dump_of(rt.alloc(), trace.get(..*read).ok_or("bytes")?)?;
         check_same_text(&rt, std::str::from_utf8(dump.bytes())?, text);
     }
     Ok(())
 }
 
-/// Checks what is answered to the log if it is cut to each length from `least` on and below `end`.
+/// Checks what is returned for a log if it is cut to each length from `least` on and below `end`.
 fn check_cuts(
     rt: &impl Abort,
     alloc: Global,
+    log: &[u8],
     least: usize,
     end: usize,
     fault: Option<BasicFault>,
 ) -> Result<(), Fail> {
     for read in least..end {
-        let log = read_basic(alloc, LOG.get(..read).ok_or("bytes")?);
-        check_same_at(rt, &log.err(), &fault, &read);
+        let cut = read_basic(alloc, log.get(..read).ok_or("bytes")?);
+        check_same_at(rt, &cut.err(), &fault, &read);
     }
     Ok(())
 }
 
 #[test]
 fn a_log_that_is_cut_is_short(rt: HostRuntime) -> Result<(), Fail> {
+    let log = file(rt.alloc(), &LOG_OF_ONE_CALL)?;
     for (least, end, fault) in &CUTS {
-        check_cuts(&rt, rt.alloc(), *least, *end, *fault)?;
+        check_cuts(&rt, rt.alloc(), &log, *least, *end, *fault)?;
     }
     Ok(())
 }
@@ -198,11 +186,12 @@ fn changed(alloc: Global, log: &[u8], place: usize, to: u8) -> Result<Vec<u8>, A
 
 #[test]
 fn damaged_logs_are_refused(rt: HostRuntime) -> Result<(), Fail> {
+    let log = file(rt.alloc(), &LOG_OF_ONE_CALL)?;
     for (place, to, fault) in &DAMAGES {
-        let log = changed(rt.alloc(), &LOG, *place, *to)?;
+        let damaged = changed(rt.alloc(), &log, *place, *to)?;
         check_same_at(
             &rt,
-            &read_basic(rt.alloc(), &log).err(),
+            &read_basic(rt.alloc(), &damaged).err(),
             &Some(*fault),
             place,
         );
@@ -226,7 +215,7 @@ fn add_record(log: &mut Vec<u8>, thread: u8, pid: u8) -> Result<(), AllocError> 
 
 #[test]
 fn runs_of_one_thread_and_process_are_blocks(rt: HostRuntime) -> Result<(), Fail> {
-    let mut log = LOG.get(..32).ok_or("header")?.to_vec(rt.alloc())?;
+    let mut log = Vec::from_slice(rt.alloc(), BASIC_HEADER)?;
     for (thread, pid) in &OWNERS {
         add_record(&mut log, *thread, *pid)?;
     }

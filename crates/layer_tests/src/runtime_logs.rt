@@ -9,34 +9,35 @@ use runtime_log::*;
 use std::alloc::Global;
 use std::process::Abort;
 use std::test::Fail;
+use test_helpers::trace_parts::{
+    CPU, ENTRY, EXIT_AFTER_2, EXTENTS_80, HEADER, HEADER_OF_5, PREAMBLE, file,
+};
 
 /// A log of version 5, with a constant and nonstop counter, and with buffers of 16,384 bytes. It is
 /// of one block of 115 bytes: thread 1, the wall time 0, process 1, CPU 0 with the counter 0, an entry
 /// of function 1, a custom event of 3 bytes 5 cycles later, a typed event without bytes 1 cycle later,
 /// and the exit 2 cycles later.
-const RECORDER: [u8; 163] =
-    *b"\x05\0\x01\0\x03\0\0\0\0\0\0\0\0\0\0\0\0\x40\0\0\0\0\0\0\0\0\0\0\0\0\0\0\
-\x0F\x73\0\0\0\0\0\0\0\0\0\0\0\0\0\0\
-\x01\x01\0\0\0\0\0\0\0\0\0\0\0\0\0\0\
-\x09\0\0\0\0\0\0\0\0\0\0\0\0\0\0\0\
-\x13\x01\0\0\0\0\0\0\0\0\0\0\0\0\0\0\
-\x05\0\0\0\0\0\0\0\0\0\0\0\0\0\0\0\
-\x10\0\0\0\0\0\0\0\
-\x0B\x03\0\0\0\x05\0\0\0\xFF\xFF\xFF\xFF\xFF\xFF\xFF\
-abc\
-\x11\0\0\0\0\x01\0\0\0\x07\0\xFF\xFF\xFF\xFF\xFF\
-\x12\0\0\0\x02\0\0\0";
+const RECORDER: [&[u8]; 9] = [
+    HEADER_OF_5,
+    b"\x0F\x73\0\0\0\0\0\0\0\0\0\0\0\0\0\0",
+    PREAMBLE,
+    CPU,
+    ENTRY,
+    b"\x0B\x03\0\0\0\x05\0\0\0\xFF\xFF\xFF\xFF\xFF\xFF\xFF",
+    b"abc",
+    b"\x11\0\0\0\0\x01\0\0\0\x07\0\xFF\xFF\xFF\xFF\xFF",
+    EXIT_AFTER_2,
+];
 
 /// Its trace. The exit is 8 cycles after the entry.
-const RECORDER_TRACE: [u8; 128] =
-    *b"\x03\0\x01\0\x03\0\0\0\0\0\0\0\0\0\0\0\0\x40\0\0\0\0\0\0\0\0\0\0\0\0\0\0\
-\x0F\x50\0\0\0\0\0\0\0\0\0\0\0\0\0\0\
-\x01\x01\0\0\0\0\0\0\0\0\0\0\0\0\0\0\
-\x09\0\0\0\0\0\0\0\0\0\0\0\0\0\0\0\
-\x13\x01\0\0\0\0\0\0\0\0\0\0\0\0\0\0\
-\x05\0\0\0\0\0\0\0\0\0\0\0\0\0\0\0\
-\x10\0\0\0\0\0\0\0\
-\x12\0\0\0\x08\0\0\0";
+const RECORDER_TRACE: [&[u8]; 6] = [
+    HEADER,
+    EXTENTS_80,
+    PREAMBLE,
+    CPU,
+    ENTRY,
+    b"\x12\0\0\0\x08\0\0\0",
+];
 
 /// What is said of it.
 const RECORDER_FACTS: &str = "                   1 blocks
@@ -138,22 +139,25 @@ fn check_damaged(
 
 #[test]
 fn a_log_of_each_mode_is_imported(rt: HostRuntime) -> Result<(), Fail> {
-    check_import(&rt, rt.alloc(), &RECORDER, &RECORDER_TRACE)?;
+    let log = file(rt.alloc(), &RECORDER)?;
+    let trace = file(rt.alloc(), &RECORDER_TRACE)?;
+    check_import(&rt, rt.alloc(), &log, &trace)?;
     check_import(&rt, rt.alloc(), &BASIC, &BASIC_TRACE)
 }
 
 #[test]
 fn a_trace_is_imported_as_itself(rt: HostRuntime) -> Result<(), Fail> {
-    check_import(&rt, rt.alloc(), &RECORDER_TRACE, &RECORDER_TRACE)
+    let trace = file(rt.alloc(), &RECORDER_TRACE)?;
+    check_import(&rt, rt.alloc(), &trace, &trace)
 }
 
 #[test]
 fn a_block_that_stands_twice_is_taken_once(rt: HostRuntime) -> Result<(), Fail> {
-    let mut log = RECORDER.to_vec(rt.alloc())?;
-    log.extend_from_slice(RECORDER.get(32..).ok_or("block")?)?;
-    let twice = import(rt.alloc(), &log)??;
-    check_same_list(&rt, twice.file(), &RECORDER_TRACE);
-    let once = import(rt.alloc(), &RECORDER)??;
+    let log = file(rt.alloc(), &RECORDER)?;
+    let doubled = file(rt.alloc(), &[&log, log.get(32..).ok_or("block")?])?;
+    let twice = import(rt.alloc(), &doubled)??;
+    check_same_list(&rt, twice.file(), &file(rt.alloc(), &RECORDER_TRACE)?);
+    let once = import(rt.alloc(), &log)??;
     check_same_text(&rt, &printed(rt.alloc(), once.facts())?, RECORDER_FACTS);
     let wanted = Facts {
         custom: 2,
@@ -167,8 +171,9 @@ fn a_block_that_stands_twice_is_taken_once(rt: HostRuntime) -> Result<(), Fail> 
 
 #[test]
 fn damaged_logs_of_the_runtime_are_refused(rt: HostRuntime) -> Result<(), Fail> {
+    let log = file(rt.alloc(), &RECORDER)?;
     for (place, to, fault) in &DAMAGES {
-        check_damaged(&rt, rt.alloc(), &RECORDER, *place, *to, *fault)?;
+        check_damaged(&rt, rt.alloc(), &log, *place, *to, *fault)?;
     }
     for (place, to, fault) in &BASIC_DAMAGES {
         check_damaged(&rt, rt.alloc(), &BASIC, *place, *to, *fault)?;

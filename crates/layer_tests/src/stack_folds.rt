@@ -1,7 +1,7 @@
 //! Calls of `StackFold` of `stack_rebuild`, which a scan of `fdr_file` feeds in pieces.
 
 use crate::checks::{check_same, check_same_text};
-use crate::event_traces::{NESTED, Said, printed};
+use crate::event_traces::{NESTED, Said, TURNS, printed};
 use crate::fed_traces::{feed_pieces, file_of};
 use fdr_record::Kind;
 use function_names::Names;
@@ -31,18 +31,6 @@ fn check_stacks(rt: &impl Abort, alloc: Global, events: &[Said], wanted: &str) -
     check_same_text(rt, printed(alloc, &text)?.as_str(), wanted);
     Ok(())
 }
-
-/// Two threads whose blocks take turns. Each exit ends a call of its own thread.
-const TURNS: [Said; 8] = [
-    (1, Kind::Entry, 7, 0),
-    (2, Kind::Entry, 7, 100),
-    (1, Kind::Entry, 8, 1),
-    (2, Kind::Entry, 9, 110),
-    (1, Kind::Exit, 8, 4),
-    (2, Kind::Exit, 7, 140),
-    (1, Kind::Exit, 7, 10),
-    (2, Kind::Exit, 9, 150),
-];
 
 #[test]
 fn a_fold_that_is_fed_in_pieces_has_the_stacks_of_the_trace(rt: HostRuntime) -> Result<(), Fail> {

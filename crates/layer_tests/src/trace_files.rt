@@ -6,48 +6,15 @@ use fdr_record::{Event, Kind};
 use std::alloc::{AllocError, Global};
 use std::process::Abort;
 use std::test::Fail;
+use test_helpers::trace_parts::{
+    CPU, CPU_1_AT_2, CPU_AT_2, ENTRY, EXIT, EXIT_AFTER_2, EXTENTS_80, EXTENTS_96, HEADER, ONE_CALL,
+    PREAMBLE, THREE_BLOCKS, file,
+};
 use xray_io::Wall;
-
-/// A header with a constant and nonstop counter, and with buffers of 16,384 bytes.
-const HEADER: &[u8] = b"\x03\0\x01\0\x03\0\0\0\0\0\0\0\0\0\0\0\0\x40\0\0\0\0\0\0\0\0\0\0\0\0\0\0";
-
-/// Extents of 72, 80 and 96 bytes.
-const EXTENTS_72: &[u8] = b"\x0F\x48\0\0\0\0\0\0\0\0\0\0\0\0\0\0";
-
-const EXTENTS_80: &[u8] = b"\x0F\x50\0\0\0\0\0\0\0\0\0\0\0\0\0\0";
-
-const EXTENTS_96: &[u8] = b"\x0F\x60\0\0\0\0\0\0\0\0\0\0\0\0\0\0";
-
-/// Thread 1, the wall time 0, and process 1.
-const PREAMBLE: &[u8] = b"\x01\x01\0\0\0\0\0\0\0\0\0\0\0\0\0\0\
-\x09\0\0\0\0\0\0\0\0\0\0\0\0\0\0\0\
-\x13\x01\0\0\0\0\0\0\0\0\0\0\0\0\0\0";
-
-/// CPU 0 at counters 0 and 2.
-const CPU: &[u8] = b"\x05\0\0\0\0\0\0\0\0\0\0\0\0\0\0\0";
-
-const CPU_AT_2: &[u8] = b"\x05\0\0\x02\0\0\0\0\0\0\0\0\0\0\0\0";
-
-/// An entry of function 1, and an exit of it two cycles on.
-const ENTRY: &[u8] = b"\x10\0\0\0\0\0\0\0";
-
-const EXIT_AFTER_2: &[u8] = b"\x12\0\0\0\x02\0\0\0";
-
-/// The bytes of these parts, one after the other.
-pub(crate) fn file(alloc: Global, parts: &[&[u8]]) -> Result<Vec<u8>, AllocError> {
-    let mut bytes = Vec::new(alloc);
-    for part in parts {
-        bytes.extend_from_slice(part)?;
-    }
-    Ok(bytes)
-}
 
 /// A file of one block, with an entry of function 1 at counter 0 and its exit at 2.
 pub(crate) fn one_block(alloc: Global) -> Result<Vec<u8>, AllocError> {
-    file(
-        alloc,
-        &[HEADER, EXTENTS_80, PREAMBLE, CPU, ENTRY, EXIT_AFTER_2],
-    )
+    file(alloc, &ONE_CALL)
 }
 
 /// An event: its CPU, its function, its kind and its counter.
@@ -120,18 +87,13 @@ fn check_one_block(
     check_file(rt, alloc, bytes, &HEADER_FIELDS, 1, (1, EPOCH, 1), events)
 }
 
-/// CPU 0 at the last counter, and CPU 1 at counter 2.
+/// CPU 0 at the last counter.
 const CPU_AT_LAST: &[u8] = b"\x05\0\0\xFF\xFF\xFF\xFF\xFF\xFF\xFF\xFF\0\0\0\0\0";
-
-const CPU_1_AT_2: &[u8] = b"\x05\x01\0\x02\0\0\0\0\0\0\0\0\0\0\0\0";
 
 /// The whole counters 0 and 2^32.
 const WRAP_TO_0: &[u8] = b"\x07\0\0\0\0\0\0\0\0\0\0\0\0\0\0\0";
 
 const WRAP_TO_2_32: &[u8] = b"\x07\0\0\0\0\x01\0\0\0\0\0\0\0\0\0\0";
-
-/// An exit of function 1 without a delta.
-const EXIT: &[u8] = b"\x12\0\0\0\0\0\0\0";
 
 /// The parts of a block of two events, and these events.
 const DELTAS: [(&[&[u8]], [Said; 2]); 6] = [
@@ -239,41 +201,9 @@ fn an_entry_has_the_first_argument_behind_it(rt: HostRuntime) -> Result<(), Fail
     Ok(())
 }
 
-/// A header with a constant and nonstop counter, and with buffers of 72 bytes.
-const HEADER_OF_72: &[u8] =
-    b"\x03\0\x01\0\x03\0\0\0\0\0\0\0\0\0\0\0\x48\0\0\0\0\0\0\0\0\0\0\0\0\0\0\0";
-
-/// Thread 2, the wall time 0, and process 1.
-const PREAMBLE_OF_2: &[u8] = b"\x01\x02\0\0\0\0\0\0\0\0\0\0\0\0\0\0\
-\x09\0\0\0\0\0\0\0\0\0\0\0\0\0\0\0\
-\x13\x01\0\0\0\0\0\0\0\0\0\0\0\0\0\0";
-
-/// CPU 0 at counter 1, and an exit of function 2.
-const CPU_AT_1: &[u8] = b"\x05\0\0\x01\0\0\0\0\0\0\0\0\0\0\0\0";
-
-const EXIT_OF_2: &[u8] = b"\x22\0\0\0\0\0\0\0";
-
-/// A file of 296 bytes with three blocks of one event each: the last one of thread 1, and the last
-/// two of thread 2.
-pub(crate) const THREE_BLOCKS: [&[u8]; 13] = [
-    HEADER_OF_72,
-    EXTENTS_72,
-    PREAMBLE,
-    CPU_AT_2,
-    EXIT,
-    EXTENTS_72,
-    PREAMBLE_OF_2,
-    CPU_AT_1,
-    EXIT_OF_2,
-    EXTENTS_72,
-    PREAMBLE_OF_2,
-    CPU_AT_2,
-    EXIT,
-];
-
-/// Its header.
-pub(crate) const FIELDS_OF_72: Header = Header {
-    size: 72,
+/// The header of `THREE_BLOCKS`.
+pub(crate) const FIELDS_OF_88: Header = Header {
+    size: 88,
     ..HEADER_FIELDS
 };
 
@@ -289,7 +219,7 @@ fn a_cursor_gives_the_events_in_order(rt: HostRuntime) -> Result<(), Fail> {
     let bytes = file(rt.alloc(), &THREE_BLOCKS)?;
     read_trace(rt.alloc(), &bytes)?;
     let mut cursor = EventCursor::new(&bytes);
-    check_same(&rt, &cursor.header(), &FIELDS_OF_72);
+    check_same(&rt, &cursor.header(), &FIELDS_OF_88);
     for (thread, pid, event) in &THREE_EVENTS {
         let wanted = Some((*thread, *pid, said(*event)));
         check_same(&rt, &cursor.next(), &wanted);

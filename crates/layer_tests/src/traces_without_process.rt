@@ -2,37 +2,36 @@
 
 use crate::checks::check_same;
 use crate::damaged_traces::{check_fault, check_trace};
-use crate::trace_files::{HEADER_FIELDS, file, one_block};
+use crate::trace_files::{HEADER_FIELDS, one_block};
 use fdr_file::*;
 use fdr_record::RecFault;
 use std::alloc::{AllocError, Global};
 use std::test::Fail;
+use test_helpers::trace_parts::{
+    CPU, ENTRY, EXIT_AFTER_2, EXTENTS_64, HEADER_OF_2, ONE_CALL_WITHOUT_PROCESS, THREAD_1, WALL_0,
+    file, file_of_blocks,
+};
 
-/// A header of version 2 with a constant and nonstop counter, and with buffers of 16,384 bytes.
-const HEADER: &[u8] = b"\x02\0\x01\0\x03\0\0\0\0\0\0\0\0\0\0\0\0\x40\0\0\0\0\0\0\0\0\0\0\0\0\0\0";
-
+/// A header of version 2.
 const FIELDS: Header = Header {
     version: 2,
     ..HEADER_FIELDS
 };
 
-/// Extents of 32 and 64 bytes.
-const EXTENTS_32: &[u8] = b"\x0F\x20\0\0\0\0\0\0\0\0\0\0\0\0\0\0";
+/// A header of version 2, and a block of 32 bytes, which has no event.
+const EMPTY_BLOCK: [&[u8]; 4] = [
+    HEADER_OF_2,
+    b"\x0F\x20\0\0\0\0\0\0\0\0\0\0\0\0\0\0",
+    THREAD_1,
+    WALL_0,
+];
 
-const EXTENTS_64: &[u8] = b"\x0F\x40\0\0\0\0\0\0\0\0\0\0\0\0\0\0";
-
-/// Thread 1, and the wall time 0.
-const PREAMBLE: &[u8] = b"\x01\x01\0\0\0\0\0\0\0\0\0\0\0\0\0\0\
-\x09\0\0\0\0\0\0\0\0\0\0\0\0\0\0\0";
-
-/// CPU 0 at counter 0, an entry of function 1, and its exit two cycles on.
-const ONE_CALL: &[u8] = b"\x05\0\0\0\0\0\0\0\0\0\0\0\0\0\0\0\
-\x10\0\0\0\0\0\0\0\
-\x12\0\0\0\x02\0\0\0";
+/// A block of one call.
+const ONE_CALL: [&[u8]; 6] = [EXTENTS_64, THREAD_1, WALL_0, CPU, ENTRY, EXIT_AFTER_2];
 
 /// A file of one block with this call.
 fn one_call(alloc: Global) -> Result<Vec<u8>, AllocError> {
-    file(alloc, &[HEADER, EXTENTS_64, PREAMBLE, ONE_CALL])
+    file(alloc, &ONE_CALL_WITHOUT_PROCESS)
 }
 
 #[test]
@@ -61,12 +60,9 @@ fn a_block_of_version_2_is_of_process_0(rt: HostRuntime) -> Result<(), Fail> {
 
 #[test]
 fn a_block_of_32_bytes_is_accepted(rt: HostRuntime) -> Result<(), Fail> {
-    let bytes = file(
-        rt.alloc(),
-        &[HEADER, EXTENTS_32, PREAMBLE, EXTENTS_64, PREAMBLE, ONE_CALL],
-    )?;
+    let bytes = file_of_blocks(rt.alloc(), &[&EMPTY_BLOCK, &ONE_CALL])?;
     check_trace(&rt, &bytes, FIELDS, 2, 2);
-    let mut first = file(rt.alloc(), &[HEADER, EXTENTS_32, PREAMBLE])?;
+    let mut first = file(rt.alloc(), &EMPTY_BLOCK)?;
     check_trace(&rt, &first, FIELDS, 1, 0);
     first.pop();
     check_fault(&rt, rt.alloc(), &first, TraceFault::Short(32), Ok(32), 79);

@@ -46,18 +46,7 @@ impl FirstPatches {
                 let first = &mut self.by_id[id as usize - 1];
                 *first = first.or(Some(number));
             }
-            Command::Unpatch
-            | Command::UnpatchFunction { .. }
-            | Command::SetHandler
-            | Command::RemoveHandler
-            | Command::SetArgHandler
-            | Command::RemoveArgHandler
-            | Command::Init
-            | Command::Finalize
-            | Command::Hold { .. }
-            | Command::Go
-            | Command::Release { .. }
-            | Command::Await { .. } => {}
+            _ => {}
         }
     }
 

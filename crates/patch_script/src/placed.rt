@@ -94,17 +94,7 @@ impl Command {
     {
         match self {
             Command::Hold { .. } | Command::Release { .. } | Command::Await { .. } => Some(line),
-            Command::Patch
-            | Command::Unpatch
-            | Command::PatchFunction { .. }
-            | Command::UnpatchFunction { .. }
-            | Command::SetHandler
-            | Command::RemoveHandler
-            | Command::SetArgHandler
-            | Command::RemoveArgHandler
-            | Command::Init
-            | Command::Finalize
-            | Command::Go => None,
+            _ => None,
         }
     }
 }
@@ -153,16 +143,7 @@ impl PlacedCommands {
             },
             Command::PatchFunction { id } | Command::UnpatchFunction { id } =>
                 SledRange::of_function(&self.sleds, id),
-            Command::SetHandler
-            | Command::RemoveHandler
-            | Command::SetArgHandler
-            | Command::RemoveArgHandler
-            | Command::Init
-            | Command::Finalize
-            | Command::Hold { .. }
-            | Command::Go
-            | Command::Release { .. }
-            | Command::Await { .. } => SledRange::none(),
+            _ => SledRange::none(),
         }
     }
 

@@ -61,18 +61,7 @@ impl Draft {
             Command::PatchFunction { id } | Command::UnpatchFunction { id } => is_beyond(
                 self.ids, id,
             ),
-            Command::Patch
-            | Command::Unpatch
-            | Command::SetHandler
-            | Command::RemoveHandler
-            | Command::SetArgHandler
-            | Command::RemoveArgHandler
-            | Command::Init
-            | Command::Finalize
-            | Command::Hold { .. }
-            | Command::Go
-            | Command::Release { .. }
-            | Command::Await { .. } => false,
+            _ => false,
         }
     }
 
@@ -84,17 +73,7 @@ impl Draft {
             Command::Hold { thread, .. }
             | Command::Release { thread }
             | Command::Await { thread, .. } => is_beyond(self.placed.threads, thread),
-            Command::Patch
-            | Command::Unpatch
-            | Command::PatchFunction { .. }
-            | Command::UnpatchFunction { .. }
-            | Command::SetHandler
-            | Command::RemoveHandler
-            | Command::SetArgHandler
-            | Command::RemoveArgHandler
-            | Command::Init
-            | Command::Finalize
-            | Command::Go => false,
+            _ => false,
         }
     }
 

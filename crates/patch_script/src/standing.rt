@@ -131,16 +131,7 @@ impl Standing {
         match command {
             Command::Go | Command::Hold { .. } => self.going,
             Command::Release { .. } | Command::Await { .. } => !self.going,
-            Command::Patch
-            | Command::Unpatch
-            | Command::PatchFunction { .. }
-            | Command::UnpatchFunction { .. }
-            | Command::SetHandler
-            | Command::RemoveHandler
-            | Command::SetArgHandler
-            | Command::RemoveArgHandler
-            | Command::Init
-            | Command::Finalize => false,
+            _ => false,
         }
     }
 
@@ -153,18 +144,7 @@ impl Standing {
         match command {
             Command::Hold { thread, .. } => self.holds.of(thread) != Hold::Free,
             Command::Release { thread } => !matches!(self.holds.of(thread), Hold::Held { .. }),
-            Command::Patch
-            | Command::Unpatch
-            | Command::PatchFunction { .. }
-            | Command::UnpatchFunction { .. }
-            | Command::SetHandler
-            | Command::RemoveHandler
-            | Command::SetArgHandler
-            | Command::RemoveArgHandler
-            | Command::Init
-            | Command::Finalize
-            | Command::Go
-            | Command::Await { .. } => false,
+            _ => false,
         }
     }
 
@@ -176,18 +156,7 @@ impl Standing {
         match command {
             Command::Init => self.log != Log::Uninitialized,
             Command::Finalize => self.log != Log::Initialized,
-            Command::Patch
-            | Command::Unpatch
-            | Command::PatchFunction { .. }
-            | Command::UnpatchFunction { .. }
-            | Command::SetHandler
-            | Command::RemoveHandler
-            | Command::SetArgHandler
-            | Command::RemoveArgHandler
-            | Command::Hold { .. }
-            | Command::Go
-            | Command::Release { .. }
-            | Command::Await { .. } => false,
+            _ => false,
         }
     }
 
@@ -201,19 +170,7 @@ impl Standing {
                 Hold::Held { passing } => passing < count,
                 Hold::Free | Hold::Released { .. } => false,
             },
-            Command::Patch
-            | Command::Unpatch
-            | Command::PatchFunction { .. }
-            | Command::UnpatchFunction { .. }
-            | Command::SetHandler
-            | Command::RemoveHandler
-            | Command::SetArgHandler
-            | Command::RemoveArgHandler
-            | Command::Init
-            | Command::Finalize
-            | Command::Hold { .. }
-            | Command::Go
-            | Command::Release { .. } => false,
+            _ => false,
         }
     }
 
@@ -228,15 +185,7 @@ impl Standing {
             Command::Finalize => self.log = Log::Finalized,
             Command::Hold { thread, passing } => self.holds.set(thread, Hold::Held { passing }),
             Command::Release { thread } => self.holds.release(thread),
-            Command::Patch
-            | Command::Unpatch
-            | Command::PatchFunction { .. }
-            | Command::UnpatchFunction { .. }
-            | Command::SetHandler
-            | Command::RemoveHandler
-            | Command::SetArgHandler
-            | Command::RemoveArgHandler
-            | Command::Await { .. } => {}
+            _ => {}
         }
     }
 

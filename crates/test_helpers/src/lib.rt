@@ -1,10 +1,10 @@
-//! A desk for tests that moves one byte a call, and a desk and a sink that record their faults.
+//! What tests share: a desk that moves one byte a call and records its reads and its faults, a sink
+//! that records its faults, and the parts of trace files.
 #![tactic(auto)]
 
-mod trickle;
+pub mod trace_parts;
 mod watched_desk;
 mod watched_sink;
 
-pub use trickle::Trickle;
 pub use watched_desk::{DeskCall, DeskFault, WatchedDesk};
 pub use watched_sink::WatchedSink;

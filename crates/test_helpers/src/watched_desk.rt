@@ -1,32 +1,41 @@
-//! A desk that records its first fault.
+//! A desk that moves one byte a call, and records its reads and its first fault.
 ghost use Rattle.std.specs.Prelude.{◌^◌};
 ghost use Rattle.xray_io.specs.Desk.{Untold};
 
-use crate::Trickle;
 use std::alloc::Global;
 use xray_io::{Desk, Failed, MemDesk, ReadFail};
 
-/// What a call of a desk does.
-#[derive(Clone, Copy, Debug, PartialEq, Eq, Drop)]
+/// A call of a desk.
+#[derive(Clone, Copy, PartialEq, Eq)]
 pub enum DeskCall {
     Read,
     Create,
     Append,
 }
 
-/// A call of a desk that failed, and the name that it was given.
+/// A call that failed, and the name that it was given.
 #[derive(Drop)]
 pub struct DeskFault {
     pub call: DeskCall,
     pub name: String,
 }
 
-/// A desk that moves one byte a call. It records the first call that failed, and counts the calls
-/// after that one.
+/// The reads of one name so far.
+#[derive(Clone, Copy)]
+struct Reads {
+    next: u64,
+    in_order: bool,
+    greatest: u64,
+}
+
+/// A desk that moves one byte a call. It checks that each read begins where the last one ended, and
+/// records the greatest place up to which a read asked. It also records the first call that failed,
+/// and counts the calls after that one.
 #[derive(Drop)]
 pub struct WatchedDesk {
     alloc: Global,
-    trickle: Trickle,
+    desk: MemDesk,
+    reads: Reads,
     fault: Option<DeskFault>,
     later_calls: u64,
 }
@@ -36,7 +45,12 @@ impl WatchedDesk {
     pub fn new(alloc: Global, desk: MemDesk) -> Self {
         WatchedDesk {
             alloc,
-            trickle: Trickle::new(desk),
+            desk,
+            reads: Reads {
+                next: 0,
+                in_order: true,
+                greatest: 0,
+            },
             fault: None,
             later_calls: 0,
         }
@@ -44,7 +58,22 @@ impl WatchedDesk {
 
     /// What a name holds.
     pub fn get(&self, name: &str) -> Option<&[u8]> {
-        self.trickle.get(name)
+        self.desk.get(name)
+    }
+
+    /// The place after the last byte that was read.
+    pub fn next(&self) -> u64 {
+        self.reads.next
+    }
+
+    /// Whether each read began where the last one ended. The first one begins at 0.
+    pub fn is_in_order(&self) -> bool {
+        self.reads.in_order
+    }
+
+    /// The greatest place up to which a read asked for bytes.
+    pub fn greatest(&self) -> u64 {
+        self.reads.greatest
     }
 
     /// The first call that failed, if one failed.
@@ -75,6 +104,14 @@ impl WatchedDesk {
     }
 }
 
+impl Reads {
+    /// Notes where a read begins, and for how many bytes it asks.
+    fn ask(&mut self, from: u64, count: u64) {
+        self.in_order = self.in_order && from == self.next;
+        self.greatest = self.greatest.max(from.saturating_add(count));
+    }
+}
+
 impl Desk for WatchedDesk {
     ghost held = { λ _ _. Untold };
 
@@ -90,8 +127,13 @@ impl Desk for WatchedDesk {
 
     fn read(&mut self, name: &str, from: u64, buf: &mut [u8]) -> Result<usize, ReadFail> {
         self.begin();
-        match self.trickle.read(name, from, buf) {
-            Ok(count) => Ok(count),
+        self.reads.ask(from, buf.len() as u64);
+        let room = buf.len().min(1);
+        match self.desk.read(name, from, &mut buf[..room]) {
+            Ok(count) => {
+                self.reads.next = from.saturating_add(count as u64);
+                Ok(count)
+            }
             Err(_) => {
                 self.record(DeskCall::Read, name);
                 Err(ReadFail::Failed)
@@ -101,7 +143,7 @@ impl Desk for WatchedDesk {
 
     fn create(&mut self, name: &str) -> Result<(), Failed> {
         self.begin();
-        match self.trickle.create(name) {
+        match self.desk.create(name) {
             Ok(()) => Ok(()),
             Err(failed) => {
                 self.record(DeskCall::Create, name);
@@ -112,7 +154,7 @@ impl Desk for WatchedDesk {
 
     fn append(&mut self, name: &str, bytes: &[u8]) -> Result<usize, Failed> {
         self.begin();
-        match self.trickle.append(name, bytes) {
+        match self.desk.append(name, &bytes[..bytes.len().min(1)]) {
             Ok(count) => Ok(count),
             Err(failed) => {
                 self.record(DeskCall::Append, name);

@@ -5,11 +5,12 @@ use crate::runs::{
     run_line,
 };
 use crate::sim::TRACED;
-use crate::trace_bytes::{
-    CPU, ENTRY, EXIT, EXTENTS_72, EXTENTS_80, HEADER, HEADER_OF_2, ONE_CALL, ONE_EXIT, PREAMBLE,
-    Printed, RECURSION, THREAD_1, TWO_FUNCTIONS, WALL_0, assert_printed, trace_desk,
-};
+use crate::trace_bytes::{Printed, assert_printed, trace_desk};
 use std::test::Fail;
+use test_helpers::trace_parts::{
+    CPU, ENTRY, EXIT, EXTENTS_72, EXTENTS_80, HEADER, HEADER_OF_2, ONE_CALL, ONE_EXIT, PREAMBLE,
+    RECURSION, THREAD_1, TWO_FUNCTIONS, WALL_0,
+};
 
 const TEXT_OF_NONE: &str =
     "Functions with latencies: 0\n    funcid      count        min        med        \

@@ -5,11 +5,11 @@ use crate::runs::{
     assert_held, assert_left, assert_made, assert_no_fault, desk_of, run_line, text_of_end,
 };
 use crate::sim::SIM;
-use crate::trace_bytes::{CPU, ENTRY, EXTENTS_80, EXTENTS_96, HEADER, PREAMBLE, file};
 use std::process::Abort;
 use std::sync::Wait;
 use std::test::Fail;
 use std::thread::Threads;
+use test_helpers::trace_parts::{CPU, ENTRY, EXTENTS_80, EXTENTS_96, HEADER, PREAMBLE, file};
 
 /// Scripts over a function that logs its argument, schedules, and the marks of the thread. Loads 1 to 4 of its first
 /// passing are those of the patched sled. The argument handler's word comes next, then the handler's word, unless an

@@ -9,7 +9,7 @@ use std::process::Abort;
 use std::sync::Wait;
 use std::test::Fail;
 use std::thread::Threads;
-use test_helpers::Trickle;
+use test_helpers::WatchedDesk;
 use xray_io::MemDesk;
 
 /// A move, an output and a return. The other tests have the image of this text as bytes.
@@ -193,20 +193,28 @@ const MADE: [Made; 6] = [
     (FIBONACCI, 326, FIBONACCI_CODE, FIBONACCI_END, FIBONACCI_MAP),
 ];
 
-#[test]
-fn six_texts_become_images_that_run_and_have_their_sleds(rt: HostRuntime) -> Result<(), Fail> {
+/// Checks the images that a line makes of the texts: what they hold, how they run, and their sleds.
+fn assert_images<R: Abort + Threads + Wait + Sync + AllocGlobal>(
+    rt: &R,
+    line: &str,
+) -> Result<(), Fail> {
     for (text, length, code, end, map) in &MADE {
         let mut desk = text_desk(rt.alloc(), &[], text.as_bytes())?;
-        assert_done(&rt, "asm t i", &mut desk, "")?;
-        assert_length(&rt, desk.get("i"), *length);
+        assert_done(rt, line, &mut desk, "")?;
+        assert_length(rt, desk.get("i"), *length);
         let file = desk.get("i").unwrap_or(OLD);
-        check_same_at(&rt, &file.get(CODE..CODE + code.len()), &Some(*code), text);
+        check_same_at(rt, &file.get(CODE..CODE + code.len()), &Some(*code), text);
         let end = text_of_end(rt.alloc(), end)?;
-        assert_done(&rt, "plain i", &mut desk, &end)?;
+        assert_done(rt, "plain i", &mut desk, &end)?;
         let map = text_of_map(rt.alloc(), map)?;
-        assert_done(&rt, "extract i", &mut desk, &map)?;
+        assert_done(rt, "extract i", &mut desk, &map)?;
     }
     Ok(())
+}
+
+#[test]
+fn six_texts_become_images_that_run_and_have_their_sleds(rt: HostRuntime) -> Result<(), Fail> {
+    assert_images(&rt, "asm t i")
 }
 
 /// The place of the map in the image of the straight line, and the map with relative addresses.
@@ -222,17 +230,7 @@ const RELATIVE_MAP: (usize, &[u8]) = (
 
 #[test]
 fn relative_addresses_of_a_map_are_those_of_its_sleds(rt: HostRuntime) -> Result<(), Fail> {
-    for (text, length, code, end, map) in &MADE {
-        let mut desk = text_desk(rt.alloc(), &[], text.as_bytes())?;
-        assert_done(&rt, "asm t --map-version=2 i", &mut desk, "")?;
-        assert_length(&rt, desk.get("i"), *length);
-        let file = desk.get("i").unwrap_or(OLD);
-        check_same_at(&rt, &file.get(CODE..CODE + code.len()), &Some(*code), text);
-        let end = text_of_end(rt.alloc(), end)?;
-        assert_done(&rt, "plain i", &mut desk, &end)?;
-        let map = text_of_map(rt.alloc(), map)?;
-        assert_done(&rt, "extract i", &mut desk, &map)?;
-    }
+    assert_images(&rt, "asm t --map-version=2 i")?;
     let (at, map) = RELATIVE_MAP;
     let mut desk = text_desk(rt.alloc(), &[], STRAIGHT_LINE.as_bytes())?;
     assert_done(&rt, "asm t i --map-version 2", &mut desk, "")?;
@@ -337,14 +335,14 @@ const FAILING: [(u64, u8, &str, Option<usize>); 7] = [
 fn a_call_of_the_desk_that_fails_leaves_a_front_of_the_image(rt: HostRuntime) -> Result<(), Fail> {
     for (failing, status, line, count) in &FAILING {
         let desk = text_desk(rt.alloc(), &[*failing], STRAIGHT_LINE.as_bytes())?;
-        let mut trickle = Trickle::new(desk);
-        let run = run_line(&rt, "asm t i", &mut trickle)?;
+        let mut watched = WatchedDesk::new(rt.alloc(), desk);
+        let run = run_line(&rt, "asm t i", &mut watched)?;
         assert_stopped(&rt, &run, *status, line);
         let left = match count {
             Some(count) => IMAGE.get(..*count),
             None => Some(OLD),
         };
-        check_same_at(&rt, &trickle.get("i"), &left, line);
+        check_same_at(&rt, &watched.get("i"), &left, line);
     }
     Ok(())
 }

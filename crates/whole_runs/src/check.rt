@@ -5,12 +5,12 @@ use crate::checks::check_same_at;
 use crate::run::{HELD, desk_with};
 use crate::runs::{IMAGE, assert_left, assert_no_fault, assert_stopped, image_desk, run_line};
 use crate::sim::{LIVE, TRACED};
-use crate::trace_bytes::{HEADER, ONE_CALL, file};
 use std::alloc::Global;
 use std::process::Abort;
 use std::sync::Wait;
 use std::test::Fail;
 use std::thread::Threads;
+use test_helpers::trace_parts::{HEADER, ONE_CALL, file};
 use xray_io::MemDesk;
 
 /// The words of a check of what `sim` and `run` leave.

@@ -1,13 +1,13 @@
 //! Damaged traces and images, and prefixes of a trace: each is refused with the place of its first
 //! fault, by every command that reads it.
 use crate::runs::{IMAGE, assert_left, assert_no_fault, assert_stopped, image_desk, run_line};
-use crate::trace_bytes::{BUFFERS_OF_88, FORMAT, ONE_CALL, file};
 use crate::traces::{LEFT, LEFT_BY_2, LEFT_F_BY_2};
 use std::alloc::Global;
 use std::process::Abort;
 use std::sync::Wait;
 use std::test::Fail;
 use std::thread::Threads;
+use test_helpers::trace_parts::{BUFFERS_OF_88, FORMAT, ONE_CALL, file};
 use xray_io::MemDesk;
 
 /// Damages of a file: bytes and their places, the length to which the file is cut or extended by a

@@ -5,12 +5,12 @@
 //! the desk or of out follows the one that failed. If err fails, only its line is lost.
 use crate::checks::{check_same, check_same_at};
 use crate::runs::{IMAGE, Run, assert_held, assert_no_fault, run_line, status_of};
-use crate::trace_bytes::{LOG_OF_ONE_CALL, ONE_CALL, RECURSION, file};
 use std::alloc::Global;
 use std::process::Abort;
 use std::sync::Wait;
 use std::test::Fail;
 use std::thread::Threads;
+use test_helpers::trace_parts::{LOG_OF_ONE_CALL, ONE_CALL, RECURSION, file};
 use test_helpers::{DeskCall, DeskFault, WatchedDesk, WatchedSink};
 use xray_io::{MemDesk, MemSink, OpenGate};
 
@@ -156,12 +156,23 @@ const OTHER: &str = "z";
 /// No command makes as many calls.
 const ENDLESS: u64 = 10_000;
 
-/// The numbers of the calls that are to fail, of the desk, of out and of err.
+/// Calls of a device that are to fail: as many as this, from the first on.
 #[derive(Clone, Copy)]
-struct Failing<'f> {
-    desk: &'f [u64],
-    out: &'f [u64],
-    err: &'f [u64],
+struct Calls {
+    first: u64,
+    count: u64,
+}
+
+const NO_CALL: Calls = Calls { first: 0, count: 0 };
+
+const FIRST_CALL: Calls = Calls { first: 0, count: 1 };
+
+/// The calls that are to fail, of the desk, of out and of err.
+#[derive(Clone, Copy)]
+struct Failing {
+    desk: Calls,
+    out: Calls,
+    err: Calls,
 }
 
 /// A device whose calls fail in turn.
@@ -174,24 +185,33 @@ enum Device {
 
 /// The failures of these calls of a device. Calls of err fail beside them, or, for err itself, the first call of the
 /// desk and of out.
-fn failures_of<'f>(device: Device, calls: &'f [u64], of_err: &'f [u64]) -> Failing<'f> {
+fn failures_of(device: Device, calls: Calls, of_err: Calls) -> Failing {
     match device {
         Device::Desk => Failing {
             desk: calls,
-            out: &[],
+            out: NO_CALL,
             err: of_err,
         },
         Device::Out => Failing {
-            desk: &[],
+            desk: NO_CALL,
             out: calls,
             err: of_err,
         },
         Device::Err => Failing {
-            desk: &[0],
-            out: &[0],
+            desk: FIRST_CALL,
+            out: FIRST_CALL,
             err: calls,
         },
     }
+}
+
+/// The numbers of these calls.
+fn numbers_of(alloc: Global, calls: Calls) -> Result<Vec<u64>, Fail> {
+    let mut numbers = Vec::new(alloc);
+    for place in 0..calls.count {
+        numbers.push(calls.first.saturating_add(place))?;
+    }
+    Ok(numbers)
 }
 
 /// Whether a call of a device failed.
@@ -220,8 +240,8 @@ struct Whole {
 }
 
 /// A desk that holds what a command reads, old outputs, and another name.
-fn desk_for(alloc: Global, command: &Command, failing: &[u64]) -> Result<MemDesk, Fail> {
-    let mut desk = MemDesk::new(alloc, Vec::from_slice(alloc, failing)?);
+fn desk_for(alloc: Global, command: &Command, failing: Calls) -> Result<MemDesk, Fail> {
+    let mut desk = MemDesk::new(alloc, numbers_of(alloc, failing)?);
     desk.put(OTHER, OLD)?;
     for name in command.outputs {
         desk.put(name, OLD)?;
@@ -232,17 +252,34 @@ fn desk_for(alloc: Global, command: &Command, failing: &[u64]) -> Result<MemDesk
     Ok(desk)
 }
 
+/// A stream that fails at these calls, before a run.
+fn stream_for(alloc: Global, failing: Calls) -> Result<WatchedSink, Fail> {
+    let sink = MemSink::new(alloc, numbers_of(alloc, failing)?);
+    Ok(WatchedSink::new(sink))
+}
+
 /// A desk for a command and streams, which fail at these calls, before a run.
 fn before_run(alloc: Global, command: &Command, failing: Failing) -> Result<Left, Fail> {
     let desk = desk_for(alloc, command, failing.desk)?;
-    let out = Vec::from_slice(alloc, failing.out)?;
-    let err = Vec::from_slice(alloc, failing.err)?;
     Ok(Left {
         status: 0,
         desk: WatchedDesk::new(alloc, desk),
-        out: WatchedSink::new(MemSink::new(alloc, out)),
-        err: WatchedSink::new(MemSink::new(alloc, err)),
+        out: stream_for(alloc, failing.out)?,
+        err: stream_for(alloc, failing.err)?,
     })
+}
+
+impl Left {
+    /// Runs a command over the desk and the streams.
+    fn run<R: Threads + Wait + Sync + AllocGlobal>(
+        &mut self,
+        rt: &R,
+        words: &str,
+    ) -> Result<(), Fail> {
+        let (desk, out, err) = (&mut self.desk, &mut self.out, &mut self.err);
+        self.status = status_of(rt, words, desk, out, err, &OpenGate)?;
+        Ok(())
+    }
 }
 
 /// Runs a command over a desk and streams that fail at these calls.
@@ -252,8 +289,7 @@ fn run_with<R: Threads + Wait + Sync + AllocGlobal>(
     failing: Failing,
 ) -> Result<Left, Fail> {
     let mut left = before_run(rt.alloc(), command, failing)?;
-    let (desk, out, err) = (&mut left.desk, &mut left.out, &mut left.err);
-    left.status = status_of(rt, command.words, desk, out, err, &OpenGate)?;
+    left.run(rt, command.words)?;
     Ok(left)
 }
 
@@ -262,7 +298,7 @@ fn whole_of<R: Abort + Threads + Wait + Sync + AllocGlobal>(
     rt: &R,
     command: &Command,
 ) -> Result<Whole, Fail> {
-    let mut desk = desk_for(rt.alloc(), command, &[])?;
+    let mut desk = desk_for(rt.alloc(), command, NO_CALL)?;
     let run = run_line(rt, command.words, &mut desk)?;
     assert_no_fault(rt, &run);
     Ok(Whole { desk, run })
@@ -297,13 +333,14 @@ fn check_written<R: Abort>(rt: &R, bytes: &[u8], whole: &[u8], has_failed: bool)
 /// all of them are as before.
 fn check_outputs<R: Abort>(rt: &R, command: &Command, whole: &Whole, left: &Left) {
     let fault = left.desk.fault();
-    let mut is_before = !is_at(fault, DeskCall::Read);
+    let call = call_of(fault);
+    let mut is_before = !matches!(call, Some(DeskCall::Read));
     for name in command.outputs {
         let held = left.desk.get(name);
         let all = whole.desk.get(name);
         if is_before && names(fault, name) {
             is_before = false;
-            if is_at(fault, DeskCall::Append) {
+            if matches!(call, Some(DeskCall::Append)) {
                 check_written(rt, held.unwrap_or(OLD), all.unwrap_or(OLD), true);
                 continue;
             }
@@ -312,11 +349,11 @@ fn check_outputs<R: Abort>(rt: &R, command: &Command, whole: &Whole, left: &Left
     }
 }
 
-/// Whether a call of this kind failed.
-fn is_at(fault: Option<&DeskFault>, call: DeskCall) -> bool {
+/// The call that failed, if one failed.
+fn call_of(fault: Option<&DeskFault>) -> Option<DeskCall> {
     match fault {
-        Some(fault) => fault.call == call,
-        None => false,
+        Some(fault) => Some(fault.call),
+        None => None,
     }
 }
 
@@ -378,9 +415,13 @@ fn try_each_call<R: Abort + Threads + Wait + Sync + AllocGlobal>(
     device: Device,
 ) -> Result<(), Fail> {
     for call in 0..ENDLESS {
-        let left = tried(rt, command, whole, failures_of(device, &[call], &[]))?;
-        let two = [call, call.saturating_add(1)];
-        tried(rt, command, whole, failures_of(device, &two, &[0]))?;
+        let one = Calls {
+            first: call,
+            count: 1,
+        };
+        let two = Calls { count: 2, ..one };
+        let left = tried(rt, command, whole, failures_of(device, one, NO_CALL))?;
+        tried(rt, command, whole, failures_of(device, two, FIRST_CALL))?;
         if !has_failed(device, &left) {
             return Ok(());
         }

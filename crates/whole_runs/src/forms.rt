@@ -1,10 +1,11 @@
 //! `convert` to and from further forms, and `fdr-dump`.
 use crate::runs::{IMAGE, assert_left, assert_no_fault, assert_stopped, run_line};
-use crate::trace_bytes::{
-    BASIC_EVENTS, BASIC_HEADER, CPU, ENTRY, EXIT_AFTER_2, EXTENTS_72, EXTENTS_96, HEADER,
-    LOG_OF_ONE_CALL, ONE_CALL, PREAMBLE, Printed, assert_printed, file, trace_desk,
-};
+use crate::trace_bytes::{Printed, assert_printed, trace_desk};
 use std::test::Fail;
+use test_helpers::trace_parts::{
+    BASIC_EVENTS, BASIC_HEADER, CPU, ENTRY, EXIT_AFTER_2, EXTENTS_72, EXTENTS_96, HEADER,
+    LOG_OF_ONE_CALL, ONE_CALL, PREAMBLE, file,
+};
 
 const EVENTS_OF_ONE_CALL: &str = "{\"traceEvents\":[\
     {\"cpu\":0,\"name\":\"main\",\"ph\":\"B\",\"pid\":1,\"tid\":1,\"ts\":0},\

@@ -1,18 +1,15 @@
 //! `import`.
 use crate::runs::{assert_held, assert_left, assert_stopped, run_line};
-use crate::trace_bytes::{
-    CPU, CPU_AT_2, ENTRY, EXIT, EXIT_AFTER_2, EXTENTS_64, EXTENTS_72, EXTENTS_80, HEADER,
-    HEADER_OF_2, PREAMBLE, PREAMBLE_OF_2, THREAD_1, WALL_0, file,
-};
+use crate::traces::{ENTERED, LEFT};
 use std::alloc::Global;
 use std::test::Fail;
+use test_helpers::trace_parts::{
+    CPU, ENTRY, EXIT_AFTER_2, EXTENTS_72, EXTENTS_80, EXTENTS_96, HEADER, HEADER_OF_5, ONE_CALL,
+    ONE_CALL_WITHOUT_PROCESS, PREAMBLE, PREAMBLE_OF_2, THREAD_1, WALL_0, file, file_of_blocks,
+};
 use xray_io::MemDesk;
 
-/// A header of version 5, which is otherwise that of the other traces.
-const HEADER_OF_5: &[u8] =
-    b"\x05\0\x01\0\x03\0\0\0\0\0\0\0\0\0\0\0\0\x40\0\0\0\0\0\0\0\0\0\0\0\0\0\0";
-
-/// The same of version 4.
+/// A header of version 4, which is otherwise that of the other traces.
 const HEADER_OF_4: &[u8] =
     b"\x04\0\x01\0\x03\0\0\0\0\0\0\0\0\0\0\0\0\x40\0\0\0\0\0\0\0\0\0\0\0\0\0\0";
 
@@ -59,12 +56,10 @@ const BASIC_ARGUMENT: &[u8] =
 const BASIC_EXIT: &[u8] =
     b"\0\0\0\x01\x01\0\0\0\x02\0\0\0\0\0\0\0\x01\0\0\0\x01\0\0\0\0\0\0\0\0\0\0\0";
 
-/// An entry of function 1 that logs its argument, the argument 77, and extents of 96 bytes.
+/// An entry of function 1 that logs its argument, and the argument 77.
 const ENTRY_WITH_ARGUMENT: &[u8] = b"\x16\0\0\0\0\0\0\0";
 
 const ARGUMENT_77: &[u8] = b"\x0D\x4D\0\0\0\0\0\0\0\0\0\0\0\0\0\0";
-
-const EXTENTS_96: &[u8] = b"\x0F\x60\0\0\0\0\0\0\0\0\0\0\0\0\0\0";
 
 /// What is printed after each number.
 const FACTS: [&str; 11] = [
@@ -91,159 +86,100 @@ fn text_of(alloc: Global, numbers: &str) -> Result<String, Fail> {
     Ok(text)
 }
 
-/// The parts of a log, the numbers that are printed, and the parts of the trace.
-type Import = (
-    &'static [&'static [u8]],
-    &'static str,
-    &'static [&'static [u8]],
-);
+/// The parts of a file, in groups.
+type File = &'static [&'static [&'static [u8]]];
+
+/// A log, the numbers that are printed, and the trace.
+type Import = (File, &'static str, File);
+
+/// The trace of one call, which takes 5 cycles.
+const FIVE_CYCLES: File = &[&[HEADER], &[EXTENTS_80, PREAMBLE, CPU, ENTRY, EXIT_AFTER_5]];
+
+/// A block of thread 2 with the entry of function 1 at counter 0.
+const ENTERED_BY_2: &[&[u8]] = &[EXTENTS_72, PREAMBLE_OF_2, CPU, ENTRY];
 
 /// Logs, and what is made of them.
 const IMPORTS: [Import; 8] = [
     // A trace is imported as itself.
-    (
-        &[HEADER, EXTENTS_80, PREAMBLE, CPU, ENTRY, EXIT_AFTER_2],
-        "1 1 2 0 0 0 0 0 0 2 0",
-        &[HEADER, EXTENTS_80, PREAMBLE, CPU, ENTRY, EXIT_AFTER_2],
-    ),
+    (&[&ONE_CALL], "1 1 2 0 0 0 0 0 0 2 0", &[&ONE_CALL]),
     // Without a process it is 0.
     (
-        &[
-            HEADER_OF_2,
-            EXTENTS_64,
-            THREAD_1,
-            WALL_0,
-            CPU,
-            ENTRY,
-            EXIT_AFTER_2,
-        ],
+        &[&ONE_CALL_WITHOUT_PROCESS],
         "1 1 2 0 0 0 0 0 0 2 0",
         &[
-            HEADER,
-            EXTENTS_80,
-            THREAD_1,
-            WALL_0,
-            PROCESS_0,
-            CPU,
-            ENTRY,
-            EXIT_AFTER_2,
+            &[HEADER, EXTENTS_80, THREAD_1, WALL_0, PROCESS_0],
+            &[CPU, ENTRY, EXIT_AFTER_2],
         ],
     ),
     // Events of the program are passed over, and their deltas count.
     (
         &[
-            HEADER_OF_5,
-            EXTENTS_101,
-            PREAMBLE,
-            CPU,
-            ENTRY,
-            CUSTOM,
-            EXIT_AFTER_2,
+            &[HEADER_OF_5],
+            &[EXTENTS_101, PREAMBLE, CPU, ENTRY, CUSTOM, EXIT_AFTER_2],
         ],
         "1 1 2 0 1 0 0 0 0 5 0",
-        &[HEADER, EXTENTS_80, PREAMBLE, CPU, ENTRY, EXIT_AFTER_5],
+        FIVE_CYCLES,
     ),
     (
         &[
-            HEADER_OF_5,
-            EXTENTS_101,
-            PREAMBLE,
-            CPU,
-            ENTRY,
-            TYPED,
-            EXIT_AFTER_2,
+            &[HEADER_OF_5],
+            &[EXTENTS_101, PREAMBLE, CPU, ENTRY, TYPED, EXIT_AFTER_2],
         ],
         "1 1 2 0 0 1 0 0 0 5 0",
-        &[HEADER, EXTENTS_80, PREAMBLE, CPU, ENTRY, EXIT_AFTER_5],
+        FIVE_CYCLES,
     ),
     (
         &[
-            HEADER_OF_4,
-            EXTENTS_101,
-            PREAMBLE,
-            CPU,
-            ENTRY,
-            CUSTOM_OF_4,
-            EXIT_AFTER_2,
+            &[HEADER_OF_4, EXTENTS_101, PREAMBLE, CPU, ENTRY],
+            &[CUSTOM_OF_4, EXIT_AFTER_2],
         ],
         "1 1 2 0 1 0 0 0 0 2 0",
-        &[HEADER, EXTENTS_80, PREAMBLE, CPU, ENTRY, EXIT_AFTER_2],
+        &[&ONE_CALL],
     ),
     // Blocks of a thread come in the order of time, and threads ascend. A block counts once, and one without events not
     // at all.
     (
         &[
-            HEADER,
-            EXTENTS_72,
-            PREAMBLE_OF_2,
-            CPU,
-            ENTRY,
-            EXTENTS_72,
-            PREAMBLE,
-            CPU_AT_2,
-            EXIT,
-            EXTENTS_48,
-            PREAMBLE,
-            EXTENTS_72,
-            PREAMBLE,
-            CPU,
-            ENTRY,
-            EXTENTS_72,
-            PREAMBLE,
-            CPU_AT_2,
-            EXIT,
+            &[HEADER],
+            ENTERED_BY_2,
+            LEFT,
+            &[EXTENTS_48, PREAMBLE],
+            ENTERED,
+            LEFT,
         ],
         "3 2 3 0 0 0 1 1 0 2 0",
-        &[
-            HEADER,
-            EXTENTS_72,
-            PREAMBLE,
-            CPU,
-            ENTRY,
-            EXTENTS_72,
-            PREAMBLE,
-            CPU_AT_2,
-            EXIT,
-            EXTENTS_72,
-            PREAMBLE_OF_2,
-            CPU,
-            ENTRY,
-        ],
+        &[&[HEADER], ENTERED, LEFT, ENTERED_BY_2],
     ),
     // A basic log.
     (
-        &[BASIC_HEADER, BASIC_ENTRY, BASIC_ARGUMENT, BASIC_EXIT],
+        &[&[BASIC_HEADER, BASIC_ENTRY, BASIC_ARGUMENT, BASIC_EXIT]],
         "1 1 2 1 0 0 0 0 0 2 0",
         &[
-            HEADER_OF_BASIC,
-            EXTENTS_96,
-            PREAMBLE,
-            CPU,
-            ENTRY_WITH_ARGUMENT,
-            ARGUMENT_77,
-            EXIT_AFTER_2,
+            &[HEADER_OF_BASIC],
+            &[EXTENTS_96, PREAMBLE, CPU, ENTRY_WITH_ARGUMENT],
+            &[ARGUMENT_77, EXIT_AFTER_2],
         ],
     ),
     // No block.
-    (&[HEADER_OF_5], "0 0 0 0 0 0 0 0 - - 0", &[HEADER]),
+    (&[&[HEADER_OF_5]], "0 0 0 0 0 0 0 0 - - 0", &[&[HEADER]]),
 ];
 
 #[test]
 fn a_log_is_a_trace_of_its_events(rt: HostRuntime) -> Result<(), Fail> {
     let alloc = rt.alloc();
     for (log, numbers, trace) in &IMPORTS {
-        let mut desk = log_desk(alloc, log)?;
+        let mut desk = log_desk(alloc, &file_of_blocks(alloc, log)?)?;
         let run = run_line(&rt, "import l t", &mut desk)?;
         assert_left(&rt, &run, 0, &text_of(alloc, numbers)?, "");
-        assert_held(&rt, desk.get("t"), &file(alloc, trace)?);
+        assert_held(&rt, desk.get("t"), &file_of_blocks(alloc, trace)?);
     }
     Ok(())
 }
 
-/// A desk that holds a log of these parts as `l`.
-fn log_desk(alloc: Global, parts: &[&[u8]]) -> Result<MemDesk, Fail> {
+/// A desk that holds a log as `l`.
+fn log_desk(alloc: Global, log: &[u8]) -> Result<MemDesk, Fail> {
     let mut desk = MemDesk::new(alloc, Vec::new(alloc));
-    desk.put("l", &file(alloc, parts)?)?;
+    desk.put("l", log)?;
     Ok(desk)
 }
 
@@ -290,7 +226,7 @@ const REFUSED: [Refusal; 12] = [
 #[test]
 fn what_is_no_log_is_refused(rt: HostRuntime) -> Result<(), Fail> {
     for (log, line) in &REFUSED {
-        let mut desk = log_desk(rt.alloc(), log)?;
+        let mut desk = log_desk(rt.alloc(), &file(rt.alloc(), log)?)?;
         let run = run_line(&rt, "import l t", &mut desk)?;
         assert_stopped(&rt, &run, 2, line);
         assert!(rt; desk.get("t").is_none());

@@ -1,38 +1,17 @@
 //! Reports on traces that come a byte a read, and on faults that are followed by many bytes.
 use crate::checks::{check_same, check_same_at};
 use crate::runs::{assert_left, assert_stopped, run_line};
-use crate::trace_bytes::{
-    BUFFERS_OF_88, CPU_AT_1, CPU_AT_2, EXIT, EXIT_OF_2, EXTENTS_72, FORMAT, HEADER, PREAMBLE,
-    PREAMBLE_OF_2, file,
-};
 use std::alloc::Global;
 use std::process::Abort;
 use std::sync::Wait;
 use std::test::Fail;
 use std::thread::Threads;
-use test_helpers::Trickle;
+use test_helpers::WatchedDesk;
+use test_helpers::trace_parts::{HEADER, THREE_BLOCKS, file};
 use xray_io::MemDesk;
 
 /// The reports on a trace.
 const REPORTS: [&str; 3] = ["account t", "stack t", "convert t"];
-
-/// A file of three blocks of an event, of the threads 1, 2 and 2: 296 bytes.
-const THREE_BLOCKS: [&[u8]; 14] = [
-    FORMAT,
-    BUFFERS_OF_88,
-    EXTENTS_72,
-    PREAMBLE,
-    CPU_AT_2,
-    EXIT,
-    EXTENTS_72,
-    PREAMBLE_OF_2,
-    CPU_AT_1,
-    EXIT_OF_2,
-    EXTENTS_72,
-    PREAMBLE_OF_2,
-    CPU_AT_2,
-    EXIT,
-];
 
 /// A desk that fails at these calls, and holds these bytes as `t`.
 fn desk_with(alloc: Global, failing: &[u64], bytes: &[u8]) -> Result<MemDesk, Fail> {
@@ -50,11 +29,11 @@ fn check_reports<R: Abort + Threads + Wait + Sync + AllocGlobal>(
     for line in &REPORTS {
         let mut desk = desk_with(rt.alloc(), &[], bytes)?;
         let wanted = run_line(rt, line, &mut desk)?;
-        let mut trickle = Trickle::new(desk);
-        let run = run_line(rt, line, &mut trickle)?;
+        let mut watched = WatchedDesk::new(rt.alloc(), desk);
+        let run = run_line(rt, line, &mut watched)?;
         assert_left(rt, &run, wanted.status, &wanted.out, &wanted.err);
-        check_same_at(rt, &trickle.next(), &(bytes.len() as u64), line);
-        check_same_at(rt, &trickle.is_in_order(), &true, line);
+        check_same_at(rt, &watched.next(), &(bytes.len() as u64), line);
+        check_same_at(rt, &watched.is_in_order(), &true, line);
     }
     Ok(())
 }

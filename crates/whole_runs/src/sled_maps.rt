@@ -1,7 +1,7 @@
 //! The names of a sled map in the reports.
 use crate::runs::{BAD_LINE, assert_left, assert_stopped, run_line};
-use crate::trace_bytes::{ONE_CALL, RECURSION, file};
 use std::test::Fail;
+use test_helpers::trace_parts::{ONE_CALL, RECURSION, file};
 use xray_io::MemDesk;
 
 /// A sled map that names function 1.

@@ -1,10 +1,10 @@
 //! `stack` and `convert`: their texts, their options, and a trace with calls that go too deep.
 use crate::runs::{IMAGE, assert_stopped, run_line};
-use crate::trace_bytes::{
-    CPU, ENTRY, HEADER, NESTED, ONE_CALL, ONE_CALL_WITHOUT_PROCESS, PREAMBLE, Printed, RECURSION,
-    assert_printed, trace_desk,
-};
+use crate::trace_bytes::{Printed, assert_printed, trace_desk};
 use std::test::Fail;
+use test_helpers::trace_parts::{
+    CPU, ENTRY, HEADER, NESTED, ONE_CALL, ONE_CALL_WITHOUT_PROCESS, PREAMBLE, RECURSION,
+};
 
 const TEXT_OF_ONE_CALL: &str =
     "     count        sum       self stack\n         1          2          2 main\n";

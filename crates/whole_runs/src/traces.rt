@@ -6,18 +6,18 @@ use crate::runs::{
     IMAGE, assert_held, assert_left, assert_made, assert_no_fault, desk_of, run_failing, run_line,
 };
 use crate::sim::{LIVE, SIM, TRACED};
-use crate::trace_bytes::{
-    BUFFERS_OF_88, BUFFERS_OF_95, BUFFERS_OF_96, BUFFERS_OF_16384, CPU, CPU_1_AT_2, CPU_AT_1,
-    CPU_AT_2, ENTRY, ENTRY_OF_2_AFTER_1, EXIT, EXIT_AFTER_1, EXIT_AFTER_2, EXIT_OF_2, EXTENTS_72,
-    EXTENTS_80, EXTENTS_88, EXTENTS_96, FORMAT, HEADER, ONE_CALL, PREAMBLE, PREAMBLE_OF_2,
-    PROCESS_1, THREAD_1, file,
-};
 use std::alloc::Global;
 use std::process::Abort;
 use std::sync::Wait;
 use std::test::Fail;
 use std::thread::Threads;
-use test_helpers::Trickle;
+use test_helpers::WatchedDesk;
+use test_helpers::trace_parts::{
+    BUFFERS_OF_88, BUFFERS_OF_95, BUFFERS_OF_96, BUFFERS_OF_16384, CPU, CPU_1_AT_2, CPU_AT_1,
+    CPU_AT_2, ENTRY, ENTRY_OF_2_AFTER_1, EXIT, EXIT_AFTER_1, EXIT_AFTER_2, EXIT_OF_2, EXTENTS_72,
+    EXTENTS_80, EXTENTS_88, EXTENTS_96, FORMAT, HEADER, ONE_CALL, PREAMBLE, PREAMBLE_OF_2,
+    PROCESS_1, THREAD_1, file, file_of_blocks,
+};
 
 /// The words of a replay whose trace has a wall time of 0.
 const REPLAY: &str = "sim i s c t a --wall 0";
@@ -58,7 +58,7 @@ const USUAL: [(&str, &str); 12] = [
 ];
 
 /// A block with the entry of function 1 at counter 0.
-const ENTERED: &[&[u8]] = &[EXTENTS_72, PREAMBLE, CPU, ENTRY];
+pub const ENTERED: &[&[u8]] = &[EXTENTS_72, PREAMBLE, CPU, ENTRY];
 
 /// One with its exit at counter 2.
 pub const LEFT: &[&[u8]] = &[EXTENTS_72, PREAMBLE, CPU_AT_2, EXIT];
@@ -386,9 +386,7 @@ fn assert_leaves<R: Abort + Threads + Wait + Sync + AllocGlobal>(
     let line = format!(in alloc; "{SIM} {}", row.options)?;
     assert_no_fault(rt, &run_line(rt, &line, &mut desk)?);
     let mut trace = file(alloc, row.header)?;
-    for block in row.blocks {
-        trace.extend_from_slice(&file(alloc, block)?)?;
-    }
+    trace.extend_from_slice(&file_of_blocks(alloc, row.blocks)?)?;
     assert_held(rt, desk.get("t"), &trace);
     assert_held(rt, desk.get("a"), audit.as_bytes());
     Ok(())
@@ -487,15 +485,15 @@ fn an_output_that_fails_in_the_middle_is_a_prefix(rt: HostRuntime) -> Result<(),
     for (call, line, written, audited) in &FAILING {
         let failing = reads.saturating_add(*call);
         let desk = desk_of(rt.alloc(), &[failing], &IMAGE, TRACED, "")?;
-        let mut trickle = Trickle::new(desk);
-        let run = run_line(&rt, REPLAY, &mut trickle)?;
+        let mut watched = WatchedDesk::new(rt.alloc(), desk);
+        let run = run_line(&rt, REPLAY, &mut watched)?;
         assert_left(&rt, &run, 4, "", line);
-        check_same_at(&rt, &trickle.get("t"), &trace.get(..*written), line);
+        check_same_at(&rt, &watched.get("t"), &trace.get(..*written), line);
         let begun = match audited {
             Some(count) => audit.as_bytes().get(..*count),
             None => None,
         };
-        check_same_at(&rt, &trickle.get("a"), &begun, line);
+        check_same_at(&rt, &watched.get("a"), &begun, line);
     }
     Ok(())
 }
