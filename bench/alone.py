@@ -68,10 +68,6 @@ def quotient(ones, others, field="processor"):
     return statistics.median(getattr(one, field) / getattr(other, field) for one, other in zip(ones, others, strict=True))
 
 
-def peak(runs):
-    return max(run.memory for run in runs)
-
-
 def megabytes(count):
     return f"{count / 1e6:.0f} MB"
 
