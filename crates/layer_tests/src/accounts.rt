@@ -3,7 +3,7 @@
 
 use crate::checks::{check_same, check_same_list, check_same_text};
 use crate::event_traces::{NESTED, Said, printed, trace_of};
-use crate::fed_traces::{Refuser, feed_pieces, file_of};
+use crate::fed_traces::file_of;
 use account_report::*;
 use fdr_file::read_trace;
 use fdr_record::Kind;
@@ -100,48 +100,6 @@ fn a_row_counts_the_pairs_of_its_function_and_the_events_in_none(
     Ok(())
 }
 
-/// How many bytes the pieces of a file have that is fed to a fold.
-const PIECE: usize = 7;
-
-/// Checks the lines of the rows of events, of which a fold is given a file in pieces.
-fn check_fed(rt: &impl Abort, alloc: Global, events: &[Said], lines: &str) -> Result<(), Fail> {
-    let mut fold = AccountFold::new(alloc);
-    feed_pieces(&file_of(alloc, events)?, PIECE, &mut fold)??;
-    let (rows, with_pairs) = fold.rows()?;
-    check_same(rt, &with_pairs, &latencies(&rows));
-    let text = text_of(alloc, &rows, AccountFormat::Csv)?;
-    check_same(rt, &text.as_str().strip_prefix(CSV_HEAD), &Some(lines));
-    Ok(())
-}
-
-#[test]
-fn a_fold_of_pieces_has_the_rows_of_the_trace(rt: HostRuntime) -> Result<(), Fail> {
-    // The functions of these are small enough for a file.
-    for (events, lines) in &ROWS[..7] {
-        check_fed(&rt, rt.alloc(), events, lines)?;
-    }
-    Ok(())
-}
-
-#[test]
-fn a_taker_that_refuses_ends_the_reading_at_each_call(rt: HostRuntime) -> Result<(), Fail> {
-    let bytes = file_of(rt.alloc(), &NESTED)?;
-    // A call for each block and for each event.
-    for left in 0..10 {
-        let mut refuser = Refuser { left, refused: 0 };
-        let fed = feed_pieces(&bytes, PIECE, &mut refuser);
-        check_same(&rt, &fed.is_err(), &true);
-        check_same(&rt, &refuser.refused, &1);
-    }
-    let mut refuser = Refuser {
-        left: 10,
-        refused: 0,
-    };
-    feed_pieces(&bytes, PIECE, &mut refuser)??;
-    check_same(&rt, &refuser.refused, &0);
-    Ok(())
-}
-
 #[test]
 fn percentiles_are_items_of_the_ascending_durations(rt: HostRuntime) -> Result<(), Fail> {
     for (longest, shortest, line) in [
@@ -229,15 +187,13 @@ fn columns_are_aligned_and_a_longer_number_is_printed_whole(rt: HostRuntime) -> 
 #[test]
 fn a_document_of_bytes_is_that_of_their_trace(rt: HostRuntime) -> Result<(), Fail> {
     let alloc = rt.alloc();
-    for events in [&NESTED[..0], &NESTED] {
-        let bytes = file_of(alloc, events)?;
-        let trace = read_trace(alloc, &bytes)?;
-        let mut sink = MemSink::new(alloc, Vec::new(alloc));
-        write_yaml_bytes(&bytes, None, &mut sink)?;
-        let mut whole = MemSink::new(alloc, Vec::new(alloc));
-        write_yaml(&trace, None, &mut whole)?;
-        check_same_list(&rt, sink.bytes(), whole.bytes());
-    }
+    let bytes = file_of(alloc, &NESTED)?;
+    let trace = read_trace(alloc, &bytes)?;
+    let mut sink = MemSink::new(alloc, Vec::new(alloc));
+    write_yaml_bytes(&bytes, None, &mut sink)?;
+    let mut whole = MemSink::new(alloc, Vec::new(alloc));
+    write_yaml(&trace, None, &mut whole)?;
+    check_same_list(&rt, sink.bytes(), whole.bytes());
     Ok(())
 }
 

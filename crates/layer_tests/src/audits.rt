@@ -126,14 +126,6 @@ fn each_row_of_the_table_gives_its_verdict(rt: HostRuntime) -> Result<(), Fail> 
     Ok(())
 }
 
-#[test]
-fn a_trace_with_another_counter_is_refused(rt: HostRuntime) -> Result<(), Fail> {
-    let mut trace = TRACE;
-    trace[127] = 1;
-    let wanted = Verdict::Trace;
-    check_verdict(&rt, rt.alloc(), TRACED, BOTH_RECORDED, &trace, wanted)
-}
-
 /// The script that traces everything from before the start, and then no more.
 const UNPATCHED: &[u8] = b"patch\nset_handler\ninit\ngo\nunpatch\n";
 

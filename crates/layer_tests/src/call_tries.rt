@@ -1,18 +1,16 @@
-//! Calls of `call_trie`, beside `stacks` of `stack_rebuild` over the same events.
+//! Calls of `call_trie`: the rows of listed events. `tools/compare/profiles_beside.py` has those of runs.
 
 ghost use Rattle.std.specs.Prelude.{◌≡◌, ◌≤◌, IfOk, List, length};
 ghost use Rattle.fdr_record.specs.declared.event.Event.{Event};
 ghost use Rattle.call_trie.specs.Tries.{StandsFor};
 
-use crate::checks::{check_same, check_same_text};
-use crate::draws::draw;
-use crate::event_traces::{NESTED, Said, TURNS, printed, trace_of};
+use crate::checks::check_same;
+use crate::event_traces::{NESTED, Said, TURNS, printed};
 use call_trie::{MOST_NODES, TrieRecorder, TrieState, merged};
 use fdr_record::{Event, Kind, Recorder};
 use function_names::Names;
-use stack_rebuild::{MOST_OPEN, StackForm, StackRow, StackText, stacks};
+use stack_rebuild::{StackForm, StackRow, StackText};
 use std::alloc::Global;
-use std::process::Abort;
 use std::test::Fail;
 use xray_io::NoMemory;
 
@@ -57,11 +55,6 @@ impl Noted {
             kind,
         });
         self.count += 1;
-    }
-
-    /// Checks whether the recorder still takes events.
-    fn check(&self, rt: &impl Abort, wanted: TrieState) {
-        check_same(rt, &self.trie.state(), &wanted);
     }
 }
 
@@ -193,86 +186,5 @@ fn recorders_have_the_rows_of_their_events(rt: HostRuntime) -> Result<(), Fail> 
         let text = merged_text(rt.alloc(), 8, events)?;
         check_same(&rt, &text.as_str().strip_prefix(HEAD), &Some(*lines));
     }
-    Ok(())
-}
-
-/// What kinds of events are drawn.
-const KINDS: [Kind; 4] = [Kind::Entry, Kind::Exit, Kind::TailExit, Kind::EntryArgs];
-
-#[test]
-fn recorders_of_drawn_events_have_the_rows_of_the_trace(rt: HostRuntime) -> Result<(), Fail> {
-    let alloc = rt.alloc();
-    let mut seed = 44;
-    let mut events = Vec::new(alloc);
-    for at in 0..4_000 {
-        let thread = draw(&mut seed, 2) + 1;
-        let kind = KINDS[draw(&mut seed, 4) as usize];
-        let func = draw(&mut seed, 5) + 1;
-        events.push((thread, kind, func, at))?;
-    }
-    let wanted = text_of(alloc, &stacks(alloc, &trace_of(alloc, &events)?)?)?;
-    let text = merged_text(alloc, 4_000, &events)?;
-    check_same_text(&rt, text.as_str(), wanted.as_str());
-    Ok(())
-}
-
-#[test]
-fn the_last_node_is_used_and_no_other(rt: HostRuntime) -> Result<(), Fail> {
-    let mut noted = Noted::new(rt.alloc(), 3)?;
-    noted.note(Kind::Entry, 1, 0);
-    noted.note(Kind::Entry, 2, 0);
-    noted.note(Kind::Entry, 3, 0);
-    noted.note(Kind::Exit, 3, 1);
-    noted.note(Kind::Entry, 3, 2);
-    noted.check(&rt, TrieState::Live);
-    noted.note(Kind::Entry, 3, 3);
-    noted.check(&rt, TrieState::Full);
-    noted.note(Kind::Exit, 1, 4);
-    noted.check(&rt, TrieState::Full);
-    Ok(())
-}
-
-#[test]
-fn as_many_functions_are_called_from_one_as_there_may_be_nodes(
-    rt: HostRuntime,
-) -> Result<(), Fail> {
-    let mut noted = Noted::new(rt.alloc(), MOST_NODES)?;
-    'noting: for func in 0..MOST_NODES {
-        noted.note(Kind::Entry, func, 0);
-        noted.note(Kind::Exit, func, 1);
-    }
-    noted.check(&rt, TrieState::Live);
-    noted.note(Kind::Entry, MOST_NODES, 0);
-    noted.check(&rt, TrieState::Full);
-    Ok(())
-}
-
-/// Checks the state of a recorder with this many nodes after so many calls, each made in the one
-/// before, and after one more.
-fn check_depth(
-    rt: &impl Abort,
-    alloc: Global,
-    nodes: u32,
-    wanted: TrieState,
-    after: TrieState,
-) -> Result<(), NoMemory>
-    requires { (1 ≤ nodes) × (nodes ≤ MOST_NODES) }
-{
-    let mut noted = Noted::new(alloc, nodes)?;
-    'noting: for _ in 0..MOST_OPEN {
-        noted.note(Kind::Entry, 1, 0);
-    }
-    noted.check(rt, wanted);
-    noted.note(Kind::Entry, 1, 0);
-    noted.check(rt, after);
-    Ok(())
-}
-
-#[test]
-fn too_many_open_calls_come_before_too_many_paths(rt: HostRuntime) -> Result<(), Fail> {
-    let alloc = rt.alloc();
-    check_depth(&rt, alloc, 4_097, TrieState::Live, TrieState::Deep)?;
-    check_depth(&rt, alloc, 4_096, TrieState::Live, TrieState::Deep)?;
-    check_depth(&rt, alloc, 4_095, TrieState::Full, TrieState::Full)?;
     Ok(())
 }

@@ -1,11 +1,11 @@
 //! Calls of `sled_rule`: those of a table one after the other, on an image with one function that
 //! prints an A.
 
-ghost use Rattle.std.specs.Prelude.{◌≡◌, ◌<◌, ◌≤◌, ◌*◌, ◌+◌, length, IfOk};
+ghost use Rattle.std.specs.Prelude.{◌≡◌, ◌≤◌, length, IfOk};
 ghost use Rattle.sled_words.specs.Words.{word_count};
 ghost use Rattle.sled_rule.specs.Plans.{IsCodeIn};
-ghost use Rattle.sled_rule.specs.Seats.{patch_view, script_of, work_view, AllMet, IsPatcherOf, IsWorkerOf};
-ghost use Rattle.sled_rule.specs.Views.{ended_count, first_patch};
+ghost use Rattle.sled_rule.specs.Seats.{patch_view, script_of, work_view, IsPatcherOf, IsWorkerOf};
+ghost use Rattle.sled_rule.specs.Views.{first_patch};
 
 use crate::checks::check_same_list;
 use crate::sled_values::PATCHED;
@@ -106,20 +106,12 @@ fn heard_head(table: &CodeTable, patcher: &mut PatchSeat, worker: &mut WorkSeat)
 }
 
 #[test]
-fn a_thread_fetches_what_was_stored(rt: HostRuntime) -> Result<(), Fail> {
+fn a_thread_that_hears_a_note_fetches_nothing_older(rt: HostRuntime) -> Result<(), Fail> {
     let image = read_image(rt.alloc(), &OUTPUTS_AN_A)?;
     let (table, mut seat, mut worker) = start(&rt, &image, b"go\npatch\n")?;
     assert!(rt; table.is_code_word(0));
-    assert!(rt; table.is_code_word(1));
-    assert!(rt; table.is_code_word(4));
-    assert!(rt; table.fetch(&mut worker, 0) == 0x09EB);
     store(&rt, &table, &mut seat, 4);
-    assert!(rt; table.fetch(&mut worker, 0) == 0xBA41);
-    assert!(rt; table.fetch(&mut worker, 1) == 1);
-    assert!(rt; table.fetch(&mut worker, 4) == 0x2EC3);
-    store(&rt, &table, &mut seat, 4);
-    assert!(rt; table.fetch(&mut worker, 4) == 0xBA41);
-    assert!(rt; seat.place() == 8);
+    assert!(rt; heard_head(&table, &mut seat, &mut worker) == 0xBA41);
     Ok(())
 }
 
@@ -142,26 +134,6 @@ fn an_await_is_passed_once_the_thread_has_made_its_passings(rt: HostRuntime) -> 
     let (table, mut seat, mut worker) = start(&rt, &image, b"go\nawait 1 1\npatch\n")?;
     assert!(rt; !look(&rt, &table, &mut seat));
     assert!(rt; seat.place() == 0);
-    table.passed(&mut worker);
-    assert!(rt; look(&rt, &table, &mut seat));
-    assert!(rt; seat.place() == 1);
-    Ok(())
-}
-
-#[test]
-fn a_thread_that_hears_a_note_fetches_nothing_older(rt: HostRuntime) -> Result<(), Fail> {
-    let image = read_image(rt.alloc(), &OUTPUTS_AN_A)?;
-    let (table, mut seat, mut worker) = start(&rt, &image, b"go\npatch\n")?;
-    assert!(rt; table.is_code_word(0));
-    store(&rt, &table, &mut seat, 4);
-    assert!(rt; heard_head(&table, &mut seat, &mut worker) == 0xBA41);
-    Ok(())
-}
-
-#[test]
-fn a_patcher_that_heeds_a_tally_passes_its_await(rt: HostRuntime) -> Result<(), Fail> {
-    let image = read_image(rt.alloc(), &OUTPUTS_AN_A)?;
-    let (table, mut seat, mut worker) = start(&rt, &image, b"go\nawait 1 1\n")?;
     table.passed(&mut worker);
     let tally = table.tally(&mut worker);
     table.heed(&mut seat, tally);

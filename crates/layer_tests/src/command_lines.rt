@@ -342,15 +342,3 @@ fn command_lines_say_what_the_rows_say(rt: HostRuntime) -> Result<(), Fail> {
     check_same(&rt, &rows, &154);
     Ok(())
 }
-
-#[test]
-fn a_long_word_is_a_name(rt: HostRuntime) -> Result<(), Fail> {
-    let alloc = rt.alloc();
-    let mut long = String::from_str(alloc, "extract|--|--fuel=")?;
-    for _ in 0..1_048_576u32 {
-        long.push_str("9")?;
-    }
-    let words = words_of(alloc, &long)?;
-    check_same(&rt, &(shown(alloc, &words)?.len() + 1), &long.len());
-    Ok(())
-}

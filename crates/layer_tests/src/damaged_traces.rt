@@ -129,35 +129,6 @@ fn damaged_files_are_refused(rt: HostRuntime) -> Result<(), Fail> {
     Ok(())
 }
 
-/// The same file, whose entry logs an argument that doesn't follow, is a trace.
-#[test]
-fn an_entry_without_its_argument_is_read(rt: HostRuntime) -> Result<(), Fail> {
-    let mut bytes = one_block(rt.alloc())?;
-    if let Some(byte) = bytes.get_mut(112) {
-        *byte = 0x16;
-    }
-    check_trace(&rt, &bytes, HEADER_FIELDS, 1, 2);
-    Ok(())
-}
-
-/// A damaged file that is cut off, a header alone, no bytes, and the whole file.
-#[test]
-fn a_block_that_is_cut_off_is_short_before_it_is_damaged(rt: HostRuntime) -> Result<(), Fail> {
-    let mut bytes = one_block(rt.alloc())?;
-    check_trace(&rt, &bytes, HEADER_FIELDS, 1, 2);
-    if let Some(byte) = bytes.get_mut(96) {
-        *byte = 0x07;
-    }
-    check_fault(&rt, rt.alloc(), &bytes, TraceFault::NoBase(96), Ok(32), 128);
-    bytes.truncate(120);
-    check_fault(&rt, rt.alloc(), &bytes, TraceFault::Short(32), Ok(32), 120);
-    bytes.truncate(32);
-    check_trace(&rt, &bytes, HEADER_FIELDS, 0, 0);
-    let none = Err(TraceFault::Short(0));
-    check_fault(&rt, rt.alloc(), &[], TraceFault::Short(0), none, 0);
-    Ok(())
-}
-
 /// The number of blocks of a prefix of the file of three blocks, if it is a trace. Otherwise its fault, and the
 /// length of its longest prefix that is a trace.
 fn prefix_wanted(len: usize) -> Result<usize, (TraceFault, Result<usize, TraceFault>)> {
@@ -185,46 +156,6 @@ fn prefixes_that_end_with_a_block_are_traces(rt: HostRuntime) -> Result<(), Fail
                 check_fault(&rt, rt.alloc(), prefix, fault, longest, len);
             }
         }
-    }
-    Ok(())
-}
-
-/// The header of a file that is read whole, and how many blocks and events it has.
-fn read_as_one(alloc: Global, bytes: &[u8]) -> Result<(Header, Counts), TraceFault> {
-    let trace = read_trace(alloc, bytes)?;
-    let mut counts = Counts {
-        blocks: 0,
-        events: 0,
-    };
-    for block in trace.blocks.as_slice() {
-        counts.blocks = counts.blocks.saturating_add(1);
-        counts.events = counts.events.saturating_add(block.events.as_slice().len());
-    }
-    Ok((trace.header, counts))
-}
-
-/// Checks that a file is read the same whole and in pieces of each size, when a byte at a place was
-/// changed to each value.
-fn check_each_value(rt: &impl Abort, alloc: Global, bytes: &[u8], at: usize) -> Result<(), Fail> {
-    let mut changed = Vec::from_slice(alloc, bytes)?;
-    for to in 0..=u8::MAX {
-        if let Some(byte) = changed.get_mut(at) {
-            *byte = to;
-        }
-        let whole = read_as_one(alloc, &changed);
-        check_same_at(rt, &read_in_pieces(&changed, 1), &whole, &(at, to));
-        check_same_at(rt, &read_in_pieces(&changed, 7), &whole, &(at, to));
-        check_same_at(rt, &read_in_pieces(&changed, 4096), &whole, &(at, to));
-    }
-    Ok(())
-}
-
-/// The file of three blocks, with each of its bytes changed to each value.
-#[test]
-fn a_changed_byte_is_read_the_same_in_pieces(rt: HostRuntime) -> Result<(), Fail> {
-    let bytes = file(rt.alloc(), &THREE_BLOCKS)?;
-    for at in 0..bytes.len() {
-        check_each_value(&rt, rt.alloc(), &bytes, at)?;
     }
     Ok(())
 }

@@ -1,15 +1,14 @@
-//! Files of listed events, fed to a taker in pieces of a few bytes; and a taker that refuses.
+//! Files of listed events, fed to a taker in pieces of a few bytes.
 
-ghost use Rattle.std.specs.Prelude.{◌<◌, ◌≤◌, ⊤, [], OnOk, OnErr};
-ghost use Rattle.xray_io.specs.Faults.{Rose};
+ghost use Rattle.std.specs.Prelude.{◌<◌, [], OnOk};
 ghost use Rattle.fdr_file.specs.Scanning.{blocks_given};
 
 use crate::event_traces::Said;
 use fdr_file::{Header, Taker, TraceFault, TraceScan};
-use fdr_record::{Event, Kind};
+use fdr_record::Kind;
 use std::alloc::{AllocError, Global};
 use test_helpers::trace_parts::HEADER;
-use xray_io::{NoMemory, Wall};
+use xray_io::NoMemory;
 
 /// Extents of 72 bytes, and the first byte of a record that names a thread.
 const EXTENTS_72: &[u8] = b"\x0F\x48\0\0\0\0\0\0\0\0\0\0\0\0\0\0\x01";
@@ -76,40 +75,4 @@ pub fn feed_pieces<K: Taker>(
         from += len;
     }
     Ok(scan.finish())
-}
-
-/// Keeps nothing, and refuses after this many calls.
-#[derive(Drop)]
-pub struct Refuser {
-    pub left: u64,
-    pub refused: u64,
-}
-
-impl Refuser {
-    /// Takes one more call, or refuses it.
-    fn call(&mut self) -> Result<(), NoMemory>
-        ensures refused { OnErr result (Rose self.old.refused self.new.refused) }
-        ensures later { self.old.refused ≤ self.new.refused }
-    {
-        if self.left == 0 {
-            self.refused = self.refused.saturating_add(1);
-            return Err(NoMemory);
-        }
-        self.left -= 1;
-        Ok(())
-    }
-}
-
-impl Taker for Refuser {
-    ghost took = { λ _ _. ⊤ };
-
-    ghost refusals = { λ refuser. refuser.refused };
-
-    fn block(&mut self, _thread: u32, _wall: Wall, _pid: u32) -> Result<(), NoMemory> {
-        self.call()
-    }
-
-    fn event(&mut self, _event: &Event) -> Result<(), NoMemory> {
-        self.call()
-    }
 }

@@ -1,9 +1,8 @@
 //! Calls of `xray_image`: what an image file says, and why others are refused.
 
 use crate::checks::{check_same, check_same_at};
-use crate::image_files::{add_entry, add_entry_of, add_function, header_and_code, image_file};
+use crate::image_files::{add_entry_of, image_file};
 use example_images::OUTPUTS_AN_A;
-use sled_words::{Part, part_value};
 use std::alloc::{AllocError, Global};
 use std::process::Abort;
 use std::test::Fail;
@@ -76,21 +75,6 @@ fn an_image_has_the_function_and_the_sleds_of_its_map(rt: HostRuntime) -> Result
     assert!(rt; image.sled_count() == 2);
     check_same(&rt, &image.sled(0), &entry);
     check_same(&rt, &image.sled(1), &exit);
-    Ok(())
-}
-
-#[test]
-fn only_sleds_of_kind_3_call_the_argument_trampoline(rt: HostRuntime) -> Result<(), Fail> {
-    let far = [(57, 0), (58, 0), (60, 2)];
-    let unused = damaged(rt.alloc(), &far, WHOLE)?;
-    check_same(&rt, &fault_of(rt.alloc(), &unused), &None);
-    let bytes = damaged(rt.alloc(), &[(122, 3)], WHOLE)?;
-    let image = read_image(rt.alloc(), &bytes)?;
-    assert!(rt; image.sled_count() == 2);
-    check_same(&rt, &image.sled(0).kind, &SledKind::Args);
-    check_same(&rt, &image.sled(1).kind, &SledKind::Exit);
-    check_same(&rt, &part_value(&image, 0, Part::Offset, true), &0x20_0025);
-    check_same(&rt, &part_value(&image, 1, Part::Offset, true), &0x1F_FFF3);
     Ok(())
 }
 
@@ -312,79 +296,6 @@ fn code_is_refused_at_its_first_bad_unit_or_branch(rt: HostRuntime) -> Result<()
     for (code, fault) in &CODES {
         let bytes = image_file(rt.alloc(), code, &[(0x1000, "main")], &[])?;
         check_same_at(&rt, &fault_of(rt.alloc(), &bytes), fault, code);
-    }
-    Ok(())
-}
-
-/// The file of a code of alignment bytes, with one function.
-fn file_of_code(alloc: Global, length: usize) -> Result<Vec<u8>, AllocError> {
-    let code = vec![in alloc; 0x90_u8; length]?;
-    image_file(alloc, &code, &[(0x1000, "main")], &[])
-}
-
-/// The last digit of a number, as text.
-fn digit(number: usize) -> u8 {
-    b'0' + (number % 10) as u8
-}
-
-/// The file of a code of alignment bytes, with a function at each. Its name is its number in four
-/// digits.
-fn file_of_functions(alloc: Global, count: usize) -> Result<Vec<u8>, AllocError> {
-    let code = vec![in alloc; 0x90_u8; count]?;
-    let mut bytes = header_and_code(alloc, &code, count, 0)?;
-    for number in 0..count {
-        let name = [
-            digit(number / 1000),
-            digit(number / 100),
-            digit(number / 10),
-            digit(number),
-        ];
-        add_function(&mut bytes, (number as u64).wrapping_add(0x1000), &name)?;
-    }
-    Ok(bytes)
-}
-
-/// The file of a code of entry sleds with padding between them, all in one function.
-fn file_of_sleds(alloc: Global, count: usize) -> Result<Vec<u8>, AllocError> {
-    let mut code = Vec::new(alloc);
-    for _sled in 0..count {
-        code.extend_from_slice(&[0xEB, 0x09, 0x66, 0x0F, 0x1F, 0x84, 0, 0, 2, 0, 0, 0x90])?;
-    }
-    let mut bytes = header_and_code(alloc, &code, 1, count)?;
-    add_function(&mut bytes, 0x1000, b"main")?;
-    for number in 0..count {
-        let sled = (number as u64).wrapping_mul(12).wrapping_add(0x1000);
-        add_entry(&mut bytes, sled, 0x1000, 0)?;
-    }
-    Ok(bytes)
-}
-
-/// The file of a code of two alignment bytes, with two functions. Their names have these lengths.
-fn file_of_names(alloc: Global, first: usize, second: usize) -> Result<Vec<u8>, AllocError> {
-    let mut bytes = header_and_code(alloc, &[0x90, 0x90], 2, 0)?;
-    add_function(&mut bytes, 0x1000, &vec![in alloc; b'n'; first]?)?;
-    add_function(&mut bytes, 0x1001, &vec![in alloc; b'n'; second]?)?;
-    Ok(bytes)
-}
-
-#[test]
-fn an_image_at_its_limits_is_read(rt: HostRuntime) -> Result<(), Fail> {
-    let alloc = rt.alloc();
-    let files = [
-        (file_of_code(alloc, 1_048_576)?, None),
-        (file_of_code(alloc, 1_048_577)?, Some(Limit(Which::Code))),
-        (file_of_functions(alloc, 1024)?, None),
-        (
-            file_of_functions(alloc, 1025)?,
-            Some(Limit(Which::Functions)),
-        ),
-        (file_of_sleds(alloc, 4096)?, None),
-        (file_of_sleds(alloc, 4097)?, Some(Limit(Which::Sleds))),
-        (file_of_names(alloc, 255, 254)?, None),
-        (file_of_names(alloc, 255, 255)?, Some(ImageFault::Names(1))),
-    ];
-    for (bytes, fault) in &files {
-        check_same_at(&rt, &fault_of(rt.alloc(), bytes), fault, &bytes.len());
     }
     Ok(())
 }

@@ -25,8 +25,6 @@ mod devices;
 #[cfg(test)]
 mod drawn_inputs;
 #[cfg(test)]
-mod draws;
-#[cfg(test)]
 mod event_traces;
 #[cfg(test)]
 mod fault_texts;

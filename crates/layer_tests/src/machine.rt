@@ -8,7 +8,6 @@ use machine_step::{End, Limits, Steps, one_end, plain_run, some_end};
 use std::test::Fail;
 use xray_image::read_image;
 
-mod sizes;
 mod traced;
 
 /// How thread 1 ends in an image with only this code, and how many instructions it makes.

@@ -5,7 +5,7 @@ use handler_word::{Mark, Marks};
 use std::alloc::Global;
 use std::process::Abort;
 use std::test::Fail;
-use xray_io::{MemSink, Printed, Text, WriteFault, write_text};
+use xray_io::{MemSink, write_text};
 
 /// The mark of a character in the rows below.
 fn mark_of(symbol: u8) -> Mark {
@@ -59,30 +59,5 @@ fn marks_are_kept_counted_and_printed_as_runs(rt: HostRuntime) -> Result<(), Fai
         write_text(&marks, &mut sink)?;
         check_same_list(&rt, sink.bytes(), text);
     }
-    Ok(())
-}
-
-#[test]
-fn a_million_marks_are_one_run(rt: HostRuntime) -> Result<(), Fail> {
-    const MOST: u32 = 1_048_576;
-    let alloc = rt.alloc();
-    let mut marks = Marks::new(alloc, MOST)?;
-    for _ in 0..MOST {
-        assert!(rt; !marks.is_full());
-        marks.add(Mark::Recorded);
-    }
-    assert!(rt; marks.is_full());
-    check_same(&rt, &marks.recorded(), &MOST);
-    let mut sink = MemSink::new(alloc, Vec::new(alloc));
-    let mut text = Text::new(&mut sink);
-    text.bytes(b"marks ")?;
-    marks.add_to(&mut text)?;
-    text.bytes(b"\n")?;
-    text.done()?;
-    check_same_list(&rt, sink.bytes(), b"marks +1048576\n".as_slice());
-
-    let mut failing = MemSink::new(alloc, vec![in alloc; 0]?);
-    check_same(&rt, &write_text(&marks, &mut failing), &Err(WriteFault));
-    check_same_list(&rt, failing.bytes(), b"".as_slice());
     Ok(())
 }

@@ -1,5 +1,4 @@
-//! Passings of threads of [`OUTPUTS_AN_A`](example_images::OUTPUTS_AN_A), load by load, and of the
-//! same image with an entry sled that logs arguments.
+//! Passings of threads of [`OUTPUTS_AN_A`](example_images::OUTPUTS_AN_A), load by load.
 
 use fdr_record::Event;
 use machine_step::{Cpu, Want};
@@ -10,9 +9,6 @@ pub type Load = (u32, u64);
 
 /// The parts of the patched entry sled.
 pub const ENTRY: [Load; 4] = [(0, 0xBA41), (1, 1), (2, 0xE8), (3, 0x1F_FFF5)];
-
-/// The parts of the patched entry sled, if it logs arguments.
-pub const ENTRY_ARGS: [Load; 4] = [(0, 0xBA41), (1, 1), (2, 0xE8), (3, 0x20_0025)];
 
 /// The parts of the patched exit sled.
 pub const EXIT: [Load; 4] = [(4, 0xBA41), (5, 1), (6, 0xE9), (7, 0x1F_FFF3)];
@@ -25,16 +21,6 @@ pub const RECORDS: [Load; 2] = [(8, 1), (9, 2)];
 
 /// The same words, if there is a handler and the log has ended.
 pub const HAS_ENDED: [Load; 2] = [(8, 1), (9, 4)];
-
-/// The word of the argument handler of one thread, if there is none.
-pub const NO_ARG_HANDLER: [Load; 1] = [(12, 0)];
-
-/// The words of the argument handler and of the log's state, if there is an argument handler and the
-/// log records.
-pub const RECORDS_ARG: [Load; 2] = [(12, 1), (9, 2)];
-
-/// The same words, if there is an argument handler and the log has ended.
-pub const HAS_ENDED_WITH_ARG: [Load; 2] = [(12, 1), (9, 4)];
 
 /// Lets a thread into its next passing, if it waits for one, and gives it the values of these loads.
 /// The thread has to want them in this order. Answers the last event that came.

@@ -146,12 +146,6 @@ fn a_log_of_each_mode_is_imported(rt: HostRuntime) -> Result<(), Fail> {
 }
 
 #[test]
-fn a_trace_is_imported_as_itself(rt: HostRuntime) -> Result<(), Fail> {
-    let trace = file(rt.alloc(), &RECORDER_TRACE)?;
-    check_import(&rt, rt.alloc(), &trace, &trace)
-}
-
-#[test]
 fn a_block_that_stands_twice_is_taken_once(rt: HostRuntime) -> Result<(), Fail> {
     let log = file(rt.alloc(), &RECORDER)?;
     let doubled = file(rt.alloc(), &[&log, log.get(32..).ok_or("block")?])?;

@@ -1,19 +1,11 @@
-//! Calls of `map_names`, with sled maps as LLVM 14 prints them, and reports that take their names.
+//! Calls of `map_names`, with sled maps as LLVM 14 prints them. `whole_runs` has reports with their names.
 
 ghost use Rattle.std.specs.Prelude.{◌<◌, length};
 
-use crate::checks::{check_same_at, check_same_text};
-use crate::event_traces::{Said, printed, trace_of};
-use account_report::{AccountFormat, AccountRow, AccountText, account, latencies};
-use fdr_file::Trace;
-use fdr_record::Kind;
-use function_names::Names;
+use crate::checks::check_same_at;
 use map_names::{MapFault, read_map};
-use stack_rebuild::{StackForm, StackRow, StackText, stacks};
 use std::alloc::Global;
 use std::test::Fail;
-use trace_forms::EventsText;
-use yaml_convert::YamlText;
 
 /// A map whose names are written in each of the ways. The names of ids 1 to 4 are `LLVM_NAMES`.
 const MAP: &[u8] = b"---
@@ -84,112 +76,4 @@ fn the_first_bad_line_refuses_a_text(rt: HostRuntime) {
             check_same_at(&rt, &refused(rt.alloc(), text), line, &number);
         }
     }
-}
-
-/// A call of each function that the map names, in one another, and of one that it doesn't name.
-const CALLS: [Said; 10] = [
-    (1, Kind::Entry, 1, 0),
-    (1, Kind::Entry, 2, 1),
-    (1, Kind::Entry, 3, 2),
-    (1, Kind::Entry, 4, 3),
-    (1, Kind::Entry, 5, 4),
-    (1, Kind::Exit, 5, 5),
-    (1, Kind::Exit, 4, 6),
-    (1, Kind::Exit, 3, 7),
-    (1, Kind::Exit, 2, 8),
-    (1, Kind::Exit, 1, 9),
-];
-
-/// What Python's csv module reads back as the names.
-const ACCOUNT: &str = "funcid,count,min,med,90p,99p,max,sum,entries,exits,function\n\
-    1,1,9,9,9,9,9,9,0,0,\"a<b, c>(int) const &\"\n\
-    2,1,7,7,7,7,7,7,0,0,\"a,b\"\n\
-    3,1,5,5,5,5,5,5,0,0,it's [u8; 4]\n\
-    4,1,3,3,3,3,3,3,0,0,\"\"\"café\"\"\\u200D\"\n\
-    5,1,1,1,1,1,1,1,0,0,#5\n";
-
-/// Rows with these names, as csv.
-fn fields<'a>(rows: &'a [AccountRow], names: Names<'a>) -> AccountText<'a> {
-    AccountText {
-        rows,
-        latencies: latencies(rows),
-        names,
-        format: AccountFormat::Csv,
-    }
-}
-
-#[test]
-fn names_are_fields_of_csv(rt: HostRuntime) -> Result<(), Fail> {
-    let alloc = rt.alloc();
-    let names = read_map(alloc, MAP)?;
-    let rows = account(alloc, &trace_of(alloc, &CALLS)?)?;
-    let text = fields(&rows, Names::Map(&names));
-    check_same_text(&rt, printed(alloc, &text)?.as_str(), ACCOUNT);
-    Ok(())
-}
-
-/// The paths, whose frames FlameGraph's script parts at semicolons.
-const PATHS: &str = "a<b, c>(int) const & 2\n\
-    a<b, c>(int) const &;a,b 2\n\
-    a<b, c>(int) const &;a,b;it's [u8: 4] 2\n\
-    a<b, c>(int) const &;a,b;it's [u8: 4];\"café\"\\u200D 2\n\
-    a<b, c>(int) const &;a,b;it's [u8: 4];\"café\"\\u200D;#5 1\n";
-
-/// Rows with these names, for FlameGraph's script.
-fn frames<'a>(rows: &'a [StackRow], names: Names<'a>) -> StackText<'a> {
-    StackText {
-        rows,
-        names,
-        form: StackForm::Flame,
-    }
-}
-
-#[test]
-fn names_are_frames_of_paths(rt: HostRuntime) -> Result<(), Fail> {
-    let alloc = rt.alloc();
-    let names = read_map(alloc, MAP)?;
-    let rows = stacks(alloc, &trace_of(alloc, &CALLS)?)?;
-    let text = frames(&rows, Names::Map(&names));
-    check_same_text(&rt, printed(alloc, &text)?.as_str(), PATHS);
-    Ok(())
-}
-
-/// The document of one event.
-const DOCUMENT: &str =
-    "---\nheader:\n  version: 3\n  type: 1\n  constant-tsc: true\n  nonstop-tsc: true\n  cycle-frequency: 0\n\
-    records:\n  - { type: 0, func-id: 3, function: 'it''s [u8; 4]', cpu: 0, thread: 1, process: 1, \
-    kind: function-enter, tsc: 2 }\n...\n";
-
-/// A trace with these names, as YAML.
-fn yaml_with<'a>(trace: &'a Trace, names: Names<'a>) -> YamlText<'a> {
-    YamlText { trace, names }
-}
-
-#[test]
-fn names_are_texts_of_yaml(rt: HostRuntime) -> Result<(), Fail> {
-    let alloc = rt.alloc();
-    let names = read_map(alloc, MAP)?;
-    let trace = trace_of(alloc, &CALLS[2..3])?;
-    let text = yaml_with(&trace, Names::Map(&names));
-    check_same_text(&rt, printed(alloc, &text)?.as_str(), DOCUMENT);
-    Ok(())
-}
-
-/// The trace events of one event.
-const EVENTS: &str =
-    "{\"traceEvents\":[{\"cpu\":0,\"name\":\"\\\"café\\\"\\\\u200D\",\"ph\":\"B\",\"pid\":1,\"tid\":1,\"ts\":3}]}\n";
-
-/// A trace with these names, as trace events.
-fn events_with<'a>(trace: &'a Trace, names: Names<'a>) -> EventsText<'a> {
-    EventsText { trace, names }
-}
-
-#[test]
-fn names_are_strings_of_json(rt: HostRuntime) -> Result<(), Fail> {
-    let alloc = rt.alloc();
-    let names = read_map(alloc, MAP)?;
-    let trace = trace_of(alloc, &CALLS[3..4])?;
-    let text = events_with(&trace, Names::Map(&names));
-    check_same_text(&rt, printed(alloc, &text)?.as_str(), EVENTS);
-    Ok(())
 }

@@ -1,11 +1,10 @@
 //! Calls of `StackFold` of `stack_rebuild`, which a scan of `fdr_file` feeds in pieces.
 
-use crate::checks::{check_same, check_same_text};
+use crate::checks::check_same_text;
 use crate::event_traces::{NESTED, Said, TURNS, printed};
 use crate::fed_traces::{feed_pieces, file_of};
-use fdr_record::Kind;
 use function_names::Names;
-use stack_rebuild::{MOST_OPEN, StackFault, StackFold, StackForm, StackRow, StackText};
+use stack_rebuild::{StackFault, StackFold, StackForm, StackRow, StackText};
 use std::alloc::Global;
 use std::process::Abort;
 use std::test::Fail;
@@ -37,26 +36,5 @@ fn a_fold_that_is_fed_in_pieces_has_the_stacks_of_the_trace(rt: HostRuntime) -> 
     check_stacks(&rt, rt.alloc(), &[], "")?;
     check_stacks(&rt, rt.alloc(), &NESTED, "#1;#1 25\n#1;#1;#1 10\n")?;
     check_stacks(&rt, rt.alloc(), &TURNS, "#7 47\n#7;#8 3\n")?;
-    Ok(())
-}
-
-/// The thread that the fault names, if it names one.
-fn deep_thread(found: Result<Vec<StackRow>, StackFault>) -> Option<u32> {
-    match found {
-        Err(StackFault::Deep(thread)) => Some(thread),
-        Ok(_) | Err(StackFault::NoMemory) => None,
-    }
-}
-
-#[test]
-fn the_least_deep_thread_is_named_though_it_gets_deep_later(rt: HostRuntime) -> Result<(), Fail> {
-    let alloc = rt.alloc();
-    let mut events = Vec::new(alloc);
-    for thread in [5, 3, 4] {
-        for _ in 0..=MOST_OPEN {
-            events.push((thread, Kind::Entry, 1, 0))?;
-        }
-    }
-    check_same(&rt, &deep_thread(stacks_of(alloc, &events)?), &Some(3));
     Ok(())
 }

@@ -207,27 +207,6 @@ pub(crate) const FIELDS_OF_88: Header = Header {
     ..HEADER_FIELDS
 };
 
-/// Its events, each with its thread and its process.
-const THREE_EVENTS: [(u32, u32, Said); 3] = [
-    (1, 1, (0, 1, Kind::Exit, 2)),
-    (2, 1, (0, 2, Kind::Exit, 1)),
-    (2, 1, (0, 1, Kind::Exit, 2)),
-];
-
-#[test]
-fn a_cursor_gives_the_events_in_order(rt: HostRuntime) -> Result<(), Fail> {
-    let bytes = file(rt.alloc(), &THREE_BLOCKS)?;
-    read_trace(rt.alloc(), &bytes)?;
-    let mut cursor = EventCursor::new(&bytes);
-    check_same(&rt, &cursor.header(), &FIELDS_OF_88);
-    for (thread, pid, event) in &THREE_EVENTS {
-        let wanted = Some((*thread, *pid, said(*event)));
-        check_same(&rt, &cursor.next(), &wanted);
-    }
-    check_same(&rt, &cursor.next(), &None);
-    Ok(())
-}
-
 /// A file of version 3, laid out as LLVM's runtime does it. It has flags of which only two have a
 /// meaning, a frequency, reserved bytes and blocks of two threads. The bytes after the fields of its
 /// metadata records were never cleared. One buffer was begun and has no event.

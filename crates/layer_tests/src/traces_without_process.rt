@@ -7,27 +7,13 @@ use fdr_file::*;
 use fdr_record::RecFault;
 use std::alloc::{AllocError, Global};
 use std::test::Fail;
-use test_helpers::trace_parts::{
-    CPU, ENTRY, EXIT_AFTER_2, EXTENTS_64, HEADER_OF_2, ONE_CALL_WITHOUT_PROCESS, THREAD_1, WALL_0,
-    file, file_of_blocks,
-};
+use test_helpers::trace_parts::{ONE_CALL_WITHOUT_PROCESS, file};
 
 /// A header of version 2.
 const FIELDS: Header = Header {
     version: 2,
     ..HEADER_FIELDS
 };
-
-/// A header of version 2, and a block of 32 bytes, which has no event.
-const EMPTY_BLOCK: [&[u8]; 4] = [
-    HEADER_OF_2,
-    b"\x0F\x20\0\0\0\0\0\0\0\0\0\0\0\0\0\0",
-    THREAD_1,
-    WALL_0,
-];
-
-/// A block of one call.
-const ONE_CALL: [&[u8]; 6] = [EXTENTS_64, THREAD_1, WALL_0, CPU, ENTRY, EXIT_AFTER_2];
 
 /// A file of one block with this call.
 fn one_call(alloc: Global) -> Result<Vec<u8>, AllocError> {
@@ -55,17 +41,6 @@ fn a_block_of_version_2_is_of_process_0(rt: HostRuntime) -> Result<(), Fail> {
         &(1, other.wall, 0),
     );
     check_same(&rt, &block.events.as_slice(), &other.events.as_slice());
-    Ok(())
-}
-
-#[test]
-fn a_block_of_32_bytes_is_accepted(rt: HostRuntime) -> Result<(), Fail> {
-    let bytes = file_of_blocks(rt.alloc(), &[&EMPTY_BLOCK, &ONE_CALL])?;
-    check_trace(&rt, &bytes, FIELDS, 2, 2);
-    let mut first = file(rt.alloc(), &EMPTY_BLOCK)?;
-    check_trace(&rt, &first, FIELDS, 1, 0);
-    first.pop();
-    check_fault(&rt, rt.alloc(), &first, TraceFault::Short(32), Ok(32), 79);
     Ok(())
 }
 

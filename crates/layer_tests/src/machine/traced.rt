@@ -1,10 +1,7 @@
 //! Calls of `machine_step`: traced threads, load by load.
 
 use crate::checks::check_same;
-use crate::passings::{
-    ENTRY, ENTRY_ARGS, EXIT, HAS_ENDED, HAS_ENDED_WITH_ARG, Load, NO_ARG_HANDLER, NO_HANDLER,
-    RECORDS, RECORDS_ARG, pass,
-};
+use crate::passings::{ENTRY, EXIT, HAS_ENDED, Load, NO_HANDLER, RECORDS, pass};
 use crate::setups::DEFAULT_LIMITS;
 use example_images::OUTPUTS_AN_A;
 use fdr_record::{Event, Kind};
@@ -12,7 +9,7 @@ use machine_step::{Cpu, End, Limits, Steps, Want};
 use std::alloc::Global;
 use std::process::Abort;
 use std::test::Fail;
-use xray_image::{SledKind, read_image};
+use xray_image::read_image;
 use xray_io::{MemSink, write_text};
 
 /// The entry into function 1 at counter 0, and the exit at counter 2, on processor 0.
@@ -22,13 +19,6 @@ const ENTERED: Event = Event {
     kind: Kind::Entry,
     tsc: 0,
     arg: 0,
-};
-
-/// The entry with the argument that a thread starts with, which is its number.
-const ENTERED_WITH_ARG: Event = Event {
-    kind: Kind::EntryArgs,
-    arg: 1,
-    ..ENTERED
 };
 
 const LEFT: Event = Event {
@@ -67,45 +57,6 @@ const RETURNED: [(&[Loaded], &[u8]); 3] = [
     // The sleds are unpatched.
     (&[(&[(0, 0x09EB)], None), (&[(4, 0xBAC3)], None)], b".2\n"),
 ];
-
-/// The same at an entry sled that logs arguments.
-const RETURNED_WITH_ARGS: [(&[Loaded], &[u8]); 3] = [
-    // There is an argument handler, so the handler's word isn't loaded. At the exit it is, and there is none.
-    (
-        &[
-            (&ENTRY_ARGS, None),
-            (&RECORDS_ARG, Some(ENTERED_WITH_ARG)),
-            (&EXIT, None),
-            (&NO_HANDLER, None),
-        ],
-        b"a1 n1\n",
-    ),
-    // There is no argument handler, but a handler.
-    (
-        &[
-            (&ENTRY_ARGS, None),
-            (&NO_ARG_HANDLER, None),
-            (&RECORDS, Some(ENTERED)),
-            (&EXIT, None),
-            (&RECORDS, Some(LEFT)),
-        ],
-        b"+2\n",
-    ),
-    // The log has ended, with either handler.
-    (
-        &[
-            (&ENTRY_ARGS, None),
-            (&HAS_ENDED_WITH_ARG, None),
-            (&EXIT, None),
-            (&HAS_ENDED, None),
-        ],
-        b"f2\n",
-    ),
-];
-
-/// The place of the kind of the first sled in the image: after the header, 29 bytes of code, the
-/// function with its name, and the addresses of the sled and of the function.
-const KIND_AT: usize = 64 + 29 + 13 + 16;
 
 /// The text of these threads, up to their marks.
 const STATE: &[u8] = b"thread 1 returned instructions 3 passings 2\n\
@@ -153,20 +104,6 @@ fn check_held(rt: &impl Abort, alloc: Global, steps: &Steps) -> Result<(), Fail>
     }
     check_same(rt, &pass(&mut cpu, &[(0, 0x09EB)])?, &None);
     check_same(rt, &cpu.want(), &Want::Done(End::Passings));
-    Ok(())
-}
-
-#[test]
-fn an_argument_is_logged_only_for_an_argument_handler(rt: HostRuntime) -> Result<(), Fail> {
-    let alloc = rt.alloc();
-    let mut bytes = Vec::from_slice(alloc, &OUTPUTS_AN_A)?;
-    assert!(rt; KIND_AT < bytes.len());
-    bytes[KIND_AT] = SledKind::Args.number();
-    let image = read_image(alloc, &bytes)?;
-    let steps = Steps::new(alloc, &image)?;
-    for (loaded, marks) in &RETURNED_WITH_ARGS {
-        check_returned(&rt, alloc, &steps, loaded, marks)?;
-    }
     Ok(())
 }
 
