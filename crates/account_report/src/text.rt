@@ -26,7 +26,7 @@ pub enum AccountFormat {
 
 /// An account, which is printed as a head line, and a line for each row, in the order of the rows.
 /// The columns are those of `llvm-xray account`, in cycles, and two more.
-#[derive(Clone, Copy, Debug)]
+#[derive(Clone, Copy)]
 pub struct AccountText<'a> {
     /// The rows.
     pub rows: &'a [AccountRow],

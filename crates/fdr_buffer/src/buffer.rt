@@ -31,7 +31,7 @@ pub const TRACE_LIMIT: u64 = 67_108_864;
 /// and the process, as `begin` was given them. The records of the events follow. LLVM's
 /// `xray_fdr_controller.h` fills its buffers with the same kinds of records. The size of a buffer
 /// never changes.
-#[derive(Debug, Drop)]
+#[derive(Drop)]
 pub struct Buffer {
     /// As many bytes as the size of the buffer.
     bytes: Vec<u8>,

@@ -37,7 +37,7 @@ pub trait Taker {
 }
 
 /// Keeps nothing, and so stands for any blocks. It never refuses.
-#[derive(Clone, Copy, Debug, Drop)]
+#[derive(Clone, Copy, Drop)]
 pub struct KeepNothing;
 
 impl Taker for KeepNothing {

@@ -8,7 +8,7 @@ use std::marker::Model;
 use xray_io::Wall;
 
 /// Items in order. In contracts they are a list.
-#[derive(Debug, Drop)]
+#[derive(Drop)]
 pub struct Items<X> {
     list: Vec<X>,
 }
@@ -48,7 +48,7 @@ impl<X> Items<X> {
 pub type Events = Items<Event>;
 
 /// One block of a file: what a thread's buffer said.
-#[derive(Debug, Drop)]
+#[derive(Drop)]
 pub struct Block {
     /// The thread whose buffer it was.
     pub thread: u32,
@@ -64,7 +64,7 @@ pub struct Block {
 pub type Blocks = Items<Block>;
 
 /// A trace: what a file says about itself, and its blocks.
-#[derive(Debug, Drop)]
+#[derive(Drop)]
 pub struct Trace {
     /// The file's header.
     pub header: Header,

@@ -96,7 +96,7 @@ fn add_file<S: Sink>(
 }
 
 /// A trace file of version 3, which is written as `write_file` writes it.
-#[derive(Clone, Copy, Debug)]
+#[derive(Clone, Copy)]
 pub struct TraceFile<'a> {
     /// The header. Its version is 3.
     pub header: &'a Header,

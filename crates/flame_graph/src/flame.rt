@@ -23,7 +23,7 @@ use xray_io::{Piece, Printed, Sink, Text, WriteFault, write_text};
 ///
 /// The rows have to be in ascending order of their paths, each path once and with a function, as
 /// `stacks` and `StackFold::rows` give them.
-#[derive(Clone, Copy, Debug)]
+#[derive(Clone, Copy)]
 pub struct FlameGraph<'a> {
     /// The rows.
     pub rows: &'a [StackRow],

@@ -8,7 +8,7 @@ use stack_rebuild::StackRow;
 
 /// What is printed of a frame's calls: how many pairs of an entry and an exit have its path, the sum
 /// of their durations in cycles, and what is left of that sum without the time in other functions.
-#[derive(Clone, Copy, Debug, PartialEq, Eq)]
+#[derive(Clone, Copy, PartialEq, Eq)]
 pub struct Calls {
     /// How many pairs have the path.
     pub count: u64,
@@ -39,7 +39,7 @@ impl Calls {
 }
 
 /// A frame that more rows may begin with: where it begins, in cycles, and its calls.
-#[derive(Clone, Copy, Debug)]
+#[derive(Clone, Copy)]
 pub(crate) struct Opening {
     pub(crate) start: u128,
     pub(crate) calls: Calls,

@@ -12,7 +12,7 @@ use xray_io::{Piece, Sink, Text, WriteFault};
 
 /// Where a frame is drawn, and how wide: `left` and `width` in thousandths of a pixel, from the left
 /// end of the lowest row, and `top` in pixels from the upper end of the picture.
-#[derive(Clone, Copy, Debug)]
+#[derive(Clone, Copy)]
 pub(crate) struct Place {
     pub(crate) left: u128,
     pub(crate) width: u128,

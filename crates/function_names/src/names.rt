@@ -6,7 +6,7 @@ use map_names::MapNames;
 use xray_image::Image;
 
 /// What names the functions of a text, by their ids.
-#[derive(Clone, Copy, Debug)]
+#[derive(Clone, Copy)]
 pub enum Names<'a> {
     /// Nothing: a function is named by its id.
     Ids,

@@ -24,7 +24,7 @@ const EACH_MARK: u8 = 0b0001_0001;
 
 /// The marks of a thread's passings, in the order of the passings. There is room for a fixed number
 /// of them.
-#[derive(Debug, Drop)]
+#[derive(Drop)]
 pub struct Marks {
     /// Two marks per byte. The first is in the low bits.
     bytes: Vec<u8>,

@@ -3,7 +3,7 @@
 use crate::end::End;
 
 /// The end of a thread whose sleds are only counted, and what it leaves.
-#[derive(Debug, Drop)]
+#[derive(Drop)]
 pub struct PlainEnd {
     /// The thread's number.
     pub thread: u32,

@@ -11,7 +11,7 @@ use std::alloc::{AllocError, Global};
 use text_lines::{parse_digits, parse_number};
 
 /// The id of a function and its name, which is empty if the map doesn't have it.
-#[derive(Debug, Drop)]
+#[derive(Drop)]
 pub(crate) struct IdName {
     pub(crate) id: u32,
     pub(crate) name: Vec<u8>,

@@ -11,7 +11,7 @@ use std::collections::HashMap;
 use xray_io::NoMemory;
 
 /// The names that a sled map gives to functions, by their ids. In contracts these are `named`.
-#[derive(Debug, Drop)]
+#[derive(Drop)]
 pub struct MapNames {
     names: HashMap<u32, Vec<u8>>,
 }

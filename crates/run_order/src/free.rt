@@ -17,7 +17,7 @@ const WAITS: [(&[u8], bool); 3] = [(b"hold", true), (b"release", true), (b"await
 
 /// The text of a script without its lines of `hold`, `release` and `await`. All other lines stay byte
 /// for byte. The text of the script has fewer than `u32::MAX` bytes.
-#[derive(Clone, Copy, Debug)]
+#[derive(Clone, Copy)]
 pub struct FreeText<'a>(pub &'a [u8]);
 
 impl Printed for FreeText<'_> {

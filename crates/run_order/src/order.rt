@@ -22,7 +22,7 @@ const MOST_LINES: usize = 1_048_576;
 
 /// The order of all loads and stores of a finished run: a schedule for the script without waits. Its
 /// replay has the marks of the run. In contracts it is the list of its turns.
-#[derive(Debug, Drop)]
+#[derive(Drop)]
 pub struct Order {
     lines: Vec<Turns>,
 }

@@ -16,7 +16,7 @@ pub const SOAK_FUNCTIONS: u64 = 64;
 pub const SOAK_THREADS: u32 = 4;
 
 /// The inputs of a number, each as the bytes of its file.
-#[derive(Debug, Drop)]
+#[derive(Drop)]
 pub struct SoakInputs {
     /// The assembler text. It says `SOAK_FUNCTIONS` functions.
     pub text: Vec<u8>,

@@ -16,7 +16,7 @@ use xray_io::NoMemory;
 /// An entry opens a call. An exit or tail exit ends the innermost open call of its function. It
 /// also ends the calls that were made in that call and are still open, whose exits were lost. If no
 /// call of the function is open, it changes nothing.
-#[derive(Debug, Drop)]
+#[derive(Drop)]
 pub struct ThreadCalls {
     /// How many events there were.
     events: usize,

@@ -16,7 +16,7 @@ use xray_io::NoMemory;
 /// Most exits end the innermost call. So the calls of each function are counted only when an exit
 /// is of another function than the innermost call. Whether any call of it is open is then seen
 /// without a search.
-#[derive(Debug, Drop)]
+#[derive(Drop)]
 pub(crate) struct OpenCalls {
     calls: Vec<Call>,
     /// How many calls are counted, from the outermost on.

@@ -6,7 +6,7 @@ ghost use Rattle.stack_rebuild.specs.declared.stack_row.StackFault.TheVariants.{
 use thiserror::Error;
 
 /// What a trace says of a path, over all threads. Durations are in cycles.
-#[derive(Debug, Drop)]
+#[derive(Drop)]
 pub struct StackRow {
     /// The functions of the path, outermost first. The last is the one that the row is about.
     pub path: Vec<u32>,

@@ -16,7 +16,7 @@ use xray_io::{Piece, Printed, Sink, Text, WriteFault, write_text};
 const WIDTH: usize = 10;
 
 /// The form of printed stacks.
-#[derive(Clone, Copy, Debug, PartialEq, Eq)]
+#[derive(Clone, Copy, PartialEq, Eq)]
 pub enum StackForm {
     /// For readers: a head line, and for each path the number of its pairs, the sum of their
     /// durations, and that sum without the time in other functions.
@@ -30,7 +30,7 @@ pub enum StackForm {
 /// cycles.
 ///
 /// A path is the names of its functions, outermost first, joined by `;`.
-#[derive(Clone, Copy, Debug)]
+#[derive(Clone, Copy)]
 pub struct StackText<'a> {
     /// The rows.
     pub rows: &'a [StackRow],

@@ -7,7 +7,7 @@ use crate::totals::added;
 use xray_io::NoMemory;
 
 /// What pairs say of a path. Durations are in cycles.
-#[derive(Clone, Copy, Debug)]
+#[derive(Clone, Copy)]
 pub struct Tally {
     /// How many pairs have the path.
     pub count: u64,

@@ -17,7 +17,7 @@ const LINES_LIMIT: usize = 1_048_576;
 
 /// A stated order of loads and stores: whose turns come when. In contracts it is the list of the
 /// turns, in order.
-#[derive(Debug, Drop)]
+#[derive(Drop)]
 pub struct Schedule {
     lines: Vec<Turns>,
 }

@@ -52,7 +52,7 @@ pub(crate) fn find_wide<E: EventSource>(events: &mut E) -> Option<u64>
 ///
 /// The layout is that of LLVM's basic mode (`XRayRecord` of compiler-rt's `xray_records.h`), except
 /// that an entry that logs its argument is one record, with the argument in its last eight bytes.
-#[derive(Clone, Copy, Debug)]
+#[derive(Clone, Copy)]
 pub struct BasicText<'a> {
     /// The trace.
     pub trace: &'a Trace,

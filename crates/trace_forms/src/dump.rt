@@ -25,7 +25,7 @@ const HEADER_BYTES: usize = 32;
 /// is a trace, each with its place, counted from the file's start. A last line says `end` and the
 /// length of the file, if all of it is a trace. If not, it says `stop`, the length of the prefix, and
 /// the first fault of the file.
-#[derive(Clone, Copy, Debug)]
+#[derive(Clone, Copy)]
 pub struct DumpText<'a> {
     /// The bytes of the file.
     pub bytes: &'a [u8],

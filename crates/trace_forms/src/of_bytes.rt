@@ -15,7 +15,7 @@ use xray_io::{Printed, Sink, Text, WriteFault};
 /// prints. No list of the events is made.
 ///
 /// The bytes have to be a trace: `TraceScan` and `read_trace` of `fdr_file` say whether they are.
-#[derive(Clone, Copy, Debug)]
+#[derive(Clone, Copy)]
 pub struct EventsBytes<'a> {
     /// The bytes of the file.
     pub bytes: &'a [u8],
@@ -40,7 +40,7 @@ impl Printed for EventsBytes<'_> {
 /// of its events is made.
 ///
 /// The bytes have to be a trace, and each CPU has to be below 256; see [`wide_cpu_of_bytes`].
-#[derive(Clone, Copy, Debug)]
+#[derive(Clone, Copy)]
 pub struct BasicBytes<'a> {
     /// The bytes of the file.
     pub bytes: &'a [u8],

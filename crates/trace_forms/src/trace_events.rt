@@ -49,7 +49,7 @@ pub enum EventFault {
 /// `ph` is `B` for an entry, and `E` for an exit and a tail exit. `ts` is the counter, in cycles,
 /// though viewers take it for microseconds. `cpu` is the CPU, `pid` the process and `tid` the thread.
 /// An entry that logs its argument has it in `args`, as `arg`.
-#[derive(Clone, Copy, Debug)]
+#[derive(Clone, Copy)]
 pub struct EventsText<'a> {
     /// The trace.
     pub trace: &'a Trace,

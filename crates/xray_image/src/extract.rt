@@ -15,7 +15,7 @@ const ADDRESS_DIGITS: usize = 16;
 
 /// The sled map of an image as YAML, with the fields of `llvm-xray extract` except the version. The
 /// document has a line for each sled, in the order of the map.
-#[derive(Clone, Copy, Debug)]
+#[derive(Clone, Copy)]
 pub struct SledMap<'a>(pub &'a Image);
 
 impl Printed for SledMap<'_> {

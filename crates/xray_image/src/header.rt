@@ -12,7 +12,7 @@ use crate::format::{
 use crate::sled::SledKind;
 
 /// The addresses of the handlers' trampolines, by the kind of the sleds that call them.
-#[derive(Clone, Copy, Debug)]
+#[derive(Clone, Copy)]
 pub(crate) struct Trampolines {
     pub(crate) entry: u64,
     pub(crate) exit: u64,

@@ -17,7 +17,7 @@ use std::alloc::{AllocError, Global};
 use std::marker::Model;
 
 /// A function of the image.
-#[derive(Debug, Drop)]
+#[derive(Drop)]
 pub(crate) struct Function {
     pub(crate) start: u64,
     pub(crate) name: String,
@@ -36,7 +36,7 @@ impl Function {
 
 /// A program with sleds, as an accepted image file says: its units, the sleds among them, and the
 /// addresses of the handlers' trampolines. Addresses are absolute, in bytes.
-#[derive(Debug, Drop)]
+#[derive(Drop)]
 pub struct Image {
     base: u64,
     entry: u64,

@@ -14,7 +14,7 @@ pub(crate) const LARGEST_STEP: u32 = u8::MAX as u32 / (BLOCK as u32 - 1);
 
 /// For each of some numbers, the sum of the numbers before it. It is stored in a byte and a
 /// quarter: the sum at which its block begins, and the distance from that.
-#[derive(Debug, Drop)]
+#[derive(Drop)]
 pub(crate) struct RunningSums {
     /// For each block, its first sum.
     firsts: Vec<u32>,

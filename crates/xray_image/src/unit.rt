@@ -32,7 +32,7 @@ pub struct Unit {
 
 /// The units of a code in ascending address, stored as the code and the places where they begin. A
 /// unit is decoded whenever it is asked for.
-#[derive(Debug, Drop)]
+#[derive(Drop)]
 pub(crate) struct UnitTable {
     /// The address of the code's first byte.
     base: u64,

@@ -17,7 +17,7 @@ const NO_UNIT: u8 = u8::MAX;
 
 /// The units of a code by their addresses, in about one byte for each byte of the code. The number
 /// of a unit is that of the first unit of its block, plus its number within the block.
-#[derive(Debug, Drop)]
+#[derive(Drop)]
 pub(crate) struct UnitIndex {
     /// The address of the code's first byte.
     base: u64,

@@ -13,7 +13,7 @@ pub trait Gate {
 }
 
 /// The gate that is always open: it does nothing.
-#[derive(Debug, Clone, Copy, PartialEq, Eq)]
+#[derive(Clone, Copy, PartialEq, Eq)]
 pub struct OpenGate;
 
 impl Gate for OpenGate {

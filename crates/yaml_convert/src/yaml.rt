@@ -21,7 +21,7 @@ use xray_io::{Piece, Printed, Sink, Text, WriteFault, write_text};
 /// The type of the header is always 1, that of the Flight Data Recorder mode. The type of a record is
 /// always 0. `process` is the process of the event's block, and `tsc` its counter in cycles. An entry
 /// that logs its argument has it in `args`.
-#[derive(Clone, Copy, Debug)]
+#[derive(Clone, Copy)]
 pub struct YamlText<'a> {
     /// The trace.
     pub trace: &'a Trace,

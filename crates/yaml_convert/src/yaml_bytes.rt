@@ -20,7 +20,7 @@ use xray_io::{Printed, Sink, Text, WriteFault, write_text};
 /// list of its events is made.
 ///
 /// The bytes have to be a trace: `TraceScan` and `read_trace` of `fdr_file` say whether they are.
-#[derive(Clone, Copy, Debug)]
+#[derive(Clone, Copy)]
 pub struct YamlBytes<'a> {
     /// The bytes of the file.
     pub bytes: &'a [u8],
