@@ -7,7 +7,7 @@ ghost use Rattle.account_report.specs.private.Ranks.{ranks_from, ranks_of};
 const MANY: usize = 128;
 
 /// Items of durations in ascending order. They are 0 if there are no durations.
-#[derive(Clone, Copy, PartialEq, Eq)]
+#[derive(Clone, Copy)]
 pub(crate) struct Ranks {
     /// The least one.
     pub(crate) min: u64,

@@ -1,7 +1,7 @@
 //! A row of an account.
 
 /// What the account says of a function, over all threads of a trace. Durations are in cycles.
-#[derive(Clone, Copy, PartialEq, Eq)]
+#[derive(Clone, Copy)]
 pub struct AccountRow {
     /// The id of the function.
     pub func: u32,
@@ -27,7 +27,7 @@ pub struct AccountRow {
 }
 
 /// What rows are ordered by: one of their columns.
-#[derive(Clone, Copy, PartialEq, Eq)]
+#[derive(Clone, Copy)]
 pub enum SortKey {
     /// The id of the function.
     FuncId,

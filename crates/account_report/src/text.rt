@@ -15,7 +15,7 @@ use xray_io::{Piece, Printed, Sink, Text, WriteFault, write_text};
 const WIDTH: usize = 10;
 
 /// The form of a printed account.
-#[derive(Clone, Copy, Debug, PartialEq, Eq)]
+#[derive(Clone, Copy, Debug)]
 pub enum AccountFormat {
     /// Columns that end at the same place of each line, for readers. The first line says how many
     /// functions have a pair.

@@ -7,7 +7,7 @@ use crate::statement::Choice;
 use text_lines::keyword_in;
 
 /// A word that begins a line and is no label.
-#[derive(Clone, Copy, PartialEq, Eq)]
+#[derive(Clone, Copy)]
 pub(crate) enum Keyword {
     Base,
     Entry,

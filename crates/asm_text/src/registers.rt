@@ -54,7 +54,7 @@ impl RegisterWord {
 }
 
 /// A register that instructions can name.
-#[derive(Clone, Copy, PartialEq, Eq)]
+#[derive(Clone, Copy)]
 pub(crate) enum Register {
     Rax,
     Rcx,

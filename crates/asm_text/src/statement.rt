@@ -7,7 +7,7 @@ use subset_decode::Instr;
 use xray_image::SledKind;
 
 /// When a function is instrumented.
-#[derive(Clone, Copy, PartialEq, Eq)]
+#[derive(Clone, Copy)]
 pub(crate) enum Choice {
     /// Depending on its number of instruction lines.
     ByLength,
@@ -45,7 +45,7 @@ impl Choice {
 }
 
 /// The branches that go to a name.
-#[derive(Clone, Copy, PartialEq, Eq)]
+#[derive(Clone, Copy)]
 pub(crate) enum Branch {
     Call,
     Jmp,

@@ -9,7 +9,7 @@ use crate::width::{line_sleds, line_width};
 use xray_image::format::{CODE_LIMIT, FUNCTION_LIMIT, SLED_LIMIT};
 
 /// Which functions have begun.
-#[derive(Clone, Copy, PartialEq, Eq)]
+#[derive(Clone, Copy)]
 enum Standing {
     /// No function has begun.
     Outside,

@@ -1,7 +1,7 @@
 //! Whether a recorder still takes events.
 
 /// Whether a recorder still takes events. Once its state isn't `Live`, it stays the same.
-#[derive(Clone, Copy, PartialEq, Eq)]
+#[derive(Clone, Copy)]
 pub enum TrieState {
     /// It has taken all events so far.
     Live,

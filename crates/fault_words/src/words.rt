@@ -6,7 +6,7 @@ ghost use Rattle.fault_words.specs.Words.{words_text};
 use xray_io::Piece;
 
 /// The words of a refusal, which are its name and its values, as the pieces of a text.
-#[derive(Clone, Copy, PartialEq, Eq)]
+#[derive(Clone, Copy)]
 pub struct Words<'a> {
     /// The first piece.
     pub first: Piece<'a>,

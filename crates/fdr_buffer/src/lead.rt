@@ -19,7 +19,7 @@ fn function_len(event: &Event) -> usize
 }
 
 /// How an event's records say its CPU and counter.
-#[derive(Clone, Copy, PartialEq, Eq)]
+#[derive(Clone, Copy)]
 pub(crate) enum Lead {
     /// A `NewCPUId` record comes first. The event is the first of its segment, or it is on another
     /// CPU than the event before it.

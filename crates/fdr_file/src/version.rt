@@ -15,7 +15,7 @@ const VERSION_WITHOUT_PROCESS: u16 = 2;
 pub(crate) const NO_PROCESS: u32 = 0;
 
 /// A version of the format that is read. It decides which records a block begins with.
-#[derive(Clone, Copy, PartialEq, Eq)]
+#[derive(Clone, Copy)]
 pub enum Version {
     /// Version 2. A block begins with `NewBuffer` and `WalltimeMarker`.
     Two,

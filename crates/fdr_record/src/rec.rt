@@ -8,7 +8,7 @@ use crate::layout::{FUNCTION_BYTES, METADATA_BYTES};
 use xray_io::Wall;
 
 /// A record of a trace (LLVM's `xray_fdr_log_records.h`): one function record, or a metadata record.
-#[derive(Clone, Copy, PartialEq, Eq)]
+#[derive(Clone, Copy)]
 pub enum Rec {
     /// A thread's buffer begins (`NewBuffer`).
     NewBuffer {

@@ -8,7 +8,7 @@ use stack_rebuild::StackRow;
 
 /// What is printed of a frame's calls: how many pairs of an entry and an exit have its path, the sum
 /// of their durations in cycles, and what is left of that sum without the time in other functions.
-#[derive(Clone, Copy, PartialEq, Eq)]
+#[derive(Clone, Copy)]
 pub struct Calls {
     /// How many pairs have the path.
     pub count: u64,

@@ -9,7 +9,7 @@ ghost use Rattle.function_names.specs.private.Bytes.{is_itself};
 use xray_io::{Sink, Text, WriteFault};
 
 /// The form of a name in a text.
-#[derive(Clone, Copy, PartialEq, Eq)]
+#[derive(Clone, Copy)]
 pub enum NameForm {
     /// As it is, for readers.
     Plain,

@@ -2,7 +2,7 @@
 
 /// The limits of a thread, and how its passings are stamped. What is asked of them is said by
 /// `AreLimits` of `specs/Setups.antt`.
-#[derive(Clone, Copy, PartialEq, Eq)]
+#[derive(Clone, Copy)]
 pub struct Limits {
     /// The most instructions that a thread makes, at most 1,000,000,000.
     pub fuel: u64,

@@ -5,7 +5,7 @@ use xray_io::Wall;
 
 /// What a replay or a run is made with, besides its image and its script. What is asked of it is said
 /// once, by `IsSetup` of `specs/Setups.antt`.
-#[derive(Clone, Copy, PartialEq, Eq)]
+#[derive(Clone, Copy)]
 pub struct Setup {
     /// How many threads run, from 1 to 16.
     pub threads: u32,

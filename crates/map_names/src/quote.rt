@@ -8,7 +8,7 @@ use crate::parts::{after_label, before_ending};
 use std::alloc::{AllocError, Global};
 
 /// A quotation mark.
-#[derive(Clone, Copy, PartialEq, Eq)]
+#[derive(Clone, Copy)]
 pub enum Quote {
     /// `'`
     Single,
@@ -20,7 +20,7 @@ pub enum Quote {
 const BACKSLASH: u8 = b'\\';
 
 /// What a byte between quotation marks adds to a name.
-#[derive(Clone, Copy, PartialEq, Eq)]
+#[derive(Clone, Copy)]
 pub(crate) enum Added {
     /// Nothing: the next byte belongs to it.
     Nothing,

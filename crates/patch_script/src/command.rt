@@ -2,7 +2,7 @@
 
 /// A command of a patch script. Each line has one. Function ids and threads count from 1, passings
 /// from 0.
-#[derive(Clone, Copy, PartialEq, Eq)]
+#[derive(Clone, Copy)]
 pub enum Command {
     /// `patch`: patches every sled.
     Patch,

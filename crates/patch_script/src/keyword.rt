@@ -6,7 +6,7 @@ ghost use Rattle.patch_script.specs.Language.{keyword_of};
 use text_lines::keyword_in;
 
 /// The first word of a command.
-#[derive(Clone, Copy, PartialEq, Eq)]
+#[derive(Clone, Copy)]
 pub(crate) enum Keyword {
     Patch,
     Unpatch,

@@ -93,7 +93,7 @@ impl Holds {
 }
 
 /// The state of the log.
-#[derive(Clone, Copy, PartialEq, Eq)]
+#[derive(Clone, Copy)]
 pub(crate) enum Log {
     Uninitialized,
     Initialized,

@@ -1,7 +1,7 @@
 //! The parts of a sled.
 
 /// A word of a sled, by the bytes of the sled that it covers.
-#[derive(Clone, Copy, PartialEq, Eq)]
+#[derive(Clone, Copy)]
 pub enum Part {
     /// Bytes 0 and 1, which a thread loads first.
     Head,

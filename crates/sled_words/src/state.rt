@@ -1,7 +1,7 @@
 //! The values of the words after those of the sleds.
 
 /// The state of a log, with the numbers of `XRayLogInitStatus` (`xray_log_interface.h`).
-#[derive(Clone, Copy, PartialEq, Eq)]
+#[derive(Clone, Copy)]
 pub enum LogState {
     /// 0, before the log is initialized.
     Uninitialized,

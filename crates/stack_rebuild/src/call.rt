@@ -1,7 +1,7 @@
 //! Open calls.
 
 /// An open call: its entry was recorded, and no exit that ends it.
-#[derive(Clone, Copy, PartialEq, Eq)]
+#[derive(Clone, Copy)]
 pub struct Call {
     /// The position of its entry among the events of its thread, from 0.
     pub entry: usize,

@@ -16,7 +16,7 @@ use xray_io::{Piece, Printed, Sink, Text, WriteFault, write_text};
 const WIDTH: usize = 10;
 
 /// The form of printed stacks.
-#[derive(Clone, Copy, PartialEq, Eq)]
+#[derive(Clone, Copy)]
 pub enum StackForm {
     /// For readers: a head line, and for each path the number of its pairs, the sum of their
     /// durations, and that sum without the time in other functions.

@@ -16,7 +16,7 @@ pub const CONDITIONAL_LENGTH: u32 = 6;
 pub const RETURN_LENGTH: u32 = 1;
 
 /// The encoding of one instruction. `as_slice` gives its bytes without padding.
-#[derive(Clone, Copy, PartialEq, Eq)]
+#[derive(Clone, Copy)]
 pub struct Code {
     /// The bytes of the instruction, and zeros after them.
     pub bytes: [u8; LONGEST],

@@ -17,7 +17,7 @@ const CARRIAGE_RETURN: u8 = b'\r';
 const COMMENT: u8 = b'#';
 
 /// A line of a text, without what ends it.
-#[derive(Clone, Copy, PartialEq, Eq)]
+#[derive(Clone, Copy)]
 pub struct Line<'a> {
     /// The line's number in its text, counted from 1.
     pub number: u32,

@@ -17,7 +17,7 @@ use traced_run::passings_are_few;
 use xray_io::Gate;
 
 /// How a turn of a worker ended.
-#[derive(Clone, Copy, PartialEq, Eq)]
+#[derive(Clone, Copy)]
 pub enum Turn {
     /// The thread is at its end.
     Done,

@@ -7,7 +7,7 @@ ghost use Rattle.trace_flush.specs.Lines.{end_of, audit_lines_of};
 use machine_step::{Cpu, End, Want};
 
 /// What the audit says of a thread, except its marks.
-#[derive(Clone, Copy, PartialEq, Eq)]
+#[derive(Clone, Copy)]
 pub struct AuditLine {
     /// The number of the thread, from 1.
     pub thread: u32,

@@ -11,7 +11,7 @@ use fdr_record::RecFault;
 use xray_io::Piece;
 
 /// The fault of `read_trace`, with the words of its refusal.
-#[derive(Clone, Copy, Drop, PartialEq, Eq)]
+#[derive(Clone, Copy, Drop)]
 pub struct TraceRefusal {
     /// What is wrong with the file.
     pub fault: TraceFault,

@@ -5,11 +5,11 @@ ghost use Rattle.xray_io.specs.declared.faults.ReadError.TheVariants.{NoMemory};
 use std::alloc::{AllocError, AllocFailed};
 
 /// A device didn't do what it was asked to do, and counted a fault.
-#[derive(Clone, Copy, PartialEq, Eq)]
+#[derive(Clone, Copy, Debug, PartialEq, Eq)]
 pub struct Failed;
 
 /// Why a read of a desk gave no bytes.
-#[derive(Clone, Copy, PartialEq, Eq)]
+#[derive(Clone, Copy, Debug, PartialEq, Eq)]
 pub enum ReadFail {
     /// The desk reports that it doesn't hold the name. This is no fault.
     Missing,

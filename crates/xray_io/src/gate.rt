@@ -13,7 +13,7 @@ pub trait Gate {
 }
 
 /// The gate that is always open: it does nothing.
-#[derive(Clone, Copy, PartialEq, Eq)]
+#[derive(Clone, Copy)]
 pub struct OpenGate;
 
 impl Gate for OpenGate {

@@ -1,7 +1,7 @@
 //! The parts of a text.
 
 /// A part of a text: bytes, or a number and the way to print it.
-#[derive(Clone, Copy, PartialEq, Eq)]
+#[derive(Clone, Copy)]
 pub enum Piece<'a> {
     /// These bytes.
     Bytes(&'a [u8]),

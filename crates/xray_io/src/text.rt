@@ -196,7 +196,7 @@ impl Printed for Piece<'_> {
 }
 
 /// Values, one after the other.
-#[derive(Clone, Copy, PartialEq, Eq)]
+#[derive(Clone, Copy)]
 pub struct Each<'a, T>(pub &'a [T]);
 
 impl<T: Printed> Printed for Each<'_, T> {
