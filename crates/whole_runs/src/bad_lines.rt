@@ -1,10 +1,8 @@
 //! Lines that say no command.
-use crate::runs::{
-    BAD_LINE, IMAGE, SCHEDULE, SCRIPT, assert_held, assert_stopped, desk_of, run_line,
-};
+use crate::cases::{BAD_LINE, CASE, Case, check_case};
 use std::test::Fail;
 
-const BAD_LINES: [&str; 69] = [
+const BAD_LINES: [&str; 79] = [
     // No words, and commands with too few or too many names, or with an output named twice.
     "",
     "sim i s",
@@ -83,16 +81,30 @@ const BAD_LINES: [&str; 69] = [
     "import l l",
     "import l t u",
     "import l t --map m",
+    // Buffers out of their ranges, and the ends of a trace of at most 67,108,864 bytes.
+    "sim i s c t a --buffer-size 87 --buffer-max 1",
+    "sim i s c t a --buffer-size 1048577 --buffer-max 1",
+    "sim i s c t a --buffer-size 88 --buffer-max 1025",
+    "sim i s c t a --buffer-max 0 --threads 1",
+    "sim i s c t a --buffer-max 3 --threads 4",
+    "sim i s c t a --buffer-max 224 --buffer-size 299578",
+    // `account` and `profile`.
+    "account",
+    "account t i t",
+    "account t --sort name",
+    "profile i s --nodes 0",
 ];
 
 #[test]
-fn a_line_that_says_no_command_is_refused_and_changes_nothing(rt: HostRuntime) -> Result<(), Fail> {
+fn a_line_that_says_no_command_is_refused(rt: HostRuntime) -> Result<(), Fail> {
     for line in &BAD_LINES {
-        let mut desk = desk_of(rt.alloc(), &[], &IMAGE, SCRIPT, SCHEDULE)?;
-        let run = run_line(&rt, line, &mut desk)?;
-        assert_stopped(&rt, &run, 1, BAD_LINE);
-        assert_held(&rt, desk.get("i"), &IMAGE);
-        assert!(rt; desk.get("t").is_none());
+        let case = Case {
+            line,
+            status: 1,
+            err: BAD_LINE,
+            ..CASE
+        };
+        check_case(&rt, &case)?;
     }
     Ok(())
 }

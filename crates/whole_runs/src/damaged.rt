@@ -1,13 +1,14 @@
 //! Damaged traces and images, and prefixes of a trace: each is refused with the place of its first
 //! fault, by every command that reads it.
-use crate::runs::{IMAGE, assert_left, assert_no_fault, assert_stopped, image_desk, run_line};
-use crate::traces::{LEFT, LEFT_BY_2, LEFT_F_BY_2};
-use std::alloc::Global;
+use crate::cases::{CASE, Case, IMAGE, check_case};
+use crate::checks::check_same_at;
+use crate::runs::run_line;
+use std::alloc::{AllocError, Global};
 use std::process::Abort;
 use std::sync::Wait;
 use std::test::Fail;
 use std::thread::Threads;
-use test_helpers::trace_parts::{BUFFERS_OF_88, FORMAT, ONE_CALL, file};
+use test_helpers::trace_parts::{ONE_CALL, THREE_BLOCKS, file};
 use xray_io::MemDesk;
 
 /// Damages of a file: bytes and their places, the length to which the file is cut or extended by a
@@ -18,7 +19,7 @@ type Damage = (&'static [(usize, u8)], usize, &'static str);
 const TRACE: usize = 128;
 
 /// The place of its first block is 32, and of its last records 112 and 120.
-const TRACES: [Damage; 19] = [
+const TRACES: [Damage; 15] = [
     (&[(32, 0x01)], TRACE, "Order 32"),
     (&[(32, 0x10)], TRACE, "Order 32"),
     (&[(32, 0x0B)], TRACE, "Bad 32 Kind 5"),
@@ -33,18 +34,21 @@ const TRACES: [Damage; 19] = [
     (&[(112, 0x1E)], TRACE, "Bad 112 Action 7"),
     (&[(112, 0x18)], TRACE, "Bad 112 Action 4"),
     (&[(120, 0x11)], TRACE, "Extents 120"),
-    (&[(0, 0x02)], TRACE, "Order 80"),
-    (&[(0, 0x04)], TRACE, "Version 4"),
-    (&[(2, 0x00)], TRACE, "Form 0"),
     // A block that is cut off is short before it is damaged.
     (&[(96, 0x07)], 120, "Short 32"),
+];
+
+/// Damages of the header.
+const HEADERS: [Damage; 3] = [
+    (&[(0, 0x04)], TRACE, "Version 4"),
+    (&[(2, 0x00)], TRACE, "Form 0"),
     (&[], 0, "Short 0"),
 ];
 
 /// The length of the image.
 const WHOLE: usize = 170;
 
-const IMAGES: [Damage; 15] = [
+const IMAGES: [Damage; 16] = [
     (&[], 63, "Short"),
     (&[], 169, "Short"),
     (&[], 171, "Trailing"),
@@ -57,6 +61,7 @@ const IMAGES: [Damage; 15] = [
     ),
     (&[(28, 0x01)], WHOLE, "Limit Entry"),
     (&[(8, 0x08)], WHOLE, "Limit Base"),
+    (&[(33, 0x00), (34, 0x00), (36, 0x02)], WHOLE, "Far 0"),
     (&[(65, 0x08)], WHOLE, "Sled 0"),
     (&[(75, 0x0F)], WHOLE, "Code 11 Unknown 65"),
     (&[(102, 0x20)], WHOLE, "Names 0"),
@@ -77,7 +82,7 @@ const JUMPS_OUT: [u8; 79] = [
 ];
 
 /// A file with these damages.
-fn damaged(alloc: Global, bytes: &[u8], damage: &Damage) -> Result<Vec<u8>, Fail> {
+fn damaged(alloc: Global, bytes: &[u8], damage: &Damage) -> Result<Vec<u8>, AllocError> {
     let (changes, length, _) = *damage;
     let mut file = Vec::from_slice(alloc, bytes)?;
     file.push(0)?;
@@ -91,24 +96,36 @@ fn damaged(alloc: Global, bytes: &[u8], damage: &Damage) -> Result<Vec<u8>, Fail
 }
 
 /// Checks that commands refuse a file, the only one on the desk, with a line on err.
-fn assert_all_refuse<R: Abort + Threads + Wait + Sync + AllocGlobal>(
+fn check_refused<'r, R: Abort + Threads + Wait + Sync + AllocGlobal>(
     rt: &R,
-    commands: &[&str],
-    name: &str,
-    bytes: &[u8],
-    line: &str,
+    commands: &'r [&'r str],
+    name: &'r str,
+    bytes: &'r [u8],
+    err: &'r str,
 ) -> Result<(), Fail> {
-    for words in commands {
-        let mut desk = MemDesk::new(rt.alloc(), Vec::new(rt.alloc()));
-        desk.put(name, bytes)?;
-        let run = run_line(rt, words, &mut desk)?;
-        assert_stopped(rt, &run, 2, line);
+    for line in commands {
+        let case = Case {
+            files: &[(name, &[bytes])],
+            line,
+            status: 2,
+            err,
+            ..CASE
+        };
+        check_case(rt, &case)?;
     }
     Ok(())
 }
 
-/// The commands that read a trace, and those that read an image.
-const TRACE_READERS: [&str; 4] = [
+/// The commands that read a trace: those that refuse each damage, and the one that prints what is before it.
+const TRACE_READERS: [&str; 5] = [
+    "account t",
+    "stack t",
+    "convert t",
+    "convert t --format trace-event",
+    "fdr-dump t",
+];
+
+const REPORTS: &[&str] = &[
     "account t",
     "stack t",
     "convert t",
@@ -121,85 +138,66 @@ const IMAGE_READERS: [&str; 4] = ["plain i", "extract i", "sim i s c t a", "run 
 fn a_damaged_trace_is_refused_at_its_first_fault(rt: HostRuntime) -> Result<(), Fail> {
     let whole = file(rt.alloc(), &ONE_CALL)?;
     for damage in &TRACES {
-        let line = format!(in rt.alloc(); "xray: t: trace {}\n", damage.2)?;
         let bytes = damaged(rt.alloc(), &whole, damage)?;
-        assert_all_refuse(&rt, &TRACE_READERS, "t", &bytes, &line)?;
+        let err = format!(in rt.alloc(); "xray: t: trace {}\n", damage.2)?;
+        check_refused(&rt, REPORTS, "t", &bytes, &err)?;
+        let dump = Case {
+            files: &[("t", &[&bytes])],
+            line: "fdr-dump t",
+            out: &["0 header version 3 type 1\nstop 32 ", damage.2, "\n"],
+            ..CASE
+        };
+        check_case(&rt, &dump)?;
     }
     Ok(())
 }
 
-/// What `fdr-dump` prints of a trace of this version that is damaged in its first block.
-fn dump_of(alloc: Global, version: u8, refusal: &str) -> Result<String, Fail> {
-    Ok(format!(in alloc; "0 header version {version} type 1\nstop 32 {refusal}\n")?)
-}
-
 #[test]
-fn a_damaged_trace_is_dumped_up_to_its_damage(rt: HostRuntime) -> Result<(), Fail> {
+fn a_damaged_header_or_image_is_refused_at_its_first_fault(rt: HostRuntime) -> Result<(), Fail> {
     let whole = file(rt.alloc(), &ONE_CALL)?;
-    for damage in &TRACES {
+    for damage in &HEADERS {
         let bytes = damaged(rt.alloc(), &whole, damage)?;
-        let mut desk = MemDesk::new(rt.alloc(), Vec::new(rt.alloc()));
-        desk.put("t", &bytes)?;
-        let run = run_line(&rt, "fdr-dump t", &mut desk)?;
-        match damage.2 {
-            "Version 4" | "Form 0" | "Short 0" => {
-                let line = format!(in rt.alloc(); "xray: t: trace {}\n", damage.2)?;
-                assert_stopped(&rt, &run, 2, &line);
-            }
-            refusal => {
-                let version = if refusal == "Order 80" { 2 } else { 3 };
-                let text = dump_of(rt.alloc(), version, refusal)?;
-                assert_left(&rt, &run, 0, &text, "");
-            }
-        }
+        let err = format!(in rt.alloc(); "xray: t: trace {}\n", damage.2)?;
+        check_refused(&rt, &TRACE_READERS, "t", &bytes, &err)?;
     }
-    Ok(())
-}
-
-#[test]
-fn a_damaged_image_is_refused_at_its_first_fault(rt: HostRuntime) -> Result<(), Fail> {
     for damage in &IMAGES {
-        let line = format!(in rt.alloc(); "xray: i: image {}\n", damage.2)?;
         let bytes = damaged(rt.alloc(), &IMAGE, damage)?;
-        assert_all_refuse(&rt, &IMAGE_READERS, "i", &bytes, &line)?;
+        let err = format!(in rt.alloc(); "xray: i: image {}\n", damage.2)?;
+        check_refused(&rt, &IMAGE_READERS, "i", &bytes, &err)?;
     }
-    let line = "xray: i: image Target 0\n";
-    assert_all_refuse(&rt, &IMAGE_READERS, "i", &JUMPS_OUT, line)
+    check_refused(
+        &rt,
+        &IMAGE_READERS,
+        "i",
+        &JUMPS_OUT,
+        "xray: i: image Target 0\n",
+    )
 }
 
-/// The file of three blocks, each with an exit.
-fn three_blocks(alloc: Global) -> Result<Vec<u8>, Fail> {
-    let mut bytes = file(alloc, &[FORMAT, BUFFERS_OF_88])?;
-    for block in [LEFT, LEFT_F_BY_2, LEFT_BY_2] {
-        bytes.extend_from_slice(&file(alloc, block)?)?;
-    }
-    Ok(bytes)
-}
-
-/// The place of the fault of a prefix of that file, or `None` if the prefix is a trace.
-fn fault_of_prefix(length: usize) -> Option<usize> {
-    match length {
-        32 | 120 | 208 | 296 => None,
-        0..=31 => Some(0),
-        33..=119 => Some(32),
-        121..=207 => Some(120),
-        _ => Some(208),
-    }
-}
+/// The least and the greatest length of prefixes of a file of three blocks, the status, and the line on err.
+const PREFIXES: [(usize, usize, u8, &str); 8] = [
+    (0, 31, 2, "xray: t: trace Short 0\n"),
+    (32, 32, 0, ""),
+    (33, 119, 2, "xray: t: trace Short 32\n"),
+    (120, 120, 0, ""),
+    (121, 207, 2, "xray: t: trace Short 120\n"),
+    (208, 208, 0, ""),
+    (209, 295, 2, "xray: t: trace Short 208\n"),
+    (296, 296, 0, ""),
+];
 
 #[test]
 fn prefixes_that_end_with_a_block_are_accepted(rt: HostRuntime) -> Result<(), Fail> {
-    let bytes = three_blocks(rt.alloc())?;
-    for length in 0..=bytes.len() {
-        let mut desk = image_desk(rt.alloc(), &IMAGE)?;
-        desk.put("t", &bytes[..length])?;
-        let run = run_line(&rt, "account t i", &mut desk)?;
-        match fault_of_prefix(length) {
-            Some(place) => {
-                let line = format!(in rt.alloc(); "xray: t: trace Short {place}\n")?;
-                assert_stopped(&rt, &run, 2, &line);
+    let bytes = file(rt.alloc(), &THREE_BLOCKS)?;
+    for (least, greatest, status, err) in &PREFIXES {
+        for length in *least..=*greatest {
+            let mut desk = MemDesk::new(rt.alloc(), Vec::new(rt.alloc()));
+            if let Some(prefix) = bytes.get(..length) {
+                desk.put("t", prefix)?;
             }
-            None => assert_no_fault(&rt, &run),
+            let run = run_line(&rt, "account t", &mut desk)?;
+            check_same_at(&rt, &run.status, status, err);
+            check_same_at(&rt, &run.err.as_str(), err, err);
         }
     }
     Ok(())

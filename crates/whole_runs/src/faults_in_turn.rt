@@ -3,8 +3,9 @@
 //! A call that fails ends the run with status 3 or 4 and a line that names the file. Outputs before
 //! the one that failed are whole, that one holds a prefix, and nothing else is changed. No call of
 //! the desk or of out follows the one that failed. If err fails, only its line is lost.
+use crate::cases::{File, I};
 use crate::checks::{check_same, check_same_at};
-use crate::runs::{IMAGE, Run, assert_held, assert_no_fault, run_line, status_of};
+use crate::runs::{Run, assert_no_fault, run_line, status_of};
 use std::alloc::Global;
 use std::process::Abort;
 use std::sync::Wait;
@@ -14,30 +15,24 @@ use test_helpers::trace_parts::{LOG_OF_ONE_CALL, ONE_CALL, RECURSION, file};
 use test_helpers::{DeskCall, DeskFault, WatchedDesk, WatchedSink};
 use xray_io::{MemDesk, MemSink, OpenGate};
 
-/// A file that a command reads: its name, and the parts of its bytes.
-type Input = (&'static str, &'static [&'static [u8]]);
-
 /// A command: its words, what it reads, and the names of what it writes, in this order.
 struct Command {
     words: &'static str,
-    inputs: &'static [Input],
+    inputs: &'static [File<'static>],
     outputs: &'static [&'static str],
 }
 
-/// An image.
-const I: Input = ("i", &[&IMAGE]);
-
 /// A script that patches everything before the threads start.
-const S: Input = ("s", &[b"patch\nset_handler\ninit\ngo\n"]);
+const S: File = ("s", &[b"patch\nset_handler\ninit\ngo\n"]);
 
 /// A text of a move, an output and a return.
-const X: Input = (
+const X: File = (
     "x",
     &[b"base 0x1000\nfn main always\nmov eax, 65\nout 1\nret\n"],
 );
 
 /// The audit of a run of that script, of which `ONE_CALL` is the trace.
-const A: Input = (
+const A: File = (
     "a",
     &[
         b"xray-audit 1\nthreads=1 buffer-size=16384 buffer-max=100 fuel=10000000 passings=1048576 ",
@@ -47,7 +42,7 @@ const A: Input = (
 );
 
 /// A sled map that names function 1.
-const M: Input = (
+const M: File = (
     "m",
     &[
         b"---\n- { id: 1, address: 0x1, function: 0x1, kind: function-enter, always-instrument: true, function-name: f }\n...\n",
@@ -258,39 +253,23 @@ fn stream_for(alloc: Global, failing: Calls) -> Result<WatchedSink, Fail> {
     Ok(WatchedSink::new(sink))
 }
 
-/// A desk for a command and streams, which fail at these calls, before a run.
-fn before_run(alloc: Global, command: &Command, failing: Failing) -> Result<Left, Fail> {
-    let desk = desk_for(alloc, command, failing.desk)?;
-    Ok(Left {
-        status: 0,
-        desk: WatchedDesk::new(alloc, desk),
-        out: stream_for(alloc, failing.out)?,
-        err: stream_for(alloc, failing.err)?,
-    })
-}
-
-impl Left {
-    /// Runs a command over the desk and the streams.
-    fn run<R: Threads + Wait + Sync + AllocGlobal>(
-        &mut self,
-        rt: &R,
-        words: &str,
-    ) -> Result<(), Fail> {
-        let (desk, out, err) = (&mut self.desk, &mut self.out, &mut self.err);
-        self.status = status_of(rt, words, desk, out, err, &OpenGate)?;
-        Ok(())
-    }
-}
-
 /// Runs a command over a desk and streams that fail at these calls.
 fn run_with<R: Threads + Wait + Sync + AllocGlobal>(
     rt: &R,
     command: &Command,
     failing: Failing,
 ) -> Result<Left, Fail> {
-    let mut left = before_run(rt.alloc(), command, failing)?;
-    left.run(rt, command.words)?;
-    Ok(left)
+    let alloc = rt.alloc();
+    let mut desk = WatchedDesk::new(alloc, desk_for(alloc, command, failing.desk)?);
+    let mut out = stream_for(alloc, failing.out)?;
+    let mut err = stream_for(alloc, failing.err)?;
+    let status = status_of(rt, command.words, &mut desk, &mut out, &mut err, &OpenGate)?;
+    Ok(Left {
+        status,
+        desk,
+        out,
+        err,
+    })
 }
 
 /// Runs a command without a fault, over a desk that gives and takes all bytes that are asked for.
@@ -372,9 +351,10 @@ fn check_inputs<R: Abort + AllocGlobal>(
     desk: &WatchedDesk,
 ) -> Result<(), Fail> {
     for (name, parts) in command.inputs {
-        assert_held(rt, desk.get(name), &file(rt.alloc(), parts)?);
+        let held = file(rt.alloc(), parts)?;
+        check_same_at(rt, &desk.get(name), &Some(held.as_slice()), name);
     }
-    assert_held(rt, desk.get(OTHER), OLD);
+    check_same(rt, &desk.get(OTHER), &Some(OLD));
     Ok(())
 }
 

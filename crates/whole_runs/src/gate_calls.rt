@@ -1,7 +1,7 @@
 //! What the gate of a run is called with, and how often.
+use crate::cases::desk_of;
 use crate::checks::check_same;
-use crate::run::desk_with;
-use crate::runs::{assert_no_fault, run_at};
+use crate::runs::{assert_no_fault, run_at, run_line};
 use std::alloc::{AllocError, Global};
 use std::sync::atomic::{AtomicU64, Ordering};
 use std::test::Fail;
@@ -14,12 +14,12 @@ const THREADS: u32 = 16;
 const PASSINGS: u64 = 70_000;
 
 /// A function that calls another one again and again. It ends by the limit of its passings.
-const AGAIN: &str = "base 0x1000\nfn main always\nagain:\ncall f\njmp again\nfn f always\nret\n";
+const AGAIN: &[u8] = b"base 0x1000\nfn main always\nagain:\ncall f\njmp again\nfn f always\nret\n";
 
 /// Three stores come before the start. The three sleds are patched at once, and unpatched once the
 /// first thread has made all its passings. The script ends once the last thread has too.
-const SCRIPT: &str =
-    "set_handler\ninit\ngo\npatch\nawait 1 70000\nunpatch\nawait 16 70000\npatch_function 1\n";
+const SCRIPT: &[u8] =
+    b"set_handler\ninit\ngo\npatch\nawait 1 70000\nunpatch\nawait 16 70000\npatch_function 1\n";
 
 /// The places of the stores after the start. An await is at 15, and another one at 19.
 const PLACES: [u64; 19] = [
@@ -85,9 +85,10 @@ impl Gate for Counting {
 #[test]
 fn a_gate_is_called_once_for_each_passing_and_each_store(rt: HostRuntime) -> Result<(), Fail> {
     let gate = Counting::new(rt.alloc())?;
-    let mut desk = desk_with(&rt, AGAIN, SCRIPT)?;
+    let mut desk = desk_of(rt.alloc(), &[("x", &[AGAIN]), ("s", &[SCRIPT])])?;
+    assert_no_fault(&rt, &run_line(&rt, "asm x i", &mut desk)?);
     let line = "run i s t a --wall 0 --threads 16 --passings 70000";
-    let run = run_at(&rt, line, &mut desk, &[], &[], &gate)?;
+    let run = run_at(&rt, line, &mut desk, &gate)?;
     assert_no_fault(&rt, &run);
     for count in gate.passings.as_slice() {
         check_same(&rt, &count.load(Ordering::SeqCst), &PASSINGS);

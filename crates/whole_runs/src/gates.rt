@@ -1,16 +1,15 @@
 //! `run` at gates that leave its threads only one way to go on.
-use crate::asm::{CALL, STRAIGHT_LINE};
-use crate::checks::check_same;
-use crate::run::{RUN, desk_with, has_line, records_of};
-use crate::runs::{assert_length, assert_no_fault, run_at};
-use crate::sim::{LIVE, TRACED};
-use std::alloc::Global;
-use std::process::Abort;
-use std::sync::Wait;
+use crate::cases::{ASSEMBLE, CASE, Case, check_case_at};
+use crate::checks::check_same_at;
+use crate::states::{CALL_STATE, PATCHED, RETURNED, STATE, UNTOUCHED};
+use crate::texts::{CALL, LIVE, STRAIGHT_LINE, TRACED};
 use std::sync::atomic::{AtomicU64, Ordering};
 use std::test::Fail;
-use std::thread::{Threads, yield_now};
-use xray_io::{Gate, MemDesk};
+use std::thread::yield_now;
+use test_helpers::trace_parts::{
+    CPU_AT_1, CPU_AT_2, EXIT, EXIT_AFTER_1, EXTENTS_72, EXTENTS_80, HEADER, PREAMBLE,
+};
+use xray_io::Gate;
 
 /// How often a gate looks for what it waits for, before it gives up.
 const TURNS: u32 = 5_000_000;
@@ -106,131 +105,253 @@ impl Gate for Ordered<'_> {
     }
 }
 
-/// Runs a line over a text's image and a script, with a gate that keeps these orders. Checks that
-/// each was kept, and that a thread has these marks.
-fn run_ordered<R: Abort + Threads + Wait + Sync + AllocGlobal>(
-    rt: &R,
-    line: &str,
-    text: &str,
-    script: &str,
-    orders: &[Order],
-    marks: &str,
-) -> Result<MemDesk, Fail> {
-    let gate = Ordered {
-        orders,
-        late: Sign::new(),
-    };
-    let mut desk = desk_with(rt, text, script)?;
-    let run = run_at(rt, line, &mut desk, &[], &[], &gate)?;
-    assert_no_fault(rt, &run);
-    assert!(rt; !gate.late.is_given());
-    for order in orders {
-        assert!(rt; order.come.is_given());
-    }
-    assert!(rt; has_line(run.out.as_str(), marks), "{}", run.out);
-    Ok(desk)
-}
+/// A run, and the orders that its gate keeps: what is at the first point goes on once something has come to the second.
+type Gated = (Case<'static>, &'static [(Point, Point)]);
 
 /// Passing 0 of each of two threads goes on once the other thread has come to its own.
-#[test]
-fn two_threads_run_beside_each_other(rt: HostRuntime) -> Result<(), Fail> {
-    let (first, second) = (Point::Passing(1, 0), Point::Passing(2, 0));
-    let orders = [Order::new(first, second), Order::new(second, first)];
-    let line = "run i s t a --wall 0 --threads 2";
-    let desk = run_ordered(&rt, line, STRAIGHT_LINE, TRACED, &orders, "marks +2")?;
-    assert_length(&rt, desk.get("t"), 32 + 2 * (16 + 80));
-    Ok(())
-}
+const EACH_AFTER_THE_OTHER: &[(Point, Point)] = &[
+    (Point::Passing(1, 0), Point::Passing(2, 0)),
+    (Point::Passing(2, 0), Point::Passing(1, 0)),
+];
 
-/// The same two threads, and their stacks.
-#[test]
-fn two_threads_are_profiled_beside_each_other(rt: HostRuntime) -> Result<(), Fail> {
-    let (first, second) = (Point::Passing(1, 0), Point::Passing(2, 0));
-    let orders = [Order::new(first, second), Order::new(second, first)];
-    let line = "profile i s --threads 2 --format flame";
-    run_ordered(&rt, line, STRAIGHT_LINE, TRACED, &orders, "marks +2")?;
-    Ok(())
-}
+/// The store at place 3 goes on once the thread has come to passing 1, passing 1 once the patcher has come to place 15,
+/// and the store there once the thread has come to passing 3.
+const BY_TURNS: &[(Point, Point)] = &[
+    (Point::Place(3), Point::Passing(1, 1)),
+    (Point::Passing(1, 1), Point::Place(15)),
+    (Point::Place(15), Point::Passing(1, 3)),
+];
 
-/// What the thread records: an entry of function 2 and an exit of function 1.
-const RECORDS: &[u8] =
-    b"\x05\0\0\x01\0\0\0\0\0\0\0\0\0\0\0\0\x20\0\0\0\0\0\0\0\x12\0\0\0\x01\0\0\0";
-
-/// The store at place 3 goes on once the thread has come to passing 1, passing 1 once the patcher
-/// has come to place 15, and the store there once the thread has come to passing 3.
-#[test]
-fn a_thread_and_the_patcher_run_beside_each_other(rt: HostRuntime) -> Result<(), Fail> {
-    let orders = [
-        Order::new(Point::Place(3), Point::Passing(1, 1)),
-        Order::new(Point::Passing(1, 1), Point::Place(15)),
-        Order::new(Point::Place(15), Point::Passing(1, 3)),
-    ];
-    let desk = run_ordered(&rt, RUN, CALL, LIVE, &orders, "marks .1 +1 .1 +1")?;
-    assert_length(&rt, desk.get("t"), 128);
-    check_same(&rt, &records_of(&desk), &Some(RECORDS));
-    Ok(())
-}
-
-/// The same orders, and the same marks.
-#[test]
-fn a_thread_is_profiled_while_it_is_patched(rt: HostRuntime) -> Result<(), Fail> {
-    let orders = [
-        Order::new(Point::Place(3), Point::Passing(1, 1)),
-        Order::new(Point::Passing(1, 1), Point::Place(15)),
-        Order::new(Point::Place(15), Point::Passing(1, 3)),
-    ];
-    let line = "profile i s --format flame";
-    run_ordered(&rt, line, CALL, LIVE, &orders, "marks .1 +1 .1 +1")?;
-    Ok(())
-}
-
-/// The patcher waits for two passings before its first store.
-const AWAITED: &str = "set_handler\ninit\ngo\nawait 1 2\npatch\n";
-
-/// What the thread records: an exit of function 1, its last passing.
-const LAST_EXIT: &[u8] = b"\x05\0\0\x02\0\0\0\0\0\0\0\0\0\0\0\0\x12\0\0\0\0\0\0\0";
-
-/// The script can't go on before the thread has made two passings. Passing 2 goes on once the
-/// patcher has come to the last sled, and the store there once the thread has come to passing 3.
-#[test]
-fn a_script_that_begins_with_an_await_patches_in_the_middle(rt: HostRuntime) -> Result<(), Fail> {
-    let orders = [
-        Order::new(Point::Place(4), Point::Passing(1, 1)),
-        Order::new(Point::Passing(1, 2), Point::Place(16)),
-        Order::new(Point::Place(16), Point::Passing(1, 3)),
-    ];
-    let desk = run_ordered(&rt, RUN, CALL, AWAITED, &orders, "marks .3 +1")?;
-    check_same(&rt, &records_of(&desk), &Some(LAST_EXIT));
-    Ok(())
-}
+/// The script can't go on before the thread has made two passings. Passing 2 goes on once the patcher has come to the last
+/// sled, and the store there once the thread has come to passing 3.
+const AFTER_THE_AWAIT: &[(Point, Point)] = &[
+    (Point::Place(4), Point::Passing(1, 1)),
+    (Point::Passing(1, 2), Point::Place(16)),
+    (Point::Place(16), Point::Passing(1, 3)),
+];
 
 /// Sixteen threads are held at their first passing. The last one is released first.
-const HELD_AT_ONCE: &str = "hold 1 0\nhold 2 0\nhold 3 0\nhold 4 0\nhold 5 0\nhold 6 0\n\
+const HELD_AT_ONCE: &[u8] = b"hold 1 0\nhold 2 0\nhold 3 0\nhold 4 0\nhold 5 0\nhold 6 0\n\
     hold 7 0\nhold 8 0\nhold 9 0\nhold 10 0\nhold 11 0\nhold 12 0\nhold 13 0\nhold 14 0\n\
     hold 15 0\nhold 16 0\ngo\nrelease 16\nrelease 15\nrelease 14\nrelease 13\nrelease 12\n\
     release 11\nrelease 10\nrelease 9\nrelease 8\nrelease 7\nrelease 6\nrelease 5\n\
     release 4\nrelease 3\nrelease 2\nrelease 1\n";
 
-/// The first release comes once all threads have come to their first passing, and each other one
-/// once the thread that was released before it has come to its next passing.
-fn one_after_the_other(alloc: Global) -> Result<Vec<Order>, Fail> {
-    let mut orders = Vec::new(alloc);
-    for thread in 1..=16u32 {
-        orders.push(Order::new(Point::Place(0), Point::Passing(thread, 0)))?;
-    }
-    for place in 1..16u32 {
-        let released = Point::Passing(17 - place, 1);
-        orders.push(Order::new(Point::Place(place as u64), released))?;
-    }
-    Ok(orders)
-}
+/// The first release comes once all threads have come to their first passing, and each other one once the thread that was
+/// released before it has come to its next passing. Two threads that shared one of the system would be late: the one that
+/// is held keeps the other from its first passing.
+const ONE_AFTER_THE_OTHER: &[(Point, Point)] = &[
+    (Point::Place(0), Point::Passing(1, 0)),
+    (Point::Place(0), Point::Passing(2, 0)),
+    (Point::Place(0), Point::Passing(3, 0)),
+    (Point::Place(0), Point::Passing(4, 0)),
+    (Point::Place(0), Point::Passing(5, 0)),
+    (Point::Place(0), Point::Passing(6, 0)),
+    (Point::Place(0), Point::Passing(7, 0)),
+    (Point::Place(0), Point::Passing(8, 0)),
+    (Point::Place(0), Point::Passing(9, 0)),
+    (Point::Place(0), Point::Passing(10, 0)),
+    (Point::Place(0), Point::Passing(11, 0)),
+    (Point::Place(0), Point::Passing(12, 0)),
+    (Point::Place(0), Point::Passing(13, 0)),
+    (Point::Place(0), Point::Passing(14, 0)),
+    (Point::Place(0), Point::Passing(15, 0)),
+    (Point::Place(0), Point::Passing(16, 0)),
+    (Point::Place(1), Point::Passing(16, 1)),
+    (Point::Place(2), Point::Passing(15, 1)),
+    (Point::Place(3), Point::Passing(14, 1)),
+    (Point::Place(4), Point::Passing(13, 1)),
+    (Point::Place(5), Point::Passing(12, 1)),
+    (Point::Place(6), Point::Passing(11, 1)),
+    (Point::Place(7), Point::Passing(10, 1)),
+    (Point::Place(8), Point::Passing(9, 1)),
+    (Point::Place(9), Point::Passing(8, 1)),
+    (Point::Place(10), Point::Passing(7, 1)),
+    (Point::Place(11), Point::Passing(6, 1)),
+    (Point::Place(12), Point::Passing(5, 1)),
+    (Point::Place(13), Point::Passing(4, 1)),
+    (Point::Place(14), Point::Passing(3, 1)),
+    (Point::Place(15), Point::Passing(2, 1)),
+];
 
-/// Two threads that shared one of the system would be late: the one that is held keeps the other
-/// from its first passing.
+const GATED: [Gated; 6] = [
+    // Two threads run beside each other.
+    (
+        Case {
+            files: &[("x", &[STRAIGHT_LINE]), ("s", &[TRACED])],
+            before: ASSEMBLE,
+            line: "run i s t a --wall 0 --threads 2",
+            out: &[STATE, "marks +2\n", "thread 2", RETURNED, "2", PATCHED],
+            left: &[("t", 0, &[HEADER], 192)],
+            ..CASE
+        },
+        EACH_AFTER_THE_OTHER,
+    ),
+    (
+        Case {
+            files: &[("x", &[STRAIGHT_LINE]), ("s", &[TRACED])],
+            before: ASSEMBLE,
+            line: "profile i s --threads 2 --format flame",
+            out: &[
+                STATE,
+                "marks +2\n",
+                "thread 2",
+                RETURNED,
+                "2",
+                PATCHED,
+                "main 4\n",
+            ],
+            ..CASE
+        },
+        EACH_AFTER_THE_OTHER,
+    ),
+    // A thread and the patcher run beside each other. The thread records an entry of function 2 and an exit of function 1.
+    (
+        Case {
+            files: &[("x", &[CALL]), ("s", &[LIVE])],
+            before: ASSEMBLE,
+            line: "run i s t a --wall 0",
+            out: &[CALL_STATE, "marks .1 +1 .1 +1\n"],
+            left: &[(
+                "t",
+                0,
+                &[
+                    HEADER,
+                    EXTENTS_80,
+                    PREAMBLE,
+                    CPU_AT_1,
+                    ENTRY_OF_2,
+                    EXIT_AFTER_1,
+                ],
+                0,
+            )],
+            ..CASE
+        },
+        BY_TURNS,
+    ),
+    (
+        Case {
+            files: &[("x", &[CALL]), ("s", &[LIVE])],
+            before: ASSEMBLE,
+            line: "profile i s --format flame",
+            out: &[CALL_STATE, "marks .1 +1 .1 +1\n"],
+            ..CASE
+        },
+        BY_TURNS,
+    ),
+    // A script that begins with an await patches in the middle. The thread records its last passing.
+    (
+        Case {
+            files: &[
+                ("x", &[CALL]),
+                ("s", &[b"set_handler\ninit\ngo\nawait 1 2\npatch\n"]),
+            ],
+            before: ASSEMBLE,
+            line: "run i s t a --wall 0",
+            out: &[CALL_STATE, "marks .3 +1\n"],
+            left: &[("t", 0, &[HEADER, EXTENTS_72, PREAMBLE, CPU_AT_2, EXIT], 0)],
+            ..CASE
+        },
+        AFTER_THE_AWAIT,
+    ),
+    // Sixteen threads are held at once.
+    (
+        Case {
+            files: &[("x", &[STRAIGHT_LINE]), ("s", &[HELD_AT_ONCE])],
+            before: ASSEMBLE,
+            line: "run i s t a --wall 0 --threads 16",
+            out: &[
+                "thread 1",
+                RETURNED,
+                "1",
+                UNTOUCHED,
+                "thread 2",
+                RETURNED,
+                "2",
+                UNTOUCHED,
+                "thread 3",
+                RETURNED,
+                "3",
+                UNTOUCHED,
+                "thread 4",
+                RETURNED,
+                "4",
+                UNTOUCHED,
+                "thread 5",
+                RETURNED,
+                "5",
+                UNTOUCHED,
+                "thread 6",
+                RETURNED,
+                "6",
+                UNTOUCHED,
+                "thread 7",
+                RETURNED,
+                "7",
+                UNTOUCHED,
+                "thread 8",
+                RETURNED,
+                "8",
+                UNTOUCHED,
+                "thread 9",
+                RETURNED,
+                "9",
+                UNTOUCHED,
+                "thread 10",
+                RETURNED,
+                "a",
+                UNTOUCHED,
+                "thread 11",
+                RETURNED,
+                "b",
+                UNTOUCHED,
+                "thread 12",
+                RETURNED,
+                "c",
+                UNTOUCHED,
+                "thread 13",
+                RETURNED,
+                "d",
+                UNTOUCHED,
+                "thread 14",
+                RETURNED,
+                "e",
+                UNTOUCHED,
+                "thread 15",
+                RETURNED,
+                "f",
+                UNTOUCHED,
+                "thread 16",
+                RETURNED,
+                "10",
+                UNTOUCHED,
+            ],
+            ..CASE
+        },
+        ONE_AFTER_THE_OTHER,
+    ),
+];
+
+/// An entry of function 2 at the first counter of a buffer.
+const ENTRY_OF_2: &[u8] = b"\x20\0\0\0\0\0\0\0";
+
+/// Each order is kept: none is waited for in vain, and something has come to each second point.
 #[test]
-fn sixteen_threads_are_held_at_once(rt: HostRuntime) -> Result<(), Fail> {
-    let orders = one_after_the_other(rt.alloc())?;
-    let line = "run i s t a --wall 0 --threads 16";
-    run_ordered(&rt, line, STRAIGHT_LINE, HELD_AT_ONCE, &orders, "marks .2")?;
+fn threads_and_the_patcher_run_beside_each_other(rt: HostRuntime) -> Result<(), Fail> {
+    for (case, points) in &GATED {
+        let mut orders = Vec::new(rt.alloc());
+        for (at, after) in *points {
+            orders.push(Order::new(*at, *after))?;
+        }
+        let gate = Ordered {
+            orders: &orders,
+            late: Sign::new(),
+        };
+        check_case_at(&rt, case, &gate)?;
+        check_same_at(&rt, &gate.late.is_given(), &false, case.line);
+        for order in orders.as_slice() {
+            check_same_at(&rt, &order.come.is_given(), &true, case.line);
+        }
+    }
     Ok(())
 }

@@ -1,13 +1,11 @@
 //! `import`.
-use crate::runs::{assert_held, assert_left, assert_stopped, run_line};
+use crate::cases::{CASE, Case, check_case};
 use crate::traces::{ENTERED, LEFT};
-use std::alloc::Global;
 use std::test::Fail;
 use test_helpers::trace_parts::{
     CPU, ENTRY, EXIT_AFTER_2, EXTENTS_72, EXTENTS_80, EXTENTS_96, HEADER, HEADER_OF_5, ONE_CALL,
-    ONE_CALL_WITHOUT_PROCESS, PREAMBLE, PREAMBLE_OF_2, THREAD_1, WALL_0, file, file_of_blocks,
+    ONE_CALL_WITHOUT_PROCESS, PREAMBLE, PREAMBLE_OF_2, THREAD_1, WALL_0, file_of_blocks,
 };
-use xray_io::MemDesk;
 
 /// A header of version 4, which is otherwise that of the other traces.
 const HEADER_OF_4: &[u8] =
@@ -75,16 +73,6 @@ const FACTS: [&str; 11] = [
     "last counter",
     "threads whose counter goes back",
 ];
-
-/// The text of facts, from their numbers with blanks between them.
-fn text_of(alloc: Global, numbers: &str) -> Result<String, Fail> {
-    let mut text = String::new(alloc);
-    for (number, what) in numbers.split_whitespace().zip(FACTS.iter()) {
-        let line = format!(in alloc; "{number:>20} {what}\n")?;
-        text.push_str(&line)?;
-    }
-    Ok(text)
-}
 
 /// The parts of a file, in groups.
 type File = &'static [&'static [&'static [u8]]];
@@ -168,19 +156,22 @@ const IMPORTS: [Import; 8] = [
 fn a_log_is_a_trace_of_its_events(rt: HostRuntime) -> Result<(), Fail> {
     let alloc = rt.alloc();
     for (log, numbers, trace) in &IMPORTS {
-        let mut desk = log_desk(alloc, &file_of_blocks(alloc, log)?)?;
-        let run = run_line(&rt, "import l t", &mut desk)?;
-        assert_left(&rt, &run, 0, &text_of(alloc, numbers)?, "");
-        assert_held(&rt, desk.get("t"), &file_of_blocks(alloc, trace)?);
+        let mut text = String::new(alloc);
+        for (number, what) in numbers.split_whitespace().zip(FACTS.iter()) {
+            text.push_str(&format!(in alloc; "{number:>20} {what}\n")?)?;
+        }
+        let log = file_of_blocks(alloc, log)?;
+        let trace = file_of_blocks(alloc, trace)?;
+        let case = Case {
+            files: &[("l", &[&log])],
+            line: "import l t",
+            out: &[text.as_str()],
+            left: &[("t", 0, &[&trace], 0)],
+            ..CASE
+        };
+        check_case(&rt, &case)?;
     }
     Ok(())
-}
-
-/// A desk that holds a log as `l`.
-fn log_desk(alloc: Global, log: &[u8]) -> Result<MemDesk, Fail> {
-    let mut desk = MemDesk::new(alloc, Vec::new(alloc));
-    desk.put("l", log)?;
-    Ok(desk)
 }
 
 /// The parts of a log, and the line on err.
@@ -225,11 +216,15 @@ const REFUSED: [Refusal; 12] = [
 
 #[test]
 fn what_is_no_log_is_refused(rt: HostRuntime) -> Result<(), Fail> {
-    for (log, line) in &REFUSED {
-        let mut desk = log_desk(rt.alloc(), &file(rt.alloc(), log)?)?;
-        let run = run_line(&rt, "import l t", &mut desk)?;
-        assert_stopped(&rt, &run, 2, line);
-        assert!(rt; desk.get("t").is_none());
+    for (log, err) in &REFUSED {
+        let case = Case {
+            files: &[("l", *log)],
+            line: "import l t",
+            status: 2,
+            err,
+            ..CASE
+        };
+        check_case(&rt, &case)?;
     }
     Ok(())
 }

@@ -3,13 +3,11 @@
 #![tactic(auto)]
 
 #[cfg(test)]
-mod account;
-#[cfg(test)]
-mod args;
-#[cfg(test)]
 mod asm;
 #[cfg(test)]
 mod bad_lines;
+#[cfg(test)]
+mod cases;
 #[cfg(test)]
 mod check;
 #[cfg(test)]
@@ -17,11 +15,7 @@ mod checks;
 #[cfg(test)]
 mod damaged;
 #[cfg(test)]
-mod faults;
-#[cfg(test)]
 mod faults_in_turn;
-#[cfg(test)]
-mod forms;
 #[cfg(test)]
 mod gate_calls;
 #[cfg(test)]
@@ -29,13 +23,13 @@ mod gates;
 #[cfg(test)]
 mod imports;
 #[cfg(test)]
-mod order;
+mod long;
 #[cfg(test)]
 mod pieces;
 #[cfg(test)]
-mod plain;
-#[cfg(test)]
 mod profile;
+#[cfg(test)]
+mod reports;
 #[cfg(test)]
 mod run;
 #[cfg(test)]
@@ -43,12 +37,10 @@ mod runs;
 #[cfg(test)]
 mod sim;
 #[cfg(test)]
-mod sled_maps;
-#[cfg(test)]
 mod soak;
 #[cfg(test)]
-mod stack;
+mod states;
 #[cfg(test)]
-mod trace_bytes;
+mod texts;
 #[cfg(test)]
 mod traces;

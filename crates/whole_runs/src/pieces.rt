@@ -1,6 +1,6 @@
 //! Reports on traces that come a byte a read, and on faults that are followed by many bytes.
 use crate::checks::{check_same, check_same_at};
-use crate::runs::{assert_left, assert_stopped, run_line};
+use crate::runs::{assert_left, run_line};
 use std::alloc::Global;
 use std::process::Abort;
 use std::sync::Wait;
@@ -31,25 +31,11 @@ fn check_reports<R: Abort + Threads + Wait + Sync + AllocGlobal>(
         let wanted = run_line(rt, line, &mut desk)?;
         let mut watched = WatchedDesk::new(rt.alloc(), desk);
         let run = run_line(rt, line, &mut watched)?;
-        assert_left(rt, &run, wanted.status, &wanted.out, &wanted.err);
+        assert_left(rt, &run, wanted.status, &wanted.out, &wanted.err, line);
         check_same_at(rt, &watched.next(), &(bytes.len() as u64), line);
         check_same_at(rt, &watched.is_in_order(), &true, line);
     }
     Ok(())
-}
-
-/// Checks the reports on a file with a byte changed.
-fn check_changed<R: Abort + Threads + Wait + Sync + AllocGlobal>(
-    rt: &R,
-    bytes: &[u8],
-    at: usize,
-    to: u8,
-) -> Result<(), Fail> {
-    let mut changed = Vec::from_slice(rt.alloc(), bytes)?;
-    if let Some(byte) = changed.get_mut(at) {
-        *byte ^= to;
-    }
-    check_reports(rt, &changed)
 }
 
 #[test]
@@ -60,8 +46,13 @@ fn a_trace_that_comes_byte_by_byte_has_the_same_reports(rt: HostRuntime) -> Resu
         check_reports(&rt, &bytes[..len])?;
     }
     for at in 0..bytes.len() {
-        check_changed(&rt, &bytes, at, 0x01)?;
-        check_changed(&rt, &bytes, at, 0x80)?;
+        for to in [0x01, 0x80] {
+            let mut changed = Vec::from_slice(rt.alloc(), &bytes)?;
+            if let Some(byte) = changed.get_mut(at) {
+                *byte ^= to;
+            }
+            check_reports(&rt, &changed)?;
+        }
     }
     Ok(())
 }
@@ -90,7 +81,7 @@ fn a_fault_in_the_first_block_ends_no_reading(rt: HostRuntime) -> Result<(), Fai
         for report in &REPORTS {
             let mut desk = desk_with(rt.alloc(), &[*failing], &bytes)?;
             let run = run_line(&rt, report, &mut desk)?;
-            assert_stopped(&rt, &run, *status, line);
+            assert_left(&rt, &run, *status, "", line, report);
         }
     }
     Ok(())

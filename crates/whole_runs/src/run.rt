@@ -1,131 +1,112 @@
-//! `run`: threads beside a script, and what is left of them.
-use crate::asm::{CALL, FIBONACCI};
-use crate::checks::check_same;
-use crate::runs::{assert_length, assert_made, assert_no_fault, run_line};
-use crate::sim::TRACED;
-use std::process::Abort;
-use std::sync::Wait;
+//! `run`: buffers for all segments, for some, and for one of each thread; and a held thread.
+use crate::cases::{ASSEMBLE, CASE, Case, check_cases};
+use crate::states::{CALL_STATE, SECOND_CALL_STATE};
+use crate::texts::{CALL, FIBONACCI, HELD, TRACED};
 use std::test::Fail;
-use std::thread::Threads;
-use xray_io::MemDesk;
+use test_helpers::trace_parts::{
+    CPU_AT_1, EXIT_AFTER_1, EXIT_OF_2, EXTENTS_80, FORMAT, HEADER, PREAMBLE,
+};
 
-/// The words of a run whose trace has a wall time of 0.
-pub const RUN: &str = "run i s t a --wall 0";
+/// How each of four threads of the recursion ends, after its number.
+const FIBONACCI_STATE: &str = " returned instructions 213132 passings 43782\n\
+    rax=1a6d rcx=0 rdx=0 rbx=0 rbp=0 rsi=0 rdi=0 r8=0 r9=0 r11=0 r12=0 r13=0 r14=0 r15=0 zf=1\n\
+    output -\nmarks +43782\n";
 
-/// The thread is held at its third passing until the sleds are patched.
-pub const HELD: &str = "set_handler\ninit\nhold 1 2\ngo\nawait 1 2\npatch\nrelease 1\n";
+/// What is printed of these threads.
+const FOUR: &[&str] = &[
+    "thread 1",
+    FIBONACCI_STATE,
+    "thread 2",
+    FIBONACCI_STATE,
+    "thread 3",
+    FIBONACCI_STATE,
+    "thread 4",
+    FIBONACCI_STATE,
+];
 
-/// A desk that holds a text as `x`, its image as `i`, and a script as `s`.
-pub fn desk_with<R: Abort + Threads + Wait + Sync + AllocGlobal>(
-    rt: &R,
-    text: &str,
-    script: &str,
-) -> Result<MemDesk, Fail> {
-    let alloc = rt.alloc();
-    let mut desk = MemDesk::new(alloc, Vec::new(alloc));
-    desk.put("x", text.as_bytes())?;
-    desk.put("s", script.as_bytes())?;
-    assert_made(rt, &mut desk)?;
-    Ok(desk)
-}
+/// What is printed of two threads of a call.
+const TWO: &[&str] = &[CALL_STATE, "marks +4\n", SECOND_CALL_STATE, "marks +4\n"];
 
-/// A line of a text.
-pub fn has_line(text: &str, line: &str) -> bool {
-    for one in text.lines() {
-        if one == line {
-            return true;
-        }
-    }
-    false
-}
-
-/// A text, options, the length of the trace, the last line of the audit, and how the last thread
-/// ends.
-type Left = (
-    &'static str,
-    &'static str,
-    usize,
-    &'static str,
-    &'static str,
-);
-
-/// How the last of four threads of the recursion ends.
-const FOURTH: &str = "thread 4 returned instructions 213132 passings 43782";
-
-const LEFT: [Left; 6] = [
+const CASES: [Case; 7] = [
     // Buffers for all segments, and for some.
-    (FIBONACCI, "--threads 4", 1_408_096, "recycled 0", FOURTH),
-    (
-        FIBONACCI,
-        "--threads 4 --buffer-max 64",
-        1_014_496,
-        "recycled 24",
-        FOURTH,
-    ),
+    Case {
+        files: &[("x", &[FIBONACCI]), ("s", &[TRACED])],
+        before: ASSEMBLE,
+        line: "run i s t a --wall 0 --threads 4",
+        out: FOUR,
+        left: &[("t", 0, &[HEADER], 1_408_064)],
+        ..CASE
+    },
+    Case {
+        files: &[("x", &[FIBONACCI]), ("s", &[TRACED])],
+        before: ASSEMBLE,
+        line: "run i s t a --wall 0 --threads 4 --buffer-max 64",
+        out: FOUR,
+        left: &[("t", 0, &[HEADER], 1_014_464)],
+        ..CASE
+    },
     // Each thread has four segments of one event, in blocks of 88 bytes. There is one spare buffer, or none.
-    (
-        CALL,
-        "--threads 2 --buffer-size 88 --cpus 2 --migrate 1 --buffer-max 3",
-        296,
-        "recycled 5",
-        "thread 2 returned instructions 3 passings 4",
-    ),
-    (
-        CALL,
-        "--threads 1 --buffer-size 88 --cpus 2 --migrate 1 --buffer-max 2",
-        208,
-        "recycled 2",
-        "thread 1 returned instructions 3 passings 4",
-    ),
-    (
-        CALL,
-        "--threads 2 --buffer-size 88 --cpus 2 --migrate 1 --buffer-max 2",
-        208,
-        "recycled 6",
-        "thread 2 returned instructions 3 passings 4",
-    ),
-    (
-        CALL,
-        "--threads 16 --buffer-size 88 --cpus 2 --migrate 1 --buffer-max 17",
-        1528,
-        "recycled 47",
-        "thread 16 returned instructions 3 passings 4",
-    ),
+    Case {
+        files: &[("x", &[CALL]), ("s", &[TRACED])],
+        before: ASSEMBLE,
+        line: "run i s t a --wall 0 --threads 2 --buffer-size 88 --cpus 2 --migrate 1 --buffer-max 3",
+        out: TWO,
+        left: &[("t", 0, &[FORMAT], 280)],
+        ..CASE
+    },
+    Case {
+        files: &[("x", &[CALL]), ("s", &[TRACED])],
+        before: ASSEMBLE,
+        line: "run i s t a --wall 0 --threads 2 --buffer-size 88 --cpus 2 --migrate 1 --buffer-max 2",
+        out: TWO,
+        left: &[("t", 0, &[FORMAT], 192)],
+        ..CASE
+    },
+    // One thread has two buffers: the older segments are lost.
+    Case {
+        files: &[("x", &[CALL]), ("s", &[TRACED])],
+        before: ASSEMBLE,
+        line: "run i s t a --wall 0 --buffer-size 88 --cpus 2 --migrate 1 --buffer-max 2",
+        out: &[CALL_STATE, "marks +4\n"],
+        left: &[("t", 0, &[FORMAT], 192)],
+        ..CASE
+    },
+    // Sixteen threads have one spare buffer.
+    Case {
+        files: &[("x", &[CALL]), ("s", &[TRACED])],
+        before: &[
+            "asm x i",
+            "run i s t a --threads 16 --buffer-size 88 --cpus 2 --migrate 1 --buffer-max 17",
+        ],
+        line: "check i s t a",
+        out: &["yes\n"],
+        left: &[("t", 0, &[FORMAT], 1512)],
+        ..CASE
+    },
+    // The held thread records an exit of function 2 and an exit of function 1.
+    Case {
+        files: &[("x", &[CALL]), ("s", &[HELD])],
+        before: ASSEMBLE,
+        line: "run i s t a --wall 0",
+        out: &[CALL_STATE, "marks .2 +2\n"],
+        left: &[(
+            "t",
+            0,
+            &[
+                HEADER,
+                EXTENTS_80,
+                PREAMBLE,
+                CPU_AT_1,
+                EXIT_OF_2,
+                EXIT_AFTER_1,
+            ],
+            0,
+        )],
+        ..CASE
+    },
 ];
 
 #[test]
 fn threads_keep_all_segments_or_the_last_ones(rt: HostRuntime) -> Result<(), Fail> {
-    for (text, options, len, recycled, last) in &LEFT {
-        let mut desk = desk_with(&rt, text, TRACED)?;
-        let line = format!(in rt.alloc(); "{RUN} {options}")?;
-        let run = run_line(&rt, &line, &mut desk)?;
-        assert_no_fault(&rt, &run);
-        assert_length(&rt, desk.get("t"), *len);
-        let audit = std::str::from_utf8(desk.get("a").ok_or("no audit")?)?;
-        assert!(rt; has_line(audit, recycled), "{audit}");
-        assert!(rt; has_line(run.out.as_str(), last), "{}", run.out);
-    }
-    Ok(())
-}
-
-/// The records of a trace with one buffer.
-pub fn records_of(desk: &MemDesk) -> Option<&[u8]> {
-    desk.get("t")?.get(96..)
-}
-
-/// What the held thread records: an exit of function 2 and an exit of function 1.
-const HELD_RECORDS: &[u8] =
-    b"\x05\0\0\x01\0\0\0\0\0\0\0\0\0\0\0\0\x22\0\0\0\0\0\0\0\x12\0\0\0\x01\0\0\0";
-
-#[test]
-fn a_held_thread_has_the_same_marks_and_bytes_in_every_run(rt: HostRuntime) -> Result<(), Fail> {
-    for _ in 0..20 {
-        let mut desk = desk_with(&rt, CALL, HELD)?;
-        let run = run_line(&rt, RUN, &mut desk)?;
-        assert_no_fault(&rt, &run);
-        assert!(rt; has_line(run.out.as_str(), "marks .2 +2"), "{}", run.out);
-        assert_length(&rt, desk.get("t"), 128);
-        check_same(&rt, &records_of(&desk), &Some(HELD_RECORDS));
-    }
-    Ok(())
+    check_cases(&rt, &CASES)
 }

@@ -1,61 +1,47 @@
-//! `sim`: the trace and the audit of worked rows, byte by byte, and what is left of them if a call
-//! of the desk fails.
-use crate::asm::{CALL, ODD_EXIT, STRAIGHT_LINE, TAIL_JUMP};
-use crate::checks::check_same_at;
-use crate::runs::{
-    IMAGE, assert_held, assert_left, assert_made, assert_no_fault, desk_of, run_failing, run_line,
+//! `sim`: the trace and the audit of worked rows, byte by byte.
+use crate::cases::{ASSEMBLE, CASE, Case, check_case};
+use crate::states::{
+    CALL_STATE, LARGEST_STATE, ODD_EXIT_STATE, SECOND_CALL_STATE, STATE, TAIL_JUMP_STATE,
+    TWO_CALLS_STATE,
 };
-use crate::sim::{LIVE, SIM, TRACED};
-use std::alloc::Global;
+use crate::texts::{
+    ARGUMENT, BOTH, CALL, LIVE, ODD_EXIT, STRAIGHT_LINE, TAIL_JUMP, TRACED, TWO_CALLS,
+};
 use std::process::Abort;
 use std::sync::Wait;
 use std::test::Fail;
 use std::thread::Threads;
-use test_helpers::WatchedDesk;
 use test_helpers::trace_parts::{
     BUFFERS_OF_88, BUFFERS_OF_95, BUFFERS_OF_96, BUFFERS_OF_16384, CPU, CPU_1_AT_2, CPU_AT_1,
     CPU_AT_2, ENTRY, ENTRY_OF_2_AFTER_1, EXIT, EXIT_AFTER_1, EXIT_AFTER_2, EXIT_OF_2, EXTENTS_72,
-    EXTENTS_80, EXTENTS_88, EXTENTS_96, FORMAT, HEADER, ONE_CALL, PREAMBLE, PREAMBLE_OF_2,
-    PROCESS_1, THREAD_1, file, file_of_blocks,
+    EXTENTS_80, EXTENTS_88, EXTENTS_96, FORMAT, HEADER, PREAMBLE, PREAMBLE_OF_2, PROCESS_1,
+    THREAD_1, file, file_of_blocks,
 };
-
-/// The words of a replay whose trace has a wall time of 0.
-const REPLAY: &str = "sim i s c t a --wall 0";
 
 /// What `sim` is asked for, and what it leaves. The traces were worked by hand, record by record.
 #[derive(Clone, Copy)]
-struct Row<'r> {
+struct Row {
     /// The assembler text of the image.
-    text: &'r str,
-    /// The words after the names of the files.
-    options: &'r str,
-    script: &'r str,
-    schedule: &'r str,
+    text: &'static [u8],
+    words: &'static str,
+    script: &'static [u8],
+    schedule: &'static [u8],
     /// The parts of the trace's header.
-    header: &'r [&'r [u8]],
+    header: &'static [&'static [u8]],
     /// Its blocks, each with its parts.
-    blocks: &'r [&'r [&'r [u8]]],
-    /// The settings in the audit that aren't the usual ones, each with its value.
-    settings: &'r [(&'r str, &'r str)],
-    /// The lines of the audit after its settings.
-    threads: &'r str,
+    blocks: &'static [&'static [&'static [u8]]],
+    /// The parts of what is printed.
+    out: &'static [&'static str],
+    /// The line of the settings in the audit.
+    setup: &'static str,
+    /// The lines of the audit after that.
+    threads: &'static str,
 }
 
-/// The settings in an audit, in their order, with the values that they have unless the words have others.
-const USUAL: [(&str, &str); 12] = [
-    ("threads", "1"),
-    ("buffer-size", "16384"),
-    ("buffer-max", "100"),
-    ("fuel", "10000000"),
-    ("passings", "1048576"),
-    ("tick", "1"),
-    ("tsc", "0"),
-    ("cpus", "1"),
-    ("migrate", "1048576"),
-    ("pid", "1"),
-    ("wall", "0.0"),
-    ("frequency", "0"),
-];
+/// The settings in an audit unless the words have others.
+const USUAL: &str =
+    "threads=1 buffer-size=16384 buffer-max=100 fuel=10000000 passings=1048576 tick=1 tsc=0 cpus=1 \
+    migrate=1048576 pid=1 wall=0.0 frequency=0\n";
 
 /// A block with the entry of function 1 at counter 0.
 pub const ENTERED: &[&[u8]] = &[EXTENTS_72, PREAMBLE, CPU, ENTRY];
@@ -64,7 +50,7 @@ pub const ENTERED: &[&[u8]] = &[EXTENTS_72, PREAMBLE, CPU, ENTRY];
 pub const LEFT: &[&[u8]] = &[EXTENTS_72, PREAMBLE, CPU_AT_2, EXIT];
 
 /// The same of thread 2, on CPU 1.
-pub const LEFT_BY_2: &[&[u8]] = &[EXTENTS_72, PREAMBLE_OF_2, CPU_1_AT_2, EXIT];
+const LEFT_BY_2: &[&[u8]] = &[EXTENTS_72, PREAMBLE_OF_2, CPU_1_AT_2, EXIT];
 
 /// One with the entry of function 1, and the entry and the exit of function 2.
 const ALL_BUT_LAST: &[&[u8]] = &[
@@ -77,17 +63,29 @@ const ALL_BUT_LAST: &[&[u8]] = &[
 ];
 
 /// One with thread 2's exit of function 2 at counter 1.
-pub const LEFT_F_BY_2: &[&[u8]] = &[EXTENTS_72, PREAMBLE_OF_2, CPU_AT_1, EXIT_OF_2];
+const LEFT_F_BY_2: &[&[u8]] = &[EXTENTS_72, PREAMBLE_OF_2, CPU_AT_1, EXIT_OF_2];
+
+/// A function that logs its argument is called with 2^64 - 1.
+const LARGEST: &[u8] =
+    b"base 0x1000\nentry main\nfn main never\nmov ecx, 1\nsub rdi, rcx\nsub rdi, rcx\ncall f\nret\n\
+    fn f args\nret\n";
+
+/// An entry of function 1 at the first counter of a buffer, with an argument that follows.
+const ENTRY_ARGS: &[u8] = b"\x16\0\0\0\0\0\0\0";
+
+/// The number of a thread, as the argument of its entry function.
+const NUMBER_1: &[u8] = b"\x0D\x01\0\0\0\0\0\0\0\0\0\0\0\0\0\0";
 
 /// The row of a call that is recorded, with a wall time of 0. The other rows say how they differ.
 const CALLED: Row = Row {
     text: STRAIGHT_LINE,
-    options: "--wall 0",
+    words: "sim i s c t a --wall 0",
     script: TRACED,
-    schedule: "",
+    schedule: b"",
     header: &[HEADER],
     blocks: &[&[EXTENTS_80, PREAMBLE, CPU, ENTRY, EXIT_AFTER_2]],
-    settings: &[],
+    setup: USUAL,
+    out: &[STATE, "marks +2\n"],
     threads: "thread 1 returned passings 2 recorded 2 segments 1 first 0\n\
         marks +2\n\
         recycled 0\n",
@@ -96,6 +94,7 @@ const CALLED: Row = Row {
 /// The row of a call of which nothing is recorded.
 const UNRECORDED: Row = Row {
     blocks: &[],
+    out: &[STATE, "marks .2\n"],
     threads: "thread 1 returned passings 2 recorded 0 segments 0 first 0\n\
         marks .2\n\
         recycled 0\n",
@@ -105,10 +104,12 @@ const UNRECORDED: Row = Row {
 /// The row of two calls whose events are in two segments, with the smallest buffers.
 const SPLIT: Row = Row {
     text: CALL,
-    options: "--wall 0 --buffer-size 88",
+    words: "sim i s c t a --wall 0 --buffer-size 88",
     header: &[FORMAT, BUFFERS_OF_88],
     blocks: &[ALL_BUT_LAST, LEFT],
-    settings: &[("buffer-size", "88")],
+    setup: "threads=1 buffer-size=88 buffer-max=100 fuel=10000000 passings=1048576 tick=1 tsc=0 cpus=1 \
+            migrate=1048576 pid=1 wall=0.0 frequency=0\n",
+    out: &[CALL_STATE, "marks +4\n"],
     threads: "thread 1 returned passings 4 recorded 4 segments 2 first 0\n\
         marks +4\n\
         recycled 0\n",
@@ -119,16 +120,12 @@ const SPLIT: Row = Row {
 /// segment has one event, since each passing is on another CPU than the one before.
 const LOSING: Row = Row {
     text: CALL,
-    options: "--wall 0 --threads 2 --buffer-size 88 --cpus 2 --migrate 1 --buffer-max 3",
+    words: "sim i s c t a --wall 0 --threads 2 --buffer-size 88 --cpus 2 --migrate 1 --buffer-max 3",
     header: &[FORMAT, BUFFERS_OF_88],
     blocks: &[LEFT, LEFT_F_BY_2, LEFT_BY_2],
-    settings: &[
-        ("threads", "2"),
-        ("buffer-size", "88"),
-        ("buffer-max", "3"),
-        ("cpus", "2"),
-        ("migrate", "1"),
-    ],
+    setup: "threads=2 buffer-size=88 buffer-max=3 fuel=10000000 passings=1048576 tick=1 tsc=0 cpus=2 \
+            migrate=1 pid=1 wall=0.0 frequency=0\n",
+    out: &[CALL_STATE, "marks +4\n", SECOND_CALL_STATE, "marks +4\n"],
     threads: "thread 1 returned passings 4 recorded 4 segments 4 first 3\n\
         marks +4\n\
         thread 2 returned passings 4 recorded 4 segments 4 first 2\n\
@@ -137,19 +134,20 @@ const LOSING: Row = Row {
     ..CALLED
 };
 
-const ROWS: [Row; 19] = [
+const ROWS: [Row; 10] = [
     // A call is recorded.
     CALLED,
     // Nothing is recorded without patching.
     Row {
-        script: "go",
+        script: b"go",
         ..UNRECORDED
     },
     // A passing that has begun is recorded, even if its sled is unpatched meanwhile.
     Row {
-        script: "patch\nset_handler\ninit\ngo\nunpatch",
-        schedule: "t 1 1\np 2",
+        script: b"patch\nset_handler\ninit\ngo\nunpatch",
+        schedule: b"t 1 1\np 2",
         blocks: &[ENTERED],
+        out: &[STATE, "marks +1 .1\n"],
         threads: "thread 1 returned passings 2 recorded 1 segments 1 first 0\n\
             marks +1 .1\n\
             recycled 0\n",
@@ -158,14 +156,15 @@ const ROWS: [Row; 19] = [
     // A sled is unpatched until its head is stored.
     Row {
         script: LIVE,
-        schedule: "p 3\nt 1 1",
+        schedule: b"p 3\nt 1 1",
         ..UNRECORDED
     },
     // An exit is recorded without its entry.
     Row {
         script: LIVE,
-        schedule: "p 3\nt 1 1\np 5",
+        schedule: b"p 3\nt 1 1\np 5",
         blocks: &[LEFT],
+        out: &[STATE, "marks .1 +1\n"],
         threads: "thread 1 returned passings 2 recorded 1 segments 1 first 0\n\
             marks .1 +1\n\
             recycled 0\n",
@@ -173,7 +172,8 @@ const ROWS: [Row; 19] = [
     },
     // Nothing is recorded without a handler.
     Row {
-        script: "patch\ninit\ngo",
+        script: b"patch\ninit\ngo",
+        out: &[STATE, "marks n2\n"],
         threads: "thread 1 returned passings 2 recorded 0 segments 0 first 0\n\
             marks n2\n\
             recycled 0\n",
@@ -181,7 +181,8 @@ const ROWS: [Row; 19] = [
     },
     // Nothing is recorded in a log that is finalized.
     Row {
-        script: "patch\nset_handler\ninit\nfinalize\ngo",
+        script: b"patch\nset_handler\ninit\nfinalize\ngo",
+        out: &[STATE, "marks f2\n"],
         threads: "thread 1 returned passings 2 recorded 0 segments 0 first 0\n\
             marks f2\n\
             recycled 0\n",
@@ -190,7 +191,8 @@ const ROWS: [Row; 19] = [
     // A delta has 32 bits.
     Row {
         text: ODD_EXIT,
-        options: "--wall 0 --tick 4294967295",
+        out: &[ODD_EXIT_STATE, "marks +2\n"],
+        words: "sim i s c t a --wall 0 --tick 4294967295",
         blocks: &[&[
             EXTENTS_80,
             PREAMBLE,
@@ -198,13 +200,15 @@ const ROWS: [Row; 19] = [
             ENTRY,
             b"\x12\0\0\0\xFF\xFF\xFF\xFF",
         ]],
-        settings: &[("tick", "4294967295")],
+        setup: "threads=1 buffer-size=16384 buffer-max=100 fuel=10000000 passings=1048576 tick=4294967295 tsc=0 \
+            cpus=1 migrate=1048576 pid=1 wall=0.0 frequency=0\n",
         ..CALLED
     },
     // A greater advance of the counter gets a TSCWrap record.
     Row {
         text: ODD_EXIT,
-        options: "--wall 0 --tick=4294967296",
+        out: &[ODD_EXIT_STATE, "marks +2\n"],
+        words: "sim i s c t a --wall 0 --tick=4294967296",
         blocks: &[&[
             EXTENTS_96,
             PREAMBLE,
@@ -213,13 +217,15 @@ const ROWS: [Row; 19] = [
             b"\x07\0\0\0\0\x01\0\0\0\0\0\0\0\0\0\0",
             EXIT,
         ]],
-        settings: &[("tick", "4294967296")],
+        setup: "threads=1 buffer-size=16384 buffer-max=100 fuel=10000000 passings=1048576 tick=4294967296 tsc=0 \
+            cpus=1 migrate=1048576 pid=1 wall=0.0 frequency=0\n",
         ..CALLED
     },
     // A counter that wraps gets a TSCWrap record.
     Row {
         text: ODD_EXIT,
-        options: "--wall 0 --tsc 18446744073709551615",
+        out: &[ODD_EXIT_STATE, "marks +2\n"],
+        words: "sim i s c t a --wall 0 --tsc 18446744073709551615",
         blocks: &[&[
             EXTENTS_96,
             PREAMBLE,
@@ -228,21 +234,27 @@ const ROWS: [Row; 19] = [
             b"\x07\0\0\0\0\0\0\0\0\0\0\0\0\0\0\0",
             EXIT,
         ]],
-        settings: &[("tsc", "18446744073709551615")],
+        setup: "threads=1 buffer-size=16384 buffer-max=100 fuel=10000000 passings=1048576 tick=1 \
+            tsc=18446744073709551615 cpus=1 migrate=1048576 pid=1 wall=0.0 frequency=0\n",
         ..CALLED
     },
+];
+
+/// Buffers of several sizes, several threads, other settings, and arguments.
+const LATER_ROWS: [Row; 13] = [
     // A buffer of 88 bytes has room for three events on one CPU.
     SPLIT,
     // So has one of 95 bytes.
     Row {
-        options: "--wall 0 --buffer-size=95",
+        words: "sim i s c t a --wall 0 --buffer-size=95",
         header: &[FORMAT, BUFFERS_OF_95],
-        settings: &[("buffer-size", "95")],
+        setup: "threads=1 buffer-size=95 buffer-max=100 fuel=10000000 passings=1048576 tick=1 tsc=0 cpus=1 \
+            migrate=1048576 pid=1 wall=0.0 frequency=0\n",
         ..SPLIT
     },
     // One of 96 bytes has room for four.
     Row {
-        options: "--wall 0 --buffer-size 96",
+        words: "sim i s c t a --wall 0 --buffer-size 96",
         header: &[FORMAT, BUFFERS_OF_96],
         blocks: &[&[
             EXTENTS_96,
@@ -253,7 +265,9 @@ const ROWS: [Row; 19] = [
             EXIT_OF_2,
             EXIT_AFTER_1,
         ]],
-        settings: &[("buffer-size", "96")],
+        setup: "threads=1 buffer-size=96 buffer-max=100 fuel=10000000 passings=1048576 tick=1 tsc=0 cpus=1 \
+            migrate=1048576 pid=1 wall=0.0 frequency=0\n",
+        out: &[CALL_STATE, "marks +4\n"],
         threads: "thread 1 returned passings 4 recorded 4 segments 1 first 0\n\
             marks +4\n\
             recycled 0\n",
@@ -263,15 +277,11 @@ const ROWS: [Row; 19] = [
     LOSING,
     // If no buffer is queued, each thread gets its own back.
     Row {
-        options: "--wall 0 --threads 2 --buffer-size 88 --cpus 2 --migrate 1 --buffer-max 2",
+        words: "sim i s c t a --wall 0 --threads 2 --buffer-size 88 --cpus 2 --migrate 1 --buffer-max 2",
         blocks: &[LEFT, LEFT_BY_2],
-        settings: &[
-            ("threads", "2"),
-            ("buffer-size", "88"),
-            ("buffer-max", "2"),
-            ("cpus", "2"),
-            ("migrate", "1"),
-        ],
+        setup: "threads=2 buffer-size=88 buffer-max=2 fuel=10000000 passings=1048576 tick=1 tsc=0 cpus=2 \
+            migrate=1 pid=1 wall=0.0 frequency=0\n",
+        out: &[CALL_STATE, "marks +4\n", SECOND_CALL_STATE, "marks +4\n"],
         threads: "thread 1 returned passings 4 recorded 4 segments 4 first 3\n\
             marks +4\n\
             thread 2 returned passings 4 recorded 4 segments 4 first 3\n\
@@ -281,7 +291,7 @@ const ROWS: [Row; 19] = [
     },
     // A thread that moves to another CPU says so.
     Row {
-        options: "--wall 0 --cpus 2 --migrate 1",
+        words: "sim i s c t a --wall 0 --cpus 2 --migrate 1",
         blocks: &[&[
             EXTENTS_96,
             PREAMBLE,
@@ -290,7 +300,8 @@ const ROWS: [Row; 19] = [
             CPU_AT_2,
             EXIT,
         ]],
-        settings: &[("cpus", "2"), ("migrate", "1")],
+        setup: "threads=1 buffer-size=16384 buffer-max=100 fuel=10000000 passings=1048576 tick=1 tsc=0 cpus=2 \
+            migrate=1 pid=1 wall=0.0 frequency=0\n",
         ..CALLED
     },
     // A tail jump is a tail exit.
@@ -305,6 +316,7 @@ const ROWS: [Row; 19] = [
             b"\x20\0\0\0\x01\0\0\0",
             EXIT_OF_2,
         ]],
+        out: &[TAIL_JUMP_STATE, "marks +4\n"],
         threads: "thread 1 returned passings 4 recorded 4 segments 1 first 0\n\
             marks +4\n\
             recycled 0\n",
@@ -312,7 +324,7 @@ const ROWS: [Row; 19] = [
     },
     // The numbers of the words are in the header, in the preamble and in the audit.
     Row {
-        options: "--frequency 18446744073709551615 --pid 2147483647 --wall 18446744073709551615",
+        words: "sim i s c t a --frequency 18446744073709551615 --pid 2147483647 --wall 18446744073709551615",
         header: &[
             b"\x03\0\x01\0\x03\0\0\0\xFF\xFF\xFF\xFF\xFF\xFF\xFF\xFF",
             BUFFERS_OF_16384,
@@ -326,16 +338,13 @@ const ROWS: [Row; 19] = [
             ENTRY,
             EXIT_AFTER_2,
         ]],
-        settings: &[
-            ("pid", "2147483647"),
-            ("wall", "18446744073709551615.0"),
-            ("frequency", "18446744073709551615"),
-        ],
+        setup: "threads=1 buffer-size=16384 buffer-max=100 fuel=10000000 passings=1048576 tick=1 tsc=0 cpus=1 \
+            migrate=1048576 pid=2147483647 wall=18446744073709551615.0 frequency=18446744073709551615\n",
         ..CALLED
     },
     // If the words have no wall time, the trace has the one that was passed in.
     Row {
-        options: "",
+        words: "sim i s c t a",
         blocks: &[&[
             EXTENTS_80,
             THREAD_1,
@@ -345,155 +354,108 @@ const ROWS: [Row; 19] = [
             ENTRY,
             EXIT_AFTER_2,
         ]],
-        settings: &[("wall", "7.8")],
+        setup: "threads=1 buffer-size=16384 buffer-max=100 fuel=10000000 passings=1048576 tick=1 tsc=0 cpus=1 \
+            migrate=1048576 pid=1 wall=7.8 frequency=0\n",
+        ..CALLED
+    },
+    // An argument is that of its entry: the number of the thread, one that the caller set, and the largest one.
+    Row {
+        text: ARGUMENT,
+        script: BOTH,
+        blocks: &[&[
+            EXTENTS_96,
+            PREAMBLE,
+            CPU,
+            ENTRY_ARGS,
+            NUMBER_1,
+            EXIT_AFTER_1,
+        ]],
+        out: &[ODD_EXIT_STATE, "marks a1 +1\n"],
+        threads: "thread 1 returned passings 2 recorded 2 segments 1 first 0\n\
+            marks a1 +1\n\
+            recycled 0\n",
+        ..CALLED
+    },
+    Row {
+        text: ARGUMENT,
+        script: b"patch\nset_arg_handler\ninit\ngo",
+        blocks: &[&[EXTENTS_88, PREAMBLE, CPU, ENTRY_ARGS, NUMBER_1]],
+        out: &[ODD_EXIT_STATE, "marks a1 n1\n"],
+        threads: "thread 1 returned passings 2 recorded 1 segments 1 first 0\n\
+            marks a1 n1\n\
+            recycled 0\n",
+        ..CALLED
+    },
+    Row {
+        text: TWO_CALLS,
+        script: BOTH,
+        blocks: &[&[
+            b"\x0F\x80\0\0\0\0\0\0\0\0\0\0\0\0\0\0",
+            PREAMBLE,
+            CPU_AT_2,
+            ENTRY_ARGS,
+            b"\x0D\x14\0\0\0\0\0\0\0\0\0\0\0\0\0\0",
+            EXIT_AFTER_1,
+            b"\x16\0\0\0\x03\0\0\0",
+            b"\x0D\x07\0\0\0\0\0\0\0\0\0\0\0\0\0\0",
+            EXIT_AFTER_1,
+        ]],
+        out: &[TWO_CALLS_STATE, "marks a1 +1 a1 +1\n"],
+        threads: "thread 1 returned passings 4 recorded 4 segments 1 first 0\n\
+            marks a1 +1 a1 +1\n\
+            recycled 0\n",
+        ..CALLED
+    },
+    Row {
+        text: LARGEST,
+        script: BOTH,
+        blocks: &[&[
+            EXTENTS_96,
+            PREAMBLE,
+            b"\x05\0\0\x04\0\0\0\0\0\0\0\0\0\0\0\0",
+            ENTRY_ARGS,
+            b"\x0D\xFF\xFF\xFF\xFF\xFF\xFF\xFF\xFF\0\0\0\0\0\0\0",
+            EXIT,
+        ]],
+        out: &[LARGEST_STATE, "marks a1 +1\n"],
+        threads: "thread 1 returned passings 2 recorded 2 segments 1 first 0\n\
+            marks a1 +1\n\
+            recycled 0\n",
         ..CALLED
     },
 ];
 
-/// The value of a setting in the audit of a row.
-fn setting<'r>(row: &Row<'r>, name: &str, usual: &'r str) -> &'r str {
-    for (other, value) in row.settings {
-        if *other == name {
-            return value;
-        }
-    }
-    usual
-}
-
-/// The audit of a row.
-fn audit_of(alloc: Global, row: &Row) -> Result<String, Fail> {
-    let mut audit = String::from_str(alloc, "xray-audit 1\n")?;
-    for (place, (name, usual)) in USUAL.iter().enumerate() {
-        let space = if place == 0 { "" } else { " " };
-        let value = setting(row, name, usual);
-        audit.push_str(&format!(in alloc; "{space}{name}={value}")?)?;
-    }
-    audit.push_str("\n")?;
-    audit.push_str(row.threads)?;
-    Ok(audit)
-}
-
-/// Assembles the image of a row, and checks what its replay leaves.
-fn assert_leaves<R: Abort + Threads + Wait + Sync + AllocGlobal>(
+/// Checks the traces and the audits of rows.
+fn check_rows<R: Abort + Threads + Wait + Sync + AllocGlobal>(
     rt: &R,
-    row: &Row,
+    rows: &[Row],
 ) -> Result<(), Fail> {
-    let alloc = rt.alloc();
-    let audit = audit_of(alloc, row)?;
-    let mut desk = desk_of(alloc, &[], b"", row.script, row.schedule)?;
-    desk.put("x", row.text.as_bytes())?;
-    assert_made(rt, &mut desk)?;
-    let line = format!(in alloc; "{SIM} {}", row.options)?;
-    assert_no_fault(rt, &run_line(rt, &line, &mut desk)?);
-    let mut trace = file(alloc, row.header)?;
-    trace.extend_from_slice(&file_of_blocks(alloc, row.blocks)?)?;
-    assert_held(rt, desk.get("t"), &trace);
-    assert_held(rt, desk.get("a"), audit.as_bytes());
+    for row in rows {
+        let header = file(rt.alloc(), row.header)?;
+        let blocks = file_of_blocks(rt.alloc(), row.blocks)?;
+        let (setup, threads) = (row.setup.as_bytes(), row.threads.as_bytes());
+        let case = Case {
+            files: &[
+                ("x", &[row.text]),
+                ("s", &[row.script]),
+                ("c", &[row.schedule]),
+            ],
+            before: ASSEMBLE,
+            line: row.words,
+            out: row.out,
+            left: &[
+                ("t", 0, &[&header, &blocks], 0),
+                ("a", 0, &[b"xray-audit 1\n", setup, threads], 0),
+            ],
+            ..CASE
+        };
+        check_case(rt, &case)?;
+    }
     Ok(())
 }
 
 #[test]
 fn a_replay_leaves_its_trace_and_its_audit(rt: HostRuntime) -> Result<(), Fail> {
-    for row in &ROWS {
-        assert_leaves(&rt, row)?;
-    }
-    Ok(())
-}
-
-/// Options of buffers, and the status. They are the ends of the ranges, and of a trace of at most
-/// 67,108,864 bytes.
-const RANGES: [(&str, u8); 11] = [
-    ("--buffer-size 87 --buffer-max 1", 1),
-    ("--buffer-size 88 --buffer-max 1", 0),
-    ("--buffer-size 1048576 --buffer-max 1", 0),
-    ("--buffer-size 1048577 --buffer-max 1", 1),
-    ("--buffer-size 88 --buffer-max 1024", 0),
-    ("--buffer-size 88 --buffer-max 1025", 1),
-    ("--buffer-max 0 --threads 1", 1),
-    ("--buffer-max 3 --threads 4", 1),
-    ("--buffer-max 4 --threads 4", 0),
-    // 224 buffers of 299,577 bytes, with 16 bytes of extents each, and a header of 32 bytes.
-    ("--buffer-max 224 --buffer-size 299577", 0),
-    ("--buffer-max 224 --buffer-size 299578", 1),
-];
-
-#[test]
-fn buffers_have_their_ranges(rt: HostRuntime) -> Result<(), Fail> {
-    for (options, status) in &RANGES {
-        let mut desk = desk_of(rt.alloc(), &[], &IMAGE, TRACED, "")?;
-        let line = format!(in rt.alloc(); "{SIM} {options}")?;
-        let run = run_line(&rt, &line, &mut desk)?;
-        check_same_at(&rt, &run.status, status, options);
-        check_same_at(&rt, &desk.get("t").is_some(), &(*status == 0), options);
-    }
-    Ok(())
-}
-
-/// What the outputs hold before a replay.
-const OLD: &[u8] = b"old";
-
-/// A replay over a desk and an out that fail at these calls ends with this line on err. It leaves
-/// these bytes as the trace and as the audit.
-fn assert_fails<R: Abort + Threads + Wait + Sync + AllocGlobal>(
-    rt: &R,
-    failing: &[u64],
-    out_failing: &[u64],
-    line: &str,
-    trace: &[u8],
-    audit: &[u8],
-) -> Result<(), Fail> {
-    let mut desk = desk_of(rt.alloc(), failing, &IMAGE, TRACED, "p 1")?;
-    desk.put("t", OLD)?;
-    desk.put("a", OLD)?;
-    let run = run_failing(rt, REPLAY, &mut desk, out_failing, &[])?;
-    assert_left(rt, &run, 4, "", line);
-    assert_held(rt, desk.get("t"), trace);
-    assert_held(rt, desk.get("a"), audit);
-    assert_held(rt, desk.get("i"), &IMAGE);
-    Ok(())
-}
-
-/// The desk's calls are two reads of each input, the creation and the append of the trace, and those of the audit.
-#[test]
-fn a_call_of_the_desk_that_fails_leaves_later_outputs_untouched(
-    rt: HostRuntime,
-) -> Result<(), Fail> {
-    let (trace, audit) = (file(rt.alloc(), &ONE_CALL)?, audit_of(rt.alloc(), &CALLED)?);
-    let (trace, audit) = (trace.as_slice(), audit.as_bytes());
-    assert_fails(&rt, &[6], &[], "xray: t: write fault\n", OLD, OLD)?;
-    assert_fails(&rt, &[7], &[], "xray: t: write fault\n", b"", OLD)?;
-    assert_fails(&rt, &[8], &[], "xray: a: write fault\n", trace, OLD)?;
-    assert_fails(&rt, &[9], &[], "xray: a: write fault\n", trace, b"")?;
-    assert_fails(&rt, &[], &[0], "xray: output: write fault\n", trace, audit)?;
-    Ok(())
-}
-
-/// A call of the desk that fails, the line on err, and how many bytes of the trace and of the audit
-/// are there then, if it was begun. Calls are counted from 0 after the reads: 0 creates the trace, 1
-/// to 128 write it, one byte each, 129 creates the audit, and the rest write that.
-const FAILING: [(u64, &str, usize, Option<usize>); 3] = [
-    (2, "xray: t: write fault\n", 1, None),
-    (130, "xray: a: write fault\n", 128, Some(0)),
-    (230, "xray: a: write fault\n", 128, Some(100)),
-];
-
-#[test]
-fn an_output_that_fails_in_the_middle_is_a_prefix(rt: HostRuntime) -> Result<(), Fail> {
-    // A read for each byte of the three inputs, and one more that finds the end of each.
-    let reads = (IMAGE.len() + 1 + TRACED.len() + 1 + 1) as u64;
-    let (trace, audit) = (file(rt.alloc(), &ONE_CALL)?, audit_of(rt.alloc(), &CALLED)?);
-    for (call, line, written, audited) in &FAILING {
-        let failing = reads.saturating_add(*call);
-        let desk = desk_of(rt.alloc(), &[failing], &IMAGE, TRACED, "")?;
-        let mut watched = WatchedDesk::new(rt.alloc(), desk);
-        let run = run_line(&rt, REPLAY, &mut watched)?;
-        assert_left(&rt, &run, 4, "", line);
-        check_same_at(&rt, &watched.get("t"), &trace.get(..*written), line);
-        let begun = match audited {
-            Some(count) => audit.as_bytes().get(..*count),
-            None => None,
-        };
-        check_same_at(&rt, &watched.get("a"), &begun, line);
-    }
-    Ok(())
+    check_rows(&rt, &ROWS)?;
+    check_rows(&rt, &LATER_ROWS)
 }
