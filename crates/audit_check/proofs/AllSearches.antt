@@ -1,74 +1,32 @@
 -- What a follower finds by searches, one after the other.
-use Rattle.std.proofs.Common.{◌≡◌, ◌≢◌, ℕ, zero, suc, ◌+◌, ◌<◌, ◌≤◌, List, [], ◌∷◌, ◌++◌, append-nil, append_assoc, Option, Some, None, refl, sym, ap, ◌∙◌, arith, add-one, length, map, drop}
-use Rattle.std.specs.Prelude.{option_and_then, option_map, replicate, slice_get, slice_set}
+use Rattle.std.proofs.Common.{◌≡◌, ℕ, zero, suc, ◌+◌, ◌≤◌, List, [], ◌∷◌, ◌++◌, append-nil, append_assoc, Option, Some, None, refl, sym, ap, ◌∙◌, arith, add-one, length, length-append, map, drop}
+use Rattle.std.specs.Prelude.{option_and_then, option_map, replicate, slice_get}
+use Rattle.std.proofs.lemmas.List.{length-replicate}
 use Rattle.xray_image.specs.Program.{Program}
 use Rattle.patch_script.specs.declared.command.Command.{Command}
 use Rattle.patch_script.specs.CodeAt.{code_at}
 use Rattle.patch_script.specs.Micros.{total_of}
 use Rattle.audit_check.specs.declared.follower.Follower.{Follower}
+use Rattle.audit_check.specs.declared.follower.Found.{Found}
 use Rattle.audit_check.specs.declared.searches.Sought.{Sought}
+use Rattle.audit_check.specs.declared.stop.LoadStops.{LoadStops}
 use Rattle.audit_check.specs.declared.stop.Stop.{Stop}
 use Rattle.audit_check.specs.Places.{Search, first_place, found_by}
-use Rattle.audit_check.specs.Stops.{places_of}
 use Rattle.audit_check.specs.private.Judging.{Judges, SameButGuesses}
-use Rattle.audit_check.specs.private.Searches.{Finds, FindsAll, no_stop, search_of, stop_of}
+use Rattle.audit_check.specs.private.LoadStops.{places_in}
+use Rattle.audit_check.specs.private.Searches.{AddsAll, Finds, FindsAll, counted, search_of, stop_of}
 use Rattle.audit_check.proofs.FollowerGuesses.{judges_again}
 use Rattle.audit_check.proofs.OneSearch.{stop_by}
 use Rattle.audit_check.proofs.SearchResults.{was_made}
 
--- ---- stops of which some have no loads
-
--- none of the stops from an index on has loads
-abbrev pub NoneFrom : ℕ → List Stop → Type 0
-NoneFrom i stops = (k : ℕ) (stop : Stop) → i ≤ k → slice_get stops k ≡ Some stop → stop.loads ≡ 0
-
-pub none_yet : (n : ℕ) → NoneFrom 0 (replicate n no_stop)
-none_yet zero k stop low e = absurd cc
-none_yet (suc n) zero stop low e = let same : no_stop ≡ stop = cc in ap (λ (s : Stop). s.loads) (sym same)
-none_yet (suc n) (suc k) stop low e = none_yet n k stop (omega arith) e
-
-no_places : (stops : List Stop) → NoneFrom 0 stops → places_of stops ≡ []
-no_places [] none = refl
-no_places (stop ∷ stops) none =
-    ap (λ n. replicate n stop.place ++ places_of stops) (none 0 stop (omega arith) refl)
-    ∙ no_places stops (λ k s low e. none (suc k) s (omega arith) e)
-
-later_none : (i : ℕ) (stop : Stop) (stops : List Stop) → NoneFrom (suc i) (stop ∷ stops) → NoneFrom i stops
-later_none i stop stops none = λ k s low e. none (suc k) s (omega (arith, low)) e
-
--- loads at the first of these
-pub set_places : (stops : List Stop) (i : ℕ) (stop : Stop) → i < length stops → NoneFrom i stops
-    → places_of (slice_set stops i stop) ≡ places_of stops ++ replicate stop.loads stop.place
-set_places [] i stop low none = absurd (omega (arith, low))
-set_places (first ∷ stops) zero stop low none =
-    let rest : places_of stops ≡ [] = no_places stops (later_none 0 first stops (λ k s high e. none k s (omega arith) e)) in
-    let own : replicate stop.loads stop.place ++ places_of stops ≡ replicate stop.loads stop.place =
-    ap (λ (ps : List ℕ). replicate stop.loads stop.place ++ ps) rest ∙ append-nil (replicate stop.loads stop.place) in
-    let before : places_of (first ∷ stops) ≡ [] = no_places (first ∷ stops) none in
-    own ∙ ap (λ (ps : List ℕ). ps ++ replicate stop.loads stop.place) (sym before)
-set_places (first ∷ stops) (suc i) stop low none =
-    ap (λ (ps : List ℕ). replicate first.loads first.place ++ ps) (set_places stops i stop (omega (arith, low)) (later_none i first stops none))
-    ∙ sym (append_assoc (replicate first.loads first.place) (places_of stops) (replicate stop.loads stop.place))
-
-set_apart : (stops : List Stop) (i k : ℕ) (stop : Stop) → k ≢ i → slice_get (slice_set stops i stop) k ≡ slice_get stops k
-set_apart [] i k stop apart = refl
-set_apart (first ∷ stops) zero zero stop apart = absurd (apart refl)
-set_apart (first ∷ stops) zero (suc k) stop apart = refl
-set_apart (first ∷ stops) (suc i) zero stop apart = refl
-set_apart (first ∷ stops) (suc i) (suc k) stop apart = set_apart stops i k stop (λ e. apart (ap suc e))
-
-pub none_after : (stops : List Stop) (i : ℕ) (stop : Stop) → NoneFrom i stops → NoneFrom (i + 1) (slice_set stops i stop)
-none_after stops i stop none = λ k s low e.
-    none k s (omega (arith, low)) (sym (set_apart stops i k stop (λ same. omega (arith, low, same))) ∙ e)
-
 -- ---- what is found goes on
 
--- after the first searches the others go on from a place, and stops have the places of the loads so far
-abbrev pub GoesOn : Follower → List Sought → (sled from bound i place : ℕ) → List Stop → Type 0
-GoesOn f sought sled from bound i place stops =
+-- after the first searches the others go on from a place, and these are the places of the loads so far
+abbrev pub GoesOn : Follower → List Sought → (sled from bound i place : ℕ) → List ℕ → Type 0
+GoesOn f sought sled from bound i place places =
     (program : Program) (threads : ℕ) (script : List Command) → Judges program threads script f → bound ≤ total_of program threads script
     → found_by bound from (map (search_of program threads (code_at program threads script) sled) sought)
-    ≡ option_map (λ (found : ℕ × List ℕ). (found.0, places_of stops ++ found.1))
+    ≡ option_map (λ (found : ℕ × List ℕ). (found.0, places ++ found.1))
     (found_by bound place (map (search_of program threads (code_at program threads script) sled) (drop i sought)))
 
 -- places of loads before those that are found
@@ -98,16 +56,11 @@ drop_past (first ∷ sought) zero low = absurd (omega (arith, low))
 drop_past (first ∷ sought) (suc i) low = drop_past sought i (omega (arith, low))
 
 module _ (f : Follower) (sought : List Sought) (sled from bound : ℕ) where
-  pub goes_first : (n : ℕ) → GoesOn f sought sled from bound 0 from (replicate n no_stop)
-  goes_first n = λ program threads script judges low.
-      let all = found_by bound from (map (search_of program threads (code_at program threads script) sled) sought) in
-      none_before all ∙ ap (λ (ps : List ℕ). with_before ps all) (sym (no_places (replicate n no_stop) (none_yet n)))
-
   -- one more search
-  pub goes_next : (g : Follower) (i place : ℕ) (s : Sought) (stop : Stop) (stops : List Stop) → SameButGuesses f g → slice_get sought i ≡ Some s
-      → Finds g s sled place bound (Some stop) → i < length stops → NoneFrom i stops → GoesOn f sought sled from bound i place stops
-      → GoesOn f sought sled from bound (i + 1) stop.place (slice_set stops i stop)
-  goes_next g i place s stop stops same at finds within none goes = λ program threads script judges low.
+  goes_next : (g : Follower) (i place : ℕ) (s : Sought) (stop : Stop) (places : List ℕ) → SameButGuesses f g → slice_get sought i ≡ Some s
+      → Finds g s sled place bound (Some stop) → GoesOn f sought sled from bound i place places
+      → GoesOn f sought sled from bound (i + 1) stop.place (places ++ replicate stop.loads stop.place)
+  goes_next g i place s stop places same at finds goes = λ program threads script judges low.
       let meaning : Sought → Search = search_of program threads (code_at program threads script) sled in
       let search : Search = meaning s in
       let found = finds program threads script (judges_again program threads script f g same judges) low in
@@ -120,15 +73,15 @@ module _ (f : Follower) (sought : List Sought) (sled from bound : ℕ) where
       ∙ ap (option_and_then (λ p. with_before (replicate (search.loads p) p) (found_by bound p later))) made.given_is
       ∙ ap (λ n. with_before (replicate n made.value) (found_by bound made.value later)) loads
       ∙ ap (λ p. with_before (replicate stop.loads p) (found_by bound p later)) there in
-      goes program threads script judges low ∙ ap (with_before (places_of stops)) front
-      ∙ both_before (places_of stops) (replicate stop.loads stop.place) (found_by bound stop.place later)
-      ∙ ap (λ (ps : List ℕ). with_before ps (found_by bound stop.place later)) (sym (set_places stops i stop within none))
+      goes program threads script judges low ∙ ap (with_before places) front
+      ∙ both_before places (replicate stop.loads stop.place) (found_by bound stop.place later)
 
   -- a search that finds nothing
-  pub goes_nowhere : (g : Follower) (i place : ℕ) (s : Sought) (stops others : List Stop) → SameButGuesses f g → slice_get sought i ≡ Some s
-      → Finds g s sled place bound None → GoesOn f sought sled from bound i place stops → (answer : Option ℕ) → answer ≡ None
-      → FindsAll f sought sled from bound answer others
-  goes_nowhere g i place s stops others same at finds goes answer is = λ program threads script judges low.
+  goes_nowhere : (g : Follower) (i place : ℕ) (s : Sought) (places : List ℕ) → SameButGuesses f g → slice_get sought i ≡ Some s
+      → Finds g s sled place bound None → GoesOn f sought sled from bound i place places
+      → (program : Program) (threads : ℕ) (script : List Command) → Judges program threads script f → bound ≤ total_of program threads script
+      → found_by bound from (map (search_of program threads (code_at program threads script) sled) sought) ≡ None
+  goes_nowhere g i place s places same at finds goes program threads script judges low =
       let meaning : Sought → Search = search_of program threads (code_at program threads script) sled in
       let search : Search = meaning s in
       let none : first_place search.test place bound ≡ None =
@@ -137,18 +90,91 @@ module _ (f : Follower) (sought : List Sought) (sled from bound : ℕ) where
       let front : found_by bound place (map meaning (drop i sought)) ≡ None =
       ap (λ (ss : List Sought). found_by bound place (map meaning ss)) (drop_at sought i s at)
       ∙ ap (option_and_then (λ p. with_before (replicate (search.loads p) p) (found_by bound p later))) none in
-      goes program threads script judges low ∙ ap (with_before (places_of stops)) front
-      ∙ ap (option_map (λ place. (place, places_of others))) (sym is)
+      goes program threads script judges low ∙ ap (with_before places) front
     where
       was_none : (search : Search) (first : Option ℕ) → None ≡ stop_by search first → first ≡ None
       was_none search None e = refl
       was_none search (Some p) e = absurd cc
 
   -- all searches
-  pub goes_last : (i place : ℕ) (stops : List Stop) → length sought ≤ i → GoesOn f sought sled from bound i place stops
-      → FindsAll f sought sled from bound (Some place) stops
-  goes_last i place stops past goes = λ program threads script judges low.
+  goes_last : (i place : ℕ) (places : List ℕ) → length sought ≤ i → GoesOn f sought sled from bound i place places
+      → (program : Program) (threads : ℕ) (script : List Command) → Judges program threads script f → bound ≤ total_of program threads script
+      → found_by bound from (map (search_of program threads (code_at program threads script) sled) sought) ≡ Some (place, places)
+  goes_last i place places past goes program threads script judges low =
       let meaning : Sought → Search = search_of program threads (code_at program threads script) sled in
       goes program threads script judges low
-      ∙ ap (λ (ss : List Sought). with_before (places_of stops) (found_by bound place (map meaning ss))) (drop_past sought i past)
-      ∙ ap (λ (ps : List ℕ). Some (place, ps)) (append-nil (places_of stops))
+      ∙ ap (λ (ss : List Sought). with_before places (found_by bound place (map meaning ss))) (drop_past sought i past)
+      ∙ ap (λ (ps : List ℕ). Some (place, ps)) (append-nil places)
+
+  -- ---- the loads are counted
+
+  pub record HasCounted (i place loads : ℕ) : Type 0 where
+    pub places : List ℕ
+    pub count : length places ≡ loads
+    pub goes : GoesOn f sought sled from bound i place places
+
+  pub counted_first : HasCounted 0 from 0
+  counted_first = record {
+    places = [];
+    count = refl;
+    goes = λ program threads script judges low. none_before _;
+  }
+
+  pub counted_next : (g : Follower) (i place loads : ℕ) (s : Sought) (stop : Stop) → SameButGuesses f g → slice_get sought i ≡ Some s
+      → Finds g s sled place bound (Some stop) → HasCounted i place loads → HasCounted (i + 1) stop.place (loads + stop.loads)
+  counted_next g i place loads s stop same at finds has = record {
+    places = has.places ++ replicate stop.loads stop.place;
+    count = length-append has.places (replicate stop.loads stop.place) ∙ ap (λ n. length has.places + n) (length-replicate stop.loads stop.place)
+        ∙ ap (λ n. n + stop.loads) has.count;
+    goes = goes_next g i place s stop has.places same at finds has.goes;
+  }
+
+  pub counted_nowhere : (g : Follower) (i place loads : ℕ) (s : Sought) (answer : Option Found) → SameButGuesses f g → slice_get sought i ≡ Some s
+      → Finds g s sled place bound None → HasCounted i place loads → answer ≡ None → FindsAll f sought sled from bound answer
+  counted_nowhere g i place loads s answer same at finds has is = λ program threads script judges low.
+      is ∙ ap counted (sym (goes_nowhere g i place s has.places same at finds has.goes program threads script judges low))
+
+  pub counted_last : (i place loads : ℕ) → length sought ≤ i → HasCounted i place loads
+      → FindsAll f sought sled from bound (Some (record { place = place; loads = loads }))
+  counted_last i place loads past has = λ program threads script judges low.
+      ap (λ n. Some (found_with place n)) (sym has.count)
+      ∙ ap counted (sym (goes_last i place has.places past has.goes program threads script judges low))
+    where
+      found_with : (place loads : ℕ) → Found
+      found_with place loads = record { place = place; loads = loads }
+
+  -- ---- the loads are added
+
+  pub record HasAdded (i place : ℕ) (old new : LoadStops) : Type 0 where
+    pub places : List ℕ
+    pub added : places_in new ≡ places_in old ++ places
+    pub goes : GoesOn f sought sled from bound i place places
+
+  pub added_first : (old : LoadStops) → HasAdded 0 from old old
+  added_first old = record {
+    places = [];
+    added = sym (append-nil (places_in old));
+    goes = λ program threads script judges low. none_before _;
+  }
+
+  pub added_next : (g : Follower) (i place : ℕ) (s : Sought) (stop : Stop) (old now new : LoadStops) → SameButGuesses f g → slice_get sought i ≡ Some s
+      → Finds g s sled place bound (Some stop) → places_in new ≡ places_in now ++ replicate stop.loads stop.place → HasAdded i place old now
+      → HasAdded (i + 1) stop.place old new
+  added_next g i place s stop old now new same at finds more has = record {
+    places = has.places ++ replicate stop.loads stop.place;
+    added = more ∙ ap (λ (ps : List ℕ). ps ++ replicate stop.loads stop.place) has.added
+        ∙ append_assoc (places_in old) has.places (replicate stop.loads stop.place);
+    goes = goes_next g i place s stop has.places same at finds has.goes;
+  }
+
+  pub added_nowhere : (g : Follower) (i place : ℕ) (s : Sought) (old now : LoadStops) → SameButGuesses f g → slice_get sought i ≡ Some s
+      → Finds g s sled place bound None → HasAdded i place old now → AddsAll f sought sled from bound old now
+  added_nowhere g i place s old now same at finds has = λ program threads script judges low found e.
+      let never : None ≡ Some found = sym (goes_nowhere g i place s has.places same at finds has.goes program threads script judges low) ∙ e in
+      absurd cc
+
+  pub added_last : (i place : ℕ) (old now : LoadStops) → length sought ≤ i → HasAdded i place old now → AddsAll f sought sled from bound old now
+  added_last i place old now past has = λ program threads script judges low found e.
+      let all : Some (place, has.places) ≡ Some found = sym (goes_last i place has.places past has.goes program threads script judges low) ∙ e in
+      let same : (place, has.places) ≡ found = cc in
+      has.added ∙ ap (λ (p : ℕ × List ℕ). places_in old ++ p.1) same

@@ -21,6 +21,12 @@ same_then f g h one two = record {
   heads = two.heads ∙ one.heads;
 }
 
+pub same_back : (f g : Follower) → SameButGuesses f g → SameButGuesses g f
+same_back f g same = record {
+  same = sym (ap (λ (x : Follower). record x { passed = f.passed }) same.same);
+  heads = sym same.heads;
+}
+
 same_parts : (f g : Follower) → SameButGuesses f g → Same f g
 same_parts f g same = record {
   image = ap (λ (x : Follower). x.image) same.same;

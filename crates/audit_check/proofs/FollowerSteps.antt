@@ -9,11 +9,10 @@ use Rattle.patch_script.specs.Micros.{hold_of, micros, total_of}
 use Rattle.patch_script.proofs.Steps.{start_within}
 use Rattle.machine_step.specs.Loads.{is_held_at}
 use Rattle.audit_check.specs.declared.follower.Follower.{Follower}
-use Rattle.audit_check.specs.declared.stop.Stop.{Stop}
+use Rattle.audit_check.specs.declared.follower.Found.{Found}
 use Rattle.audit_check.specs.Places.{found_by, passing_searches}
-use Rattle.audit_check.specs.Stops.{places_of}
 use Rattle.audit_check.specs.private.Judging.{ArePassed, FindsBound, HasJudged, IsReady, SameButGuesses}
-use Rattle.audit_check.specs.private.Searches.{FindsNext}
+use Rattle.audit_check.specs.private.Searches.{FindsNext, counted, end_of}
 use Rattle.audit_check.specs.private.Switches.{IsCourseOf}
 use Rattle.audit_check.specs.private.Turns.{IsLeast}
 use Rattle.audit_check.specs.private.Ways.{Reaches, passing_tree}
@@ -74,13 +73,15 @@ step_passing f g h waits guesses =
 pub step_ready : (f g h : Follower) (place : Option ℕ) → g ≡ record f { awaits = g.awaits } → SameButGuesses g h → IsReady f → IsReady (stepped h place)
 step_ready f g h place waits guesses ready = same_ready f (stepped h place) (step_same f g h place waits guesses) ready
 
-pub judged_step : (f g h : Follower) (bound sled : ℕ) (mark : Mark) (place : Option ℕ) (stops : List Stop) → g ≡ record f { awaits = g.awaits } → SameButGuesses g h
+pub judged_step : (f g h : Follower) (bound sled : ℕ) (mark : Mark) (found : Option Found) (place : Option ℕ) → place ≡ end_of found → g ≡ record f { awaits = g.awaits } → SameButGuesses g h
     → (ArePassed f f.passing f.awaits → FindsBound f f.passing bound) → (ArePassed f f.passing f.awaits → ArePassed g f.passing g.awaits)
-    → FindsNext g sled mark bound place stops → sled < length f.image.now.sleds → (program : Program) (threads : ℕ) (script : List Command) (sleds : List ℕ) (marks : List Mark)
-    → HasJudged program threads script f sleds marks → HasJudged program threads script (stepped h place) (sleds ++ sled ∷ []) (marks ++ mark ∷ [])
-judged_step f g h bound sled mark place stops waits guesses finds passes next low program threads script sleds marks has =
-    judged_more program threads script f (stepped h place) sleds marks bound sled mark (step_same f g h place waits guesses)
-    (step_passing f g h waits guesses) (finds has.passed) passed low at has
+    → FindsNext g sled mark bound found → sled < length f.image.now.sleds → (program : Program) (threads : ℕ) (script : List Command) (sleds : List ℕ) (marks : List Mark)
+    → HasJudged program threads script f sleds marks
+    → HasJudged program threads script (stepped h place) (sleds ++ sled ∷ []) (marks ++ mark ∷ [])
+judged_step f g h bound sled mark found place place_is waits guesses finds passes next low program threads script sleds marks has =
+    subst (λ (o : Option ℕ). HasJudged program threads script (stepped h o) (sleds ++ sled ∷ []) (marks ++ mark ∷ [])) (sym place_is)
+    (judged_more program threads script f (stepped h (end_of found)) sleds marks bound sled mark (step_same f g h (end_of found) waits guesses)
+    (step_passing f g h waits guesses) (finds has.passed) passed low at has)
   where
     passed : ArePassed h f.passing h.awaits
     passed = subst (λ (x : Follower). ArePassed x f.passing x.awaits) (sym guesses.same) (passes has.passed)
@@ -91,25 +92,23 @@ judged_step f g h bound sled mark place stops waits guesses finds passes next lo
         (bound_within f.thread f.passing (micros program threads script))
 
     Least : Follower → Type 0
-    Least x = MatchOption x.place (place ≡ None) (λ from. IsLeast (Reaches (code_at program threads script) bound mark
-        (passing_tree program threads x.thread (is_held_at x.hold x.passing) sled) from) place)
+    Least x = MatchOption x.place (end_of found ≡ None) (λ from. IsLeast (Reaches (code_at program threads script) bound mark
+        (passing_tree program threads x.thread (is_held_at x.hold x.passing) sled) from) (end_of found))
 
-    -- the place of the last search
-    place_of : (o : Option ℕ) → option_map (λ (found : ℕ × List ℕ). found.0) (option_map (λ at. (at, places_of stops)) o) ≡ o
-    place_of None = refl
-    place_of (Some at) = refl
+    -- where the last search ends
+    end_counted : (o : Option (ℕ × List ℕ)) → found ≡ counted o → option_map (λ (f : ℕ × List ℕ). f.0) o ≡ end_of found
+    end_counted None is = ap end_of (sym is)
+    end_counted (Some f) is = ap end_of (sym is)
 
-    least : (x : Follower) (before : Option ℕ) → MatchOption before (place ≡ None) (λ from. found_by bound from
-        (passing_searches program threads (code_at program threads script) x.thread (is_held_at x.hold x.passing) sled mark)
-        ≡ option_map (λ at. (at, places_of stops)) place)
-        → MatchOption before (place ≡ None) (λ from. IsLeast (Reaches (code_at program threads script) bound mark
-        (passing_tree program threads x.thread (is_held_at x.hold x.passing) sled) from) place)
-    least x None none = none
-    least x (Some from) found =
+    least : (x : Follower) (before : Option ℕ) → MatchOption before (found ≡ None) (λ from. found ≡ counted (found_by bound from
+        (passing_searches program threads (code_at program threads script) x.thread (is_held_at x.hold x.passing) sled mark)))
+        → MatchOption before (end_of found ≡ None) (λ from. IsLeast (Reaches (code_at program threads script) bound mark
+        (passing_tree program threads x.thread (is_held_at x.hold x.passing) sled) from) (end_of found))
+    least x None none = ap end_of none
+    least x (Some from) is =
         subst (λ (o : Option ℕ). IsLeast (Reaches (code_at program threads script) bound mark
-        (passing_tree program threads x.thread (is_held_at x.hold x.passing) sled) from) o) (place_of place)
-        (passing_is_least program threads (code_at program threads script) bound x.thread (is_held_at x.hold x.passing) sled mark from
-        (option_map (λ at. (at, places_of stops)) place) found)
+        (passing_tree program threads x.thread (is_held_at x.hold x.passing) sled) from) o) (end_counted _ is)
+        (passing_is_least program threads (code_at program threads script) bound x.thread (is_held_at x.hold x.passing) sled mark from _ refl)
 
     at : Least f
     at = subst Least waits (least g g.place (next program threads script (same_judges program threads script f g (waited f g waits) has.judges) within))

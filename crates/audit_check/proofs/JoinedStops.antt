@@ -13,7 +13,7 @@ places-append stops later = flat_map-append (λ (stop : Stop). replicate stop.lo
 pub one_place : (stops : List Stop) (stop : Stop) → places_of (stops ++ stop ∷ []) ≡ places_of stops ++ replicate stop.loads stop.place
 one_place stops stop = places-append stops (stop ∷ []) ∙ ap (λ (ps : List ℕ). places_of stops ++ ps) (append-nil (replicate stop.loads stop.place))
 
-replicate_add : (n m place : ℕ) → replicate (n + m) place ≡ replicate n place ++ replicate m place
+pub replicate_add : (n m place : ℕ) → replicate (n + m) place ≡ replicate n place ++ replicate m place
 replicate_add zero m place = ap (λ k. replicate k place) (let e : 0 + m ≡ m = omega arith in e)
 replicate_add (suc n) m place =
     ap (λ k. replicate k place) (let e : suc n + m ≡ suc (n + m) = omega arith in e)

@@ -44,16 +44,14 @@ stopped_first program threads script all passed t f places none has =
     subst (λ (ms : List Mark). (ms ≡ first_marks (length ms) all) × HasStopped program threads script all passed (length ms) f places) (sym none) (refl, has)
 
 module _ (program : Program) (threads : ℕ) (script : List Command) (all : List Mark) (passed : List Passing) where
-  stopped_more : (n : ℕ) (p : Passing) (f g : Follower) (sled : ℕ) (mark : Mark) (before after own : List ℕ) → slice_get passed n ≡ Some p → p.sled ≡ sled
+  stopped_more : (n : ℕ) (p : Passing) (f g : Follower) (sled : ℕ) (mark : Mark) (before after : List ℕ) → slice_get passed n ≡ Some p → p.sled ≡ sled
       → mark ≡ mark_or_skipped all n
       → ((program : Program) (threads : ℕ) (script : List Command) (sleds : List ℕ) (marks : List Mark) → HasJudged program threads script f sleds marks
       → HasJudged program threads script g (sleds ++ sled ∷ []) (marks ++ mark ∷ []))
-      → ((program : Program) (threads : ℕ) (script : List Command) (sleds : List ℕ) (marks : List Mark) (places : List ℕ) → HasJudged program threads script f sleds marks
-      → HasPlaced program threads script f sleds marks places
-      → HasPlaced program threads script g (sleds ++ sled ∷ []) (marks ++ mark ∷ []) (places ++ own))
-      → after ≡ before ++ own → HasStopped program threads script all passed n f before
-      → HasStopped program threads script all passed (n + 1) g after
-  stopped_more n p f g sled mark before after own found of_sled mark_is judges places added has =
+      → ((program : Program) (threads : ℕ) (script : List Command) (sleds : List ℕ) (marks : List Mark) → HasJudged program threads script f sleds marks
+      → HasPlaced program threads script f sleds marks before → HasPlaced program threads script g (sleds ++ sled ∷ []) (marks ++ mark ∷ []) after)
+      → HasStopped program threads script all passed n f before → HasStopped program threads script all passed (n + 1) g after
+  stopped_more n p f g sled mark before after found of_sled mark_is judges places has =
       let sleds : List ℕ = sleds_passed (take n passed) in
       let marks : List Mark = first_marks n all in
       let sleds_are : sleds ++ sled ∷ [] ≡ sleds_passed (take (n + 1) passed) =
@@ -64,30 +62,27 @@ module _ (program : Program) (threads : ℕ) (script : List Command) (all : List
             subst (λ (ss : List ℕ). HasJudged program threads script g ss (first_marks (n + 1) all)) sleds_are
             (subst (λ (ms : List Mark). HasJudged program threads script g (sleds ++ sled ∷ []) ms) marks_are (judges program threads script sleds marks has.judged));
         placed =
-            subst (λ (ps : List ℕ). HasPlaced program threads script g (sleds_passed (take (n + 1) passed)) (first_marks (n + 1) all) ps) (sym added)
-            (subst (λ (ss : List ℕ). HasPlaced program threads script g ss (first_marks (n + 1) all) (before ++ own)) sleds_are
-            (subst (λ (ms : List Mark). HasPlaced program threads script g (sleds ++ sled ∷ []) ms (before ++ own)) marks_are
-            (places program threads script sleds marks before has.judged has.placed)));
+            subst (λ (ss : List ℕ). HasPlaced program threads script g ss (first_marks (n + 1) all) after) sleds_are
+            (subst (λ (ms : List Mark). HasPlaced program threads script g (sleds ++ sled ∷ []) ms after) marks_are
+            (places program threads script sleds marks has.judged has.placed));
       }
 
   -- as many passings were made as a thread has marks
-  pub stopped_next : (t u : Traced) (p : Passing) (f g : Follower) (sled : ℕ) (mark : Mark) (before after own : List ℕ) → slice_get passed (length t.marks) ≡ Some p
+  pub stopped_next : (t u : Traced) (p : Passing) (f g : Follower) (sled : ℕ) (mark : Mark) (before after : List ℕ) → slice_get passed (length t.marks) ≡ Some p
       → p.sled ≡ sled → mark ≡ mark_or_skipped all (length t.marks) → u.marks ≡ t.marks ++ mark ∷ []
       → ((program : Program) (threads : ℕ) (script : List Command) (sleds : List ℕ) (marks : List Mark) → HasJudged program threads script f sleds marks
       → HasJudged program threads script g (sleds ++ sled ∷ []) (marks ++ mark ∷ []))
-      → ((program : Program) (threads : ℕ) (script : List Command) (sleds : List ℕ) (marks : List Mark) (places : List ℕ) → HasJudged program threads script f sleds marks
-      → HasPlaced program threads script f sleds marks places
-      → HasPlaced program threads script g (sleds ++ sled ∷ []) (marks ++ mark ∷ []) (places ++ own))
-      → after ≡ before ++ own
+      → ((program : Program) (threads : ℕ) (script : List Command) (sleds : List ℕ) (marks : List Mark) → HasJudged program threads script f sleds marks
+      → HasPlaced program threads script f sleds marks before → HasPlaced program threads script g (sleds ++ sled ∷ []) (marks ++ mark ∷ []) after)
       → (t.marks ≡ first_marks (length t.marks) all) × HasStopped program threads script all passed (length t.marks) f before
       → (u.marks ≡ first_marks (length u.marks) all) × HasStopped program threads script all passed (length u.marks) g after
-  stopped_next t u p f g sled mark before after own found of_sled mark_is more judges places added (same, has) =
+  stopped_next t u p f g sled mark before after found of_sled mark_is more judges places (same, has) =
       let n : ℕ = length t.marks in
       let count : length u.marks ≡ n + 1 = ap length more ∙ length-append t.marks (mark ∷ []) in
       let next : u.marks ≡ first_marks (n + 1) all =
       more ∙ ap (λ (m : Mark). t.marks ++ m ∷ []) mark_is ∙ ap (λ (ms : List Mark). ms ++ mark_or_skipped all n ∷ []) same ∙ sym (first_more n all) in
       subst (λ m. (u.marks ≡ first_marks m all) × HasStopped program threads script all passed m g after) (sym count)
-      (next, stopped_more n p f g sled mark before after own found of_sled mark_is judges places added has)
+      (next, stopped_more n p f g sled mark before after found of_sled mark_is judges places has)
 
 -- ---- a thread
 

@@ -1,7 +1,9 @@
 -- What searches find.
-use Rattle.std.proofs.Common.{◌≡◌, ℕ, zero, suc, ◌+◌, ◌-◌, ◌<◌, ◌≤◌, Bool, true, false, cond, List, [], ◌∷◌, ◌++◌, Option, Some, None, refl, sym, ap, ◌∙◌, arith}
+use Rattle.std.proofs.Common.{◌≡◌, ℕ, zero, suc, ◌+◌, ◌-◌, ◌<◌, ◌≤◌, Bool, true, false, cond, List, [], ◌∷◌, ◌++◌, Option, Some, None, refl, sym, ap, ◌∙◌, arith, length}
 use Rattle.std.specs.Prelude.{option_and_then, option_map, replicate}
+use Rattle.std.proofs.lemmas.List.{length-replicate}
 use Rattle.audit_check.specs.Places.{Search, first_among, first_place, found_by}
+use Rattle.audit_check.proofs.JoinedStops.{replicate_add}
 
 -- ---- options
 
@@ -83,3 +85,29 @@ pub found_none : (last from : ℕ) (found : ℕ × List ℕ) → found_by last f
 found_none last from found e =
     let same : (from, []) ≡ found = cc in
     (ap (λ (p : ℕ × List ℕ). p.0) (sym same), ap (λ (p : ℕ × List ℕ). p.1) (sym same))
+
+-- they don't end before the place from which they start
+found_after : (last from : ℕ) (searches : List Search) (found : ℕ × List ℕ) → found_by last from searches ≡ Some found → from ≤ found.0
+found_after last from [] found e = let is = (found_none last from found e).0 in omega (arith, is)
+found_after last from (search ∷ later) found e =
+    let on = found_on last from search later found e in
+    let low = found_after last on.at later on.rest on.rest_found in
+    omega (arith, on.there.low, low, on.end_is)
+
+-- if they end there, all loads are made there
+pub found_here : (last from : ℕ) (searches : List Search) (found : ℕ × List ℕ) → found_by last from searches ≡ Some found → found.0 ≡ from
+    → found.1 ≡ replicate (length found.1) from
+found_here last from [] found e same =
+    let none = (found_none last from found e).1 in
+    none ∙ sym (ap (λ (ps : List ℕ). replicate (length ps) from) none)
+found_here last from (search ∷ later) found e same =
+    let on = found_on last from search later found e in
+    let n = search.loads on.at in
+    let low = found_after last on.at later on.rest on.rest_found in
+    let here : on.at ≡ from = omega (arith, on.there.low, low, on.end_is, same) in
+    let rest : on.rest.1 ≡ replicate (length on.rest.1) on.at =
+    found_here last on.at later on.rest on.rest_found (sym on.end_is ∙ same ∙ sym here) in
+    let all : found.1 ≡ replicate (n + length on.rest.1) on.at =
+    on.places_are ∙ ap (λ (ps : List ℕ). replicate n on.at ++ ps) rest ∙ sym (replicate_add n (length on.rest.1) on.at) in
+    let count : length found.1 ≡ n + length on.rest.1 = ap length all ∙ length-replicate (n + length on.rest.1) on.at in
+    all ∙ ap (λ k. replicate k on.at) (sym count) ∙ ap (replicate (length found.1)) here

@@ -1,6 +1,6 @@
 //! The marks of a thread, judged one after the other.
 
-ghost use Rattle.std.specs.Prelude.{◌≡◌, ◌<◌, ◌≤◌, ◌+◌, ◌^◌, ◌∷◌, ◌++◌, [], ℕ, Some, false, true, List, length, IfOk, is_some, option_map, replicate};
+ghost use Rattle.std.specs.Prelude.{◌≡◌, ◌<◌, ◌≤◌, ◌+◌, ◌^◌, ◌∷◌, ◌++◌, [], ℕ, Some, false, true, List, length, IfOk, IfSome, OnOk, is_some, option_map};
 ghost use Rattle.handler_word.specs.declared.mark.Mark.{Mark};
 ghost use Rattle.patch_script.specs.declared.command.Command.{Command};
 ghost use Rattle.patch_script.specs.Refusals.{commands_of};
@@ -9,13 +9,13 @@ ghost use Rattle.sled_words.specs.Words.{arg_handler_word, handler_word, release
 ghost use Rattle.machine_step.specs.Loads.{is_held_at};
 ghost use Rattle.xray_image.specs.Program.{Program};
 ghost use Rattle.audit_check.specs.private.Judging.{ArePassed, FindsBound, FindsPlace, HasJudged, IsReady, SameButGuesses, StopsAt, bounds_passing, lesser};
-ghost use Rattle.audit_check.specs.private.Searches.{Finds, FindsAll, FindsNext, HasPlaced, no_stop, stop_of};
+ghost use Rattle.audit_check.specs.private.LoadStops.{places_in};
+ghost use Rattle.audit_check.specs.private.Searches.{AddsAll, AddsNext, Finds, FindsAll, FindsNext, HasPlaced, end_of, stop_of};
 ghost use Rattle.audit_check.specs.private.Switches.{IsCourseOf, is_patched, is_recording, is_set};
-ghost use Rattle.audit_check.specs.Stops.{places_of};
 ghost use Rattle.audit_check.specs.declared.searches.Sought.TheVariants.{EitherHandler as Either};
 
 use crate::searches::{Sought, sought_for};
-use crate::stop::{NO_STOP, Stop};
+use crate::stop::{LoadStops, Stop};
 use crate::switches::{Awaited, Course};
 use handler_word::Mark;
 use patch_script::Script;
@@ -24,8 +24,14 @@ use std::alloc::Global;
 use xray_image::Image;
 use xray_io::NoMemory;
 
-/// The most stops of a passing: at its head, at two handlers, and at the log's state.
-pub(crate) const MOST_STOPS: usize = 4;
+/// What a passing finds by its searches.
+#[derive(Clone, Copy, Debug)]
+pub(crate) struct Found {
+    /// The place of the last one.
+    pub(crate) place: u32,
+    /// How many loads all of them make.
+    pub(crate) loads: u32,
+}
 
 /// For each word on which marks depend, how many of its turns were passed.
 #[derive(Drop)]
@@ -70,9 +76,19 @@ fn lesser(first: Option<u32>, second: Option<u32>) -> Option<u32>
     }
 }
 
+/// Where a passing ends, if it finds what it looks for.
+#[inline]
+fn end_of(found: Option<Found>) -> Option<u32>
+    ensures { result ≡ end_of found }
+{
+    let found = found?;
+    Some(found.place)
+}
+
 /// Loads at a place, if there is one.
 fn stop_at(place: Option<u32>, loads: u32) -> Option<Stop>
-    ensures { result ≡ option_map (stop_of loads) place }
+    ensures found { result ≡ option_map (stop_of loads) place }
+    ensures loads { IfSome result (λ stop. stop.loads ≡ loads) }
 {
     let place = place?;
     Some(Stop { place, loads })
@@ -130,10 +146,9 @@ impl<'a> Follower<'a> {
         self.place.is_some()
     }
 
-    /// Judges the mark of the next passing, which is of this sled. Returns where its loads may be made, if
-    /// the marks so far may be those of loads that follow the script.
+    /// Judges the mark of the next passing, which is of this sled.
     #[inline]
-    pub(crate) fn judge(&mut self, sled: u32, mark: Mark) -> [Stop; MOST_STOPS]
+    pub(crate) fn judge(&mut self, sled: u32, mark: Mark)
         requires ready { IsReady self.old }
         requires sled { sled < length self.old.image.now.sleds }
         requires room { self.old.passing + 1 < 2 ^ 32 }
@@ -144,17 +159,124 @@ impl<'a> Follower<'a> {
         ensures judged { (program : Program) (threads : ℕ) (script : List Command) (sleds : List ℕ)
             (marks : List Mark) → HasJudged program threads script self.old sleds marks
             → HasJudged program threads script self.new (sleds ++ sled ∷ []) (marks ++ mark ∷ []) }
-        ensures placed { (program : Program) (threads : ℕ) (script : List Command) (sleds : List ℕ)
-            (marks : List Mark) (places : List ℕ) → HasJudged program threads script self.old sleds marks
-            → HasPlaced program threads script self.old sleds marks places
-            → HasPlaced program threads script self.new (sleds ++ sled ∷ []) (marks ++ mark ∷ [])
-            (places ++ places_of result) }
     {
         let bound = self.bound();
-        let mut stops = [NO_STOP; MOST_STOPS];
-        self.place = self.next_place(sled, mark, bound, &mut stops);
+        self.place = end_of(self.next_found(sled, mark, bound));
         self.passing += 1;
-        stops
+    }
+
+    /// Judges the mark of the next passing, and adds its loads, if the marks so far may be those of loads
+    /// that follow the script.
+    #[inline]
+    pub(crate) fn judge_and_add(
+        &mut self,
+        sled: u32,
+        mark: Mark,
+        loads: &mut LoadStops,
+    ) -> Result<(), NoMemory>
+        requires ready { IsReady self.old }
+        requires sled { sled < length self.old.image.now.sleds }
+        requires room { self.old.passing + 1 < 2 ^ 32 }
+        ensures ready { OnOk result (IsReady self.new) }
+        ensures passing { OnOk result (self.new.passing ≡ self.old.passing + 1) }
+        ensures image { OnOk result (self.new.image ≡ self.old.image) }
+        ensures thread { OnOk result (self.new.thread ≡ self.old.thread) }
+        ensures judged { OnOk result ((program : Program) (threads : ℕ) (script : List Command) (sleds : List ℕ)
+            (marks : List Mark) → HasJudged program threads script self.old sleds marks
+            → HasJudged program threads script self.new (sleds ++ sled ∷ []) (marks ++ mark ∷ [])) }
+        ensures placed { OnOk result ((program : Program) (threads : ℕ) (script : List Command) (sleds : List ℕ)
+            (marks : List Mark) → HasJudged program threads script self.old sleds marks
+            → HasPlaced program threads script self.old sleds marks (places_in loads.old)
+            → HasPlaced program threads script self.new (sleds ++ sled ∷ []) (marks ++ mark ∷ [])
+            (places_in loads.new)) }
+    {
+        let bound = self.bound();
+        let found = self.next_found(sled, mark, bound);
+        self.add_loads(sled, mark, bound, found, loads)?;
+        self.place = end_of(found);
+        self.passing += 1;
+        Ok(())
+    }
+
+    /// Adds the loads of the next passing, of which `found` is known. Most passings make all of them where
+    /// the passing before has ended. Else the searches are made again.
+    #[inline]
+    fn add_loads(
+        &mut self,
+        sled: u32,
+        mark: Mark,
+        bound: u32,
+        found: Option<Found>,
+        loads: &mut LoadStops,
+    ) -> Result<(), NoMemory>
+        requires ready { IsReady self.old }
+        requires sled { sled < length self.old.image.now.sleds }
+        ensures same { OnOk result (SameButGuesses self.old self.new) }
+        ensures added { OnOk result (FindsNext self.old sled mark bound found
+            → AddsNext self.old sled mark bound loads.old loads.new) }
+    {
+        if let Some(here) = found {
+            if self.place == Some(here.place) {
+                loads.add(Stop {
+                    place: here.place,
+                    loads: here.loads,
+                })?;
+                return Ok(());
+            }
+        }
+        self.add_next(sled, mark, bound, loads)?;
+        Ok(())
+    }
+
+    /// Adds the loads of the next passing, search by search.
+    #[inline(never)]
+    fn add_next(
+        &mut self,
+        sled: u32,
+        mark: Mark,
+        bound: u32,
+        loads: &mut LoadStops,
+    ) -> Result<(), NoMemory>
+        requires ready { IsReady self.old }
+        requires sled { sled < length self.old.image.now.sleds }
+        ensures same { OnOk result (SameButGuesses self.old self.new) }
+        ensures added { OnOk result (AddsNext self.old sled mark bound loads.old loads.new) }
+    {
+        let Some(place) = self.place else {
+            return Ok(());
+        };
+        let Some(from) = self.released(place, bound) else {
+            return Ok(());
+        };
+        let sought = sought_for(self.image.sled(sled).kind, mark);
+        self.add_all(sought, sled, from, bound, loads)?;
+        Ok(())
+    }
+
+    /// Adds the loads of what is sought, one after the other, from a place on and within a bound.
+    #[inline]
+    fn add_all(
+        &mut self,
+        sought: &[Sought],
+        sled: u32,
+        from: u32,
+        bound: u32,
+        loads: &mut LoadStops,
+    ) -> Result<(), NoMemory>
+        requires ready { IsReady self.old }
+        requires sled { sled < length self.old.image.now.sleds }
+        ensures same { OnOk result (SameButGuesses self.old self.new) }
+        ensures added { OnOk result (AddsAll self.old sought.now sled from bound loads.old loads.new) }
+    {
+        let mut place = from;
+        for i in 0..sought.len() {
+            let Some(stop) = self.find(sought[i], sled, place, bound) else {
+                return Ok(());
+            };
+            loads.add(stop)?;
+            place = stop.place;
+        }
+        Ok(())
     }
 
     /// The last place for the loads of the next passing.
@@ -189,26 +311,19 @@ impl<'a> Follower<'a> {
         }
     }
 
-    /// The least place at which the next passing may end with its mark, after those before it. Its loads
-    /// are left in `stops`.
-    #[inline]
-    fn next_place(
-        &mut self,
-        sled: u32,
-        mark: Mark,
-        bound: u32,
-        stops: &mut [Stop; MOST_STOPS],
-    ) -> Option<u32>
+    /// What the next passing finds, after those before it: it ends at the least place at which it may end
+    /// with its mark.
+    #[inline(always)]
+    fn next_found(&mut self, sled: u32, mark: Mark, bound: u32) -> Option<Found>
         requires ready { IsReady self.old }
         requires sled { sled < length self.old.image.now.sleds }
-        requires none { stops.old ≡ replicate 4 no_stop }
         ensures same { SameButGuesses self.old self.new }
-        ensures found { FindsNext self.old sled mark bound result stops.new }
+        ensures found { FindsNext self.old sled mark bound result }
     {
         let place = self.place?;
         let from = self.released(place, bound)?;
         let sought = sought_for(self.image.sled(sled).kind, mark);
-        self.find_all(sought, sled, from, bound, stops)
+        self.find_all(sought, sled, from, bound)
     }
 
     /// The first place at which the script doesn't hold the thread any more before its next passing.
@@ -228,40 +343,35 @@ impl<'a> Follower<'a> {
         }
     }
 
-    /// Finds what is sought, one after the other, from a place on and within a bound. Returns the last
-    /// place, and leaves the loads in `stops`.
-    #[inline]
-    fn find_all(
-        &mut self,
-        sought: &[Sought],
-        sled: u32,
-        from: u32,
-        bound: u32,
-        stops: &mut [Stop; MOST_STOPS],
-    ) -> Option<u32>
+    /// Finds what is sought, one after the other, from a place on and within a bound.
+    #[inline(always)]
+    fn find_all(&mut self, sought: &[Sought], sled: u32, from: u32, bound: u32) -> Option<Found>
         requires ready { IsReady self.old }
         requires sled { sled < length self.old.image.now.sleds }
         requires few { length sought.now ≤ 4 }
-        requires none { stops.old ≡ replicate 4 no_stop }
         ensures same { SameButGuesses self.old self.new }
-        ensures found { FindsAll self.old sought.now sled from bound result stops.new }
+        ensures found { FindsAll self.old sought.now sled from bound result }
     {
-        let mut place = from;
+        let mut found = Found {
+            place: from,
+            loads: 0,
+        };
         for i in 0..sought.len() {
-            let stop = self.find(sought[i], sled, place, bound)?;
-            stops[i] = stop;
-            place = stop.place;
+            let stop = self.find(sought[i], sled, found.place, bound)?;
+            found.place = stop.place;
+            found.loads += stop.loads;
         }
-        Some(place)
+        Some(found)
     }
 
     /// Finds what is sought at the first place from a place on and within a bound.
-    #[inline]
+    #[inline(always)]
     fn find(&mut self, sought: Sought, sled: u32, from: u32, bound: u32) -> Option<Stop>
         requires ready { IsReady self.old }
         requires sled { sled < length self.old.image.now.sleds }
         ensures same { SameButGuesses self.old self.new }
         ensures found { Finds self.old sought sled from bound result }
+        ensures few { IfSome result (λ stop. stop.loads ≤ 4) }
     {
         match sought {
             // The other words of a patched sled may have any values, and are loaded at the same place.
@@ -280,6 +390,7 @@ impl<'a> Follower<'a> {
     fn either_handler(&mut self, from: u32, bound: u32) -> Option<Stop>
         ensures same { SameButGuesses self.old self.new }
         ensures found { (sled : ℕ) → Finds self.old Either sled from bound result }
+        ensures few { IfSome result (λ stop. stop.loads ≤ 4) }
     {
         let by_argument = self.arg_handler(true, from, bound);
         let place = lesser(by_argument, self.handler(true, from, bound))?;

@@ -196,8 +196,7 @@ fn walk_places(
         match cpu.want() {
             Want::Gate(passing) => {
                 let mark = mark_at(marks, passing);
-                let found = follower.judge(cpu.sled(), mark);
-                loads.add_all(&found)?;
+                follower.judge_and_add(cpu.sled(), mark, loads)?;
                 let _event = cpu.pass(mark);
             }
             Want::Done(end) => {

@@ -17,7 +17,7 @@ pub struct Stop {
 }
 
 /// No loads.
-pub(crate) const NO_STOP: Stop = Stop { place: 0, loads: 0 };
+const NO_STOP: Stop = Stop { place: 0, loads: 0 };
 
 /// Loads of a thread, to which others are added. Most are added at the place of the last ones, so these are
 /// apart.
@@ -38,27 +38,13 @@ impl LoadStops {
         }
     }
 
-    /// Adds the loads of a passing.
-    #[inline]
-    pub(crate) fn add_all(&mut self, found: &[Stop]) -> Result<(), NoMemory>
-        ensures { OnOk result (places_in self.new ≡ places_in self.old ++ places_of found.now) }
-    {
-        for stop in found {
-            self.add(*stop)?;
-        }
-        Ok(())
-    }
-
     /// Adds loads at a place.
     #[inline]
-    fn add(&mut self, stop: Stop) -> Result<(), NoMemory>
+    pub(crate) fn add(&mut self, stop: Stop) -> Result<(), NoMemory>
         ensures { OnOk result (places_in self.new ≡ places_in self.old ++ replicate stop.loads stop.place) }
     {
         if joins(self.last, stop) {
             self.last.loads += stop.loads;
-            return Ok(());
-        }
-        if stop.loads == 0 {
             return Ok(());
         }
         self.begin(stop)

@@ -1,5 +1,5 @@
 -- What a follower finds by searches.
-use Rattle.std.specs.Prelude.{◌≡◌, ◌≤◌, ◌++◌, ◌∷◌, ℕ, Bool, true, false, List, [], Option, None, MatchOption, length, map, not, option_and_then, option_map}
+use Rattle.std.specs.Prelude.{◌≡◌, ◌≤◌, ◌++◌, ◌∷◌, ℕ, Bool, true, false, List, [], Option, Some, None, MatchOption, length, map, not, option_and_then, option_map}
 use Rattle.xray_image.specs.Program.{Program}
 use Rattle.handler_word.specs.declared.mark.Mark.{Mark}
 use Rattle.handler_word.specs.declared.mark.Mark.TheVariants.{Skipped}
@@ -9,12 +9,14 @@ use Rattle.patch_script.specs.CodeAt.{code_at}
 use Rattle.patch_script.specs.Micros.{hold_of, start_of, total_of}
 use Rattle.machine_step.specs.Loads.{is_held_at}
 use Rattle.audit_check.specs.declared.follower.Follower.{Follower}
+use Rattle.audit_check.specs.declared.follower.Found.{Found}
 use Rattle.audit_check.specs.declared.searches.Sought.{Sought}
 use Rattle.audit_check.specs.declared.searches.Sought.TheVariants.{ArgHandler, EitherHandler, Handler, Log, Nothing, Patched, Unpatched}
+use Rattle.audit_check.specs.declared.stop.LoadStops.{LoadStops}
 use Rattle.audit_check.specs.declared.stop.Stop.{Stop}
 use Rattle.audit_check.specs.Places.{Search, either_handler, first_place, found_by, handler_searches, has_arg_handler, has_handler, is_patched, log_records, one_load, passing_searches, patched_search, places_from}
-use Rattle.audit_check.specs.Stops.{places_of}
 use Rattle.audit_check.specs.private.Judging.{Judges}
+use Rattle.audit_check.specs.private.LoadStops.{places_in}
 
 -- ---- searches
 
@@ -36,16 +38,19 @@ abbrev pub searches_by : Program → (threads : ℕ) → (ℕ → ℕ → ℕ) �
 searches_by program threads code logs sled Skipped = one_load (λ place. not (is_patched program threads code sled place)) ∷ []
 searches_by program threads code logs sled mark = patched_search program threads code sled ∷ handler_searches program threads code logs mark
 
--- ---- stops
+-- ---- what was found
 
 -- this many loads at a place
 abbrev pub stop_of : (loads : ℕ) → (place : ℕ) → Stop
 stop_of loads place = record { place = place; loads = loads }
 
-abbrev pub no_stop : Stop
-no_stop = stop_of 0 0
+-- the place of the last search, and how many loads all of them make
+abbrev pub counted : Option (ℕ × List ℕ) → Option Found
+counted found = option_map (λ found. record { place = found.0; loads = length found.1 }) found
 
--- ---- what was found
+-- where what was found ends
+abbrev pub end_of : Option Found → Option ℕ
+end_of found = option_map (λ found. found.place) found
 
 -- the answer is the first place at which a search finds something, with the loads there
 abbrev pub Finds : Follower → Sought → (sled from bound : ℕ) → Option Stop → Type 0
@@ -54,20 +59,34 @@ Finds f sought sled from bound answer =
     → answer ≡ option_map (λ place. stop_of ((search_of program threads (code_at program threads script) sled sought).loads place) place)
     (first_place (search_of program threads (code_at program threads script) sled sought).test from bound)
 
--- the answer is the place of the last search, and the stops have the places of all loads
-abbrev pub FindsAll : Follower → List Sought → (sled from bound : ℕ) → Option ℕ → List Stop → Type 0
-FindsAll f sought sled from bound answer stops =
+-- the answer is what the searches find, one after the other
+abbrev pub FindsAll : Follower → List Sought → (sled from bound : ℕ) → Option Found → Type 0
+FindsAll f sought sled from bound answer =
     (program : Program) (threads : ℕ) (script : List Command) → Judges program threads script f → bound ≤ total_of program threads script
-    → found_by bound from (map (search_of program threads (code_at program threads script) sled) sought)
-    ≡ option_map (λ place. (place, places_of stops)) answer
+    → answer ≡ counted (found_by bound from (map (search_of program threads (code_at program threads script) sled) sought))
 
--- so they have for the next passing, if those before it have places
-abbrev pub FindsNext : Follower → (sled : ℕ) → Mark → (bound : ℕ) → Option ℕ → List Stop → Type 0
-FindsNext f sled mark bound answer stops =
+-- the loads that they find are added
+abbrev pub AddsAll : Follower → List Sought → (sled from bound : ℕ) → (old new : LoadStops) → Type 0
+AddsAll f sought sled from bound old new =
+    (program : Program) (threads : ℕ) (script : List Command) → Judges program threads script f → bound ≤ total_of program threads script
+    → (found : ℕ × List ℕ) → found_by bound from (map (search_of program threads (code_at program threads script) sled) sought) ≡ Some found
+    → places_in new ≡ places_in old ++ found.1
+
+-- so they find it for the next passing, if those before it have places
+abbrev pub FindsNext : Follower → (sled : ℕ) → Mark → (bound : ℕ) → Option Found → Type 0
+FindsNext f sled mark bound answer =
     (program : Program) (threads : ℕ) (script : List Command) → Judges program threads script f → bound ≤ total_of program threads script
     → MatchOption f.place (answer ≡ None)
-    (λ from. found_by bound from (passing_searches program threads (code_at program threads script) f.thread (is_held_at f.hold f.passing) sled mark)
-    ≡ option_map (λ place. (place, places_of stops)) answer)
+    (λ from. answer
+    ≡ counted (found_by bound from (passing_searches program threads (code_at program threads script) f.thread (is_held_at f.hold f.passing) sled mark)))
+
+-- and its loads are added
+abbrev pub AddsNext : Follower → (sled : ℕ) → Mark → (bound : ℕ) → (old new : LoadStops) → Type 0
+AddsNext f sled mark bound old new =
+    (program : Program) (threads : ℕ) (script : List Command) → Judges program threads script f → bound ≤ total_of program threads script
+    → (from : ℕ) (found : ℕ × List ℕ) → f.place ≡ Some from
+    → found_by bound from (passing_searches program threads (code_at program threads script) f.thread (is_held_at f.hold f.passing) sled mark) ≡ Some found
+    → places_in new ≡ places_in old ++ found.1
 
 -- the loads of the passings at these sleds, with these marks, have these places, and the others go on from there; if the
 -- follower has no place, there are no places

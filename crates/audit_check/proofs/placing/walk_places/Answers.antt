@@ -1,6 +1,5 @@
 use Rattle.std.proofs.Common.{◌≡◌, ◌+◌, ◌<◌, Bor, length, ap, refl, subst, sym, ◌∙◌}
 use Rattle.xray_image.specs.Program.{Program}
-use Rattle.audit_check.specs.Stops.{places_of}
 use Rattle.audit_check.specs.private.LoadStops.{places_in}
 use Rattle.audit_check.specs.private.Placed.{HasStopped}
 use Rattle.audit_check.specs.private.Walks.{mark_or_skipped}
@@ -27,8 +26,8 @@ sled-requires c = at_gate c.gates.cpu.want c.want.result c.in-Gate.passing c.wan
 pub pass-event-requires : goal.pass-event-requires
 pass-event-requires c = at_gate c.gates.cpu.want c.want.result c.in-Gate.passing c.want.ensures.want c.in-Gate.is
 
-pub judge-found-requires-clause-sled : goal.judge-found-requires-clause-sled
-judge-found-requires-clause-sled c = subst (λ (p : Program). c.sled.result < length p.sleds) (sym c.gates.invariant.image) c.sled.ensures.within
+pub judge_and_add-requires-clause-sled : goal.judge_and_add-requires-clause-sled
+judge_and_add-requires-clause-sled c = subst (λ (p : Program). c.sled.result < length p.sleds) (sym c.gates.invariant.image) c.sled.ensures.within
 
 pub gates-preserved : goal.gates-preserved
 gates-preserved c =
@@ -38,22 +37,23 @@ gates-preserved c =
     let kept = c.gates.invariant in
     let made = c.pass-event.ensures in
     let mark = c.mark_at-mark.result in
+    let judged = c.in_ok-judge_and_add-in-Gate.ensures in
     record {
       same = same_thread s t u kept.same made.thread;
       between = made.between;
-      ready = c.judge-found.ensures.ready;
-      image = ap (λ (i : Bor Program). i.now) c.judge-found.ensures.image ∙ (kept.image ∙ sym made.thread.program);
-      passing = c.judge-found.ensures.passing ∙ (ap (λ n. n + 1) kept.passing ∙ sym (one_more t u mark made.mark));
+      ready = judged.ready;
+      image = ap (λ (i : Bor Program). i.now) judged.image ∙ (kept.image ∙ sym made.thread.program);
+      passing = judged.passing ∙ (ap (λ n. n + 1) kept.passing ∙ sym (one_more t u mark made.mark));
       few = still_few s t u mark kept.same c.requires.limit c.sled.ensures.left made.mark;
-      thread = c.judge-found.ensures.thread ∙ kept.thread;
+      thread = judged.thread ∙ kept.thread;
       walked = λ threads script passed end last plain none has.
           let run = plain_again s t passed end last kept.same plain in
           let found = c.sled.ensures.passing passed end last run in
           let mark_is : mark ≡ mark_or_skipped c.args.marks.now.items (length t.marks) =
           c.mark_at-mark.ensures ∙ ap (mark_or_skipped c.args.marks.now.items) (c.want.ensures.gate c.in-Gate.passing c.in-Gate.is) in
-          stopped_next s.program threads script c.args.marks.now.items passed t u found.0 c.gates.follower c.judge-found.new.self c.sled.result mark
-          (places_in c.gates.loads) (places_in c.add_all.new.self) (places_of c.judge-found.result) found.1 found.2 mark_is made.mark c.judge-found.ensures.judged
-          c.judge-found.ensures.placed c.in_ok-add_all-in-Gate.ensures (kept.walked threads script passed end last plain none has);
+          stopped_next s.program threads script c.args.marks.now.items passed t u found.0 c.gates.follower c.judge_and_add.new.self c.sled.result mark
+          (places_in c.gates.loads) (places_in c.judge_and_add.new.loads) found.1 found.2 mark_is made.mark judged.judged judged.placed
+          (kept.walked threads script passed end last plain none has);
     }
 
 pub returns-in-Done-clause-end : goal.returns-in-Done-clause-end
