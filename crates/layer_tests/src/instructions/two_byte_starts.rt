@@ -2,7 +2,7 @@
 //! a list of all encodings.
 
 /// What two bytes begin.
-#[derive(Clone, Copy, Debug, PartialEq, Eq)]
+#[derive(Clone, Copy)]
 pub enum Start {
     /// No encoding begins with the first byte.
     First,
