@@ -39,7 +39,7 @@ few_threads command fits = tt
 module _ (old : PlacedCommands) (line : ℕ) (command : Command) (range : SledRange) (going : Bool)
     (are : ArePlaced old) (follows : MayBePlaced old command) (has : HasSleds old.image.value command range) (going_is : going ≡ has_go (commands_of (lines_in old)))
     (items : Vec Placed Global) (first : FirstPatches) (total start : ℕ) (waits : Option ℕ)
-    (items_are : items.items ≡ old.commands.items ++ record { line = line; command = command; sleds = range; before = old.total } ∷ [])
+    (items_are : items.items ≡ old.commands.items ++ record { line = line; command = command; sleds = range; before = old.total; after = total } ∷ [])
     (first_is : AddsFirst old.first_patches command (length old.commands.items) first)
     (total_is : total ≡ old.total + step_count command (range.end - range.start))
     (start_is : start ≡ cond going old.start total)
@@ -48,7 +48,7 @@ module _ (old : PlacedCommands) (line : ℕ) (command : Command) (range : SledRa
   new = record old { commands = items; total = total; start = start; waits = waits; first_patches = first }
 
   abbrev last : Placed
-  last = record { line = line; command = command; sleds = range; before = old.total }
+  last = record { line = line; command = command; sleds = range; before = old.total; after = total }
 
   abbrev before : List Command
   before = commands_of (lines_in old)
@@ -71,7 +71,7 @@ module _ (old : PlacedCommands) (line : ℕ) (command : Command) (range : SledRa
   count = as_many old are
 
   last_placed : IsPlaced old.image.value old.threads before last
-  last_placed = record { before = are.total; sleds = has; thread = few_threads command follows.thread }
+  last_placed = record { before = are.total; after = total_is; sleds = has; thread = few_threads command follows.thread }
 
   each : (i : ℕ) (one : Placed) → slice_get items.items i ≡ Some one → IsPlaced old.image.value old.threads (take i (commands_of (lines_in new))) one
   each i one at =

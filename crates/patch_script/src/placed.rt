@@ -21,9 +21,19 @@ use xray_image::Image;
 /// How many stores patch a sled: one for each part.
 const PATCH_STORES: u64 = PARTS as u64;
 
-/// The parts of a sled, in the order in which patching stores them, the head last
-/// (`patchFunctionEntry` of `xray_x86_64.cpp`).
-const PATCH_ORDER: [Part; PARTS as usize] = [Part::Id, Part::Opcode, Part::Offset, Part::Head];
+/// The part of a sled that patching stores at this step, the head last (`patchFunctionEntry` of
+/// `xray_x86_64.cpp`).
+fn part_stored(step: usize) -> Part
+    requires { step < 4 }
+    ensures { slice_get (Part.Id ∷ Part.Opcode ∷ Part.Offset ∷ Part.Head ∷ []) step ≡ Some result }
+{
+    match step {
+        0 => Part::Id,
+        1 => Part::Opcode,
+        2 => Part::Offset,
+        _ => Part::Head,
+    }
+}
 
 /// The states that `init` stores, in the order of its micro steps.
 const INIT_STATES: [LogState; 2] = [LogState::Initializing, LogState::Initialized];
@@ -41,6 +51,8 @@ pub(crate) struct Placed {
     sleds: SledRange,
     /// How many micro steps come before it.
     before: u64,
+    /// How many micro steps come before it or are its own.
+    after: u64,
 }
 
 /// Commands in their places, and what their micro steps are made of.
@@ -164,14 +176,16 @@ impl PlacedCommands {
     {
         let sleds = self.sleds_of(command);
         let number = self.commands.len() as u32;
+        let after = self.total + command.step_count(sleds.len());
         self.commands.push(Placed {
             line,
             command,
             sleds,
             before: self.total,
+            after,
         })?;
         self.first_patches.add(command, number);
-        self.total += command.step_count(sleds.len());
+        self.total = after;
         self.start = self.start_after(going);
         self.waits = self.waits.or(command.waiting_line(line));
         Ok(())
@@ -195,8 +209,9 @@ impl PlacedCommands {
             return Micro::End;
         }
         let number = self.number_near(place, *near);
+        let micro = self.micro_of(number, place);
         *near = number as u32;
-        self.micro_of(number, place)
+        micro
     }
 
     /// The number of the command that the micro step at a place belongs to. Looks at the command with
@@ -223,8 +238,7 @@ impl PlacedCommands {
         ensures { IsTrue result ↔ IsAt self.now place number }
     {
         match self.commands.get(number) {
-            Some(placed) => placed.before <= place
-                && place - placed.before < placed.command.step_count(placed.sleds.len()),
+            Some(placed) => placed.before <= place && place < placed.after,
             None => false,
         }
     }
@@ -309,7 +323,7 @@ impl PlacedCommands {
         ensures { (described : Sled) → slice_get self.now.image.value.sleds sled ≡ Some described
             → slice_get (patch_sled self.now.image.value (sled, described)) part ≡ Some result }
     {
-        let part = PATCH_ORDER[part];
+        let part = part_stored(part);
         Micro::Store {
             word: word_of(sled, part),
             value: self.sleds[sled as usize].patched(part),

@@ -60,6 +60,7 @@ NamesFewThreads (commands.Await thread count) = Unit {0}
 -- a command is in its place
 pub record IsPlaced (program : Program) (threads : ℕ) (earlier : List Command) (placed : Placed) : Type 0 where
   pub before : placed.before ≡ total_of program threads earlier
+  pub after : placed.after ≡ placed.before + step_count placed.command (placed.sleds.end - placed.sleds.start)
   pub sleds : HasSleds program placed.command placed.sleds
   pub thread : NamesFewThreads placed.command
 
