@@ -5,4 +5,5 @@ pub mod Fits
 pub mod LaidTexts
 pub mod Laying
 pub mod NameTables
+pub mod RegisterNames
 pub mod Views

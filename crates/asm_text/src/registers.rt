@@ -1,9 +1,9 @@
 //! The registers, as a text names them.
 
-ghost use Rattle.std.specs.Prelude.{◌≡◌, ◌<◌, ◌≤◌, true, false, map, length, position, IfSome, MatchOption};
-ghost use Rattle.std.specs.Str.{bytes_eq};
+ghost use Rattle.std.specs.Prelude.{◌≡◌, ◌<◌, true, false, map, slice_index_or, IfSome, MatchOption};
 ghost use Rattle.subset_decode.specs.Registers.{IsRegister};
 ghost use Rattle.asm_text.specs.Registers.{number_in, register32, register64, reserved};
+ghost use Rattle.asm_text.specs.private.RegisterNames.{number_by, are_told};
 
 use std::marker::Model;
 use subset_decode::Reg;
@@ -121,23 +121,49 @@ const NAMES64: [&[u8]; 16] = [
     b"r12", b"r13", b"r14", b"r15",
 ];
 
-/// The place of a name in a list.
-fn place_in(names: &[&[u8]], word: &[u8]) -> Option<usize>
-    ensures { result ≡ position (λ name. bytes_eq name.now word.now) names.now }
+/// The byte at a place of a word, or 0 past its end.
+fn byte_at(word: &[u8], place: usize) -> u8
+    ensures { result ≡ slice_index_or word.now place 0 }
 {
-    names.iter().position(|name| *name == word)
+    if place < word.len() { word[place] } else { 0 }
 }
 
-/// The same for a list of at most 16 names.
-#[tactic(auto, using(crate::proofs::NameLemmas::number_in_map, crate::proofs::NameLemmas::position_within))]
-fn number_in(names: &[&[u8]], word: &[u8]) -> Option<u8>
-    requires { length names.now ≤ 16 }
+/// The number of the registers whose names have these bytes after the first, if any have.
+fn number_by(second: u8, third: u8) -> u8
+    ensures value { result ≡ number_by second third }
+    ensures within { result < 16 }
+{
+    match second {
+        b'a' => 0,
+        b'c' => 1,
+        b'd' => if third == b'x' { 2 } else { 7 },
+        b'b' => if third == b'x' { 3 } else { 5 },
+        b's' => if third == b'p' { 4 } else { 6 },
+        b'8' => 8,
+        b'9' => 9,
+        _ => match third {
+            b'0' => 10,
+            b'1' => 11,
+            b'2' => 12,
+            b'3' => 13,
+            b'4' => 14,
+            _ => 15,
+        },
+    }
+}
+
+/// The number of the register that has this name in a list of all registers' names. The bytes of
+/// the word say which register it can be.
+fn number_in(names: &[&[u8]; 16], word: &[u8]) -> Option<u8>
+    requires { are_told (map (λ name. name.now) names.now) ≡ true }
     ensures place { result ≡ number_in (map (λ name. name.now) names.now) word.now }
     ensures within { IfSome result (λ n. n < 16) }
 {
-    match place_in(names, word) {
-        Some(place) => Some(place as u8),
-        None => None,
+    let number = number_by(byte_at(word, 1), byte_at(word, 2));
+    if names[usize::from(number)] == word {
+        Some(number)
+    } else {
+        None
     }
 }
 

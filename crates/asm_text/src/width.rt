@@ -1,12 +1,55 @@
 //! How many bytes and sleds a line makes.
 
-ghost use Rattle.std.specs.Prelude.{◌≡◌, ◌≤◌, ◌+◌, ◌%◌, ℕ, sum_by};
+ghost use Rattle.std.specs.Prelude.{◌≡◌, ◌≤◌, ◌+◌, ◌%◌, ℕ, length, nat_lt, sum_by, if◌then◌else◌};
+ghost use Rattle.subset_decode.specs.Encoding.{spelling};
 ghost use Rattle.asm_text.specs.Layout.{widths, sleds_of_part, parts_of_line, traced_parts, plain_parts, branch_width};
-ghost use Rattle.asm_text.specs.private.Views.{statement_said, operation_checked};
+ghost use Rattle.asm_text.specs.private.Views.{statement_said, operation_checked, plain_instr, register_number};
 
-use crate::statement::{Branch, Operation, Statement};
-use subset_decode::{CONDITIONAL_LENGTH, LONGEST, NEAR_LENGTH, RETURN_LENGTH, encode};
+use crate::registers::Register;
+use crate::statement::{Branch, Operation, Plain, Statement};
+use subset_decode::{CONDITIONAL_LENGTH, LONGEST, NEAR_LENGTH, RETURN_LENGTH};
 use xray_image::format::SLED_LENGTH;
+
+/// The first register whose number doesn't fit the three bits that an opcode has for it.
+const FIRST_EXTENDED: u8 = 8;
+
+/// The length of `mov` in bytes, without its prefix.
+const MOVE_LENGTH: u32 = 5;
+
+/// The length of `add` and `sub` in bytes, with their prefix.
+const TWO_REGISTERS_LENGTH: u32 = 3;
+
+/// The length of `push` and `pop` in bytes, without their prefix.
+const STACK_LENGTH: u32 = 1;
+
+/// The length of `out` in bytes.
+const PORT_LENGTH: u32 = 2;
+
+/// How many bytes the prefix has that an opcode with this register needs.
+fn prefix_width(reg: Register) -> u32
+    ensures { result ≡ (if nat_lt (register_number reg) 8 then 0 else 1) }
+{
+    if reg.reg().number() < FIRST_EXTENDED {
+        0
+    } else {
+        1
+    }
+}
+
+/// How many bytes an instruction has that goes to no name.
+fn instr_width(plain: &Plain) -> u32
+    ensures width { result ≡ length (spelling (plain_instr plain.now)) }
+    ensures few { result ≤ LONGEST }
+{
+    match *plain {
+        Plain::Mov { dst, .. } => prefix_width(dst) + MOVE_LENGTH,
+        Plain::Add { .. } => TWO_REGISTERS_LENGTH,
+        Plain::Sub { .. } => TWO_REGISTERS_LENGTH,
+        Plain::Push { reg } => prefix_width(reg) + STACK_LENGTH,
+        Plain::Pop { reg } => prefix_width(reg) + STACK_LENGTH,
+        Plain::Out { .. } => PORT_LENGTH,
+    }
+}
 
 /// How many bytes a branch has.
 fn branch_width(branch: Branch) -> u32
@@ -34,7 +77,7 @@ fn plain_width(operation: &Operation) -> u32
     ensures few { result ≤ LONGEST }
 {
     match operation {
-        Operation::Plain(plain) => u32::from(encode(&plain.instr()).len),
+        Operation::Plain(plain) => instr_width(plain),
         Operation::Go { branch, .. } => branch_width(*branch),
         Operation::TailJump { .. } => NEAR_LENGTH,
         Operation::Return => RETURN_LENGTH,
