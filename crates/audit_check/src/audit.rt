@@ -5,7 +5,7 @@ use machine_step::{End, Setup};
 
 /// What an audit states of a thread. The numbers are those of the text: they may disagree with the
 /// marks, and with each other.
-#[derive(Debug, Drop)]
+#[derive(Drop)]
 pub struct AuditEntry {
     /// The number of the thread, from 1.
     pub thread: u32,
@@ -25,7 +25,7 @@ pub struct AuditEntry {
 
 /// What an audit states: what the run was made with, how each thread ended, and how many segments
 /// were recycled.
-#[derive(Debug, Drop)]
+#[derive(Drop)]
 pub struct Audit {
     /// What the run was made with.
     pub setup: Setup,

@@ -10,7 +10,7 @@ use handler_word::Mark;
 use xray_image::SledKind;
 
 /// What a passing looks for: words that have values which lead on to its mark.
-#[derive(Clone, Copy, Debug)]
+#[derive(Clone, Copy)]
 pub(crate) enum Sought {
     /// A patched head.
     Patched,

@@ -8,7 +8,7 @@ use std::alloc::Global;
 use xray_io::NoMemory;
 
 /// Some loads of a thread at a place of the script, one after the other.
-#[derive(Clone, Copy, Debug, PartialEq, Eq)]
+#[derive(Clone, Copy)]
 pub struct Stop {
     /// How many micro steps come before them.
     pub place: u32,

@@ -40,7 +40,7 @@ pub(crate) struct Switches {
 }
 
 /// A wait of the patcher.
-#[derive(Clone, Copy, Debug)]
+#[derive(Clone, Copy)]
 pub(crate) struct Awaited {
     /// Its place among the micro steps.
     pub(crate) place: u32,
