@@ -25,7 +25,7 @@ use xray_image::Image;
 use xray_io::NoMemory;
 
 /// What a passing finds by its searches.
-#[derive(Clone, Copy, Debug)]
+#[derive(Clone, Copy)]
 pub(crate) struct Found {
     /// The place of the last one.
     pub(crate) place: u32,

@@ -31,7 +31,7 @@ use xray_io::NoMemory;
 
 /// Why the loads of the threads of an audit have no places. If both rows differ, it is `Ends`, with the
 /// least thread. Threads count from 1.
-#[derive(Clone, Copy, Debug, PartialEq, Eq, Error)]
+#[derive(Clone, Copy, Debug, Error)]
 pub enum PlaceFault {
     /// This thread's end, or the number of its passings, isn't that of its plain run.
     #[error("thread {0} doesn't end as it is said to")]

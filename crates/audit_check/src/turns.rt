@@ -8,7 +8,7 @@ use std::alloc::{AllocError, Global};
 /// The places of a script at which a word turns: it gets the value that is looked for, then another
 /// one, and so on. Before the first place it has another one. So it is on at a place if the number of
 /// turns up to it is odd.
-#[derive(Debug, Drop)]
+#[derive(Drop)]
 pub(crate) struct Turns {
     pub(crate) places: Vec<u32>,
 }
