@@ -66,6 +66,15 @@ pub fn desk_of(alloc: Global, files: &[File]) -> Result<MemDesk, Fail> {
     Ok(desk)
 }
 
+/// The text of parts, one after the other.
+pub fn joined(alloc: Global, parts: &[&str]) -> Result<String, Fail> {
+    let mut text = String::new(alloc);
+    for part in parts {
+        text.push_str(part)?;
+    }
+    Ok(text)
+}
+
 /// Checks a file that a run left. A failure also shows a text.
 fn check_left<R: Abort + AllocGlobal>(
     rt: &R,
@@ -101,10 +110,7 @@ pub fn check_case_at<R: Abort + Threads + Wait + Sync + AllocGlobal, G: Gate + S
         assert_no_fault(rt, &run_line(rt, line, &mut desk)?);
     }
     let run = run_at(rt, case.line, &mut desk, gate)?;
-    let mut out = String::new(rt.alloc());
-    for part in case.out {
-        out.push_str(part)?;
-    }
+    let out = joined(rt.alloc(), case.out)?;
     assert_left(rt, &run, case.status, out.as_str(), case.err, case.line);
     for left in case.left {
         check_left(rt, &desk, left, case.line)?;

@@ -1,8 +1,7 @@
 //! Damaged traces and images, and prefixes of a trace: each is refused with the place of its first
 //! fault, by every command that reads it.
 use crate::cases::{CASE, Case, IMAGE, check_case};
-use crate::checks::check_same_at;
-use crate::runs::run_line;
+use crate::runs::{assert_left, assert_no_fault, run_line};
 use std::alloc::{AllocError, Global};
 use std::process::Abort;
 use std::sync::Wait;
@@ -96,22 +95,18 @@ fn damaged(alloc: Global, bytes: &[u8], damage: &Damage) -> Result<Vec<u8>, Allo
 }
 
 /// Checks that commands refuse a file, the only one on the desk, with a line on err.
-fn check_refused<'r, R: Abort + Threads + Wait + Sync + AllocGlobal>(
+fn check_refused<R: Abort + Threads + Wait + Sync + AllocGlobal>(
     rt: &R,
-    commands: &'r [&'r str],
-    name: &'r str,
-    bytes: &'r [u8],
-    err: &'r str,
+    commands: &[&str],
+    name: &str,
+    bytes: &[u8],
+    err: &str,
 ) -> Result<(), Fail> {
-    for line in commands {
-        let case = Case {
-            files: &[(name, &[bytes])],
-            line,
-            status: 2,
-            err,
-            ..CASE
-        };
-        check_case(rt, &case)?;
+    for words in commands {
+        let mut desk = MemDesk::new(rt.alloc(), Vec::new(rt.alloc()));
+        desk.put(name, bytes)?;
+        let run = run_line(rt, words, &mut desk)?;
+        assert_left(rt, &run, 2, "", err, words);
     }
     Ok(())
 }
@@ -174,30 +169,30 @@ fn a_damaged_header_or_image_is_refused_at_its_first_fault(rt: HostRuntime) -> R
     )
 }
 
-/// The least and the greatest length of prefixes of a file of three blocks, the status, and the line on err.
-const PREFIXES: [(usize, usize, u8, &str); 8] = [
-    (0, 31, 2, "xray: t: trace Short 0\n"),
-    (32, 32, 0, ""),
-    (33, 119, 2, "xray: t: trace Short 32\n"),
-    (120, 120, 0, ""),
-    (121, 207, 2, "xray: t: trace Short 120\n"),
-    (208, 208, 0, ""),
-    (209, 295, 2, "xray: t: trace Short 208\n"),
-    (296, 296, 0, ""),
-];
+/// The place of the fault of a prefix of a file of three blocks, or `None` if the prefix is a trace.
+fn fault_of_prefix(length: usize) -> Option<usize> {
+    match length {
+        32 | 120 | 208 | 296 => None,
+        0..=31 => Some(0),
+        33..=119 => Some(32),
+        121..=207 => Some(120),
+        _ => Some(208),
+    }
+}
 
 #[test]
 fn prefixes_that_end_with_a_block_are_accepted(rt: HostRuntime) -> Result<(), Fail> {
     let bytes = file(rt.alloc(), &THREE_BLOCKS)?;
-    for (least, greatest, status, err) in &PREFIXES {
-        for length in *least..=*greatest {
-            let mut desk = MemDesk::new(rt.alloc(), Vec::new(rt.alloc()));
-            if let Some(prefix) = bytes.get(..length) {
-                desk.put("t", prefix)?;
+    for length in 0..=bytes.len() {
+        let mut desk = MemDesk::new(rt.alloc(), Vec::new(rt.alloc()));
+        desk.put("t", &bytes[..length])?;
+        let run = run_line(&rt, "account t", &mut desk)?;
+        match fault_of_prefix(length) {
+            Some(place) => {
+                let err = format!(in rt.alloc(); "xray: t: trace Short {place}\n")?;
+                assert_left(&rt, &run, 2, "", &err, "account t");
             }
-            let run = run_line(&rt, "account t", &mut desk)?;
-            check_same_at(&rt, &run.status, status, err);
-            check_same_at(&rt, &run.err.as_str(), err, err);
+            None => assert_no_fault(&rt, &run),
         }
     }
     Ok(())

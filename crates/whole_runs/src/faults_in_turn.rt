@@ -386,8 +386,8 @@ fn tried<R: Abort + Threads + Wait + Sync + AllocGlobal>(
     Ok(left)
 }
 
-/// Tries a command with the failures of each call in turn, until a call of the device that should have failed isn't made.
-/// Then the same with the next call and err failing too.
+/// Tries a command with the failures of each call in turn, until a call of the device that should have failed isn't
+/// made. Then the same with the next call and err failing too.
 fn try_each_call<R: Abort + Threads + Wait + Sync + AllocGlobal>(
     rt: &R,
     command: &Command,

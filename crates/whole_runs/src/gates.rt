@@ -122,8 +122,8 @@ const BY_TURNS: &[(Point, Point)] = &[
     (Point::Place(15), Point::Passing(1, 3)),
 ];
 
-/// The script can't go on before the thread has made two passings. Passing 2 goes on once the patcher has come to the last
-/// sled, and the store there once the thread has come to passing 3.
+/// The script can't go on before the thread has made two passings. Passing 2 goes on once the patcher has come to the
+/// last sled, and the store there once the thread has come to passing 3.
 const AFTER_THE_AWAIT: &[(Point, Point)] = &[
     (Point::Place(4), Point::Passing(1, 1)),
     (Point::Passing(1, 2), Point::Place(16)),
@@ -137,9 +137,9 @@ const HELD_AT_ONCE: &[u8] = b"hold 1 0\nhold 2 0\nhold 3 0\nhold 4 0\nhold 5 0\n
     release 11\nrelease 10\nrelease 9\nrelease 8\nrelease 7\nrelease 6\nrelease 5\n\
     release 4\nrelease 3\nrelease 2\nrelease 1\n";
 
-/// The first release comes once all threads have come to their first passing, and each other one once the thread that was
-/// released before it has come to its next passing. Two threads that shared one of the system would be late: the one that
-/// is held keeps the other from its first passing.
+/// The first release comes once all threads have come to their first passing, and each other one once the thread that
+/// was released before it has come to its next passing. Two threads that shared one of the system would be late: the
+/// one that is held keeps the other from its first passing.
 const ONE_AFTER_THE_OTHER: &[(Point, Point)] = &[
     (Point::Place(0), Point::Passing(1, 0)),
     (Point::Place(0), Point::Passing(2, 0)),
@@ -205,7 +205,8 @@ const GATED: [Gated; 6] = [
         },
         EACH_AFTER_THE_OTHER,
     ),
-    // A thread and the patcher run beside each other. The thread records an entry of function 2 and an exit of function 1.
+    // A thread and the patcher run beside each other. The thread records an entry of function 2 and an exit of
+    // function 1.
     (
         Case {
             files: &[("x", &[CALL]), ("s", &[LIVE])],

@@ -5,8 +5,8 @@ use crate::texts::SIM;
 use std::test::Fail;
 use test_helpers::trace_parts::{CPU, HEADER, PREAMBLE, file};
 
-/// Words, an input, its first parts, a part that comes then and how often, the status, the parts of the text on out, and
-/// the line on err.
+/// Words, an input, its first parts, a part that comes then and how often, the status, the parts of the text on out,
+/// and the line on err.
 type Long = (
     &'static str,
     &'static str,

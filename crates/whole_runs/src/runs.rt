@@ -66,7 +66,8 @@ pub fn status_of<R: Threads + Wait + Sync + AllocGlobal, D: Desk, O: Sink, E: Si
     Ok(status)
 }
 
-/// Checks the status of a run, and what it wrote on out and on err. A failure also shows a text, as the line of the run.
+/// Checks the status of a run, and what it wrote on out and on err. A failure also shows a text, as the line of the
+/// run.
 pub fn assert_left<R: Abort>(rt: &R, run: &Run, status: u8, out: &str, err: &str, text: &str) {
     check_same_at(rt, &run.err.as_str(), &err, text);
     check_same_at(rt, &run.status, &status, text);

@@ -1,5 +1,7 @@
-//! `sim` and `plain`: marks by scripts and schedules, several threads, limits, and the refusals of scripts and schedules.
-use crate::cases::{ASSEMBLE, CASE, Case, File, I, check_case, check_cases};
+//! `sim` and `plain`: marks by scripts and schedules, several threads, limits, and the refusals of scripts and
+//! schedules.
+use crate::cases::{ASSEMBLE, CASE, Case, File, I, check_cases, desk_of};
+use crate::runs::{assert_left, assert_no_fault, run_line};
 use crate::states::{
     CALL_STATE, MOVED, ODD_EXIT_STATE, PATCHED, RETURNED, STARTED, STATE, TAIL_JUMP_STATE,
     UNPATCHED_ONCE,
@@ -67,8 +69,8 @@ const MARKS: [Marked; 19] = [
 ];
 
 /// Marks of a function that logs its argument. Loads 1 to 4 of its first passing are those of the patched sled. The
-/// argument handler's word comes next, then the handler's word, unless an argument handler was found, and last the log's
-/// state.
+/// argument handler's word comes next, then the handler's word, unless an argument handler was found, and last the
+/// log's state.
 const MARKS_WITH_ARGUMENT: [Marked; 18] = [
     // The argument handler is removed before its word is loaded, and after that.
     (
@@ -147,21 +149,20 @@ const MARKS_WITH_ARGUMENT: [Marked; 18] = [
 ];
 
 /// Checks the marks of a text, whose thread ends with this state.
-fn check_marks<'r, R: Abort + Threads + Wait + Sync + AllocGlobal>(
+fn check_marks<R: Abort + Threads + Wait + Sync + AllocGlobal>(
     rt: &R,
-    text: &'r [u8],
-    state: &'r str,
-    rows: &'r [(&'r [u8], &'r [u8], &'r str)],
+    text: &[u8],
+    state: &str,
+    rows: &[Marked],
 ) -> Result<(), Fail> {
+    let mut desk = desk_of(rt.alloc(), &[])?;
+    desk.put("x", text)?;
+    assert_no_fault(rt, &run_line(rt, "asm x i", &mut desk)?);
     for (script, schedule, marks) in rows {
-        let case = Case {
-            files: &[("x", &[text]), ("s", &[*script]), ("c", &[*schedule])],
-            before: ASSEMBLE,
-            line: SIM,
-            out: &[state, "marks ", *marks, "\n"],
-            ..CASE
-        };
-        check_case(rt, &case)?;
+        desk.put("s", script)?;
+        desk.put("c", schedule)?;
+        let out = format!(in rt.alloc(); "{state}marks {marks}\n")?;
+        assert_left(rt, &run_line(rt, SIM, &mut desk)?, 0, &out, "", marks);
     }
     Ok(())
 }
@@ -565,15 +566,11 @@ const REFUSALS: [Refusal; 26] = [
 /// The script is judged before the schedule, and whether it waits after that.
 #[test]
 fn scripts_and_schedules_are_refused(rt: HostRuntime) -> Result<(), Fail> {
+    let mut desk = desk_of(rt.alloc(), &[I])?;
     for (script, schedule, err) in &REFUSALS {
-        let case = Case {
-            files: &[I, ("s", &[*script]), ("c", &[*schedule])],
-            line: SIM,
-            status: 2,
-            err,
-            ..CASE
-        };
-        check_case(&rt, &case)?;
+        desk.put("s", script)?;
+        desk.put("c", schedule)?;
+        assert_left(&rt, &run_line(&rt, SIM, &mut desk)?, 2, "", err, err);
     }
     Ok(())
 }

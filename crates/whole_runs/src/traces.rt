@@ -1,5 +1,7 @@
 //! `sim`: the trace and the audit of worked rows, byte by byte.
-use crate::cases::{ASSEMBLE, CASE, Case, check_case};
+use crate::cases::{desk_of, joined};
+use crate::checks::check_same_at;
+use crate::runs::{assert_left, assert_no_fault, run_line};
 use crate::states::{
     CALL_STATE, LARGEST_STATE, ODD_EXIT_STATE, SECOND_CALL_STATE, STATE, TAIL_JUMP_STATE,
     TWO_CALLS_STATE,
@@ -425,37 +427,34 @@ const LATER_ROWS: [Row; 13] = [
     },
 ];
 
-/// Checks the traces and the audits of rows.
-fn check_rows<R: Abort + Threads + Wait + Sync + AllocGlobal>(
+/// Checks what is printed of a row, its trace and its audit.
+fn check_row<R: Abort + Threads + Wait + Sync + AllocGlobal>(
     rt: &R,
-    rows: &[Row],
+    row: &Row,
 ) -> Result<(), Fail> {
-    for row in rows {
-        let header = file(rt.alloc(), row.header)?;
-        let blocks = file_of_blocks(rt.alloc(), row.blocks)?;
-        let (setup, threads) = (row.setup.as_bytes(), row.threads.as_bytes());
-        let case = Case {
-            files: &[
-                ("x", &[row.text]),
-                ("s", &[row.script]),
-                ("c", &[row.schedule]),
-            ],
-            before: ASSEMBLE,
-            line: row.words,
-            out: row.out,
-            left: &[
-                ("t", 0, &[&header, &blocks], 0),
-                ("a", 0, &[b"xray-audit 1\n", setup, threads], 0),
-            ],
-            ..CASE
-        };
-        check_case(rt, &case)?;
-    }
+    let alloc = rt.alloc();
+    let mut desk = desk_of(alloc, &[])?;
+    desk.put("x", row.text)?;
+    desk.put("s", row.script)?;
+    desk.put("c", row.schedule)?;
+    assert_no_fault(rt, &run_line(rt, "asm x i", &mut desk)?);
+    let run = run_line(rt, row.words, &mut desk)?;
+    assert_left(rt, &run, 0, &joined(alloc, row.out)?, "", row.words);
+    let mut trace = file(alloc, row.header)?;
+    trace.extend_from_slice(&file_of_blocks(alloc, row.blocks)?)?;
+    check_same_at(rt, &desk.get("t"), &Some(trace.as_slice()), row.words);
+    let audit = format!(in alloc; "xray-audit 1\n{}{}", row.setup, row.threads)?;
+    check_same_at(rt, &desk.get("a"), &Some(audit.as_bytes()), row.words);
     Ok(())
 }
 
 #[test]
 fn a_replay_leaves_its_trace_and_its_audit(rt: HostRuntime) -> Result<(), Fail> {
-    check_rows(&rt, &ROWS)?;
-    check_rows(&rt, &LATER_ROWS)
+    for row in &ROWS {
+        check_row(&rt, row)?;
+    }
+    for row in &LATER_ROWS {
+        check_row(&rt, row)?;
+    }
+    Ok(())
 }
