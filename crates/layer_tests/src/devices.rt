@@ -7,7 +7,8 @@ use std::fs;
 use std::test::Fail;
 use test_helpers::WatchedDesk;
 use xray_io::{
-    Desk, Each, FileDesk, MemDesk, MemSink, Piece, ReadError, Text, read_whole, write_text,
+    Desk, Each, ErrSink, FileDesk, MemDesk, MemSink, OutSink, Piece, ReadError, Text, read_whole,
+    write_all, write_text,
 };
 
 /// A text of 100,000 bytes. It is one piece and a half, so that two reads give bytes.
@@ -161,5 +162,12 @@ fn files_are_read_and_written_by_their_names(rt: HostRuntime) -> Result<(), Fail
     let zeros = read_whole(alloc, &mut desk, "/dev/zero", 99_999).err();
     check_same(&rt, &zeros, &Some(ReadError::TooLong));
     fs::remove_file(&rt, name.as_str())?;
+    Ok(())
+}
+
+#[test]
+fn the_streams_take_bytes(rt: HostRuntime) -> Result<(), Fail> {
+    write_all(&mut OutSink::new(&rt), b"out\n")?;
+    write_all(&mut ErrSink::new(rt.stderr()), b"err\n")?;
     Ok(())
 }
