@@ -161,7 +161,7 @@ impl Recording {
         }
     }
 
-    /// Ends the last segment. Answers how many there are.
+    /// Ends the last segment. Returns how many there are.
     pub(crate) fn finish(self, trace: &mut TraceLeft) -> u32
         requires { self.whole + 1 < 2 ^ 32 }
         ensures segments { (setup : Setup) (thread lost : ℕ) (events : List Event)

@@ -67,8 +67,8 @@ impl Pool {
     /// Seals a thread's full buffer: puts it at the back of the queue, and takes the buffer at the
     /// front. There always is one. What it holds is stale, and may be a segment of any thread.
     ///
-    /// The full buffer is one of the thread's segments, with the next serial number. The call has
-    /// no refusal, and no answer for want of memory. It may spin while another thread is about to
+    /// The full buffer is one of the thread's segments, with the next serial number. The call
+    /// refuses nothing, and can't run out of memory. It may spin while another thread is about to
     /// end a put or a take.
     pub fn turn<R: Wait>(&self, rt: &R, pass: &mut PoolPass, full: Buffer) -> Buffer
         requires pass { IsOf self.now pass.old }

@@ -7,7 +7,7 @@
 //! given. The numbers, listed words, defaults and rules of options are read from the line
 //! (`run_options`, `profile_options`, `report_options`, `words`).
 //!
-//! The meaning of words is one definition: `reading` of `specs/Words.antt`. `read_words` answers
+//! The meaning of words is one definition: `reading` of `specs/Words.antt`. `read_words` returns
 //! exactly that. For another command, add a row to the tables and a case to `Command` and `Verb`.
 #![tactic(auto)]
 

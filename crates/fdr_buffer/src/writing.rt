@@ -9,7 +9,7 @@ use crate::lead::Lead;
 use fdr_record::{Event, Kind, Rec, put_rec};
 use xray_io::Wall;
 
-/// Writes the records that a buffer begins with, and answers the place after them.
+/// Writes the records that a buffer begins with, and returns the place after them.
 pub(crate) fn put_preamble(bytes: &mut [u8], thread: u32, wall: Wall, pid: u32) -> usize
     requires { preamble_length ≤ length bytes.old }
     ensures bytes { take result bytes.new ≡ body thread wall pid [] }
@@ -22,7 +22,7 @@ pub(crate) fn put_preamble(bytes: &mut [u8], thread: u32, wall: Wall, pid: u32) 
     put_rec(&Rec::Pid { pid }, bytes, at)
 }
 
-/// Writes a record at the place `at`, where the records so far end. Answers the place after it.
+/// Writes a record at the place `at`, where the records so far end. Returns the place after it.
 fn append(bytes: &mut [u8], at: usize, rec: &Rec) -> usize
     requires room { at + length_of rec.now ≤ length bytes.old }
     requires id { IdFits rec.now }
@@ -55,7 +55,7 @@ fn function(event: &Event, delta: u32) -> Rec
 }
 
 /// Writes the function record of an event at the place `at`, where the records so far end, and its
-/// argument if it logs one. Answers the place after them.
+/// argument if it logs one. Returns the place after them.
 #[tactic(auto, using(std::proofs::Common::append_assoc))]
 fn put_function(bytes: &mut [u8], at: usize, event: &Event, delta: u32) -> usize
     requires room { at + length (bytes_of (function_records event.now delta)) ≤ length bytes.old }
@@ -71,7 +71,7 @@ fn put_function(bytes: &mut [u8], at: usize, event: &Event, delta: u32) -> usize
     }
 }
 
-/// Writes the records of an event at the place `at`, where the records so far end. Answers the
+/// Writes the records of an event at the place `at`, where the records so far end. Returns the
 /// place after them.
 #[tactic(auto, using(std::proofs::Common::append_assoc))]
 pub(crate) fn put_event(bytes: &mut [u8], at: usize, lead: Lead, event: &Event) -> usize

@@ -14,7 +14,7 @@ ghost use Rattle.fdr_file.specs.Scanning.{blocks_given, scanned, scanned_ends};
 use crate::TraceFault;
 use fdr_record::one_answer;
 
-/// What a place of a file is read as is what the decoder of records answers there: the record that
+/// What a place of a file is read as is what the decoder of records returns there: the record that
 /// the bytes from there on begin with, or its refusal.
 pub fn a_place_is_decoded()
     ensures { (bytes : List ℕ) → All (λ b. b < 256) bytes → Answers bytes (record_in bytes) }

@@ -108,7 +108,7 @@ fn record(bytes: &[u8]) -> Result<Rec, RecFault>
 }
 
 /// Reads the record at the place `at` of the bytes, which may be their end, and not beyond it.
-/// Answers it and the place after it. Places are byte offsets from the start of `bytes`. Bytes
+/// Returns it and the place after it. Places are byte offsets from the start of `bytes`. Bytes
 /// after the record don't matter, nor do those of a metadata record after its fields. `RecFault`
 /// says why there is no record.
 pub fn take_rec(bytes: &[u8], at: usize) -> Result<(Rec, usize), RecFault>
@@ -121,9 +121,9 @@ pub fn take_rec(bytes: &[u8], at: usize) -> Result<(Rec, usize), RecFault>
     // A record that stands there is read.
     ensures only { (r : Rec) → FieldsFit r → BeginsWith r (drop at bytes.now)
         → result ≡ Ok (r, at + length_of r) }
-    // A fault that is answered holds there.
+    // A fault that is returned holds there.
     ensures fault { IfErr result (Refuses (drop at bytes.now)) }
-    // A fault that holds there is answered.
+    // A fault that holds there is returned.
     ensures exact { (f : RecFault) → Refuses (drop at bytes.now) f → result ≡ Err f }
 {
     let rec = record(&bytes[at..])?;

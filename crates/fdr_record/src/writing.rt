@@ -89,7 +89,7 @@ fn put_all(rec: &Rec, bytes: &mut [u8])
     }
 }
 
-/// Writes a record's bytes at the place `at` of `buf`, counted from its start. Answers the place
+/// Writes a record's bytes at the place `at` of `buf`, counted from its start. Returns the place
 /// after them. The rest of `buf` stays as it is. The record has to end within `buf`; `rec_len`
 /// gives its length. A function's id has to be below 2^28.
 pub fn put_rec(rec: &Rec, buf: &mut [u8], at: usize) -> usize

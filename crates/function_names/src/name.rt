@@ -146,7 +146,7 @@ fn put_callee_number(words: &mut [u8; LINE], end: usize, id: u32) -> usize
     start
 }
 
-/// Writes the text for a name that isn't known, so that it goes to the end of the word. Answers
+/// Writes the text for a name that isn't known, so that it goes to the end of the word. Returns
 /// where it begins.
 fn put_number(word: &mut [u8; ROOM], id: u32) -> usize
     ensures within { (0 < result) × (result < ROOM) }

@@ -205,6 +205,61 @@ fn shown_command(alloc: Global, command: Command) -> Result<String, AllocError> 
             threshold,
             relative,
         } => format!(in alloc; "asm [{text}] [{image}] {threshold} {relative}"),
+        Command::Check {
+            image,
+            script,
+            trace,
+            audit,
+        } => format!(in alloc; "check [{image}] [{script}] [{trace}] [{audit}]"),
+        Command::Order {
+            image,
+            script,
+            audit,
+            free,
+            schedule,
+        } => format!(in alloc; "order [{image}] [{script}] [{audit}] [{free}] [{schedule}]"),
+        Command::Soak { number } => format!(in alloc; "soak {number}"),
+        Command::Import { log, trace } => format!(in alloc; "import [{log}] [{trace}]"),
+        other => shown_threads(alloc, other),
+    }
+}
+
+/// A command that runs threads and writes what they leave.
+fn shown_threads(alloc: Global, command: Command) -> Result<String, AllocError> {
+    match command {
+        Command::Profile {
+            image,
+            script,
+            options,
+        } => {
+            let options = shown_profile(alloc, options)?;
+            format!(in alloc; "profile [{image}] [{script}] {options}")
+        }
+        Command::Run {
+            image,
+            script,
+            trace,
+            audit,
+            options,
+        } => shown_run(alloc, "run", &[image, script, trace, audit], options),
+        Command::Sim {
+            image,
+            script,
+            schedule,
+            trace,
+            audit,
+            options,
+        } => {
+            let files = [image, script, schedule, trace, audit];
+            shown_run(alloc, "sim", &files, options)
+        }
+        other => shown_report(alloc, other),
+    }
+}
+
+/// A command that prints a report of a trace.
+fn shown_report(alloc: Global, command: Command) -> Result<String, AllocError> {
+    match command {
         Command::Account {
             trace,
             names,
@@ -227,47 +282,7 @@ fn shown_command(alloc: Global, command: Command) -> Result<String, AllocError> 
             format!(in alloc; "convert [{trace}] {names:?} {format:?} {input:?}")
         }
         Command::Dump { trace } => format!(in alloc; "dump [{trace}]"),
-        Command::Check {
-            image,
-            script,
-            trace,
-            audit,
-        } => format!(in alloc; "check [{image}] [{script}] [{trace}] [{audit}]"),
-        Command::Order {
-            image,
-            script,
-            audit,
-            free,
-            schedule,
-        } => format!(in alloc; "order [{image}] [{script}] [{audit}] [{free}] [{schedule}]"),
-        Command::Profile {
-            image,
-            script,
-            options,
-        } => {
-            let options = shown_profile(alloc, options)?;
-            format!(in alloc; "profile [{image}] [{script}] {options}")
-        }
-        Command::Soak { number } => format!(in alloc; "soak {number}"),
-        Command::Import { log, trace } => format!(in alloc; "import [{log}] [{trace}]"),
-        Command::Run {
-            image,
-            script,
-            trace,
-            audit,
-            options,
-        } => shown_run(alloc, "run", &[image, script, trace, audit], options),
-        Command::Sim {
-            image,
-            script,
-            schedule,
-            trace,
-            audit,
-            options,
-        } => {
-            let files = [image, script, schedule, trace, audit];
-            shown_run(alloc, "sim", &files, options)
-        }
+        _ => String::from_str(alloc, "another command"),
     }
 }
 

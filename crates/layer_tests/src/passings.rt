@@ -23,7 +23,7 @@ pub const RECORDS: [Load; 2] = [(8, 1), (9, 2)];
 pub const HAS_ENDED: [Load; 2] = [(8, 1), (9, 4)];
 
 /// Lets a thread into its next passing, if it waits for one, and gives it the values of these loads.
-/// The thread has to want them in this order. Answers the last event that came.
+/// The thread has to want them in this order. Returns the last event that came.
 pub fn pass(cpu: &mut Cpu, loads: &[Load]) -> Result<Option<Event>, Fail> {
     if let Want::Gate(_) = cpu.want() {
         cpu.opened();

@@ -53,7 +53,7 @@ impl Stack {
         self.values.push_reserved(value);
     }
 
-    /// Pops the value on top, or answers `None` if there is none.
+    /// Pops the value on top, or returns `None` if there is none.
     #[inline]
     pub(crate) fn pop(&mut self) -> Option<u64>
         ensures { MatchOption result ((self.old ≡ []) × (self.new ≡ []))

@@ -253,7 +253,8 @@ impl LogBlocks {
             × (self.new.custom ≡ self.old.custom + b.custom) × (self.new.typed ≡ self.old.typed + b.typed)) }
         ensures refuses { IfErr result (λ fault. log_block_in version (at, drop at bytes.now) ≡ Err fault) }
         ensures counts { IfOk result (λ placed. (self.new.custom ≤ placed.end) × (self.new.typed ≤ placed.end)) }
-        ensures places { IfOk result (λ placed. (placed.begin ≡ at) × (placed.end ≡ at + block_length (drop at bytes.now))) }
+        ensures places { IfOk result (λ placed. (placed.begin ≡ at)
+            × (placed.end ≡ at + block_length (drop at bytes.now))) }
         ensures others { (self.new.blocks ≡ self.old.blocks) × (self.new.mode ≡ self.old.mode) }
     {
         let walk = BlockWalk::open(version, at as u64, &bytes[at..])?;

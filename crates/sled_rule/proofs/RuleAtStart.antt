@@ -54,14 +54,14 @@ after_sleds program threads more i following =
     ∙ (get_or-append_right all (replicate (3 + 2 * threads) 0 ++ replicate more 0) (4 * length program.sleds) i 0 (four_a_sled program.sleds) following
     ∙ zeros_after_zeros (3 + 2 * threads) more (i - 4 * length program.sleds))
 
-module _ (plan : Plan) (words : List ℕ) (is : words ≡ initial_words plan.program plan.threads ++ replicate (8 * (plan.threads + 1)) 0) where
+module _ (plan : Plan) (words : List ℕ) (is : words ≡ initial_words plan.program plan.threads ++ replicate (16 * (plan.threads + 1)) 0) where
   pub opening_count : length words ≡ slot_count plan
   unfolding words_in
   opening_count =
       let initial = initial_count plan.program plan.threads in
-      let zeros = length-replicate {A = ℕ} (8 * (plan.threads + 1)) 0 in
-      let whole = length-append (initial_words plan.program plan.threads) (replicate (8 * (plan.threads + 1)) 0) in
-      let same : length words ≡ length (initial_words plan.program plan.threads ++ replicate (8 * (plan.threads + 1)) 0) = ap length is in
+      let zeros = length-replicate {A = ℕ} (16 * (plan.threads + 1)) 0 in
+      let whole = length-append (initial_words plan.program plan.threads) (replicate (16 * (plan.threads + 1)) 0) in
+      let same : length words ≡ length (initial_words plan.program plan.threads ++ replicate (16 * (plan.threads + 1)) 0) = ap length is in
       omega arith
 
   -- the words that are fetched are those before the script
@@ -71,15 +71,15 @@ module _ (plan : Plan) (words : List ℕ) (is : words ≡ initial_words plan.pro
   opening_code first word inside =
       let initial = initial_count plan.program plan.threads in
       let within : word < length (initial_words plan.program plan.threads) = omega (arith, initial, code_within plan.program plan.threads word inside) in
-      ap (λ (l : List ℕ). get_or l word 0) is ∙ (get_or-append (initial_words plan.program plan.threads) (replicate (8 * (plan.threads + 1)) 0) 0 word within ∙ first word within)
+      ap (λ (l : List ℕ). get_or l word 0) is ∙ (get_or-append (initial_words plan.program plan.threads) (replicate (16 * (plan.threads + 1)) 0) 0 word within ∙ first word within)
 
   opening_progress : (thread : ℕ) → progress plan words thread ≡ 0
   unfolding words_in
   opening_progress thread =
       ap (λ (l : List ℕ). get_or l (progress_slot plan thread) 0) is
-      ∙ after_sleds plan.program plan.threads (8 * (plan.threads + 1)) (progress_slot plan thread) (omega arith)
+      ∙ after_sleds plan.program plan.threads (16 * (plan.threads + 1)) (progress_slot plan thread) (omega arith)
 
-pub starts : (plan : Plan) (words : List ℕ) → words ≡ initial_words plan.program plan.threads ++ replicate (8 * (plan.threads + 1)) 0
+pub starts : (plan : Plan) (words : List ℕ) → words ≡ initial_words plan.program plan.threads ++ replicate (16 * (plan.threads + 1)) 0
     → ((word : ℕ) → word < length (initial_words plan.program plan.threads) → slice_index (initial_words plan.program plan.threads) word ≡ code_in plan 0 word)
     → KeepsCode plan (opening {S = Unit {0}} words [] (first_view plan))
 starts plan words is first = record {
@@ -108,9 +108,9 @@ starts plan words is first = record {
 
 -- the words of the image and the threads that a script was read for
 pub for_the_script : (plan : Plan) (program : Program) (threads : ℕ) → plan.program ≡ program → plan.threads ≡ threads
-    → initial_words program threads ++ replicate (8 * (threads + 1)) 0 ≡ initial_words plan.program plan.threads ++ replicate (8 * (plan.threads + 1)) 0
+    → initial_words program threads ++ replicate (16 * (threads + 1)) 0 ≡ initial_words plan.program plan.threads ++ replicate (16 * (plan.threads + 1)) 0
 for_the_script plan program threads same all =
-    λ i. initial_words (sym same i) (sym all i) ++ replicate (8 * (sym all i + 1)) 0
+    λ i. initial_words (sym same i) (sym all i) ++ replicate (16 * (sym all i + 1)) 0
 
 -- how many words there are
 pub count_is : (plan : Plan) (program : Program) (threads count : ℕ) → plan.program ≡ program → plan.threads ≡ threads
@@ -126,11 +126,11 @@ all_words plan length count all is = all ∙ sym is
 
 -- the words before the script, and zeros up to a count
 pub grown : (program : Program) (threads len count : ℕ) (before after : List ℕ) → len ≡ length before → before ≡ initial_words program threads
-    → count ≡ word_count program threads + 8 * (threads + 1) → after ≡ take count before ++ replicate (count - len) 0
-    → after ≡ initial_words program threads ++ replicate (8 * (threads + 1)) 0
+    → count ≡ word_count program threads + 16 * (threads + 1) → after ≡ take count before ++ replicate (count - len) 0
+    → after ≡ initial_words program threads ++ replicate (16 * (threads + 1)) 0
 grown program threads len count before after long is sized resized =
     let initial = initial_count program threads in
     let same : length before ≡ length (initial_words program threads) = ap length is in
     let whole : take count before ≡ before = take_all count before (omega arith) in
-    let more : count - len ≡ 8 * (threads + 1) = omega arith in
+    let more : count - len ≡ 16 * (threads + 1) = omega arith in
     resized ∙ (ap (λ (l : List ℕ). l ++ replicate (count - len) 0) (whole ∙ is) ∙ ap (λ (n : ℕ). initial_words program threads ++ replicate n 0) more)

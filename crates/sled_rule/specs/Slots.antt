@@ -7,11 +7,11 @@ use Rattle.sled_rule.specs.Plans.{words_in}
 unfoldable pub code_slot : Plan → ℕ → ℕ
 code_slot plan word = word
 
--- the slot of a thread's progress word: these come after the numbers of all words, each in a cache line of its own, which
--- is eight slots
+-- the slot of a thread's progress word: these come after the numbers of all words, each in a pair of cache lines of its
+-- own, which is sixteen slots
 abbrev pub progress_slot : Plan → ℕ → ℕ
-progress_slot plan thread = words_in plan + 8 * thread
+progress_slot plan thread = words_in plan + 16 * thread
 
 -- how many slots the table has, with these lines
 abbrev pub slot_count : Plan → ℕ
-slot_count plan = words_in plan + 8 * (plan.threads + 1)
+slot_count plan = words_in plan + 16 * (plan.threads + 1)

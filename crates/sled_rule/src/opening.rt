@@ -70,7 +70,7 @@ fn opening_words(
     requires few { threads ≤ MAX_THREADS }
     requires words { word_len ≡ word_count image.now threads }
     ensures { IfOk result (λ words. words.items
-        ≡ words_before image.now threads ++ replicate (8 * (threads + 1)) 0) }
+        ≡ words_before image.now threads ++ replicate (16 * (threads + 1)) 0) }
 {
     image.sleds_stand_in_units();
     let mut words = initial_words(alloc, image, threads)?;

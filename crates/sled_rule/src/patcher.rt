@@ -54,7 +54,7 @@ impl CodeTable {
     }
 
     /// Makes the micro step at the place, which is a store of this value in this word, as
-    /// `next_micro` has answered.
+    /// `next_micro` has returned.
     #[inline]
     pub fn make_store(&self, seat: &mut PatchSeat, word: u32, value: u64)
         requires own { IsPatcherOf self.now seat.old }

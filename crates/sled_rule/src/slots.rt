@@ -1,5 +1,5 @@
 //! Where a table keeps its words. A code word has its number as its slot. The progress words come
-//! after the numbers of all words, each in a cache line of its own.
+//! after the numbers of all words, each in a pair of cache lines of its own.
 #![tactic(auto, unfolding(crate::specs::Plans::words_in, crate::specs::Slots::code_slot))]
 
 ghost use Rattle.std.specs.Prelude.{◌≡◌, ◌+◌, ◌*◌, ◌<◌, ◌≤◌, ◌↔◌, ◌⊎◌, ℕ, IsTrue};
@@ -9,8 +9,8 @@ ghost use Rattle.patch_script.specs.Plans.{Plan};
 ghost use Rattle.sled_rule.specs.Plans.{IsCodeIn, most_words, words_in};
 ghost use Rattle.sled_rule.specs.Slots.{code_slot, progress_slot, slot_count};
 
-/// How many slots a progress word takes: a cache line of 64 bytes.
-const LINE: usize = 8;
+/// How many slots a progress word takes: 128 bytes, since processors fetch cache lines in pairs.
+const APART: usize = 16;
 
 /// Whether the word of this number is a code word, if there are this many words for this many
 /// threads. All code words but the argument handler's, which is the last word, come before the
@@ -40,16 +40,16 @@ pub(crate) fn progress_slot(word_len: usize, thread: u32) -> usize
     requires few_threads { thread ≤ MAX_THREADS }
     ensures { (plan : Plan) → word_len ≡ words_in plan → result ≡ progress_slot plan thread }
 {
-    word_len + LINE * thread as usize
+    word_len + APART * thread as usize
 }
 
 /// How many slots a table for this many threads has, if there are this many words.
 pub(crate) fn slot_count(word_len: usize, threads: u32) -> usize
     requires few_words { word_len ≤ most_words }
     requires few_threads { threads ≤ MAX_THREADS }
-    ensures { result ≡ word_len + LINE * (threads + 1) }
+    ensures { result ≡ word_len + APART * (threads + 1) }
 {
-    word_len + LINE * (threads as usize + 1)
+    word_len + APART * (threads as usize + 1)
 }
 
 /// The slot of the word of this number, a code word or a progress word, if there are this many words

@@ -120,7 +120,7 @@ threads_of blocks = each_once nat_cmp (map (λ block. block.thread) blocks)
 abbrev pub deep_in : ℕ → List Block → Option ℕ
 deep_in limit blocks = first_item (filter (λ thread. gets_deep limit (reverse (events_of_thread thread blocks))) (threads_of blocks))
 
--- a fault is want of memory, or it names this thread
+-- a fault is out of memory, or it names this thread
 abbrev pub IsDeepFault : StackFault → Option ℕ → Type 0
 IsDeepFault NoMemory deep = Unit {0}
 IsDeepFault (Deep thread) deep = deep ≡ Some thread

@@ -51,7 +51,7 @@ impl ThreadCalls {
         self.calls.depth()
     }
 
-    /// Takes the thread's next event, and answers the pair that it makes. `NoMemory` means that an
+    /// Takes the thread's next event, and returns the pair that it makes. `NoMemory` means that an
     /// allocation was refused, or that there are more events than a `usize` counts. After it no
     /// clause says where the thread is.
     #[inline(always)]

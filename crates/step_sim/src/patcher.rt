@@ -81,7 +81,7 @@ impl<'a> Patcher<'a> {
         }
     }
 
-    /// Makes the next micro step. Answers whether there was one.
+    /// Makes the next micro step. Returns whether there was one.
     fn make_step(&mut self) -> bool
         ensures at { (program : Program) (threads : ℕ) (script : List Command) (place : ℕ)
             → IsPatcherAt program threads script place self.old

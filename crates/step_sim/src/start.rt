@@ -23,7 +23,7 @@ use xray_io::NoMemory;
 
 /// A replay before its first turn, with all that it needs: the words as they are when the threads
 /// start, the threads before their first loads, the buffers, and room for what is left at the end.
-/// `new` may fail for want of memory, and `play` can't.
+/// `new` may run out of memory, and `play` can't.
 #[derive(Drop)]
 pub struct SimStart<'a, 's> {
     patcher: Patcher<'s>,

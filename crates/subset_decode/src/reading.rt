@@ -163,7 +163,7 @@ fn instr(bytes: &[u8]) -> Result<(Instr, &[u8]), DecodeFault>
 }
 
 /// Reads the instruction at the place `at` of the bytes, which may be their end, and not beyond it.
-/// Answers it and the place after it. Places are byte offsets from the start of `bytes`. What
+/// Returns it and the place after it. Places are byte offsets from the start of `bytes`. What
 /// follows the instruction doesn't matter. The fault is that of the shortest prefix of the bytes
 /// from `at` on that decides; see `DecodeFault`.
 pub fn decode(bytes: &[u8], at: usize) -> Result<(Instr, usize), DecodeFault>
@@ -178,9 +178,9 @@ pub fn decode(bytes: &[u8], at: usize) -> Result<(Instr, usize), DecodeFault>
         → result ≡ Ok (i, at + length (spelling i)) }
     // The answer is the first instruction of the bytes from there on.
     ensures computed { Gives (λ x. x.0) result (first_instr (drop at bytes.now)) }
-    // A fault that is answered holds there.
+    // A fault that is returned holds there.
     ensures fault { IfErr result (Refuses (drop at bytes.now)) }
-    // A fault that holds there is answered.
+    // A fault that holds there is returned.
     ensures exact { (f : DecodeFault) → Refuses (drop at bytes.now) f → result ≡ Err f }
 {
     match instr(&bytes[at..]) {

@@ -144,7 +144,7 @@ module _ (bytes : List ℕ) (h : Header) (head : HasHeader bytes) (is : IsHeader
       pub program_accepted : (file : List ℕ) × IsAccepted file (program_read h p u)
       program_accepted = (bytes, (accepted bytes (program_read h p u)).1 program_reads)
 
--- a fault is want of memory, or the file's
+-- a fault is out of memory, or the file's
 pub told_fault : (bytes : List ℕ) (fault : ImageFault) → (fault ≡ faults.NoMemory) ⊎ ReadsAs bytes (Err fault) → ◌⊎◌ (◌≡◌ {A = Verdict} (Err fault) (Err faults.NoMemory)) (ReadsAs bytes (Err fault))
 told_fault bytes fault (inl full) = inl (ap (λ (f : ImageFault). Err f) full)
 told_fault bytes fault (inr reads) = inr reads

@@ -1,4 +1,4 @@
--- What follows for an answer that is what a file reads as, or want of memory.
+-- What follows for a result that is what a file reads as, or out of memory.
 use Rattle.std.proofs.Common.{◌≡◌, ℕ, List, Ok, Err, inl, inr}
 use Rattle.std.specs.Prelude.{◌⊎◌, ◌↔◌, IfOk}
 use Rattle.xray_image.specs.declared.fault.ImageFault.TheVariants.{NoMemory}

@@ -90,7 +90,7 @@ impl CodeUnits {
         Ok(())
     }
 
-    /// Adds the unit at a place of the code, and answers the place after it.
+    /// Adds the unit at a place of the code, and returns the place after it.
     fn add_next(&mut self, base: u64, code: &[u8], at: usize) -> Result<usize, ImageFault>
         requires base { base < 2 ^ 63 }
         requires code { length code.now < 2 ^ 32 }

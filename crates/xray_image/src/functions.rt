@@ -50,7 +50,7 @@ fn may_stand(base: u64, index: &UnitIndex, last: Option<u64>, function: &Functio
     is_above(base, last, function.start) && is_unit(index, function.start) && is_name(function.name)
 }
 
-/// Adds a name to those of the earlier functions. Answers whether it is none of them.
+/// Adds a name to those of the earlier functions. Returns whether it is none of them.
 fn add_name<'a>(names: &mut BTreeSet<&'a [u8]>, name: &'a [u8]) -> Result<bool, ImageFault>
     ensures own { IfOk result (λ own. own ≡ not (is_among (map (λ k. k.now) names.old.keys) name.now)) }
     ensures names { OnOk result ((other : List ℕ) → is_among (map (λ k. k.now) names.new.keys) other

@@ -41,7 +41,7 @@ counts_both first second third calls later p q = λ below.
     q below ∙ ap (λ n. n + length later) before ∙ add_assoc (desk_calls first) (length calls) (length later)
     ∙ ap (λ n. desk_calls first + n) (sym (length-append calls later))
 
--- how many writes failed for want of memory
+-- how many writes failed because memory ran out
 abbrev pub desk_refused : MemDesk → ℕ
 desk_refused desk = desk.refused
 
@@ -69,6 +69,6 @@ sink_calls sink = sink.calls.made
 abbrev pub sink_faults : MemSink → ℕ
 sink_faults sink = sink.faults
 
--- how many writes failed for want of memory
+-- how many writes failed because memory ran out
 abbrev pub sink_refused : MemSink → ℕ
 sink_refused sink = sink.refused

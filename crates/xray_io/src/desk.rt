@@ -21,7 +21,7 @@ pub trait Desk {
     /// second.
     ghost along: { Self → Self → List Call → Type 0 };
 
-    /// Reads bytes of `name` into `buf`, from byte `from` on, counted from 0. Answers how many it
+    /// Reads bytes of `name` into `buf`, from byte `from` on, counted from 0. Returns how many it
     /// read. They stand at the start of `buf`; the rest of `buf` has no meaning. Fewer bytes than
     /// `buf` has room for don't mean the end. No bytes mean the end, unless `buf` is empty.
     ///
@@ -59,7 +59,7 @@ pub trait Desk {
         ensures calm { OnOk result (write_faults self.new ≡ write_faults self.old) }
         ensures along { along self.old self.new (Create name.now result ∷ []) };
 
-    /// Writes a prefix of `bytes` at the end of what `name` holds, and answers its length. The
+    /// Writes a prefix of `bytes` at the end of what `name` holds, and returns its length. The
     /// length is 0 only if `bytes` is empty. A name that isn't held is begun. On `Failed` no name
     /// has changed, and the fault was counted as one of writing.
     fn append(&mut self, name: &str, bytes: &[u8]) -> Result<usize, Failed>

@@ -8,7 +8,7 @@ pub const MOST_DIGITS: usize = 16;
 /// The digit of 0.
 pub const ZERO: u8 = b'0';
 
-/// Writes the hexadecimal digits of a number at the end of the buffer, and answers the place where
+/// Writes the hexadecimal digits of a number at the end of the buffer, and returns the place where
 /// they begin.
 pub fn put_digits(n: u64, buffer: &mut [u8; MOST_DIGITS]) -> usize
     ensures start { result + length (digits 16 false n) ≡ 16 }

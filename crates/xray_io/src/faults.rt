@@ -1,4 +1,4 @@
-//! What a device, or a function that calls one, may answer in place of its result.
+//! What a device, or a function that calls one, may return in place of its result.
 ghost use Rattle.std.specs.Prelude.{◌≡◌};
 ghost use Rattle.xray_io.specs.declared.faults.ReadError.TheVariants.{NoMemory};
 

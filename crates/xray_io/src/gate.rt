@@ -1,7 +1,7 @@
 //! Where the order of threads can be set from outside.
 
 /// What a traced thread passes before each of its passings, and the patcher before each store that
-/// it makes while threads run. A gate may wait or count. It answers nothing and changes no result.
+/// it makes while threads run. A gate may wait or count. It returns nothing and changes no result.
 /// Threads share it.
 pub trait Gate {
     /// Thread `thread` (from 1) is about to make its passing `passing` (from 0) of a sled.

@@ -16,7 +16,7 @@ struct Calls {
 }
 
 impl Calls {
-    /// Counts a call, and answers whether it is to fail.
+    /// Counts a call, and returns whether it is to fail.
     fn count_call(&mut self) -> bool
         ensures told { IsTrue result ↔ Contains self.old.failing.items self.old.made }
         ensures counted { self.new.made ≡ raised self.old.made }
@@ -92,7 +92,7 @@ impl MemDesk {
         }
     }
 
-    /// How many writes failed for want of memory.
+    /// How many writes failed because memory ran out.
     pub fn refused(&self) -> u64
         ensures { result ≡ desk_refused self.now }
     {
@@ -277,7 +277,7 @@ impl Desk for MemDesk {
 }
 
 /// Copies the bytes from a place on to the start of the buffer, as many as there are and the buffer
-/// has room for. Answers how many.
+/// has room for. Returns how many.
 fn copy_from(bytes: &[u8], from: u64, buf: &mut [u8]) -> usize
     ensures count { result ≡ min (length bytes.now - from) (length buf.old) }
     ensures copied { take result buf.new ≡ take result (drop from bytes.now) }
@@ -328,7 +328,7 @@ impl MemSink {
         &self.bytes
     }
 
-    /// How many writes failed for want of memory.
+    /// How many writes failed because memory ran out.
     pub fn refused(&self) -> u64
         ensures { result ≡ sink_refused self.now }
     {

@@ -17,7 +17,7 @@ pub trait Sink {
     /// second, and what the sink writes to stays the same otherwise.
     ghost along: { Self → Self → List Write → Type 0 };
 
-    /// Writes a prefix of `bytes` at the end, and answers its length. The length is 0 only if
+    /// Writes a prefix of `bytes` at the end, and returns its length. The length is 0 only if
     /// `bytes` is empty. On `Failed` nothing was written, and the fault was counted.
     fn write(&mut self, bytes: &[u8]) -> Result<usize, Failed>
         ensures within { IfOk result (λ n. n ≤ length bytes.now) }

@@ -46,7 +46,7 @@ same_fault f g e = cc
 no_value : {X F : Type 0} (f : F) (x : X) → ◌≡◌ {A = Result X F} (Err f) (Ok x) → ⊥
 no_value f x e = cc
 
--- a value, or want of memory, which has no words
+-- a value, or out of memory, which has no words
 pub unrefused_by : {X F : Type 0} (told : F → Option (List ℕ)) (wanting : F) → told wanting ≡ None → (answer : Result X F) (value : X)
     → (answer ≡ Ok value) ⊎ (answer ≡ Err wanting) → IfErr answer (λ fault. told fault ≡ None)
 unrefused_by told wanting none (Ok x) value either = tt

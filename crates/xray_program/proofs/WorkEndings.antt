@@ -64,7 +64,7 @@ finishes comes outputs text trouble desk desk_now out out_now Way (Err (stops.Un
     record { outcome = ended_by outputs text trouble; comes = is; outputs = outputs; text = text; writes = ended_writes outputs text trouble; failed = fails; then_so = unmade }
 finishes comes outputs text trouble desk desk_now out out_now Way (Err stops.NoMemory) is delivers = absurd delivers
 
--- inputs that are refused once all of them were judged, or want of memory: nothing was written
+-- inputs that are refused once all of them were judged, or memory ran out: nothing was written
 pub refuses : (comes : Outcome → Type 0) (desk : DeskView) (out : SinkView) (Way : List Call → Type 0) (stop : Stop) (result : Result (Unit {0}) Stop)
     → IsErrAnd result (λ s. s ≡ stop) → Finishes comes desk desk out out Way (Err stop) → Finishes comes desk desk out out Way result
 refuses comes desk out Way stop (Ok done) is stands = absurd is

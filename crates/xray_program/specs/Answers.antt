@@ -107,7 +107,7 @@ pub record Answered (said : Option Command) (before after : World) (Way : List C
   pub bad_line : (answer ≡ 1) ↔ ((said ≡ None) × (answer ≢ 5))
   pub no_command : said ≡ None → Went Way IsNoCall
   pub refused : (answer ≡ 1) ⊎ (answer ≡ 2) ⊎ (answer ≡ 6) → Reports said before ending
-  -- 3 names an input whose turn had come, 4 the output that failed; 5 is want of memory
+  -- 3 names an input whose turn had come, 4 the output that failed; 5 is out of memory
   pub unread : answer ≡ 3 → CouldNotRead said before after ending
   pub unwritten : answer ≡ 4 → CouldNotWrite said before after ending
   pub memory : answer ≡ 5 → ending ≡ NoMemory

@@ -44,7 +44,7 @@ err_line_of (TooLong name) = err_line (name ++ codes ": too long")
 err_line_of (Fell outputs text trouble) = err_line trouble
 
 -- How a call ends: with an outcome; at an output of this name, one of these outputs, that can't be written; at out,
--- which is named `output`; or for want of memory.
+-- which is named `output`; or because memory ran out.
 pub data Ending : Type 0 where
   With : Outcome → Ending
   Unwritten : (name : List ℕ) → (outputs : List (List ℕ × List ℕ)) → Ending

@@ -38,7 +38,7 @@ use traced_run::a_whole_run_executes_to_its_end;
 use xray_io::{Desk, Gate, Sink, Wall};
 
 /// Does what `words` say, with the files of `desk`. `words` don't hold the program's own name, and say
-/// neither a `run` nor a `profile`. If `may_wait` answers `false`, they say none. Answers the program's status.
+/// neither a `run` nor a `profile`. If `may_wait` returns `false`, they say none. Returns the program's status.
 ///
 /// The microseconds of `wall` are below 1,000,000.
 ///
@@ -73,7 +73,7 @@ pub fn xray_still<D: Desk, O: Sink, E: Sink>(
 }
 
 /// Does what `words` say, with the files of `desk`. `words` don't hold the program's own name.
-/// Answers the program's status, as `xray_still` does. `run` and `profile` start their threads through
+/// Returns the program's status, as `xray_still` does. `run` and `profile` start their threads through
 /// `rt`, and they and the patcher pass `gate`. No clause says that they pass it, or that the call of
 /// `run` or of `profile` returns. All other commands are those of `xray_still`.
 pub fn xray<T: Threads + Wait + Sync, D: Desk, O: Sink, E: Sink, G: Gate + Sync>(
@@ -124,7 +124,7 @@ fn starts_threads(word: &str) -> bool
     }
 }
 
-/// Answers a call for whose words there is no memory: its status, 5. A line on `err` says so.
+/// Ends a call for whose words there is no memory. Returns its status, 5. A line on `err` says so.
 pub fn out_of_memory<E: Sink>(err: &mut E) -> u8
     ensures status { result ≡ 5 }
     ensures says { let heard = sink_view E.written E.faults in

@@ -42,7 +42,7 @@ pub(crate) const SOAK_SETUP: Setup = Setup {
     frequency: 0,
 };
 
-/// What a reader has answered for an input that isn't refused: the value, or want of memory.
+/// What a reader has returned for an input that isn't refused: the value, or out of memory.
 pub(crate) fn unrefused<X: Drop, F: Fault>(read: Result<X, F>) -> Result<X, NoMemory>
     requires { IfErr read (λ fault. F.told fault ≡ None) }
     ensures { IfOk result (λ value. read ≡ Ok value) }

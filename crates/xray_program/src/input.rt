@@ -79,7 +79,7 @@ pub(crate) fn take_bytes<'a, D: Desk>(
     }
 }
 
-/// The stop for an input's fault: want of memory, or a refusal with its words.
+/// The stop for an input's fault: out of memory, or a refusal with its words.
 pub(crate) fn fault_stop<'a, F: Fault>(name: &'a str, kind: &'a str, fault: &F) -> Stop<'a>
     ensures { IsFaultStop name.now kind.now (F.told fault.now) result }
 {

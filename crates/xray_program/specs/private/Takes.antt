@@ -64,14 +64,14 @@ abbrev pub AreTaken : {X : Type 0} → (comes : DeskReads → Outcome → Type 0
 AreTaken comes yields before after (Ok inputs) = (reads : DeskReads) (outcome : Outcome) → yields inputs outcome → comes reads outcome
 AreTaken comes yields before after (Err stop) = IsStopAtInput comes before after stop
 
--- what an error of reading comes to: an input that can't be read or is too long, or want of memory
+-- what an error of reading comes to: an input that can't be read or is too long, or out of memory
 abbrev pub IsReadStop : List ℕ → ReadError → Stop → Type 0
 IsReadStop name error (stops.Unread n) = (n.now ≡ name) × (error ≡ errors.ReadFault)
 IsReadStop name error (stops.TooLong n) = (n.now ≡ name) × (error ≡ errors.TooLong)
 IsReadStop name error stops.NoMemory = error ≡ errors.NoMemory
 IsReadStop name error stop = ⊥
 
--- what a reader's fault comes to: a refusal in its words, or want of memory if there are none
+-- what a reader's fault comes to: a refusal in its words, or out of memory if there are none
 abbrev pub IsFaultStop : (name kind : List ℕ) → Option (List ℕ) → Stop → Type 0
 IsFaultStop name kind told (stops.Refused n k words) = (n.now ≡ name) × (k.now ≡ kind) × (told ≡ Some (words_text words))
 IsFaultStop name kind told stops.NoMemory = told ≡ None

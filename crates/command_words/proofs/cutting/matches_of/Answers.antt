@@ -1,4 +1,4 @@
--- clap takes the words exactly when it finds no fault. Its only other answer is want of memory.
+-- clap takes the words exactly when it finds no fault. Its only other answer is out of memory.
 use Rattle.std.proofs.Common.{ap, refl, ◌≡◌, ◌∙◌, true, List, [], ◌∷◌, Some, None, inl, inr}
 use Rattle.clap.specs.Faults.{is_simple_and_free}
 use Rattle.clap.specs.Simple.{App, app_of}
