@@ -4,7 +4,7 @@
 //! It reads an image and a script without judging them. Each thread has a core of its own if there
 //! is one, loads the words of the sleds that it passes, and records entries and exits in a ring of
 //! buffers of its own, MAX / THREADS of SIZE bytes. The patcher stores the words beside them. All
-//! loads and stores are `SeqCst`. The progress words have cache lines of their own. At the end the
+//! loads and stores are `SeqCst`. The progress words are 128 bytes apart. At the end the
 //! last buffers of each thread are written to TRACE, and the threads' ends and marks are printed. A
 //! profile has a call trie for each thread in place of the ring, and writes no file. It prints a line
 //! for each path, with the functions' ids in place of their names.
@@ -154,8 +154,8 @@ fn read_sleds(bytes: &[u8], count: usize) -> Vec<Sled> {
         .collect()
 }
 
-/// A progress word in its cache line.
-#[repr(align(64))]
+/// A progress word in its pair of cache lines.
+#[repr(align(128))]
 struct Progress(AtomicU64);
 
 /// The words that threads share: four for each sled, the handler word and the state word, and the
@@ -477,8 +477,8 @@ fn stacks<'t>(tries: impl Iterator<Item = &'t Trie>) -> String {
     text
 }
 
-/// A thread of the machine, in cache lines of its own.
-#[repr(align(64))]
+/// A thread of the machine, in pairs of cache lines of its own.
+#[repr(align(128))]
 struct Machine<'i, R> {
     image: &'i Image,
     table: &'i Table,

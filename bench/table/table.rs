@@ -2,7 +2,7 @@
 //!
 //! The words are `AtomicU64`, stored and loaded with `SeqCst`: four for each sled, then the handler
 //! word, the state word, a release word for each thread, and the argument handler's word. The
-//! progress words have cache lines of their own. Each thread loads each word, in order, as often as
+//! progress words are 128 bytes apart. Each thread loads each word, in order, as often as
 //! ROUNDS says, and stores the number of its rounds after each. LINES times the patcher waits until
 //! the first thread has made PACE more rounds, patches all sleds and unpatches them.
 
@@ -11,8 +11,8 @@ use std::iter;
 use std::sync::atomic::{AtomicU64, Ordering::SeqCst};
 use std::thread;
 
-/// A progress word in its cache line.
-#[repr(align(64))]
+/// A progress word in its pair of cache lines.
+#[repr(align(128))]
 struct Progress(AtomicU64);
 
 /// The words that threads share.
