@@ -5,9 +5,10 @@ usage: tools/compare/believe.py [--write] [ROOT]
     --write: writes docs/BELIEVE.md
     ROOT: the folder of the repository, that of this file if left out
 
-A contract is worth no more than its definitions. They are in crates/*/specs. From CONTRACT this goes on to each
-definition that one of them names, through the `use` lines of its file. Types of the code, which the logic sees as they
-are declared in src, are listed apart. The definitions of the standard library aren't listed.
+A contract is worth no more than its definitions. They are in crates/*/specs. From those that the contract names
+(CONTRACT) this goes on to each definition that one of them names, through the `use` lines of its file. Types of the
+code, which the logic sees as they are declared in src, are listed apart. The definitions of the standard library aren't
+listed.
 
 If the page differs from the sources, the first lines that differ are reported, and the status is 1.
 """
@@ -21,7 +22,15 @@ sys.path.insert(0, str(pathlib.Path(__file__).resolve().parents[1]))
 from command_line import ROOT, CommandLine  # noqa: E402
 
 PAGE = "docs/BELIEVE.md"
-CONTRACT = ("xray_program", "Answers", "Answered")
+CONTRACT = [
+    ("xray_program", "Answers", "Answered"),
+    ("command_words", "Words", "reading"),
+    ("command_words", "Items", "texts"),
+    ("xray_io", "World", "desk_view"),
+    ("xray_io", "World", "sink_view"),
+    ("xray_program", "Commands", "IsStill"),
+    ("fdr_buffer", "Times", "IsTime"),
+]
 HEADLINE = [("xray_program", "Answers", "SimIsTraced"), ("xray_program", "Answers", "RunIsTraced")]
 OPENS = re.compile(r"(?:abbrev |unfoldable )?(?:pub )?(?:(record|data) )?([^\s:(]+)")
 WORD = re.compile(r"[^\s(){}\[\],;\"λ]+")
@@ -29,10 +38,12 @@ USE = re.compile(r"^use (Rattle\.[^\s]+?)(?:\.\{(.*)\})?(?: as (\S+))?$")
 INTRO = """# What has to be believed
 
 The prover checks that the program meets its contract. Only a reader can say whether the contract is what a user wants.
-The contract is the record `Answered`, which both top calls promise ([call.rt](../crates/xray_program/src/call.rt)).
-Below are all definitions of this repository that it reaches. Whoever has read them has read all that is promised. A
-file comes before the files whose definitions it uses. So you can read from the top, and stop where a name says enough.
-[MODEL.md](MODEL.md) says the same in words.
+Both top calls have it ([call.rt](../crates/xray_program/src/call.rt)): the record `Answered`, over what the words say
+(`reading` of their `texts`) and what desk and sinks hold (`desk_view`, `sink_view`), for a wall time that is one
+(`IsTime`). One of them takes only words of commands that never wait (`IsStill`). Below are all definitions of this
+repository that this reaches. Whoever has read them has read all that is promised. A file comes before the files whose
+definitions it uses. So you can read from the top, and stop where a name says enough. [MODEL.md](MODEL.md) says the same
+in words.
 
 `tools/compare/believe.py` makes this page from the sources, and the gate compares them. Lines are those of the
 definitions. Comments aren't counted. A definition in **bold** is one that the headline reaches: what `sim` and `run`
@@ -219,7 +230,7 @@ def declared_rows(declared):
 
 
 def page(book):
-    seen, declared = book.closure([CONTRACT])
+    seen, declared = book.closure(CONTRACT)
     headline, _ = book.closure(HEADLINE)
     order = reading_order(seen)
     counted = lambda keys: f"{len(keys)} definitions in {len({key[:2] for key in keys})} files, {sum(map(book.lines, keys)):,} lines"
