@@ -1,5 +1,5 @@
 //! `asm`, and what the other commands do with the images that it writes.
-use crate::cases::{ASSEMBLE, CASE, Case, File, IMAGE, Left, check_case, check_cases};
+use crate::cases::{ASSEMBLE, CASE, Case, IMAGE, Left, check_case};
 use crate::states::{CALL_STATE, ODD_EXIT_STATE, STATE, TAIL_JUMP_STATE};
 use crate::texts::{ARGUMENT, CALL, FIBONACCI, ODD_EXIT, STRAIGHT_LINE, TAIL_JUMP};
 use example_images::CALLS;
@@ -103,193 +103,127 @@ const RELATIVE_MAP: &[u8] = &[
     1, 1, 2, 0, 0, 0, 0, 0, 0, 0, 0, 0, 0, 0, 0, 0, //
 ];
 
-/// A function with one instruction line.
-const RETURNS: File = ("x", &[b"fn a\nret\n"]);
+/// A text and what its image is: what `plain` prints of it, where some bytes are in it, what `extract` prints of it.
+struct Assembled<'r> {
+    text: &'r [u8],
+    state: &'r str,
+    image: Left<'r>,
+    map: &'r str,
+}
 
-const IMAGES: [Case; 12] = [
-    Case {
-        files: &[("x", &[STRAIGHT_LINE])],
-        before: ASSEMBLE,
-        line: "plain i",
-        out: &[STATE],
-        left: &[("i", 0, &[&IMAGE], 0)],
-        ..CASE
+const ASSEMBLED: [Assembled; 6] = [
+    Assembled {
+        text: STRAIGHT_LINE,
+        state: STATE,
+        image: ("i", 0, &[&IMAGE], 0),
+        map: STRAIGHT_LINE_MAP,
     },
-    Case {
-        files: &[("x", &[STRAIGHT_LINE])],
-        before: ASSEMBLE,
-        line: "extract i",
-        out: &[STRAIGHT_LINE_MAP],
-        ..CASE
+    Assembled {
+        text: ODD_EXIT,
+        state: ODD_EXIT_STATE,
+        image: ("i", CODE, &[ODD_EXIT_CODE], 77),
+        map: ODD_EXIT_MAP,
     },
-    Case {
-        files: &[("x", &[ODD_EXIT])],
-        before: ASSEMBLE,
-        line: "plain i",
-        out: &[ODD_EXIT_STATE],
-        left: &[("i", CODE, &[ODD_EXIT_CODE], 77)],
-        ..CASE
+    Assembled {
+        text: ARGUMENT,
+        state: ODD_EXIT_STATE,
+        image: ("i", CODE, &[ODD_EXIT_CODE], 77),
+        map: ARGUMENT_MAP,
     },
-    Case {
-        files: &[("x", &[ODD_EXIT])],
-        before: ASSEMBLE,
-        line: "extract i",
-        out: &[ODD_EXIT_MAP],
-        ..CASE
+    Assembled {
+        text: CALL,
+        state: CALL_STATE,
+        image: ("i", 0, &[&CALLS], 0),
+        map: CALL_MAP,
     },
-    Case {
-        files: &[("x", &[ARGUMENT])],
-        before: ASSEMBLE,
-        line: "plain i",
-        out: &[ODD_EXIT_STATE],
-        left: &[("i", CODE, &[ODD_EXIT_CODE], 77)],
-        ..CASE
+    Assembled {
+        text: TAIL_JUMP,
+        state: TAIL_JUMP_STATE,
+        image: ("i", CODE, &[TAIL_JUMP_CODE], 148),
+        map: TAIL_JUMP_MAP,
     },
-    Case {
-        files: &[("x", &[ARGUMENT])],
-        before: ASSEMBLE,
-        line: "extract i",
-        out: &[ARGUMENT_MAP],
-        ..CASE
-    },
-    Case {
-        files: &[("x", &[CALL])],
-        before: ASSEMBLE,
-        line: "plain i",
-        out: &[CALL_STATE],
-        left: &[("i", 0, &[&CALLS], 0)],
-        ..CASE
-    },
-    Case {
-        files: &[("x", &[CALL])],
-        before: ASSEMBLE,
-        line: "extract i",
-        out: &[CALL_MAP],
-        ..CASE
-    },
-    Case {
-        files: &[("x", &[TAIL_JUMP])],
-        before: ASSEMBLE,
-        line: "plain i",
-        out: &[TAIL_JUMP_STATE],
-        left: &[("i", CODE, &[TAIL_JUMP_CODE], 148)],
-        ..CASE
-    },
-    Case {
-        files: &[("x", &[TAIL_JUMP])],
-        before: ASSEMBLE,
-        line: "extract i",
-        out: &[TAIL_JUMP_MAP],
-        ..CASE
-    },
-    Case {
-        files: &[("x", &[FIBONACCI])],
-        before: ASSEMBLE,
-        line: "plain i",
-        out: &[FIBONACCI_STATE],
-        left: &[("i", CODE, &[FIBONACCI_CODE], 153)],
-        ..CASE
-    },
-    Case {
-        files: &[("x", &[FIBONACCI])],
-        before: ASSEMBLE,
-        line: "extract i",
-        out: &[FIBONACCI_MAP],
-        ..CASE
+    Assembled {
+        text: FIBONACCI,
+        state: FIBONACCI_STATE,
+        image: ("i", CODE, &[FIBONACCI_CODE], 153),
+        map: FIBONACCI_MAP,
     },
 ];
 
 #[test]
 fn texts_become_images_that_run_and_have_their_sleds(rt: HostRuntime) -> Result<(), Fail> {
-    check_cases(&rt, &IMAGES)
+    for assembled in &ASSEMBLED {
+        let case = Case {
+            files: &[("x", &[assembled.text])],
+            before: ASSEMBLE,
+            line: "plain i",
+            out: &[assembled.state],
+            left: &[assembled.image],
+            ..CASE
+        };
+        check_case(&rt, &case)?;
+    }
+    Ok(())
 }
 
-const OPTIONS: [Case; 12] = [
-    // Maps with relative addresses.
-    Case {
-        files: &[("x", &[STRAIGHT_LINE])],
-        before: &["asm x --map-version=2 i"],
-        line: "extract i",
-        out: &[STRAIGHT_LINE_MAP],
-        ..CASE
-    },
-    Case {
-        files: &[("x", &[ODD_EXIT])],
-        before: &["asm x --map-version=2 i"],
-        line: "extract i",
-        out: &[ODD_EXIT_MAP],
-        ..CASE
-    },
-    Case {
-        files: &[("x", &[ARGUMENT])],
-        before: &["asm x --map-version=2 i"],
-        line: "extract i",
-        out: &[ARGUMENT_MAP],
-        ..CASE
-    },
-    Case {
-        files: &[("x", &[CALL])],
-        before: &["asm x --map-version=2 i"],
-        line: "extract i",
-        out: &[CALL_MAP],
-        ..CASE
-    },
-    Case {
-        files: &[("x", &[TAIL_JUMP])],
-        before: &["asm x --map-version=2 i"],
-        line: "extract i",
-        out: &[TAIL_JUMP_MAP],
-        ..CASE
-    },
-    Case {
-        files: &[("x", &[FIBONACCI])],
-        before: &["asm x --map-version=2 i"],
-        line: "extract i",
-        out: &[FIBONACCI_MAP],
-        ..CASE
-    },
-    Case {
-        files: &[("x", &[STRAIGHT_LINE])],
-        line: "asm x i --map-version 2",
-        left: &[("i", 106, &[RELATIVE_MAP], 0)],
-        ..CASE
-    },
+/// The lines that assemble the text `x` with addresses of each kind in the sled map.
+const EACH_MAP: [&[&str]; 2] = [ASSEMBLE, &["asm x --map-version=2 i"]];
+
+#[test]
+fn images_have_their_sleds_whatever_their_addresses(rt: HostRuntime) -> Result<(), Fail> {
+    for before in &EACH_MAP {
+        for assembled in &ASSEMBLED {
+            let case = Case {
+                files: &[("x", &[assembled.text])],
+                before,
+                line: "extract i",
+                out: &[assembled.map],
+                ..CASE
+            };
+            check_case(&rt, &case)?;
+        }
+    }
+    Ok(())
+}
+
+/// Texts, lines that assemble them, and what is in the image.
+const OPTIONS: [(&[u8], &str, Left); 6] = [
+    (
+        STRAIGHT_LINE,
+        "asm x i --map-version 2",
+        ("i", 106, &[RELATIVE_MAP], 0),
+    ),
     // The threshold is a number of instruction lines.
-    Case {
-        files: &[RETURNS],
-        line: "asm x i",
-        left: &[("i", 0, &[b"XRIM"], 157)],
-        ..CASE
-    },
-    Case {
-        files: &[RETURNS],
-        line: "asm x --threshold 0 i",
-        left: &[("i", 0, &[b"XRIM"], 157)],
-        ..CASE
-    },
-    Case {
-        files: &[RETURNS],
-        line: "asm --threshold=+01 x i",
-        left: &[("i", 0, &[b"XRIM"], 157)],
-        ..CASE
-    },
-    Case {
-        files: &[RETURNS],
-        line: "asm x i --threshold 2",
-        left: &[("i", 0, &[b"XRIM"], 71)],
-        ..CASE
-    },
-    Case {
-        files: &[RETURNS],
-        line: "asm --threshold=4294967295 -- x i",
-        left: &[("i", 0, &[b"XRIM"], 71)],
-        ..CASE
-    },
+    (RETURNS, "asm x i", ("i", 0, &[b"XRIM"], 157)),
+    (RETURNS, "asm x --threshold 0 i", ("i", 0, &[b"XRIM"], 157)),
+    (
+        RETURNS,
+        "asm --threshold=+01 x i",
+        ("i", 0, &[b"XRIM"], 157),
+    ),
+    (RETURNS, "asm x i --threshold 2", ("i", 0, &[b"XRIM"], 71)),
+    (
+        RETURNS,
+        "asm --threshold=4294967295 -- x i",
+        ("i", 0, &[b"XRIM"], 71),
+    ),
 ];
+
+/// A function with one instruction line.
+const RETURNS: &[u8] = b"fn a\nret\n";
 
 #[test]
 fn images_are_as_the_options_ask(rt: HostRuntime) -> Result<(), Fail> {
-    check_cases(&rt, &OPTIONS)
+    for (text, line, left) in &OPTIONS {
+        let case = Case {
+            files: &[("x", &[*text])],
+            line,
+            left: &[*left],
+            ..CASE
+        };
+        check_case(&rt, &case)?;
+    }
+    Ok(())
 }
 
 /// Texts, and the lines on err.

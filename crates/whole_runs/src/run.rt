@@ -24,6 +24,16 @@ const FOUR: &[&str] = &[
     FIBONACCI_STATE,
 ];
 
+/// The trace of an exit of function 2 and an exit of function 1.
+const EXITS: &[&[u8]] = &[
+    HEADER,
+    EXTENTS_80,
+    PREAMBLE,
+    CPU_AT_1,
+    EXIT_OF_2,
+    EXIT_AFTER_1,
+];
+
 /// What is printed of two threads of a call.
 const TWO: &[&str] = &[CALL_STATE, "marks +4\n", SECOND_CALL_STATE, "marks +4\n"];
 
@@ -89,19 +99,7 @@ const CASES: [Case; 7] = [
         before: ASSEMBLE,
         line: "run i s t a --wall 0",
         out: &[CALL_STATE, "marks .2 +2\n"],
-        left: &[(
-            "t",
-            0,
-            &[
-                HEADER,
-                EXTENTS_80,
-                PREAMBLE,
-                CPU_AT_1,
-                EXIT_OF_2,
-                EXIT_AFTER_1,
-            ],
-            0,
-        )],
+        left: &[("t", 0, EXITS, 0)],
         ..CASE
     },
 ];
