@@ -204,49 +204,47 @@ fn a_damaged_audit_is_refused_at_its_first_bad_line(rt: HostRuntime) -> Result<(
 /// The words of an order.
 const ORDER: &str = "order i s a f o";
 
-/// A text, a script, the lines of a run and of its replay, and a check. The trace of a replay is the one that the audit
-/// of the run means, and its audit means the trace of the run.
-const REPLAYED: [(&[u8], &[u8], &str, &str, &str); 6] = [
+/// The lines of a run, of its order and of its replay, with one thread, four and sixteen.
+const ONE: &[&str] = &[
+    "asm x i",
+    "run i s t a --wall 0",
+    ORDER,
+    "sim i f o u b --wall 0",
+];
+
+const FOUR: &[&str] = &[
+    "asm x i",
+    "run i s t a --wall 0 --threads 4",
+    ORDER,
+    "sim i f o u b --wall 0 --threads 4",
+];
+
+const SIXTEEN: &[&str] = &[
+    "asm x i",
+    "run i s t a --wall 0 --threads 16",
+    ORDER,
+    "sim i f o u b --wall 0 --threads 16",
+];
+
+/// A text and a script, such lines, and a check. The trace of a replay is the one that the audit of the run means, and
+/// its audit means the trace of the run.
+const REPLAYED: [(&[File], &[&str], &str); 6] = [
     (
-        STRAIGHT_LINE,
-        LIVE,
-        "run i s t a --wall 0",
-        "sim i f o u b --wall 0",
+        &[("x", &[STRAIGHT_LINE]), ("s", &[LIVE])],
+        ONE,
         "check i s u a",
     ),
     (
-        STRAIGHT_LINE,
-        LIVE,
-        "run i s t a --wall 0",
-        "sim i f o u b --wall 0",
+        &[("x", &[STRAIGHT_LINE]), ("s", &[LIVE])],
+        ONE,
         "check i s t b",
     ),
+    (&[("x", &[CALL]), ("s", &[LIVE])], SIXTEEN, "check i s u a"),
+    (&[("x", &[CALL]), ("s", &[HELD])], ONE, "check i s u a"),
+    (&[("x", &[CALL]), ("s", &[HELD])], ONE, "check i s t b"),
     (
-        CALL,
-        LIVE,
-        "run i s t a --wall 0 --threads 16",
-        "sim i f o u b --wall 0 --threads 16",
-        "check i s u a",
-    ),
-    (
-        CALL,
-        HELD,
-        "run i s t a --wall 0",
-        "sim i f o u b --wall 0",
-        "check i s u a",
-    ),
-    (
-        CALL,
-        HELD,
-        "run i s t a --wall 0",
-        "sim i f o u b --wall 0",
-        "check i s t b",
-    ),
-    (
-        FIBONACCI,
-        TRACED,
-        "run i s t a --wall 0 --threads 4",
-        "sim i f o u b --wall 0 --threads 4",
+        &[("x", &[FIBONACCI]), ("s", &[TRACED])],
+        FOUR,
         "check i s u a",
     ),
 ];
@@ -282,10 +280,10 @@ const UNORDERED: [(&[u8], &str); 3] = [
 
 #[test]
 fn an_ordered_run_is_replayed(rt: HostRuntime) -> Result<(), Fail> {
-    for (text, script, run, replay, check) in &REPLAYED {
+    for (files, before, check) in &REPLAYED {
         let case = Case {
-            files: &[("x", &[*text]), ("s", &[*script])],
-            before: &["asm x i", *run, ORDER, *replay],
+            files,
+            before,
             line: check,
             out: YES,
             ..CASE
