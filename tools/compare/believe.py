@@ -38,12 +38,12 @@ USE = re.compile(r"^use (Rattle\.[^\s]+?)(?:\.\{(.*)\})?(?: as (\S+))?$")
 INTRO = """# What has to be believed
 
 The prover checks that the program meets its contract. Only a reader can say whether the contract is what a user wants.
-Both top calls have it ([call.rt](../crates/xray_program/src/call.rt)): the record `Answered`, over what the words say
-(`reading` of their `texts`) and what desk and sinks hold (`desk_view`, `sink_view`), for a wall time that is one
-(`IsTime`). One of them takes only words of commands that never wait (`IsStill`). Below are all definitions of this
-repository that this reaches. Whoever has read them has read all that is promised. A file comes before the files whose
-definitions it uses. So you can read from the top, and stop where a name says enough. [MODEL.md](MODEL.md) says the same
-in words.
+Both top calls promise it ([call.rt](../crates/xray_program/src/call.rt)): the record `Answered`, over what the words
+say (`reading` of their `texts`) and over what the desk and the sinks hold (`desk_view`, `sink_view`). The microseconds
+of the wall time have to be below 1,000,000 (`IsTime`). One of the calls takes only words of commands that never wait
+(`IsStill`). Below are all definitions of this repository that this contract reaches. Whoever has read them has read all
+that is promised. A file comes before the files whose definitions it uses. So you can read from the top, and stop where
+a name says enough. [MODEL.md](MODEL.md) says the same in words.
 
 `tools/compare/believe.py` makes this page from the sources, and the gate compares them. Lines are those of the
 definitions. Comments aren't counted. A definition in **bold** is one that the headline reaches: what `sim` and `run`
