@@ -10,7 +10,9 @@ A contract is worth no more than its definitions. They are in crates/*/specs. Fr
 code, which the logic sees as they are declared in src, are listed apart. The definitions of the standard library aren't
 listed.
 
-If the page differs from the sources, the first lines that differ are reported, and the status is 1.
+If the page differs from the sources, the first lines that differ are reported, and the status is 1. A line of specs/ that
+can't be read as part of a definition is reported too, and each public name that was not read as a definition. The status
+is then 2, since the page might leave something out.
 """
 import difflib
 import pathlib
@@ -32,7 +34,10 @@ CONTRACT = [
     ("fdr_buffer", "Times", "IsTime"),
 ]
 HEADLINE = [("xray_program", "Answers", "SimIsTraced"), ("xray_program", "Answers", "RunIsTraced")]
-OPENS = re.compile(r"(?:abbrev |unfoldable )?(?:pub )?(?:(record|data) )?([^\s:(]+)")
+MODIFIERS = r"(?:(?:abbrev|unfoldable|opaque|pub) )*"
+OPENS = re.compile(MODIFIERS + r"(?:(?:record|data) ([^\s:(]+)|([^\s:(]+)(?: \{[^}]*\})* :(?= |$))")
+PUBLIC = re.compile(r"\s*(?:(?:abbrev|unfoldable|opaque) )+pub (?:(?:record|data) )?([^\s:(]+)|\s*pub (?:record|data) ([^\s:(]+)|pub (?!use |mod )([^\s:(]+)")
+MODULE = re.compile(r"module _ .* where$")
 WORD = re.compile(r"[^\s(){}\[\],;\"λ]+")
 USE = re.compile(r"^use (Rattle\.[^\s]+?)(?:\.\{(.*)\})?(?: as (\S+))?$")
 INTRO = """# What has to be believed
@@ -42,13 +47,14 @@ Both top calls promise it ([call.rt](../crates/xray_program/src/call.rt)): the r
 say (`reading` of their `texts`) and over what the desk and the sinks hold (`desk_view`, `sink_view`). The microseconds
 of the wall time have to be below 1,000,000 (`IsTime`). One of the calls takes only words of commands that never wait
 (`IsStill`). Below are all definitions of this repository that this contract reaches. Whoever has read them has read all
-that is promised. A file comes before the files whose definitions it uses. So you can read from the top, and stop where
-a name says enough. [MODEL.md](MODEL.md) says the same in words.
+that is promised. In each list a file comes before the files whose definitions it uses. So you can read from the top,
+and stop where a name says enough. [MODEL.md](MODEL.md) says the same in words.
 
 `tools/compare/believe.py` makes this page from the sources, and the gate compares them. Lines are those of the
-definitions. Comments aren't counted. A definition in **bold** is one that the headline reaches: what `sim` and `run`
-promise about threads, marks and traces (`SimIsTraced` and `RunIsTraced`).
+definitions. Comments aren't counted.
 """
+HEADLINE_INTRO = """What `sim` and `run` promise about threads, marks and traces (`SimIsTraced` and `RunIsTraced`) stands on these
+definitions alone."""
 
 
 def split_uses(text):
@@ -72,6 +78,10 @@ def split_uses(text):
             yield "", part
 
 
+class Unread(Exception):
+    """A line of specs/ that can't be read as part of a definition."""
+
+
 class File:
     """A file of definitions: what it uses, and its definitions with their lines."""
 
@@ -79,33 +89,60 @@ class File:
         self.crate = crate
         self.module = ".".join(path.relative_to(root / "crates" / crate / "specs").with_suffix("").parts)
         self.place = path.relative_to(root)
-        self.uses, self.others, self.items = {}, {}, {}
+        # `shared` has the line of the module with parameters that a definition stands in.
+        self.uses, self.others, self.items, self.shared = {}, {}, {}, {}
         lines = path.read_text(encoding="utf-8").split("\n")
         self.read(lines)
+        self.check(lines)
 
     def read(self, lines):
-        above, current = [], None
-        for line in lines:
-            if line.startswith("use "):
-                self.read_use(line)
+        above, current, module = [], None, None
+        for at, line in enumerate(lines, 1):
+            indented = line.startswith((" ", "\t"))
+            if module and line.strip() and not indented:
+                module = None
+            inner = line[2:] if module else line
+            if not line.strip():
+                above = []
+            elif inner.startswith("--"):
+                above, current = above + [inner], None
+            elif inner.startswith(("use ", "pub use ")):
+                self.read_use(inner.removeprefix("pub "))
                 above, current = [], None
-            elif line.startswith("--"):
-                above, current = above + [line], None
-            elif not line.strip():
+            elif inner.startswith(("pub mod ", "mod ", "infix")):
                 above, current = [], None
-            elif line.startswith(("pub mod ", "mod ", "infix", "pub use ")):
-                above, current = [], None
-            elif line.startswith((" ", "\t")):
-                if current:
-                    self.items[current].append(line)
+            elif MODULE.match(inner):
+                above, current, module = [], None, line
+            elif inner.startswith((" ", "\t")):
+                if current is None:
+                    raise Unread(f"{self.place}:{at}: this line belongs to no definition: {line.strip()}")
+                self.items[current].append(inner)
             else:
-                opened = OPENS.match(line)
-                name = opened[2] if opened else current
-                if name in self.items:
-                    self.items[name].append(line)
-                else:
-                    self.items[name] = above + [line]
-                above, current = [], name
+                above, current = [], self.read_opening(inner, above, current, module, at)
+
+    def read_opening(self, line, above, current, module, at):
+        """The definition that a line opens, or whose clause it is."""
+        opened = OPENS.match(line)
+        if opened:
+            name = opened[1] or opened[2]
+            self.items.setdefault(name, []).extend(above + [line])
+            if module:
+                self.shared[name] = module
+            return name
+        first = line.split()[0]
+        name = first if first in self.items else current
+        if name is None or above:
+            raise Unread(f"{self.place}:{at}: this line opens no definition: {line}")
+        self.items[name].append(line)
+        return name
+
+    def check(self, lines):
+        """Each public name was read as a definition."""
+        for at, line in enumerate(lines, 1):
+            found = PUBLIC.match(line)
+            name = found and (found[1] or found[2] or found[3])
+            if name and name not in self.items:
+                raise Unread(f"{self.place}:{at}: the public name {name} was not read as a definition")
 
     def read_use(self, line):
         found = USE.match(line.strip())
@@ -171,12 +208,12 @@ class Book:
         """The definitions that one names, in the order of the text."""
         crate, module, name = key
         file = self.files[crate, module]
-        for line in file.items[name]:
+        for line in [file.shared.get(name, ""), *file.items[name]]:
             if line.startswith("--"):
                 continue
             code = re.sub(r'"(?:[^"\\]|\\.)*"', " ", line.split(" -- ")[0])
             for word in WORD.findall(code):
-                for part in {word, word.split(".")[0]}:
+                for part in (word, word.split(".")[0], f"◌{word}◌"):
                     found = self.within(file, part)
                     if found is None and part in file.others and "." in word:
                         found = self.home(file.others[part], word.split(".")[1])
@@ -229,20 +266,25 @@ def declared_rows(declared):
     return {key: list(dict.fromkeys(kinds)) for key, kinds in rows.items()}
 
 
+def table(book, keys):
+    """The rows of definitions, by files in reading order."""
+    rows = ["| File | Lines | Definitions |", "|---|---|---|"]
+    for file in reading_order({key: [other for other in book.cited(key) if other in keys] for key in keys}):
+        own = sorted((key for key in keys if key[:2] == file), key=lambda key: list(book.files[file].items).index(key[2]))
+        names = ", ".join(f"`{key[2]}`" for key in own)
+        rows.append(f"| [{file[0]}: {file[1]}](../{book.files[file].place}) | {sum(map(book.lines, own))} | {names} |")
+    return rows
+
+
 def page(book):
     seen, declared = book.closure(CONTRACT)
     headline, _ = book.closure(HEADLINE)
-    order = reading_order(seen)
+    others = {key: None for key in seen if key not in headline}
     counted = lambda keys: f"{len(keys)} definitions in {len({key[:2] for key in keys})} files, {sum(map(book.lines, keys)):,} lines"
-    text = [INTRO, f"- all: {counted(list(seen))}", f"- the headline: {counted([key for key in headline if key in seen])}", ""]
-    text += ["## Definitions", "", "| File | Lines | Definitions |", "|---|---|---|"]
-    for file in order:
-        keys = [key for key in seen if key[:2] == file]
-        keys.sort(key=lambda key: list(book.files[file].items).index(key[2]))
-        names = ", ".join(f"**`{key[2]}`**" if key in headline else f"`{key[2]}`" for key in keys)
-        place = book.files[file].place
-        text.append(f"| [{file[0]}: {file[1]}](../{place}) | {sum(map(book.lines, keys))} | {names} |")
-    text += ["", "## Types of the code", "", "The logic sees them as they are declared.", "", "| File | Types and constants |", "|---|---|"]
+    text = [INTRO, f"- the headline: {counted(headline)}", f"- all: {counted(seen)}", ""]
+    text += ["## The headline", "", HEADLINE_INTRO, "", *table(book, headline), ""]
+    text += ["## The rest of the contract", "", *table(book, others), ""]
+    text += ["## Types of the code", "", "The logic sees them as they are declared.", "", "| File | Types and constants |", "|---|---|"]
     for (crate, module), kinds in sorted(declared_rows(declared).items()):
         source = f"crates/{crate}/src/{module}.rt" if module else f"crates/{crate}/src/lib.rt"
         text.append(f"| [{crate}: {module or 'lib'}](../{source}) | {', '.join(f'`{kind}`' for kind in kinds)} |")
@@ -254,7 +296,11 @@ def main():
     parser.add_argument("--write", action="store_true")
     parser.add_argument("root", nargs="?", type=pathlib.Path, default=ROOT, metavar="ROOT")
     given = parser.parse_args()
-    made = page(Book(given.root))
+    try:
+        made = page(Book(given.root))
+    except Unread as fault:
+        print(fault)
+        return 2
     place = given.root / PAGE
     if given.write:
         place.write_text(made, encoding="utf-8")
