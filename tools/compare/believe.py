@@ -1,8 +1,9 @@
 #!/usr/bin/env python3
 """Lists the definitions that the contract of the top call reaches, and compares the list with docs/BELIEVE.md.
 
-usage: tools/compare/believe.py [--write] [ROOT]
+usage: tools/compare/believe.py [--write | --names] [ROOT]
     --write: writes docs/BELIEVE.md
+    --names: lists the names that more than one of these definitions and types have
     ROOT: the folder of the repository, that of this file if left out
 
 A contract is worth no more than its definitions. They are in crates/*/specs. From those that the contract names
@@ -291,16 +292,35 @@ def page(book):
     return "\n".join(text) + "\n"
 
 
+def shared_names(book):
+    """The names that several of the definitions and types have, each with the files where it has a meaning."""
+    seen, declared = book.closure(CONTRACT)
+    homes = {}
+    for crate, module, name in seen:
+        homes.setdefault(name, set()).add(f"{crate}: {module}")
+    for (crate, module), kinds in declared_rows(declared).items():
+        for kind in kinds:
+            homes.setdefault(kind, set()).add(f"{crate}: {module or 'lib'}.rt")
+    return {name: sorted(places) for name, places in sorted(homes.items()) if len(places) > 1}
+
+
 def main():
     parser = CommandLine(__doc__)
     parser.add_argument("--write", action="store_true")
+    parser.add_argument("--names", action="store_true")
     parser.add_argument("root", nargs="?", type=pathlib.Path, default=ROOT, metavar="ROOT")
     given = parser.parse_args()
     try:
-        made = page(Book(given.root))
+        book = Book(given.root)
     except Unread as fault:
         print(fault)
         return 2
+    if given.names:
+        shared = shared_names(book)
+        for name, places in shared.items():
+            print(f"{name}: {', '.join(places)}")
+        return int(bool(shared))
+    made = page(book)
     place = given.root / PAGE
     if given.write:
         place.write_text(made, encoding="utf-8")
