@@ -6,7 +6,8 @@ use Rattle.std.specs.List.{AllByRecursion, zip}
 use Rattle.std.specs.Option.{IsSomeAnd, option_map}
 use Rattle.std.proofs.lemmas.Option.{slice_get-map}
 use Rattle.subset_decode.specs.declared.instr.Instr.{Instr}
-use Rattle.subset_decode.specs.Encoding.{IsNamed}
+use Rattle.subset_decode.specs.declared.instr.Instr.TheVariants.{Call, Jmp, Mov}
+use Rattle.subset_decode.specs.Encoding.{IsEncodable, IsNamed}
 use Rattle.xray_image.specs.declared.sled.Sled.{Sled}
 use Rattle.xray_image.specs.declared.unit.Unit.{Unit}
 use Rattle.xray_image.specs.declared.unit.What.{What}
@@ -15,6 +16,9 @@ use Rattle.xray_image.specs.Container.{MapEntry, base_address}
 use Rattle.xray_image.specs.Program.{IsAccepted, Program, sled_of, trampoline_of}
 use Rattle.xray_image.specs.Units.{Align, Instruction, IsPiece, JumpSled, Piece, ReturnSled, SledPlace, piece_bytes, places_from, sleds_in, units_from, what_of}
 use Rattle.xray_image.proofs.Acceptance.{sleds_are, sleds_stand}
+use Rattle.machine_step.specs.PlainStep.{State}
+use Rattle.traced_run.specs.Executed.{to_trampoline}
+use Rattle.traced_run.proofs.SmallIds.{small_id}
 
 -- an item of a list has a place
 pub at_place : {X : Type 0} (xs : List X) (x : X) → Contains xs x → (i : ℕ) × (slice_get xs i ≡ Some x)
@@ -90,3 +94,15 @@ module _ (bytes : List ℕ) (program : Program) (a : IsAccepted bytes program) w
           let both = both_at places a.parts.entries k place entry at in
           let same : sled_of a.parts.entries (place, entry) ≡ sled = cc in
           subst Near same (a.near k place entry both.0 both.1)
+
+  -- the id of a sled, and the distances to its trampoline, fit their instructions
+  pub id_fits : (k : ℕ) (sled : Sled) → slice_get program.sleds k ≡ Some sled → IsEncodable (Mov 10 sled.id)
+  id_fits k sled found = (omega arith, omega (arith, small_id bytes program k sled a found))
+
+  pub distances_fit : (k : ℕ) (sled : Sled) (s : State) → slice_get program.sleds k ≡ Some sled → s.address ≡ sled.address
+      → IsEncodable (Call (to_trampoline program.trampolines sled s)) × IsEncodable (Jmp (to_trampoline program.trampolines sled s))
+  distances_fit k sled s found at =
+      let near : FitsSigned w32 (to_trampoline program.trampolines sled s) =
+      subst (λ (address : ℕ). FitsSigned w32 (pos (trampoline_of program.trampolines sled.kind) -ℤ pos (address + 11))) (sym at)
+      (reaches_trampoline k sled found) in
+      (near, near)

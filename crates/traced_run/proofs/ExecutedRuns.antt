@@ -1,12 +1,13 @@
--- With whole passings, executing the code always comes to the end of the plain run.
-use Rattle.std.proofs.Common.{◌≡◌, ℕ, zero, suc, ◌+◌, ◌==◌, Bool, true, false, List, [], ◌∷◌, ◌++◌, length, Option, Some, refl, sym, ap, subst, ◌∙◌, inl, inr, arith, add-zero, zero-add, suc-add, get_or, length-append}
-use Rattle.std.specs.Prelude.{Contains, FitsSigned, MatchBool, ℤ, pos, ◌-ℤ◌, slice_get}
+-- With whole passings, executing the code comes to the end of the plain run.
+use Rattle.std.proofs.Common.{◌≡◌, ℕ, zero, suc, ◌+◌, ◌/◌, ◌%◌, ◌==◌, Bool, true, false, List, [], ◌∷◌, ◌++◌, length, Option, Some, None, refl, sym, ap, subst, ◌∙◌, inl, inr, arith, add-zero, zero-add, suc-add, get_or, length-append, eqb-true, eq-eqb}
+use Rattle.std.specs.Prelude.{Contains, FitsSigned, ℤ, pos, ◌-ℤ◌, find, if◌then◌else◌, option_and_then, slice_get}
 use Rattle.std.specs.Int.{w32}
-use Rattle.std.specs.Option.{option_map}
+use Rattle.std.specs.Option.{option_map, option_map_or}
+use Rattle.std.proofs.lemmas.Bool.{ne_eqb}
 use Rattle.std.proofs.lemmas.List.{set-set}
-use Rattle.std.proofs.lemmas.Option.{same_Some, slice_get-get_or, slice_get-map, slice_get_within}
+use Rattle.std.proofs.lemmas.Option.{slice_get-get_or, slice_get-map, slice_get_within}
 use Rattle.subset_decode.specs.declared.instr.Instr.TheVariants.{Mov, Call, Jmp}
-use Rattle.subset_decode.specs.Encoding.{IsEncodable, spelling}
+use Rattle.subset_decode.specs.Encoding.{spelling}
 use Rattle.xray_image.specs.declared.sled.Sled.{Sled}
 use Rattle.xray_image.specs.declared.sled.SledKind.{SledKind}
 use Rattle.xray_image.specs.declared.sled.SledKind.TheVariants.{Entry, Exit, Tail, Args}
@@ -16,7 +17,7 @@ use Rattle.xray_image.specs.declared.unit.What.TheVariants as whats
 use Rattle.xray_image.specs.Program.{IsAccepted, Program, trampoline_of}
 use Rattle.sled_words.specs.Allowed.{IsUnpatchedHead}
 use Rattle.sled_words.specs.declared.part.Part.TheVariants.{Head, Id, Opcode, Offset}
-use Rattle.sled_words.specs.Parts.{displacement, patched_head, patched_opcode}
+use Rattle.sled_words.specs.Parts.{displacement, jump_head, patched_head, patched_opcode}
 use Rattle.machine_step.specs.declared.end.End.{End}
 use Rattle.machine_step.specs.declared.end.End.TheVariants as ends
 use Rattle.machine_step.specs.declared.limits.Limits.{Limits}
@@ -30,21 +31,18 @@ use Rattle.machine_step.proofs.OneEnd.{Passes as PassesOrEnds}
 use Rattle.machine_step.proofs.OneUnit.{accepted_units}
 use Rattle.traced_run.specs.Decoded.{DecodesWhole}
 use Rattle.traced_run.specs.Runs.{ThreadRun}
-use Rattle.traced_run.specs.Executed.{EndsIn, Executes, ExecutesOn, ExecutesTo, Fetched, SledStep, StepExecutes, UnitExecutes, all_parts, calls, head_alone, jumps, leaves, past, returned, to_trampoline, with_r10, loaded_bytes}
+use Rattle.traced_run.specs.Executed.{Executes, bytes_fetched, code_step, executed, loaded_bytes, past, sled_step, unit_step, with_r10}
 use Rattle.traced_run.proofs.AcceptedCode.{names_registers, reaches_trampoline, stands_at_unit}
 use Rattle.traced_run.proofs.ButR10.{but_r10, does_but, fuelled_but, returns_but}
-use Rattle.traced_run.proofs.OneExecution.{OneHere, same_step}
 use Rattle.traced_run.proofs.SledBytes.{call_bytes, jump_away_bytes, jump_bytes, return_bytes}
-use Rattle.traced_run.proofs.SmallIds.{small_id}
+use Rattle.traced_run.proofs.SledSteps.{Found, all_fetched, call_step, found_first, head_fetched, jump_step, leave_step, none_found, rest_fetched, return_step}
 
 -- ---- a sled
 
 -- a step with the loads of a passing, from a state to what the plain run does, with some r10
 record Passes (program : Program) (limits : Limits) (k : ℕ) (sled : Sled) (own : List Load) (s : State) (next : Next) : Type 0 where
   r10 : ℕ
-  bytes : List ℕ
-  fetched : Fetched k own bytes
-  step : SledStep program.trampolines limits sled s bytes (but_r10 r10 next)
+  step : sled_step program.trampolines limits sled s (bytes_fetched k own) ≡ Some (but_r10 r10 next)
 
 -- a return of a thread with another r10
 return_but : (limits : Limits) (r : ℕ) (s : State)
@@ -52,34 +50,27 @@ return_but : (limits : Limits) (r : ℕ) (s : State)
 return_but limits r s =
     ap (λ next. fuelled limits (with_r10 r s) next) (returns_but r s s.stack) ∙ fuelled_but limits r s (returns s s.stack)
 
-module _ (bytes : List ℕ) (program : Program) (a : IsAccepted bytes program) (limits : Limits) (k : ℕ) (sled : Sled) (own : List Load) where
+module _ (bytes : List ℕ) (program : Program) (a : IsAccepted bytes program) (limits : Limits) (k : ℕ) (sled : Sled) (own : List Load)
+    (one : HaveOneValue own k) where
+  -- a jump over the sled
+  jumps : (r : ℕ) (s : State) (head : ℕ) → Loaded own k Head head → head ≡ jump_head
+      → sled_step program.trampolines limits sled (with_r10 r s) (bytes_fetched k own) ≡ Some (Goes (past 11 (with_r10 r s)))
+  jumps r s head loaded is =
+      ap (sled_step program.trampolines limits sled (with_r10 r s))
+      (head_fetched k own head one loaded ∙ ap (λ (front : List ℕ). front ++ rest_fetched k own) (ap (loaded_bytes Head) is ∙ jump_bytes))
+      ∙ jump_step program.trampolines limits sled (with_r10 r s) (rest_fetched k own)
+
   unpatched_passes : (kind : SledKind) → (r : ℕ) (s : State) (head : ℕ) → Loaded own k Head head → IsUnpatchedHead kind head
       → Passes program limits k sled own (with_r10 r s) (after_passing limits s kind)
-  unpatched_passes Entry r s head loaded is = record {
-    r10 = r;
-    bytes = loaded_bytes Head head;
-    fetched = head_alone head loaded;
-    step = jumps (ap (loaded_bytes Head) is ∙ jump_bytes);
-  }
-  unpatched_passes Tail r s head loaded is = record {
-    r10 = r;
-    bytes = loaded_bytes Head head;
-    fetched = head_alone head loaded;
-    step = jumps (ap (loaded_bytes Head) is ∙ jump_bytes);
-  }
-  unpatched_passes Args r s head loaded is = record {
-    r10 = r;
-    bytes = loaded_bytes Head head;
-    fetched = head_alone head loaded;
-    step = jumps (ap (loaded_bytes Head) is ∙ jump_bytes);
-  }
+  unpatched_passes Entry r s head loaded is = record { r10 = r; step = jumps r s head loaded is }
+  unpatched_passes Tail r s head loaded is = record { r10 = r; step = jumps r s head loaded is }
+  unpatched_passes Args r s head loaded is = record { r10 = r; step = jumps r s head loaded is }
   unpatched_passes Exit r s head loaded is = record {
     r10 = r;
-    bytes = loaded_bytes Head head;
-    fetched = head_alone head loaded;
     step =
-        subst (SledStep program.trampolines limits sled (with_r10 r s) (loaded_bytes Head head)) (return_but limits r s)
-        (returned _ (return_bytes head is.1));
+        ap (sled_step program.trampolines limits sled (with_r10 r s))
+        (head_fetched k own head one loaded ∙ ap (λ (front : List ℕ). front ++ rest_fetched k own) (return_bytes head is.1))
+        ∙ (return_step program.trampolines limits sled (with_r10 r s) (head / 256 % 256 ∷ rest_fetched k own) ∙ ap Some (return_but limits r s));
   }
 
   -- r10 is written again
@@ -95,60 +86,37 @@ module _ (bytes : List ℕ) (program : Program) (a : IsAccepted bytes program) (
       loaded_bytes Head patched_head ++ loaded_bytes Id sled.id ++ loaded_bytes Opcode opcode
       ++ loaded_bytes Offset (displacement (sled.address + 11) (trampoline_of program.trampolines sled.kind))
 
-  all_fetched : FoundPatched program k sled own → Fetched k own (patched_bytes (patched_opcode sled.kind))
-  all_fetched found = all_parts patched_head sled.id (patched_opcode sled.kind) _ found.head found.id found.opcode found.offset
+  patched_fetched : FoundPatched program k sled own → bytes_fetched k own ≡ patched_bytes (patched_opcode sled.kind)
+  patched_fetched found =
+      all_fetched k own patched_head sled.id (patched_opcode sled.kind) _ one found.head found.id found.opcode found.offset
 
   module _ (r : ℕ) (s : State) (at : s.address ≡ sled.address) (among : slice_get program.sleds k ≡ Some sled) where
     near : FitsSigned w32 (distance_from sled.address)
     near = reaches_trampoline bytes program a k sled among
 
-    reaches : IsEncodable (Call (to_trampoline program.trampolines sled (with_r10 r s)))
-    reaches = subst (λ address. FitsSigned w32 (distance_from address)) (sym at) near
-
-    has_id : IsEncodable (Mov 10 sled.id)
-    has_id = (omega arith, omega (arith, small_id bytes program k sled a among))
-
-    called : patched_opcode sled.kind ≡ 0xE8
-        → SledStep program.trampolines limits sled (with_r10 r s) (patched_bytes (patched_opcode sled.kind)) (Goes (with_r10 sled.id (past 11 s)))
-    called opcode =
-        let its = ap patched_bytes opcode
+    called : patched_opcode sled.kind ≡ 0xE8 → FoundPatched program k sled own
+        → sled_step program.trampolines limits sled (with_r10 r s) (bytes_fetched k own) ≡ Some (Goes (with_r10 sled.id (past 11 s)))
+    called opcode found =
+        let its = patched_fetched found ∙ ap patched_bytes opcode
         ∙ call_bytes sled.id (sled.address + 11) (trampoline_of program.trampolines sled.kind) near
         ∙ ap (λ address. spelling (Mov 10 sled.id) ++ spelling (Call (distance_from address))) (sym at) in
-        subst (SledStep program.trampolines limits sled (with_r10 r s) (patched_bytes (patched_opcode sled.kind)))
-        (ap (λ (t : State). Goes (past 11 t)) (again r sled.id s))
-        (calls has_id reaches its)
+        ap (sled_step program.trampolines limits sled (with_r10 r s)) its
+        ∙ (call_step program.trampolines limits sled (with_r10 r s) ∙ ap (λ (t : State). Some (Goes (past 11 t))) (again r sled.id s))
 
     patched_passes : (kind : SledKind) → sled.kind ≡ kind → FoundPatched program k sled own
         → Passes program limits k sled own (with_r10 r s) (after_passing limits s kind)
-    patched_passes Entry is found = record {
-      r10 = sled.id;
-      bytes = patched_bytes (patched_opcode sled.kind);
-      fetched = all_fetched found;
-      step = called (ap patched_opcode is);
-    }
-    patched_passes Tail is found = record {
-      r10 = sled.id;
-      bytes = patched_bytes (patched_opcode sled.kind);
-      fetched = all_fetched found;
-      step = called (ap patched_opcode is);
-    }
-    patched_passes Args is found = record {
-      r10 = sled.id;
-      bytes = patched_bytes (patched_opcode sled.kind);
-      fetched = all_fetched found;
-      step = called (ap patched_opcode is);
-    }
+    patched_passes Entry is found = record { r10 = sled.id; step = called (ap patched_opcode is) found }
+    patched_passes Tail is found = record { r10 = sled.id; step = called (ap patched_opcode is) found }
+    patched_passes Args is found = record { r10 = sled.id; step = called (ap patched_opcode is) found }
     patched_passes Exit is found = record {
       r10 = sled.id;
-      bytes = patched_bytes (patched_opcode sled.kind);
-      fetched = all_fetched found;
       step =
-          let its = ap patched_bytes (ap patched_opcode is)
+          let its = patched_fetched found ∙ ap patched_bytes (ap patched_opcode is)
           ∙ jump_away_bytes sled.id (sled.address + 11) (trampoline_of program.trampolines sled.kind) near
           ∙ ap (λ address. spelling (Mov 10 sled.id) ++ spelling (Jmp (distance_from address))) (sym at) in
-          subst (SledStep program.trampolines limits sled (with_r10 r s) (patched_bytes (patched_opcode sled.kind)))
-          (ap (λ (t : State). fuelled limits t (returns t s.stack)) (again r sled.id s) ∙ return_but limits sled.id s)
-          (leaves has_id reaches its);
+          ap (sled_step program.trampolines limits sled (with_r10 r s)) its
+          ∙ (leave_step program.trampolines limits sled (with_r10 r s)
+          ∙ ap Some (ap (λ (t : State). fuelled limits t (returns t s.stack)) (again r sled.id s) ∙ return_but limits sled.id s));
     }
 
     sled_passes : IsWhole program k sled own → Passes program limits k sled own (with_r10 r s) (after_passing limits s sled.kind)
@@ -175,89 +143,71 @@ later_at : {X : Type 0} (xs ys : List X) (i : ℕ) → slice_get (xs ++ ys) (len
 later_at [] ys i = ap (slice_get ys) (zero-add i)
 later_at (first ∷ xs) ys i = ap (slice_get (first ∷ (xs ++ ys))) (suc-add (length xs) i) ∙ later_at xs ys i
 
+-- the end of an execution, and one step before it
+ends_at : (program : Program) (limits : Limits) (loads : List (List Load)) (n : ℕ) (s last : State) (end : End)
+    → code_step program limits loads s ≡ Some (Ends end last) → executed program limits loads (suc n) s ≡ Some (end, last)
+ends_at program limits loads n s last end e = rw e refl
+
+goes_on : (program : Program) (limits : Limits) (loads : List (List Load)) (n : ℕ) (s mid : State)
+    → code_step program limits loads s ≡ Some (Goes mid) → executed program limits loads (suc n) s ≡ executed program limits loads n mid
+goes_on program limits loads n s mid e = rw e refl
+
 module _ (bytes : List ℕ) (program : Program) (a : IsAccepted bytes program) (limits : Limits) (thread : ℕ) (loads : List (List Load)) where
   unit_executes : (r : ℕ) (s : State) (u : Unit) (what : What) (made : List Passing) (next : Next) → Contains program.units u → u.address ≡ s.address
       → u.what ≡ what → HasOwn program loads s.passings made → UnitStep program limits thread s what made next
-      → (r' : ℕ) × UnitExecutes program limits loads (with_r10 r s) what (but_r10 r' next)
+      → (r' : ℕ) × (unit_step program limits loads (with_r10 r s) what ≡ Some (but_r10 r' next))
   unit_executes r s u (whats.Plain instr) made next among at is owns (none, e) =
-      (r, ap (but_r10 r) e ∙ (sym (fuelled_but limits r s _) ∙ ap (fuelled limits (with_r10 r s)) (sym (does_but r s _ instr (names_registers bytes program a u instr among is)))))
+      (r, ap Some (sym (ap (but_r10 r) e ∙ (sym (fuelled_but limits r s _) ∙ ap (fuelled limits (with_r10 r s)) (sym (does_but r s _ instr (names_registers bytes program a u instr among is)))))))
   unit_executes r s u (whats.Sled k) made next among at is owns step = by_left (s.passings == limits.passings) step
     where
+      passing : Sled → List Load → Option Next
+      passing sled own = sled_step program.trampolines limits sled (record (with_r10 r s) { passings = s.passings + 1 }) (bytes_fetched k own)
+
       by_left : (left : Bool) → PassesOrEnds program limits thread s k left made next
-          → (r' : ℕ) × MatchBool left (but_r10 r' next ≡ Ends ends.Passings (with_r10 r s))
-          ((sled : Sled) × (slice_get program.sleds k ≡ Some sled)
-          × (own : List Load) × (slice_get loads s.passings ≡ Some own)
-          × (bytes : List ℕ) × Fetched k own bytes
-          × SledStep program.trampolines limits sled (record (with_r10 r s) { passings = s.passings + 1 }) bytes (but_r10 r' next))
-      by_left true (none, e) = (r, ap (but_r10 r) e)
+          → (r' : ℕ) × ((if left then Some (Ends ends.Passings (with_r10 r s))
+          else option_and_then (λ sled. option_and_then (passing sled) (slice_get loads s.passings)) (slice_get program.sleds k)) ≡ Some (but_r10 r' next))
+      by_left true (none, e) = (r, ap (λ (n : Next). Some (but_r10 r n)) (sym e))
       by_left false (sled, found, one, e) =
           let its = owns 0 (passing_at limits thread s k sled) (ap (λ ps. slice_get ps 0) one) in
           let after : State = record s { passings = s.passings + 1 } in
           let address = sym at ∙ sym (stands_at_unit bytes program a u k sled among is found) in
-          let passes = sled_passes bytes program a limits k sled its.0 r after address found (its.2 sled found).0 in (
+          let good = its.2 sled found in
+          let passes = sled_passes bytes program a limits k sled its.0 good.1 r after address found good.0 in
+          let own_at : slice_get loads s.passings ≡ Some its.0 = sym (ap (slice_get loads) (add-zero s.passings)) ∙ its.1 in (
             passes.r10,
-            (
-              sled,
-              found,
-              its.0,
-              sym (ap (slice_get loads) (add-zero s.passings)) ∙ its.1,
-              passes.bytes,
-              passes.fetched,
-              subst (λ (n : Next). SledStep program.trampolines limits sled (with_r10 r after) passes.bytes (but_r10 passes.r10 n)) (sym e) passes.step,
-            ),
+            ap (λ (o : Option Sled). option_and_then (λ sled. option_and_then (passing sled) (slice_get loads s.passings)) o) found
+                ∙ (ap (λ (o : Option (List Load)). option_and_then (passing sled) o) own_at
+                ∙ (passes.step ∙ ap (λ (n : Next). Some (but_r10 passes.r10 n)) (sym e))),
           )
-  unit_executes r s u whats.Pad made next among at is owns (none, e) = (r, ap (but_r10 r) e)
+  unit_executes r s u whats.Pad made next among at is owns (none, e) = (r, ap (λ (n : Next). Some (but_r10 r n)) (sym e))
 
   step_executes : (r : ℕ) (s : State) (made : List Passing) (next : Next) → HasOwn program loads s.passings made
-      → PlainStep program limits thread s made next → (r' : ℕ) × StepExecutes program limits loads (with_r10 r s) (but_r10 r' next)
-  step_executes r s made next owns (inl (far, none, e)) = (r, inl (far, ap (but_r10 r) e))
+      → PlainStep program limits thread s made next → (r' : ℕ) × (code_step program limits loads (with_r10 r s) ≡ Some (but_r10 r' next))
+  step_executes r s made next owns (inl (far, none, e)) =
+      let is_here : Unit → Bool = λ u. u.address == s.address in
+      let nowhere : find is_here program.units ≡ None = none_found is_here program.units (λ u among. ne_eqb u.address s.address (far u among)) in (
+        r,
+        ap (λ (o : Option Unit). option_map_or (λ u. unit_step program limits loads (with_r10 r s) u.what) o (Some (Ends ends.BadTarget (with_r10 r s)))) nowhere
+            ∙ ap (λ (n : Next). Some (but_r10 r n)) (sym e),
+      )
   step_executes r s made next owns (inr (u, among, at, step)) =
       let executed = unit_executes r s u u.what made next among at refl owns step in
-      (executed.0, inr (u, among, at, executed.1))
-
-  -- so the code has one step here
-  one_here : (r : ℕ) (s : State) (made : List Passing) (next : Next) → HasOwn program loads s.passings made
-      → PlainStep program limits thread s made next → OneHere program limits loads (with_r10 r s)
-  one_here r s made next owns (inl (far, none, e)) = λ u k sled own among at what left found own_at. absurd (far u among at)
-  one_here r s made next owns (inr (u, among, at, step)) = λ v k sled own among' at' what left found own_at.
-      let same : u ≡ v = (accepted_units bytes program a).same u v among among' (at ∙ sym at') in
-      of_passing k sled own left found own_at
-      (subst (λ (w : What). UnitStep program limits thread s w made next) (ap (λ (w : Unit). w.what) same ∙ what) step)
-    where
-      of_passing : (k : ℕ) (sled : Sled) (own : List Load) → (s.passings == limits.passings) ≡ false → slice_get program.sleds k ≡ Some sled
-          → slice_get loads s.passings ≡ Some own → UnitStep program limits thread s (whats.Sled k) made next → HaveOneValue own k
-      of_passing k sled own left found own_at step =
-          let passed : PassesOrEnds program limits thread s k false made next =
-          subst (λ (b : Bool). PassesOrEnds program limits thread s k b made next) left step in
-          let its = owns 0 (passing_at limits thread s k passed.0) (ap (λ ps. slice_get ps 0) passed.2) in
-          let same : its.0 ≡ own = same_Some its.0 own (sym its.1 ∙ (ap (slice_get loads) (add-zero s.passings) ∙ own_at)) in
-          subst (λ (o : List Load). HaveOneValue o k) same (its.2 sled found).1
+      let is_here : Unit → Bool = λ u. u.address == s.address in
+      let found : Found is_here program.units = found_first is_here program.units u among (eq-eqb u.address s.address at) in
+      let same : found.0 ≡ u =
+      (accepted_units bytes program a).same found.0 u found.2 among (eqb-true found.0.address s.address found.3 ∙ sym at) in (
+        executed.0,
+        ap (λ (o : Option Unit). option_map_or (λ u. unit_step program limits loads (with_r10 r s) u.what) o (Some (Ends ends.BadTarget (with_r10 r s))))
+            (found.1 ∙ ap Some same)
+            ∙ executed.1,
+      )
 
   run_executes : (n r : ℕ) (s : State) (passed : List Passing) (end : End) (last : State) → HasOwn program loads s.passings passed
       → RunsTo program limits thread n s passed end last
-      → (r' : ℕ) × EndsIn program limits loads n (with_r10 r s) end (with_r10 r' last)
+      → (r' : ℕ) × (executed program limits loads (suc n) (with_r10 r s) ≡ Some (end, with_r10 r' last))
   run_executes zero r s passed end last owns step =
       let stepped = step_executes r s passed (Ends end last) owns step in
-      (stepped.0, record { comes = stepped.1; goes_on = goes_on stepped.0 stepped.1; only = only stepped.0 stepped.1 })
-    where
-      -- the step is the end
-      same : (r' : ℕ) → StepExecutes program limits loads (with_r10 r s) (Ends end (with_r10 r' last)) → (other : Next)
-          → StepExecutes program limits loads (with_r10 r s) other → other ≡ Ends end (with_r10 r' last)
-      same r' here other there =
-          same_step program limits loads (accepted_units bytes program a) (with_r10 r s) (Ends end (with_r10 r' last)) other
-          (one_here r s passed (Ends end last) owns step) here there
-
-      goes_on : (r' : ℕ) → StepExecutes program limits loads (with_r10 r s) (Ends end (with_r10 r' last)) → (n : ℕ) (mid : State)
-          → ExecutesOn program limits loads n (with_r10 r s) mid
-          → (rest : ℕ) × (n + rest ≡ 0) × ExecutesTo program limits loads rest mid end (with_r10 r' last)
-      goes_on r' here zero mid is =
-          (0, refl, subst (λ (t : State). StepExecutes program limits loads t (Ends end (with_r10 r' last))) (sym is) here)
-      goes_on r' here (suc n) mid (first, there, rest) = let never = same r' here (Goes first) there in absurd cc
-
-      only : (r' : ℕ) → StepExecutes program limits loads (with_r10 r s) (Ends end (with_r10 r' last)) → (n : ℕ) (e : End) (l : State)
-          → ExecutesTo program limits loads n (with_r10 r s) e l → (e ≡ end) × (l ≡ with_r10 r' last)
-      only r' here zero e l there = let alike = same r' here (Ends e l) there in (cc, cc)
-      only r' here (suc n) e l (first, there, rest) = let never = same r' here (Goes first) there in absurd cc
+      (stepped.0, ends_at program limits loads 0 (with_r10 r s) (with_r10 stepped.0 last) end stepped.1)
   run_executes (suc n) r s passed end last owns (made, later, mid, step, rest, joined) =
       let both : HasOwn program loads s.passings (made ++ later) = subst (HasOwn program loads s.passings) joined owns in
       let own : HasOwn program loads s.passings made = λ m p at. both m p (first_at made later m p at) in
@@ -274,35 +224,7 @@ module _ (bytes : List ℕ) (program : Program) (a : IsAccepted bytes program) (
       let number : s.passings + (length made + m) ≡ mid.passings + m = omega arith in
       (its.0, sym (ap (slice_get loads) number) ∙ its.1, its.2) in
       let others = run_executes n stepped.0 mid later end last afterwards rest in
-      (others.0, one_more own stepped.0 stepped.1 others.0 others.1)
-    where
-      -- one step before
-      one_more : HasOwn program loads s.passings made → (r' : ℕ) → StepExecutes program limits loads (with_r10 r s) (Goes (with_r10 r' mid)) → (r'' : ℕ)
-          → EndsIn program limits loads n (with_r10 r' mid) end (with_r10 r'' last) → EndsIn program limits loads (suc n) (with_r10 r s) end (with_r10 r'' last)
-      one_more own r' here r'' others = record { comes = (with_r10 r' mid, here, others.comes); goes_on = goes_on; only = only }
-        where
-          same : (other : Next) → StepExecutes program limits loads (with_r10 r s) other → other ≡ Goes (with_r10 r' mid)
-          same other there =
-              same_step program limits loads (accepted_units bytes program a) (with_r10 r s) (Goes (with_r10 r' mid)) other
-              (one_here r s made (Goes mid) own step) here there
-
-          goes_on : (m : ℕ) (reached : State) → ExecutesOn program limits loads m (with_r10 r s) reached
-              → (rest : ℕ) × (m + rest ≡ suc n) × ExecutesTo program limits loads rest reached end (with_r10 r'' last)
-          goes_on zero reached is =
-              let From : State → Type 0 = λ t. ExecutesTo program limits loads (suc n) t end (with_r10 r'' last) in
-              (suc n, omega arith, subst From (sym is) (with_r10 r' mid, here, others.comes))
-          goes_on (suc m) reached (first, there, on) =
-              let alike = same (Goes first) there in
-              let firsts : first ≡ with_r10 r' mid = cc in
-              let left = others.goes_on m reached (subst (λ (t : State). ExecutesOn program limits loads m t reached) firsts on) in
-              (left.0, (let count = left.1 in omega (arith, count)), left.2)
-
-          only : (m : ℕ) (e : End) (l : State) → ExecutesTo program limits loads m (with_r10 r s) e l → (e ≡ end) × (l ≡ with_r10 r'' last)
-          only zero e l there = let never = same (Ends e l) there in absurd cc
-          only (suc m) e l (first, there, on) =
-              let alike = same (Goes first) there in
-              let firsts : first ≡ with_r10 r' mid = cc in
-              others.only m e l (subst (λ (t : State). ExecutesTo program limits loads m t e l) firsts on)
+      (others.0, goes_on program limits loads (suc n) (with_r10 r s) (with_r10 stepped.0 mid) stepped.1 ∙ others.1)
 
 -- ---- a whole run
 
@@ -356,4 +278,4 @@ whole_executes ones bytes program limits threads number hold run loads a (n, pla
       ),
     ) in
     let executed = run_executes bytes program a limits number cuts n 0 (opening program number) run.passed run.end run.last owns plain in
-    record { steps = n; r10 = executed.0; ends = executed.1 }
+    record { steps = suc n; r10 = executed.0; ends = executed.1 }

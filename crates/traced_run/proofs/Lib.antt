@@ -13,7 +13,7 @@ pub mod FewBuffers
 pub mod ButR10
 pub mod SledBytes
 pub mod AcceptedCode
-pub mod OneExecution
+pub mod SledSteps
 pub mod ExecutedRuns
 -- Worked examples: the step of a sled
 mod ExecutedRows

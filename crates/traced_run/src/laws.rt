@@ -1,8 +1,11 @@
 //! Laws of runs. Each law is the contract of a function that does nothing.
 
-ghost use Rattle.std.specs.Prelude.{◌≡◌, ◌≤◌, ◌<◌, ◌^◌, ◌++◌, List, ℕ, All, Option, filter, length, take};
+ghost use Rattle.std.specs.Prelude.{◌≡◌, ◌≤◌, ◌<◌, ◌^◌, ◌++◌, List, ℕ, All, Option, Some, filter, length, slice_get, take};
 ghost use Rattle.std.specs.List.{flat_map};
+ghost use Rattle.subset_decode.specs.Encoding.{IsEncodable};
+ghost use Rattle.subset_decode.specs.declared.instr.Instr.TheVariants.{Call, Jmp, Mov};
 ghost use Rattle.xray_image.specs.Program.{IsAccepted, Program};
+ghost use Rattle.xray_image.specs.declared.sled.Sled.{Sled};
 ghost use Rattle.fdr_buffer.specs.{Filled.{Filled, has_event}, Fits.{BufferFits}};
 ghost use Rattle.machine_step.specs.{Buffers.{spare_of}, Setups.{AreLimits, IsSetup}};
 ghost use Rattle.machine_step.specs.declared.end.End.{End};
@@ -11,7 +14,7 @@ ghost use Rattle.machine_step.specs.declared.setup.Setup.{Setup};
 ghost use Rattle.machine_step.specs.PlainStep.{Passing, PlainRun, State};
 ghost use Rattle.machine_step.specs.{Loads.{Load}, Traced.{Traced}};
 ghost use Rattle.traced_run.specs.Decoded.{DecodesWhole};
-ghost use Rattle.traced_run.specs.Executed.{Executes};
+ghost use Rattle.traced_run.specs.Executed.{Executes, to_trampoline};
 ghost use Rattle.traced_run.specs.Fits.{PassingFits};
 ghost use Rattle.traced_run.specs.Kept.{kept_buffers, kept_of, segments_of, thread_buffers};
 ghost use Rattle.traced_run.specs.Left.{Leaves, LeavesInAnyOrder};
@@ -112,8 +115,19 @@ pub fn some_losses_are_of_a_queue()
         → (others : List ThreadRun) × (without_losses others ≡ without_losses runs) × AreLost size spare others }
 {}
 
-/// A thread that executes the code with the bytes of its sleds as it loaded them always comes to the
-/// end of its plain run, if it decodes no torn sled. Only r10 may differ.
+/// The instructions of a patched sled name its id and its trampoline: in an accepted image the id and
+/// the distances from a thread at the sled fit their fields.
+pub fn patched_sleds_name_their_trampolines()
+    ensures id { (bytes : List ℕ) (program : Program) (k : ℕ) (sled : Sled) → IsAccepted bytes program
+        → slice_get program.sleds k ≡ Some sled → IsEncodable (Mov 10 sled.id) }
+    ensures trampoline { (bytes : List ℕ) (program : Program) (k : ℕ) (sled : Sled) (s : State)
+        → IsAccepted bytes program → slice_get program.sleds k ≡ Some sled → s.address ≡ sled.address
+        → IsEncodable (Call (to_trampoline program.trampolines sled s))
+        × IsEncodable (Jmp (to_trampoline program.trampolines sled s)) }
+{}
+
+/// A thread that executes the code with the bytes of its sleds as it loaded them comes to the end of
+/// its plain run, if it decodes no torn sled. Only r10 may differ.
 pub fn a_whole_run_executes_to_its_end()
     ensures { (bytes : List ℕ) (program : Program) (limits : Limits) (threads number : ℕ) (hold : Option ℕ)
         (run : ThreadRun) (loads : List Load) → IsAccepted bytes program

@@ -9,5 +9,6 @@ mod laws;
 pub use laws::{
     a_run_fits_its_buffers, a_run_leaves_few_buffers, a_run_without_losses_is_whole,
     a_whole_run_executes_to_its_end, kept_buffers_hold_events, lost_and_left_segments_hold_all,
-    passings_are_few, passings_fit, some_file_holds, some_losses_are_of_a_queue,
+    passings_are_few, passings_fit, patched_sleds_name_their_trampolines, some_file_holds,
+    some_losses_are_of_a_queue,
 };
