@@ -7,8 +7,9 @@ use Rattle.std.proofs.lemmas.List.Elements.{All-cons, All-head, All-nil, All-tai
 use Rattle.xray_image.specs.Program.{Program}
 use Rattle.handler_word.specs.declared.mark.Mark.{Mark}
 use Rattle.sled_words.specs.Words.{release_word}
-use Rattle.machine_step.specs.Follows.{Follows, MarksFollow, none as no_loads, later as up_to, loaded as one_more}
+use Rattle.machine_step.specs.Follows.{MarksFollow}
 use Rattle.machine_step.specs.Loads.{Load, Reading}
+use Rattle.machine_step.proofs.LoadByLoad.{ByLoads, by_later, by_loaded, by_loads, by_none}
 use Rattle.audit_check.specs.private.Ways.{AreOwn, IsOwn, Tree, Leaf, Node, Held, Passes, Reaches, marked, marks_in, next_in, read, trees_of, wanted}
 use Rattle.audit_check.proofs.TreeLoads.{as_many, marks_are, next_is}
 use Rattle.audit_check.proofs.WayParts.{passes_earlier}
@@ -151,17 +152,17 @@ module _ (program : Program) (threads : ℕ) (code : ℕ → ℕ → ℕ) (start
   IsFree load = load.word ≡ release_word program thread → load.value ≢ 0
 
   stand : AreOwn (release_word program thread) trees → (loads : List Load) (place : ℕ)
-      → Follows program threads code start bound thread hold sleds loads place → All IsFree loads
+      → ByLoads program threads code start bound thread hold sleds loads place → All IsFree loads
       → Standing code bound (release_word program thread) start trees place loads
-  stand owns loads place no_loads free = record {
+  stand owns loads place by_none free = record {
     done = [];
     left = trees;
     stands = record { marks = λ more. refl; next = λ more. refl; way = λ later end way. way; count = omega arith; own = owns };
   }
-  stand owns loads place (up_to before early next low follow) free =
+  stand owns loads place (by_later before early next low follow) free =
       let s = stand owns before early follow free in
       record { done = s.done; left = s.left; stands = rise code bound (release_word program thread) start trees early next before s.done s.left low s.stands }
-  stand owns loads place (one_more before at word follow wants high) free =
+  stand owns loads place (by_loaded before at word follow wants high) free =
       let load : Load = record { word = word; value = code at word } in
       let s = stand owns before at follow (All-left IsFree before (load ∷ []) free) in
       let wants_next : next_in s.left [] ≡ Some word =
@@ -174,7 +175,7 @@ module _ (program : Program) (threads : ℕ) (code : ℕ → ℕ → ℕ) (start
   pub marks_pass : AreOwn (release_word program thread) trees → (marks : List Mark) (place : ℕ)
       → MarksFollow program threads code start bound thread hold sleds marks place → Passes code bound 0 trees marks start place
   marks_pass owns marks place f =
-      let s = stand owns f.loads place f.follow f.released in
+      let s = stand owns f.loads place (by_loads f.follow) f.released in
       let is : marks ≡ s.done ++ marks_in s.left [] =
       f.leave ∙ (sym (marks_are program threads thread hold 0 sleds f.loads)
       ∙ marks_so_far code bound (release_word program thread) start trees place f.loads s.done s.left s.stands) in

@@ -6,8 +6,8 @@ use Rattle.handler_word.specs.declared.mark.Mark.{Mark}
 use Rattle.patch_script.specs.declared.command.Command.{Command}
 use Rattle.patch_script.specs.Micros.{total_of}
 use Rattle.machine_step.specs.Events.{recorded}
-use Rattle.machine_step.specs.Follows.{later as up_to}
 use Rattle.machine_step.specs.Traced.{sleds_passed}
+use Rattle.machine_step.proofs.LoadByLoad.{later as up_to}
 use Rattle.traced_run.specs.Following.{MarksFollowScript}
 use Rattle.traced_run.specs.Runs.{ThreadRun, events_of}
 use Rattle.trace_flush.specs.Audit.{ThreadAudit}

@@ -8,8 +8,9 @@ use Rattle.xray_image.specs.Program.{Program}
 use Rattle.handler_word.specs.declared.mark.Mark.{Mark}
 use Rattle.handler_word.specs.declared.mark.Mark.TheVariants.{Recorded}
 use Rattle.sled_words.specs.Words.{release_word}
-use Rattle.machine_step.specs.Follows.{Follows, MarksFollow, none as no_loads, later as up_to, loaded as one_more}
+use Rattle.machine_step.specs.Follows.{Follows, MarksFollow}
 use Rattle.machine_step.specs.Loads.{Load, Reading, Wants, marks_of, next_load}
+use Rattle.machine_step.proofs.LoadByLoad.{none as no_loads, later as up_to, loaded as one_more}
 use Rattle.audit_check.specs.private.Ways.{AreOwn, IsOwn, Tree, Leaf, Node, Held, Passes, Reaches, marked, marks_in, next_in, read, trees_of, wanted}
 use Rattle.audit_check.proofs.TreeLoads.{as_many, marks_are, next_is}
 use Rattle.audit_check.proofs.WayParts.{as_long}

@@ -14,7 +14,8 @@ use Rattle.sled_words.specs.Words.{word_of, handler_word, state_word, release_wo
 use Rattle.handler_word.specs.declared.mark.Mark.{Mark}
 use Rattle.handler_word.specs.declared.mark.Mark.TheVariants.{Skipped, NoHandler, Recorded, RecordedArg}
 use Rattle.machine_step.specs.Loads.{Load, Reading, Wants, Marked, from_state, from_handler, from_arg_handler, from_handlers, from_offset, from_opcode, from_id, from_head, from_release, from_start, is_held_at, next_from, next_load, sled_logs_args}
-use Rattle.machine_step.specs.Follows.{Follows, none, later, loaded}
+use Rattle.machine_step.specs.Follows.{Follows}
+use Rattle.machine_step.proofs.LoadByLoad.{ByLoads, by_later, by_loaded, by_loads, by_none}
 
 -- ---- loads from the first one on
 
@@ -46,13 +47,13 @@ fits_more program code next low (load ∷ loads) high word (place, le, first, va
     (place, le, first, value, fits_more program code (λ more. next (load ∷ more)) place loads high word rest wanted)
 
 module _ (program : Program) (threads : ℕ) (code : ℕ → ℕ → ℕ) (start : ℕ) (bound : ℕ → ℕ) (thread : ℕ) (hold : Option ℕ) (sleds : List ℕ) where
-  pub follows_fits : {loads : List Load} {place : ℕ} → Follows program threads code start bound thread hold sleds loads place
+  made_fit : {loads : List Load} {place : ℕ} → ByLoads program threads code start bound thread hold sleds loads place
       → Fits program code (next_load program threads thread hold sleds) start loads place
-  follows_fits none = omega arith
-  follows_fits (later loads place next up follows) =
-      fits_later program code (next_load program threads thread hold sleds) start loads place next up (follows_fits follows)
-  follows_fits (loaded loads place word follows wanted within) =
-      fits_more program code (next_load program threads thread hold sleds) start loads place word (follows_fits follows) wanted
+  made_fit by_none = omega arith
+  made_fit (by_later loads place next up follows) =
+      fits_later program code (next_load program threads thread hold sleds) start loads place next up (made_fit follows)
+  made_fit (by_loaded loads place word follows wanted within) =
+      fits_more program code (next_load program threads thread hold sleds) start loads place word (made_fit follows) wanted
 
 fits_same : (program : Program) (code : ℕ → ℕ → ℕ) (next other : List Load → Option ℕ) (low : ℕ) (loads : List Load) (high : ℕ)
     → ((ls : List Load) → next ls ≡ other ls) → Fits program code next low loads high → Fits program code other low loads high
@@ -198,32 +199,25 @@ pub next_allowed : (program : Program) (threads : ℕ) (code : ℕ → ℕ → �
     → next_load program threads thread hold sleds loads ≡ Some word → IsAllowed program threads thread word (code place word)
 next_allowed program threads code start bound thread keeps hold sleds loads place word follows wanted =
     safe_from program threads thread code keeps hold 0 sleds start loads place word
-    (follows_fits program threads code start bound thread hold sleds follows) wanted
+    (made_fit program threads code start bound thread hold sleds (by_loads follows)) wanted
+
+made_allowed : (program : Program) (threads : ℕ) (code : ℕ → ℕ → ℕ) (start : ℕ) (bound : ℕ → ℕ) (thread : ℕ) → KeepsSleds program threads thread code
+    → (hold : Option ℕ) (sleds : List ℕ) {loads : List Load} {place : ℕ}
+    → ByLoads program threads code start bound thread hold sleds loads place
+    → All (λ load. IsAllowed program threads thread load.word load.value) loads
+made_allowed program threads code start bound thread keeps hold sleds by_none =
+    All-nil (λ (load : Load). IsAllowed program threads thread load.word load.value)
+made_allowed program threads code start bound thread keeps hold sleds (by_later loads place next up follows) =
+    made_allowed program threads code start bound thread keeps hold sleds follows
+made_allowed program threads code start bound thread keeps hold sleds (by_loaded loads place word follows wanted within) =
+    All-push (λ (load : Load). IsAllowed program threads thread load.word load.value) loads (record { word = word; value = code place word })
+    (made_allowed program threads code start bound thread keeps hold sleds follows)
+    (safe_from program threads thread code keeps hold 0 sleds start loads place word
+    (made_fit program threads code start bound thread hold sleds follows) wanted)
 
 pub loads_allowed : (program : Program) (threads : ℕ) (code : ℕ → ℕ → ℕ) (start : ℕ) (bound : ℕ → ℕ) (thread : ℕ) → KeepsSleds program threads thread code
     → (hold : Option ℕ) (sleds : List ℕ) {loads : List Load} {place : ℕ}
     → Follows program threads code start bound thread hold sleds loads place
     → All (λ load. IsAllowed program threads thread load.word load.value) loads
-loads_allowed program threads code start bound thread keeps hold sleds none =
-    All-nil (λ (load : Load). IsAllowed program threads thread load.word load.value)
-loads_allowed program threads code start bound thread keeps hold sleds (later loads place next up follows) =
-    loads_allowed program threads code start bound thread keeps hold sleds follows
-loads_allowed program threads code start bound thread keeps hold sleds (loaded loads place word follows wanted within) =
-    All-push (λ (load : Load). IsAllowed program threads thread load.word load.value) loads (record { word = word; value = code place word })
-    (loads_allowed program threads code start bound thread keeps hold sleds follows)
-    (next_allowed program threads code start bound thread keeps hold sleds loads place word follows wanted)
-
-fits_in_order : (program : Program) (code : ℕ → ℕ → ℕ) (next : List Load → Option ℕ) (low : ℕ) (loads : List Load) (high : ℕ)
-    → Fits program code next low loads high → (i : ℕ) (load : Load) → slice_get loads i ≡ Some load → next (take i loads) ≡ Some load.word
-fits_in_order program code next low [] high fits i load at = cc
-fits_in_order program code next low (first ∷ loads) high (place, le, wanted, value, rest) zero load at =
-    wanted ∙ ap (λ (l : Load). Some l.word) (same_Some first load at)
-fits_in_order program code next low (first ∷ loads) high (place, le, wanted, value, rest) (suc i) load at =
-    fits_in_order program code (λ more. next (first ∷ more)) place loads high rest i load at
-
-pub follows_in_order : (program : Program) (threads : ℕ) (code : ℕ → ℕ → ℕ) (start : ℕ) (bound : ℕ → ℕ) (thread : ℕ) (hold : Option ℕ) (sleds : List ℕ)
-    (loads : List Load) (place : ℕ) → Follows program threads code start bound thread hold sleds loads place
-    → (i : ℕ) (load : Load) → slice_get loads i ≡ Some load → next_load program threads thread hold sleds (take i loads) ≡ Some load.word
-follows_in_order program threads code start bound thread hold sleds loads place follows =
-    fits_in_order program code (next_load program threads thread hold sleds) start loads place
-    (follows_fits program threads code start bound thread hold sleds follows)
+loads_allowed program threads code start bound thread keeps hold sleds follows =
+    made_allowed program threads code start bound thread keeps hold sleds (by_loads follows)

@@ -25,6 +25,8 @@ pub mod LoadlessPassing
 pub mod ThreadAfterLoad
 pub mod GivenThread
 pub mod UnderwayPassing
+-- Loads that follow a script, load by load (src/laws.rt)
+pub mod LoadByLoad
 -- Whole passings: allowed loads decode each sled whole, and the thread ends as its plain run does (src/laws.rt)
 pub mod AllowedLoads
 pub mod WholePassings

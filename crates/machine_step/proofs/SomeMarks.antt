@@ -14,12 +14,13 @@ use Rattle.machine_step.specs.declared.stage.Next.{Next}
 use Rattle.machine_step.specs.declared.stage.Next.TheVariants as nexts
 use Rattle.machine_step.specs.declared.stage.Stage.TheVariants as stages
 use Rattle.machine_step.specs.declared.want.Want.TheVariants as wants
-use Rattle.machine_step.specs.Follows.{Follows, MarksFollow, none as no_loads, later as up_to, loaded as one_more}
+use Rattle.machine_step.specs.Follows.{Follows, MarksFollow}
 use Rattle.machine_step.specs.Loads.{Load, Marked, Reading, Wants, from_start, is_held_at, marks_from, marks_of, next_from, next_load, recording_of, sled_logs_args}
 use Rattle.machine_step.specs.PlainStep.{Passing, PlainRun, RunsTo, State}
 use Rattle.machine_step.specs.private.Stages.{after_load, word_at}
 use Rattle.machine_step.specs.Traced.{sleds_passed, steps_left}
 use Rattle.machine_step.proofs.EachPassing.{steps_each}
+use Rattle.machine_step.proofs.LoadByLoad.{none as no_loads, later as up_to, loaded as one_more}
 use Rattle.machine_step.proofs.LoadedValues.{next_left, some_left}
 use Rattle.machine_step.proofs.StagesLeft.{left_at, steps_left_at}
 use Rattle.machine_step.proofs.MarksAfterLoad.{Adds, InPassing, in_passing, marks_step, next_step, no_marks}

@@ -20,7 +20,7 @@ use Rattle.handler_word.specs.declared.mark.Mark.TheVariants.{Skipped, NoHandler
 use Rattle.machine_step.specs.Loads.{AreWanted, Load, Reading, Wants, Marked, from_state, from_handler, from_arg_handler, from_handlers, from_id, from_head, from_release, from_start, is_held_at, next_from, next_load, sled_logs_args}
 use Rattle.machine_step.specs.Whole.{AreWhole, HaveOneValue, HaveOneValueEach, IsWhole, Loaded, loads_by_passing}
 use Rattle.machine_step.specs.Follows.{Follows}
-use Rattle.machine_step.proofs.AllowedLoads.{Fits, follows_fits, following, by_test, loads_allowed, next_is}
+use Rattle.machine_step.proofs.AllowedLoads.{following, by_test, loads_allowed, next_is}
 
 -- ---- loads of the words that are wanted
 
@@ -33,12 +33,6 @@ fit_from : (next : List Load → Option ℕ) (loads : List Load)
     → ((i : ℕ) (load : Load) → slice_get loads i ≡ Some load → next (take i loads) ≡ Some load.word) → Fit next loads
 fit_from next [] wanted = tt
 fit_from next (load ∷ loads) wanted = (wanted 0 load refl, fit_from (λ more. next (load ∷ more)) loads (λ i l at. wanted (suc i) l at))
-
-fit_along : (program : Program) (code : ℕ → ℕ → ℕ) (next : List Load → Option ℕ) (low : ℕ) (loads : List Load) (high : ℕ)
-    → Fits program code next low loads high → Fit next loads
-fit_along program code next low [] high fits = tt
-fit_along program code next low (load ∷ loads) high (place, le, first, value, rest) =
-    (first, fit_along program code (λ more. next (load ∷ more)) place loads high rest)
 
 fit_same : (next other : List Load → Option ℕ) (loads : List Load) → ((ls : List Load) → next ls ≡ other ls) → Fit next loads → Fit other loads
 fit_same next other [] same fit = tt
@@ -409,9 +403,7 @@ pub follows_whole : (program : Program) (threads : ℕ) (code : ℕ → ℕ → 
     → (hold : Option ℕ) (sleds : List ℕ) (loads : List Load) (place : ℕ)
     → Follows program threads code start bound thread hold sleds loads place → AreWhole program threads thread hold sleds loads
 follows_whole program threads code start bound thread keeps hold sleds loads place follows =
-    whole_from program threads thread hold sleds loads
-    (fit_along program code (next_load program threads thread hold sleds) start loads place (follows_fits program threads code start bound thread hold sleds follows))
-    (loads_allowed program threads code start bound thread keeps hold sleds follows)
+    all_whole program threads thread hold sleds loads follows.wanted (loads_allowed program threads code start bound thread keeps hold sleds follows)
 
 -- each load, of which nothing is asked
 no_facts : (loads : List Load) → Each (λ load. Unit {0}) loads

@@ -1,6 +1,6 @@
 -- The words that a passing loads, and the mark that its loads end with.
-use Rattle.std.specs.Prelude.{◌≡◌, ℕ, ◌+◌, List, [], ◌∷◌, take, slice_get, Bool, true, false, ◌==◌, if◌then◌else◌, Option, Some, None}
-use Rattle.std.specs.Option.{option_map, unwrap_or}
+use Rattle.std.specs.Prelude.{◌≡◌, ℕ, ◌+◌, ◌-◌, List, [], ◌∷◌, length, map, take, slice_get, Bool, true, false, ◌==◌, if◌then◌else◌, Option, Some, None}
+use Rattle.std.specs.Option.{option_map, option_map_or, unwrap_or}
 use Rattle.xray_image.specs.declared.sled.SledKind.{SledKind}
 use Rattle.xray_image.specs.declared.sled.SledKind.TheVariants.{Entry, Exit, Tail, Args}
 use Rattle.xray_image.specs.Program.{Program}
@@ -88,45 +88,43 @@ abbrev pub is_held_at : Option ℕ → ℕ → Bool
 is_held_at None passing = false
 is_held_at (Some held) passing = held == passing
 
--- The marks of a thread by its loads. Its passings are at the sleds of these numbers, numbered from a number on. A
--- passing that still wants a word has no mark.
+-- What comes of the loads of a thread: the passings that have their marks, each with its mark and its own loads; and of the
+-- passing after them, if there is one, the word that it loads next, with the mark that it gets if the log records.
+pub record Walk : Type 0 where
+  pub made : List (Mark × List Load)
+  pub wants : Option (ℕ × Mark)
+
+abbrev pub onto_walk : Mark × List Load → Walk → Walk
+onto_walk first walk = record { made = first ∷ walk.made; wants = walk.wants }
+
+-- The walk of a thread along its passings. They are at the sleds of these numbers, numbered from a number on.
+abbrev pub walk_from : Program → ℕ → ℕ → Option ℕ → ℕ → List ℕ → List Load → Walk
+walk_from program threads thread hold number [] loads = record { made = []; wants = None }
+walk_from program threads thread hold number (sled ∷ sleds) loads =
+    read (from_start program threads thread (is_held_at hold number) sled loads) (walk_from program threads thread hold (number + 1) sleds)
+  where
+    read : Reading → (List Load → Walk) → Walk
+    read (Wants word recording) later = record { made = []; wants = Some (word, recording) }
+    read (Marked mark following) later = onto_walk (mark, take (length loads - length following) loads) (later following)
+
+-- the marks of a thread, the word that it loads next, and the mark that it gets if the log records, from a passing on
 abbrev pub marks_from : Program → ℕ → ℕ → Option ℕ → ℕ → List ℕ → List Load → List Mark
-marks_from program threads thread hold number [] loads = []
-marks_from program threads thread hold number (sled ∷ sleds) loads =
-    marked (from_start program threads thread (is_held_at hold number) sled loads) (marks_from program threads thread hold (number + 1) sleds)
-  where
-    marked : Reading → (List Load → List Mark) → List Mark
-    marked (Wants word recording) later = []
-    marked (Marked mark following) later = mark ∷ later following
+marks_from program threads thread hold number sleds loads = map (λ p. p.0) (walk_from program threads thread hold number sleds loads).made
 
--- the word that such a thread loads next, or none if all its passings have marks
 abbrev pub next_from : Program → ℕ → ℕ → Option ℕ → ℕ → List ℕ → List Load → Option ℕ
-next_from program threads thread hold number [] loads = None
-next_from program threads thread hold number (sled ∷ sleds) loads =
-    wanted (from_start program threads thread (is_held_at hold number) sled loads) (next_from program threads thread hold (number + 1) sleds)
-  where
-    wanted : Reading → (List Load → Option ℕ) → Option ℕ
-    wanted (Wants word recording) later = Some word
-    wanted (Marked mark following) later = later following
+next_from program threads thread hold number sleds loads = option_map (λ w. w.0) (walk_from program threads thread hold number sleds loads).wants
 
--- the mark that its next passing gets if the log records: only an argument handler that was loaded makes it another one
--- than `Recorded`
 abbrev pub recording_from : Program → ℕ → ℕ → Option ℕ → ℕ → List ℕ → List Load → Mark
-recording_from program threads thread hold number [] loads = Recorded
-recording_from program threads thread hold number (sled ∷ sleds) loads =
-    recorded_as (from_start program threads thread (is_held_at hold number) sled loads) (recording_from program threads thread hold (number + 1) sleds)
-  where
-    recorded_as : Reading → (List Load → Mark) → Mark
-    recorded_as (Wants word recording) later = recording
-    recorded_as (Marked mark following) later = later following
+recording_from program threads thread hold number sleds loads =
+    option_map_or (λ w. w.1) (walk_from program threads thread hold number sleds loads).wants Recorded
 
--- The marks of a thread, its next load, and the mark that it gets if the log records, from its first passing on.
--- `threads` is how many threads there are: the number of the argument handler word rests on it.
+-- The same from its first passing on. `threads` is how many threads there are: the number of the argument handler word
+-- rests on it.
 abbrev pub marks_of : Program → ℕ → ℕ → Option ℕ → List ℕ → List Load → List Mark
-marks_of program threads thread hold sleds loads = marks_from program threads thread hold 0 sleds loads
+marks_of program threads thread hold sleds loads = map (λ p. p.0) (walk_from program threads thread hold 0 sleds loads).made
 
 abbrev pub next_load : Program → ℕ → ℕ → Option ℕ → List ℕ → List Load → Option ℕ
-next_load program threads thread hold sleds loads = next_from program threads thread hold 0 sleds loads
+next_load program threads thread hold sleds loads = option_map (λ w. w.0) (walk_from program threads thread hold 0 sleds loads).wants
 
 abbrev pub recording_of : Program → ℕ → ℕ → Option ℕ → List ℕ → List Load → Mark
 recording_of program threads thread hold sleds loads = recording_from program threads thread hold 0 sleds loads

@@ -1,5 +1,5 @@
 -- Which passings decode their sleds whole.
-use Rattle.std.specs.Prelude.{◌+◌, ◌-◌, ◌<◌, ◌⊎◌, ℕ, List, [], ◌∷◌, length, take, Contains, Option, Some, slice_get, ◌≡◌}
+use Rattle.std.specs.Prelude.{◌<◌, ◌⊎◌, ℕ, List, length, map, Contains, Option, Some, slice_get, ◌≡◌}
 use Rattle.xray_image.specs.declared.sled.Sled.{Sled}
 use Rattle.xray_image.specs.Program.{Program}
 use Rattle.sled_words.specs.declared.part.Part.{Part}
@@ -7,7 +7,7 @@ use Rattle.sled_words.specs.declared.part.Part.TheVariants.{Head, Id, Opcode, Of
 use Rattle.sled_words.specs.Words.{word_of}
 use Rattle.sled_words.specs.Parts.{patched}
 use Rattle.sled_words.specs.Allowed.{IsUnpatchedHead}
-use Rattle.machine_step.specs.Loads.{Load, Reading, Wants, Marked, from_start, is_held_at}
+use Rattle.machine_step.specs.Loads.{Load, walk_from}
 
 -- a part of a sled was loaded with this value
 abbrev pub Loaded : List Load → ℕ → Part → ℕ → Type 0
@@ -32,13 +32,7 @@ IsWhole program k sled loads = FoundUnpatched k sled loads ⊎ FoundPatched prog
 -- The loads of each passing that has its mark. The thread has passings at the sleds of these numbers, numbered from a
 -- number on.
 abbrev pub loads_by_passing : Program → ℕ → ℕ → Option ℕ → ℕ → List ℕ → List Load → List (List Load)
-loads_by_passing program threads thread hold number [] loads = []
-loads_by_passing program threads thread hold number (sled ∷ sleds) loads =
-    cut (from_start program threads thread (is_held_at hold number) sled loads) (loads_by_passing program threads thread hold (number + 1) sleds)
-  where
-    cut : Reading → (List Load → List (List Load)) → List (List Load)
-    cut (Wants word recording) later = []
-    cut (Marked mark following) later = take (length loads - length following) loads ∷ later following
+loads_by_passing program threads thread hold number sleds loads = map (λ p. p.1) (walk_from program threads thread hold number sleds loads).made
 
 -- each passing with a mark decodes its sled whole
 abbrev pub AreWhole : Program → ℕ → ℕ → Option ℕ → List ℕ → List Load → Type 0

@@ -4,7 +4,7 @@ use Rattle.std.specs.Prelude.{count_by, nat_lt, slice_get, ◌==◌}
 use Rattle.std.proofs.lemmas.List.Sums.{sum_by-cons}
 use Rattle.std.proofs.lemmas.Bool.{cases_order}
 use Rattle.std.proofs.lemmas.Bool.Decides.{nat_tests}
-use Rattle.run_order.specs.Placed.{Rise}
+use Rattle.machine_step.specs.Follows.{Rise}
 
 -- how many of one
 abbrev tally : Bool → ℕ

@@ -27,7 +27,7 @@ use Rattle.run_order.specs.declared.fault.OrderFault.TheVariants.{Long, NoMemory
 use Rattle.run_order.specs.Answers.{EndsAgree, IsOrdered, MarksAgree}
 use Rattle.run_order.specs.FreeScripts.{free_commands, free_place}
 use Rattle.run_order.specs.Orders.{is_long, ordered}
-use Rattle.run_order.specs.Placed.{Rise}
+use Rattle.machine_step.specs.Follows.{Rise}
 use Rattle.run_order.specs.RunOrders.{IsOrderOf}
 use Rattle.run_order.specs.private.Ordering.{cut, fault_of}
 use Rattle.run_order.specs.private.Stops.{AreStops}

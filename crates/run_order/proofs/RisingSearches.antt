@@ -3,7 +3,7 @@ use Rattle.std.proofs.Common.{◌≡◌, ℕ, zero, suc, ◌≤◌, List, [], �
 use Rattle.std.specs.Prelude.{replicate}
 use Rattle.audit_check.specs.Places.{Search, found_by}
 use Rattle.audit_check.proofs.SearchResults.{found_none, found_on}
-use Rattle.run_order.specs.Placed.{Rise}
+use Rattle.machine_step.specs.Follows.{Rise}
 
 -- the same place some times, and then those after it
 rise_same : (from last at n : ℕ) (later : List ℕ) → from ≤ at → at ≤ last → Rise at last later → Rise from last (replicate n at ++ later)

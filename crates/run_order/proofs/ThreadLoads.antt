@@ -13,7 +13,8 @@ use Rattle.patch_script.specs.Micros.{hold_of, start_of, total_of}
 use Rattle.machine_step.specs.Loads.{Load, Marked, Reading, Wants, from_head, is_held_at, marks_from, marks_of, next_from, next_load}
 use Rattle.step_sim.specs.Replay.{Cast, of_thread, thread_count}
 use Rattle.run_order.specs.FreeScripts.{free_commands, free_place}
-use Rattle.run_order.specs.Placed.{ArePlaced, Rise}
+use Rattle.machine_step.specs.Follows.{Rise}
+use Rattle.run_order.specs.Placed.{ArePlaced}
 use Rattle.audit_check.specs.Places.{Search, found_by, load_places, passing_searches, places_from}
 use Rattle.run_order.proofs.FreeMicros.{AllRelease, free_code, free_start, free_total, places_rise}
 use Rattle.run_order.proofs.FirstPassing.{go_on}

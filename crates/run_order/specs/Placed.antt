@@ -1,14 +1,10 @@
 -- The loads of a thread of a replay, each at a place of its script.
-use Rattle.std.specs.Prelude.{◌≡◌, ◌≤◌, ◌∷◌, ℕ, List, [], None, Some, length, slice_get}
+use Rattle.std.specs.Prelude.{◌≡◌, ℕ, List, None, Some, length, slice_get}
+use Rattle.machine_step.specs.Follows.{Rise}
 use Rattle.machine_step.specs.Loads.{AreWanted, Load, next_load}
 use Rattle.patch_script.specs.CodeAt.{code_at}
 use Rattle.patch_script.specs.Micros.{hold_of, start_of, total_of}
 use Rattle.step_sim.specs.Replay.{Cast, of_thread, thread_count}
-
--- numbers that never fall, from one on and up to a last one
-abbrev pub Rise : ℕ → ℕ → List ℕ → Type 0
-Rise from last [] = Unit {0}
-Rise from last (number ∷ later) = (from ≤ number) × (number ≤ last) × Rise number last later
 
 -- These are all loads of a thread, and each is made at its place: it is of the word that the thread wants next, with the
 -- word's value at the place. The places never fall.

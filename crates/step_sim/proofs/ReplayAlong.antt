@@ -12,7 +12,8 @@ use Rattle.patch_script.specs.declared.micro.Micro.{Micro}
 use Rattle.patch_script.specs.Micros.{hold_of, micros_after, numbers, patches, start_of, steps_of, total_of}
 use Rattle.patch_script.specs.CodeAt.{code_at}
 use Rattle.machine_step.specs.Loads.{Load}
-use Rattle.machine_step.specs.Follows.{Follows, none, later, loaded}
+use Rattle.machine_step.specs.Follows.{Follows}
+use Rattle.machine_step.proofs.LoadByLoad.{none, later, loaded}
 use Rattle.step_sim.specs.declared.turns.Turns.{Turns}
 use Rattle.step_sim.specs.declared.turns.Turns.TheVariants.{Thread, Patcher}
 use Rattle.step_sim.specs.Plays.{turns}

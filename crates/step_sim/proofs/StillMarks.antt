@@ -1,5 +1,5 @@
 -- The marks of a replay in which nothing waits follow its script.
-use Rattle.std.proofs.Common.{◌≡◌, ◌≢◌, ℕ, ◌+◌, ◌<◌, ◌≤◌, List, [], ◌∷◌, ◌++◌, length, map, Option, Some, None, refl, sym, ap, subst, ◌∙◌, arith}
+use Rattle.std.proofs.Common.{◌≡◌, ◌≢◌, ℕ, ◌+◌, ◌<◌, ◌≤◌, List, [], ◌∷◌, ◌++◌, length, map, take, Option, Some, None, refl, sym, ap, subst, ◌∙◌, arith}
 use Rattle.std.specs.Prelude.{All}
 use Rattle.std.specs.List.{flat_map, position_or_len}
 use Rattle.std.proofs.lemmas.List.{length-map}
@@ -19,10 +19,11 @@ use Rattle.patch_script.specs.Refusals.{Lines, commands_of}
 use Rattle.machine_step.specs.declared.end.End.{End as How}
 use Rattle.machine_step.specs.declared.limits.Limits.{Limits}
 use Rattle.machine_step.specs.declared.setup.Setup.{Setup}
-use Rattle.machine_step.specs.Follows.{Follows, none, later, loaded}
+use Rattle.machine_step.specs.Follows.{Follows}
 use Rattle.machine_step.specs.Loads.{Load, marks_of}
 use Rattle.machine_step.specs.PlainStep.{Passing, PlainRun, State}
 use Rattle.machine_step.specs.Traced.{sleds_passed}
+use Rattle.machine_step.proofs.LoadByLoad.{ByLoads, by_later, by_loaded, by_loads, by_none, later}
 use Rattle.machine_step.proofs.WantedWords.{release_wanted}
 use Rattle.traced_run.specs.Decoded.{DecodesWhole}
 use Rattle.traced_run.specs.Following.{AllMarksFollow}
@@ -125,12 +126,17 @@ still_bound program threads thread passing lines still =
 higher : (program : Program) (threads : ℕ) (code : ℕ → ℕ → ℕ) (start : ℕ) (bound other : ℕ → ℕ) (thread : ℕ) (hold : Option ℕ) (sleds : List ℕ)
     → ((n : ℕ) → bound n ≤ other n) → (loads : List Load) (place : ℕ)
     → Follows program threads code start bound thread hold sleds loads place → Follows program threads code start other thread hold sleds loads place
-higher program threads code start bound other thread hold sleds more loads place none = none
-higher program threads code start bound other thread hold sleds more loads place (later before early next low follow) =
-    later before early next low (higher program threads code start bound other thread hold sleds more before early follow)
-higher program threads code start bound other thread hold sleds more loads place (loaded before at word follow wants within) =
-    loaded before at word (higher program threads code start bound other thread hold sleds more before at follow) wants
-    (let up = more (length (marks_of program threads thread hold sleds before)) in omega arith)
+higher program threads code start bound other thread hold sleds more loads place f = record {
+  places = f.places;
+  count = f.count;
+  begun = f.begun;
+  rise = f.rise;
+  wanted = f.wanted;
+  values = f.values;
+  within = λ i at placed.
+      let high = f.within i at placed in
+      let up = more (length (marks_of program threads thread hold sleds (take i loads))) in omega (arith, high, up);
+}
 
 module _ (program : Program) (limits : Limits) (threads thread : ℕ) (some : 0 < thread) (within : thread ≤ threads) (passed : List Passing) (end : How) (last : State)
     (run : PlainRun program limits thread passed end last) where
@@ -138,17 +144,21 @@ module _ (program : Program) (limits : Limits) (threads thread : ℕ) (some : 0 
   IsFree load = load.word ≡ release_word program thread → load.value ≢ 0
 
   -- a thread that nothing holds loads no release word
-  free : (code : ℕ → ℕ → ℕ) (start : ℕ) (bound : ℕ → ℕ) (loads : List Load) (place : ℕ)
-      → Follows program threads code start bound thread None (sleds_passed passed) loads place → All IsFree loads
-  free code start bound loads place none = All-nil IsFree
-  free code start bound loads place (later before early next low follow) = free code start bound before early follow
-  free code start bound loads place (loaded before at word follow wants high) =
+  free_made : (code : ℕ → ℕ → ℕ) (start : ℕ) (bound : ℕ → ℕ) (loads : List Load) (place : ℕ)
+      → ByLoads program threads code start bound thread None (sleds_passed passed) loads place → All IsFree loads
+  free_made code start bound loads place by_none = All-nil IsFree
+  free_made code start bound loads place (by_later before early next low follow) = free_made code start bound before early follow
+  free_made code start bound loads place (by_loaded before at word follow wants high) =
       let load : Load = record { word = word; value = code at word } in
-      All-append IsFree before (load ∷ []) (free code start bound before at follow)
+      All-append IsFree before (load ∷ []) (free_made code start bound before at follow)
       (All-cons IsFree load [] (λ e. absurd (never (release_wanted program limits thread None passed before end last run threads some within (wants ∙ ap Some e)))) (All-nil IsFree))
     where
       never : {n : ℕ} → ◌≡◌ {A = Option ℕ} None (Some n) → ⊥
       never e = cc
+
+  free : (code : ℕ → ℕ → ℕ) (start : ℕ) (bound : ℕ → ℕ) (loads : List Load) (place : ℕ)
+      → Follows program threads code start bound thread None (sleds_passed passed) loads place → All IsFree loads
+  free code start bound loads place follow = free_made code start bound loads place (by_loads follow)
 
 -- ---- runs
 

@@ -21,7 +21,7 @@ use Rattle.fdr_record.specs.declared.event.Event.{Event}
 use Rattle.machine_step.specs.declared.want.Want.{Want}
 use Rattle.machine_step.specs.declared.want.Want.TheVariants.{Load as Loads}
 use Rattle.machine_step.specs.Ended.{EndsAsPlain}
-use Rattle.machine_step.specs.Follows.{later, loaded, none}
+use Rattle.machine_step.proofs.LoadByLoad.{later, loaded, none}
 use Rattle.machine_step.specs.Loads.{Load, marks_of, next_load}
 use Rattle.machine_step.specs.declared.end.End.{End}
 use Rattle.machine_step.specs.declared.limits.Limits.{Limits}

@@ -5,7 +5,7 @@ use Rattle.std.proofs.lemmas.List.{length-map}
 use Rattle.std.proofs.lemmas.Option.{slice_get_within}
 use Rattle.fdr_record.specs.declared.event.Event.{Event}
 use Rattle.machine_step.specs.declared.limits.Limits.{Limits}
-use Rattle.machine_step.specs.Follows.{later}
+use Rattle.machine_step.proofs.LoadByLoad.{later}
 use Rattle.machine_step.specs.PlainStep.{PlainRun}
 use Rattle.machine_step.specs.Traced.{Traced, sleds_passed}
 use Rattle.patch_script.specs.Micros.{total_of}

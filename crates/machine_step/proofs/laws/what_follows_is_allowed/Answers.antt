@@ -1,10 +1,10 @@
-use Rattle.machine_step.proofs.AllowedLoads.{follows_in_order, loads_allowed, next_allowed}
+use Rattle.machine_step.proofs.AllowedLoads.{loads_allowed, next_allowed}
 use Rattle.machine_step.proofs.WholePassings.{follows_whole}
 use Rattle.machine_step.proofs.laws.what_follows_is_allowed.Goals as goal
 
 pub returns : goal.returns
 returns c = record {
-  wanted = follows_in_order;
+  wanted = λ program threads code start bound thread hold sleds loads place follows. follows.wanted;
   loaded = λ program threads code start bound thread hold sleds loads place keeps follows.
       loads_allowed program threads code start bound thread keeps hold sleds follows;
   next = λ program threads code start bound thread hold sleds loads place word keeps.
