@@ -1,2 +1,4 @@
 pub mod Name
+pub mod Reading
+pub mod NameLaws
 pub mod private

@@ -1,0 +1,16 @@
+-- What is true of every name in a text.
+use Rattle.std.specs.Prelude.{◌≡◌, ◌≢◌, ◌++◌, ℕ, List, ◌∷◌, IsTrue, Some}
+use Rattle.std.specs.List.{list_all}
+use Rattle.function_names.specs.declared.form.NameForm.TheVariants.{Field, Quoted}
+use Rattle.function_names.specs.Name.{spelled}
+use Rattle.function_names.specs.Reading.{csv_field, ends_field, is_in_line, yaml_quoted}
+
+-- in csv, any name is read back, if the next byte ends a field
+abbrev pub CsvReadsBack : Type 0
+CsvReadsBack = (name rest : List ℕ) (next : ℕ) → IsTrue (ends_field next) → csv_field (spelled Field name ++ next ∷ rest) ≡ Some (name, next ∷ rest)
+
+-- in YAML, a name that may stand in one line is read back, if no further mark follows that behind it
+abbrev pub YamlReadsBack : Type 0
+YamlReadsBack =
+    (name rest : List ℕ) (next : ℕ) → IsTrue (list_all is_in_line name) → next ≢ 39
+    → yaml_quoted (39 ∷ spelled Quoted name ++ 39 ∷ next ∷ rest) ≡ Some (name, next ∷ rest)
