@@ -15,7 +15,7 @@ pub own_more : (row : PathRow) (rows : List PathRow) → own_sum (row ∷ rows) 
 own_more row rows = sum_by-cons (λ (r : PathRow). r.own) row rows
 
 -- a frame that no row begins with
-weight_none : (frame : List ℕ) (rows : List PathRow) → is_begun rows frame ≡ false → weight_of rows frame ≡ 0
+pub weight_none : (frame : List ℕ) (rows : List PathRow) → is_begun rows frame ≡ false → weight_of rows frame ≡ 0
 weight_none frame [] none = refl
 weight_none frame (row ∷ rows) none =
     let parts = or_parts (begins frame row.path) (is_begun rows frame) none in

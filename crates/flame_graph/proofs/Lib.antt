@@ -10,8 +10,12 @@ pub mod Scales
 -- The names: what a picture shows of them is UTF-8 (src/names.rt, src/laws.rt)
 pub mod NameCharacters
 pub mod NameTexts
--- The laws of a picture: no frame sticks out of its caller, and the lowest row adds up to the whole (src/laws.rt)
+pub mod NameEscapes
+-- The laws of a picture: which frames there are, that none overlaps another or sticks out of its caller, and that the
+-- lowest row adds up to the whole (src/laws.rt)
 pub mod NestedFrames
+pub mod FramePrefixes
+pub mod FramesApart
 pub mod LowestRow
 -- The rows of a stack report can be drawn (src/laws.rt)
 pub mod StackRows

@@ -25,7 +25,7 @@ begins_both (g ∷ outer) (f ∷ frame) (h ∷ path) on is =
     begins_more g h outer path (first.0 ∙ second.0) (begins_both outer frame path first.1 second.1)
 
 -- if the first row of several doesn't begin with a frame, but some do, a later one does
-begun_later : (frame : List ℕ) (row : PathRow) (rows : List PathRow) → begins frame row.path ≡ false → is_begun (row ∷ rows) frame ≡ true → is_begun rows frame ≡ true
+pub begun_later : (frame : List ℕ) (row : PathRow) (rows : List PathRow) → begins frame row.path ≡ false → is_begun (row ∷ rows) frame ≡ true → is_begun rows frame ≡ true
 begun_later frame row rows misses some = sym (ap (λ (t : Bool). t || is_begun rows frame) misses) ∙ some
 
 begun_outer : (outer frame : List ℕ) (rows : List PathRow) → begins outer frame ≡ true → is_begun rows frame ≡ true → is_begun rows outer ≡ true
@@ -49,7 +49,7 @@ begins_between outer row next (r ∷ rows) before after begun some = by_test (ca
 -- ---- in cycles
 
 -- a frame weighs at most as much as an outer one
-weight_le : (outer frame : List ℕ) (rows : List PathRow) → begins outer frame ≡ true → weight_of rows frame ≤ weight_of rows outer
+pub weight_le : (outer frame : List ℕ) (rows : List PathRow) → begins outer frame ≡ true → weight_of rows frame ≤ weight_of rows outer
 weight_le outer frame rows on =
     sum_by-le-sum_by (λ (r : PathRow). cond (begins frame r.path) r.own 0) (λ (r : PathRow). cond (begins outer r.path) r.own 0) rows (λ r. at_most r (cases_Bool (begins frame r.path)))
   where

@@ -1,10 +1,41 @@
 -- What is true of every flame graph. Lengths are in thousandths of a pixel, as they are printed.
-use Rattle.std.specs.Prelude.{◌≡◌, ◌+◌, ◌-◌, ◌<◌, ◌≤◌, ◌==◌, All, Bool, ℕ, List, length, take, filter, sum_by}
+use Rattle.std.specs.Prelude.{◌≡◌, ◌≢◌, ◌⊎◌, ◌↔◌, ◌+◌, ◌-◌, ◌<◌, ◌≤◌, ◌==◌, ◌&&◌, ◌||◌, All, Bool, IsTrue, not, ℕ, List, ◌∷◌, ◌++◌, codes, length, nat_le, take, filter, sum_by, Contains}
+use Rattle.std.specs.List.{AllPairs}
 use Rattle.std.specs.Str.{IsUtf8}
 use Rattle.stack_rebuild.specs.Stacks.{PathRow}
 use Rattle.flame_graph.specs.FlameText.{shortened, xml_text}
 use Rattle.flame_graph.specs.Frames.{frames, own_sum}
 use Rattle.flame_graph.specs.Picture.{across, left_of, width_of}
+
+-- ---- which frames there are
+
+-- a path of some function that is a prefix of the path of a row
+pub record IsRowPrefix (rows : List PathRow) (frame : List ℕ) : Type 0 where
+  pub some : 0 < length frame
+  pub row : PathRow
+  pub there : Contains rows row
+  pub rest : List ℕ
+  pub whole : frame ++ rest ≡ row.path
+
+-- the frames are exactly these prefixes
+abbrev pub AreRowPrefixes : List PathRow → Type 0
+AreRowPrefixes rows = (frame : List ℕ) → Contains (frames rows) frame ↔ IsRowPrefix rows frame
+
+-- no frame is listed twice
+abbrev pub NoneTwice : List PathRow → Type 0
+NoneTwice rows = AllPairs (λ frame later. frame ≢ later) (frames rows)
+
+-- ---- frames of one height
+
+-- if two frames are equally high, the first one ends no farther to the right than the other one begins
+abbrev pub IsLeftOf : List PathRow → List ℕ → List ℕ → Type 0
+IsLeftOf rows frame later = length frame ≡ length later → left_of rows frame + width_of rows frame ≤ left_of rows later
+
+-- frames of one height don't overlap, and are listed from left to right
+abbrev pub NoneOverlap : List PathRow → Type 0
+NoneOverlap rows = AllPairs (IsLeftOf rows) (frames rows)
+
+-- ---- frames on frames
 
 -- What a frame stands on: the frame of its caller, which lacks the innermost function. A frame of one function stands on
 -- the whole, which has no function, and whose weight is that of all rows.
@@ -28,6 +59,27 @@ is_lowest frame = length frame == 1
 abbrev pub LowestAddUp : List PathRow → Type 0
 LowestAddUp rows = 0 < own_sum rows → sum_by (width_of rows) (filter is_lowest (frames rows)) ≡ across
 
+-- ---- names
+
 -- what is shown of a name, under the pointer and as a label that has room for this many characters, is UTF-8
 abbrev pub NamesAreText : Type 0
 NamesAreText = (name : List ℕ) (room : ℕ) → IsUtf8 (xml_text name) × IsUtf8 (shortened room name)
+
+-- a byte that a text of XML may have, as it is or to begin an escape: no control character of ASCII, and none of `"`, `<` and
+-- `>`
+abbrev pub is_text_byte : ℕ → Bool
+is_text_byte b = nat_le 32 b && not (b == 127 || b == 34 || b == 60 || b == 62)
+
+-- what follows an ampersand that begins an escape
+abbrev pub EndsEscape : List ℕ → Type 0
+EndsEscape text =
+    (rest : List ℕ) × ((text ≡ codes "amp;" ++ rest) ⊎ (text ≡ codes "lt;" ++ rest) ⊎ (text ≡ codes "gt;" ++ rest) ⊎ (text ≡ codes "quot;" ++ rest))
+
+-- a text has only such bytes, and each `&` in it (38) begins an escape
+pub record IsEscaped (text : List ℕ) : Type 0 where
+  pub bytes : All (λ b. IsTrue (is_text_byte b)) text
+  pub ampersands : (before after : List ℕ) → text ≡ before ++ 38 ∷ after → EndsEscape after
+
+-- what is shown of a name is escaped, under the pointer and as a label
+abbrev pub NamesAreEscaped : Type 0
+NamesAreEscaped = (name : List ℕ) (room : ℕ) → IsEscaped (xml_text name) × IsEscaped (shortened room name)

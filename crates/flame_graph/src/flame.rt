@@ -5,7 +5,7 @@ ghost use Rattle.function_names.specs.Name.{image_names, naming};
 ghost use Rattle.stack_rebuild.specs.Stacks.{told};
 ghost use Rattle.xray_io.specs.{Text.{AddsText}, Writes.{WritesText}};
 ghost use Rattle.flame_graph.specs.FlameText.{flame_text, foot_text, head_text, seconds_text, start_text, total_text};
-ghost use Rattle.flame_graph.specs.{Frames.{AreStacks}, Laws.{LowestAddUp, NoneSticksOut}};
+ghost use Rattle.flame_graph.specs.{Frames.{AreStacks}, Laws.{AreRowPrefixes, LowestAddUp, NoneOverlap, NoneSticksOut, NoneTwice}};
 
 use crate::sums::{levels_of, total_of};
 use crate::walk::{LEVEL, Picture, add_frames};
@@ -67,6 +67,9 @@ pub fn write_flame_graph<S: Sink>(
     ensures writes { WritesText S.written S.faults S.along sink.old sink.new
         (flame_text frequency (image_names (option_map (λ image. image.now) image.entry))
         (map told rows.now)) result }
+    ensures prefixes { AreRowPrefixes (map told rows.now) }
+    ensures once { NoneTwice (map told rows.now) }
+    ensures apart { NoneOverlap (map told rows.now) }
     ensures within { NoneSticksOut (map told rows.now) }
     ensures adds_up { LowestAddUp (map told rows.now) }
 {

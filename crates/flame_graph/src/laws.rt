@@ -4,7 +4,7 @@ ghost use Rattle.std.specs.Prelude.{List};
 ghost use Rattle.fdr_file.specs.declared.trace.Block.{Block};
 ghost use Rattle.fdr_record.specs.declared.event.Event.{Event};
 ghost use Rattle.stack_rebuild.specs.Stacks.{PathRow, stack_of, stack_of_threads};
-ghost use Rattle.flame_graph.specs.{Frames.{AreStacks}, Laws.{LowestAddUp, NamesAreText, NoneSticksOut}};
+ghost use Rattle.flame_graph.specs.{Frames.{AreStacks}, Laws.{AreRowPrefixes, LowestAddUp, NamesAreEscaped, NamesAreText, NoneOverlap, NoneSticksOut, NoneTwice}};
 
 /// The stacks of blocks are in ascending order of their paths, each path once and with a function.
 /// So a flame graph can be drawn of them.
@@ -15,6 +15,19 @@ pub fn stacks_can_be_drawn()
 /// So it is of the stacks of threads, by the events of each.
 pub fn stacks_of_threads_can_be_drawn()
     ensures { (threads : List (List Event)) → AreStacks (stack_of_threads threads) }
+{}
+
+/// The frames are exactly the prefixes of the rows' paths that have a function, and none is listed
+/// twice.
+pub fn each_prefix_is_a_frame_once()
+    ensures exactly { (rows : List PathRow) → AreRowPrefixes rows }
+    ensures once { (rows : List PathRow) → NoneTwice rows }
+{}
+
+/// Frames of one height don't overlap. This is true of what is printed, where they are listed from left
+/// to right.
+pub fn frames_of_a_height_are_apart()
+    ensures { (rows : List PathRow) → AreStacks rows → NoneOverlap rows }
 {}
 
 /// No frame sticks out of the frame of its caller, or, if it has none, out of the whole. This is true
@@ -32,4 +45,10 @@ pub fn the_lowest_frames_add_up()
 /// What is shown of a name is UTF-8, whatever its bytes are, and wherever it is cut.
 pub fn names_are_text()
     ensures { NamesAreText }
+{}
+
+/// What is shown of a name has no `<`, `>` or `"`, and no control character of ASCII. Each `&` in it
+/// begins an escape.
+pub fn names_are_escaped()
+    ensures { NamesAreEscaped }
 {}
