@@ -34,9 +34,6 @@ text_line names rows frame is =
     (line_text (left_of rows frame) (width_of rows frame) (top_of (levels_of rows) (length frame)) (func_of frame) (plain_name names (func_of frame)) (calls_of rows frame)) [] is
 
 -- it is within all rows
-pub start_within : (rows : List PathRow) (frame : List ℕ) → start_of rows frame ≤ total_of rows
-start_within rows frame = let span = span_within frame rows in omega (arith, span)
-
 pub end_within : (rows : List PathRow) (frame : List ℕ) → end_of rows frame ≤ total_of rows
 end_within rows frame = let span = span_within frame rows in omega (arith, span)
 

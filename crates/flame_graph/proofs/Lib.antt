@@ -5,6 +5,7 @@ pub mod Measures
 pub mod Orders
 pub mod FrameSpans
 pub mod OpenFrames
+pub mod Openings
 pub mod DrawnFrames
 pub mod Scales
 -- The names: what a picture shows of them is UTF-8 (src/names.rt, src/laws.rt)

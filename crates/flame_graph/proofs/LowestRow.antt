@@ -131,9 +131,9 @@ lowest_from rows (suc more) at ascending some last =
         let here : lowest_width rows (ended_at rows at) ≡ width_of rows (take (suc zero) path) =
         ap (λ (n : ℕ). lowest_width rows (drop n (prefixes path))) is ∙ width_of_one rows path (some at within) in
         let ends = closes_at rows at zero ascending within (omega (arith, is)) (some at within) in
-        let starts = (opens_at rows (suc at) zero no_row ascending next_within (omega (arith, is)) (some (suc at) next_within)).start in
+        let starts = (opens_at rows (suc at) zero ascending next_within (omega (arith, is)) (some (suc at) next_within)).left in
         let meet : right_of rows (take (suc zero) path) ≡ left_of rows (take (suc zero) (path_at rows (suc at))) =
-        ap (λ (n : ℕ). thousandths_at (total_of rows) n) (ends ∙ starts) in
+        ap (λ (n : ℕ). thousandths_at (total_of rows) n) ends ∙ starts in
         let both = width_and_left rows (take (suc zero) path) in
         omega (arith, split, here, both, meet, again)
 
@@ -150,7 +150,7 @@ lowest_add_up (row ∷ rows) stacks spent =
     omega (arith, here, same) in
     let rising = ascends all stacks.ascending in
     let whole = lowest_from all (length rows) zero rising each (omega arith) in
-    let starts = (opens_at all zero zero no_row rising (omega arith) (omega arith) (each zero (omega arith))).start in
-    let first : left_of all (take (suc zero) (path_at all zero)) ≡ 0 = ap (λ (n : ℕ). thousandths_at (total_of all) n) (sym starts) ∙ at_none (total_of all) in
+    let starts = (opens_at all zero zero rising (omega arith) (omega arith) (each zero (omega arith))).left in
+    let first : left_of all (take (suc zero) (path_at all zero)) ≡ 0 = sym starts ∙ at_none (total_of all) in
     let full = at_whole (total_of all) (omega (arith, spent)) in
     width_is all (frames all) ∙ omega (arith, whole, first, full)

@@ -4,12 +4,12 @@ use Rattle.std.specs.List.{AllByRecursion, flat_map}
 use Rattle.std.proofs.lemmas.Bool.{cases_Bool, cases_order, cond-false, cond-true, false≢true, not_from_false, not_from_true, or_from, or_left}
 use Rattle.std.proofs.lemmas.Grind.{flat_map-append}
 use Rattle.std.proofs.lemmas.List.{append-nil, append_assoc, drop-map, drop_all, get_or-drop, get_or-map, get_or_default, length-drop, length-map, length-take-le}
-use Rattle.std.proofs.lemmas.List.Sums.{sum_by-append, sum_by_more}
+use Rattle.std.proofs.lemmas.List.Sums.{sum_by-append, sum_by-take-le, sum_by_more}
 use Rattle.stack_rebuild.specs.Stacks.{PathRow}
-use Rattle.flame_graph.specs.Frames.{Precedes, prefixes, begins, calls_in, calls_of, capped, end_of, frames, is_begun, no_calls, own_sum, place_of, weight_of}
-use Rattle.flame_graph.specs.Picture.{is_drawn, most_levels}
-use Rattle.flame_graph.specs.private.Walking.{AreKept, IsKept, IsOpen, Stands, count_left, ended_at, no_opening, opened, path_at, shared, shared_at}
-use Rattle.flame_graph.specs.declared.frame.Opening.{Opening}
+use Rattle.flame_graph.specs.Frames.{Precedes, prefixes, begins, calls_in, calls_of, capped, end_of, frames, is_begun, no_calls, own_sum, place_of, total_of, weight_of}
+use Rattle.flame_graph.specs.Picture.{is_drawn, most_levels, thousandths_at}
+use Rattle.flame_graph.specs.private.Walking.{AreKept, IsKept, IsOpen, Opening, Stands, calls_by, count_left, ended_at, opened, opening_at, path_at, shared, shared_at}
+use Rattle.flame_graph.specs.declared.frame.Openings.{Openings}
 use Rattle.flame_graph.specs.declared.walk.Walk.{Walk}
 use Rattle.flame_graph.proofs.Orders.{Ascends, IsBefore, begins_take, between, same_shared, shared_comm, shared_within, shares, shares_not}
 use Rattle.flame_graph.proofs.FrameSpans.{calls_at, ends_at, starts_at}
@@ -177,11 +177,12 @@ begins_row rows at n within =
     ap (λ (path : List ℕ). begins (take (suc n) (path_at rows at)) path) (row_path rows at no_row within) ∙ begins_take (suc n) (path_at rows at)
 
 -- a frame that opens at a row
-pub opens_at : (rows : List PathRow) (at n : ℕ) (d : PathRow) → Ascends rows → at < length rows → shared_at rows at ≤ n → n < length (path_at rows at)
-    → IsKept rows (take (suc n) (path_at rows at)) (opened (get_or rows at d) (capped (own_sum (take at rows))) n)
-opens_at rows at n d ascending within new few = record {
-  start = sym (ap capped place_is);
-  calls = ap (λ (row : PathRow). cond (eqb (length row.path) (suc n)) (calls_in row) no_calls) (get_or_default rows at d no_row within) ∙ sym calls_are;
+pub opens_at : (rows : List PathRow) (at n : ℕ) → Ascends rows → at < length rows → shared_at rows at ≤ n → n < length (path_at rows at)
+    → IsKept rows (take (suc n) (path_at rows at)) (opened rows at)
+opens_at rows at n ascending within new few = record {
+  left = sym (ap (λ (place : ℕ). thousandths_at (total_of rows) (capped place)) place_is);
+  first = within;
+  calls = λ d. ap (λ (row : PathRow). calls_by row (length (take (suc n) (path_at rows at)))) (get_or_default rows at d no_row within) ∙ sym calls_are;
 }
   where
     place_is : place_of rows (take (suc n) (path_at rows at)) ≡ own_sum (take at rows)
@@ -189,13 +190,11 @@ opens_at rows at n d ascending within new few = record {
         ap (λ (rs : List PathRow). place_of rs (take (suc n) (path_at rows at))) (split_at rows at no_row within)
         ∙ starts_at (take (suc n) (path_at rows at)) (take at rows) (get_or rows at no_row) (drop (suc at) rows) (is_new rows at n ascending within new few) (begins_row rows at n within)
 
-    calls_are : calls_of rows (take (suc n) (path_at rows at)) ≡ cond (eqb (length (get_or rows at no_row).path) (suc n)) (calls_in (get_or rows at no_row)) no_calls
+    calls_are : calls_of rows (take (suc n) (path_at rows at)) ≡ calls_by (get_or rows at no_row) (length (take (suc n) (path_at rows at)))
     calls_are =
         ap (λ (rs : List PathRow). calls_of rs (take (suc n) (path_at rows at))) (split_at rows at no_row within)
         ∙ calls_at (take (suc n) (path_at rows at)) (take at rows) (get_or rows at no_row) (drop (suc at) rows)
         (subst Ascends (split_at rows at no_row within) ascending) (is_new rows at n ascending within new few) (begins_row rows at n within)
-        ∙ ap (λ (size : ℕ). cond (eqb (length (get_or rows at no_row).path) size) (calls_in (get_or rows at no_row)) no_calls)
-        (length-take-le (suc n) (path_at rows at) (omega (arith, few)))
 
 -- the time up to one row more
 pub own_next : (rows : List PathRow) (at : ℕ) (d : PathRow) → at < length rows → own_sum (take (suc at) rows) ≡ own_sum (take at rows) + (get_or rows at d).own
@@ -277,23 +276,26 @@ left_step rows some i d frame before a b within is so_far now =
 -- ---- a walk, row by row
 
 -- before the first row
-pub stands_first : (rows : List PathRow) (openings : List Opening) → Stands rows 0 (record { openings = openings; standing = 0; place = 0 })
+pub stands_first : (rows : List PathRow) (openings : Openings) → Stands rows 0 (record { openings = openings; standing = 0; place = 0 })
 stands_first rows openings = record { place = refl; standing = refl; kept = λ n few low. absurd (omega (arith, few)) }
 
--- a row is opened
-pub row_opens : (rows : List PathRow) (at : ℕ) (d : PathRow) (old : Walk) (openings : List Opening) → Ascends rows → at < length rows → Stands rows at old
-    → ((n : ℕ) → n < old.standing → get_or openings n no_opening ≡ get_or old.openings n no_opening)
-    → ((n : ℕ) → old.standing ≤ n → n < length (path_at rows at) → n < most_levels → get_or openings n no_opening ≡ opened (get_or rows at d) old.place n)
-    → AreKept rows (path_at rows at) (length (path_at rows at)) openings
-row_opens rows at d old openings ascending within stands stay opens n few low = by_order (cases_order n old.standing)
-  where
-    open_now : old.standing ≤ n → IsKept rows (take (suc n) (path_at rows at)) (get_or openings n no_opening)
-    open_now high =
-        subst (λ (opening : Opening). IsKept rows (take (suc n) (path_at rows at)) opening)
-        (ap (λ (place : ℕ). opened (get_or rows at d) place n) (sym stands.place) ∙ sym (opens n high few low))
-        (opens_at rows at n d ascending within (omega (arith, high, stands.standing)) few)
+-- a row begins within all rows
+pub begins_within : (rows : List PathRow) (at : ℕ) → capped (own_sum (take at rows)) ≤ total_of rows
+begins_within rows at = let all = sum_by-take-le (λ (row : PathRow). row.own) rows at in omega (arith, all)
 
-    by_order : (n ≡ old.standing) ⊎ ((n < old.standing) ⊎ (old.standing < n)) → IsKept rows (take (suc n) (path_at rows at)) (get_or openings n no_opening)
+-- a row is opened
+pub row_opens : (rows : List PathRow) (at : ℕ) (old : Walk) (openings : Openings) → Ascends rows → at < length rows → Stands rows at old
+    → ((n : ℕ) → n < old.standing → opening_at openings n ≡ opening_at old.openings n)
+    → ((n : ℕ) → old.standing ≤ n → n < length (path_at rows at) → n < most_levels → opening_at openings n ≡ opened rows at)
+    → AreKept rows (path_at rows at) (length (path_at rows at)) openings
+row_opens rows at old openings ascending within stands stay opens n few low = by_order (cases_order n old.standing)
+  where
+    open_now : old.standing ≤ n → IsKept rows (take (suc n) (path_at rows at)) (opening_at openings n)
+    open_now high =
+        subst (λ (opening : Opening). IsKept rows (take (suc n) (path_at rows at)) opening) (sym (opens n high few low))
+        (opens_at rows at n ascending within (omega (arith, high, stands.standing)) few)
+
+    by_order : (n ≡ old.standing) ⊎ ((n < old.standing) ⊎ (old.standing < n)) → IsKept rows (take (suc n) (path_at rows at)) (opening_at openings n)
     by_order (inl same) = open_now (omega (arith, same))
     by_order (inr (inl below)) = subst (λ (opening : Opening). IsKept rows (take (suc n) (path_at rows at)) opening) (sym (stay n below)) (stands.kept n below low)
     by_order (inr (inr above)) = open_now (omega (arith, above))
@@ -305,7 +307,7 @@ next_stands rows at walk now standing = record {
   standing = standing;
   kept = λ n few low.
       let within = shared_within (path_at rows at) (path_at rows (suc at)) in
-      subst (λ (frame : List ℕ). IsKept rows frame (get_or walk.openings n no_opening)) (same_shared n (path_at rows at) (path_at rows (suc at)) (omega (arith, few, standing)))
+      subst (λ (frame : List ℕ). IsKept rows frame (opening_at walk.openings n)) (same_shared n (path_at rows at) (path_at rows (suc at)) (omega (arith, few, standing)))
       (now.kept n (omega (arith, few, standing, within)) low);
 }
 

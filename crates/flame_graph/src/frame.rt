@@ -3,7 +3,9 @@
 ghost use Rattle.std.specs.Prelude.{◌≡◌};
 ghost use Rattle.stack_rebuild.specs.Stacks.{told};
 ghost use Rattle.flame_graph.specs.Frames.{calls_in, no_calls};
+ghost use Rattle.flame_graph.specs.private.Walking.{calls_by};
 
+use crate::sums::MOST_LEVELS;
 use stack_rebuild::StackRow;
 
 /// What is printed of a frame's calls: how many pairs of an entry and an exit have its path, the sum
@@ -36,11 +38,25 @@ impl Calls {
             own: row.own,
         }
     }
+
+    /// Those of a frame with this many functions, whose first row is this one.
+    pub(crate) fn of_frame(row: &StackRow, size: usize) -> Calls
+        ensures { result ≡ calls_by (told row.now) size }
+    {
+        if row.path.len() == size {
+            Calls::of(row)
+        } else {
+            Calls::NONE
+        }
+    }
 }
 
-/// A frame that more rows may begin with: where it begins, in cycles, and its calls.
-#[derive(Clone, Copy)]
-pub(crate) struct Opening {
-    pub(crate) start: u128,
-    pub(crate) calls: Calls,
+/// The frames that more rows may begin with, from the outermost on. They are two arrays, since one of
+/// pairs would take more of the stack.
+#[derive(Drop)]
+pub(crate) struct Openings {
+    /// The left end of each, in thousandths of a pixel.
+    pub(crate) lefts: [u32; MOST_LEVELS],
+    /// The position of the first row whose path begins with it, from 0.
+    pub(crate) firsts: [usize; MOST_LEVELS],
 }

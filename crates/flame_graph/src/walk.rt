@@ -1,16 +1,16 @@
 //! The lines of all frames.
 
-ghost use Rattle.std.specs.Prelude.{◌≡◌, ◌+◌, ◌-◌, ◌^◌, ◌<◌, ◌≤◌, length, map, slice_index_or, suc, if◌then◌else◌, OnOk};
+ghost use Rattle.std.specs.Prelude.{◌≡◌, ◌+◌, ◌-◌, ◌^◌, ◌<◌, ◌≤◌, length, map, suc, if◌then◌else◌, OnOk};
 ghost use Rattle.std.specs.List.{flat_map};
 ghost use Rattle.function_names.specs.Name.{naming};
 ghost use Rattle.stack_rebuild.specs.Stacks.{told};
 ghost use Rattle.xray_io.specs.Text.{AddsText};
 ghost use Rattle.flame_graph.specs.FlameText.{frame_text, top_of};
-ghost use Rattle.flame_graph.specs.Frames.{AreAscending, capped, end_of, frames, start_of, total_of};
+ghost use Rattle.flame_graph.specs.Frames.{AreAscending, capped, end_of, frames, total_of};
 ghost use Rattle.flame_graph.specs.Picture.{is_drawn, left_of, left_out, levels_of, most_levels, width_of};
-ghost use Rattle.flame_graph.specs.private.Walking.{IsKept, IsOpen, Stands, count_left, ended_at, no_opening, shared_at};
+ghost use Rattle.flame_graph.specs.private.Walking.{IsKept, IsOpen, Stands, count_left, ended_at, opening_at, shared_at};
 
-use crate::frame::{Calls, Opening};
+use crate::frame::{Calls, Openings};
 use crate::line::{Place, add_frame_line};
 use crate::open_frames::open_frames;
 use crate::scale::thousandths_at;
@@ -45,18 +45,12 @@ pub(crate) struct Picture<'a> {
 #[derive(Drop)]
 pub(crate) struct Walk {
     /// The frames that are open, from the outermost on.
-    openings: [Opening; MOST_LEVELS],
+    openings: Openings,
     /// How many of them the next row goes on with.
     standing: usize,
     /// Where the next row begins, in cycles.
     place: u128,
 }
-
-/// What is kept where no frame is open.
-const NONE: Opening = Opening {
-    start: 0,
-    calls: Calls::NONE,
-};
 
 /// Adds the lines of the frames that are drawn, and counts those that are left out.
 pub(crate) fn add_frames<S: Sink>(
@@ -72,7 +66,10 @@ pub(crate) fn add_frames<S: Sink>(
     ensures left { OnOk result (left.new ≡ left_out (map told picture.now.rows.now)) }
 {
     let mut walk = Walk {
-        openings: [NONE; MOST_LEVELS],
+        openings: Openings {
+            lefts: [0; MOST_LEVELS],
+            firsts: [0; MOST_LEVELS],
+        },
         standing: 0,
         place: 0,
     };
@@ -100,20 +97,21 @@ fn add_row<S: Sink>(
         + count_left (map told picture.now.rows.now) (ended_at (map told picture.now.rows.now) at))) }
     ensures stands { OnOk result (Stands (map told picture.now.rows.now) (at + 1) walk.new) }
 {
-    open_row(walk, picture.rows, at);
+    open_row(walk, picture, at);
     walk.standing = shared_after(picture.rows, at);
     add_ended(to, picture, at, walk, left)
 }
 
 /// Opens the frames of a row.
-fn open_row(walk: &mut Walk, rows: &[StackRow], at: usize)
-    requires ascending { AreAscending (map told rows.now) }
-    requires within { at < length rows.now }
-    requires stands { Stands (map told rows.now) at walk.old }
-    ensures { IsOpen (map told rows.now) at walk.new }
+fn open_row(walk: &mut Walk, picture: &Picture, at: usize)
+    requires ascending { AreAscending (map told picture.now.rows.now) }
+    requires within { at < length picture.now.rows.now }
+    requires stands { Stands (map told picture.now.rows.now) at walk.old }
+    ensures { IsOpen (map told picture.now.rows.now) at walk.new }
 {
-    let row = &rows[at];
-    open_frames(&mut walk.openings, walk.standing, row, walk.place);
+    let row = &picture.rows[at];
+    let left = thousandths_at(picture.total, walk.place) as u32;
+    open_frames(&mut walk.openings, walk.standing, row, left, at);
     walk.place = walk.place.saturating_add(row.own);
 }
 
@@ -165,7 +163,7 @@ fn add_frame<S: Sink>(
 ) -> Result<(), WriteFault>
     requires some { 0 < length frame.now }
     requires kept { length frame.now ≤ most_levels → IsKept (map told picture.now.rows.now) frame.now
-        (slice_index_or walk.now.openings (length frame.now - 1) no_opening) }
+        (opening_at walk.now.openings (length frame.now - 1)) }
     requires end { walk.now.place ≡ end_of (map told picture.now.rows.now) frame.now }
     ensures adds { AddsText S.written S.faults S.along to.old to.new
         (frame_text (naming picture.now.names)
@@ -178,19 +176,21 @@ fn add_frame<S: Sink>(
         *left = before.saturating_add(1);
         return Ok(());
     }
-    let opening = walk.openings[frame.len() - 1];
-    let place = place_of(picture, frame, opening.start, walk.place);
+    let outer = frame.len() - 1;
+    let place = place_of(picture, frame, walk.openings.lefts[outer], walk.place);
     if place.width < LEAST_WIDTH {
         *left = before.saturating_add(1);
         return Ok(());
     }
-    let func = frame[frame.len() - 1];
-    add_frame_line(to, &place, func, picture.names, &opening.calls)
+    let first = &picture.rows[walk.openings.firsts[outer]];
+    let calls = Calls::of_frame(first, frame.len());
+    add_frame_line(to, &place, frame[outer], picture.names, &calls)
 }
 
-/// Where a frame is drawn that begins and ends at these places.
-fn place_of(picture: &Picture, frame: &[u32], start: u128, end: u128) -> Place
-    requires start { start ≡ start_of (map told picture.now.rows.now) frame.now }
+/// Where a frame is drawn that begins at `left`, in thousandths of a pixel, and ends at `end`, in
+/// cycles.
+fn place_of(picture: &Picture, frame: &[u32], left: u32, end: u128) -> Place
+    requires left { left ≡ left_of (map told picture.now.rows.now) frame.now }
     requires end { end ≡ end_of (map told picture.now.rows.now) frame.now }
     ensures left { result.left ≡ left_of (map told picture.now.rows.now) frame.now }
     ensures width { result.width ≡ width_of (map told picture.now.rows.now) frame.now }
@@ -200,7 +200,7 @@ fn place_of(picture: &Picture, frame: &[u32], start: u128, end: u128) -> Place
     ensures width_bound { result.width < 2 ^ 64 }
     ensures top_bound { result.top < 2 ^ 64 }
 {
-    let left = thousandths_at(picture.total, start);
+    let left = u128::from(left);
     let right = thousandths_at(picture.total, end);
     Place {
         left,

@@ -1,22 +1,23 @@
-use Rattle.std.proofs.Common.{◌≢◌, ◌∙◌, ◌<◌, ℕ, ap, arith, get_or-set_other, inl, inr, length, sym}
+use Rattle.std.proofs.Common.{◌∙◌, arith, inl, inr}
 use Rattle.std.proofs.lemmas.Bool.{cases_order}
-use Rattle.std.proofs.lemmas.Grind.{get_or-set_at}
 use Rattle.std.proofs.lemmas.List.{length-set}
-use Rattle.stack_rebuild.specs.Stacks.{told}
-use Rattle.flame_graph.specs.private.Walking.{opened}
+use Rattle.flame_graph.proofs.Openings.{set_others, set_there}
 use Rattle.flame_graph.proofs.open_frames.open_frames.Goals as goal
 
 pub opening-preserved : goal.opening-preserved
 opening-preserved c =
-    let within : c.opening.outer < length c.opening.openings = omega (arith, c.opening.invariant.whole) in
+    let all = c.opening.openings in
+    let outer = c.opening.outer in
+    let lefts = length-set all.lefts outer c.args.left in
+    let firsts = length-set all.firsts outer c.args.first in
     record {
-      whole = let same = length-set c.opening.openings c.opening.outer c.opening-in-opening.result in same ∙ c.opening.invariant.whole;
-      stay = λ n few. let other : n ≢ c.opening.outer = omega (arith, few) in rw get_or-set_other (c.opening.invariant.stay n few);
-      opened = λ n low up. elim (cases_order n c.opening.outer) [
-        | inl same ↦ get_or-set_at c.opening.openings c.opening.outer n _ _ same within ∙ c.opening-in-opening.ensures
-            ∙ ap (λ (k : ℕ). opened (told c.args.row.now) c.args.start k) (sym same)
+      lefts = lefts ∙ c.opening.invariant.lefts;
+      firsts = firsts ∙ c.opening.invariant.firsts;
+      stay = λ n few. set_others all outer n c.args.left c.args.first (omega (arith, few)) ∙ c.opening.invariant.stay n few;
+      opened = λ n low up. elim (cases_order n outer) [
+        | inl same ↦ set_there all outer n c.args.left c.args.first same (omega (arith, c.opening.invariant.lefts)) (omega (arith, c.opening.invariant.firsts))
         | inr apart ↦ elim apart [
-          | inl below ↦ (let other : n ≢ c.opening.outer = omega (arith, below) in rw get_or-set_other (c.opening.invariant.opened n low below))
+          | inl below ↦ set_others all outer n c.args.left c.args.first (omega (arith, below)) ∙ c.opening.invariant.opened n low below
           | inr above ↦ absurd (omega (arith, up, above))
         ]
       ];

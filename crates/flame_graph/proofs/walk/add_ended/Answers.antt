@@ -8,7 +8,7 @@ use Rattle.stack_rebuild.specs.declared.stack_row.StackRow.{StackRow}
 use Rattle.stack_rebuild.specs.Stacks.{told}
 use Rattle.flame_graph.specs.FlameText.{frame_text}
 use Rattle.flame_graph.specs.Frames.{capped, end_of}
-use Rattle.flame_graph.specs.private.Walking.{IsKept, count_left, ended_at, no_opening, path_at, shared_at}
+use Rattle.flame_graph.specs.private.Walking.{IsKept, count_left, ended_at, opening_at, path_at, shared_at}
 use Rattle.flame_graph.proofs.OpenFrames.{closes_at, ended_is, frame_cut, left_step, length-ended}
 use Rattle.flame_graph.proofs.Measures.{path_told}
 use Rattle.flame_graph.proofs.Orders.{ascends}
@@ -38,8 +38,8 @@ add_frame-requires-clause-kept g c = λ few.
     let size : length (take (outer + 1) cut) ≡ outer + 1 = length-take-le (outer + 1) cut (omega (arith, c.frames-test.true)) in
     let at_end : outer ≡ length (take (outer + 1) cut) - 1 = omega (arith, size) in
     let kept = c.requires.opened.kept outer (omega (arith, c.frames-test.true, sizes)) (omega (arith, few, size)) in
-    let P : ℕ → Type 0 = λ k. IsKept rows (take (suc outer) path) (get_or c.args.walk.now.openings k no_opening) in
-    let Q : List ℕ → Type 0 = λ f. IsKept rows f (get_or c.args.walk.now.openings (length (take (outer + 1) cut) - 1) no_opening) in
+    let P : ℕ → Type 0 = λ k. IsKept rows (take (suc outer) path) (opening_at c.args.walk.now.openings k) in
+    let Q : List ℕ → Type 0 = λ f. IsKept rows f (opening_at c.args.walk.now.openings (length (take (outer + 1) cut) - 1)) in
     subst Q (frame_cut cut path outer same) (subst P at_end kept)
 
 pub add_frame-requires-clause-end : goal.add_frame-requires-clause-end

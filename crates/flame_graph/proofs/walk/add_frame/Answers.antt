@@ -1,9 +1,13 @@
-use Rattle.std.proofs.Common.{◌<◌, ◌≤◌, List, ℕ, Ok, arith, length, map, subst, sym}
+use Rattle.std.proofs.Common.{◌∙◌, ◌<◌, ◌≤◌, List, ℕ, Ok, ap, arith, length, map, subst, sym}
+use Rattle.std.proofs.lemmas.List.{length-map}
 use Rattle.function_names.specs.Name.{naming}
 use Rattle.xray_io.specs.Text.{AddsText, adds_nothing}
-use Rattle.stack_rebuild.specs.Stacks.{told}
+use Rattle.stack_rebuild.specs.declared.stack_row.StackRow.{StackRow}
+use Rattle.stack_rebuild.specs.Stacks.{PathRow, told}
 use Rattle.flame_graph.specs.Picture.{least_width, most_levels, width_of}
 use Rattle.flame_graph.proofs.DrawnFrames.{is_wide, line_drawn, not_left, on_ok_from, text_none, too_long, too_thin}
+use Rattle.flame_graph.specs.private.Walking.{calls_by}
+use Rattle.flame_graph.proofs.Measures.{told_at}
 use Rattle.flame_graph.proofs.walk.add_frame.Goals as goal
 
 pub returns-then-frame-gt-MOST_LEVELS-clause-adds : goal.returns-then-frame-gt-MOST_LEVELS-clause-adds
@@ -30,8 +34,14 @@ returns-clause-adds g c =
     let few : length frame ≤ most_levels = omega arith in
     let wide : least_width ≤ width_of rows frame = omega (arith, c.if-place-lt-LEAST_WIDTH.false, c.place_of-place.ensures.width) in
     let place = c.place_of-place.ensures in
+    let kept = c.requires.kept few in
+    let row = c.index-picture-walk.result in
+    let calls = c.of_frame-calls.ensures
+    ∙ (ap (λ (r : StackRow). calls_by (told r) (length frame)) (sym c.index-picture-walk.is)
+    ∙ (ap (λ (r : PathRow). calls_by r (length frame)) (sym (told_at c.args.picture.now.rows.now _ row (omega (arith, kept.first, length-map c.args.picture.now.rows.now told)) c.index-picture-walk.is))
+    ∙ kept.calls (told row))) in
     let P : List ℕ → Type 0 = λ t. AddsText g.S.Sink.written g.S.Sink.faults g.S.Sink.along c.args.to.now c.add_frame_line.new.to t c.add_frame_line.result in
-    subst P (line_drawn names rows frame _ _ _ _ (is_wide rows frame few wide) place.left place.width place.top (c.requires.kept few).calls) c.add_frame_line.ensures
+    subst P (line_drawn names rows frame _ _ _ _ (is_wide rows frame few wide) place.left place.width place.top calls) c.add_frame_line.ensures
 
 pub returns-clause-left : goal.returns-clause-left
 returns-clause-left g c =

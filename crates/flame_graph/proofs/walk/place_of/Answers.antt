@@ -1,12 +1,7 @@
 use Rattle.std.proofs.Common.{arith, map}
 use Rattle.stack_rebuild.specs.Stacks.{told}
-use Rattle.flame_graph.proofs.DrawnFrames.{end_within, start_within}
+use Rattle.flame_graph.proofs.DrawnFrames.{end_within}
 use Rattle.flame_graph.proofs.walk.place_of.Goals as goal
-
-pub thousandths_at-left-requires : goal.thousandths_at-left-requires
-thousandths_at-left-requires c =
-    let within = start_within (map told c.args.picture.now.rows.now) c.args.frame.now in
-    omega (arith, within, c.requires.start)
 
 pub thousandths_at-right-requires : goal.thousandths_at-right-requires
 thousandths_at-right-requires c =
