@@ -25,22 +25,22 @@ use Rattle.machine_step.proofs.AllowedLoads.{following, by_test, loads_allowed, 
 -- ---- loads of the words that are wanted
 
 -- loads of the words that `next` wants one after the other
-abbrev Fit : (List Load → Option ℕ) → List Load → Type 0
+abbrev pub Fit : (List Load → Option ℕ) → List Load → Type 0
 Fit next [] = Unit {0}
 Fit next (load ∷ loads) = (next [] ≡ Some load.word) × Fit (λ more. next (load ∷ more)) loads
 
-fit_from : (next : List Load → Option ℕ) (loads : List Load)
+pub fit_from : (next : List Load → Option ℕ) (loads : List Load)
     → ((i : ℕ) (load : Load) → slice_get loads i ≡ Some load → next (take i loads) ≡ Some load.word) → Fit next loads
 fit_from next [] wanted = tt
 fit_from next (load ∷ loads) wanted = (wanted 0 load refl, fit_from (λ more. next (load ∷ more)) loads (λ i l at. wanted (suc i) l at))
 
-fit_same : (next other : List Load → Option ℕ) (loads : List Load) → ((ls : List Load) → next ls ≡ other ls) → Fit next loads → Fit other loads
+pub fit_same : (next other : List Load → Option ℕ) (loads : List Load) → ((ls : List Load) → next ls ≡ other ls) → Fit next loads → Fit other loads
 fit_same next other [] same fit = tt
 fit_same next other (load ∷ loads) same (first, rest) =
     (sym (same []) ∙ first, fit_same (λ more. next (load ∷ more)) (λ more. other (load ∷ more)) loads (λ ls. same (load ∷ ls)) rest)
 
 -- a fact about each load
-abbrev Each : (Load → Type 0) → List Load → Type 0
+abbrev pub Each : (Load → Type 0) → List Load → Type 0
 Each Is [] = Unit {0}
 Each Is (load ∷ loads) = Is load × Each Is loads
 

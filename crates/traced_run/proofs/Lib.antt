@@ -9,6 +9,11 @@ pub mod FitPassings
 pub mod RecordedEvents
 pub mod FitBuffers
 pub mod FewBuffers
+-- Scripts that record each passing, and threads that were released (src/laws.rt)
+pub mod RecordedMarks
+pub mod ReleasedThreads
+-- Stamps: they change no plain run (src/laws.rt)
+pub mod OtherStamps
 -- Executing the code: with whole passings it comes to the end of the plain run (src/laws.rt)
 pub mod ButR10
 pub mod SledBytes

@@ -22,7 +22,7 @@ lost_then_kept hold size run =
     sym (flat_map-append (λ (s : List Event). s) (take run.lost segs) (drop run.lost segs))
     ∙ ap (flat_map (λ (s : List Event). s)) (take-append-drop run.lost segs) ∙ hold size (events_of run)
 
-none_lost : (runs : List ThreadRun) (i : ℕ) (run : ThreadRun) → recycled_of runs ≡ 0 → slice_get runs i ≡ Some run → run.lost ≡ 0
+pub none_lost : (runs : List ThreadRun) (i : ℕ) (run : ThreadRun) → recycled_of runs ≡ 0 → slice_get runs i ≡ Some run → run.lost ≡ 0
 none_lost [] zero run none found = absurd cc
 none_lost [] (suc i) run none found = absurd cc
 none_lost (first ∷ runs) zero run none found =

@@ -1,5 +1,6 @@
 pub mod Runs
 pub mod Following
+pub mod Recording
 pub mod Decoded
 pub mod Executed
 pub mod Kept

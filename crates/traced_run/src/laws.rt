@@ -1,24 +1,47 @@
 //! Laws of runs. Each law is the contract of a function that does nothing.
 
-ghost use Rattle.std.specs.Prelude.{◌≡◌, ◌≤◌, ◌<◌, ◌^◌, ◌++◌, List, ℕ, All, Option, Some, filter, length, slice_get, take};
+ghost use Rattle.std.specs.Prelude.{
+  ◌≡◌,
+  ◌≢◌,
+  ◌≤◌,
+  ◌<◌,
+  ◌^◌,
+  ◌++◌,
+  List,
+  ℕ,
+  All,
+  Option,
+  Some,
+  filter,
+  length,
+  map,
+  slice_get,
+  take,
+};
 ghost use Rattle.std.specs.List.{flat_map};
 ghost use Rattle.subset_decode.specs.Encoding.{IsEncodable};
 ghost use Rattle.subset_decode.specs.declared.instr.Instr.TheVariants.{Call, Jmp, Mov};
 ghost use Rattle.xray_image.specs.Program.{IsAccepted, Program};
 ghost use Rattle.xray_image.specs.declared.sled.Sled.{Sled};
+ghost use Rattle.sled_words.specs.Words.{release_word};
+ghost use Rattle.patch_script.specs.declared.command.Command.{Command};
+ghost use Rattle.patch_script.specs.CodeAt.{code_at};
+ghost use Rattle.handler_word.specs.declared.mark.Mark.{Mark};
 ghost use Rattle.fdr_buffer.specs.{Filled.{Filled, has_event}, Fits.{BufferFits}};
 ghost use Rattle.machine_step.specs.{Buffers.{spare_of}, Setups.{AreLimits, IsSetup}};
 ghost use Rattle.machine_step.specs.declared.end.End.{End};
 ghost use Rattle.machine_step.specs.declared.limits.Limits.{Limits};
 ghost use Rattle.machine_step.specs.declared.setup.Setup.{Setup};
 ghost use Rattle.machine_step.specs.PlainStep.{Passing, PlainRun, State};
-ghost use Rattle.machine_step.specs.{Loads.{Load}, Traced.{Traced}};
+ghost use Rattle.machine_step.specs.{Loads.{Load}, Traced.{Traced, sleds_passed}};
 ghost use Rattle.traced_run.specs.Decoded.{DecodesWhole};
 ghost use Rattle.traced_run.specs.Executed.{Executes, to_trampoline};
 ghost use Rattle.traced_run.specs.Fits.{PassingFits};
+ghost use Rattle.traced_run.specs.Following.{AllMarksFollow, LoadsFollow, MarksFollowScript};
 ghost use Rattle.traced_run.specs.Kept.{kept_buffers, kept_of, segments_of, thread_buffers};
 ghost use Rattle.traced_run.specs.Left.{Leaves, LeavesInAnyOrder};
 ghost use Rattle.traced_run.specs.Losses.{AreLost, recycled_of, without_losses};
+ghost use Rattle.traced_run.specs.Recording.{RecordsAll, recorded_mark};
 ghost use Rattle.traced_run.specs.Runs.{EachThread, IsRun, ThreadRun, events_of};
 
 use fdr_buffer::{a_body_has_room, segments_hold_all};
@@ -136,3 +159,43 @@ pub fn a_whole_run_executes_to_its_end()
 {
     wanted_loads_have_one_value();
 }
+
+/// If all sleds are patched when the threads start, a handler is set and the log records, and none of
+/// this changes later, every passing is recorded (`marks`). So two runs of the image beside this script
+/// that lose no segment are the same run, with one trace and one audit (`runs`).
+pub fn a_script_that_records_all_leaves_one_run()
+    ensures marks { (program : Program) (limits : Limits) (threads thread : ℕ) (script : List Command) (arguments : ℕ)
+        (passed : List Passing) (end : End) (last : State) (marks : List Mark)
+        → PlainRun program limits thread passed end last → RecordsAll program threads script arguments
+        → MarksFollowScript program threads script thread (sleds_passed passed) marks
+        → marks ≡ map (λ p. recorded_mark program arguments p.sled) passed }
+    ensures runs { (bytes : List ℕ) (program : Program) (setup : Setup) (script : List Command) (arguments : ℕ)
+        (runs others : List ThreadRun) → IsAccepted bytes program
+        → RecordsAll program setup.threads script arguments
+        → IsRun program setup runs → IsRun program setup others
+        → AllMarksFollow program setup.threads script runs → AllMarksFollow program setup.threads script others
+        → recycled_of runs ≡ 0 → recycled_of others ≡ 0 → runs ≡ others }
+{}
+
+/// Once a held thread has loaded that it is released, each of its loads sees all stores that come
+/// before the release: it is made at a place after every place up to which the release word is 0.
+pub fn a_released_thread_sees_all_earlier_stores()
+    ensures { (program : Program) (threads : ℕ) (script : List Command) (thread : ℕ) (sleds : List ℕ)
+        (loads : List Load) (place i j : ℕ) (release load : Load)
+        → LoadsFollow program threads script thread sleds loads place
+        → slice_get loads i ≡ Some release → release.word ≡ release_word program thread → release.value ≢ 0
+        → i ≤ j → slice_get loads j ≡ Some load
+        → (at : ℕ) × (at ≤ place) × (load.value ≡ code_at program threads script at load.word)
+        × ((p : ℕ) → ((q : ℕ) → q ≤ p → code_at program threads script q (release_word program thread) ≡ 0) → p < at) }
+{}
+
+/// Of the limits of a thread, only its fuel and how many passings it may make decide how it runs. The
+/// others change the stamps of its passings, and neither its end, nor its last state, nor the sleds
+/// that it passes. What marks may follow a script depends only on these sleds.
+pub fn stamps_change_no_run()
+    ensures { (bytes : List ℕ) (program : Program) (limits other : Limits) (thread : ℕ)
+        (passed passed' : List Passing) (end end' : End) (last last' : State) → IsAccepted bytes program
+        → limits.fuel ≡ other.fuel → limits.passings ≡ other.passings
+        → PlainRun program limits thread passed end last → PlainRun program other thread passed' end' last'
+        → (end ≡ end') × (last ≡ last') × (sleds_passed passed ≡ sleds_passed passed') }
+{}
