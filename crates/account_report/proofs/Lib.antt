@@ -10,6 +10,7 @@ pub mod AscendingLists
 pub mod SelectedItem
 pub mod HistoryRows
 -- The laws: each entry and exit is counted once, and a row sums the stacks that end in its function (src/laws.rt)
+pub mod PlacedEvents
 pub mod PairsAndLone
 pub mod RowsOverStacks
 -- The text of an account (src/text.rt)

@@ -1,7 +1,7 @@
 -- Each pair has one entry and one exit of its function. The others aren't in a pair.
 use Rattle.std.proofs.Common.{◌≡◌, ◌≢◌, ◌+◌, ◌++◌, ◌<◌, ◌≤◌, ◌∙◌, ℕ, suc, Bool, true, false, not, cond, ◌&&◌, ◌||◌, List, [], ◌∷◌, length, reverse, count_by, refl, ap, sym, subst, arith, nat_eq, Option, Some, None}
-use Rattle.std.specs.Prelude.{All}
-use Rattle.std.specs.List.{AllPairs, list_any}
+use Rattle.std.specs.Prelude.{All, sum_by}
+use Rattle.std.specs.List.{AllPairs, list_any, range_with_len}
 use Rattle.std.specs.Option.{option_to_list}
 use Rattle.std.proofs.Math.ListN.{get_or-append}
 use Rattle.std.proofs.Math.Seq.{get_or-append_seam}
@@ -19,10 +19,10 @@ use Rattle.stack_rebuild.specs.declared.call.Call.{Call}
 use Rattle.stack_rebuild.specs.declared.call.Pair.{Pair}
 use Rattle.stack_rebuild.specs.Calls.{enters, from_innermost, leaves, open_calls, pair_at, pair_at_kind, pair_of_call, pairs_in, pairs_of}
 use Rattle.stack_rebuild.specs.Histories.{history_of_thread, pair_after}
-use Rattle.stack_rebuild.specs.PairLaws.{IsWholeCall, event_at, no_event}
-use Rattle.account_report.specs.Account.{count_placed, durations_of, is_entry_in_pair, is_entry_of, is_exit_in_pair, is_exit_of, lone_entries, lone_exits}
+use Rattle.stack_rebuild.specs.PairLaws.{IsWholeCall, ends_pair, event_at, no_event}
+use Rattle.account_report.specs.Account.{begins_pair, durations_of, enters_into, is_entry_of, is_exit_of, leaves_from, lone_entries, lone_entries_in, lone_exits, lone_exits_in, threads_in}
 use Rattle.account_report.specs.private.Tallies.{durations_in}
-use Rattle.stack_rebuild.proofs.Views.{of_thread-pairs}
+use Rattle.account_report.proofs.PlacedEvents.{by_position, count_own, count_placed, over_threads}
 use Rattle.account_report.proofs.TallySteps.{durations_of-cons}
 
 -- ---- tests of numbers
@@ -539,17 +539,33 @@ each_left_exit func (l ∷ h) = by_pair (pair_after l h) refl (each_left_exit fu
 
 -- ---- the pairs of all threads
 
--- each thread's pairs are among those of all threads
+-- those of one thread that are in no pair of it, by the positions and by the events
+own_entries : (func : ℕ) (own : List Event) → lone_entries_in func (reverse own) ≡ count_own (λ e at. enters_into func e && not (has_entry (pairs_in own) at)) own
+own_entries func own =
+    ap {B = ℕ} (λ (n : ℕ). count_by (λ at. enters_into func (event_at (reverse own) at) && not (begins_pair (reverse own) at)) (range_with_len 0 n)) (length-reverse own)
+    ∙ (ap (λ (turned : List Event). count_by (λ at. enters_into func (event_at (reverse own) at) && not (has_entry (pairs_in turned) at)) (range_with_len 0 (length own))) (reverse-reverse own)
+    ∙ by_position (λ e at. enters_into func e && not (has_entry (pairs_in own) at)) own)
+
+own_exits : (func : ℕ) (own : List Event) → lone_exits_in func (reverse own) ≡ count_own (λ e at. leaves_from func e && not (has_exit (pairs_in own) at)) own
+own_exits func own =
+    ap {B = ℕ} (λ (n : ℕ). count_by (λ at. leaves_from func (event_at (reverse own) at) && not (ends_pair (reverse own) at)) (range_with_len 0 n)) (length-reverse own)
+    ∙ (ap (λ (turned : List Event). count_by (λ at. leaves_from func (event_at (reverse own) at) && not (has_exit (pairs_in turned) at)) (range_with_len 0 (length own))) (reverse-reverse own)
+    ∙ by_position (λ e at. leaves_from func e && not (has_exit (pairs_in own) at)) own)
+
+sum_by-same : {f g : ℕ → ℕ} (ks : List ℕ) → ((k : ℕ) → f k ≡ g k) → sum_by f ks ≡ sum_by g ks
+sum_by-same [] same = refl
+sum_by-same {f} {g} (k ∷ ks) same = omega (arith, same k, sum_by-same {f = f} {g = g} ks same, sum_by-cons f k ks, sum_by-cons g k ks)
+
 pub each_entry : Laws → (func : ℕ) (h : List ThreadEvent) → lone_entries h func + length (durations_of func h) ≡ count_by (is_entry_of func) h
 each_entry laws func h =
+    let free : ℕ → Event → ℕ → Bool = λ thread e at. enters_into func e && not (entry_taken h thread at) in
     let left : lone_entries h func ≡ left_entries h func =
-    agree (λ e i. is_entry_of func e && not (is_entry_in_pair h e.thread i)) (free_entry func (entry_taken h)) h
-    (λ e i below. ap (λ (pairs : List Pair). is_entry_of func e && not (has_entry pairs i)) (of_thread-pairs e.thread h)) in
+    sum_by-same (threads_in h) (λ thread. own_entries func (history_of_thread thread h)) ∙ sym (over_threads free h) in
     omega (arith, left, each_left_entry laws func h)
 
 pub each_exit : (func : ℕ) (h : List ThreadEvent) → lone_exits h func + length (durations_of func h) ≡ count_by (is_exit_of func) h
 each_exit func h =
+    let free : ℕ → Event → ℕ → Bool = λ thread e at. leaves_from func e && not (exit_taken h thread at) in
     let left : lone_exits h func ≡ left_exits h func =
-    agree (λ e i. is_exit_of func e && not (is_exit_in_pair h e.thread i)) (free_exit func (exit_taken h)) h
-    (λ e i below. ap (λ (pairs : List Pair). is_exit_of func e && not (has_exit pairs i)) (of_thread-pairs e.thread h)) in
+    sum_by-same (threads_in h) (λ thread. own_exits func (history_of_thread thread h)) ∙ sym (over_threads free h) in
     omega (arith, left, each_left_exit func h)

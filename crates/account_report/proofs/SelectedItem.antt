@@ -1,5 +1,5 @@
 -- The item of the ascending list that a selection finds.
-use Rattle.std.proofs.Common.{◌≡◌, ◌+◌, ◌<◌, ◌≤◌, ◌++◌, ◌∙◌, ◌-◌, ◌*◌, ◌/◌, ℕ, zero, suc, Bool, true, false, cond, List, [], ◌∷◌, length, refl, ap, sym, subst, arith, nat_eq, nat_lt, get_or}
+use Rattle.std.proofs.Common.{◌≡◌, ◌+◌, ◌<◌, ◌≤◌, ◌++◌, ◌∙◌, ◌-◌, ◌*◌, ◌/◌, ℕ, zero, suc, Bool, true, false, cond, List, [], ◌∷◌, length, refl, ap, sym, arith, nat_eq, nat_lt, get_or}
 use Rattle.std.specs.Prelude.{IsPermutation, slice_index, sum}
 use Rattle.std.specs.declared.cmp.Ordering.TheVariants.{Less, Equal, Greater}
 use Rattle.std.specs.Ordering.{is_lt, nat_cmp}
@@ -8,7 +8,6 @@ use Rattle.std.proofs.lemmas.Bool.Decides.{nat_tests}
 use Rattle.std.proofs.lemmas.List.Sorted.{sum_by-IsPermutation}
 use Rattle.account_report.specs.Ascending.{ascending, put_in}
 use Rattle.account_report.specs.private.Ranks.{ranks_of}
-use Rattle.account_report.specs.declared.row.AccountRow.{AccountRow}
 use Rattle.account_report.specs.private.Tallies.{row_with}
 use Rattle.account_report.specs.declared.ranks.Ranks.{Ranks}
 use Rattle.account_report.proofs.AscendingLists.{AllFrom, Rises, all_from-put_in, all_from_less, count, count-ascending, count-cons, length-ascending, one_at, rises-ascending, same_rising, sum-ascending}

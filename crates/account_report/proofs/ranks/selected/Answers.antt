@@ -1,5 +1,4 @@
-use Rattle.std.proofs.Common.{◌≡◌, ◌+◌, ◌-◌, ◌*◌, ◌/◌, ◌<◌, ◌≤◌, ◌∙◌, ℕ, length, slice_index, List, ap, sym, arith}
-use Rattle.account_report.specs.Ascending.{ascending}
+use Rattle.std.proofs.Common.{◌-◌, ◌*◌, ◌/◌, ◌≤◌, ◌∙◌, ℕ, length, sym, arith}
 use Rattle.account_report.proofs.SelectedItem.{before, found, ranks_alike}
 use Rattle.account_report.proofs.ranks.selected.Goals as goal
 

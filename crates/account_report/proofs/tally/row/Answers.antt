@@ -1,4 +1,4 @@
-use Rattle.std.proofs.Common.{◌≡◌, ◌-◌, ℕ, length, arith}
+use Rattle.std.proofs.Common.{arith}
 use Rattle.account_report.proofs.SelectedItem.{row_alike}
 use Rattle.account_report.proofs.tally.row.Goals as goal
 
