@@ -2,3 +2,8 @@
 pub mod Letters
 pub mod EntryNames
 pub mod TakenLines
+-- The spelling of names, lines and texts (src/laws.rt)
+pub mod LineParts
+pub mod SpelledNames
+pub mod SpelledLines
+pub mod SpelledMaps

@@ -1,5 +1,6 @@
 pub mod Naming
 pub mod Entries
+pub mod Spelling
 pub mod Maps
 pub mod MapNames
 pub mod FaultWords
