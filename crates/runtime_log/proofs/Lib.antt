@@ -3,8 +3,7 @@ pub mod NotedEvents
 pub mod RecordWalk
 pub mod BlockReading
 pub mod BlockLists
-pub mod RunLists
-pub mod NextRecords
+pub mod RecordedPassings
 pub mod WholeLogs
 -- Records and their events: which fit the records of a trace (src/blocks.rt)
 pub mod RecordFits
@@ -30,5 +29,9 @@ pub mod ReadingBack
 -- A trace is a log, and one in order is imported as itself (src/laws.rt)
 pub mod TraceIsLog
 pub mod ItselfImported
+-- The events of a basic log, thread by thread (src/threads.rt)
+pub mod ByThread
+pub mod ThreadRuns
+pub mod ThreadsKept
 -- The lines of facts (src/facts.rt)
 pub mod FactTexts

@@ -3,6 +3,7 @@ pub mod OwnEvents
 pub mod BasicLogs
 pub mod Logs
 pub mod Taken
+pub mod Threads
 pub mod Imports
 pub mod Facts
 pub mod FaultWords

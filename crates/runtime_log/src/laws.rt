@@ -1,5 +1,5 @@
 //! Laws of imports. Each law is the contract of a function that does nothing.
-ghost use Rattle.runtime_log.specs.Laws.{ImportsItself, ImportsRead, OneImport, SomeImport, TracesAreLogs};
+ghost use Rattle.runtime_log.specs.Laws.{ImportsItself, ImportsRead, OneImport, SomeImport, ThreadsKeepTheirOrder, TracesAreLogs};
 
 use fdr_buffer::{a_body_has_room, segments_hold_all};
 use fdr_file::{a_file_is_read_by_records, a_file_reads_back};
@@ -22,6 +22,15 @@ pub fn an_import_reads_back()
     a_file_reads_back();
     segments_hold_all();
     a_body_has_room();
+}
+
+/// The trace of a basic log has the events of each thread as the log has them: none is lost, added,
+/// changed or moved among the events of its thread.
+pub fn the_threads_of_a_basic_log_keep_their_order()
+    ensures { ThreadsKeepTheirOrder }
+{
+    an_import_reads_back();
+    segments_hold_all();
 }
 
 /// A trace of version 3 is a log, which says the same blocks.

@@ -24,6 +24,7 @@ mod reading;
 mod refusal;
 mod stretch;
 mod taken;
+mod threads;
 mod version;
 mod walk;
 
@@ -32,5 +33,5 @@ pub use fault::LogFault;
 pub use import::{ImportedLog, import_log};
 pub use laws::{
     a_trace_in_order_is_imported_as_itself, an_import_reads_back, one_import, some_import,
-    traces_are_logs,
+    the_threads_of_a_basic_log_keep_their_order, traces_are_logs,
 };
