@@ -6,6 +6,11 @@ pub mod BlockLists
 pub mod RunLists
 pub mod NextRecords
 pub mod WholeLogs
+-- The grammar: what is read as a log is one (src/laws.rt)
+pub mod LogRecords
+pub mod LogEvents
+pub mod LogShapes
+pub mod LogDescribed
 -- Records and their events: which fit the records of a trace (src/blocks.rt)
 pub mod RecordFits
 pub mod RecordCuts
