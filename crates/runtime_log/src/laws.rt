@@ -1,5 +1,5 @@
 //! Laws of imports. Each law is the contract of a function that does nothing.
-ghost use Rattle.runtime_log.specs.LogLaws.{LoggedIsLog};
+ghost use Rattle.runtime_log.specs.LogLaws.{LoggedIsLog, NumbersAreMeant, ThreadsAreKept};
 ghost use Rattle.runtime_log.specs.Laws.{ImportsItself, ImportsRead, OneImport, SomeImport, TracesAreLogs};
 
 use fdr_buffer::{a_body_has_room, segments_hold_all};
@@ -37,6 +37,23 @@ pub fn what_is_read_is_a_log()
     ensures { LoggedIsLog }
 {
     a_place_is_decoded();
+}
+
+/// Of each thread, the events of the trace that is made of a log of the Flight Data Recorder mode are
+/// those of its blocks that are taken, one block after the other.
+pub fn threads_keep_their_events()
+    ensures { ThreadsAreKept }
+{
+    an_import_reads_back();
+    segments_hold_all();
+}
+
+/// The numbers that are printed are those of the log and of the trace that is made of it.
+pub fn printed_numbers_are_meant()
+    ensures { NumbersAreMeant }
+{
+    an_import_reads_back();
+    segments_hold_all();
 }
 
 /// A trace is imported as itself, byte for byte, if it was written for buffers with events, and these

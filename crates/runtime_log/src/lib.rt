@@ -31,6 +31,7 @@ pub use facts::Facts;
 pub use fault::LogFault;
 pub use import::{ImportedLog, import_log};
 pub use laws::{
-    a_trace_in_order_is_imported_as_itself, an_import_reads_back, one_import, some_import,
-    traces_are_logs, what_is_read_is_a_log,
+    a_trace_in_order_is_imported_as_itself, an_import_reads_back, one_import,
+    printed_numbers_are_meant, some_import, threads_keep_their_events, traces_are_logs,
+    what_is_read_is_a_log,
 };
