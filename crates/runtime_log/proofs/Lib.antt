@@ -5,6 +5,13 @@ pub mod BlockReading
 pub mod BlockLists
 pub mod RecordedPassings
 pub mod WholeLogs
+-- The grammar: what is read as a log is one (src/laws.rt)
+pub mod LogRecords
+pub mod LogEvents
+pub mod LogShapes
+pub mod LogDescribed
+-- What is imported of a log: each event of each thread, and what is printed (src/laws.rt)
+pub mod KeptEvents
 -- Records and their events: which fit the records of a trace (src/blocks.rt)
 pub mod RecordFits
 pub mod RecordCuts

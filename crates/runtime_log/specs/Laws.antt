@@ -65,8 +65,8 @@ MayStandBefore Less buffer later = ⊤
 MayStandBefore Equal buffer later = used_bytes buffer ≢ used_bytes later
 MayStandBefore Greater buffer later = ⊥
 
--- Each buffer may stand before those behind it. The buffers of a run may if the counter rises from each event of a thread to
--- the next. With `--tick 0` it doesn't rise, and two segments of a thread may have the same bytes.
+-- Each buffer may stand before those behind it. The buffers of a run may if the counter of no thread falls, and no two
+-- segments of a thread have the same events. With `--tick 0` two of them may.
 abbrev pub AreInOrder : List Filled → Type 0
 AreInOrder buffers =
     AllPairs (λ buffer later. MayStandBefore (slice_cmp nat_cmp (buffer_key buffer) (buffer_key later)) buffer later) buffers
