@@ -73,24 +73,34 @@ def recorder_log(draw):
     return draft.file()
 
 
+def passing(draw, owner, counter, sound):
+    """A record of a passing, with the records of its argument behind it. Each field is sound with this probability."""
+    thread, process = owner
+    kind = draw.choice([0, 1, 0, 1, 2, 3, 3]) if draw.random() < sound else draw.choice([4, 5, 255])
+    function = draw.choice([1, 2, 3, 0, (1 << 28) - 1]) if draw.random() < sound else draw.choice([1 << 28, WORD_32 - 1])
+    tag = 0 if draw.random() < sound else draw.choice([2, 65_535])
+    content = struct.pack("<HBBIQIIQ", tag, draw.randrange(256), kind, function, counter, thread, process, draw.randrange(WORD_64))
+    for _ in range(draw.choice([1, 1, 0, 2]) if kind == 3 else draw.random() > sound):
+        other = function if draw.random() < sound else function + 1
+        content += struct.pack("<HHIIIQQ", 1, draw.randrange(9), other % WORD_32, thread, process, draw.randrange(WORD_64), 0)
+    return content
+
+
 def basic_log(draw):
+    """Threads that alternate at each record, sometimes or seldom; a thread with several processes; counters that rise, fall or
+    are anything; and records that stand in the log again."""
     version = draw.choice([3, 3, 3, 3, 3, 3, 2, 4, 5])
     content = struct.pack("<HHIQQQ", version, 0, draw.choice([3, draw.randrange(WORD_32)]), draw.randrange(WORD_64), 0, 0)
-    owners = [(1, 1), (2, 1), (1, 2)]
-    owner = owners[0]
-    for _ in range(draw.choice([0, 1, 3, 10, 40])):
-        if draw.random() < 0.3:
+    owners = draw.choice([[(1, 1), (2, 1), (1, 2)], [(7, 1), (2, 1)], [(WORD_32 - 1, 1), (0, 0), (5, 3), (5, 4), (5, 5)]])
+    change, again = draw.choice([0.05, 0.3, 1]), draw.choice([0, 0, 0.2])
+    step, sound = draw.choice([1, 10, -1, None]), draw.choice([1, 1, 0.97])
+    owner, counter, passings = owners[0], 1 << 32, []
+    for _ in range(draw.choice([0, 1, 3, 10, 40, 120])):
+        if draw.random() < change:
             owner = draw.choice(owners)
-        thread, process = owner
-        kind = draw.choice([0, 1, 0, 1, 2, 3, 3]) if draw.random() < 0.98 else draw.choice([4, 5, 255])
-        function = draw.choice([1, 2, 3, 0, (1 << 28) - 1]) if draw.random() < 0.98 else draw.choice([1 << 28, WORD_32 - 1])
-        tag = 0 if draw.random() < 0.99 else draw.choice([2, 65_535])
-        counter = random_traces.counter(draw)
-        content += struct.pack("<HBBIQIIQ", tag, draw.randrange(256), kind, function, counter, thread, process, draw.randrange(WORD_64))
-        for _ in range(draw.choice([1, 1, 0, 2]) if kind == 3 else draw.random() < 0.01):
-            other = function if draw.random() < 0.97 else function + 1
-            content += struct.pack("<HHIIIQQ", 1, draw.randrange(9), other % WORD_32, thread, process, draw.randrange(WORD_64), 0)
-    return content
+        counter = random_traces.counter(draw) if step is None else counter + step * draw.randrange(3) - 5 * (draw.random() < 0.02)
+        passings.append(draw.choice(passings) if passings and draw.random() < again else passing(draw, owner, counter, sound))
+    return content + b"".join(passings)
 
 
 def random_log(draw):

@@ -5,6 +5,7 @@ records of traces that are written are those of trace_model.
 """
 import collections
 import dataclasses
+import itertools
 import struct
 
 from . import trace_model
@@ -40,7 +41,7 @@ def preamble_of(version):
 
 @dataclasses.dataclass
 class Block:
-    """A block of a log, or a run of records of a basic log: its bytes, and what they say."""
+    """A block of a log, its bytes, and what they say; or a run of events of a basic log."""
 
     place: int
     content: bytes
@@ -54,8 +55,11 @@ class Block:
 
 @dataclasses.dataclass
 class Log:
+    """A log. A basic log has events in the order of recording, and the others have blocks."""
+
     header: Header
     blocks: list
+    recorded: list = dataclasses.field(default_factory=list)
 
 
 # ---- Flight Data Recorder logs
@@ -165,9 +169,18 @@ def block_at(content, at, version):
 # ---- Basic logs
 
 
-def basic_runs(content):
-    """The runs of records with one thread and one process. The first argument behind an entry is the entry's."""
-    blocks, is_argued = [], False
+@dataclasses.dataclass
+class Recorded:
+    """An event of a basic log, and who recorded it."""
+
+    thread: int
+    pid: int
+    event: Event
+
+
+def basic_events(content):
+    """The events of a basic log, in its order. The first argument behind an entry is the entry's."""
+    recorded, is_argued = [], False
     for at in range(HEADER_LENGTH, len(content), 32):
         if len(content) - at < 32:
             raise Refused("Short", at)
@@ -180,21 +193,26 @@ def basic_runs(content):
                 raise Refused("Kind", at, kind)
             if function >= FUNCTIONS:
                 raise Refused("Function", at, function)
-            if not blocks or (blocks[-1].thread, blocks[-1].pid) != (thread, pid):
-                blocks.append(Block(at, b"", thread, (0, 0), pid, []))
-            blocks[-1].events.append(Event(cpu, function, kind, tsc, arg if kind == ENTRY_ARGS else 0))
+            recorded.append(Recorded(thread, pid, Event(cpu, function, kind, tsc, arg if kind == ENTRY_ARGS else 0)))
             is_argued = False
         else:
             function, thread, pid, arg = struct.unpack_from("<IIIQ", content, at + 4)
-            last = blocks[-1] if blocks else None
-            entry = last.events[-1] if last else None
-            of_last = last and (last.thread, last.pid, entry.function, entry.action) == (thread, pid, function, ENTRY_ARGS)
-            if not of_last:
+            last = recorded[-1] if recorded else None
+            if not last or (last.thread, last.pid, last.event.function, last.event.action) != (thread, pid, function, ENTRY_ARGS):
                 raise Refused("Order", at)
             if not is_argued:
-                last.events[-1] = dataclasses.replace(entry, arg=arg)
+                last.event = dataclasses.replace(last.event, arg=arg)
             is_argued = True
-        blocks[-1].content += content[at : at + 32]
+    return recorded
+
+
+def thread_blocks(recorded):
+    """Thread by thread, each run of one process among the events of the thread. Nothing is sorted but the threads."""
+    blocks = []
+    for thread in sorted({one.thread for one in recorded}):
+        own = [one for one in recorded if one.thread == thread]
+        for pid, run in itertools.groupby(own, key=lambda one: one.pid):
+            blocks.append(Block(0, b"", thread, (0, 0), pid, [one.event for one in run]))
     return blocks
 
 
@@ -213,7 +231,7 @@ def logged(content):
     if form == BASIC and version != BASIC_VERSION:
         raise Refused("Version", version)
     if form == BASIC:
-        return Log(Header(frequency, 0, flags % 4), basic_runs(content))
+        return Log(Header(frequency, 0, flags % 4), [], basic_events(content))
     blocks, at = [], HEADER_LENGTH
     while at < len(content):
         block, at = block_at(content, at, version)
@@ -233,7 +251,7 @@ def taken_blocks(log):
             taken.append(block)
         seen.add(block.content)
     taken.sort(key=lambda block: (block.thread, block.wall, block.events[0].tsc, block.place))
-    return taken, doubled, empty
+    return taken + thread_blocks(log.recorded), doubled, empty
 
 
 def pieces_of(events):

@@ -6,18 +6,17 @@ use Rattle.fdr_buffer.specs.declared.buffer.TheConstants.{LARGEST_SIZE}
 use Rattle.fdr_buffer.specs.Segments.{segments}
 use Rattle.fdr_file.specs.declared.header.Header.{Header}
 use Rattle.fdr_file.specs.Files.{block_bytes}
-use Rattle.fdr_file.specs.ThreadEvents.{ThreadEvent}
+use Rattle.fdr_file.specs.ThreadEvents.{ThreadEvent, thread_events}
 use Rattle.runtime_log.specs.declared.blocks.BlockEvents.{BlockEvents}
-use Rattle.runtime_log.specs.declared.blocks.LogBlock.{LogBlock as Placed}
+use Rattle.runtime_log.specs.declared.blocks.Head.{Head}
 use Rattle.runtime_log.specs.declared.facts.Facts.{Facts}
 use Rattle.runtime_log.specs.declared.notes.Notes.{Notes}
 use Rattle.runtime_log.specs.declared.packing.Packing.{Packing}
-use Rattle.runtime_log.specs.Facts.{taken_events}
+use Rattle.fdr_file.specs.declared.trace.Block.{Block}
 use Rattle.runtime_log.specs.Logs.{LogBlock}
-use Rattle.runtime_log.specs.private.Choices.{Shows}
 use Rattle.runtime_log.specs.private.Coming.{events_to_come}
 use Rattle.runtime_log.specs.private.Notes.{AreFew, HasNoted, SameLog}
-use Rattle.runtime_log.specs.private.Packings.{Adds, Fills, HasPacked, SaysOfLog}
+use Rattle.runtime_log.specs.private.Packings.{Adds, Fills, HasPacked, Heads, SaysOfLog}
 use Rattle.runtime_log.proofs.PackedFile.{events_more, file_more, fills_all, segments_written}
 
 -- an event of a thread and a process
@@ -54,23 +53,23 @@ said_again blocks old new same says = record {
 }
 
 -- the first event of a block was added
-pub adds_first : (placed : Placed) (old new : Packing) (all left : BlockEvents) (event : Event) (n : ℕ) → n ≡ old.notes.facts.blocks + 1
-    → events_to_come all ≡ event ∷ events_to_come left → Fills placed old.file.items (event ∷ []) new
-    → NotesEvent placed.thread event (counted old.notes n) new.notes → SameLog (counted old.notes n).facts new.notes.facts → Adds placed old all left new
-adds_first placed old new all left event n more parts fills notes same = record {
+pub adds_first : (head : Head) (old new : Packing) (all left : BlockEvents) (event : Event) (n : ℕ) → n ≡ old.notes.facts.blocks + 1
+    → events_to_come all ≡ event ∷ events_to_come left → Fills head old.file.items (event ∷ []) new
+    → NotesEvent head.thread event (counted old.notes n) new.notes → SameLog (counted old.notes n).facts new.notes.facts → Adds head old all left new
+adds_first head old new all left event n more parts fills notes same = record {
   done = event ∷ [];
   parts = parts;
   fills = fills;
-  notes = λ before pid has. notes before (event_of placed.thread pid event) (noted_again before old.notes n has) refl refl;
+  notes = λ before pid has. notes before (event_of head.thread pid event) (noted_again before old.notes n has) refl refl;
   count = same.blocks ∙ more;
   log = λ blocks says. said_again blocks (counted old.notes n).facts new.notes.facts same
       (record { custom = says.custom; typed = says.typed; doubled = says.doubled; empty = says.empty });
 }
 
 -- an event that was noted changes neither the file nor the buffer
-pub fills_again : (placed : Placed) (file : List ℕ) (events : List Event) (old new : Packing) → new.file ≡ old.file → new.buffer ≡ old.buffer
-    → Fills placed file events old → Fills placed file events new
-fills_again placed file events old new same kept fills = record {
+pub fills_again : (head : Head) (file : List ℕ) (events : List Event) (old new : Packing) → new.file ≡ old.file → new.buffer ≡ old.buffer
+    → Fills head file events old → Fills head file events new
+fills_again head file events old new same kept fills = record {
   whole = fills.whole;
   opened = fills.opened;
   cut = fills.cut;
@@ -79,17 +78,17 @@ fills_again placed file events old new same kept fills = record {
 }
 
 -- one more event was added
-pub adds_more : (placed : Placed) (old mid new : Packing) (all left rest : BlockEvents) (event : Event) → Adds placed old all left mid
+pub adds_more : (head : Head) (old mid new : Packing) (all left rest : BlockEvents) (event : Event) → Adds head old all left mid
     → events_to_come left ≡ event ∷ events_to_come rest
-    → ((events : List Event) → Fills placed old.file.items events mid → Fills placed old.file.items (events ++ event ∷ []) new)
-    → NotesEvent placed.thread event mid.notes new.notes → SameLog mid.notes.facts new.notes.facts → Adds placed old all rest new
-adds_more placed old mid new all left rest event adds next fills notes same =
+    → ((events : List Event) → Fills head old.file.items events mid → Fills head old.file.items (events ++ event ∷ []) new)
+    → NotesEvent head.thread event mid.notes new.notes → SameLog mid.notes.facts new.notes.facts → Adds head old all rest new
+adds_more head old mid new all left rest event adds next fills notes same =
     let done = adds.done in record {
       done = done ++ event ∷ [];
       parts = adds.parts ∙ ap (λ (es : List Event). done ++ es) next ∙ sym (append_assoc done (event ∷ []) (events_to_come rest));
       fills = fills done adds.fills;
       notes = λ before pid has.
-          let one = event_of placed.thread pid in
+          let one = event_of head.thread pid in
           let split : (before ++ map one done) ++ one event ∷ [] ≡ before ++ map one (done ++ event ∷ []) =
           append_assoc before (map one done) (one event ∷ []) ∙ ap (λ (es : List ThreadEvent). before ++ es) (sym (map-append one done (event ∷ []))) in
           subst (λ (es : List ThreadEvent). HasNoted es new.notes) split (notes (before ++ map one done) (one event) (adds.notes before pid has) refl refl);
@@ -98,25 +97,25 @@ adds_more placed old mid new all left rest event adds next fills notes same =
     }
 
 -- all events were added, and the last segment is written
-pub packed_more : (header : Header) (said taken : List LogBlock) (b : LogBlock) (placed : Placed) (old mid new : Packing) (all left : BlockEvents)
-    → HasPacked header said taken old → Shows placed b.block → events_to_come all ≡ b.block.events → Adds placed old all left mid → events_to_come left ≡ []
+pub packed_more : (header : Header) (said : List LogBlock) (taken : List Block) (b : Block) (head : Head) (old mid new : Packing) (all left : BlockEvents)
+    → HasPacked header said taken old → Heads head b → events_to_come all ≡ b.events → Adds head old all left mid → events_to_come left ≡ []
     → AreFew mid.notes.facts → mid.buffer.size ≡ LARGEST_SIZE
     → new.buffer ≡ mid.buffer → new.notes ≡ mid.notes → new.file.items ≡ mid.file.items ++ block_bytes mid.buffer → HasPacked header said (taken ++ b ∷ []) new
-packed_more header said taken b placed old mid new all left packed shows is adds none few size buffer notes file =
-    let done_is : adds.done ≡ b.block.events = sym (append-nil adds.done) ∙ ap (λ (es : List Event). adds.done ++ es) (sym none) ∙ sym adds.parts ∙ is in
-    let written = fills_all placed old.file.items adds.done mid new.file.items adds.fills file in
-    let noted = adds.notes (taken_events taken) b.block.pid packed.notes in
-    let events_are : taken_events taken ++ map (event_of placed.thread b.block.pid) adds.done ≡ taken_events (taken ++ b ∷ []) =
-    ap (λ (es : List Event). taken_events taken ++ map (event_of placed.thread b.block.pid) es) done_is
-    ∙ ap (λ (thread : ℕ). taken_events taken ++ map (event_of thread b.block.pid) b.block.events) shows.thread
+packed_more header said taken b head old mid new all left packed shows is adds none few size buffer notes file =
+    let done_is : adds.done ≡ b.events = sym (append-nil adds.done) ∙ ap (λ (es : List Event). adds.done ++ es) (sym none) ∙ sym adds.parts ∙ is in
+    let written = fills_all head old.file.items adds.done mid new.file.items adds.fills file in
+    let noted = adds.notes (thread_events taken) b.pid packed.notes in
+    let events_are : thread_events taken ++ map (event_of head.thread b.pid) adds.done ≡ thread_events (taken ++ b ∷ []) =
+    ap (λ (es : List Event). thread_events taken ++ map (event_of head.thread b.pid) es) done_is
+    ∙ ap (λ (thread : ℕ). thread_events taken ++ map (event_of thread b.pid) b.events) shows.thread
     ∙ sym (events_more taken b) in
     record {
       file =
-          written ∙ ap (λ (es : List Event). old.file.items ++ segments_written placed (segments LARGEST_SIZE es)) done_is
-          ∙ ap (λ (xs : List ℕ). xs ++ segments_written placed (segments LARGEST_SIZE b.block.events)) packed.file
-          ∙ sym (file_more header taken b placed shows);
+          written ∙ ap (λ (es : List Event). old.file.items ++ segments_written head (segments LARGEST_SIZE es)) done_is
+          ∙ ap (λ (xs : List ℕ). xs ++ segments_written head (segments LARGEST_SIZE b.events)) packed.file
+          ∙ sym (file_more header taken b head shows);
       size = ap (λ x. x.size) buffer ∙ size;
-      notes = subst (λ (n : Notes). HasNoted (taken_events (taken ++ b ∷ [])) n) (sym notes) (subst (λ (es : List ThreadEvent). HasNoted es mid.notes) events_are noted);
+      notes = subst (λ (n : Notes). HasNoted (thread_events (taken ++ b ∷ [])) n) (sym notes) (subst (λ (es : List ThreadEvent). HasNoted es mid.notes) events_are noted);
       few = subst (λ (n : Notes). AreFew n.facts) (sym notes) few;
       count = ap (λ (n : Notes). n.facts.blocks) notes ∙ omega (arith, adds.count, packed.count, length-append taken (b ∷ []));
       log = subst (λ (n : Notes). SaysOfLog said n.facts) (sym notes) (adds.log said packed.log);

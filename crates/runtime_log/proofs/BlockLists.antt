@@ -16,8 +16,6 @@ use Rattle.fdr_file.specs.Places.{starts}
 use Rattle.fdr_file.specs.Traces.{block_length, extents_in, preamble_bytes, record_in, size_named}
 use Rattle.runtime_log.specs.declared.blocks.LogBlock.{LogBlock as Placed}
 use Rattle.runtime_log.specs.declared.blocks.LogBlocks.{LogBlocks}
-use Rattle.runtime_log.specs.declared.blocks.Mode.{Mode}
-use Rattle.runtime_log.specs.declared.blocks.Mode.TheVariants.{Recorder}
 use Rattle.runtime_log.specs.declared.own_event.OwnKind.{OwnKind}
 use Rattle.runtime_log.specs.declared.version.LogVersion.{LogVersion}
 use Rattle.runtime_log.specs.Logs.{LogBlock, block_size_rows, log_block_in, log_block_rows, recorder_blocks, sized_rows}
@@ -71,12 +69,12 @@ block_sized version at rest size is = by_short (ltb (length rest) 16) is
 
 -- ---- lists of blocks
 
-pub at_more : (bytes : List ℕ) (mode : Mode) (places : List Placed) (said : List LogBlock) (placed : Placed) (b : LogBlock) → AreAt bytes mode places said → IsAt bytes mode placed b
-    → AreAt bytes mode (places ++ placed ∷ []) (said ++ b ∷ [])
-at_more bytes mode [] [] placed b are is = (is, tt)
-at_more bytes mode (p ∷ places) (s ∷ said) placed b are is = (are.0, at_more bytes mode places said placed b are.1 is)
-at_more bytes mode [] (s ∷ said) placed b are is = absurd are
-at_more bytes mode (p ∷ places) [] placed b are is = absurd are
+pub at_more : (bytes : List ℕ) (version : LogVersion) (places : List Placed) (said : List LogBlock) (placed : Placed) (b : LogBlock) → AreAt bytes version places said → IsAt bytes version placed b
+    → AreAt bytes version (places ++ placed ∷ []) (said ++ b ∷ [])
+at_more bytes version [] [] placed b are is = (is, tt)
+at_more bytes version (p ∷ places) (s ∷ said) placed b are is = (are.0, at_more bytes version places said placed b are.1 is)
+at_more bytes version [] (s ∷ said) placed b are is = absurd are
+at_more bytes version (p ∷ places) [] placed b are is = absurd are
 
 custom_more : (said : List LogBlock) (b : LogBlock) → sum (map (λ (x : LogBlock). x.custom) (said ++ b ∷ [])) ≡ sum (map (λ (x : LogBlock). x.custom) said) + b.custom
 custom_more said b = ap sum (map-append (λ (x : LogBlock). x.custom) said (b ∷ [])) ∙ sum_by_push (λ n. n) (map (λ (x : LogBlock). x.custom) said) b.custom
@@ -95,7 +93,7 @@ pub block_first : (version : LogVersion) (said : List LogBlock) (at : ℕ) (rest
 block_first version said at rest some = ap (InTurn (log_block_rows version) said) (starts_first block_length at rest some (omega arith))
 
 pub blocks_more : (version : LogVersion) (bytes : List ℕ) (at : ℕ) (old new : LogBlocks) (placed : Placed) (b : LogBlock) → BlocksRead version bytes at old → at < length bytes
-    → log_block_in version (at, drop at bytes) ≡ Ok b → IsAt bytes (Recorder version) placed b → placed.end ≡ at + block_length (drop at bytes)
+    → log_block_in version (at, drop at bytes) ≡ Ok b → IsAt bytes version placed b → placed.end ≡ at + block_length (drop at bytes)
     → new.blocks.items ≡ old.blocks.items ++ placed ∷ [] → new.custom ≡ old.custom + b.custom → new.typed ≡ old.typed + b.typed
     → BlocksRead version bytes placed.end new
 blocks_more version bytes at old new placed b r within is place end items custom typed =
@@ -109,7 +107,7 @@ blocks_more version bytes at old new placed b r within is place end items custom
           ∙ ap (λ (x : Result LogBlock TraceFault). Onward version (x >>= λ s. Ok (r.said ++ s ∷ [])) (at + block_length rest) (drop (block_length rest) rest)) is
           ∙ ap (λ (xs : List ℕ). InTurn (log_block_rows version) more (starts block_length 0 (at + block_length rest) xs)) (drop-drop (block_length rest) at bytes)
           ∙ ap (λ (k : ℕ). InTurn (log_block_rows version) more (starts block_length 0 k (drop k bytes))) (sym end);
-      places = subst (λ (xs : List Placed). AreAt bytes (Recorder version) xs more) (sym items) (at_more bytes (Recorder version) old.blocks.items r.said placed b r.places place);
+      places = subst (λ (xs : List Placed). AreAt bytes version xs more) (sym items) (at_more bytes version old.blocks.items r.said placed b r.places place);
       custom = custom ∙ ap (λ (n : ℕ). n + b.custom) r.custom ∙ sym (custom_more r.said b);
       typed = typed ∙ ap (λ (n : ℕ). n + b.typed) r.typed ∙ sym (typed_more r.said b);
     }

@@ -11,7 +11,6 @@ use Rattle.fdr_file.specs.declared.stage.Told.{Told}
 use Rattle.fdr_file.specs.declared.trace.Block.{Block}
 use Rattle.runtime_log.specs.declared.blocks.LogBlock.{LogBlock as Placed}
 use Rattle.runtime_log.specs.declared.blocks.LogBlocks.{LogBlocks}
-use Rattle.runtime_log.specs.declared.blocks.Mode.TheVariants.{Recorder}
 use Rattle.runtime_log.specs.declared.own_event.OwnKind.{OwnKind}
 use Rattle.runtime_log.specs.declared.own_event.OwnKind.TheVariants.{Custom, Typed}
 use Rattle.runtime_log.specs.declared.version.LogVersion.{LogVersion}
@@ -165,7 +164,7 @@ block_unsized version at rest fault sized = ap (λ (n : Result ℕ TraceFault). 
 pub block_at : (version : LogVersion) (bytes : List ℕ) (at size : ℕ) (placed : Placed) (all : BlockSoFar) → at ≤ length bytes → 16 + size ≤ length (drop at bytes)
     → log_block_in version (at, drop at bytes) ≡ Ok (block_said at (block_content size (drop at bytes)) all)
     → placed.begin ≡ at → placed.end ≡ at + 16 + size → Shows placed all.block
-    → IsAt bytes (Recorder version) placed (block_said at (block_content size (drop at bytes)) all)
+    → IsAt bytes version placed (block_said at (block_content size (drop at bytes)) all)
 block_at version bytes at size placed all within fits said begin end shows =
     let from : placed.begin + 16 ≡ at + 16 = omega (arith, begin) in
     let long : placed.end - (placed.begin + 16) ≡ size = omega (arith, begin, end) in

@@ -1,6 +1,6 @@
 -- The events that are still to come of a block, after one more record.
 use Rattle.std.proofs.Common.{◌≡◌, ℕ, ◌+◌, ◌<◌, false, List, [], ◌∷◌, ◌++◌, length, drop, Option, Some, None, Result, Ok, Err, refl, sym, ap, ◌∙◌}
-use Rattle.std.specs.Prelude.{IfSome, MatchOption, is_some, option_to_list}
+use Rattle.std.specs.Prelude.{IfSome, is_some, option_to_list}
 use Rattle.fdr_record.specs.declared.event.Event.{Event}
 use Rattle.fdr_file.specs.declared.fault.TraceFault.{TraceFault}
 use Rattle.fdr_file.specs.declared.stage.Stage.{Stage}
@@ -42,7 +42,3 @@ settles_none (Some event) later none ends = absurd cc
 pub gives_some : (first : Option Event) (events later : List Event) → events ≡ option_to_list first ++ later → IfSome first (λ event. events ≡ event ∷ later)
 gives_some None events later is = tt
 gives_some (Some event) events later is = is
-
-pub match_some : (first : Option Event) (none : Type 0) (some : Event → Type 0) → MatchOption first none some → IfSome first some
-match_some None none some is = tt
-match_some (Some event) none some is = is

@@ -1,5 +1,5 @@
 -- The events of a block that was read, by its places.
-use Rattle.std.proofs.Common.{◌≡◌, ℕ, ◌+◌, ◌*◌, ◌^◌, ◌<◌, ◌≤◌, List, length, get_or, drop, take, Result, Ok, sym, ap, subst, ◌∙◌, arith}
+use Rattle.std.proofs.Common.{◌≡◌, ℕ, ◌+◌, ◌*◌, ◌^◌, ◌<◌, ◌≤◌, List, length, get_or, drop, Result, Ok, sym, ap, subst, ◌∙◌, arith}
 use Rattle.std.specs.Prelude.{All}
 use Rattle.std.proofs.lemmas.List.{length-drop, length-take}
 use Rattle.std.proofs.lemmas.List.Elements.{All-drop, All-from_get_or, All-take}
@@ -7,25 +7,19 @@ use Rattle.fdr_record.specs.Recordable.{IsRecordable}
 use Rattle.fdr_file.specs.declared.fault.TraceFault.{TraceFault}
 use Rattle.fdr_file.specs.declared.stage.Stage.{Stage}
 use Rattle.runtime_log.specs.declared.blocks.LogBlock.{LogBlock as Placed}
-use Rattle.runtime_log.specs.declared.blocks.Mode.TheVariants.{Recorder, Basic}
 use Rattle.runtime_log.specs.declared.version.LogVersion.{LogVersion}
 use Rattle.runtime_log.specs.declared.walk.BlockWalk.{BlockWalk}
-use Rattle.runtime_log.specs.BasicLogs.{basic_events}
 use Rattle.runtime_log.specs.Logs.{LogBlock, block_content, block_opened, block_size_rows, content_rows, log_block_in, log_places}
 use Rattle.runtime_log.specs.OwnEvents.{log_record_length}
-use Rattle.runtime_log.specs.private.Choices.{IsAt, content_at}
-use Rattle.runtime_log.specs.private.Records.{records_in}
+use Rattle.runtime_log.specs.private.Choices.{IsAt}
 use Rattle.runtime_log.specs.private.Walks.{IsOpened, events_told, walk_events}
 use Rattle.runtime_log.proofs.RecordFits.{AreBytes}
 use Rattle.runtime_log.proofs.RecordableLogs.{events_fit, fit_recordable, starts_fit}
-use Rattle.runtime_log.proofs.Runs.{basic_few, basic_recordable}
 use Rattle.runtime_log.proofs.RecordWalk.{events_few, events_said, starts_few}
 use Rattle.runtime_log.proofs.WholeLogs.{block_parts}
 
 pub are_bytes : (bytes : List ℕ) → ((k : ℕ) → get_or bytes k 0 < 2 ^ 8) → AreBytes bytes
 are_bytes bytes below = All-from_get_or (λ b. b < 256) bytes 0 (λ k within. below k)
-
--- ---- of the Flight Data Recorder mode
 
 -- the events of a walk before the first record of a block
 opened_events : (version : LogVersion) (at size : ℕ) (bytes : List ℕ) (walk : BlockWalk) → IsOpened version at size bytes walk
@@ -39,7 +33,7 @@ opened_events version at size bytes walk o =
 same_size : (n m : ℕ) → ◌≡◌ {A = Result ℕ TraceFault} (Ok n) (Ok m) → n ≡ m
 same_size n m e = cc
 
-pub recorder_given : (version : LogVersion) (bytes : List ℕ) (placed : Placed) (b : LogBlock) (size : ℕ) (walk : BlockWalk) → IsAt bytes (Recorder version) placed b
+pub recorder_given : (version : LogVersion) (bytes : List ℕ) (placed : Placed) (b : LogBlock) (size : ℕ) (walk : BlockWalk) → IsAt bytes version placed b
     → block_size_rows version (placed.begin, drop placed.begin bytes) ≡ Ok size → IsOpened version placed.begin size (drop placed.begin bytes) walk → walk_events walk ≡ b.block.events
 recorder_given version bytes placed b size walk is sized o =
     let rest = drop placed.begin bytes in
@@ -72,15 +66,3 @@ recorder_few version at size bytes walk o =
       length-take size (drop 16 bytes),
       length-drop 16 bytes,
     )
-
--- ---- of the basic mode
-
-pub basic_given : (bytes : List ℕ) (placed : Placed) (b : LogBlock) (content : List ℕ) → IsAt bytes Basic placed b → content ≡ content_at bytes Basic placed → basic_events (records_in content) ≡ b.block.events
-basic_given bytes placed b content is same = ap (λ (xs : List ℕ). basic_events (records_in xs)) (same ∙ is.content) ∙ sym is.said.events
-
-pub basic_fit : (bytes : List ℕ) (begin len : ℕ) (content : List ℕ) → content ≡ take len (drop begin bytes) → AreBytes bytes → All IsRecordable (basic_events (records_in content))
-basic_fit bytes begin len content is all =
-    basic_recordable content (subst AreBytes (sym is) (All-take (λ b. b < 256) len (drop begin bytes) (All-drop (λ b. b < 256) begin bytes all)))
-
-pub basic_short : (bytes : List ℕ) (begin len : ℕ) (content : List ℕ) → content ≡ take len (drop begin bytes) → length (basic_events (records_in content)) ≤ length bytes
-basic_short bytes begin len content is = omega (arith, basic_few content, ap length is, length-take len (drop begin bytes), length-drop begin bytes)

@@ -1,25 +1,34 @@
 -- The import of a log: the blocks that are taken, packed one after the other.
-use Rattle.std.proofs.Common.{◌≡◌, ℕ, zero, suc, ◌+◌, ◌≤◌, Bool, true, false, cond, List, [], ◌∷◌, ◌++◌, length, drop, take, Ok, sym, ap, subst, ◌∙◌, arith}
+use Rattle.std.proofs.Common.{◌≡◌, ℕ, zero, suc, ◌+◌, ◌≤◌, Bool, true, false, cond, List, [], ◌∷◌, ◌++◌, length, drop, map, take, Ok, refl, sym, ap, subst, ◌∙◌, append-nil, arith}
 use Rattle.std.specs.Prelude.{◌≢◌, All, filter}
-use Rattle.std.proofs.lemmas.List.Elements.{All-head, All-tail, All-weaker, filter_passes}
-use Rattle.std.proofs.lemmas.List.Sorted.{All-permutation, length_permutation}
+use Rattle.std.proofs.lemmas.List.Elements.{All-head, All-nil, All-tail, All-weaker, filter_passes}
+use Rattle.std.proofs.lemmas.List.Sorted.{All-permutation, IsPermutation-refl, length_permutation}
+use Rattle.std.proofs.lemmas.List.{map-append}
 use Rattle.fdr_file.specs.declared.header.Header.{Header}
+use Rattle.fdr_file.specs.declared.trace.Block.{Block}
 use Rattle.runtime_log.specs.declared.blocks.LogBlock.{LogBlock as Placed}
-use Rattle.runtime_log.specs.declared.blocks.Mode.{Mode}
+use Rattle.runtime_log.specs.declared.basic.BasicRec.{BasicRec}
+use Rattle.runtime_log.specs.declared.blocks.Mode.TheVariants.{Recorder, Basic}
 use Rattle.runtime_log.specs.declared.facts.Facts.{Facts}
 use Rattle.runtime_log.specs.declared.packing.Packing.{Packing}
+use Rattle.runtime_log.specs.declared.version.LogVersion.{LogVersion}
+use Rattle.runtime_log.specs.BasicLogs.{basic_records, recorded_events}
 use Rattle.runtime_log.specs.Facts.{facts_of}
 use Rattle.runtime_log.specs.Imports.{IsImport, trace_file, trace_taken}
-use Rattle.runtime_log.specs.Logs.{LogBlock}
+use Rattle.runtime_log.specs.Logs.{LogBlock, as_log, basic_header, recorder_blocks, recorder_header}
 use Rattle.runtime_log.specs.Taken.{AreTaken, chosen, first_ones, has_events, is_among, undoubled}
-use Rattle.runtime_log.specs.private.Headers.{header_for, mode_of}
+use Rattle.runtime_log.specs.Threads.{AreByThread}
+use Rattle.runtime_log.specs.private.Headers.{mode_of}
 use Rattle.runtime_log.specs.private.Packings.{HasPacked}
-use Rattle.runtime_log.specs.private.Readings.{blocks_said}
 use Rattle.runtime_log.proofs.FileOrder.{logged_order, order_few}
 use Rattle.runtime_log.proofs.TakenBlocks.{Stands}
-use Rattle.runtime_log.proofs.WholeLogs.{log_read}
+use Rattle.runtime_log.proofs.WholeLogs.{basic_read, recorder_read}
 
 -- ---- one block among those that are taken
+
+-- what blocks of a log say
+abbrev pub blocks_of : List LogBlock → List Block
+blocks_of taken = map (λ b. b.block) taken
 
 take_there : (i : ℕ) (blocks rest : List LogBlock) (b : LogBlock) → drop i blocks ≡ b ∷ rest → take (suc i) blocks ≡ take i blocks ++ b ∷ []
 take_there zero [] rest b e = absurd cc
@@ -33,21 +42,21 @@ all_there P zero (x ∷ blocks) rest b e all = let same : x ≡ b = cc in subst 
 all_there P (suc i) [] rest b e all = absurd cc
 all_there P (suc i) (x ∷ blocks) rest b e all = all_there P i blocks rest b e (All-tail P x blocks all)
 
-pub has_some : (bytes : List ℕ) (mode : Mode) (placed : Placed) (taken : List LogBlock) (i : ℕ) (there : Stands bytes mode placed taken i) → All (λ b. b.block.events ≢ []) taken → there.b.block.events ≢ []
-has_some bytes mode placed taken i there some = all_there (λ b. b.block.events ≢ []) i taken (drop (i + 1) taken) there.b there.rest some
+pub has_some : (bytes : List ℕ) (version : LogVersion) (placed : Placed) (taken : List LogBlock) (i : ℕ) (there : Stands bytes version placed taken i) → All (λ b. b.block.events ≢ []) taken → there.b.block.events ≢ []
+has_some bytes version placed taken i there some = all_there (λ b. b.block.events ≢ []) i taken (drop (i + 1) taken) there.b there.rest some
 
 -- one more of them was packed
-pub packed_next : (header : Header) (said taken : List LogBlock) (packing : Packing) (bytes : List ℕ) (mode : Mode) (placed : Placed) (i : ℕ) (there : Stands bytes mode placed taken i)
-    → HasPacked header said (take i taken ++ there.b ∷ []) packing → HasPacked header said (take (i + 1) taken) packing
-packed_next header said taken packing bytes mode placed i there packed =
+pub packed_next : (header : Header) (said taken : List LogBlock) (packing : Packing) (bytes : List ℕ) (version : LogVersion) (placed : Placed) (i : ℕ) (there : Stands bytes version placed taken i)
+    → HasPacked header said (blocks_of (take i taken) ++ there.b.block ∷ []) packing → HasPacked header said (blocks_of (take (i + 1) taken)) packing
+packed_next header said taken packing bytes version placed i there packed =
     let next : suc i ≡ i + 1 = omega arith in
     let more : take i taken ++ there.b ∷ [] ≡ take (i + 1) taken = sym (take_there i taken (drop (i + 1) taken) there.b there.rest) ∙ ap (λ (k : ℕ). take k taken) next in
-    subst (λ (bs : List LogBlock). HasPacked header said bs packing) more packed
+    subst (λ (bs : List Block). HasPacked header said bs packing) (sym (map-append (λ (b : LogBlock). b.block) (take i taken) (there.b ∷ [])) ∙ ap blocks_of more) packed
 
 -- ---- all of them
 
 -- the facts of what was packed
-pub facts_packed : (header : Header) (said taken : List LogBlock) (packing : Packing) → HasPacked header said taken packing → packing.notes.facts ≡ facts_of said taken
+pub facts_packed : (header : Header) (said : List LogBlock) (taken : List Block) (packing : Packing) → HasPacked header said taken packing → packing.notes.facts ≡ facts_of said taken
 facts_packed header said taken packing packed = λ i. record {
   blocks = packed.count i;
   threads = packed.notes.threads i;
@@ -89,19 +98,36 @@ first_few before (b ∷ blocks) = by_test (first_few (b.content ∷ before) bloc
     by_test few true = omega (arith, few)
     by_test few false = omega (arith, few)
 
-pub taken_few : (bytes : List ℕ) (mode : Mode) (said taken : List LogBlock) → mode_of bytes ≡ Ok mode → blocks_said mode bytes ≡ Ok said → AreTaken said taken → length taken ≤ length bytes
-taken_few bytes mode said taken headed says are =
-    let order = logged_order bytes (record { header = header_for mode bytes; blocks = said }) (log_read bytes mode said headed says) in
+pub taken_few : (bytes : List ℕ) (version : LogVersion) (said taken : List LogBlock) → mode_of bytes ≡ Ok (Recorder version) → recorder_blocks version bytes ≡ Ok said → AreTaken said taken → length taken ≤ length bytes
+taken_few bytes version said taken headed says are =
+    let order = logged_order bytes (record { header = recorder_header bytes; blocks = said; events = [] }) (recorder_read bytes version said headed (ap as_log says)) in
     omega (arith, length_permutation (chosen said) taken are.all, filter_few (undoubled said), first_few [] said, order_few 0 (length bytes) said order)
 
+-- no event is in no block
+no_threads : AreByThread [] []
+no_threads = record { same = λ thread. refl; ascend = tt; some = All-nil (λ (b : Block). b.events ≢ []); wall = All-nil (λ (b : Block). b.wall ≡ record { secs = 0; micros = 0 }) }
+
 -- what is made of them is an import of the log
-pub imported : (bytes : List ℕ) (mode : Mode) (said taken : List LogBlock) (header : Header) (file : List ℕ) (facts : Facts) → mode_of bytes ≡ Ok mode → blocks_said mode bytes ≡ Ok said
-    → AreTaken said taken → header ≡ header_for mode bytes → file ≡ trace_file (trace_taken header taken) → facts ≡ facts_of said taken → IsImport bytes file facts
-imported bytes mode said taken header file facts headed says are same file_is facts_are = record {
-  log = record { header = header_for mode bytes; blocks = said };
-  says = log_read bytes mode said headed says;
-  taken = taken;
-  takes = are;
-  file_is = file_is ∙ ap (λ (h : Header). trace_file (trace_taken h taken)) same;
+pub recorder_imported : (bytes : List ℕ) (version : LogVersion) (said taken : List LogBlock) (header : Header) (file : List ℕ) (facts : Facts) → mode_of bytes ≡ Ok (Recorder version)
+    → recorder_blocks version bytes ≡ Ok said → AreTaken said taken → header ≡ recorder_header bytes → file ≡ trace_file (trace_taken header (blocks_of taken)) → facts ≡ facts_of said (blocks_of taken)
+    → IsImport bytes file facts
+recorder_imported bytes version said taken header file facts headed says are same file_is facts_are = record {
+  log = record { header = recorder_header bytes; blocks = said; events = [] };
+  says = recorder_read bytes version said headed (ap as_log says);
+  taken = blocks_of taken;
+  takes = record { pool = taken; chosen = are; threads = []; by_thread = no_threads; parts = sym (append-nil (blocks_of taken)) };
+  file_is = file_is ∙ ap (λ (h : Header). trace_file (trace_taken h (blocks_of taken))) same;
+  facts_are = facts_are;
+}
+
+-- so is what is made of the events of a basic log
+pub basic_imported : (bytes : List ℕ) (records : List BasicRec) (threads : List Block) (header : Header) (file : List ℕ) (facts : Facts) → mode_of bytes ≡ Ok Basic → basic_records bytes ≡ Ok records
+    → AreByThread (recorded_events records) threads → header ≡ basic_header bytes → file ≡ trace_file (trace_taken header threads) → facts ≡ facts_of [] threads → IsImport bytes file facts
+basic_imported bytes records threads header file facts headed says are same file_is facts_are = record {
+  log = record { header = basic_header bytes; blocks = []; events = recorded_events records };
+  says = basic_read bytes records headed says;
+  taken = threads;
+  takes = record { pool = []; chosen = record { all = IsPermutation-refl []; sorted = λ k d low high. absurd (omega (arith, high)) }; threads = threads; by_thread = are; parts = refl };
+  file_is = file_is ∙ ap (λ (h : Header). trace_file (trace_taken h threads)) same;
   facts_are = facts_are;
 }

@@ -29,14 +29,17 @@ use Rattle.fdr_file.specs.declared.trace.Trace.{Trace}
 use Rattle.fdr_file.specs.Files.{BlockFits, HeaderFits, block_bytes, block_told, file_bytes, header_bytes, trace_told}
 use Rattle.fdr_file.specs.Places.{starts}
 use Rattle.fdr_file.specs.Scanning.{scanned, scanned_ends}
+use Rattle.fdr_file.specs.ThreadEvents.{ThreadEvent}
 use Rattle.fdr_file.specs.Traces.{block_length, header_in, trace_of}
 use Rattle.runtime_log.specs.declared.fault.LogFault.{LogFault}
 use Rattle.runtime_log.specs.declared.version.LogVersion.TheVariants.{Three}
-use Rattle.runtime_log.specs.Imports.{buffer_for, pieces_of, trace_file, trace_taken}
+use Rattle.runtime_log.specs.Imports.{AreTakenOf, buffer_for, pieces_of, trace_file, trace_taken}
 use Rattle.runtime_log.specs.Laws.{AreInOrder, ImportsItself, MayStandBefore, buffer_key}
 use Rattle.runtime_log.specs.Logs.{Log, LogBlock, log_block_in, log_block_rows}
 use Rattle.runtime_log.specs.Taken.{AreTaken, chosen, first_counter, first_ones, has_events, is_among, order_key, undoubled}
+use Rattle.runtime_log.specs.Threads.{AreByThread}
 use Rattle.runtime_log.specs.private.Choices.{AreInFileOrder}
+use Rattle.runtime_log.proofs.ByThread.{none_by_thread}
 use Rattle.runtime_log.proofs.BlockLists.{Onward, block_first, block_sized}
 use Rattle.runtime_log.proofs.FileOrder.{logged_order}
 use Rattle.runtime_log.proofs.OneImport.{one_taken}
@@ -348,12 +351,12 @@ pieces_written buffer fit some =
     ∙ ap (λ (used : List ℕ). record_bytes (Extents (length used)) ++ used) (sym (used_is buffer fit))
 
 all_written : (blocks : List LogBlock) (buffers : List Filled) → AllZip IsOf blocks buffers → All BlockFits buffers → All (λ (b : Filled). IsTrue (has_event b)) buffers
-    → flat_map block_bytes (map buffer_for (flat_map (λ (b : LogBlock). pieces_of b.block) blocks)) ≡ flat_map block_bytes buffers
+    → flat_map block_bytes (map buffer_for (flat_map pieces_of (map (λ (b : LogBlock). b.block) blocks))) ≡ flat_map block_bytes buffers
 all_written [] [] are fit some = refl
 all_written [] (b ∷ buffers) are fit some = absurd are
 all_written (x ∷ blocks) [] are fit some = absurd are
 all_written (x ∷ blocks) (b ∷ buffers) are fit some =
-    let others : List Block = flat_map (λ (y : LogBlock). pieces_of y.block) blocks in
+    let others : List Block = flat_map pieces_of (map (λ (y : LogBlock). y.block) blocks) in
     ap (λ (bs : List Filled). flat_map block_bytes bs) (map-append buffer_for (pieces_of x.block) others)
     ∙ flat_map-append block_bytes (map buffer_for (pieces_of x.block)) (map buffer_for others)
     ∙ ap (λ (y : Block). flat_map block_bytes (map buffer_for (pieces_of y)) ++ flat_map block_bytes (map buffer_for others)) are.0.1
@@ -380,10 +383,16 @@ imports_itself by_records reads header buffers file facts fits fit some rising m
       all = subst (λ (bs : List LogBlock). IsPermutation bs blocks) (sym chosen_are) (IsPermutation-refl blocks);
       sorted = sorted_from_rises order_key blocks (they_rise 0 (length bytes) blocks buffers are rising (logged_order bytes t.log t.says));
     } in
-    let made_takes = subst (λ (l : Log). AreTaken l.blocks made.taken) (sym log) made.takes in
-    let taken : made.taken ≡ blocks = one_taken (length bytes) blocks made.taken blocks (logged_order bytes t.log t.says) made_takes takes in
+    let made_takes = subst (λ (l : Log). AreTakenOf l made.taken) (sym log) made.takes in
+    let pool : made_takes.pool ≡ blocks = one_taken (length bytes) blocks made_takes.pool blocks (logged_order bytes t.log t.says) made_takes.chosen takes in
+    let none : made_takes.threads ≡ [] = none_by_thread made_takes.threads (subst (λ (es : List ThreadEvent). AreByThread es made_takes.threads) t.none made_takes.by_thread) in
+    let taken : made.taken ≡ map (λ (b : LogBlock). b.block) blocks =
+    made_takes.parts
+    ∙ ap (λ (bs : List Block). map (λ (b : LogBlock). b.block) made_takes.pool ++ bs) none
+    ∙ append-nil (map (λ (b : LogBlock). b.block) made_takes.pool)
+    ∙ ap (λ (bs : List LogBlock). map (λ (b : LogBlock). b.block) bs) pool in
     made.file_is
     ∙ ap (λ (l : Log). trace_file (trace_taken l.header made.taken)) (sym log)
-    ∙ ap (λ (bs : List LogBlock). trace_file (trace_taken t.log.header bs)) taken
-    ∙ ap (λ (x : Trace). trace_file (trace_taken x.header blocks)) t.said
+    ∙ ap (λ (bs : List Block). trace_file (trace_taken t.log.header bs)) taken
+    ∙ ap (λ (x : Trace). trace_file (trace_taken x.header (map (λ (b : LogBlock). b.block) blocks))) t.said
     ∙ ap (λ (xs : List ℕ). header_bytes header ++ xs) (all_written blocks buffers are fit some)

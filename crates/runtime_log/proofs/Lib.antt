@@ -3,9 +3,15 @@ pub mod NotedEvents
 pub mod RecordWalk
 pub mod BlockReading
 pub mod BlockLists
-pub mod RunLists
-pub mod NextRecords
+pub mod RecordedPassings
 pub mod WholeLogs
+-- The grammar: what is read as a log is one (src/laws.rt)
+pub mod LogRecords
+pub mod LogEvents
+pub mod LogShapes
+pub mod LogDescribed
+-- What is imported of a log: each event of each thread, and what is printed (src/laws.rt)
+pub mod KeptEvents
 -- Records and their events: which fit the records of a trace (src/blocks.rt)
 pub mod RecordFits
 pub mod RecordCuts
@@ -30,5 +36,9 @@ pub mod ReadingBack
 -- A trace is a log, and one in order is imported as itself (src/laws.rt)
 pub mod TraceIsLog
 pub mod ItselfImported
+-- The events of a basic log, thread by thread (src/threads.rt)
+pub mod ByThread
+pub mod ThreadRuns
+pub mod ThreadsKept
 -- The lines of facts (src/facts.rt)
 pub mod FactTexts

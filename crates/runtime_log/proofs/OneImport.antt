@@ -1,5 +1,5 @@
 -- A log is imported in one way, and only in one.
-use Rattle.std.proofs.Common.{◌≡◌, ℕ, ◌+◌, ◌≤◌, Bool, true, false, cond, List, [], ◌∷◌, length, get_or, Result, Ok, refl, sym, ap, subst, ◌∙◌, inl, inr, arith}
+use Rattle.std.proofs.Common.{◌≡◌, ℕ, ◌+◌, ◌≤◌, Bool, true, false, cond, List, [], ◌∷◌, ◌++◌, length, get_or, map, Result, Ok, refl, sym, ap, subst, ◌∙◌, inl, inr, arith}
 use Rattle.std.specs.Prelude.{◌⊎◌, All}
 use Rattle.std.specs.List.{AllByRecursion}
 use Rattle.std.specs.declared.cmp.Ordering.TheVariants.{Equal}
@@ -8,14 +8,18 @@ use Rattle.std.specs.Ordering.{nat_cmp}
 use Rattle.std.proofs.lemmas.List.Elements.{All-cons, All-filter, All-head, All-nil, All-tail, All-weaker, recursion_from_All}
 use Rattle.std.proofs.lemmas.List.Sorted.{All-permutation, sum_by-IsPermutation}
 use Rattle.std.proofs.lemmas.Map.Lookups.{exact_bytes}
+use Rattle.fdr_file.specs.declared.trace.Block.{Block}
 use Rattle.runtime_log.specs.declared.fault.LogFault.{LogFault}
 use Rattle.runtime_log.specs.Facts.{facts_of}
-use Rattle.runtime_log.specs.Imports.{trace_file, trace_taken}
+use Rattle.runtime_log.specs.Imports.{AreTakenOf, trace_file, trace_taken}
 use Rattle.runtime_log.specs.Laws.{OneImport, SomeImport}
-use Rattle.runtime_log.specs.Logs.{Log, LogBlock}
+use Rattle.runtime_log.specs.Logs.{Log, LogBlock, logged}
 use Rattle.runtime_log.specs.Taken.{AreTaken, chosen, first_ones, has_events, is_among, order_key, undoubled}
 use Rattle.runtime_log.specs.private.Choices.{AreInFileOrder}
+use Rattle.runtime_log.specs.private.Passings.{runs_of}
+use Rattle.runtime_log.proofs.ByThread.{only_by_thread}
 use Rattle.runtime_log.proofs.FileOrder.{logged_order}
+use Rattle.runtime_log.proofs.ThreadRuns.{in_threads, some_by_thread}
 use Rattle.runtime_log.proofs.OneOrder.{in_order, in_order_moves, in_order_sorted, one_order, rises_from_sorted}
 
 -- ---- blocks among others
@@ -84,18 +88,28 @@ some_taken blocks = record { all = in_order_moves order_key (chosen blocks); sor
 
 -- ---- imports
 
+-- the blocks that are taken of a log, in one way only
+one_taken_of : (bytes : List ℕ) (log : Log) (taken other : List Block) → logged bytes ≡ Ok log → AreTakenOf log taken → AreTakenOf log other → taken ≡ other
+one_taken_of bytes log taken other says one another =
+    let pool = one_taken (length bytes) log.blocks one.pool another.pool (logged_order bytes log says) one.chosen another.chosen in
+    let threads = only_by_thread log.events one.threads another.threads one.by_thread another.by_thread in
+    one.parts
+    ∙ ap (λ (bs : List LogBlock). map (λ (b : LogBlock). b.block) bs ++ one.threads) pool
+    ∙ ap (λ (bs : List Block). map (λ (b : LogBlock). b.block) another.pool ++ bs) threads
+    ∙ sym another.parts
+
 pub import_is_one : OneImport
 import_is_one bytes file other facts others one another =
     let log : one.log ≡ another.log = same_log one.log another.log (sym one.says ∙ another.says) in
-    let again = subst (λ (l : Log). AreTaken l.blocks another.taken) (sym log) another.takes in
-    let taken : one.taken ≡ another.taken = one_taken (length bytes) one.log.blocks one.taken another.taken (logged_order bytes one.log one.says) one.takes again in (
+    let again = subst (λ (l : Log). AreTakenOf l another.taken) (sym log) another.takes in
+    let taken : one.taken ≡ another.taken = one_taken_of bytes one.log one.taken another.taken one.says one.takes again in (
       another.file_is
           ∙ ap (λ (l : Log). trace_file (trace_taken l.header another.taken)) (sym log)
-          ∙ ap (λ (bs : List LogBlock). trace_file (trace_taken one.log.header bs)) (sym taken)
+          ∙ ap (λ (bs : List Block). trace_file (trace_taken one.log.header bs)) (sym taken)
           ∙ sym one.file_is,
       another.facts_are
           ∙ ap (λ (l : Log). facts_of l.blocks another.taken) (sym log)
-          ∙ ap (λ (bs : List LogBlock). facts_of one.log.blocks bs) (sym taken)
+          ∙ ap (λ (bs : List Block). facts_of one.log.blocks bs) (sym taken)
           ∙ sym one.facts_are,
     )
   where
@@ -104,8 +118,17 @@ import_is_one bytes file other facts others one another =
 
 pub import_is_some : SomeImport
 import_is_some bytes log says =
-    let taken = in_order order_key (chosen log.blocks) in (
+    let pool = in_order order_key (chosen log.blocks) in
+    let threads = runs_of (in_threads log.events) in
+    let taken : List Block = map (λ (b : LogBlock). b.block) pool ++ threads in (
       trace_file (trace_taken log.header taken),
       facts_of log.blocks taken,
-      record { log = log; says = says; taken = taken; takes = some_taken log.blocks; file_is = refl; facts_are = refl },
+      record {
+        log = log;
+        says = says;
+        taken = taken;
+        takes = record { pool = pool; chosen = some_taken log.blocks; threads = threads; by_thread = some_by_thread log.events; parts = refl };
+        file_is = refl;
+        facts_are = refl;
+      },
     )

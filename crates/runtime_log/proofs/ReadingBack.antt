@@ -1,8 +1,8 @@
 -- The file of an import reads as the trace that was taken: its header and its blocks fit what is written.
-use Rattle.std.proofs.Common.{◌≡◌, ℕ, ◌+◌, ◌^◌, ◌<◌, ◌≤◌, Bool, true, false, cond, List, [], ◌∷◌, ◌++◌, length, drop, map, take, Some, Result, Ok, Err, refl, sym, ap, subst, ◌∙◌, arith}
-use Rattle.std.specs.Prelude.{All, IsTrue, not}
+use Rattle.std.proofs.Common.{◌≡◌, ℕ, ◌+◌, ◌^◌, ◌<◌, ◌≤◌, Bool, true, false, cond, eqb, List, [], ◌∷◌, ◌++◌, length, drop, map, take, Result, Ok, Err, refl, sym, ap, subst, ◌∙◌, arith}
+use Rattle.std.specs.Prelude.{◌≢◌, All, IsTrue, not}
 use Rattle.std.specs.List.{flat_map}
-use Rattle.std.proofs.lemmas.List.Elements.{All-append, All-cons, All-drop, All-head, All-map, All-nil, All-push, All-tail, All-take}
+use Rattle.std.proofs.lemmas.List.Elements.{All-append, All-cons, All-drop, All-filter, All-head, All-map, All-nil, All-push, All-tail, All-take}
 use Rattle.xray_io.specs.Rows.{First, InTurn, ◌>>=◌}
 use Rattle.xray_io.specs.declared.wall.Wall.{Wall}
 use Rattle.fdr_record.specs.declared.event.Event.{Event}
@@ -18,27 +18,29 @@ use Rattle.fdr_file.specs.declared.stage.Told.TheVariants.{Nothing, Begun, Noted
 use Rattle.fdr_file.specs.declared.trace.Block.{Block}
 use Rattle.fdr_file.specs.declared.trace.Trace.{Trace}
 use Rattle.fdr_file.specs.Files.{BlockFits, HeaderFits, block_told, file_bytes, trace_told}
+use Rattle.fdr_file.specs.ThreadEvents.{ThreadEvent, block_events, thread_events}
 use Rattle.fdr_file.specs.Traces.{block_starts, trace_of}
 use Rattle.runtime_log.specs.declared.basic.BasicRec.{BasicRec}
-use Rattle.runtime_log.specs.declared.basic.BasicRec.TheVariants.{Passed, Argument}
 use Rattle.runtime_log.specs.declared.blocks.Mode.{Mode}
 use Rattle.runtime_log.specs.declared.blocks.Mode.TheVariants.{Recorder, Basic}
 use Rattle.runtime_log.specs.declared.fault.LogFault.{LogFault}
 use Rattle.runtime_log.specs.declared.fault.LogFault.TheVariants as faults
 use Rattle.runtime_log.specs.declared.version.LogVersion.{LogVersion}
-use Rattle.runtime_log.specs.BasicLogs.{BasicRun, BasicSoFar, basic_places, basic_rows, longer_run, may_follow, no_records, owner_of, runs_with, same_owner, single_run, tagged_rows}
+use Rattle.runtime_log.specs.BasicLogs.{basic_places, basic_records, basic_rows, last_record, may_follow, recorded_events, tagged_rows}
 use Rattle.runtime_log.specs.Imports.{buffer_for, pieces_of}
 use Rattle.runtime_log.specs.Laws.{ImportsRead}
-use Rattle.runtime_log.specs.Logs.{BlockSoFar, LogBlock, as_log, block_content, block_opened, block_with, log_block_in, log_block_rows, log_places, log_record_rows, recorder_blocks, run_block, said_rows}
+use Rattle.runtime_log.specs.Logs.{BlockSoFar, Log, LogBlock, as_log, block_content, block_opened, block_with, log_block_in, log_block_rows, log_places, log_record_rows, recorder_blocks, said_rows}
 use Rattle.runtime_log.specs.OwnEvents.{log_record_length}
 use Rattle.runtime_log.specs.private.Headers.{header_for}
-use Rattle.runtime_log.specs.private.Readings.{blocks_said}
+use Rattle.runtime_log.specs.Threads.{AreByThread, recorded_by}
+use Rattle.runtime_log.proofs.AddedBlocks.{event_of}
 use Rattle.runtime_log.proofs.OneImport.{taken_hold}
 use Rattle.runtime_log.proofs.RecordFits.{AreBytes, number_below}
 use Rattle.runtime_log.proofs.RecordableLogs.{PlacesFit, SaidFits, StageFits, ToldFits, row_fits, settled_fit, starts_fit}
-use Rattle.runtime_log.proofs.Runs.{OwnerFits, ReadFits, RecordFits, RecordsFit, basic_fit, read_fits}
+use Rattle.runtime_log.proofs.Runs.{ReadFits, RecordFits, RecordedFits, RecordsFit, read_fits, recorded_fit}
 use Rattle.runtime_log.proofs.RecordWalk.{so_with}
-use Rattle.runtime_log.proofs.WholeLogs.{block_parts, log_parts}
+use Rattle.runtime_log.proofs.ByThread.{eqb_same}
+use Rattle.runtime_log.proofs.WholeLogs.{HasParts, block_parts, log_parts}
 
 -- the fields of a block fit the records of a trace
 pub record FitsRecords (block : Block) : Type 0 where
@@ -103,78 +105,110 @@ recorder_fits version before ((at, bytes) ∷ later) all is fit fits =
     by_block again (Ok b) e h = again b h (All-push BlockCan before b fits (block_fits version at bytes b fit.0 e))
     by_block again (Err fault) e h = absurd cc
 
--- ---- a run of the basic mode
+-- ---- the events of a basic log
 
-abbrev RunFits : BasicRun → Type 0
-RunFits run = OwnerFits run.owner × RecordsFit run.records
+all_left_recorded : (xs ys : List ThreadEvent) → All RecordedFits (xs ++ ys) → All RecordedFits xs
+all_left_recorded [] ys all = All-nil RecordedFits
+all_left_recorded (x ∷ xs) ys all = All-cons RecordedFits x xs (All-head RecordedFits x (xs ++ ys) all) (all_left_recorded xs ys (All-tail RecordedFits x (xs ++ ys) all))
 
-owner_fits : (r : BasicRec) → RecordFits r → OwnerFits (owner_of r)
-owner_fits (Passed owner event) fits = fits.0
-owner_fits (Argument owner func value) fits = fits.0
+all_right_recorded : (xs ys : List ThreadEvent) → All RecordedFits (xs ++ ys) → All RecordedFits ys
+all_right_recorded [] ys all = all
+all_right_recorded (x ∷ xs) ys all = all_right_recorded xs ys (All-tail RecordedFits x (xs ++ ys) all)
 
 records_push : (records : List BasicRec) (r : BasicRec) → RecordsFit records → RecordFits r → RecordsFit (records ++ r ∷ [])
 records_push [] r fits fit = (fit, tt)
 records_push (first ∷ records) r fits fit = (fits.0, records_push records r fits.1 fit)
 
-runs_fit : (runs : List BasicRun) (at : ℕ) (bytes : List ℕ) (r : BasicRec) → RecordFits r → All RunFits runs → All RunFits (runs_with runs (at, bytes) r)
-runs_fit [] at bytes r fit fits = All-cons RunFits (single_run (at, bytes) r) [] (owner_fits r fit, (fit, tt)) (All-nil RunFits)
-runs_fit (run ∷ []) at bytes r fit fits = by_owner (same_owner run.owner (owner_of r))
+all_records_fit : (before : List BasicRec) (places : List (ℕ × List ℕ)) (all : List BasicRec) → InTurn basic_rows before places ≡ Ok all → PlacesFit places → RecordsFit before → RecordsFit all
+all_records_fit before [] all is fit fits =
+    let same : before ≡ all = cc in
+    subst RecordsFit same fits
+all_records_fit before ((at, bytes) ∷ later) all is fit fits =
+    by_record (λ next h f. all_records_fit next later all h fit.1 f) (tagged_rows at (take 32 bytes)) (read_fits at (take 32 bytes) (All-take (λ b. b < 256) 32 bytes fit.0)) is
   where
-    first : RunFits run
-    first = All-head RunFits run [] fits
-
-    by_owner : (b : Bool) → All RunFits (cond b (longer_run run (at, bytes) r ∷ []) (run ∷ single_run (at, bytes) r ∷ []))
-    by_owner true = All-cons RunFits (longer_run run (at, bytes) r) [] (first.0, records_push run.records r first.1 fit) (All-nil RunFits)
-    by_owner false = All-cons RunFits run (single_run (at, bytes) r ∷ []) first (All-cons RunFits (single_run (at, bytes) r) [] (owner_fits r fit, (fit, tt)) (All-nil RunFits))
-runs_fit (run ∷ other ∷ runs) at bytes r fit fits =
-    All-cons RunFits run (runs_with (other ∷ runs) (at, bytes) r) (All-head RunFits run (other ∷ runs) fits) (runs_fit (other ∷ runs) at bytes r fit (All-tail RunFits run (other ∷ runs) fits))
-
-all_runs_fit : (so : BasicSoFar) (places : List (ℕ × List ℕ)) (all : BasicSoFar) → InTurn basic_rows so places ≡ Ok all → PlacesFit places → All RunFits so.runs → All RunFits all.runs
-all_runs_fit so [] all is fit fits =
-    let same : so ≡ all = cc in
-    subst (λ (s : BasicSoFar). All RunFits s.runs) same fits
-all_runs_fit so ((at, bytes) ∷ later) all is fit fits =
-    by_record (λ next h f. all_runs_fit next later all h fit.1 f) (tagged_rows at (take 32 bytes)) (read_fits at (take 32 bytes) (All-take (λ b. b < 256) 32 bytes fit.0)) is
-  where
-    next_with : BasicRec → BasicSoFar
-    next_with r = record { runs = runs_with so.runs (at, bytes) r; last = Some r }
-
-    by_follow : ((next : BasicSoFar) → InTurn basic_rows next later ≡ Ok all → All RunFits next.runs → All RunFits all.runs) → (r : BasicRec) → RecordFits r → (b : Bool)
-        → (First b (Err (faults.Trace (traces.Order at))) (Ok (next_with r)) >>= λ next. InTurn basic_rows next later) ≡ Ok all → All RunFits all.runs
+    by_follow : ((next : List BasicRec) → InTurn basic_rows next later ≡ Ok all → RecordsFit next → RecordsFit all) → (r : BasicRec) → RecordFits r → (b : Bool)
+        → (First b (Err (faults.Trace (traces.Order at))) (Ok (before ++ r ∷ [])) >>= λ next. InTurn basic_rows next later) ≡ Ok all → RecordsFit all
     by_follow again r f true h = absurd cc
-    by_follow again r f false h = again (next_with r) h (runs_fit so.runs at bytes r f fits)
+    by_follow again r f false h = again (before ++ r ∷ []) h (records_push before r fits f)
 
-    by_record : ((next : BasicSoFar) → InTurn basic_rows next later ≡ Ok all → All RunFits next.runs → All RunFits all.runs) → (x : Result BasicRec LogFault) → ReadFits x
-        → ((x >>= λ r. First (not (may_follow so.last r)) (Err (faults.Trace (traces.Order at))) (Ok (next_with r))) >>= λ next. InTurn basic_rows next later) ≡ Ok all → All RunFits all.runs
-    by_record again (Ok r) f h = by_follow again r f (not (may_follow so.last r)) h
+    by_record : ((next : List BasicRec) → InTurn basic_rows next later ≡ Ok all → RecordsFit next → RecordsFit all) → (x : Result BasicRec LogFault) → ReadFits x
+        → ((x >>= λ r. First (not (may_follow (last_record before) r)) (Err (faults.Trace (traces.Order at))) (Ok (before ++ r ∷ []))) >>= λ next. InTurn basic_rows next later) ≡ Ok all → RecordsFit all
+    by_record again (Ok r) f h = by_follow again r f (not (may_follow (last_record before) r)) h
     by_record again (Err fault) f h = absurd cc
 
-run_can : (run : BasicRun) → RunFits run → BlockCan (run_block run)
-run_can run fits = record { thread = fits.0.0; secs = omega arith; micros = omega arith; pid = fits.0.1; events = basic_fit run.records fits.1 }
+basic_fits : (bytes : List ℕ) (records : List BasicRec) → AreBytes bytes → basic_records bytes ≡ Ok records → All RecordedFits (recorded_events records)
+basic_fits bytes records all is =
+    recorded_fit records (all_records_fit [] (basic_places 32 (drop 32 bytes)) records is (starts_fit _ 0 32 (drop 32 bytes) (All-drop (λ b. b < 256) 32 bytes all)) tt)
 
-runs_can : (runs : List BasicRun) → All RunFits runs → All BlockCan (map run_block runs)
-runs_can [] fits = All-nil BlockCan
-runs_can (run ∷ runs) fits = All-cons BlockCan (run_block run) (map run_block runs) (run_can run (All-head RunFits run runs fits)) (runs_can runs (All-tail RunFits run runs fits))
+-- what holds of the events that each thread recorded holds of all events
+all_recorded : (P : ThreadEvent → Type 0) (events : List ThreadEvent) → ((thread : ℕ) → All P (recorded_by thread events)) → All P events
+all_recorded P [] each = All-nil P
+all_recorded P (e ∷ events) each = All-cons P e events (All-head P e (recorded_by e.thread events) (own e.thread refl)) (all_recorded P events later)
+  where
+    own : (thread : ℕ) → e.thread ≡ thread → All P (e ∷ recorded_by thread events)
+    own thread same = subst (λ (b : Bool). All P (cond b (e ∷ recorded_by thread events) (recorded_by thread events))) (eqb_same e.thread thread same) (each thread)
+
+    later : (thread : ℕ) → All P (recorded_by thread events)
+    later thread = by_test (eqb e.thread thread) (each thread)
+      where
+        by_test : (b : Bool) → All P (cond b (e ∷ recorded_by thread events) (recorded_by thread events)) → All P (recorded_by thread events)
+        by_test true all = All-tail P e (recorded_by thread events) all
+        by_test false all = all
+
+-- blocks of events that fit
+blocks_fit : (blocks : List Block) → All RecordedFits (thread_events blocks) → All (λ (b : Block). b.events ≢ []) blocks → All (λ (b : Block). b.wall ≡ record { secs = 0; micros = 0 }) blocks → All FitsRecords blocks
+blocks_fit [] fits some wall = All-nil FitsRecords
+blocks_fit (b ∷ blocks) fits some wall =
+    All-cons FitsRecords b blocks (by_events b.events refl) (blocks_fit blocks (all_right_recorded (block_events b) (thread_events blocks) fits)
+    (All-tail (λ (x : Block). x.events ≢ []) b blocks some) (All-tail (λ (x : Block). x.wall ≡ record { secs = 0; micros = 0 }) b blocks wall))
+  where
+    own : All RecordedFits (block_events b)
+    own = all_left_recorded (block_events b) (thread_events blocks) fits
+
+    no_wall : b.wall ≡ record { secs = 0; micros = 0 }
+    no_wall = All-head (λ (x : Block). x.wall ≡ record { secs = 0; micros = 0 }) b blocks wall
+
+    each : (events : List Event) → All RecordedFits (map (event_of b.thread b.pid) events) → All EventFits events
+    each [] all = All-nil EventFits
+    each (event ∷ events) all =
+        All-cons EventFits event events (All-head RecordedFits (event_of b.thread b.pid event) (map (event_of b.thread b.pid) events) all).event
+        (each events (All-tail RecordedFits (event_of b.thread b.pid event) (map (event_of b.thread b.pid) events) all))
+
+    by_events : (events : List Event) → b.events ≡ events → FitsRecords b
+    by_events [] e = absurd (All-head (λ (x : Block). x.events ≢ []) b blocks some e)
+    by_events (event ∷ events) e =
+        let first = All-head RecordedFits (event_of b.thread b.pid event) (map (event_of b.thread b.pid) events) (subst (λ (es : List Event). All RecordedFits (map (event_of b.thread b.pid) es)) e own) in
+        record {
+          thread = first.thread;
+          secs = omega (arith, ap (λ (w : Wall). w.secs) no_wall);
+          micros = omega (arith, ap (λ (w : Wall). w.micros) no_wall);
+          pid = first.pid;
+          events = each b.events own;
+        }
+
+threads_fit : (events : List ThreadEvent) (blocks : List Block) → AreByThread events blocks → All RecordedFits events → All FitsRecords blocks
+threads_fit events blocks are fits =
+    blocks_fit blocks (all_recorded RecordedFits (thread_events blocks) (λ thread. subst (All RecordedFits) (sym (are.same thread)) (All-filter (λ (e : ThreadEvent). eqb e.thread thread) RecordedFits events fits)))
+    are.some are.wall
 
 -- ---- a log
 
-mode_fits : (mode : Mode) (bytes : List ℕ) (said : List LogBlock) → AreBytes bytes → blocks_said mode bytes ≡ Ok said → All BlockCan said
-mode_fits (Recorder version) bytes said all is = by_blocks (recorder_blocks version bytes) refl is
+mode_fits : (mode : Mode) (bytes : List ℕ) (log : Log) → AreBytes bytes → HasParts mode bytes log → All BlockCan log.blocks × All RecordedFits log.events
+mode_fits (Recorder version) bytes log all has =
+    (by_blocks (recorder_blocks version bytes) refl has.0, subst (All RecordedFits) (sym has.1) (All-nil RecordedFits))
   where
-    by_blocks : (x : Result (List LogBlock) TraceFault) → recorder_blocks version bytes ≡ x → as_log x ≡ Ok said → All BlockCan said
+    by_blocks : (x : Result (List LogBlock) TraceFault) → recorder_blocks version bytes ≡ x → as_log x ≡ Ok log.blocks → All BlockCan log.blocks
     by_blocks (Ok blocks) e h =
-        let same : blocks ≡ said = cc in
+        let same : blocks ≡ log.blocks = cc in
         subst (All BlockCan) same
         (recorder_fits version [] (block_starts bytes) blocks e (starts_fit _ 0 32 (drop 32 bytes) (All-drop (λ b. b < 256) 32 bytes all)) (All-nil BlockCan))
     by_blocks (Err fault) e h = absurd cc
-mode_fits Basic bytes said all is = by_runs (InTurn basic_rows no_records (basic_places 32 (drop 32 bytes))) refl is
-  where
-    by_runs : (x : Result BasicSoFar LogFault) → InTurn basic_rows no_records (basic_places 32 (drop 32 bytes)) ≡ x → (x >>= λ so. Ok (map run_block so.runs)) ≡ Ok said → All BlockCan said
-    by_runs (Ok so) e h =
-        let same : map run_block so.runs ≡ said = cc in
-        subst (All BlockCan) same
-        (runs_can so.runs (all_runs_fit no_records (basic_places 32 (drop 32 bytes)) so e (starts_fit _ 0 32 (drop 32 bytes) (All-drop (λ b. b < 256) 32 bytes all)) (All-nil RunFits)))
-    by_runs (Err fault) e h = absurd cc
+mode_fits Basic bytes log all has =
+    (subst (All BlockCan) (sym has.0) (All-nil BlockCan), subst (All RecordedFits) (sym has.1.2) (basic_fits bytes has.1.0 all has.1.1))
+
+pool_fits : (pool : List LogBlock) → All BlockCan pool → All FitsRecords (map (λ (b : LogBlock). b.block) pool)
+pool_fits [] fits = All-nil FitsRecords
+pool_fits (b ∷ pool) fits = All-cons FitsRecords b.block (map (λ (x : LogBlock). x.block) pool) (All-head BlockCan b pool fits) (pool_fits pool (All-tail BlockCan b pool fits))
 
 header_fits : (mode : Mode) (bytes : List ℕ) → AreBytes bytes → HeaderFits (header_for mode bytes)
 header_fits (Recorder version) bytes all = record { version = refl; frequency = omega (arith, number_below 8 8 bytes all); size = omega (arith, number_below 16 8 bytes all) }
@@ -223,14 +257,14 @@ pieces_fit body_fits block (s ∷ parts) fits events room =
 
 taken_fit : BodyFits → ((size : ℕ) (events : List Event) → flat_map (λ s. s) (segments size events) ≡ events)
     → ((size : ℕ) (events : List Event) → LEAST_SIZE ≤ size → All (λ s. IsTrue (has_room size s)) (segments size events))
-    → (taken : List LogBlock) → All BlockCan taken → All (λ (b : Block). BlockFits (buffer_for b)) (flat_map (λ b. pieces_of b.block) taken)
+    → (taken : List Block) → All FitsRecords taken → All (λ (b : Block). BlockFits (buffer_for b)) (flat_map pieces_of taken)
 taken_fit body_fits whole room [] fits = All-nil (λ (b : Block). BlockFits (buffer_for b))
 taken_fit body_fits whole room (b ∷ taken) fits =
-    let can = All-head BlockCan b taken fits in
-    let events = all_parts EventFits (segments LARGEST_SIZE b.block.events) (subst (All EventFits) (sym (whole LARGEST_SIZE b.block.events)) can.events) in
-    All-append (λ (x : Block). BlockFits (buffer_for x)) (pieces_of b.block) (flat_map (λ x. pieces_of x.block) taken)
-    (pieces_fit body_fits b.block (segments LARGEST_SIZE b.block.events) can events (room LARGEST_SIZE b.block.events (omega arith)))
-    (taken_fit body_fits whole room taken (All-tail BlockCan b taken fits))
+    let can = All-head FitsRecords b taken fits in
+    let events = all_parts EventFits (segments LARGEST_SIZE b.events) (subst (All EventFits) (sym (whole LARGEST_SIZE b.events)) can.events) in
+    All-append (λ (x : Block). BlockFits (buffer_for x)) (pieces_of b) (flat_map pieces_of taken)
+    (pieces_fit body_fits b (segments LARGEST_SIZE b.events) can events (room LARGEST_SIZE b.events (omega arith)))
+    (taken_fit body_fits whole room taken (All-tail FitsRecords b taken fits))
 
 -- a block is what its buffer says
 told_back : (blocks : List Block) → map block_told (map buffer_for blocks) ≡ blocks
@@ -242,9 +276,13 @@ pub imports_read : BodyFits → ((size : ℕ) (events : List Event) → flat_map
     → ((header : Header) (buffers : List Filled) → HeaderFits header → All BlockFits buffers → trace_of (file_bytes header buffers) ≡ Ok (trace_told header buffers)) → ImportsRead
 imports_read body_fits whole room reads bytes file facts all made =
     let parts = log_parts bytes made.log made.says in
-    let can = taken_hold BlockCan made.log.blocks made.taken made.takes (mode_fits parts.mode bytes made.log.blocks all parts.blocks) in
+    let fit = mode_fits parts.mode bytes made.log all parts.has in
+    let takes = made.takes in
+    let pool = pool_fits takes.pool (taken_hold BlockCan made.log.blocks takes.pool takes.chosen fit.0) in
+    let threads = threads_fit made.log.events takes.threads takes.by_thread fit.1 in
+    let can : All FitsRecords made.taken = subst (All FitsRecords) (sym takes.parts) (All-append FitsRecords (map (λ (b : LogBlock). b.block) takes.pool) takes.threads pool threads) in
     let header = subst HeaderFits (sym parts.header) (header_fits parts.mode bytes all) in
-    let blocks : List Block = flat_map (λ b. pieces_of b.block) made.taken in
+    let blocks : List Block = flat_map pieces_of made.taken in
     ap trace_of made.file_is
     ∙ reads made.log.header (map buffer_for blocks) header (All-map BlockFits buffer_for blocks (taken_fit body_fits whole room made.taken can))
     ∙ ap (λ (bs : List Block). let t : Trace = record { header = made.log.header; blocks = bs } in let x : Result Trace TraceFault = Ok t in x) (told_back blocks)

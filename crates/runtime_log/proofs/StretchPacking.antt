@@ -21,7 +21,7 @@ use Rattle.fdr_buffer.specs.Segments.{EventFits, GoesOn, arg_records, bytes_of, 
 use Rattle.fdr_file.specs.ThreadEvents.{ThreadEvent}
 use Rattle.fdr_file.specs.Traces.{logs_arg}
 use Rattle.runtime_log.specs.declared.blocks.BlockEvents.{BlockEvents}
-use Rattle.runtime_log.specs.declared.blocks.LogBlock.{LogBlock as Placed}
+use Rattle.runtime_log.specs.declared.blocks.Head.{Head}
 use Rattle.runtime_log.specs.declared.notes.LastEvent.{LastEvent}
 use Rattle.runtime_log.specs.declared.notes.Notes.{Notes}
 use Rattle.runtime_log.specs.declared.packing.Packing.{Packing}
@@ -248,9 +248,9 @@ segments_join size events opened whole (event ∷ more) joins cut room =
     ∙ segments_join size (events ++ event ∷ []) (opened ++ event ∷ []) whole more joins (joins size events opened whole event cut (room_without size (opened ++ event ∷ []) more room')) room'
     ∙ ap (λ (es : List Event). whole ++ es ∷ []) assoc
 
-fills_stretch : (placed : Placed) (file : List ℕ) (events more : List Event) (old new : Packing) → Joins → Fills placed file events old → has_room old.buffer.size (old.buffer.events ++ more) ≡ true
-    → new.file ≡ old.file → new.buffer ≡ record old.buffer { events = old.buffer.events ++ more } → Fills placed file (events ++ more) new
-fills_stretch placed file events more old new joins f room kept buffer =
+fills_stretch : (head : Head) (file : List ℕ) (events more : List Event) (old new : Packing) → Joins → Fills head file events old → has_room old.buffer.size (old.buffer.events ++ more) ≡ true
+    → new.file ≡ old.file → new.buffer ≡ record old.buffer { events = old.buffer.events ++ more } → Fills head file (events ++ more) new
+fills_stretch head file events more old new joins f room kept buffer =
     let wide = subst (λ (b : Filled). has_room b.size (b.events ++ more) ≡ true) f.buffer room in
     record {
       whole = f.whole;
@@ -355,27 +355,27 @@ stretch_noted (suc n) thread pid cpu tsc bytes before old has ends =
 last_tsc : (after : Event) (stretch : Stretch) (bytes : List ℕ) (events left : List Event) → SaysStretch after stretch bytes events left → stretch.last.tsc ≡ last_counter stretch.count after.tsc bytes
 last_tsc after stretch bytes events left says = ap (λ (e : Event). e.tsc) says.is.last
 
-pub adds_stretch : (placed : Placed) (first mid new : Packing) (all left rest : BlockEvents) (after : Event) (stretch : Stretch) (bytes : List ℕ) → Joins
-    → SaysStretch after stretch bytes (events_to_come left) (events_to_come rest) → EndsWith mid.notes placed.thread after.tsc
+pub adds_stretch : (head : Head) (first mid new : Packing) (all left rest : BlockEvents) (after : Event) (stretch : Stretch) (bytes : List ℕ) → Joins
+    → SaysStretch after stretch bytes (events_to_come left) (events_to_come rest) → EndsWith mid.notes head.thread after.tsc
     → has_room mid.buffer.size (mid.buffer.events ++ stretch_events stretch.count after.cpu after.tsc bytes) ≡ true
-    → new.file ≡ mid.file → new.notes ≡ noted_to mid.notes placed.thread stretch.count stretch.last.tsc
+    → new.file ≡ mid.file → new.notes ≡ noted_to mid.notes head.thread stretch.count stretch.last.tsc
     → new.buffer ≡ record mid.buffer { events = mid.buffer.events ++ stretch_events stretch.count after.cpu after.tsc bytes }
-    → Adds placed first all left mid → Adds placed first all rest new
-adds_stretch placed first mid new all left rest after stretch bytes joins says ends room file notes buffer adds =
+    → Adds head first all left mid → Adds head first all rest new
+adds_stretch head first mid new all left rest after stretch bytes joins says ends room file notes buffer adds =
     let more = stretch_events stretch.count after.cpu after.tsc bytes in
     let done = adds.done in
-    let noted : noted_to mid.notes placed.thread stretch.count (last_counter stretch.count after.tsc bytes) ≡ new.notes =
-    sym (notes ∙ ap (noted_to mid.notes placed.thread stretch.count) (last_tsc after stretch bytes _ _ says)) in
+    let noted : noted_to mid.notes head.thread stretch.count (last_counter stretch.count after.tsc bytes) ≡ new.notes =
+    sym (notes ∙ ap (noted_to mid.notes head.thread stretch.count) (last_tsc after stretch bytes _ _ says)) in
     record {
       done = done ++ more;
       parts = adds.parts ∙ ap (λ (es : List Event). done ++ es) says.parts ∙ sym (append_assoc done more (events_to_come rest));
-      fills = fills_stretch placed first.file.items done more mid new joins adds.fills room file buffer;
+      fills = fills_stretch head first.file.items done more mid new joins adds.fills room file buffer;
       notes = λ before pid has.
-          let one = event_of placed.thread pid in
+          let one = event_of head.thread pid in
           let split : (before ++ map one done) ++ map one more ≡ before ++ map one (done ++ more) =
           append_assoc before (map one done) (map one more) ∙ ap (λ (es : List ThreadEvent). before ++ es) (sym (map-append one done more)) in
           subst (λ (es : List ThreadEvent). HasNoted es new.notes) split (subst (HasNoted ((before ++ map one done) ++ map one more)) noted
-          (stretch_noted stretch.count placed.thread pid after.cpu after.tsc bytes (before ++ map one done) mid.notes (adds.notes before pid has) ends));
+          (stretch_noted stretch.count head.thread pid after.cpu after.tsc bytes (before ++ map one done) mid.notes (adds.notes before pid has) ends));
       count = ap (λ (n : Notes). n.facts.blocks) notes ∙ adds.count;
       log = λ blocks says_log. said_again blocks mid.notes.facts new.notes.facts (subst (λ (n : Notes). SameLog mid.notes.facts n.facts) (sym notes)
           (record { blocks = refl; custom = refl; typed = refl; doubled = refl; empty = refl })) (adds.log blocks says_log);

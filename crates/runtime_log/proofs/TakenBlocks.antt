@@ -16,110 +16,89 @@ use Rattle.xray_io.specs.declared.wall.Wall.{Wall}
 use Rattle.fdr_record.specs.declared.event.Event.{Event}
 use Rattle.fdr_file.specs.declared.fault.TraceFault.{TraceFault}
 use Rattle.runtime_log.specs.declared.blocks.LogBlock.{LogBlock as Placed}
-use Rattle.runtime_log.specs.declared.blocks.Mode.{Mode}
-use Rattle.runtime_log.specs.declared.blocks.Mode.TheVariants.{Recorder, Basic}
-use Rattle.runtime_log.specs.BasicLogs.{basic_events}
+use Rattle.runtime_log.specs.declared.version.LogVersion.{LogVersion}
 use Rattle.runtime_log.specs.Logs.{LogBlock, log_block_in}
 use Rattle.runtime_log.specs.Taken.{comes_before, first_counter, first_ones, has_events, is_among, order_key}
 use Rattle.runtime_log.specs.private.Choices.{AreAt, IsAt, KeepsFirst, LiesWithin, content_at, counter_first, time_key}
-use Rattle.runtime_log.specs.private.Records.{records_in}
 use Rattle.runtime_log.proofs.BlockLists.{at_more}
 
 -- ---- the block at its places
 
--- a block of these fields
-abbrev made_of : ℕ → List ℕ → ℕ → Wall → ℕ → List Event → ℕ → ℕ → LogBlock
-made_of place content thread wall pid events custom typed =
-    record { place = place; content = content; block = record { thread = thread; wall = wall; pid = pid; events = events }; custom = custom; typed = typed }
-
--- the block of a basic log that is at these places
-abbrev basic_at : List ℕ → Placed → LogBlock
-basic_at bytes placed =
-    let content = content_at bytes Basic placed in made_of placed.begin content placed.thread placed.wall placed.pid (basic_events (records_in content)) 0 0
+-- a block that says nothing
+abbrev no_block : LogBlock
+no_block = record { place = 0; content = []; block = record { thread = 0; wall = record { secs = 0; micros = 0 }; pid = 0; events = [] }; custom = 0; typed = 0 }
 
 abbrev read_or : LogBlock → Result LogBlock TraceFault → LogBlock
 read_or other (Ok b) = b
 read_or other (Err fault) = other
 
--- the block of a log of this mode that is at these places
-abbrev pub said_at : List ℕ → Mode → Placed → LogBlock
-said_at bytes (Recorder version) placed = read_or (basic_at bytes placed) (log_block_in version (placed.begin, drop placed.begin bytes))
-said_at bytes Basic placed = basic_at bytes placed
+-- the block of a log of this version that is at these places
+abbrev pub said_at : List ℕ → LogVersion → Placed → LogBlock
+said_at bytes version placed = read_or no_block (log_block_in version (placed.begin, drop placed.begin bytes))
 
-pub said_is : (bytes : List ℕ) (mode : Mode) (placed : Placed) (b : LogBlock) → IsAt bytes mode placed b → said_at bytes mode placed ≡ b
-said_is bytes (Recorder version) placed b is =
-    ap (λ (k : ℕ). read_or (basic_at bytes placed) (log_block_in version (k, drop k bytes))) is.place ∙ ap (read_or (basic_at bytes placed)) is.said
-said_is bytes Basic placed b is =
-    let content = content_at bytes Basic placed in
-    let events : basic_events (records_in content) ≡ b.block.events = ap (λ (xs : List ℕ). basic_events (records_in xs)) is.content ∙ sym is.said.events in
-    ap (λ (k : ℕ). made_of k content placed.thread placed.wall placed.pid (basic_events (records_in content)) 0 0) is.place
-    ∙ ap (λ (xs : List ℕ). made_of b.place xs placed.thread placed.wall placed.pid (basic_events (records_in content)) 0 0) is.content
-    ∙ ap (λ (k : ℕ). made_of b.place b.content k placed.wall placed.pid (basic_events (records_in content)) 0 0) is.shows.thread
-    ∙ ap (λ (v : Wall). made_of b.place b.content b.block.thread v placed.pid (basic_events (records_in content)) 0 0) is.shows.wall
-    ∙ ap (λ (k : ℕ). made_of b.place b.content b.block.thread b.block.wall k (basic_events (records_in content)) 0 0) is.shows.pid
-    ∙ ap (λ (es : List Event). made_of b.place b.content b.block.thread b.block.wall b.block.pid es 0 0) events
-    ∙ ap (λ (k : ℕ). made_of b.place b.content b.block.thread b.block.wall b.block.pid b.block.events k 0) (sym is.said.custom)
-    ∙ ap (λ (k : ℕ). made_of b.place b.content b.block.thread b.block.wall b.block.pid b.block.events b.custom k) (sym is.said.typed)
+pub said_is : (bytes : List ℕ) (version : LogVersion) (placed : Placed) (b : LogBlock) → IsAt bytes version placed b → said_at bytes version placed ≡ b
+said_is bytes version placed b is =
+    ap (λ (k : ℕ). read_or no_block (log_block_in version (k, drop k bytes))) is.place ∙ ap (read_or no_block) is.said
 
 -- a block is at its places
-abbrev pub IsOne : List ℕ → Mode → Placed → Type 0
-IsOne bytes mode placed = IsAt bytes mode placed (said_at bytes mode placed)
+abbrev pub IsOne : List ℕ → LogVersion → Placed → Type 0
+IsOne bytes version placed = IsAt bytes version placed (said_at bytes version placed)
 
 -- so are all of them
-pub at_made : (bytes : List ℕ) (mode : Mode) (places : List Placed) (said : List LogBlock) → AreAt bytes mode places said
-    → (said ≡ map (said_at bytes mode) places) × All (IsOne bytes mode) places
-at_made bytes mode [] [] are = (refl, All-nil (IsOne bytes mode))
-at_made bytes mode [] (s ∷ said) are = absurd are
-at_made bytes mode (p ∷ places) [] are = absurd are
-at_made bytes mode (p ∷ places) (s ∷ said) are =
-    let others = at_made bytes mode places said are.1 in
-    let same = said_is bytes mode p s are.0 in (
-      ap (λ (b : LogBlock). b ∷ said) (sym same) ∙ ap (λ (bs : List LogBlock). said_at bytes mode p ∷ bs) others.0,
-      All-cons (IsOne bytes mode) p places (subst (λ (b : LogBlock). IsAt bytes mode p b) (sym same) are.0) others.1,
+pub at_made : (bytes : List ℕ) (version : LogVersion) (places : List Placed) (said : List LogBlock) → AreAt bytes version places said
+    → (said ≡ map (said_at bytes version) places) × All (IsOne bytes version) places
+at_made bytes version [] [] are = (refl, All-nil (IsOne bytes version))
+at_made bytes version [] (s ∷ said) are = absurd are
+at_made bytes version (p ∷ places) [] are = absurd are
+at_made bytes version (p ∷ places) (s ∷ said) are =
+    let others = at_made bytes version places said are.1 in
+    let same = said_is bytes version p s are.0 in (
+      ap (λ (b : LogBlock). b ∷ said) (sym same) ∙ ap (λ (bs : List LogBlock). said_at bytes version p ∷ bs) others.0,
+      All-cons (IsOne bytes version) p places (subst (λ (b : LogBlock). IsAt bytes version p b) (sym same) are.0) others.1,
     )
 
-pub made_at : (bytes : List ℕ) (mode : Mode) (places : List Placed) → All (IsOne bytes mode) places → AreAt bytes mode places (map (said_at bytes mode) places)
-made_at bytes mode [] all = tt
-made_at bytes mode (p ∷ places) all = (All-head (IsOne bytes mode) p places all, made_at bytes mode places (All-tail (IsOne bytes mode) p places all))
+pub made_at : (bytes : List ℕ) (version : LogVersion) (places : List Placed) → All (IsOne bytes version) places → AreAt bytes version places (map (said_at bytes version) places)
+made_at bytes version [] all = tt
+made_at bytes version (p ∷ places) all = (All-head (IsOne bytes version) p places all, made_at bytes version places (All-tail (IsOne bytes version) p places all))
 
-pub at_within : (bytes : List ℕ) (mode : Mode) (places : List Placed) (said : List LogBlock) → AreAt bytes mode places said → All (LiesWithin bytes mode) places
-at_within bytes mode [] [] are = All-nil (LiesWithin bytes mode)
-at_within bytes mode [] (s ∷ said) are = absurd are
-at_within bytes mode (p ∷ places) [] are = absurd are
-at_within bytes mode (p ∷ places) (s ∷ said) are = All-cons (LiesWithin bytes mode) p places are.0.within (at_within bytes mode places said are.1)
+pub at_within : (bytes : List ℕ) (version : LogVersion) (places : List Placed) (said : List LogBlock) → AreAt bytes version places said → All (LiesWithin bytes) places
+at_within bytes version [] [] are = All-nil (LiesWithin bytes)
+at_within bytes version [] (s ∷ said) are = absurd are
+at_within bytes version (p ∷ places) [] are = absurd are
+at_within bytes version (p ∷ places) (s ∷ said) are = All-cons (LiesWithin bytes) p places are.0.within (at_within bytes version places said are.1)
 
-pub at_length : (bytes : List ℕ) (mode : Mode) (places : List Placed) (said : List LogBlock) → AreAt bytes mode places said → length places ≡ length said
-at_length bytes mode [] [] are = refl
-at_length bytes mode [] (s ∷ said) are = absurd are
-at_length bytes mode (p ∷ places) [] are = absurd are
-at_length bytes mode (p ∷ places) (s ∷ said) are = ap suc (at_length bytes mode places said are.1)
+pub at_length : (bytes : List ℕ) (version : LogVersion) (places : List Placed) (said : List LogBlock) → AreAt bytes version places said → length places ≡ length said
+at_length bytes version [] [] are = refl
+at_length bytes version [] (s ∷ said) are = absurd are
+at_length bytes version (p ∷ places) [] are = absurd are
+at_length bytes version (p ∷ places) (s ∷ said) are = ap suc (at_length bytes version places said are.1)
 
 -- ---- those whose bytes come for the first time
 
 -- a block among others
-pub record Stands (bytes : List ℕ) (mode : Mode) (placed : Placed) (said : List LogBlock) (i : ℕ) : Type 0 where
+pub record Stands (bytes : List ℕ) (version : LogVersion) (placed : Placed) (said : List LogBlock) (i : ℕ) : Type 0 where
   pub b : LogBlock
-  pub is : IsAt bytes mode placed b
+  pub is : IsAt bytes version placed b
   pub rest : drop i said ≡ b ∷ drop (i + 1) said
 
-pub at_index : (bytes : List ℕ) (mode : Mode) (places : List Placed) (said : List LogBlock) (i : ℕ) (d : Placed) → AreAt bytes mode places said → i < length places
-    → Stands bytes mode (get_or places i d) said i
-at_index bytes mode [] said i d are within = absurd (omega arith)
-at_index bytes mode (p ∷ places) [] i d are within = absurd are
-at_index bytes mode (p ∷ places) (s ∷ said) zero d are within = record { b = s; is = are.0; rest = refl }
-at_index bytes mode (p ∷ places) (s ∷ said) (suc i) d are within =
-    let there = at_index bytes mode places said i d are.1 (omega arith) in
+pub at_index : (bytes : List ℕ) (version : LogVersion) (places : List Placed) (said : List LogBlock) (i : ℕ) (d : Placed) → AreAt bytes version places said → i < length places
+    → Stands bytes version (get_or places i d) said i
+at_index bytes version [] said i d are within = absurd (omega arith)
+at_index bytes version (p ∷ places) [] i d are within = absurd are
+at_index bytes version (p ∷ places) (s ∷ said) zero d are within = record { b = s; is = are.0; rest = refl }
+at_index bytes version (p ∷ places) (s ∷ said) (suc i) d are within =
+    let there = at_index bytes version places said i d are.1 (omega arith) in
     let next : suc (i + 1) ≡ suc i + 1 = omega arith in
     record { b = there.b; is = there.is; rest = there.rest ∙ ap (λ (k : ℕ). there.b ∷ drop k (s ∷ said)) next }
 
 -- a block whose bytes were there before
-pub keeps_doubled : (bytes : List ℕ) (mode : Mode) (said : List LogBlock) (i : ℕ) (kept : List Placed) (seen more : List (List ℕ)) (placed : Placed)
-    → KeepsFirst bytes mode said i kept seen → Stands bytes mode placed said i → is_among seen (content_at bytes mode placed) ≡ true
-    → ((q : List ℕ) → is_among more q ≡ (bytes_eq q (content_at bytes mode placed) || is_among seen q)) → KeepsFirst bytes mode said (i + 1) kept more
-keeps_doubled bytes mode said i kept seen more placed k there among adds =
+pub keeps_doubled : (bytes : List ℕ) (version : LogVersion) (said : List LogBlock) (i : ℕ) (kept : List Placed) (seen more : List (List ℕ)) (placed : Placed)
+    → KeepsFirst bytes version said i kept seen → Stands bytes version placed said i → is_among seen (content_at bytes placed) ≡ true
+    → ((q : List ℕ) → is_among more q ≡ (bytes_eq q (content_at bytes placed) || is_among seen q)) → KeepsFirst bytes version said (i + 1) kept more
+keeps_doubled bytes version said i kept seen more placed k there among adds =
     let content = there.b.content in
     let later = drop (i + 1) said in
-    let doubled : is_among k.before content ≡ true = ap (is_among k.before) (sym there.is.content) ∙ sym (k.among (content_at bytes mode placed)) ∙ among in
+    let doubled : is_among k.before content ≡ true = ap (is_among k.before) (sym there.is.content) ∙ sym (k.among (content_at bytes placed)) ∙ among in
     record {
       done = k.done;
       before = content ∷ k.before;
@@ -131,17 +110,17 @@ keeps_doubled bytes mode said i kept seen more placed k there among adds =
     }
 
 -- one with bytes of its own
-pub keeps_own : (bytes : List ℕ) (mode : Mode) (said : List LogBlock) (i : ℕ) (kept : List Placed) (seen more : List (List ℕ)) (placed : Placed)
-    → KeepsFirst bytes mode said i kept seen → Stands bytes mode placed said i → is_among seen (content_at bytes mode placed) ≡ false
-    → ((q : List ℕ) → is_among more q ≡ (bytes_eq q (content_at bytes mode placed) || is_among seen q)) → KeepsFirst bytes mode said (i + 1) (kept ++ placed ∷ []) more
-keeps_own bytes mode said i kept seen more placed k there among adds =
+pub keeps_own : (bytes : List ℕ) (version : LogVersion) (said : List LogBlock) (i : ℕ) (kept : List Placed) (seen more : List (List ℕ)) (placed : Placed)
+    → KeepsFirst bytes version said i kept seen → Stands bytes version placed said i → is_among seen (content_at bytes placed) ≡ false
+    → ((q : List ℕ) → is_among more q ≡ (bytes_eq q (content_at bytes placed) || is_among seen q)) → KeepsFirst bytes version said (i + 1) (kept ++ placed ∷ []) more
+keeps_own bytes version said i kept seen more placed k there among adds =
     let content = there.b.content in
     let later = drop (i + 1) said in
-    let own : is_among k.before content ≡ false = ap (is_among k.before) (sym there.is.content) ∙ sym (k.among (content_at bytes mode placed)) ∙ among in
+    let own : is_among k.before content ≡ false = ap (is_among k.before) (sym there.is.content) ∙ sym (k.among (content_at bytes placed)) ∙ among in
     record {
       done = k.done ++ there.b ∷ [];
       before = content ∷ k.before;
-      at = at_more bytes mode kept k.done placed there.b k.at there.is;
+      at = at_more bytes version kept k.done placed there.b k.at there.is;
       parts =
           k.parts ∙ ap (λ (bs : List LogBlock). k.done ++ first_ones k.before bs) there.rest
           ∙ ap (λ (b : Bool). k.done ++ cond b (first_ones (content ∷ k.before) later) (there.b ∷ first_ones (content ∷ k.before) later)) own
@@ -152,22 +131,22 @@ keeps_own bytes mode said i kept seen more placed k there among adds =
 -- ---- those with events
 
 -- a block has events if its first counter is known
-pub shows_events : (bytes : List ℕ) (mode : Mode) (placed : Placed) (b : LogBlock) → IsAt bytes mode placed b → is_some placed.first ≡ has_events b
-shows_events bytes mode placed b is = ap is_some is.shows.first ∙ by_events b.block.events
+pub shows_events : (bytes : List ℕ) (version : LogVersion) (placed : Placed) (b : LogBlock) → IsAt bytes version placed b → is_some placed.first ≡ has_events b
+shows_events bytes version placed b is = ap is_some is.shows.first ∙ by_events b.block.events
   where
     by_events : (events : List Event) → is_some (counter_first events) ≡ nat_lt 0 (length events)
     by_events [] = refl
     by_events (event ∷ events) = sym (lt-ltb 0 (length (event ∷ events)) (omega arith))
 
-pub at_filter : (bytes : List ℕ) (mode : Mode) (places : List Placed) (said : List LogBlock) → AreAt bytes mode places said
-    → AreAt bytes mode (filter (λ p. is_some p.first) places) (filter has_events said)
-at_filter bytes mode [] [] are = tt
-at_filter bytes mode [] (s ∷ said) are = absurd are
-at_filter bytes mode (p ∷ places) [] are = absurd are
-at_filter bytes mode (p ∷ places) (s ∷ said) are = by_test (at_filter bytes mode places said are.1) (is_some p.first) (has_events s) (shows_events bytes mode p s are.0)
+pub at_filter : (bytes : List ℕ) (version : LogVersion) (places : List Placed) (said : List LogBlock) → AreAt bytes version places said
+    → AreAt bytes version (filter (λ p. is_some p.first) places) (filter has_events said)
+at_filter bytes version [] [] are = tt
+at_filter bytes version [] (s ∷ said) are = absurd are
+at_filter bytes version (p ∷ places) [] are = absurd are
+at_filter bytes version (p ∷ places) (s ∷ said) are = by_test (at_filter bytes version places said are.1) (is_some p.first) (has_events s) (shows_events bytes version p s are.0)
   where
-    by_test : AreAt bytes mode (filter (λ q. is_some q.first) places) (filter has_events said) → (one other : Bool) → one ≡ other
-        → AreAt bytes mode (cond one (p ∷ filter (λ q. is_some q.first) places) (filter (λ q. is_some q.first) places)) (cond other (s ∷ filter has_events said) (filter has_events said))
+    by_test : AreAt bytes version (filter (λ q. is_some q.first) places) (filter has_events said) → (one other : Bool) → one ≡ other
+        → AreAt bytes version (cond one (p ∷ filter (λ q. is_some q.first) places) (filter (λ q. is_some q.first) places)) (cond other (s ∷ filter has_events said) (filter has_events said))
     by_test rest true true same = (are.0, rest)
     by_test rest false false same = rest
     by_test rest true false same = absurd cc
@@ -188,8 +167,8 @@ empty_count blocks =
 -- ---- in order
 
 -- where a block stands in the order is known by its places
-pub key_is : (bytes : List ℕ) (mode : Mode) (placed : Placed) (b : LogBlock) → IsAt bytes mode placed b → order_key b ≡ time_key placed
-key_is bytes mode placed b is =
+pub key_is : (bytes : List ℕ) (version : LogVersion) (placed : Placed) (b : LogBlock) → IsAt bytes version placed b → order_key b ≡ time_key placed
+key_is bytes version placed b is =
     let key : ℕ → ℕ → ℕ → ℕ → ℕ → List ℕ = λ thread secs micros first place. thread ∷ secs ∷ micros ∷ first ∷ place ∷ [] in
     let first : unwrap_or placed.first 0 ≡ first_counter b.block.events = ap (λ (o : Option ℕ). unwrap_or o 0) is.shows.first ∙ by_events b.block.events in
     sym (ap (λ (n : ℕ). key n placed.wall.secs placed.wall.micros (unwrap_or placed.first 0) placed.begin) is.shows.thread
@@ -206,17 +185,17 @@ abbrev pub is_earlier : Placed → Placed → Bool
 is_earlier one other = is_lt (slice_cmp nat_cmp (time_key one) (time_key other))
 
 -- places in order are those of blocks in order
-pub sorted_said : (bytes : List ℕ) (mode : Mode) (places : List Placed) → All (IsOne bytes mode) places → IsSortedBy is_earlier places → IsSortedBy comes_before (map (said_at bytes mode) places)
-sorted_said bytes mode [] all sorted = λ k d low high. absurd (omega (arith, high))
-sorted_said bytes mode (p ∷ places) all sorted = λ k d low high.
-    let f = said_at bytes mode in
+pub sorted_said : (bytes : List ℕ) (version : LogVersion) (places : List Placed) → All (IsOne bytes version) places → IsSortedBy is_earlier places → IsSortedBy comes_before (map (said_at bytes version) places)
+sorted_said bytes version [] all sorted = λ k d low high. absurd (omega (arith, high))
+sorted_said bytes version (p ∷ places) all sorted = λ k d low high.
+    let f = said_at bytes version in
     let long : length (map f (p ∷ places)) ≡ length (p ∷ places) = length-map (p ∷ places) f in
     let one = get_or (p ∷ places) k p in
     let next = get_or (p ∷ places) (k + 1) p in
     let one_is : get_or (map f (p ∷ places)) k d ≡ f one = get_or-map f (p ∷ places) k p d (omega (arith, high, long)) in
     let next_is : get_or (map f (p ∷ places)) (k + 1) d ≡ f next = get_or-map f (p ∷ places) (k + 1) p d (omega (arith, high, long)) in
-    let one_key = key_is bytes mode one (f one) (All-get_or (IsOne bytes mode) (p ∷ places) k p (omega (arith, high, long)) all) in
-    let next_key = key_is bytes mode next (f next) (All-get_or (IsOne bytes mode) (p ∷ places) (k + 1) p (omega (arith, high, long)) all) in
+    let one_key = key_is bytes version one (f one) (All-get_or (IsOne bytes version) (p ∷ places) k p (omega (arith, high, long)) all) in
+    let next_key = key_is bytes version next (f next) (All-get_or (IsOne bytes version) (p ∷ places) (k + 1) p (omega (arith, high, long)) all) in
     ap (λ (b : LogBlock). comes_before b (get_or (map f (p ∷ places)) k d)) next_is
     ∙ ap (λ (b : LogBlock). comes_before (f next) b) one_is
     ∙ ap (λ (xs : List ℕ). is_lt (slice_cmp nat_cmp xs (order_key (f one)))) next_key
@@ -224,20 +203,20 @@ sorted_said bytes mode (p ∷ places) all sorted = λ k d low high.
     ∙ sorted k p low (omega (arith, high, long))
 
 -- the blocks that are taken
-pub record OrderedAt (bytes : List ℕ) (mode : Mode) (said : List LogBlock) (places : List Placed) : Type 0 where
+pub record OrderedAt (bytes : List ℕ) (version : LogVersion) (said : List LogBlock) (places : List Placed) : Type 0 where
   pub taken : List LogBlock
   pub all : IsPermutation said taken
   pub sorted : IsSortedBy comes_before taken
-  pub at : AreAt bytes mode places taken
+  pub at : AreAt bytes version places taken
 
-pub at_ordered : (bytes : List ℕ) (mode : Mode) (places ordered : List Placed) (said : List LogBlock) → AreAt bytes mode places said → IsPermutation places ordered → IsSortedBy is_earlier ordered
-    → OrderedAt bytes mode said ordered
-at_ordered bytes mode places ordered said are moved sorted =
-    let f = said_at bytes mode in
-    let m = at_made bytes mode places said are in
-    let all = All-permutation (IsOne bytes mode) places ordered moved m.1 in record {
+pub at_ordered : (bytes : List ℕ) (version : LogVersion) (places ordered : List Placed) (said : List LogBlock) → AreAt bytes version places said → IsPermutation places ordered → IsSortedBy is_earlier ordered
+    → OrderedAt bytes version said ordered
+at_ordered bytes version places ordered said are moved sorted =
+    let f = said_at bytes version in
+    let m = at_made bytes version places said are in
+    let all = All-permutation (IsOne bytes version) places ordered moved m.1 in record {
       taken = map f ordered;
       all = subst (λ (bs : List LogBlock). IsPermutation bs (map f ordered)) (sym m.0) (IsPermutation-map f places ordered moved);
-      sorted = sorted_said bytes mode ordered all sorted;
-      at = made_at bytes mode ordered all;
+      sorted = sorted_said bytes version ordered all sorted;
+      at = made_at bytes version ordered all;
     }

@@ -41,7 +41,7 @@ use Rattle.runtime_log.proofs.BlockLists.{Onward, block_first, block_sized, size
 use Rattle.runtime_log.proofs.BlockReading.{block_is}
 use Rattle.runtime_log.proofs.RecordCuts.{extents_long, long_as, not_own, record_as, record_cut, record_short}
 use Rattle.runtime_log.proofs.RecordWalk.{places_first, record_some, rows_none, so_with, starts_first, starts_none}
-use Rattle.runtime_log.proofs.WholeLogs.{log_read}
+use Rattle.runtime_log.proofs.WholeLogs.{recorder_read}
 
 -- ---- the reading of a trace
 
@@ -520,6 +520,7 @@ pub record LogOfTrace (bytes : List ℕ) (trace : Trace) : Type 0 where
   pub says : logged bytes ≡ Ok log
   pub blocks : recorder_blocks Three bytes ≡ Ok log.blocks
   pub said : said_of log ≡ trace
+  pub none : log.events ≡ []
 
 pub log_of_trace : ((xs : List ℕ) → trace_of xs ≡ scanned_ends (length xs) (header_in xs) (scanned xs)) → (bytes : List ℕ) (trace : Trace) → trace_of bytes ≡ Ok trace → trace.header.version ≡ 3
     → LogOfTrace bytes trace
@@ -528,12 +529,13 @@ log_of_trace by_records bytes trace reads three =
     let number : version_in bytes ≡ 3 = ap (λ (h : Header). h.version) (sym t.header) ∙ three in
     let f = blocks_follow (length (drop 32 bytes)) 32 (drop 32 bytes) [] trace.blocks [] (omega arith) t.ends in
     let header : recorder_header bytes ≡ trace.header = ap (λ (n : ℕ). let h : Header = record (header_in bytes) { version = n } in h) (sym number) ∙ sym t.header in record {
-      log = record { header = recorder_header bytes; blocks = f.more };
-      says = log_read bytes (Recorder Three) f.more (trace_mode bytes t.version number) (ap as_log f.reads);
+      log = record { header = recorder_header bytes; blocks = f.more; events = [] };
+      says = recorder_read bytes Three f.more (trace_mode bytes t.version number) (ap as_log f.reads);
       blocks = f.reads;
       said =
           ap (λ (h : Header). let x : Trace = record { header = h; blocks = map (λ (b : LogBlock). b.block) f.more } in x) header
           ∙ ap (λ (bs : List Block). let x : Trace = record { header = trace.header; blocks = bs } in x) (sym f.told);
+      none = refl;
     }
 
 pub trace_is_log : ((xs : List ℕ) → trace_of xs ≡ scanned_ends (length xs) (header_in xs) (scanned xs)) → TracesAreLogs

@@ -1,28 +1,30 @@
 -- A log and its parts: its mode, its header and its blocks.
-use Rattle.std.proofs.Common.{◌≡◌, ℕ, ◌≤◌, Bool, true, false, eqb, ltb, List, length, Option, Some, None, Result, Ok, Err, refl, sym, ap, ◌∙◌}
+use Rattle.std.proofs.Common.{◌≡◌, ℕ, ◌≤◌, Bool, true, false, eqb, ltb, List, [], length, Option, Some, None, Result, Ok, Err, refl, sym, ap, ◌∙◌}
 use Rattle.std.specs.Prelude.{not}
 use Rattle.std.proofs.lemmas.Bool.{ltb-false}
 use Rattle.xray_io.specs.Rows.{First, NeedsPart, ◌>>=◌}
 use Rattle.fdr_file.specs.declared.fault.TraceFault.{TraceFault}
 use Rattle.fdr_file.specs.declared.fault.TraceFault.TheVariants as traces
 use Rattle.fdr_file.specs.Traces.{type_in, version_in}
+use Rattle.runtime_log.specs.declared.basic.BasicRec.{BasicRec}
 use Rattle.runtime_log.specs.declared.blocks.Mode.{Mode}
 use Rattle.runtime_log.specs.declared.blocks.Mode.TheVariants.{Recorder, Basic}
 use Rattle.runtime_log.specs.declared.fault.LogFault.{LogFault}
 use Rattle.runtime_log.specs.declared.fault.LogFault.TheVariants as faults
 use Rattle.runtime_log.specs.declared.version.LogVersion.{LogVersion}
-use Rattle.runtime_log.specs.Logs.{BlockSoFar, Log, LogBlock, as_log, basic_blocks, block_content, block_said, block_size_rows, content_rows, log_block_in, logged, recorder_blocks, typed_rows}
+use Rattle.runtime_log.specs.Logs.{BlockSoFar, Log, LogBlock, as_log, basic_header, basic_log, block_content, block_said, block_size_rows, content_rows, log_block_in, logged, recorder_blocks, recorder_header, recorder_log, typed_rows}
+use Rattle.runtime_log.specs.BasicLogs.{basic_records, recorded_events}
 use Rattle.runtime_log.specs.Versions.{log_version_of}
 use Rattle.runtime_log.specs.private.Headers.{header_for, mode_of}
-use Rattle.runtime_log.specs.private.Readings.{blocks_said}
 
--- a log of these blocks
-abbrev log_with : Mode → List ℕ → Result (List LogBlock) LogFault → Result Log LogFault
-log_with mode bytes said = said >>= λ blocks. Ok (record { header = header_for mode bytes; blocks = blocks })
+-- the log of this mode that bytes are
+abbrev log_of : Mode → List ℕ → Result Log LogFault
+log_of (Recorder version) bytes = recorder_log version bytes
+log_of Basic bytes = basic_log bytes
 
 -- the log of bytes that have this mode
 abbrev log_by : List ℕ → Result Mode TraceFault → Result Log LogFault
-log_by bytes (Ok mode) = log_with mode bytes (blocks_said mode bytes)
+log_by bytes (Ok mode) = log_of mode bytes
 log_by bytes (Err fault) = Err (faults.Trace fault)
 
 -- a row of both tables
@@ -47,28 +49,47 @@ logged_is bytes =
         ≡ log_by bytes (NeedsPart o (Err (traces.Version (version_in bytes))) λ version. typed_mode version)
     by_version None = refl
     by_version (Some version) =
-        row_is bytes (eqb (type_in bytes) 1) (log_with (Recorder version) bytes (as_log (recorder_blocks version bytes)))
+        row_is bytes (eqb (type_in bytes) 1) (recorder_log version bytes)
         (First (not (eqb (type_in bytes) 0)) (Err (faults.Trace (traces.Form (type_in bytes))))
-        (First (not (eqb (version_in bytes) 3)) (Err (faults.Trace (traces.Version (version_in bytes)))) (log_with Basic bytes (basic_blocks bytes))))
+        (First (not (eqb (version_in bytes) 3)) (Err (faults.Trace (traces.Version (version_in bytes)))) (basic_log bytes)))
         (Ok (Recorder version))
         (First (not (eqb (type_in bytes) 0)) (Err (traces.Form (type_in bytes))) (First (not (eqb (version_in bytes) 3)) (Err (traces.Version (version_in bytes))) (Ok Basic)))
         refl
         (row_is bytes (not (eqb (type_in bytes) 0)) (Err (faults.Trace (traces.Form (type_in bytes))))
-        (First (not (eqb (version_in bytes) 3)) (Err (faults.Trace (traces.Version (version_in bytes)))) (log_with Basic bytes (basic_blocks bytes)))
+        (First (not (eqb (version_in bytes) 3)) (Err (faults.Trace (traces.Version (version_in bytes)))) (basic_log bytes))
         (Err (traces.Form (type_in bytes))) (First (not (eqb (version_in bytes) 3)) (Err (traces.Version (version_in bytes))) (Ok Basic)) refl
-        (row_is bytes (not (eqb (version_in bytes) 3)) (Err (faults.Trace (traces.Version (version_in bytes)))) (log_with Basic bytes (basic_blocks bytes)) (Err (traces.Version (version_in bytes))) (Ok Basic) refl refl))
+        (row_is bytes (not (eqb (version_in bytes) 3)) (Err (faults.Trace (traces.Version (version_in bytes)))) (basic_log bytes) (Err (traces.Version (version_in bytes))) (Ok Basic) refl refl))
 
 -- ---- what is refused, and what is read
 
 pub log_headless : (bytes : List ℕ) (fault : TraceFault) → mode_of bytes ≡ Err fault → logged bytes ≡ Err (faults.Trace fault)
 log_headless bytes fault e = logged_is bytes ∙ ap (log_by bytes) e
 
-pub log_refused : (bytes : List ℕ) (mode : Mode) (fault : LogFault) → mode_of bytes ≡ Ok mode → blocks_said mode bytes ≡ Err fault → logged bytes ≡ Err fault
-log_refused bytes mode fault e f = logged_is bytes ∙ ap (log_by bytes) e ∙ ap (log_with mode bytes) f
+recorder_is : (bytes : List ℕ) (version : LogVersion) (said : Result (List LogBlock) LogFault) → mode_of bytes ≡ Ok (Recorder version) → as_log (recorder_blocks version bytes) ≡ said
+    → logged bytes ≡ (said >>= λ blocks. Ok (record { header = recorder_header bytes; blocks = blocks; events = [] }))
+recorder_is bytes version said e f =
+    logged_is bytes ∙ ap (log_by bytes) e
+    ∙ ap (λ (x : Result (List LogBlock) LogFault). x >>= λ blocks. Ok (record { header = recorder_header bytes; blocks = blocks; events = [] })) f
 
-pub log_read : (bytes : List ℕ) (mode : Mode) (said : List LogBlock) → mode_of bytes ≡ Ok mode → blocks_said mode bytes ≡ Ok said
-    → logged bytes ≡ Ok (record { header = header_for mode bytes; blocks = said })
-log_read bytes mode said e f = logged_is bytes ∙ ap (log_by bytes) e ∙ ap (log_with mode bytes) f
+pub recorder_refused : (bytes : List ℕ) (version : LogVersion) (fault : LogFault) → mode_of bytes ≡ Ok (Recorder version) → as_log (recorder_blocks version bytes) ≡ Err fault → logged bytes ≡ Err fault
+recorder_refused bytes version fault e f = recorder_is bytes version (Err fault) e f
+
+pub recorder_read : (bytes : List ℕ) (version : LogVersion) (said : List LogBlock) → mode_of bytes ≡ Ok (Recorder version) → as_log (recorder_blocks version bytes) ≡ Ok said
+    → logged bytes ≡ Ok (record { header = recorder_header bytes; blocks = said; events = [] })
+recorder_read bytes version said e f = recorder_is bytes version (Ok said) e f
+
+basic_is : (bytes : List ℕ) (said : Result (List BasicRec) LogFault) → mode_of bytes ≡ Ok Basic → basic_records bytes ≡ said
+    → logged bytes ≡ (said >>= λ records. Ok (record { header = basic_header bytes; blocks = []; events = recorded_events records }))
+basic_is bytes said e f =
+    logged_is bytes ∙ ap (log_by bytes) e
+    ∙ ap (λ (x : Result (List BasicRec) LogFault). x >>= λ records. Ok (record { header = basic_header bytes; blocks = []; events = recorded_events records })) f
+
+pub basic_refused : (bytes : List ℕ) (fault : LogFault) → mode_of bytes ≡ Ok Basic → basic_records bytes ≡ Err fault → logged bytes ≡ Err fault
+basic_refused bytes fault e f = basic_is bytes (Err fault) e f
+
+pub basic_read : (bytes : List ℕ) (records : List BasicRec) → mode_of bytes ≡ Ok Basic → basic_records bytes ≡ Ok records
+    → logged bytes ≡ Ok (record { header = basic_header bytes; blocks = []; events = recorded_events records })
+basic_read bytes records e f = basic_is bytes (Ok records) e f
 
 -- a log has a whole header
 pub log_whole : (bytes : List ℕ) (mode : Mode) → mode_of bytes ≡ Ok mode → 32 ≤ length bytes
@@ -80,27 +101,45 @@ log_whole bytes mode e = by_short (ltb (length bytes) 32) refl
 
 -- ---- the parts of a log
 
+-- what a log of this mode has
+abbrev pub HasParts : Mode → List ℕ → Log → Type 0
+HasParts (Recorder version) bytes log = (as_log (recorder_blocks version bytes) ≡ Ok log.blocks) × (log.events ≡ [])
+HasParts Basic bytes log = (log.blocks ≡ []) × ((records : List BasicRec) × (basic_records bytes ≡ Ok records) × (log.events ≡ recorded_events records))
+
 pub record LogParts (bytes : List ℕ) (log : Log) : Type 0 where
   pub mode : Mode
   pub headed : mode_of bytes ≡ Ok mode
   pub header : log.header ≡ header_for mode bytes
-  pub blocks : blocks_said mode bytes ≡ Ok log.blocks
+  pub has : HasParts mode bytes log
 
 pub log_parts : (bytes : List ℕ) (log : Log) → logged bytes ≡ Ok log → LogParts bytes log
 log_parts bytes log is = by_mode (mode_of bytes) refl (sym (logged_is bytes) ∙ is)
   where
-    by_blocks : (mode : Mode) → mode_of bytes ≡ Ok mode → (said : Result (List LogBlock) LogFault) → blocks_said mode bytes ≡ said → log_with mode bytes said ≡ Ok log → LogParts bytes log
-    by_blocks mode e (Ok said) f h =
-        let same : record { header = header_for mode bytes; blocks = said } ≡ log = cc in record {
-          mode = mode;
+    by_blocks : (version : LogVersion) → mode_of bytes ≡ Ok (Recorder version) → (said : Result (List LogBlock) LogFault) → as_log (recorder_blocks version bytes) ≡ said
+        → (said >>= λ blocks. Ok (record { header = recorder_header bytes; blocks = blocks; events = [] })) ≡ Ok log → LogParts bytes log
+    by_blocks version e (Ok said) f h =
+        let same : record { header = recorder_header bytes; blocks = said; events = [] } ≡ log = cc in record {
+          mode = Recorder version;
           headed = e;
           header = ap (λ (l : Log). l.header) (sym same);
-          blocks = f ∙ ap (λ (l : Log). let x : Result (List LogBlock) LogFault = Ok l.blocks in x) same;
+          has = (f ∙ ap (λ (l : Log). let x : Result (List LogBlock) LogFault = Ok l.blocks in x) same, ap (λ (l : Log). l.events) (sym same));
         }
-    by_blocks mode e (Err fault) f h = absurd cc
+    by_blocks version e (Err fault) f h = absurd cc
+
+    by_records : mode_of bytes ≡ Ok Basic → (said : Result (List BasicRec) LogFault) → basic_records bytes ≡ said
+        → (said >>= λ records. Ok (record { header = basic_header bytes; blocks = []; events = recorded_events records })) ≡ Ok log → LogParts bytes log
+    by_records e (Ok records) f h =
+        let same : record { header = basic_header bytes; blocks = []; events = recorded_events records } ≡ log = cc in record {
+          mode = Basic;
+          headed = e;
+          header = ap (λ (l : Log). l.header) (sym same);
+          has = (ap (λ (l : Log). l.blocks) (sym same), (records, f, ap (λ (l : Log). l.events) (sym same)));
+        }
+    by_records e (Err fault) f h = absurd cc
 
     by_mode : (m : Result Mode TraceFault) → mode_of bytes ≡ m → log_by bytes m ≡ Ok log → LogParts bytes log
-    by_mode (Ok mode) e h = by_blocks mode e (blocks_said mode bytes) refl h
+    by_mode (Ok (Recorder version)) e h = by_blocks version e (as_log (recorder_blocks version bytes)) refl h
+    by_mode (Ok Basic) e h = by_records e (basic_records bytes) refl h
     by_mode (Err fault) e h = absurd cc
 
 -- ---- the parts of a block

@@ -3,11 +3,12 @@
 use Rattle.std.specs.Prelude.{ℕ, ◌^◌, ◌==◌, ◌&&◌, not, Bool, true, false, List, [], ◌∷◌, ◌++◌, length, drop, take, nat_lt, Option, Some, None, Result, Ok, Err, if◌then◌else◌}
 use Rattle.std.specs.Option.{option_map_or}
 use Rattle.byteorder.specs.Endian.{little_number}
-use Rattle.xray_io.specs.Rows.{First, NeedsPart, ◌>>=◌}
+use Rattle.xray_io.specs.Rows.{First, InTurn, NeedsPart, ◌>>=◌}
 pub use Rattle.basic_record.specs.BasicRecords.{basic_length, event_in, func_in, kind_byte, kind_numbered, pid_in, tag_in, thread_in}
 use Rattle.fdr_record.specs.declared.event.Event.{Event}
 use Rattle.fdr_record.specs.declared.event.Kind.{Kind}
 use Rattle.fdr_file.specs.Places.{starts}
+use Rattle.fdr_file.specs.ThreadEvents.{ThreadEvent}
 use Rattle.fdr_file.specs.Traces.{logs_arg}
 use Rattle.fdr_file.specs.declared.fault.TraceFault.TheVariants as traces
 use Rattle.runtime_log.specs.declared.basic.BasicRec.{BasicRec}
@@ -65,51 +66,29 @@ abbrev pub may_follow : Option BasicRec → BasicRec → Bool
 may_follow before (Passed owner event) = true
 may_follow before (Argument owner func value) = option_map_or (λ r. takes_argument r owner func) before false
 
--- ---- runs of records
+-- ---- the records of a log
 
--- Records of one thread and one process, one behind the other: the place of the first, their bytes, and what they say.
-pub record BasicRun : Type 0 where
-  pub place : ℕ
-  pub content : List ℕ
-  pub owner : Owner
-  pub records : List BasicRec
+-- the last of records, if there is one
+abbrev pub last_record : List BasicRec → Option BasicRec
+last_record [] = None
+last_record (r ∷ []) = Some r
+last_record (r ∷ next ∷ records) = last_record (next ∷ records)
 
--- a run of one record
-abbrev pub single_run : ℕ × List ℕ → BasicRec → BasicRun
-single_run (at, bytes) r = record { place = at; content = take basic_length bytes; owner = owner_of r; records = r ∷ [] }
-
--- a run that goes on with a record
-abbrev pub longer_run : BasicRun → ℕ × List ℕ → BasicRec → BasicRun
-longer_run run (at, bytes) r = record run { content = run.content ++ take basic_length bytes; records = run.records ++ r ∷ [] }
-
--- Runs, and a record after them. It goes on with the last of them if it is of the same thread and process, and otherwise
--- begins one.
-abbrev pub runs_with : List BasicRun → ℕ × List ℕ → BasicRec → List BasicRun
-runs_with [] start r = single_run start r ∷ []
-runs_with (run ∷ []) start r =
-    if same_owner run.owner (owner_of r) then longer_run run start r ∷ [] else run ∷ single_run start r ∷ []
-runs_with (run ∷ other ∷ runs) start r = run ∷ runs_with (other ∷ runs) start r
-
--- the records so far: their runs, and the last of them
-pub record BasicSoFar : Type 0 where
-  pub runs : List BasicRun
-  pub last : Option BasicRec
-
-abbrev pub no_records : BasicSoFar
-no_records = record { runs = []; last = None }
-
--- the same, with the record at a place
-abbrev pub basic_rows : BasicSoFar → ℕ × List ℕ → Result BasicSoFar LogFault
-basic_rows so (at, bytes) =
+-- the records so far, and the one at a place, if it may stand behind them
+abbrev pub basic_rows : List BasicRec → ℕ × List ℕ → Result (List BasicRec) LogFault
+basic_rows before (at, bytes) =
     tagged_rows at (take basic_length bytes) >>= λ r.
-    First (not (may_follow so.last r)) (Err (faults.Trace (traces.Order at)))
-    (Ok (record { runs = runs_with so.runs (at, bytes) r; last = Some r }))
+    First (not (may_follow (last_record before) r)) (Err (faults.Trace (traces.Order at))) (Ok (before ++ r ∷ []))
 
 -- each place where a record begins, with the bytes from there on
 abbrev pub basic_places : ℕ → List ℕ → List (ℕ × List ℕ)
 basic_places at bytes = starts (λ rest. basic_length) 0 at bytes
 
--- ---- the events of records, in order
+-- the records of a basic log, in its order
+abbrev pub basic_records : List ℕ → Result (List BasicRec) LogFault
+basic_records bytes = InTurn basic_rows [] (basic_places 32 (drop 32 bytes))
+
+-- ---- the events of records
 
 -- the event of a passing that logs its argument, with the argument that the record behind it says, if it does
 abbrev pub with_argument : Event → List BasicRec → Event
@@ -117,7 +96,9 @@ with_argument event [] = event
 with_argument event (Passed owner other ∷ later) = event
 with_argument event (Argument owner func value ∷ later) = if logs_arg event.kind then record event { arg = value } else event
 
-abbrev pub basic_events : List BasicRec → List Event
-basic_events [] = []
-basic_events (Passed owner event ∷ later) = with_argument event later ∷ basic_events later
-basic_events (Argument owner func value ∷ later) = basic_events later
+-- the events of records, in their order, each with its thread and its process
+abbrev pub recorded_events : List BasicRec → List ThreadEvent
+recorded_events [] = []
+recorded_events (Passed owner event ∷ later) =
+    record { thread = owner.thread; pid = owner.pid; event = with_argument event later } ∷ recorded_events later
+recorded_events (Argument owner func value ∷ later) = recorded_events later

@@ -4,6 +4,7 @@ use Rattle.std.specs.Option.{option_map_or}
 use Rattle.xray_io.specs.Piece.{right_aligned}
 use Rattle.fdr_file.specs.ThreadEvents.{ThreadEvent, thread_events}
 use Rattle.fdr_file.specs.Traces.{logs_arg}
+use Rattle.fdr_file.specs.declared.trace.Block.{Block}
 use Rattle.runtime_log.specs.declared.facts.Facts.{Facts}
 use Rattle.runtime_log.specs.Logs.{LogBlock}
 use Rattle.runtime_log.specs.Taken.{undoubled}
@@ -33,14 +34,10 @@ abbrev pub greatest_of : List ℕ → Option ℕ
 greatest_of [] = None
 greatest_of (n ∷ ns) = Some (option_map_or (max n) (greatest_of ns) n)
 
--- the events of blocks, in order
-abbrev pub taken_events : List LogBlock → List ThreadEvent
-taken_events taken = thread_events (map (λ b. b.block) taken)
-
--- The facts of the blocks of a log, of which these are taken. They are in the order of their threads.
-abbrev pub facts_of : (blocks taken : List LogBlock) → Facts
+-- The facts of what was taken, of a log with these blocks in its pool. What was taken is in the order of threads.
+abbrev pub facts_of : (blocks : List LogBlock) → (taken : List Block) → Facts
 facts_of blocks taken =
-    let events = taken_events taken in
+    let events = thread_events taken in
     let counters = map (λ e. e.event.tsc) events in record {
       blocks = length taken;
       threads = different (map (λ e. e.thread) events);

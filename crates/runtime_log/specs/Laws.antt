@@ -8,11 +8,15 @@ use Rattle.fdr_buffer.specs.Filled.{Filled, has_event, used_bytes}
 use Rattle.fdr_file.specs.declared.header.Header.{Header}
 use Rattle.fdr_file.specs.declared.trace.Trace.{Trace}
 use Rattle.fdr_file.specs.Files.{BlockFits, HeaderFits, file_bytes}
-use Rattle.fdr_file.specs.Traces.{trace_of}
+use Rattle.fdr_file.specs.ThreadEvents.{thread_events}
+use Rattle.fdr_file.specs.Traces.{trace_of, type_in}
+use Rattle.runtime_log.specs.declared.basic.BasicRec.{BasicRec}
 use Rattle.runtime_log.specs.declared.facts.Facts.{Facts}
+use Rattle.runtime_log.specs.BasicLogs.{basic_records, recorded_events}
 use Rattle.runtime_log.specs.Imports.{IsImport, trace_taken}
 use Rattle.runtime_log.specs.Logs.{Log, logged}
 use Rattle.runtime_log.specs.Taken.{first_counter}
+use Rattle.runtime_log.specs.Threads.{recorded_by}
 
 -- a log is imported in one way only
 abbrev pub OneImport : Type 0
@@ -27,6 +31,15 @@ SomeImport = (bytes : List ℕ) (log : Log) → logged bytes ≡ Ok log → (fil
 abbrev pub ImportsRead : Type 0
 ImportsRead = (bytes file : List ℕ) (facts : Facts) → All (λ b. b < 256) bytes → (made : IsImport bytes file facts)
     → trace_of file ≡ Ok (trace_taken made.log.header made.taken)
+
+-- ---- threads of basic logs
+
+-- The trace of a basic log has the events of each thread as the log has them: all of them and no others, in the order in which
+-- they were recorded.
+abbrev pub ThreadsKeepTheirOrder : Type 0
+ThreadsKeepTheirOrder = (bytes file : List ℕ) (facts : Facts) (records : List BasicRec) → All (λ b. b < 256) bytes → type_in bytes ≡ 0
+    → basic_records bytes ≡ Ok records → IsImport bytes file facts → (trace : Trace) × (trace_of file ≡ Ok trace)
+    × ((thread : ℕ) → recorded_by thread (thread_events trace.blocks) ≡ recorded_by thread (recorded_events records))
 
 -- ---- traces are logs
 
@@ -52,8 +65,8 @@ MayStandBefore Less buffer later = ⊤
 MayStandBefore Equal buffer later = used_bytes buffer ≢ used_bytes later
 MayStandBefore Greater buffer later = ⊥
 
--- Each buffer may stand before those behind it. The buffers of a run may if the counter rises from each event of a thread to
--- the next. With `--tick 0` it doesn't rise, and two segments of a thread may have the same bytes.
+-- Each buffer may stand before those behind it. The buffers of a run may if the counter of no thread falls, and no two
+-- segments of a thread have the same events. With `--tick 0` two of them may.
 abbrev pub AreInOrder : List Filled → Type 0
 AreInOrder buffers =
     AllPairs (λ buffer later. MayStandBefore (slice_cmp nat_cmp (buffer_key buffer) (buffer_key later)) buffer later) buffers

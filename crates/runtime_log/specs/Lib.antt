@@ -2,9 +2,12 @@ pub mod Versions
 pub mod OwnEvents
 pub mod BasicLogs
 pub mod Logs
+pub mod Grammar
 pub mod Taken
+pub mod Threads
 pub mod Imports
 pub mod Facts
 pub mod FaultWords
 pub mod Laws
+pub mod LogLaws
 pub mod private

@@ -1,5 +1,5 @@
 -- What the bytes of a log of LLVM's runtime say.
-use Rattle.std.specs.Prelude.{ℕ, ◌+◌, ◌==◌, not, List, [], ◌∷◌, ◌++◌, length, take, drop, map, nat_lt, option_to_list, Option, Some, None, Result, Ok, Err}
+use Rattle.std.specs.Prelude.{ℕ, ◌+◌, ◌==◌, not, List, [], ◌∷◌, ◌++◌, length, take, drop, nat_lt, option_to_list, Option, Some, None, Result, Ok, Err}
 use Rattle.xray_io.specs.Rows.{First, InTurn, NeedsPart, ◌>>=◌}
 use Rattle.fdr_record.specs.declared.fault.RecFault.{RecFault}
 use Rattle.fdr_record.specs.declared.rec.Rec.{Rec}
@@ -14,6 +14,7 @@ use Rattle.fdr_file.specs.declared.stage.Told.{Told}
 use Rattle.fdr_file.specs.declared.stage.Told.TheVariants.{Nothing, Begun, Noted}
 use Rattle.fdr_file.specs.declared.trace.Block.{Block}
 use Rattle.fdr_file.specs.Places.{starts}
+use Rattle.fdr_file.specs.ThreadEvents.{ThreadEvent}
 use Rattle.fdr_file.specs.Scanning.{block_span, empty_block, stage_judged}
 use Rattle.fdr_file.specs.Traces.{block_starts, header_in, preamble_bytes, size_named, type_in, version_in}
 use Rattle.runtime_log.specs.declared.fault.LogFault.{LogFault}
@@ -21,7 +22,7 @@ use Rattle.runtime_log.specs.declared.fault.LogFault.TheVariants as faults
 use Rattle.runtime_log.specs.declared.own_event.OwnKind.{OwnKind}
 use Rattle.runtime_log.specs.declared.own_event.OwnKind.TheVariants.{Custom, Typed}
 use Rattle.runtime_log.specs.declared.version.LogVersion.{LogVersion}
-use Rattle.runtime_log.specs.BasicLogs.{BasicRun, basic_events, basic_places, basic_rows, no_records}
+use Rattle.runtime_log.specs.BasicLogs.{basic_records, recorded_events}
 use Rattle.runtime_log.specs.OwnEvents.{log_record_in, log_record_length, own_kind}
 use Rattle.runtime_log.specs.Versions.{log_version_of, trace_version}
 
@@ -34,10 +35,12 @@ pub record LogBlock : Type 0 where
   pub custom : ℕ
   pub typed : ℕ
 
--- a log: what it says about itself, as the header of a trace, and its blocks in the order of the file
+-- A log: what it says about itself, as the header of a trace, and what it has. A log of the Flight Data Recorder mode has
+-- blocks, in the order of the file, and a basic log has events, in the order in which they were recorded.
 pub record Log : Type 0 where
   pub header : Header
   pub blocks : List LogBlock
+  pub events : List ThreadEvent
 
 -- ---- a block of the Flight Data Recorder mode
 
@@ -140,22 +143,6 @@ log_block_rows version before start = log_block_in version start >>= λ b. Ok (b
 abbrev pub recorder_blocks : LogVersion → List ℕ → Result (List LogBlock) TraceFault
 recorder_blocks version bytes = InTurn (log_block_rows version) [] (block_starts bytes)
 
--- ---- the blocks of the basic mode
-
--- a run is a block, which was begun at the wall time 0
-abbrev pub run_block : BasicRun → LogBlock
-run_block run = record {
-  place = run.place;
-  content = run.content;
-  block = record { thread = run.owner.thread; wall = record { secs = 0; micros = 0 }; pid = run.owner.pid; events = basic_events run.records };
-  custom = 0;
-  typed = 0;
-}
-
-abbrev pub basic_blocks : List ℕ → Result (List LogBlock) LogFault
-basic_blocks bytes =
-    InTurn basic_rows no_records (basic_places 32 (drop 32 bytes)) >>= λ so. Ok (map run_block so.runs)
-
 -- ---- a log
 
 -- a result whose refusals are those of a trace
@@ -170,15 +157,22 @@ recorder_header bytes = record (header_in bytes) { version = 3 }
 abbrev pub basic_header : List ℕ → Header
 basic_header bytes = record (header_in bytes) { version = 3; size = 0 }
 
+-- a log of each mode
+abbrev pub recorder_log : LogVersion → List ℕ → Result Log LogFault
+recorder_log version bytes =
+    as_log (recorder_blocks version bytes) >>= λ blocks. Ok (record { header = recorder_header bytes; blocks = blocks; events = [] })
+
+abbrev pub basic_log : List ℕ → Result Log LogFault
+basic_log bytes =
+    basic_records bytes >>= λ records. Ok (record { header = basic_header bytes; blocks = []; events = recorded_events records })
+
 -- A log of the type 1 is one of the Flight Data Recorder mode, of version 2 to 5. One of the type 0 is a basic log, of
 -- version 3. A header is refused for its version first, if no log has that version.
 abbrev pub typed_rows : LogVersion → List ℕ → Result Log LogFault
 typed_rows version bytes =
-    First (type_in bytes == 1)
-    (as_log (recorder_blocks version bytes) >>= λ blocks. Ok (record { header = recorder_header bytes; blocks = blocks }))
+    First (type_in bytes == 1) (recorder_log version bytes)
     (First (not (type_in bytes == 0)) (Err (faults.Trace (traces.Form (type_in bytes))))
-    (First (not (version_in bytes == 3)) (Err (faults.Trace (traces.Version (version_in bytes))))
-    (basic_blocks bytes >>= λ blocks. Ok (record { header = basic_header bytes; blocks = blocks }))))
+    (First (not (version_in bytes == 3)) (Err (faults.Trace (traces.Version (version_in bytes)))) (basic_log bytes)))
 
 -- the log that bytes are, or the fault of the first place that has one
 abbrev pub logged : List ℕ → Result Log LogFault

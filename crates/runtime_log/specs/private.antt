@@ -1,7 +1,7 @@
 -- What the contracts of private functions cite. No promise of this crate rests on it.
 pub mod Stretches
 pub mod Walks
-pub mod Records
+pub mod Passings
 pub mod Headers
 pub mod Choices
 pub mod Readings

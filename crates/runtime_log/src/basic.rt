@@ -1,15 +1,18 @@
 //! The records of the basic mode.
-ghost use Rattle.std.specs.Prelude.{◌≡◌, ◌≤◌, ◌<◌, ◌+◌, [], ◌∷◌, MatchOption, OnOk, drop, length};
+ghost use Rattle.std.specs.Prelude.{◌≡◌, ◌≤◌, ◌<◌, ◌+◌, ◌^◌, [], ◌∷◌, MatchOption, OnOk, length, take};
 ghost use Rattle.fdr_file.specs.Traces.{logs_arg};
-ghost use Rattle.runtime_log.specs.BasicLogs.{argument_in, basic_events, may_follow, owner_of, passing_rows, same_owner, tagged_rows, takes_argument, with_argument};
-ghost use Rattle.runtime_log.specs.private.Records.{records_in};
+ghost use Rattle.runtime_log.specs.BasicLogs.{argument_in, may_follow, passing_rows, same_owner, tagged_rows, takes_argument};
+ghost use Rattle.runtime_log.specs.declared.basic.Passing.{Passing as ThePassing};
+ghost use Rattle.runtime_log.specs.private.Passings.{argued_by, event_at, record_at, run_head};
 
+use crate::blocks::Head;
 use crate::fault::LogFault;
 use basic_record::{
     RECORD_BYTES, event_in, func_in, kind_byte, kind_of, pid_in, tag_in, thread_in, u32_at, u64_at,
 };
 use fdr_file::TraceFault;
 use fdr_record::{Event, Kind};
+use xray_io::Wall;
 
 /// The number of functions that a trace has ids for.
 const FUNCTIONS: u32 = 1 << 28;
@@ -57,19 +60,8 @@ pub enum BasicRec {
     },
 }
 
-impl BasicRec {
-    /// Whose record it is.
-    pub(crate) fn owner(&self) -> Owner
-        ensures { result ≡ owner_of self.now }
-    {
-        match *self {
-            BasicRec::Passed { owner, .. } | BasicRec::Argument { owner, .. } => owner,
-        }
-    }
-}
-
 /// Whether a thread and a process are those of another owner.
-pub(crate) fn same_owner(one: Owner, other: Owner) -> bool
+fn same_owner(one: Owner, other: Owner) -> bool
     ensures { result ≡ same_owner one other }
 {
     one.thread == other.thread && one.pid == other.pid
@@ -122,7 +114,7 @@ fn argument_in(bytes: &[u8]) -> BasicRec
 }
 
 /// The record that bytes begin with, at this place of the log.
-pub(crate) fn record_in(place: u64, bytes: &[u8]) -> Result<BasicRec, LogFault>
+fn record_in(place: u64, bytes: &[u8]) -> Result<BasicRec, LogFault>
     ensures reads { result ≡ tagged_rows place bytes.now }
     ensures whole { OnOk result (32 ≤ length bytes.now) }
 {
@@ -161,70 +153,110 @@ pub(crate) fn may_follow(before: Option<BasicRec>, rec: BasicRec) -> bool
     }
 }
 
-/// The events of records that may stand where they do, one after the other.
+/// A passing of a basic log: where its record begins, and whose it is.
+#[derive(Clone, Copy)]
+pub(crate) struct Passing {
+    /// The place of its record. A log has fewer than 2^30 bytes.
+    pub(crate) at: u32,
+    /// The thread.
+    pub(crate) thread: u32,
+    /// The process.
+    pub(crate) pid: u32,
+}
+
+impl Passing {
+    /// What is said of the block of a run of passings that begins with this one.
+    pub(crate) fn head(&self) -> Head
+        ensures { result ≡ run_head self.now }
+    {
+        Head {
+            thread: self.thread,
+            pid: self.pid,
+            wall: Wall { secs: 0, micros: 0 },
+        }
+    }
+}
+
+/// The bytes of the record that bytes begin with, or all of them if it isn't whole.
+fn record_bytes(rest: &[u8]) -> &[u8]
+    ensures { result.now ≡ take 32 rest.entry.now }
+{
+    if rest.len() < RECORD_BYTES {
+        rest
+    } else {
+        &rest[..RECORD_BYTES]
+    }
+}
+
+/// The record at a place of a log, and `Short` if none is whole there.
+pub(crate) fn record_at(bytes: &[u8], at: usize) -> Result<BasicRec, LogFault>
+    ensures reads { result ≡ record_at bytes.now at }
+    ensures whole { OnOk result (at + 32 ≤ length bytes.now) }
+{
+    if at >= bytes.len() {
+        return Err(LogFault::Trace(TraceFault::Short(at as u64)));
+    }
+    record_in(at as u64, record_bytes(&bytes[at..]))
+}
+
+/// An event, with the argument that a record says, if it says one.
+fn argued_by(event: Event, next: Result<BasicRec, LogFault>) -> Event
+    ensures { result ≡ argued_by event next }
+{
+    match next {
+        Ok(BasicRec::Argument { value, .. }) if logs_arg(event.kind) => Event {
+            arg: value,
+            ..event
+        },
+        Ok(_) | Err(_) => event,
+    }
+}
+
+/// The event of the passing at a place, with the argument that the record behind it says, if it says
+/// one. Some event if no passing is there.
+fn event_at(bytes: &[u8], at: usize) -> Event
+    requires { at < 2 ^ 32 }
+    ensures { result ≡ event_at bytes.now at }
+{
+    match record_at(bytes, at) {
+        Ok(BasicRec::Passed { event, .. }) => argued_by(event, record_at(bytes, at + RECORD_BYTES)),
+        Ok(BasicRec::Argument { .. }) | Err(_) => Event {
+            tsc: 0,
+            arg: 0,
+            func: 0,
+            cpu: 0,
+            kind: Kind::Entry,
+        },
+    }
+}
+
+/// The events of passings of a log, one after the other.
 #[derive(Clone, Copy)]
 pub(crate) struct BasicEvents<'a> {
-    /// The records that are left.
+    /// The log.
     bytes: &'a [u8],
+    /// The passings that are left.
+    passings: &'a [Passing],
 }
 
 impl<'a> BasicEvents<'a> {
-    /// The events of these records.
-    pub(crate) fn new(bytes: &'a [u8]) -> BasicEvents<'a>
-        ensures { result.bytes.now ≡ bytes.entry.now }
+    /// The events of these passings.
+    pub(crate) fn new(bytes: &'a [u8], passings: &'a [Passing]) -> BasicEvents<'a>
+        ensures bytes { result.bytes.now ≡ bytes.entry.now }
+        ensures passings { result.passings.now ≡ passings.entry.now }
     {
-        BasicEvents { bytes }
-    }
-
-    /// The next record, if there is one.
-    fn peek(&self) -> Option<BasicRec>
-        ensures { MatchOption result (records_in self.now.bytes.now ≡ []) (λ rec. (32 ≤ length self.now.bytes.now)
-            × (records_in self.now.bytes.now ≡ rec ∷ records_in (drop 32 self.now.bytes.now))) }
-    {
-        if self.bytes.len() < RECORD_BYTES {
-            return None;
-        }
-        match record_in(0, &self.bytes[..RECORD_BYTES]) {
-            Ok(rec) => Some(rec),
-            Err(_) => None,
-        }
-    }
-
-    /// The same, and goes past it.
-    fn next_record(&mut self) -> Option<BasicRec>
-        ensures { MatchOption result (records_in self.old.bytes.now ≡ []) (λ rec.
-            (records_in self.old.bytes.now ≡ rec ∷ records_in self.new.bytes.now)
-            × (length self.new.bytes.now < length self.old.bytes.now)) }
-    {
-        let rec = self.peek()?;
-        self.bytes = &self.bytes[RECORD_BYTES..];
-        Some(rec)
-    }
-
-    /// An event, with the argument that the next record says, if it says one.
-    fn argued(&self, event: Event) -> Event
-        ensures { result ≡ with_argument event (records_in self.now.bytes.now) }
-    {
-        match self.peek() {
-            Some(BasicRec::Argument { value, .. }) if logs_arg(event.kind) => Event {
-                arg: value,
-                ..event
-            },
-            Some(_) | None => event,
-        }
+        BasicEvents { bytes, passings }
     }
 
     /// The next event.
     #[inline(always)]
     pub(crate) fn next(&mut self) -> Option<Event>
-        ensures { MatchOption result (basic_events (records_in self.old.bytes.now) ≡ []) (λ event.
-            basic_events (records_in self.old.bytes.now) ≡ event ∷ basic_events (records_in self.new.bytes.now)) }
+        ensures bytes { self.new.bytes.now ≡ self.old.bytes.now }
+        ensures gives { MatchOption result (self.old.passings.now ≡ []) (λ event. (passing : ThePassing)
+            × (self.old.passings.now ≡ passing ∷ self.new.passings.now) × (event ≡ event_at self.old.bytes.now passing.at)) }
     {
-        'records: while let Some(rec) = self.next_record() {
-            if let BasicRec::Passed { event, .. } = rec {
-                return Some(self.argued(event));
-            }
-        }
-        None
+        let (passing, later) = self.passings.split_first()?;
+        self.passings = later;
+        Some(event_at(self.bytes, passing.at as usize))
     }
 }

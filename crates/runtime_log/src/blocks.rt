@@ -1,10 +1,11 @@
 //! The blocks of a log, by their places.
-ghost use Rattle.std.specs.Prelude.{◌≡◌, ◌<◌, ◌+◌, ◌++◌, ◌^◌, ◌≤◌, ℕ, All, List, IfSome, None, [], ◌∷◌, length, option_to_list};
+ghost use Rattle.std.specs.Prelude.{◌≡◌, ◌<◌, ◌+◌, ◌++◌, ◌^◌, ◌≤◌, ℕ, All, List, IfSome, None, [], ◌∷◌, length, map, option_to_list};
 ghost use Rattle.fdr_record.specs.Recordable.{IsRecordable};
 ghost use Rattle.runtime_log.specs.Logs.{LogBlock as SaidBlock};
-ghost use Rattle.runtime_log.specs.private.{Choices.{IsAt, LiesWithin, head_length}, Coming.{MayGive, events_to_come, recorder_events}, Stretches.{SaysStretch}, Walks.{settled, walk_events}};
+ghost use Rattle.fdr_file.specs.declared.trace.Block.{Block as TheBlock};
+ghost use Rattle.runtime_log.specs.private.{Choices.{IsAt, LiesWithin, Shows}, Coming.{MayGive, events_to_come, recorder_events}, Packings.{Heads}, Passings.{event_at}, Stretches.{SaysStretch}, Walks.{settled, walk_events}};
 
-use crate::basic::BasicEvents;
+use crate::basic::{BasicEvents, Passing};
 use crate::stretch::Stretch;
 use crate::version::LogVersion;
 use crate::walk::BlockWalk;
@@ -17,23 +18,11 @@ use xray_io::Wall;
 pub(crate) enum Mode {
     /// The Flight Data Recorder mode, in a version.
     Recorder(LogVersion),
-    /// The basic mode, in which a block is a run of records of one thread and one process.
+    /// The basic mode.
     Basic,
 }
 
-impl Mode {
-    /// The length of what stands before the bytes of a block.
-    pub(crate) fn head_bytes(self) -> usize
-        ensures { result ≡ head_length self }
-    {
-        match self {
-            Mode::Recorder(_) => fdr_record::METADATA_BYTES,
-            Mode::Basic => 0,
-        }
-    }
-}
-
-/// A block: where it is, and what it says without its events.
+/// A block of the Flight Data Recorder mode: where it is, and what it says without its events.
 #[derive(Clone, Copy)]
 pub(crate) struct LogBlock {
     /// The place where it begins.
@@ -50,10 +39,34 @@ pub(crate) struct LogBlock {
     pub(crate) first: Option<u64>,
 }
 
-/// The blocks of a log, in the order of the file, and how many events of the program's own they have.
+/// What a block says without its events.
+#[derive(Clone, Copy)]
+pub(crate) struct Head {
+    /// The thread.
+    pub(crate) thread: u32,
+    /// The process.
+    pub(crate) pid: u32,
+    /// When it was begun.
+    pub(crate) wall: Wall,
+}
+
+impl LogBlock {
+    /// What it says without its events.
+    pub(crate) fn head(&self) -> Head
+        ensures { (b : TheBlock) → Shows self.now b → Heads result b }
+    {
+        Head {
+            thread: self.thread,
+            pid: self.pid,
+            wall: self.wall,
+        }
+    }
+}
+
+/// The blocks of a log of the Flight Data Recorder mode, in the order of the file, and how many events
+/// of the program's own they have.
 #[derive(Drop)]
 pub(crate) struct LogBlocks {
-    pub(crate) mode: Mode,
     pub(crate) blocks: Vec<LogBlock>,
     pub(crate) custom: u64,
     pub(crate) typed: u64,
@@ -157,28 +170,32 @@ impl<'a> RecorderEvents<'a> {
 }
 
 impl<'a> BlockEvents<'a> {
-    /// All events of a block.
-    pub(crate) fn of(bytes: &'a [u8], mode: Mode, block: &LogBlock) -> BlockEvents<'a>
+    /// All events of a block of the Flight Data Recorder mode.
+    pub(crate) fn of(bytes: &'a [u8], version: LogVersion, block: &LogBlock) -> BlockEvents<'a>
         requires few { length bytes.now < 2 ^ 30 }
-        requires within { LiesWithin bytes.now mode block.now }
+        requires within { LiesWithin bytes.now block.now }
         ensures may { MayGive result }
-        ensures all { (b : SaidBlock) → IsAt bytes.entry.now mode block.now b
+        ensures all { (b : SaidBlock) → IsAt bytes.entry.now version block.now b
             → events_to_come result ≡ b.block.events }
         ensures recordable { All IsRecordable (events_to_come result) }
         ensures few { length (events_to_come result) < 2 ^ 31 }
     {
-        match mode {
-            Mode::Recorder(version) => {
-                match BlockWalk::open(version, block.begin as u64, &bytes[block.begin..]) {
-                    Ok(walk) => BlockEvents::Recorder(RecorderEvents {
-                        walk,
-                        pending: None,
-                    }),
-                    Err(_) => BlockEvents::Done,
-                }
-            }
-            Mode::Basic => BlockEvents::Basic(BasicEvents::new(&bytes[block.begin..block.end])),
+        match BlockWalk::open(version, block.begin as u64, &bytes[block.begin..]) {
+            Ok(walk) => BlockEvents::Recorder(RecorderEvents {
+                walk,
+                pending: None,
+            }),
+            Err(_) => BlockEvents::Done,
         }
+    }
+
+    /// The events of passings of a basic log.
+    pub(crate) fn of_passings(bytes: &'a [u8], passings: &'a [Passing]) -> BlockEvents<'a>
+        ensures may { MayGive result }
+        ensures all { events_to_come result ≡ map (λ p. event_at bytes.entry.now p.at) passings.entry.now }
+        ensures recordable { All IsRecordable (events_to_come result) }
+    {
+        BlockEvents::Basic(BasicEvents::new(bytes, passings))
     }
 
     /// The next event.

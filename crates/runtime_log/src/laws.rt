@@ -1,8 +1,9 @@
 //! Laws of imports. Each law is the contract of a function that does nothing.
-ghost use Rattle.runtime_log.specs.Laws.{ImportsItself, ImportsRead, OneImport, SomeImport, TracesAreLogs};
+ghost use Rattle.runtime_log.specs.LogLaws.{LoggedIsLog, NumbersAreMeant, ThreadsAreKept};
+ghost use Rattle.runtime_log.specs.Laws.{ImportsItself, ImportsRead, OneImport, SomeImport, ThreadsKeepTheirOrder, TracesAreLogs};
 
 use fdr_buffer::{a_body_has_room, segments_hold_all};
-use fdr_file::{a_file_is_read_by_records, a_file_reads_back};
+use fdr_file::{a_file_is_read_by_records, a_file_reads_back, a_place_is_decoded};
 
 /// A log is imported in one way only: as one file, with one text.
 pub fn one_import()
@@ -24,6 +25,15 @@ pub fn an_import_reads_back()
     a_body_has_room();
 }
 
+/// The trace of a basic log has the events of each thread as the log has them: none is lost, added,
+/// changed or moved among the events of its thread.
+pub fn the_threads_of_a_basic_log_keep_their_order()
+    ensures { ThreadsKeepTheirOrder }
+{
+    an_import_reads_back();
+    segments_hold_all();
+}
+
 /// A trace of version 3 is a log, which says the same blocks.
 pub fn traces_are_logs()
     ensures { TracesAreLogs }
@@ -31,10 +41,34 @@ pub fn traces_are_logs()
     a_file_is_read_by_records();
 }
 
+/// What is read as a log of the Flight Data Recorder mode is one by the grammar.
+pub fn what_is_read_is_a_log()
+    ensures { LoggedIsLog }
+{
+    a_place_is_decoded();
+}
+
+/// Of each thread, the events of the trace that is made of a log of the Flight Data Recorder mode are
+/// those of its blocks that are taken, one block after the other.
+pub fn threads_keep_their_events()
+    ensures { ThreadsAreKept }
+{
+    an_import_reads_back();
+    segments_hold_all();
+}
+
+/// The numbers that are printed are those of the log and of the trace that is made of it.
+pub fn printed_numbers_are_meant()
+    ensures { NumbersAreMeant }
+{
+    an_import_reads_back();
+    segments_hold_all();
+}
+
 /// A trace is imported as itself, byte for byte, if it was written for buffers with events, and these
 /// are in the order in which blocks are taken: by their threads, their wall times and their first
 /// counters. Two that are level in these must not have the same bytes. The trace that `sim` or `run`
-/// wrote is such a one if the counter rises from each event of a thread to the next.
+/// wrote is such a one if the counter of no thread falls, and no two segments of a thread are equal.
 pub fn a_trace_in_order_is_imported_as_itself()
     ensures { ImportsItself }
 {

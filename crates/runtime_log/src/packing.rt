@@ -3,14 +3,15 @@ ghost use Rattle.std.specs.Prelude.{◌≡◌, ◌≢◌, ◌≤◌, ◌<◌, �
 ghost use Rattle.fdr_buffer.specs.declared.buffer.TheConstants.{LARGEST_SIZE};
 ghost use Rattle.fdr_file.specs.Files.{block_bytes, file_bytes};
 ghost use Rattle.fdr_file.specs.declared.header.Header.{Header as TheHeader};
+ghost use Rattle.fdr_file.specs.declared.trace.Block.{Block as TheBlock};
 ghost use Rattle.fdr_record.specs.declared.event.Event.{Event as TheEvent};
 ghost use Rattle.fdr_record.specs.Recordable.{IsRecordable};
 ghost use Rattle.runtime_log.specs.declared.blocks.BlockEvents.{BlockEvents as TheEvents};
 ghost use Rattle.runtime_log.specs.declared.packing.Packing.{Packing as ThePacking};
 ghost use Rattle.runtime_log.specs.Logs.{LogBlock as SaidBlock};
-ghost use Rattle.runtime_log.specs.private.{Choices.{AreLeftOut, Shows}, Coming.{MayGive, events_to_come}, Notes.{AreFew, EndsWith}, Packings.{Adds, EndsIn, Fills, HasPacked, NoEvents, SaysOfLog, filled_for}};
+ghost use Rattle.runtime_log.specs.private.{Choices.{AreLeftOut}, Coming.{MayGive, events_to_come}, Notes.{AreFew, EndsWith}, Packings.{Adds, EndsIn, Fills, HasPacked, Heads, NoEvents, SaysOfLog, filled_for}};
 
-use crate::blocks::{BlockEvents, LogBlock};
+use crate::blocks::{BlockEvents, Head};
 use crate::facts::Facts;
 use crate::notes::Notes;
 use crate::taken::LeftOut;
@@ -116,24 +117,24 @@ impl Packing {
 
     /// Begins a buffer for a block, with an event.
     #[inline(never)]
-    fn begin(&mut self, block: &LogBlock, event: &Event)
+    fn begin(&mut self, head: Head, event: &Event)
         requires recordable { IsRecordable event.now }
         requires size { self.old.buffer.size ≡ LARGEST_SIZE }
-        ensures buffer { self.new.buffer ≡ filled_for block.now (event.now ∷ []) }
+        ensures buffer { self.new.buffer ≡ filled_for head (event.now ∷ []) }
         ensures others { (self.new.file ≡ self.old.file) × (self.new.notes ≡ self.old.notes) }
     {
         one_event_fits();
-        self.buffer.begin(block.thread, 0, block.wall, block.pid);
+        self.buffer.begin(head.thread, 0, head.wall, head.pid);
         self.buffer.put(event);
     }
 
     /// Adds an event of a block, which has events before it.
     #[inline(always)]
-    fn put(&mut self, block: &LogBlock, event: &Event) -> Result<(), NoMemory>
+    fn put(&mut self, head: Head, event: &Event) -> Result<(), NoMemory>
         requires recordable { IsRecordable event.now }
         requires begun { IsTrue self.old.buffer.begun × (self.old.buffer.size ≡ LARGEST_SIZE) }
-        ensures fills { (file : List ℕ) (events : List TheEvent) → Fills block.now file events self.old
-            → OnOk result (Fills block.now file (events ++ event.now ∷ []) self.new) }
+        ensures fills { (file : List ℕ) (events : List TheEvent) → Fills head file events self.old
+            → OnOk result (Fills head file (events ++ event.now ∷ []) self.new) }
         ensures begun { IsTrue self.new.buffer.begun × (self.new.buffer.size ≡ LARGEST_SIZE) }
         ensures last { OnOk result (EndsIn self.new.buffer event.now) }
         ensures notes { self.new.notes ≡ self.old.notes }
@@ -143,7 +144,7 @@ impl Packing {
             self.buffer.put(event);
         } else {
             self.flush()?;
-            self.begin(block, event);
+            self.begin(head, event);
         }
         Ok(())
     }
@@ -151,16 +152,16 @@ impl Packing {
     /// Adds the events of the stretch that is next of a block, as many as the buffer has room for. `last`
     /// is the event that was added last.
     #[inline(always)]
-    fn add_stretch(&mut self, block: &LogBlock, last: &Event, events: &mut BlockEvents)
+    fn add_stretch(&mut self, head: Head, last: &Event, events: &mut BlockEvents)
         requires may { MayGive events.old }
         requires begun { IsTrue self.old.buffer.begun × (self.old.buffer.size ≡ LARGEST_SIZE) }
-        requires last { EndsIn self.old.buffer last.now × EndsWith self.old.notes block.now.thread last.now.tsc }
+        requires last { EndsIn self.old.buffer last.now × EndsWith self.old.notes head.thread last.now.tsc }
         requires room { self.old.notes.facts.events + length (events_to_come events.old) < 2 ^ 63 }
         requires few { AreFew self.old.notes.facts }
         ensures may { MayGive events.new }
         ensures begun { IsTrue self.new.buffer.begun × (self.new.buffer.size ≡ LARGEST_SIZE) }
-        ensures adds { (first : ThePacking) (all : TheEvents) → Adds block.now first all events.old self.old
-            → Adds block.now first all events.new self.new }
+        ensures adds { (first : ThePacking) (all : TheEvents) → Adds head first all events.old self.old
+            → Adds head first all events.new self.new }
         ensures recordable { All IsRecordable (events_to_come events.old)
             → All IsRecordable (events_to_come events.new) }
         ensures room { self.new.notes.facts.events + length (events_to_come events.new)
@@ -173,21 +174,21 @@ impl Packing {
             return;
         };
         self.notes
-            .note_stretch(block.thread, stretch.count, stretch.last.tsc);
+            .note_stretch(head.thread, stretch.count, stretch.last.tsc);
         self.buffer
             .put_records(stretch.records, stretch.count, &stretch.last);
     }
 
     /// Adds the events of a block, as one block or as several. It has events.
-    pub(crate) fn add(&mut self, block: &LogBlock, mut events: BlockEvents) -> Result<(), NoMemory>
+    pub(crate) fn add(&mut self, head: Head, mut events: BlockEvents) -> Result<(), NoMemory>
         requires may { MayGive events }
         requires recordable { All IsRecordable (events_to_come events) }
         requires room { self.old.notes.facts.events + length (events_to_come events) < 2 ^ 63 }
         requires few { (self.old.notes.facts.blocks < 2 ^ 32) × AreFew self.old.notes.facts }
         requires size { self.old.buffer.size ≡ LARGEST_SIZE }
-        ensures packs { (header : TheHeader) (said taken : List SaidBlock) (b : SaidBlock)
-            → HasPacked header said taken self.old → Shows block.now b.block
-            → b.block.events ≢ [] → events_to_come events.entry ≡ b.block.events
+        ensures packs { (header : TheHeader) (said : List SaidBlock) (taken : List TheBlock) (b : TheBlock)
+            → HasPacked header said taken self.old → Heads head b
+            → b.events ≢ [] → events_to_come events.entry ≡ b.events
             → OnOk result (HasPacked header said (taken ++ b ∷ []) self.new) }
         ensures room { OnOk result (self.new.notes.facts.events
             ≡ self.old.notes.facts.events + length (events_to_come events.entry)) }
@@ -199,12 +200,12 @@ impl Packing {
         let Some(first) = events.next() else {
             return Ok(());
         };
-        self.notes.note(block.thread, &first);
-        self.begin(block, &first);
+        self.notes.note(head.thread, &first);
+        self.begin(head, &first);
         'events: while let Some(event) = events.next() {
-            self.notes.note(block.thread, &event);
-            self.put(block, &event)?;
-            self.add_stretch(block, &event, &mut events);
+            self.notes.note(head.thread, &event);
+            self.put(head, &event)?;
+            self.add_stretch(head, &event, &mut events);
         }
         self.flush()
     }

@@ -1,29 +1,26 @@
-//! All blocks of a log, in the order of the file.
-ghost use Rattle.std.specs.Prelude.{◌≡◌, ◌⊎◌, ◌<◌, ◌≤◌, ◌+◌, ◌++◌, ◌^◌, ℕ, [], List, Ok, Err, IfErr, IfOk, OnOk, drop, length, option_to_list, take};
+//! All blocks of a log of the Flight Data Recorder mode, in the order of the file.
+ghost use Rattle.std.specs.Prelude.{◌≡◌, ◌⊎◌, ◌<◌, ◌≤◌, ◌+◌, ◌++◌, ◌^◌, [], List, Ok, Err, IfErr, IfOk, OnOk, drop, length, option_to_list};
 ghost use Rattle.fdr_file.specs.declared.fault.TraceFault.TheVariants.{NoMemory as NoRoom};
 ghost use Rattle.fdr_file.specs.declared.trace.Block.{Block as TheBlock};
 ghost use Rattle.fdr_file.specs.Scanning.{empty_block};
 ghost use Rattle.fdr_file.specs.Traces.{block_length};
 ghost use Rattle.runtime_log.specs.declared.fault.LogFault.TheVariants.{Trace};
-ghost use Rattle.runtime_log.specs.Logs.{BlockSoFar, LogBlock as SaidBlock, block_with, log_block_in, one_custom, one_typed};
-ghost use Rattle.runtime_log.specs.BasicLogs.{BasicRun, runs_with, single_run, tagged_rows};
+ghost use Rattle.runtime_log.specs.Logs.{BlockSoFar, LogBlock as SaidBlock, as_log, block_with, log_block_in, one_custom, one_typed, recorder_blocks};
 ghost use Rattle.runtime_log.specs.private.Choices.{IsAt, Shows, counter_first};
-ghost use Rattle.runtime_log.specs.private.Records.{counter_of};
 ghost use Rattle.runtime_log.specs.private.Headers.{header_for, mode_of};
-ghost use Rattle.runtime_log.specs.private.Readings.{AreRead, AreRuns, BelongsAt, HasRead, IsRun, MayPass, RecordsRead, blocks_said, walk_reads};
+ghost use Rattle.runtime_log.specs.private.Readings.{AreRead, HasRead, MayPass, RecordsRead, walk_reads};
 
-use crate::basic::{BasicRec, Owner, may_follow, record_in, same_owner};
 use crate::blocks::{LogBlock, LogBlocks, Mode};
 use crate::fault::LogFault;
 use crate::own_event::OwnKind;
 use crate::version::LogVersion;
 use crate::walk::BlockWalk;
-use basic_record::{BASIC_TYPE, BASIC_VERSION, RECORD_BYTES};
+use basic_record::{BASIC_TYPE, BASIC_VERSION};
 use byteorder::{ByteOrder, LittleEndian};
 use fdr_file::{HEADER_BYTES, Header, Told, TraceFault, VERSION, header_fields};
 use fdr_record::Event;
 use std::alloc::Global;
-use xray_io::{NoMemory, Wall};
+use xray_io::Wall;
 
 /// The place of the type in a header.
 const TYPE_AT: usize = 2;
@@ -101,45 +98,6 @@ fn past_stretch<'a>(walk: BlockWalk<'a>, first: Option<u64>) -> BlockWalk<'a>
     }
 }
 
-/// The bytes of the record that bytes of a basic log begin with, or all of them if it isn't whole.
-fn record_bytes(rest: &[u8]) -> &[u8]
-    ensures { result.now ≡ take 32 rest.entry.now }
-{
-    if rest.len() < RECORD_BYTES {
-        rest
-    } else {
-        &rest[..RECORD_BYTES]
-    }
-}
-
-/// The counter of a record's event, if it is a passing.
-fn counter_in(rec: BasicRec) -> Option<u64>
-    ensures { result ≡ counter_of rec }
-{
-    match rec {
-        BasicRec::Passed { event, .. } => Some(event.tsc),
-        BasicRec::Argument { .. } => None,
-    }
-}
-
-/// A block of one record of a basic log, which is at a place.
-fn single_record(at: usize, rec: BasicRec) -> LogBlock
-    requires few { at + 32 < 2 ^ 64 }
-    ensures run { (bytes : List ℕ) → BelongsAt bytes at rec → IsRun bytes result (single_run (at, drop at bytes) rec) }
-    ensures place { (result.begin ≡ at) × (result.end ≡ at + 32) }
-    ensures first { result.first ≡ counter_of rec }
-{
-    let owner = rec.owner();
-    LogBlock {
-        begin: at,
-        end: at + RECORD_BYTES,
-        thread: owner.thread,
-        pid: owner.pid,
-        wall: Wall { secs: 0, micros: 0 },
-        first: counter_in(rec),
-    }
-}
-
 /// A block that begins at a place, before any record.
 fn opened(at: usize) -> LogBlock
     ensures begin { result.begin ≡ at }
@@ -156,16 +114,6 @@ fn opened(at: usize) -> LogBlock
 }
 
 impl LogBlock {
-    /// The thread and the process.
-    fn owner(&self) -> Owner
-        ensures { (result.thread ≡ self.now.thread) × (result.pid ≡ self.now.pid) }
-    {
-        Owner {
-            thread: self.thread,
-            pid: self.pid,
-        }
-    }
-
     /// Takes what a record says of the block.
     #[inline(always)]
     fn hear(&mut self, told: Told)
@@ -188,11 +136,10 @@ impl LogBlock {
 
 impl LogBlocks {
     /// No block.
-    fn new(alloc: Global, mode: Mode) -> LogBlocks
-        ensures { (result.mode ≡ mode) × (result.blocks.items ≡ []) × (result.custom ≡ 0) × (result.typed ≡ 0) }
+    fn new(alloc: Global) -> LogBlocks
+        ensures { (result.blocks.items ≡ []) × (result.custom ≡ 0) × (result.typed ≡ 0) }
     {
         LogBlocks {
-            mode,
             blocks: Vec::new(alloc),
             custom: 0,
             typed: 0,
@@ -205,7 +152,7 @@ impl LogBlocks {
         requires few { (self.old.custom < 2 ^ 32) × (self.old.typed < 2 ^ 32) }
         ensures custom { self.new.custom ≡ self.old.custom + one_custom own }
         ensures typed { self.new.typed ≡ self.old.typed + one_typed own }
-        ensures others { (self.new.blocks ≡ self.old.blocks) × (self.new.mode ≡ self.old.mode) }
+        ensures others { self.new.blocks ≡ self.old.blocks }
     {
         match own {
             Some(OwnKind::Custom) => self.custom += 1,
@@ -226,7 +173,7 @@ impl LogBlocks {
             × (self.new.typed ≤ walk.entry.at + length walk.entry.rest.now)) }
         ensures places { OnOk result ((block.new.begin ≡ block.old.begin)
             × (block.new.end ≡ walk.entry.at + length walk.entry.rest.now)) }
-        ensures others { (self.new.blocks ≡ self.old.blocks) × (self.new.mode ≡ self.old.mode) }
+        ensures others { self.new.blocks ≡ self.old.blocks }
     {
         'records: while walk.left() > 0 {
             let (told, own) = walk.step()?;
@@ -249,13 +196,13 @@ impl LogBlocks {
         requires within { at ≤ length bytes.now }
         requires counts { (self.old.custom ≤ at) × (self.old.typed ≤ at) }
         ensures reads { IfOk result (λ placed. (b : SaidBlock) × (log_block_in version (at, drop at bytes.now) ≡ Ok b)
-            × IsAt bytes.now (Mode.Recorder version) placed b
+            × IsAt bytes.now version placed b
             × (self.new.custom ≡ self.old.custom + b.custom) × (self.new.typed ≡ self.old.typed + b.typed)) }
         ensures refuses { IfErr result (λ fault. log_block_in version (at, drop at bytes.now) ≡ Err fault) }
         ensures counts { IfOk result (λ placed. (self.new.custom ≤ placed.end) × (self.new.typed ≤ placed.end)) }
         ensures places { IfOk result (λ placed. (placed.begin ≡ at)
             × (placed.end ≡ at + block_length (drop at bytes.now))) }
-        ensures others { (self.new.blocks ≡ self.old.blocks) × (self.new.mode ≡ self.old.mode) }
+        ensures others { self.new.blocks ≡ self.old.blocks }
     {
         let walk = BlockWalk::open(version, at as u64, &bytes[at..])?;
         let mut block = opened(at);
@@ -267,9 +214,7 @@ impl LogBlocks {
     fn read_recorder(&mut self, version: LogVersion, bytes: &[u8]) -> Result<(), LogFault>
         requires few { (32 ≤ length bytes.now) × (length bytes.now < 2 ^ 32) }
         requires none { (self.old.blocks.items ≡ []) × (self.old.custom ≡ 0) × (self.old.typed ≡ 0) }
-        requires mode { self.old.mode ≡ Mode.Recorder version }
-        ensures reads { HasRead bytes.now self.new result }
-        ensures mode { self.new.mode ≡ self.old.mode }
+        ensures { HasRead version bytes.now self.new result }
     {
         let mut at = HEADER_BYTES;
         'reading: while at < bytes.len() {
@@ -283,73 +228,19 @@ impl LogBlocks {
         Ok(())
     }
 
-    /// Takes a record of a basic log, which is at this place. It goes on with the last block if it is
-    /// of the same thread and process.
-    fn add_record(&mut self, at: usize, rec: BasicRec) -> Result<(), NoMemory>
-        requires few { at + 32 < 2 ^ 64 }
-        ensures adds { (bytes : List ℕ) (runs : List BasicRun) → AreRuns bytes at runs self.old.blocks.items
-            → BelongsAt bytes at rec → OnOk result (AreRuns bytes (at + 32)
-            (runs_with runs (at, drop at bytes) rec) self.new.blocks.items) }
-        ensures others { (self.new.custom ≡ self.old.custom) × (self.new.typed ≡ self.old.typed)
-            × (self.new.mode ≡ self.old.mode) }
-    {
-        let single = single_record(at, rec);
-        if let Some(last) = self.blocks.last_mut() {
-            if same_owner(last.owner(), rec.owner()) {
-                last.end = single.end;
-                last.first = last.first.or(single.first);
-                return Ok(());
-            }
-        }
-        self.blocks.push(single)?;
-        Ok(())
-    }
-
-    /// The blocks of a basic log.
-    fn read_basic(&mut self, bytes: &[u8]) -> Result<(), LogFault>
+    /// All blocks of a log of this version.
+    pub(crate) fn read(
+        alloc: Global,
+        bytes: &[u8],
+        version: LogVersion,
+    ) -> Result<LogBlocks, LogFault>
         requires few { (32 ≤ length bytes.now) × (length bytes.now < 2 ^ 32) }
-        requires none { (self.old.blocks.items ≡ []) × (self.old.custom ≡ 0) × (self.old.typed ≡ 0) }
-        requires mode { self.old.mode ≡ Mode.Basic }
-        ensures reads { HasRead bytes.now self.new result }
-        ensures mode { self.new.mode ≡ self.old.mode }
+        ensures reads { IfOk result (λ blocks. (said : List SaidBlock) × (recorder_blocks version bytes.now ≡ Ok said)
+            × AreRead version bytes.now said blocks) }
+        ensures refuses { IfErr result (λ fault. (fault ≡ Trace NoRoom) ⊎ (as_log (recorder_blocks version bytes.now) ≡ Err fault)) }
     {
-        let mut at = HEADER_BYTES;
-        let mut before = None;
-        'records: while at < bytes.len() {
-            let rec = record_in(at as u64, record_bytes(&bytes[at..]))?;
-            if !may_follow(before, rec) {
-                return Err(LogFault::Trace(TraceFault::Order(at as u64)));
-            }
-            self.add_record(at, rec)?;
-            before = Some(rec);
-            at += RECORD_BYTES;
-        }
-        Ok(())
-    }
-
-    /// The blocks of a log of either mode.
-    fn read_all(&mut self, bytes: &[u8]) -> Result<(), LogFault>
-        requires few { (32 ≤ length bytes.now) × (length bytes.now < 2 ^ 32) }
-        requires none { (self.old.blocks.items ≡ []) × (self.old.custom ≡ 0) × (self.old.typed ≡ 0) }
-        ensures reads { HasRead bytes.now self.new result }
-        ensures mode { self.new.mode ≡ self.old.mode }
-    {
-        match self.mode {
-            Mode::Recorder(version) => self.read_recorder(version, bytes),
-            Mode::Basic => self.read_basic(bytes),
-        }
-    }
-
-    /// All blocks of a log of this mode.
-    pub(crate) fn read(alloc: Global, bytes: &[u8], mode: Mode) -> Result<LogBlocks, LogFault>
-        requires few { (32 ≤ length bytes.now) × (length bytes.now < 2 ^ 32) }
-        ensures mode { IfOk result (λ blocks. blocks.mode ≡ mode) }
-        ensures reads { IfOk result (λ blocks. (said : List SaidBlock) × (blocks_said mode bytes.now ≡ Ok said)
-            × AreRead bytes.now said blocks) }
-        ensures refuses { IfErr result (λ fault. (fault ≡ Trace NoRoom) ⊎ (blocks_said mode bytes.now ≡ Err fault)) }
-    {
-        let mut blocks = LogBlocks::new(alloc, mode);
-        blocks.read_all(bytes)?;
+        let mut blocks = LogBlocks::new(alloc);
+        blocks.read_recorder(version, bytes)?;
         Ok(blocks)
     }
 }

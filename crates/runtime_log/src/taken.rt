@@ -1,12 +1,14 @@
-//! The blocks that are taken, in their order.
+//! The blocks that are taken of a log of the Flight Data Recorder mode, in their order.
 ghost use Rattle.std.specs.{Cmp.Lexicographic.{slice_cmp}, Ordering.{nat_cmp}};
 ghost use Rattle.std.specs.Prelude.{◌≡◌, ◌≤◌, ◌||◌, ℕ, All, IfOk, List, OnOk, length, map, not};
 ghost use Rattle.std.specs.{Option.{unwrap_or}, Str.{bytes_eq}};
+ghost use Rattle.runtime_log.specs.declared.version.LogVersion.{LogVersion};
 ghost use Rattle.runtime_log.specs.Logs.{LogBlock as SaidBlock};
 ghost use Rattle.runtime_log.specs.Taken.{AreTaken, is_among, undoubled};
 ghost use Rattle.runtime_log.specs.private.Choices.{AreAt, AreLeftOut, LiesWithin, content_at, time_key};
 
-use crate::blocks::{LogBlock, Mode};
+use crate::blocks::LogBlock;
+use fdr_record::METADATA_BYTES;
 use std::alloc::Global;
 use std::cmp::Ordering;
 use std::collections::BTreeSet;
@@ -22,11 +24,11 @@ pub(crate) struct LeftOut {
 }
 
 /// The bytes of a block, without its extents.
-fn content<'a>(bytes: &'a [u8], mode: Mode, block: &LogBlock) -> &'a [u8]
-    requires { LiesWithin bytes.now mode block.now }
-    ensures { result.now ≡ content_at bytes.entry.now mode block.now }
+fn content<'a>(bytes: &'a [u8], block: &LogBlock) -> &'a [u8]
+    requires { LiesWithin bytes.now block.now }
+    ensures { result.now ≡ content_at bytes.entry.now block.now }
 {
-    let begin = block.begin + mode.head_bytes();
+    let begin = block.begin + METADATA_BYTES;
     &bytes[begin..block.end]
 }
 
@@ -41,21 +43,16 @@ fn add_content<'a>(seen: &mut BTreeSet<&'a [u8]>, content: &'a [u8]) -> Result<b
 }
 
 /// The blocks whose bytes aren't those of a block before them.
-fn first_ones(
-    alloc: Global,
-    bytes: &[u8],
-    mode: Mode,
-    blocks: &[LogBlock],
-) -> Result<Vec<LogBlock>, NoMemory>
-    requires within { All (LiesWithin bytes.now mode) blocks.now }
-    ensures keeps { (said : List SaidBlock) → AreAt bytes.now mode blocks.now said
-        → IfOk result (λ kept. AreAt bytes.now mode kept.items (undoubled said)) }
+fn first_ones(alloc: Global, bytes: &[u8], blocks: &[LogBlock]) -> Result<Vec<LogBlock>, NoMemory>
+    requires within { All (LiesWithin bytes.now) blocks.now }
+    ensures keeps { (version : LogVersion) (said : List SaidBlock) → AreAt bytes.now version blocks.now said
+        → IfOk result (λ kept. AreAt bytes.now version kept.items (undoubled said)) }
     ensures few { IfOk result (λ kept. length kept.items ≤ length blocks.now) }
 {
     let mut seen = BTreeSet::new(alloc);
     let mut kept = Vec::new(alloc);
     'keeping: for block in blocks {
-        if add_content(&mut seen, content(bytes, mode, block))? {
+        if add_content(&mut seen, content(bytes, block))? {
             kept.push(*block)?;
         }
     }
@@ -85,15 +82,14 @@ fn by_time(one: &LogBlock, other: &LogBlock) -> Ordering
 pub(crate) fn take_blocks(
     alloc: Global,
     bytes: &[u8],
-    mode: Mode,
     blocks: &[LogBlock],
 ) -> Result<(Vec<LogBlock>, LeftOut), NoMemory>
-    requires within { All (LiesWithin bytes.now mode) blocks.now }
-    ensures { (said : List SaidBlock) → AreAt bytes.now mode blocks.now said → IfOk result (λ made.
-        (taken : List SaidBlock) × AreTaken said taken × AreAt bytes.now mode made.0.items taken
+    requires within { All (LiesWithin bytes.now) blocks.now }
+    ensures { (version : LogVersion) (said : List SaidBlock) → AreAt bytes.now version blocks.now said → IfOk result (λ made.
+        (taken : List SaidBlock) × AreTaken said taken × AreAt bytes.now version made.0.items taken
         × AreLeftOut said made.1) }
 {
-    let mut taken = first_ones(alloc, bytes, mode, blocks)?;
+    let mut taken = first_ones(alloc, bytes, blocks)?;
     let once = taken.len();
     taken.retain(|block| block.first.is_some());
     taken.sort_unstable_by(|one, other| by_time(one, other));

@@ -3,8 +3,9 @@ use crate::cases::{CASE, Case, check_case};
 use crate::traces::{ENTERED, LEFT};
 use std::test::Fail;
 use test_helpers::trace_parts::{
-    CPU, ENTRY, EXIT_AFTER_2, EXTENTS_72, EXTENTS_80, EXTENTS_96, HEADER, HEADER_OF_5, ONE_CALL,
-    ONE_CALL_WITHOUT_PROCESS, PREAMBLE, PREAMBLE_OF_2, THREAD_1, WALL_0, file_of_blocks,
+    CPU, CPU_AT_1, CPU_AT_2, ENTRY, EXIT, EXIT_AFTER_1, EXIT_AFTER_2, EXTENTS_72, EXTENTS_80,
+    EXTENTS_96, EXTENTS_112, HEADER, HEADER_OF_5, ONE_CALL, ONE_CALL_WITHOUT_PROCESS, PREAMBLE,
+    PREAMBLE_OF_2, THREAD_1, WALL_0, file_of_blocks,
 };
 
 /// A header of version 4, which is otherwise that of the other traces.
@@ -59,6 +60,58 @@ const ENTRY_WITH_ARGUMENT: &[u8] = b"\x16\0\0\0\0\0\0\0";
 
 const ARGUMENT_77: &[u8] = b"\x0D\x4D\0\0\0\0\0\0\0\0\0\0\0\0\0\0";
 
+/// Records of a basic log: thread 1 enters function 1 at 100; thread 2 enters function 9 at 1; thread 1
+/// enters function 3 at 50 and leaves it at 60; thread 2 leaves function 9 at 2; thread 1 leaves
+/// function 1 at 200.
+const COUNTER_FALLS: [&[u8]; 6] = [
+    b"\0\0\0\0\x01\0\0\0\x64\0\0\0\0\0\0\0\x01\0\0\0\x01\0\0\0\0\0\0\0\0\0\0\0",
+    b"\0\0\0\0\x09\0\0\0\x01\0\0\0\0\0\0\0\x02\0\0\0\x01\0\0\0\0\0\0\0\0\0\0\0",
+    b"\0\0\0\0\x03\0\0\0\x32\0\0\0\0\0\0\0\x01\0\0\0\x01\0\0\0\0\0\0\0\0\0\0\0",
+    b"\0\0\0\x01\x03\0\0\0\x3C\0\0\0\0\0\0\0\x01\0\0\0\x01\0\0\0\0\0\0\0\0\0\0\0",
+    b"\0\0\0\x01\x09\0\0\0\x02\0\0\0\0\0\0\0\x02\0\0\0\x01\0\0\0\0\0\0\0\0\0\0\0",
+    b"\0\0\0\x01\x01\0\0\0\xC8\0\0\0\0\0\0\0\x01\0\0\0\x01\0\0\0\0\0\0\0\0\0\0\0",
+];
+
+/// Records of a basic log: thread 1 enters function 1 at 100; thread 2 enters function 2 at 100; and
+/// the first record again.
+const RECORDED_AGAIN: [&[u8]; 3] = [
+    b"\0\0\0\0\x01\0\0\0\x64\0\0\0\0\0\0\0\x01\0\0\0\x01\0\0\0\0\0\0\0\0\0\0\0",
+    b"\0\0\0\0\x02\0\0\0\x64\0\0\0\0\0\0\0\x02\0\0\0\x01\0\0\0\0\0\0\0\0\0\0\0",
+    b"\0\0\0\0\x01\0\0\0\x64\0\0\0\0\0\0\0\x01\0\0\0\x01\0\0\0\0\0\0\0\0\0\0\0",
+];
+
+/// Records of thread 1 in a basic log: process 1 enters function 1 at 0, process 2 enters it at 2, and
+/// process 1 leaves it at 4 and at 5. Between the last two, thread 2 enters function 1 at 0.
+const TWO_PROCESSES: [&[u8]; 5] = [
+    b"\0\0\0\0\x01\0\0\0\0\0\0\0\0\0\0\0\x01\0\0\0\x01\0\0\0\0\0\0\0\0\0\0\0",
+    b"\0\0\0\0\x01\0\0\0\x02\0\0\0\0\0\0\0\x01\0\0\0\x02\0\0\0\0\0\0\0\0\0\0\0",
+    b"\0\0\0\x01\x01\0\0\0\x04\0\0\0\0\0\0\0\x01\0\0\0\x01\0\0\0\0\0\0\0\0\0\0\0",
+    b"\0\0\0\0\x01\0\0\0\0\0\0\0\0\0\0\0\x02\0\0\0\x01\0\0\0\0\0\0\0\0\0\0\0",
+    b"\0\0\0\x01\x01\0\0\0\x05\0\0\0\0\0\0\0\x01\0\0\0\x01\0\0\0\0\0\0\0\0\0\0\0",
+];
+
+/// CPU 0 at counter 100, and at counter 4.
+const CPU_AT_100: &[u8] = b"\x05\0\0\x64\0\0\0\0\0\0\0\0\0\0\0\0";
+
+const CPU_AT_4: &[u8] = b"\x05\0\0\x04\0\0\0\0\0\0\0\0\0\0\0\0";
+
+/// The counter 50, after a higher one.
+const COUNTER_50: &[u8] = b"\x07\x32\0\0\0\0\0\0\0\0\0\0\0\0\0\0";
+
+/// An entry of function 3 and its exit 10 cycles on; an exit of function 1, 140 cycles on.
+const CALL_OF_3: &[u8] = b"\x30\0\0\0\0\0\0\0\x32\0\0\0\x0A\0\0\0";
+
+const EXIT_AFTER_140: &[u8] = b"\x12\0\0\0\x8C\0\0\0";
+
+/// An entry of function 9 and its exit, 1 cycle on.
+const CALL_OF_9: &[u8] = b"\x90\0\0\0\0\0\0\0\x92\0\0\0\x01\0\0\0";
+
+/// An entry of function 2.
+const ENTRY_OF_2: &[u8] = b"\x20\0\0\0\0\0\0\0";
+
+/// Process 2.
+const PROCESS_2: &[u8] = b"\x13\x02\0\0\0\0\0\0\0\0\0\0\0\0\0\0";
+
 /// What is printed after each number.
 const FACTS: [&str; 11] = [
     "blocks",
@@ -87,7 +140,7 @@ const FIVE_CYCLES: File = &[&[HEADER], &[EXTENTS_80, PREAMBLE, CPU, ENTRY, EXIT_
 const ENTERED_BY_2: &[&[u8]] = &[EXTENTS_72, PREAMBLE_OF_2, CPU, ENTRY];
 
 /// Logs, and what is made of them.
-const IMPORTS: [Import; 8] = [
+const IMPORTS: [Import; 11] = [
     // A trace is imported as itself.
     (&[&ONE_CALL], "1 1 2 0 0 0 0 0 0 2 0", &[&ONE_CALL]),
     // Without a process it is 0.
@@ -146,6 +199,43 @@ const IMPORTS: [Import; 8] = [
             &[HEADER_OF_BASIC],
             &[EXTENTS_96, PREAMBLE, CPU, ENTRY_WITH_ARGUMENT],
             &[ARGUMENT_77, EXIT_AFTER_2],
+        ],
+    ),
+    // The events of a thread of a basic log keep its order, also if the counter falls. None is left
+    // out, even if an equal one stands before it. A block ends where the process changes, and not where
+    // another thread records.
+    (
+        &[&[BASIC_HEADER], &COUNTER_FALLS],
+        "2 2 6 0 0 0 0 0 1 200 1",
+        &[
+            &[HEADER_OF_BASIC, EXTENTS_112, PREAMBLE, CPU_AT_100, ENTRY],
+            &[COUNTER_50, CALL_OF_3, EXIT_AFTER_140],
+            &[EXTENTS_80, PREAMBLE_OF_2, CPU_AT_1, CALL_OF_9],
+        ],
+    ),
+    (
+        &[&[BASIC_HEADER], &RECORDED_AGAIN],
+        "2 2 3 0 0 0 0 0 100 100 0",
+        &[
+            &[
+                HEADER_OF_BASIC,
+                EXTENTS_80,
+                PREAMBLE,
+                CPU_AT_100,
+                ENTRY,
+                ENTRY,
+            ],
+            &[EXTENTS_72, PREAMBLE_OF_2, CPU_AT_100, ENTRY_OF_2],
+        ],
+    ),
+    (
+        &[&[BASIC_HEADER], &TWO_PROCESSES],
+        "4 2 5 0 0 0 0 0 0 5 0",
+        &[
+            &[HEADER_OF_BASIC, EXTENTS_72, PREAMBLE, CPU, ENTRY],
+            &[EXTENTS_72, THREAD_1, WALL_0, PROCESS_2, CPU_AT_2, ENTRY],
+            &[EXTENTS_80, PREAMBLE, CPU_AT_4, EXIT, EXIT_AFTER_1],
+            ENTERED_BY_2,
         ],
     ),
     // No block.

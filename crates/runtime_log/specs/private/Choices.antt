@@ -4,27 +4,19 @@ use Rattle.std.specs.Option.{unwrap_or}
 use Rattle.fdr_record.specs.declared.event.Event.{Event}
 use Rattle.fdr_file.specs.declared.trace.Block.{Block}
 use Rattle.runtime_log.specs.declared.blocks.LogBlock.{LogBlock as Placed}
-use Rattle.runtime_log.specs.declared.blocks.Mode.{Mode}
-use Rattle.runtime_log.specs.declared.blocks.Mode.TheVariants.{Recorder, Basic}
 use Rattle.runtime_log.specs.declared.taken.LeftOut.{LeftOut}
-use Rattle.runtime_log.specs.BasicLogs.{basic_events}
+use Rattle.runtime_log.specs.declared.version.LogVersion.{LogVersion}
 use Rattle.runtime_log.specs.Logs.{LogBlock, log_block_in}
 use Rattle.runtime_log.specs.Taken.{first_ones, is_among, undoubled}
-use Rattle.runtime_log.specs.private.Records.{records_in}
 
--- the length of what stands before the bytes of a block
-abbrev pub head_length : Mode → ℕ
-head_length (Recorder version) = 16
-head_length Basic = 0
-
--- the bytes of a block, without what stands before them
-abbrev pub content_at : List ℕ → Mode → Placed → List ℕ
-content_at bytes mode placed =
-    let begin = placed.begin + head_length mode in take (placed.end - begin) (drop begin bytes)
+-- the bytes of a block, without the record of 16 bytes that stands before them
+abbrev pub content_at : List ℕ → Placed → List ℕ
+content_at bytes placed =
+    let begin = placed.begin + 16 in take (placed.end - begin) (drop begin bytes)
 
 -- a block lies within the log
-pub record LiesWithin (bytes : List ℕ) (mode : Mode) (placed : Placed) : Type 0 where
-  pub head : placed.begin + head_length mode ≤ placed.end
+pub record LiesWithin (bytes : List ℕ) (placed : Placed) : Type 0 where
+  pub head : placed.begin + 16 ≤ placed.end
   pub whole : placed.end ≤ length bytes
 
 -- the counter of the first event, if there is one
@@ -39,30 +31,19 @@ pub record Shows (placed : Placed) (block : Block) : Type 0 where
   pub wall : placed.wall ≡ block.wall
   pub first : placed.first ≡ counter_first block.events
 
--- a block of a basic log: its records say its events, and no events of the program's own
-pub record IsBasic (b : LogBlock) : Type 0 where
-  pub events : b.block.events ≡ basic_events (records_in b.content)
-  pub custom : b.custom ≡ 0
-  pub typed : b.typed ≡ 0
-
--- a log of this mode says this block, at its place
-abbrev pub IsSaid : List ℕ → Mode → LogBlock → Type 0
-IsSaid bytes (Recorder version) b = log_block_in version (b.place, drop b.place bytes) ≡ Ok b
-IsSaid bytes Basic b = IsBasic b
-
 -- the block of a log that is at these places of its bytes
-pub record IsAt (bytes : List ℕ) (mode : Mode) (placed : Placed) (b : LogBlock) : Type 0 where
-  pub said : IsSaid bytes mode b
-  pub within : LiesWithin bytes mode placed
+pub record IsAt (bytes : List ℕ) (version : LogVersion) (placed : Placed) (b : LogBlock) : Type 0 where
+  pub said : log_block_in version (b.place, drop b.place bytes) ≡ Ok b
+  pub within : LiesWithin bytes placed
   pub place : placed.begin ≡ b.place
-  pub content : content_at bytes mode placed ≡ b.content
+  pub content : content_at bytes placed ≡ b.content
   pub shows : Shows placed b.block
 
 -- so are these, one for one
-abbrev pub AreAt : List ℕ → Mode → List Placed → List LogBlock → Type 0
-AreAt bytes mode [] [] = ⊤
-AreAt bytes mode (placed ∷ places) (b ∷ blocks) = IsAt bytes mode placed b × AreAt bytes mode places blocks
-AreAt bytes mode _ _ = ⊥
+abbrev pub AreAt : List ℕ → LogVersion → List Placed → List LogBlock → Type 0
+AreAt bytes version [] [] = ⊤
+AreAt bytes version (placed ∷ places) (b ∷ blocks) = IsAt bytes version placed b × AreAt bytes version places blocks
+AreAt bytes version _ _ = ⊥
 
 -- blocks in the order of the file, from a place on, and up to another one
 abbrev pub AreInFileOrder : ℕ → ℕ → List LogBlock → Type 0
@@ -81,9 +62,9 @@ pub record AreLeftOut (blocks : List LogBlock) (left : LeftOut) : Type 0 where
 
 -- Of the first blocks of a log, those were kept whose bytes aren't those of a block before them. The bytes of all of them
 -- were seen.
-pub record KeepsFirst (bytes : List ℕ) (mode : Mode) (said : List LogBlock) (count : ℕ) (kept : List Placed) (seen : List (List ℕ)) : Type 0 where
+pub record KeepsFirst (bytes : List ℕ) (version : LogVersion) (said : List LogBlock) (count : ℕ) (kept : List Placed) (seen : List (List ℕ)) : Type 0 where
   pub done : List LogBlock
   pub before : List (List ℕ)
-  pub at : AreAt bytes mode kept done
+  pub at : AreAt bytes version kept done
   pub parts : undoubled said ≡ done ++ first_ones before (drop count said)
   pub among : (content : List ℕ) → is_among seen content ≡ is_among before content

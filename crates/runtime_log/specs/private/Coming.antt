@@ -1,11 +1,10 @@
 -- The events that are still to come of a block.
-use Rattle.std.specs.Prelude.{◌<◌, ◌^◌, ◌+◌, ⊤, List, [], ◌++◌, length, option_to_list}
+use Rattle.std.specs.Prelude.{◌<◌, ◌^◌, ◌+◌, ⊤, List, [], ◌++◌, length, map, option_to_list}
 use Rattle.fdr_record.specs.declared.event.Event.{Event}
 use Rattle.runtime_log.specs.declared.blocks.BlockEvents.{BlockEvents}
 use Rattle.runtime_log.specs.declared.blocks.BlockEvents.TheVariants as coming
 use Rattle.runtime_log.specs.declared.blocks.RecorderEvents.{RecorderEvents}
-use Rattle.runtime_log.specs.BasicLogs.{basic_events}
-use Rattle.runtime_log.specs.private.Records.{records_in}
+use Rattle.runtime_log.specs.private.Passings.{event_at}
 use Rattle.runtime_log.specs.private.Walks.{walk_events}
 
 abbrev pub recorder_events : RecorderEvents → List Event
@@ -13,7 +12,7 @@ recorder_events events = option_to_list events.pending ++ walk_events events.wal
 
 abbrev pub events_to_come : BlockEvents → List Event
 events_to_come (coming.Recorder events) = recorder_events events
-events_to_come (coming.Basic events) = basic_events (records_in events.bytes.now)
+events_to_come (coming.Basic events) = map (λ p. event_at events.bytes.now p.at) events.passings.now
 events_to_come coming.Done = []
 
 -- they may be taken

@@ -7,12 +7,12 @@ use Rattle.fdr_buffer.specs.Segments.{segments}
 use Rattle.fdr_file.specs.declared.header.Header.{Header}
 use Rattle.fdr_file.specs.Files.{block_bytes}
 use Rattle.fdr_record.specs.declared.event.Event.{Event}
-use Rattle.fdr_file.specs.ThreadEvents.{ThreadEvent}
+use Rattle.fdr_file.specs.ThreadEvents.{ThreadEvent, thread_events}
 use Rattle.runtime_log.specs.declared.blocks.BlockEvents.{BlockEvents}
-use Rattle.runtime_log.specs.declared.blocks.LogBlock.{LogBlock as Placed}
+use Rattle.runtime_log.specs.declared.blocks.Head.{Head}
+use Rattle.fdr_file.specs.declared.trace.Block.{Block}
 use Rattle.runtime_log.specs.declared.facts.Facts.{Facts}
 use Rattle.runtime_log.specs.declared.packing.Packing.{Packing}
-use Rattle.runtime_log.specs.Facts.{taken_events}
 use Rattle.runtime_log.specs.Imports.{trace_file, trace_taken}
 use Rattle.runtime_log.specs.Logs.{LogBlock}
 use Rattle.runtime_log.specs.Taken.{undoubled}
@@ -36,15 +36,21 @@ pub record SaysOfLog (blocks : List LogBlock) (facts : Facts) : Type 0 where
   pub doubled : facts.doubled ≡ length blocks - length (undoubled blocks)
   pub empty : facts.empty ≡ count_by (λ b. length b.block.events == 0) (undoubled blocks)
 
+-- what is known of a block without its events is what it says
+pub record Heads (head : Head) (block : Block) : Type 0 where
+  pub thread : head.thread ≡ block.thread
+  pub pid : head.pid ≡ block.pid
+  pub wall : head.wall ≡ block.wall
+
 -- a buffer that was begun for a block, with these events
-abbrev pub filled_for : Placed → List Event → Filled
-filled_for placed events = record {
+abbrev pub filled_for : Head → List Event → Filled
+filled_for head events = record {
   size = LARGEST_SIZE;
   begun = true;
-  thread = placed.thread;
+  thread = head.thread;
   serial = 0;
-  wall = placed.wall;
-  pid = placed.pid;
+  wall = head.wall;
+  pid = head.pid;
   events = events;
 }
 
@@ -53,28 +59,28 @@ abbrev pub EndsIn : Filled → Event → Type 0
 EndsIn buffer event = (earlier : List Event) × (buffer.events ≡ earlier ++ event ∷ [])
 
 -- These events of a block are in the file behind what was there before, and in the buffer.
-pub record Fills (placed : Placed) (file : List ℕ) (events : List Event) (packing : Packing) : Type 0 where
+pub record Fills (head : Head) (file : List ℕ) (events : List Event) (packing : Packing) : Type 0 where
   pub whole : List (List Event)
   pub opened : List Event
   pub cut : segments LARGEST_SIZE events ≡ whole ++ opened ∷ []
-  pub written : packing.file.items ≡ file ++ flat_map (λ s. block_bytes (filled_for placed s)) whole
-  pub buffer : packing.buffer ≡ filled_for placed opened
+  pub written : packing.file.items ≡ file ++ flat_map (λ s. block_bytes (filled_for head s)) whole
+  pub buffer : packing.buffer ≡ filled_for head opened
 
 -- it is the file of these blocks, which are taken of those of a log
-pub record HasPacked (header : Header) (blocks taken : List LogBlock) (packing : Packing) : Type 0 where
+pub record HasPacked (header : Header) (blocks : List LogBlock) (taken : List Block) (packing : Packing) : Type 0 where
   pub file : packing.file.items ≡ trace_file (trace_taken header taken)
   pub size : packing.buffer.size ≡ LARGEST_SIZE
-  pub notes : HasNoted (taken_events taken) packing.notes
+  pub notes : HasNoted (thread_events taken) packing.notes
   pub few : AreFew packing.notes.facts
   pub count : packing.notes.facts.blocks ≡ length taken
   pub log : SaysOfLog blocks packing.notes.facts
 
 -- The first events of a block were added to a packing: they are filled in, and noted.
-pub record Adds (placed : Placed) (old : Packing) (all left : BlockEvents) (new : Packing) : Type 0 where
+pub record Adds (head : Head) (old : Packing) (all left : BlockEvents) (new : Packing) : Type 0 where
   pub done : List Event
   pub parts : events_to_come all ≡ done ++ events_to_come left
-  pub fills : Fills placed old.file.items done new
+  pub fills : Fills head old.file.items done new
   pub notes : (before : List ThreadEvent) (pid : ℕ) → HasNoted before old.notes
-      → HasNoted (before ++ map (λ event. record { thread = placed.thread; pid = pid; event = event }) done) new.notes
+      → HasNoted (before ++ map (λ event. record { thread = head.thread; pid = pid; event = event }) done) new.notes
   pub count : new.notes.facts.blocks ≡ old.notes.facts.blocks + 1
   pub log : (blocks : List LogBlock) → SaysOfLog blocks old.notes.facts → SaysOfLog blocks new.notes.facts

@@ -6,6 +6,7 @@ use Rattle.runtime_log.specs.Logs.{LogBlock}
 use Rattle.runtime_log.specs.private.Choices.{AreAt}
 use Rattle.runtime_log.specs.private.Notes.{AreFew}
 use Rattle.runtime_log.specs.private.Packings.{HasPacked}
+use Rattle.runtime_log.proofs.ImportedBlocks.{blocks_of}
 use Rattle.runtime_log.proofs.import.pack_blocks.Given as goal
 
 -- the blocks so far were packed
@@ -16,5 +17,5 @@ invariant-adding l = record {
   room : l.packing.notes.facts.events ≤ l.block-index * 2 ^ 31;
   count : l.packing.notes.facts.blocks ≡ l.block-index;
   packed : (header : Header) (said taken : List LogBlock) → HasPacked header said [] l.initial.packing
-      → AreAt l.bytes l.mode l.blocks taken → All (λ b. b.block.events ≢ []) taken → HasPacked header said (take l.block-index taken) l.packing;
+      → AreAt l.bytes l.version l.blocks taken → All (λ b. b.block.events ≢ []) taken → HasPacked header said (blocks_of (take l.block-index taken)) l.packing;
 }

@@ -14,10 +14,10 @@ use Rattle.runtime_log.proofs.taken.first_ones.Goals as goal
 pub keeping-init : goal.keeping-init
 keeping-init c = record {
   few = omega (arith, ap length c.new-kept.ensures.items);
-  keeps = λ said are. record {
+  keeps = λ version said are. record {
     done = [];
     before = [];
-    at = subst (λ (ps : List Placed). AreAt c.args.bytes.now c.args.mode ps []) (sym c.new-kept.ensures.items) tt;
+    at = subst (λ (ps : List Placed). AreAt c.args.bytes.now version ps []) (sym c.new-kept.ensures.items) tt;
     parts = refl;
     among = λ q. ap (λ (keys : List (Bor (List ℕ))). is_among (map (λ k. k.now) keys) q) c.new-seen.ensures.empty;
   };
@@ -27,7 +27,6 @@ pub keeping-preserved : goal.keeping-preserved
 keeping-preserved c =
     let i = c.keeping.invariant in
     let bytes = c.args.bytes.now in
-    let mode = c.args.mode in
     let at = c.keeping.block-index in
     let seen = map (λ (k : Bor (List ℕ)). k.now) c.keeping.seen.keys in
     let kept = c.keeping.kept.items in
@@ -39,21 +38,21 @@ keeping-preserved c =
         | then-branch+in_ok-push w ↦ omega (arith, i.few, ap (λ (v : Vec Placed Global). length v.items) w.kept-is, ap length w.in_ok-push.ensures.items, length_push {X = Placed})
         | else-branch w ↦ omega (arith, i.few, ap (λ (v : Vec Placed Global). length v.items) w.kept-is)
       ];
-      keeps = λ said are.
-          let k = i.keeps said are in
-          let there = at_index bytes mode c.args.blocks.now said at _ are c.keeping-test.true in
+      keeps = λ version said are.
+          let k = i.keeps version said are in
+          let there = at_index bytes version c.args.blocks.now said at _ are c.keeping-test.true in
           elim c.if-branch.branch [
-            | then-branch+in_ok-push w ↦ subst (λ (v : Vec Placed Global). KeepsFirst bytes mode said (at + 1) v.items (map (λ (x : Bor (List ℕ)). x.now) c.add_content.new.seen.keys)) (sym w.kept-is)
-                (subst (λ (ps : List Placed). KeepsFirst bytes mode said (at + 1) ps (map (λ (x : Bor (List ℕ)). x.now) c.add_content.new.seen.keys)) (sym w.in_ok-push.ensures.items)
-                (keeps_own bytes mode said at kept seen _ _ k there (not-true _ (sym own ∙ w.if-branch.true)) adds))
-            | else-branch w ↦ subst (λ (v : Vec Placed Global). KeepsFirst bytes mode said (at + 1) v.items (map (λ (x : Bor (List ℕ)). x.now) c.add_content.new.seen.keys)) (sym w.kept-is)
-                (keeps_doubled bytes mode said at kept seen _ _ k there (not-false _ (sym own ∙ w.if-branch.false)) adds)
+            | then-branch+in_ok-push w ↦ subst (λ (v : Vec Placed Global). KeepsFirst bytes version said (at + 1) v.items (map (λ (x : Bor (List ℕ)). x.now) c.add_content.new.seen.keys)) (sym w.kept-is)
+                (subst (λ (ps : List Placed). KeepsFirst bytes version said (at + 1) ps (map (λ (x : Bor (List ℕ)). x.now) c.add_content.new.seen.keys)) (sym w.in_ok-push.ensures.items)
+                (keeps_own bytes version said at kept seen _ _ k there (not-true _ (sym own ∙ w.if-branch.true)) adds))
+            | else-branch w ↦ subst (λ (v : Vec Placed Global). KeepsFirst bytes version said (at + 1) v.items (map (λ (x : Bor (List ℕ)). x.now) c.add_content.new.seen.keys)) (sym w.kept-is)
+                (keeps_doubled bytes version said at kept seen _ _ k there (not-false _ (sym own ∙ w.if-branch.false)) adds)
           ];
     }
 
 pub returns-clause-keeps : goal.returns-clause-keeps
-returns-clause-keeps c = λ said are.
-    let k = c.keeping.invariant.keeps said are in
-    let all = drop_all c.keeping.block-index said (omega (arith, c.keeping-test.false, at_length c.args.bytes.now c.args.mode c.args.blocks.now said are)) in
-    subst (λ (bs : List LogBlock). AreAt c.args.bytes.now c.args.mode c.keeping.kept.items bs)
+returns-clause-keeps c = λ version said are.
+    let k = c.keeping.invariant.keeps version said are in
+    let all = drop_all c.keeping.block-index said (omega (arith, c.keeping-test.false, at_length c.args.bytes.now version c.args.blocks.now said are)) in
+    subst (λ (bs : List LogBlock). AreAt c.args.bytes.now version c.keeping.kept.items bs)
     (sym (k.parts ∙ ap (λ (bs : List LogBlock). k.done ++ first_ones k.before bs) all ∙ append-nil k.done)) k.at

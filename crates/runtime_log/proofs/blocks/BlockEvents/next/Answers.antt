@@ -1,4 +1,5 @@
-use Rattle.runtime_log.proofs.EventsToCome.{gives_some, match_some}
+use Rattle.runtime_log.proofs.EventsToCome.{gives_some}
+use Rattle.runtime_log.proofs.RecordedPassings.{given_next, given_none}
 use Rattle.runtime_log.proofs.blocks.BlockEvents.next.Goals as goal
 
 pub returns-in-Recorder-clause-gives : goal.returns-in-Recorder-clause-gives
@@ -7,4 +8,8 @@ returns-in-Recorder-clause-gives c =
 
 pub returns-in-Basic-clause-gives : goal.returns-in-Basic-clause-gives
 returns-in-Basic-clause-gives c =
-    rw c.in-Basic.is (match_some c.next-in-Basic.result _ _ c.next-in-Basic.ensures)
+    rw c.in-Basic.is (given_next _ _ _ _ c.next-in-Basic.result c.next-in-Basic.ensures.bytes c.next-in-Basic.ensures.gives)
+
+pub returns-in-Basic-clause-ends : goal.returns-in-Basic-clause-ends
+returns-in-Basic-clause-ends c = λ none.
+    rw c.in-Basic.is (given_none _ _ _ _ c.next-in-Basic.result c.next-in-Basic.ensures.bytes c.next-in-Basic.ensures.gives none)

@@ -1,4 +1,4 @@
-use Rattle.std.proofs.Common.{◌≡◌, ◌-◌, ◌≤◌, length}
+use Rattle.std.proofs.Common.{◌-◌, ◌≤◌, length}
 use Rattle.runtime_log.specs.private.Readings.{BlocksRead}
 use Rattle.runtime_log.proofs.blocks.LogBlocks.read_recorder.Given as goal
 
@@ -8,7 +8,6 @@ invariant-reading l = record {
   within : l.at ≤ length l.bytes;
   reads : BlocksRead l.version l.bytes l.at l.self;
   counts : (l.self.custom ≤ l.at) × (l.self.typed ≤ l.at);
-  mode : l.self.mode ≡ l.fn.self.mode;
 }
 
 abbrev pub decreases-reading : goal.decreases-reading

@@ -14,7 +14,7 @@ records-init c = record {
   counts = c.requires.counts;
   reads = λ so stage. record { now = so; on = refl; stage = stage; shows = λ s. s; custom = refl; typed = refl };
   begin = refl;
-  others = (refl, refl);
+  others = refl;
 }
 
 pub records-preserved : goal.records-preserved
@@ -37,7 +37,7 @@ records-preserved c =
           c.hear.ensures.shows i.version some said.0 past custom typed)
           (past.version ∙ i.version) c.past_stretch-walk.ensures;
       begin = c.hear.ensures.places.0 ∙ i.begin;
-      others = (c.count.ensures.others.0 ∙ i.others.0, c.count.ensures.others.1 ∙ i.others.1);
+      others = c.count.ensures.others ∙ i.others;
     }
 
 pub returns-in_err-told-clause-refuses : goal.returns-in_err-told-clause-refuses

@@ -11,7 +11,7 @@ invariant-records l = record {
   counts : (l.self.custom ≤ l.walk.at) × (l.self.typed ≤ l.walk.at);
   reads : (so : BlockSoFar) → l.initial.walk.stage ≡ so.stage → ReadsOn so l.fn.self l.fn.block l.initial.walk l.self l.block l.walk;
   begin : l.block.begin ≡ l.fn.block.begin;
-  others : (l.self.blocks ≡ l.fn.self.blocks) × (l.self.mode ≡ l.fn.self.mode);
+  others : l.self.blocks ≡ l.fn.self.blocks;
 }
 
 abbrev pub decreases-records : goal.decreases-records

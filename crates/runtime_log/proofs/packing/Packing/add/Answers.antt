@@ -15,7 +15,7 @@ use Rattle.runtime_log.proofs.packing.Packing.add.Goals as goal
 pub events-init : goal.events-init
 events-init c =
     let old = c.args.self.now in
-    let block = c.args.block.now in
+    let head = c.args.head in
     let first = c.in-Some.first in
     let gives = c.in-Some.ensures.gives in
     let before = counted old.notes (old.notes.facts.blocks + 1) in
@@ -26,9 +26,9 @@ events-init c =
       recordable = All-tail IsRecordable first (events_to_come c.next.new.self) (subst (All IsRecordable) gives c.requires.recordable);
       few = subst (λ (n : Notes). AreFew n.facts) noted c.note.ensures.few;
       begun = subst (λ (b : Filled). IsTrue b.begun × (b.size ≡ LARGEST_SIZE)) (sym c.begin.ensures.buffer) (refl, refl);
-      adds = adds_first block old c.begin.new.self c.args.events c.next.new.self first (old.notes.facts.blocks + 1) refl gives
-          (fills_first block old.file.items first c.begin.new.self (λ size e. refl) file c.begin.ensures.buffer)
-          (subst (λ (n : Notes). NotesEvent block.thread first before n) noted c.note.ensures.notes)
+      adds = adds_first head old c.begin.new.self c.args.events c.next.new.self first (old.notes.facts.blocks + 1) refl gives
+          (fills_first head old.file.items first c.begin.new.self (λ size e. refl) file c.begin.ensures.buffer)
+          (subst (λ (n : Notes). NotesEvent head.thread first before n) noted c.note.ensures.notes)
           (subst (λ (n : Notes). SameLog before.facts n.facts) noted c.note.ensures.log);
       room = omega (arith, c.note.ensures.events, ap (λ (n : Notes). n.facts.events) c.begin.ensures.others.1, ap length gives);
     }
@@ -38,14 +38,14 @@ events-preserved c =
     let i = c.events.invariant in
     let old = c.args.self.now in
     let mid = c.events.self in
-    let block = c.args.block.now in
+    let head = c.args.head in
     let event = c.in-Some-next.event in
     let gives = c.in-Some-next.ensures.gives in
     let noted = sym c.put.ensures.notes in
     let put = c.put.new.self in
-    let added = adds_more block old mid put c.args.events c.events.events c.next-in-events.new.self event i.adds gives
-    (λ es fills. c.in_ok-put.ensures.fills old.file.items es (fills_again block old.file.items es mid (record mid { notes = c.note-in-Some-next.new.self }) refl refl fills))
-    (subst (λ (n : Notes). NotesEvent block.thread event mid.notes n) noted c.note-in-Some-next.ensures.notes)
+    let added = adds_more head old mid put c.args.events c.events.events c.next-in-events.new.self event i.adds gives
+    (λ es fills. c.in_ok-put.ensures.fills old.file.items es (fills_again head old.file.items es mid (record mid { notes = c.note-in-Some-next.new.self }) refl refl fills))
+    (subst (λ (n : Notes). NotesEvent head.thread event mid.notes n) noted c.note-in-Some-next.ensures.notes)
     (subst (λ (n : Notes). SameLog mid.notes.facts n.facts) noted c.note-in-Some-next.ensures.log) in
     record {
       may = c.add_stretch.ensures.may;
@@ -63,5 +63,5 @@ pub returns-clause-packs : goal.returns-clause-packs
 returns-clause-packs c = λ header said taken b packed shows some is.
     let i = c.events.invariant in
     on_ok_weaker c.flush.result
-    (packed_more header said taken b c.args.block.now c.args.self.now c.events.self c.flush.new.self c.args.events c.events.events packed shows is i.adds
+    (packed_more header said taken b c.args.head c.args.self.now c.events.self c.flush.new.self c.args.events c.events.events packed shows is i.adds
     (c.next-in-events.ensures.ends c.in_default-next.is) i.few i.begun.1 c.flush.ensures.others.0 c.flush.ensures.others.1) c.flush.ensures.file

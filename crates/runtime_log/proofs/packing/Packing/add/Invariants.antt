@@ -14,7 +14,7 @@ invariant-events l = record {
   recordable : All IsRecordable (events_to_come l.events);
   few : AreFew l.self.notes.facts;
   begun : IsTrue l.self.buffer.begun × (l.self.buffer.size ≡ LARGEST_SIZE);
-  adds : Adds l.block l.fn.self l.fn.events l.events l.self;
+  adds : Adds l.head l.fn.self l.fn.events l.events l.self;
   room : l.self.notes.facts.events + length (events_to_come l.events) ≡ l.fn.self.notes.facts.events + length (events_to_come l.fn.events);
 }
 

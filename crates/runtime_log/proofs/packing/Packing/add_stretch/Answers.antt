@@ -31,7 +31,7 @@ returns-clause-adds c = λ first all adds.
     let goes_on = stretch_goes_on old.buffer.events after stretch says.0 _ _ c.requires.last.0 says.1 in
     let room : has_room old.buffer.size (old.buffer.events ++ stretch_events stretch.count after.cpu after.tsc says.0) ≡ true =
     stretch_room old.buffer.size c.room.result old.buffer.events _ stretch.records.now goes_on.bytes c.in-Some.ensures.within c.room.ensures in
-    adds_stretch c.args.block.now first old (record { file = old.file; buffer = c.put_records.new.self; notes = c.note_stretch.new.self }) all c.args.events.now c.stretch.new.self after stretch says.0
+    adds_stretch c.args.head first old (record { file = old.file; buffer = c.put_records.new.self; notes = c.note_stretch.new.self }) all c.args.events.now c.stretch.new.self after stretch says.0
     c.a_segment_grows.ensures.joined says.1 c.requires.last.1 room refl c.note_stretch.ensures (c.put_records.ensures _ goes_on) adds
 
 pub returns-clause-recordable : goal.returns-clause-recordable

@@ -1,0 +1,158 @@
+-- What a log of the Flight Data Recorder mode is: a header, and blocks, one after the other.
+use Rattle.std.specs.Prelude.{◌≡◌, ◌<◌, ℕ, ◌+◌, ◌/◌, ◌%◌, ◌^◌, ◌==◌, ⊤, Bool, true, false, List, [], ◌∷◌, ◌++◌, length, count_by}
+use Rattle.std.specs.List.{AllByRecursion}
+use Rattle.byteorder.specs.Endian.{little_bytes}
+use Rattle.fdr_record.specs.declared.rec.Rec.{Rec}
+use Rattle.fdr_record.specs.declared.rec.Rec.TheVariants.{Extents, TscWrap}
+use Rattle.fdr_record.specs.Records.{FieldsFit, Spells, first_of, metadata_length}
+use Rattle.fdr_file.specs.declared.header.Header.{Header}
+use Rattle.fdr_file.specs.Events.{counter_at}
+use Rattle.fdr_file.specs.Grammar.{ArgsFollow, BeginWithCpu, IsInner, block_records}
+use Rattle.fdr_file.specs.Traces.{block_of}
+use Rattle.runtime_log.specs.declared.own_event.OwnKind.{OwnKind}
+use Rattle.runtime_log.specs.declared.own_event.OwnKind.TheVariants.{Custom, Typed}
+use Rattle.runtime_log.specs.declared.version.LogVersion.{LogVersion}
+use Rattle.runtime_log.specs.declared.version.LogVersion.TheVariants.{Two, Three, Four, Five}
+use Rattle.runtime_log.specs.Logs.{Log, LogBlock}
+use Rattle.runtime_log.specs.OwnEvents.{custom_event_marker, typed_event_marker}
+use Rattle.runtime_log.specs.Versions.{trace_version}
+
+-- ---- records
+
+-- A record of a block: one that a trace may have, or an event of the program's own. The delta says how far the counter has
+-- advanced since the record before.
+pub data LogRecord : Type 0 where
+  OfTrace : Rec → LogRecord
+  OfProgram : (kind : OwnKind) → (delta : ℕ) → LogRecord
+
+-- the first byte of an event of the program's own
+abbrev pub own_marker : OwnKind → ℕ
+own_marker Custom = first_of custom_event_marker
+own_marker Typed = first_of typed_event_marker
+
+-- Each version has custom events. Only version 5 has typed ones.
+abbrev pub HasEventsOf : LogVersion → OwnKind → Type 0
+HasEventsOf version Custom = ⊤
+HasEventsOf version Typed = version ≡ Five
+
+-- The bytes that say the delta. Before version 5 none do: such an event has a whole counter, which counts for no other record.
+abbrev pub delta_bytes : LogVersion → ℕ → List ℕ
+delta_bytes Two delta = []
+delta_bytes Three delta = []
+delta_bytes Four delta = []
+delta_bytes Five delta = little_bytes 4 delta
+
+abbrev pub DeltaFits : LogVersion → ℕ → Type 0
+DeltaFits Two delta = delta ≡ 0
+DeltaFits Three delta = delta ≡ 0
+DeltaFits Four delta = delta ≡ 0
+DeltaFits Five delta = delta < 2 ^ 32
+
+-- The bytes are an event of the program's own: 16 bytes that say its kind, how many bytes are behind these, and its delta;
+-- and as many bytes. The other bytes may be any.
+pub record IsOwnEvent (version : LogVersion) (kind : OwnKind) (delta : ℕ) (bytes : List ℕ) : Type 0 where
+  pub head : List ℕ
+  pub payload : List ℕ
+  pub filler : List ℕ
+  pub parts : bytes ≡ head ++ payload
+  pub spelled : head ≡ own_marker kind ∷ little_bytes 4 (length payload) ++ (delta_bytes version delta ++ filler)
+  pub whole : length head ≡ metadata_length
+  pub few : length payload < 2 ^ 32
+  pub fits : DeltaFits version delta
+  pub known : HasEventsOf version kind
+
+-- the bytes are this record
+abbrev pub IsLogRecord : LogVersion → LogRecord → List ℕ → Type 0
+IsLogRecord version (OfTrace r) bytes = FieldsFit r × Spells bytes r
+IsLogRecord version (OfProgram kind delta) bytes = IsOwnEvent version kind delta bytes
+
+-- the bytes are these records, one after the other
+abbrev pub AreLogRecords : LogVersion → List LogRecord → List ℕ → Type 0
+AreLogRecords version [] bytes = bytes ≡ []
+AreLogRecords version (r ∷ records) bytes =
+    (front : List ℕ) × (following : List ℕ) × (bytes ≡ front ++ following) × IsLogRecord version r front × AreLogRecords version records following
+
+-- ---- what they say
+
+-- The record of a trace that a record stands for, after these, the last of which comes first. An event of the program's own
+-- stands for the counter at it: the counter at the record before, and its delta.
+abbrev pub stands_for : List Rec → LogRecord → Rec
+stands_for before (OfTrace r) = r
+stands_for before (OfProgram kind delta) = TscWrap ((counter_at before + delta) % 2 ^ 64)
+
+-- those that records stand for
+abbrev pub stand_for : List Rec → List LogRecord → List Rec
+stand_for before [] = []
+stand_for before (r ∷ records) = stands_for before r ∷ stand_for (stands_for before r ∷ before) records
+
+-- the record is a custom event, or a typed one
+abbrev pub is_custom_event : LogRecord → Bool
+is_custom_event (OfTrace r) = false
+is_custom_event (OfProgram Custom delta) = true
+is_custom_event (OfProgram Typed delta) = false
+
+abbrev pub is_typed_event : LogRecord → Bool
+is_typed_event (OfTrace r) = false
+is_typed_event (OfProgram Custom delta) = false
+is_typed_event (OfProgram Typed delta) = true
+
+-- ---- blocks
+
+-- The bytes are a block: extents, and as many bytes as they name. These are records that stand for those of a block of a
+-- trace, the preamble and others, which say the block.
+pub record IsLogBlock (version : LogVersion) (bytes : List ℕ) (b : LogBlock) : Type 0 where
+  pub extents : List ℕ
+  pub parts : bytes ≡ extents ++ b.content
+  pub named : Spells extents (Extents (length b.content))
+  pub few : length b.content < 2 ^ 64
+  pub records : List LogRecord
+  pub spelled : AreLogRecords version records b.content
+  pub others : List Rec
+  pub are : stand_for [] records ≡ block_records (trace_version version) b.block others
+  pub inner : AllByRecursion IsInner others
+  pub based : BeginWithCpu others
+  pub args : ArgsFollow false others
+  pub told : b.block ≡ block_of (stand_for [] records)
+  pub custom : b.custom ≡ count_by is_custom_event records
+  pub typed : b.typed ≡ count_by is_typed_event records
+
+-- the bytes, which begin at a place, are these blocks, one after the other
+abbrev pub AreLogBlocks : LogVersion → ℕ → List LogBlock → List ℕ → Type 0
+AreLogBlocks version at [] bytes = bytes ≡ []
+AreLogBlocks version at (b ∷ blocks) bytes =
+    (front : List ℕ) × (following : List ℕ) × (bytes ≡ front ++ following) × (b.place ≡ at) × IsLogBlock version front b
+    × AreLogBlocks version (at + length front) blocks following
+
+-- ---- a log
+
+-- the number of a version in a header
+abbrev pub version_number : LogVersion → ℕ
+version_number Two = 2
+version_number Three = 3
+version_number Four = 4
+version_number Five = 5
+
+-- The bytes are a header of this version, and of the type of the Flight Data Recorder mode. The trace has its other fields,
+-- and version 3. The flags above the second, and the last 8 bytes, may have any values.
+pub record IsLogHeader (version : LogVersion) (bytes : List ℕ) (header : Header) : Type 0 where
+  pub flags : ℕ
+  pub reserved : List ℕ
+  pub spelled : bytes ≡ little_bytes 2 (version_number version) ++ (little_bytes 2 1 ++ (little_bytes 4 flags ++ (little_bytes 8 header.frequency
+      ++ (little_bytes 8 header.size ++ reserved))))
+  pub third : header.version ≡ 3
+  pub constant : header.constant ≡ (flags % 2 == 1)
+  pub nonstop : header.nonstop ≡ (flags / 2 % 2 == 1)
+  pub flags_fit : flags < 2 ^ 32
+  pub frequency_fits : header.frequency < 2 ^ 64
+  pub size_fits : header.size < 2 ^ 64
+  pub whole : length reserved ≡ 8
+
+-- the bytes are this log of the Flight Data Recorder mode: a header, and blocks of its version
+pub record IsLog (bytes : List ℕ) (log : Log) : Type 0 where
+  pub version : LogVersion
+  pub front : List ℕ
+  pub following : List ℕ
+  pub parts : bytes ≡ front ++ following
+  pub header : IsLogHeader version front log.header
+  pub blocks : AreLogBlocks version 32 log.blocks following
+  pub alone : log.events ≡ []
