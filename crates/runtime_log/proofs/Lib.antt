@@ -5,11 +5,14 @@ pub mod BlockReading
 pub mod BlockLists
 pub mod RecordedPassings
 pub mod WholeLogs
--- The grammar: what is read as a log is one (src/laws.rt)
+-- The grammar: what is read as a log is one, and one is read as this log (src/laws.rt)
 pub mod LogRecords
 pub mod LogEvents
 pub mod LogShapes
 pub mod LogDescribed
+pub mod RecordsAgain
+pub mod EventsAgain
+pub mod LogAgain
 -- What is imported of a log: each event of each thread, and what is printed (src/laws.rt)
 pub mod KeptEvents
 -- Records and their events: which fit the records of a trace (src/blocks.rt)

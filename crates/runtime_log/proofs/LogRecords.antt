@@ -145,10 +145,10 @@ pub record BeginsLog (version : LogVersion) (stage : Stage) (bytes : List ℕ) (
   pub stands : r ≡ as_record (counter_so_far stage) lr
   pub kind : own_kind version bytes ≡ kind_of lr
 
-abbrev record_by : LogVersion → Stage → List ℕ → Option OwnKind → Result Rec RecFault
+abbrev pub record_by : LogVersion → Stage → List ℕ → Option OwnKind → Result Rec RecFault
 record_by version stage bytes kind = option_map_or (λ k. Ok (TscWrap ((counter_so_far stage + own_delta version bytes) % 2 ^ 64))) kind (record_in bytes)
 
-abbrev length_by_kind : List ℕ → Option OwnKind → ℕ
+abbrev pub length_by_kind : List ℕ → Option OwnKind → ℕ
 length_by_kind bytes kind = option_map_or (λ k. 16 + own_size bytes) kind (record_length bytes)
 
 pub begins_log : Decodes → (version : LogVersion) (stage : Stage) (bytes : List ℕ) (r : Rec) → AreBytes bytes → log_record_length version bytes ≤ length bytes → log_record_in version stage bytes ≡ Ok r
@@ -205,7 +205,7 @@ pub record LogStep (version : LogVersion) (span : Span) (inside : Inside) (at : 
   pub rest : InTurn (said_rows version) (so_with version so bytes (stage_after span (at + log_record_length version bytes) said.0, said.1))
       (log_places version (at + log_record_length version bytes) (drop (log_record_length version bytes) bytes)) ≡ Ok last
 
-not_faulty : (span : Span) (place : ℕ) (said : Inside × Told) → unless_faulty (stage_after span place said.0, said.1) ≡ Ok (stage_after span place said.0, said.1)
+pub not_faulty : (span : Span) (place : ℕ) (said : Inside × Told) → unless_faulty (stage_after span place said.0, said.1) ≡ Ok (stage_after span place said.0, said.1)
 not_faulty span place said = by_end (eqb place span.end)
   where
     by_end : (b : Bool) → unless_faulty (cond b Due (Within span said.0), said.1) ≡ Ok (cond b Due (Within span said.0), said.1)

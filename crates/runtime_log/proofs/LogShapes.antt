@@ -197,7 +197,7 @@ based_are version before ((at, Ok r) ∷ following) many none clean =
     names (names_cpu r) (needs_cpu r) may (sym (ap (λ (b : Bool). b || not (needs_cpu r)) none) ∙ c.based)
 
 -- none of them names a process
-no_pid : (records : List Rec) → AllByRecursion IsInner records → filter_map pid_named records ≡ []
+pub no_pid : (records : List Rec) → AllByRecursion IsInner records → filter_map pid_named records ≡ []
 no_pid [] inner = refl
 no_pid (Pid pid ∷ records) inner =
     let not_so = inner.0 in
@@ -273,10 +273,10 @@ pub record BlockRead (version : LogVersion) (content : List ℕ) (last : BlockSo
   pub custom : last.custom ≡ count_by is_custom_event records
   pub typed : last.typed ≡ count_by is_typed_event records
 
-no_custom : (r : Rec) (records : List LogRecord) → count_by is_custom_event (OfTrace r ∷ records) ≡ count_by is_custom_event records
+pub no_custom : (r : Rec) (records : List LogRecord) → count_by is_custom_event (OfTrace r ∷ records) ≡ count_by is_custom_event records
 no_custom r records = count_more is_custom_event (OfTrace r) records ∙ omega arith
 
-no_typed : (r : Rec) (records : List LogRecord) → count_by is_typed_event (OfTrace r ∷ records) ≡ count_by is_typed_event records
+pub no_typed : (r : Rec) (records : List LogRecord) → count_by is_typed_event (OfTrace r ∷ records) ≡ count_by is_typed_event records
 no_typed r records = count_more is_typed_event (OfTrace r) records ∙ omega arith
 
 -- the records of a block of this version

@@ -14,6 +14,10 @@ use Rattle.runtime_log.specs.Threads.{recorded_by}
 abbrev pub LoggedIsLog : Type 0
 LoggedIsLog = (bytes : List ℕ) (log : Log) → All (λ b. b < 256) bytes → type_in bytes ≡ 1 → logged bytes ≡ Ok log → IsLog bytes log
 
+-- a log by the grammar is read as this log
+abbrev pub LogIsLogged : Type 0
+LogIsLogged = (bytes : List ℕ) (log : Log) → IsLog bytes log → logged bytes ≡ Ok log
+
 -- ---- what is imported of a log of this mode
 
 -- the events of blocks, in order

@@ -1,5 +1,5 @@
 //! Laws of imports. Each law is the contract of a function that does nothing.
-ghost use Rattle.runtime_log.specs.LogLaws.{LoggedIsLog, NumbersAreMeant, ThreadsAreKept};
+ghost use Rattle.runtime_log.specs.LogLaws.{LogIsLogged, LoggedIsLog, NumbersAreMeant, ThreadsAreKept};
 ghost use Rattle.runtime_log.specs.Laws.{ImportsItself, ImportsRead, OneImport, SomeImport, ThreadsKeepTheirOrder, TracesAreLogs};
 
 use fdr_buffer::{a_body_has_room, segments_hold_all};
@@ -47,6 +47,11 @@ pub fn what_is_read_is_a_log()
 {
     a_place_is_decoded();
 }
+
+/// A log of the Flight Data Recorder mode by the grammar is read as this log. So it isn't another one.
+pub fn a_log_is_read()
+    ensures { LogIsLogged }
+{}
 
 /// Of each thread, the events of the trace that is made of a log of the Flight Data Recorder mode are
 /// those of its blocks that are taken, one block after the other.
