@@ -1,5 +1,5 @@
 -- `import`: a log of LLVM's runtime as a trace.
-use Rattle.std.specs.Prelude.{◌≡◌, ◌<◌, ℕ, List, [], ◌∷◌, AllPairs}
+use Rattle.std.specs.Prelude.{◌≡◌, ◌≢◌, ◌≤◌, ℕ, List, [], ◌∷◌, AllPairs}
 use Rattle.fdr_record.specs.declared.event.Event.{Event}
 use Rattle.machine_step.specs.Setups.{IsSetup}
 use Rattle.machine_step.specs.declared.setup.Setup.{Setup}
@@ -7,6 +7,7 @@ use Rattle.runtime_log.specs.Facts.{facts_text}
 use Rattle.runtime_log.specs.Imports.{IsImport}
 use Rattle.runtime_log.specs.declared.facts.Facts.{Facts}
 use Rattle.trace_flush.specs.Flush.{trace_bytes}
+use Rattle.traced_run.specs.Kept.{kept_of}
 use Rattle.traced_run.specs.Runs.{EachThread, IsRun, ThreadRun, events_of}
 use Rattle.xray_image.specs.Program.{IsAccepted, Program}
 use Rattle.xray_io.specs.Desk.{Entry}
@@ -20,12 +21,18 @@ ImportComes reads held log trace = Take imported_form reads held log (λ made ou
 
 -- ---- traces of runs
 
--- the counter rises from each event to those behind it
-abbrev pub CountersRise : List Event → Type 0
-CountersRise events = AllPairs (λ event later. event.tsc < later.tsc) events
+-- the counter doesn't fall from an event to those behind it
+abbrev pub CountersDontFall : List Event → Type 0
+CountersDontFall events = AllPairs (λ event later. event.tsc ≤ later.tsc) events
 
--- The trace of a run that its setup allows is imported as itself, byte for byte, if the counter of each thread rises.
+-- no two of the segments that are left of a thread have the same events
+abbrev pub SegmentsDiffer : Setup → ThreadRun → Type 0
+SegmentsDiffer setup run = AllPairs (λ segment later. segment ≢ later) (kept_of setup.size run)
+
+-- The trace of a run that its setup allows is imported as itself, byte for byte, if the counter of no thread falls, and no two
+-- segments of a thread are equal. The second follows if the counter rises from each event of a thread to the next.
 abbrev pub RunsImportThemselves : Type 0
 RunsImportThemselves = (image : List ℕ) (program : Program) (setup : Setup) (runs : List ThreadRun) (file : List ℕ) (facts : Facts)
-    → IsAccepted image program → IsSetup setup → IsRun program setup runs → EachThread runs (λ number run. CountersRise (events_of run))
+    → IsAccepted image program → IsSetup setup → IsRun program setup runs
+    → EachThread runs (λ number run. CountersDontFall (events_of run) × SegmentsDiffer setup run)
     → IsImport (trace_bytes setup runs) file facts → file ≡ trace_bytes setup runs

@@ -31,7 +31,7 @@ ghost use Rattle.stack_rebuild.specs.Stacks.{stack_of};
 use crate::drawn::each_input_is_read;
 use audit_check::{a_lawful_run_is_accepted, one_reading, some_reading};
 use fdr_buffer::segments_hold_all;
-use fdr_file::a_trace_is_read;
+use fdr_file::{a_file_reads_back, a_trace_is_read};
 use flame_graph::{no_frame_sticks_out, stacks_can_be_drawn, the_lowest_frames_add_up};
 use machine_step::{one_end, some_end, some_marks_follow};
 use patch_script::each_script_lets_threads_end;
@@ -148,15 +148,16 @@ pub fn reports_take_a_run()
     a_trace_is_read();
 }
 
-/// The trace that `sim` or `run` wrote is imported as itself, byte for byte, if the counter rises from
-/// each event of a thread to the next. With `--tick 0` it doesn't rise, and two segments of a thread may
-/// have the same bytes. Then `import` leaves one of them out.
+/// The trace that `sim` or `run` wrote is imported as itself, byte for byte, if the counter of no thread
+/// falls, and no two segments of a thread have the same events. With `--tick 0` two of them may. Then
+/// `import` leaves one of them out. If the counter rises from each event to the next, no two do.
 pub fn a_run_is_imported_as_itself()
     ensures { RunsImportThemselves }
 {
     a_trace_in_order_is_imported_as_itself();
     segments_hold_all();
     a_run_fits_its_buffers();
+    a_file_reads_back();
 }
 
 /// What `sim` and `run` leave is accepted. If a desk holds the trace and the audit that one of them means
