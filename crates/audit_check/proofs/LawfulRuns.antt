@@ -29,7 +29,7 @@ use Rattle.trace_flush.specs.Audit.{ThreadAudit}
 use Rattle.trace_flush.specs.Flush.{trace_bytes}
 use Rattle.trace_flush.specs.Lines.{audit_of}
 use Rattle.audit_check.specs.declared.verdict.Verdict.TheVariants.{Yes}
-use Rattle.audit_check.specs.Rows.{CountsAgree, EndsAgree, MarksAgree, RecycledAgrees}
+use Rattle.audit_check.specs.Rows.{AreRunsOf, CountsAgree, EndsAgree, MarksAgree, RecycledAgrees}
 use Rattle.audit_check.specs.Statements.{HasCounts, MayState, run_statement}
 use Rattle.audit_check.specs.Verdicts.{AllAgree, AtThread, IsJudged}
 use Rattle.audit_check.proofs.SwitchesAtStart.{each}
@@ -106,6 +106,14 @@ sum_within g most (x ∷ xs) all =
 
 -- ---- a lawful run
 
+-- the audit of a run speaks of it
+pub runs_stated : (program : Program) (setup : Setup) (runs : List ThreadRun) → IsRun program setup runs → AreRunsOf program (run_statement setup runs) runs
+runs_stated program setup runs is_run = record {
+  run = is_run;
+  marks = said_of_all setup (λ said. said.marks) (λ run. run.marks) (λ n run. refl) 1 runs;
+  lost = said_of_all setup (λ said. said.first) (λ run. run.lost) (λ n run. refl) 1 runs;
+}
+
 module _ (program : Program) (script : List Command) (setup : Setup) (runs : List ThreadRun) (is_run : IsRun program setup runs)
     (follow : AllMarksFollow program setup.threads script runs) (lost : AreLost setup.size (spare_of setup) runs) where
   as_many : (i : ℕ) (run : ThreadRun) → slice_get runs i ≡ Some run → length run.marks ≡ length run.passed
@@ -139,17 +147,20 @@ module _ (program : Program) (script : List Command) (setup : Setup) (runs : Lis
         (sum_of_all setup (λ said. said.segments - 1) (λ run. segment_count setup.size run - 1) (λ n run. refl) 1 runs);
   }
 
+  -- its ends and its marks agree
+  pub ends_stated : AllAgree setup.threads (λ number. AtThread (run_statement setup runs) runs EndsAgree number)
+  ends_stated = row (λ number. EndsAgree) (λ i run at. record { end = refl; passings = as_many i run at })
+
+  pub marks_stated : AllAgree setup.threads (λ number. AtThread (run_statement setup runs) runs (MarksAgree program setup.threads script number) number)
+  marks_stated = row (MarksAgree program setup.threads script) (λ i run at. record { each = refl; follow = follow i run at })
+
   pub accepted : IsJudged program script (run_statement setup runs) (trace_bytes setup runs) Yes
   accepted = record {
     runs = runs;
-    are = record {
-      run = is_run;
-      marks = said_of_all setup (λ said. said.marks) (λ run. run.marks) (λ n run. refl) 1 runs;
-      lost = said_of_all setup (λ said. said.first) (λ run. run.lost) (λ n run. refl) 1 runs;
-    };
+    are = runs_stated program setup runs is_run;
     verdict_is = (
-      row (λ number. EndsAgree) (λ i run at. record { end = refl; passings = as_many i run at }),
-      row (MarksAgree program setup.threads script) (λ i run at. record { each = refl; follow = follow i run at }),
+      ends_stated,
+      marks_stated,
       row (λ number. CountsAgree setup.size) counts_agree,
       recycled_agrees,
       refl,

@@ -30,3 +30,8 @@ pub mod StopLemmas
 pub mod ThreadLoads
 pub mod TurnsOf
 pub mod WholeLines
+pub mod PlacesKept
+pub mod OrderKept
+pub mod MergedLoads
+pub mod OneMerge
+pub mod OrderIsMerge

@@ -5,20 +5,24 @@ use Rattle.std.proofs.lemmas.Option.{slice_get-map, slice_get_within}
 use Rattle.xray_image.specs.Program.{Program}
 use Rattle.handler_word.specs.declared.mark.Mark.{Mark}
 use Rattle.patch_script.specs.declared.command.Command.{Command}
+use Rattle.machine_step.specs.Buffers.{spare_of}
+use Rattle.machine_step.specs.declared.setup.Setup.{Setup}
 use Rattle.machine_step.specs.Traced.{sleds_passed}
 use Rattle.traced_run.specs.Following.{AllMarksFollow, MarksFollowScript}
-use Rattle.traced_run.specs.Runs.{ThreadRun}
+use Rattle.traced_run.specs.Losses.{AreLost}
+use Rattle.traced_run.specs.Runs.{IsRun, ThreadRun}
 use Rattle.trace_flush.specs.Audit.{ThreadAudit}
 use Rattle.step_sim.specs.declared.turns.Turns.{Turns}
 use Rattle.audit_check.specs.declared.verdict.Verdict.{Verdict}
 use Rattle.audit_check.specs.declared.verdict.Verdict.TheVariants as verdicts
 use Rattle.audit_check.specs.Rows.{AreRunsOf}
-use Rattle.audit_check.specs.Statements.{NamesThreads, Statement}
+use Rattle.audit_check.specs.Statements.{NamesThreads, Statement, run_statement}
 use Rattle.audit_check.specs.Verdicts.{IsJudged}
+use Rattle.audit_check.proofs.LawfulRuns.{ends_stated, marks_stated, runs_stated}
 use Rattle.audit_check.proofs.OneVerdict.{OneEnd, first_same, not_first, runs_same}
 use Rattle.run_order.specs.declared.fault.OrderFault.{OrderFault}
 use Rattle.run_order.specs.declared.fault.OrderFault.TheVariants.{Ends, Marks, Long, NoMemory}
-use Rattle.run_order.specs.Answers.{EndsAgree, IsAnswer, IsOrdered, MarksAgree}
+use Rattle.run_order.specs.Answers.{EndsAgree, IsAnswer, IsOrderOrLong, IsOrdered, MarksAgree}
 use Rattle.run_order.specs.Orders.{is_long}
 use Rattle.run_order.specs.RunOrders.{IsOrderOf}
 use Rattle.run_order.proofs.OrderLeavesRun.{one_order, some_order}
@@ -105,6 +109,35 @@ some_long program script s runs are names ends marks =
         (Err Long, record { runs = runs; are = are; answer_is = (ends, marks, (schedule, order, long)) })
     by_length schedule order false short =
         (Ok schedule, record { runs = runs; are = are; answer_is = (ends, marks, order, short) })
+
+-- the audit of a lawful run has an order, or one that is too long
+pub lawful_answer : (program : Program) (script : List Command) (setup : Setup) (runs : List ThreadRun) → IsRun program setup runs
+    → AllMarksFollow program setup.threads script runs → AreLost setup.size (spare_of setup) runs
+    → (answer : Answer) × IsOrdered program script (run_statement setup runs) answer × IsOrderOrLong answer
+lawful_answer program script setup runs is follow lost =
+    let order = some_order program setup script runs is follow in
+    by_length order.0 order.1 (is_long order.0) refl
+  where
+    by_length : (schedule : List Turns) → IsOrderOf program setup.threads script runs schedule → (long : Bool) → is_long schedule ≡ long
+        → (answer : Answer) × IsOrdered program script (run_statement setup runs) answer × IsOrderOrLong answer
+    by_length schedule order true long = (
+      Err Long,
+      record {
+        runs = runs;
+        are = runs_stated program setup runs is;
+        answer_is = (ends_stated program script setup runs is follow lost, marks_stated program script setup runs is follow lost, (schedule, order, long));
+      },
+      tt,
+    )
+    by_length schedule order false short = (
+      Ok schedule,
+      record {
+        runs = runs;
+        are = runs_stated program setup runs is;
+        answer_is = (ends_stated program script setup runs is follow lost, marks_stated program script setup runs is follow lost, order, short);
+      },
+      tt,
+    )
 
 -- what is judged has an answer
 pub some_answer : (program : Program) (script : List Command) (s : Statement) (verdict : Verdict) → NamesThreads s → IsJudged program script s [] verdict

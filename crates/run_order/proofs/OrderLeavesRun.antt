@@ -87,7 +87,7 @@ sleds_exist program threads code thread [] all = tt
 sleds_exist program threads code thread (passing ∷ passed) all =
     (All-head (IsSled program) passing passed all, sleds_exist program threads code thread passed (All-tail (IsSled program) passing passed all))
 
-sleds_all : (program : Program) (passed : List Passing) → All (IsSled program) passed → All (λ sled. sled < length program.sleds) (sleds_passed passed)
+pub sleds_all : (program : Program) (passed : List Passing) → All (IsSled program) passed → All (λ sled. sled < length program.sleds) (sleds_passed passed)
 sleds_all program [] all = All-nil (λ sled. sled < length program.sleds)
 sleds_all program (passing ∷ passed) all =
     All-cons (λ sled. sled < length program.sleds) passing.sled (sleds_passed passed) (All-head (IsSled program) passing passed all)

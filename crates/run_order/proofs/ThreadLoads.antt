@@ -25,7 +25,7 @@ use Rattle.run_order.proofs.RisingSearches.{found_rises}
 -- ---- lists
 
 -- an item of two lists is one of the first, or one of the second
-split_get : {X : Type 0} (xs ys : List X) (i : ℕ) (x : X) → slice_get (xs ++ ys) i ≡ Some x
+pub split_get : {X : Type 0} (xs ys : List X) (i : ℕ) (x : X) → slice_get (xs ++ ys) i ≡ Some x
     → ((slice_get xs i ≡ Some x) × (take i (xs ++ ys) ≡ take i xs)) ⊎ ((j : ℕ) × (slice_get ys j ≡ Some x) × (take i (xs ++ ys) ≡ xs ++ take j ys))
 split_get [] ys i x e = inr (i, e, refl)
 split_get (y ∷ xs) ys zero x e = inl (e, refl)
@@ -50,7 +50,7 @@ rise_later : (from mid last : ℕ) (places : List ℕ) → from ≤ mid → Rise
 rise_later from mid last [] low rise = tt
 rise_later from mid last (place ∷ places) low rise = (omega (arith, low, rise.0), rise.1, rise.2)
 
-rise_join : (from mid last : ℕ) (xs ys : List ℕ) → from ≤ mid → mid ≤ last → Rise from mid xs → Rise mid last ys → Rise from last (xs ++ ys)
+pub rise_join : (from mid last : ℕ) (xs ys : List ℕ) → from ≤ mid → mid ≤ last → Rise from mid xs → Rise mid last ys → Rise from last (xs ++ ys)
 rise_join from mid last [] ys low high rise rest = rise_later from mid last ys low rest
 rise_join from mid last (x ∷ xs) ys low high rise rest = (rise.0, omega (arith, rise.1, high), rise_join x mid last xs ys rise.1 high rise.2 rest)
 
@@ -203,7 +203,7 @@ module _ (program : Program) (threads : ℕ) (code : ℕ → ℕ → ℕ) where
     has_search false sled Recorded = tt
     has_search false sled RecordedArg = tt
 
-    passing_rises : (held : Bool) (sled : ℕ) (mark : Mark) (last from : ℕ) (found : ℕ × List ℕ)
+    pub passing_rises : (held : Bool) (sled : ℕ) (mark : Mark) (last from : ℕ) (found : ℕ × List ℕ)
         → found_by last from (passing_searches program threads code thread held sled mark) ≡ Some found
         → (from ≤ found.0) × (found.0 ≤ last) × Rise from found.0 found.1
     passing_rises held sled mark last from found e = some_rises (passing_searches program threads code thread held sled mark) (has_search held sled mark) last from found e

@@ -38,3 +38,11 @@ pub record IsOrdered (program : Program) (script : List Command) (statement : St
   pub runs : List ThreadRun
   pub are : AreRunsOf program statement runs
   pub answer_is : IsAnswer program script statement runs answer
+
+-- an order, or one that has too many lines
+abbrev pub IsOrderOrLong : Result (List Turns) OrderFault → Type 0
+IsOrderOrLong (Ok schedule) = Unit {0}
+IsOrderOrLong (Err Long) = Unit {0}
+IsOrderOrLong (Err (Ends thread)) = ⊥
+IsOrderOrLong (Err (Marks thread)) = ⊥
+IsOrderOrLong (Err NoMemory) = ⊥

@@ -1,7 +1,9 @@
 pub mod FreeScripts
 pub mod Places
 pub mod Orders
+pub mod Merges
 pub mod Placed
+pub mod KeptWaits
 pub mod RunOrders
 pub mod Answers
 pub mod FaultWords

@@ -2,17 +2,18 @@
 
 ghost use Rattle.std.specs.Prelude.{◌≡◌, ◌≤◌, ℕ, All, List, None, Ok, Result, length};
 ghost use Rattle.xray_image.specs.Program.{IsAccepted, Program};
-ghost use Rattle.audit_check.specs.Statements.{MayState, Statement};
+ghost use Rattle.audit_check.specs.Statements.{MayState, Statement, run_statement};
 ghost use Rattle.patch_script.specs.declared.command.Command.{Command};
-ghost use Rattle.patch_script.specs.{Plans.{Plan, plan_of, waiting_line}, Refusals.{commands_of}};
+ghost use Rattle.patch_script.specs.{Micros.{start_of, total_of}, Plans.{Plan, plan_of, waiting_line}, Refusals.{commands_of}};
+ghost use Rattle.machine_step.specs.Buffers.{spare_of};
 ghost use Rattle.machine_step.specs.declared.setup.Setup.{Setup};
-ghost use Rattle.traced_run.specs.{Following.{AllMarksFollow}, Losses.{without_losses}, Runs.{IsRun, ThreadRun}};
+ghost use Rattle.traced_run.specs.{Following.{AllMarksFollow}, Losses.{AreLost, without_losses}, Runs.{IsRun, ThreadRun}};
 ghost use Rattle.step_sim.specs.declared.turns.Turns.{Turns as Line};
 ghost use Rattle.step_sim.specs.{Replayed.{IsReplayOf}, Schedules.{AreTurnsOf, schedule_of}};
 ghost use Rattle.step_sim.specs.WrittenSchedules.{schedule_text};
-ghost use Rattle.run_order.specs.Answers.{IsOrdered};
+ghost use Rattle.run_order.specs.Answers.{IsOrderOrLong, IsOrdered};
 ghost use Rattle.run_order.specs.declared.fault.OrderFault.{OrderFault};
-ghost use Rattle.run_order.specs.{FreeScripts.{free_commands, free_text}, RunOrders.{IsOrderOf}};
+ghost use Rattle.run_order.specs.{FreeScripts.{free_commands, free_text}, KeptWaits.{KeepScriptOf}, Merges.{IsMerge}, RunOrders.{IsOrderOf}};
 
 use audit_check::some_verdict;
 use machine_step::one_end;
@@ -49,6 +50,34 @@ pub fn an_order_leaves_its_run()
     buffers_change_no_replay();
 }
 
+/// The order of a run keeps the waits of the script. Its loads are those of threads beside the script, in
+/// the order of the script's places: no load of a passing is before the release of its thread, if the script
+/// holds it, or after the first await of the passing. Each load is at the least place at which its passing
+/// may end with its mark, or before it.
+pub fn an_order_keeps_the_waits()
+    ensures { (program : Program) (script : List Command) (setup : Setup) (runs : List ThreadRun)
+        (schedule : List Line) → IsRun program setup runs
+        → (order : IsOrderOf program setup.threads script runs schedule)
+        → KeepScriptOf program setup.threads script runs order.places }
+{
+    awaits_bound_passings();
+}
+
+/// The order of a run is a merge of the loads of its threads (`merge`): all loads by their places in the
+/// script without waits, those at one place by their threads, and all micro steps between them. There is
+/// only one merge of the same places (`one`).
+pub fn an_order_is_a_merge()
+    ensures merge { (program : Program) (text : List ℕ) (plan : Plan) (setup : Setup) (runs : List ThreadRun)
+        (schedule : List Line) → plan_of program setup.threads text ≡ Ok plan → IsRun program setup runs
+        → (order : IsOrderOf program setup.threads (commands_of plan.lines) runs schedule)
+        → IsMerge (start_of program setup.threads (free_commands (commands_of plan.lines)))
+        (total_of program setup.threads (free_commands (commands_of plan.lines))) order.places schedule }
+    ensures one { (start total : ℕ) (places : List (List ℕ)) (schedule other : List Line)
+        → IsMerge start total places schedule → IsMerge start total places other → schedule ≡ other }
+{
+    awaits_bound_passings();
+}
+
 /// A run whose marks follow a script has an order (`some`), and only one (`one`). With
 /// `an_order_leaves_its_run`, some schedule replays the run. So the marks of all threads together come
 /// from one order of all loads and stores.
@@ -75,6 +104,15 @@ pub fn one_order_of_an_audit()
     one_end();
     some_verdict();
 }
+
+/// What comes of the audit of a lawful run is its order, unless this has too many lines for a schedule.
+pub fn a_lawful_run_is_ordered()
+    ensures { (program : Program) (script : List Command) (setup : Setup) (runs : List ThreadRun)
+        → IsRun program setup runs → AllMarksFollow program setup.threads script runs
+        → AreLost setup.size (spare_of setup) runs
+        → (answer : Result (List Line) OrderFault)
+        × IsOrdered program script (run_statement setup runs) answer × IsOrderOrLong answer }
+{}
 
 /// If an order comes of an audit, for an accepted image and a script that is read, the text of the order
 /// reads as the order (`reads`). The text has at most as many bytes as a schedule may have (`short`).
