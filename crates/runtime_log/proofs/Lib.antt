@@ -15,6 +15,7 @@ pub mod EventsAgain
 pub mod LogAgain
 -- What is imported of a log: each event of each thread, and what is printed (src/laws.rt)
 pub mod KeptEvents
+pub mod WhichBlocks
 -- Records and their events: which fit the records of a trace (src/blocks.rt)
 pub mod RecordFits
 pub mod RecordCuts

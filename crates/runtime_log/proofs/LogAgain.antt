@@ -237,12 +237,12 @@ block_same b at content x y place is custom typed =
     ∙ ap (λ (n : ℕ). let z : Result LogBlock TraceFault = Ok (record { place = b.place; content = b.content; block = b.block; custom = n; typed = y }) in z) (sym custom)
     ∙ ap (λ (n : ℕ). let z : Result LogBlock TraceFault = Ok (record { place = b.place; content = b.content; block = b.block; custom = b.custom; typed = n }) in z) (sym typed)
 
-record BlockAgain (version : LogVersion) (at : ℕ) (front : List ℕ) (b : LogBlock) (bytes : List ℕ) : Type 0 where
-  reads : log_block_in version (at, bytes) ≡ Ok b
-  long : block_length bytes ≡ length front
-  some : 0 < length bytes
+pub record BlockAgain (version : LogVersion) (at : ℕ) (front : List ℕ) (b : LogBlock) (bytes : List ℕ) : Type 0 where
+  pub reads : log_block_in version (at, bytes) ≡ Ok b
+  pub long : block_length bytes ≡ length front
+  pub some : 0 < length bytes
 
-block_again : (version : LogVersion) (at : ℕ) (front following : List ℕ) (b : LogBlock) → b.place ≡ at → IsLogBlock version front b → BlockAgain version at front b (front ++ following)
+pub block_again : (version : LogVersion) (at : ℕ) (front following : List ℕ) (b : LogBlock) → b.place ≡ at → IsLogBlock version front b → BlockAgain version at front b (front ++ following)
 block_again version at front following b place is =
     let n = length b.content in
     let bytes = is.extents ++ (b.content ++ following) in

@@ -1,6 +1,8 @@
 -- Laws of logs of the Flight Data Recorder mode, over the grammar.
-use Rattle.std.specs.Prelude.{◌≡◌, ◌<◌, ◌≤◌, ◌==◌, ℕ, ◌+◌, List, [], length, map, filter, sum, count_by, All, Contains, Option, Some, None, Ok}
+use Rattle.std.specs.Prelude.{◌≡◌, ◌≢◌, ◌⊎◌, ◌∷◌, ◌<◌, ◌≤◌, ◌==◌, ℕ, ◌+◌, List, [], length, map, filter, sum, count_by, All, Contains, Option, Some, None, Ok}
+use Rattle.std.specs.List.Sorted.{IsSortedBy}
 use Rattle.std.specs.Set.{distinct_count}
+use Rattle.std.specs.Str.{bytes_eq}
 use Rattle.fdr_file.specs.declared.trace.Trace.{Trace}
 use Rattle.fdr_file.specs.ThreadEvents.{ThreadEvent, thread_events}
 use Rattle.fdr_file.specs.Traces.{logs_arg, trace_of, type_in}
@@ -8,6 +10,7 @@ use Rattle.runtime_log.specs.declared.facts.Facts.{Facts}
 use Rattle.runtime_log.specs.Grammar.{IsLog}
 use Rattle.runtime_log.specs.Imports.{IsImport}
 use Rattle.runtime_log.specs.Logs.{Log, LogBlock, logged}
+use Rattle.runtime_log.specs.Taken.{comes_before}
 use Rattle.runtime_log.specs.Threads.{recorded_by}
 
 -- what bytes are read as, if they say that they are a log of this mode, is a log by the grammar
@@ -34,6 +37,23 @@ abbrev pub ThreadsAreKept : Type 0
 ThreadsAreKept = (bytes file : List ℕ) (facts : Facts) (trace : Trace) (thread : ℕ) → All (λ b. b < 256) bytes → type_in bytes ≡ 1
     → (made : IsImport bytes file facts) → trace_of file ≡ Ok trace
     → recorded_by thread (thread_events trace.blocks) ≡ pool_events (blocks_of_thread thread made.takes.pool)
+
+-- some block is so
+abbrev pub SomeBlock : (LogBlock → Type 0) → List LogBlock → Type 0
+SomeBlock IsSo [] = ⊥
+SomeBlock IsSo (b ∷ blocks) = IsSo b ⊎ SomeBlock IsSo blocks
+
+-- These are blocks of a log with events, in the order of their keys. Of each block of the log with events, one with the same
+-- bytes is taken. No two that are taken have the same bytes.
+pub record AreItsBlocks (blocks taken : List LogBlock) : Type 0 where
+  pub each : All (λ b. SomeBlock (λ other. b ≡ other) blocks × (b.block.events ≢ [])) taken
+  pub none_lost : All (λ b. b.block.events ≢ [] → SomeBlock (λ t. t.content ≡ b.content) taken) blocks
+  pub once : (content : List ℕ) → count_by (λ t. bytes_eq t.content content) taken ≤ 1
+  pub sorted : IsSortedBy comes_before taken
+
+abbrev pub BlocksAreTaken : Type 0
+BlocksAreTaken = (bytes file : List ℕ) (facts : Facts) → All (λ b. b < 256) bytes → type_in bytes ≡ 1 → (made : IsImport bytes file facts)
+    → AreItsBlocks made.log.blocks made.takes.pool
 
 -- the number is the least of these, or there are none
 abbrev pub IsLeast : List ℕ → Option ℕ → Type 0

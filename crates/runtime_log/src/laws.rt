@@ -1,5 +1,5 @@
 //! Laws of imports. Each law is the contract of a function that does nothing.
-ghost use Rattle.runtime_log.specs.LogLaws.{LogIsLogged, LoggedIsLog, NumbersAreMeant, ThreadsAreKept};
+ghost use Rattle.runtime_log.specs.LogLaws.{BlocksAreTaken, LogIsLogged, LoggedIsLog, NumbersAreMeant, ThreadsAreKept};
 ghost use Rattle.runtime_log.specs.Laws.{ImportsItself, ImportsRead, OneImport, SomeImport, ThreadsKeepTheirOrder, TracesAreLogs};
 
 use fdr_buffer::{a_body_has_room, segments_hold_all};
@@ -60,6 +60,14 @@ pub fn threads_keep_their_events()
 {
     an_import_reads_back();
     segments_hold_all();
+}
+
+/// The blocks that are taken of a log of the Flight Data Recorder mode are blocks with events, in the
+/// order of their keys. Of each block with events, one with the same bytes is taken, and only one.
+pub fn each_block_is_taken_once()
+    ensures { BlocksAreTaken }
+{
+    what_is_read_is_a_log();
 }
 
 /// The numbers that are printed are those of the log and of the trace that is made of it.
