@@ -1,7 +1,8 @@
 -- What a recorder stands for after one more event.
-use Rattle.std.proofs.Common.{◌≡◌, ◌⊎◌, ◌-◌, ◌++◌, ◌<◌, ◌≤◌, ◌∙◌, ℕ, zero, suc, Bool, true, false, cond, List, [], ◌∷◌, length, map, reverse, refl, ap, sym, subst, arith, nat_eq, nat_lt, get_or, set, inl, inr, length-append}
+use Rattle.std.proofs.Common.{◌≡◌, ◌⊎◌, ◌+◌, ◌-◌, ◌++◌, ◌<◌, ◌≤◌, ◌∙◌, ℕ, zero, suc, Bool, true, false, cond, List, [], ◌∷◌, length, map, reverse, take, refl, ap, sym, subst, arith, nat_eq, nat_lt, get_or, set, inl, inr, length-append}
 use Rattle.std.proofs.lemmas.Bool.Decides.{nat_tests}
-use Rattle.std.proofs.lemmas.List.{map-append, reverse-append, reverse-reverse}
+use Rattle.std.specs.List.{range_with_len}
+use Rattle.std.proofs.lemmas.List.{map-append, reverse-append, reverse-reverse, take-append-le, take_all}
 use Rattle.fdr_record.specs.declared.event.Event.{Event}
 use Rattle.fdr_record.specs.declared.event.Kind.{Kind}
 use Rattle.fdr_record.specs.declared.event.Kind.TheVariants.{Entry, Exit, TailExit, EntryArgs}
@@ -11,11 +12,12 @@ use Rattle.stack_rebuild.specs.Calls.{cycles_between, enters, open_calls}
 use Rattle.stack_rebuild.specs.OpenPaths.{OpenPath, Stacked, innermost_path, next_by_kind, next_stacked, open_from, open_of, open_paths, opened_by, pair_of_open, stacked_after, stacked_closing, with_spent}
 use Rattle.stack_rebuild.specs.PathSums.{AllNumbered, AreApart, no_tally, path_at, tally_of, with_pair}
 use Rattle.stack_rebuild.specs.Stacks.{Timed, most_open, path_of, timed_pairs}
+use Rattle.stack_rebuild.proofs.Orders.{range_more}
 use Rattle.call_trie.specs.declared.state.TrieState.{TrieState}
 use Rattle.call_trie.specs.declared.state.TrieState.TheVariants.{Live, Full, Deep}
 use Rattle.call_trie.specs.private.Paths.{IsAt, IsNew}
 use Rattle.call_trie.specs.private.Steps.{Enters, Leaves, deep, ended, fresh, full, known, none}
-use Rattle.call_trie.specs.Tries.{StandsFor, Trie, excess, first_stop, is_among, paths_in, paths_opened, state_after, state_in, with_path}
+use Rattle.call_trie.specs.Tries.{StandsFor, Trie, excess, first_stop, is_among, paths_in, paths_opened, state_after, with_path}
 use Rattle.call_trie.proofs.AmongPaths.{Has, Keeps, at_among, has_kept, new_among, none_has, numbered_append, numbered_kept, tallies_more, with_is, with_known, with_new}
 
 -- what one more event changes, as stacks say it
@@ -170,59 +172,108 @@ pub record IsWithin (room : ℕ) (h : List Event) : Type 0 where
   pub depth : length (open_calls h) ≤ most_open
   pub nodes : length (paths_in h) ≤ room
 
-not_live : (s x : TrieState) → first_stop s x ≡ Live → x ≡ Live
+-- what is too much after a history
+abbrev excess_in : ℕ → List Event → TrieState
+excess_in room h = cond (nat_lt most_open (length (open_calls h))) Deep (cond (nat_lt room (length (paths_in h))) Full Live)
+
+-- a state, and what is too much after one more event
+abbrev next_stop : TrieState → TrieState → TrieState
+next_stop Live later = later
+next_stop Full later = Full
+next_stop Deep later = Deep
+
+stop_more : (states : List TrieState) (s : TrieState) → first_stop (states ++ s ∷ []) ≡ next_stop (first_stop states) s
+stop_more [] Live = refl
+stop_more [] Full = refl
+stop_more [] Deep = refl
+stop_more (Live ∷ states) s = stop_more states s
+stop_more (Full ∷ states) s = refl
+stop_more (Deep ∷ states) s = refl
+
+map_alike : (f g : ℕ → TrieState) (a n : ℕ) → ((k : ℕ) → k < a + n → f k ≡ g k) → map f (range_with_len a n) ≡ map g (range_with_len a n)
+map_alike f g a zero same = refl
+map_alike f g a (suc n) same =
+    ap (λ (s : TrieState). s ∷ map f (range_with_len (a + 1) n)) (same a (omega arith))
+    ∙ ap (λ (ss : List TrieState). g a ∷ ss) (map_alike f g (a + 1) n (λ k low. same k (omega (arith, low))))
+
+state_more : (room : ℕ) (events : List Event) (e : Event)
+    → state_after room (events ++ e ∷ []) ≡ next_stop (state_after room events) (excess room (events ++ e ∷ []))
+state_more room events e =
+    let n = length events in
+    let after : ℕ → TrieState = λ k. excess room (take k (events ++ e ∷ [])) in
+    let before : ℕ → TrieState = λ k. excess room (take k events) in
+    let long : suc (length (events ++ e ∷ [])) ≡ suc (suc n) = let more = length-append events (e ∷ []) in omega (arith, more) in
+    let whole : after (suc n) ≡ excess room (events ++ e ∷ []) =
+    ap (excess room) (take_all (suc n) (events ++ e ∷ []) (omega (arith, long))) in
+    ap (λ (k : ℕ). first_stop (map after (range_with_len 0 k))) long
+    ∙ (ap (λ (ks : List ℕ). first_stop (map after ks)) (range_more 0 (suc n) (suc n) (omega arith))
+    ∙ (ap first_stop (map-append after (range_with_len 0 (suc n)) (suc n ∷ []))
+    ∙ (stop_more (map after (range_with_len 0 (suc n))) (after (suc n))
+    ∙ (ap (λ (ss : List TrieState). next_stop (first_stop ss) (after (suc n)))
+    (map_alike after before 0 (suc n) (λ k low. ap (excess room) (take-append-le k events (e ∷ []) (omega (arith, low)))))
+    ∙ ap (next_stop (state_after room events)) whole))))
+
+not_live : (s x : TrieState) → next_stop s x ≡ Live → x ≡ Live
 not_live Live x is = is
 not_live Full x is = let never : Full ≡ Live = is in cc
 not_live Deep x is = let never : Deep ≡ Live = is in cc
 
-live_within : (room : ℕ) (h : List Event) → state_in room h ≡ Live → IsWithin room h
-live_within room [] is = record { depth = omega arith; nodes = omega arith }
-live_within room (e ∷ h) is =
-    by_tests (nat_lt most_open (length (open_calls (e ∷ h)))) (nat_lt room (length (paths_in (e ∷ h)))) refl refl
-    (not_live (state_in room h) (excess room (e ∷ h)) is)
+within_from : (room : ℕ) (h : List Event) → excess_in room h ≡ Live → IsWithin room h
+within_from room h = by_tests (nat_lt most_open (length (open_calls h))) (nat_lt room (length (paths_in h))) refl refl
   where
-    by_tests : (a b : Bool) → nat_lt most_open (length (open_calls (e ∷ h))) ≡ a → nat_lt room (length (paths_in (e ∷ h))) ≡ b → cond a Deep (cond b Full Live) ≡ Live
-        → IsWithin room (e ∷ h)
+    by_tests : (a b : Bool) → nat_lt most_open (length (open_calls h)) ≡ a → nat_lt room (length (paths_in h)) ≡ b → cond a Deep (cond b Full Live) ≡ Live
+        → IsWithin room h
     by_tests true b one two live = let never : Deep ≡ Live = live in cc
     by_tests false true one two live = let never : Full ≡ Live = live in cc
     by_tests false false one two live = record {
-      depth = let shallow : nat_lt most_open (length (open_calls (e ∷ h))) ≡ false = one in grind (arith, nat_tests);
-      nodes = let few : nat_lt room (length (paths_in (e ∷ h))) ≡ false = two in grind (arith, nat_tests);
+      depth = let shallow : nat_lt most_open (length (open_calls h)) ≡ false = one in grind (arith, nat_tests);
+      nodes = let few : nat_lt room (length (paths_in h)) ≡ false = two in grind (arith, nat_tests);
     }
 
-excess_deep : (room : ℕ) (h : List Event) → most_open < length (open_calls h) → excess room h ≡ Deep
+live_within : (room : ℕ) (events : List Event) → state_after room events ≡ Live → IsWithin room (reverse events)
+live_within room = snoc (λ events. state_after room events ≡ Live → IsWithin room (reverse events))
+    (λ is. record { depth = omega arith; nodes = omega arith })
+    (λ events e earlier is. within_from room (reverse (events ++ e ∷ []))
+    (not_live (state_after room events) (excess room (events ++ e ∷ [])) (sym (state_more room events e) ∙ is)))
+
+excess_deep : (room : ℕ) (h : List Event) → most_open < length (open_calls h) → excess_in room h ≡ Deep
 excess_deep room h more =
     let test : nat_lt most_open (length (open_calls h)) ≡ true = grind (arith, nat_tests) in
     ap (λ b. cond b Deep (cond (nat_lt room (length (paths_in h))) Full Live)) test
 
-excess_full : (room : ℕ) (h : List Event) → length (open_calls h) ≤ most_open → room < length (paths_in h) → excess room h ≡ Full
+excess_full : (room : ℕ) (h : List Event) → length (open_calls h) ≤ most_open → room < length (paths_in h) → excess_in room h ≡ Full
 excess_full room h shallow more =
     let one : nat_lt most_open (length (open_calls h)) ≡ false = grind (arith, nat_tests) in
     let two : nat_lt room (length (paths_in h)) ≡ true = grind (arith, nat_tests) in
     ap (λ b. cond b Deep (cond (nat_lt room (length (paths_in h))) Full Live)) one ∙ ap (λ b. cond b Full Live) two
 
-excess_none : (room : ℕ) (h : List Event) → length (open_calls h) ≤ most_open → length (paths_in h) ≤ room → excess room h ≡ Live
+excess_none : (room : ℕ) (h : List Event) → length (open_calls h) ≤ most_open → length (paths_in h) ≤ room → excess_in room h ≡ Live
 excess_none room h shallow few =
     let one : nat_lt most_open (length (open_calls h)) ≡ false = grind (arith, nat_tests) in
     let two : nat_lt room (length (paths_in h)) ≡ false = grind (arith, nat_tests) in
     ap (λ b. cond b Deep (cond (nat_lt room (length (paths_in h))) Full Live)) one ∙ ap (λ b. cond b Full Live) two
 
-state_now : (room : ℕ) (events : List Event) (e : Event) → state_after room events ≡ Live → state_after room (events ++ e ∷ []) ≡ excess room (e ∷ reverse events)
+state_now : (room : ℕ) (events : List Event) (e : Event) → state_after room events ≡ Live → state_after room (events ++ e ∷ []) ≡ excess_in room (e ∷ reverse events)
 state_now room events e live =
-    ap (state_in room) (turned events e) ∙ ap (λ (s : TrieState). first_stop s (excess room (e ∷ reverse events))) live
+    state_more room events e
+    ∙ (ap (λ (s : TrieState). next_stop s (excess room (events ++ e ∷ []))) live ∙ ap (excess_in room) (turned events e))
 
 -- a state that isn't live stays
 state_stays : (room : ℕ) (events : List Event) (e : Event) → (state_after room events ≡ Live → ⊥) → state_after room (events ++ e ∷ []) ≡ state_after room events
-state_stays room events e stopped = ap (state_in room) (turned events e) ∙ stays (state_after room events) refl
+state_stays room events e stopped = state_more room events e ∙ stays (state_after room events) (excess room (events ++ e ∷ [])) stopped
   where
-    stays : (s : TrieState) → state_after room events ≡ s → first_stop (state_after room events) (excess room (e ∷ reverse events)) ≡ state_after room events
-    stays Live is = absurd (stopped is)
-    stays Full is = ap (λ (s : TrieState). first_stop s (excess room (e ∷ reverse events))) is ∙ sym is
-    stays Deep is = ap (λ (s : TrieState). first_stop s (excess room (e ∷ reverse events))) is ∙ sym is
+    stays : (s later : TrieState) → (s ≡ Live → ⊥) → next_stop s later ≡ s
+    stays Live later ends = absurd (ends refl)
+    stays Full later ends = refl
+    stays Deep later ends = refl
 
 -- ---- one more event
 
 -- a recorder that has stopped
+pub has_stopped : (s : TrieState) → (s ≡ Full) ⊎ (s ≡ Deep) → s ≡ Live → ⊥
+has_stopped s (inl is) live = let never : Full ≡ Live = sym is ∙ live in (let n : ⊥ = cc in n)
+has_stopped s (inr is) live = let never : Deep ≡ Live = sym is ∙ live in (let n : ⊥ = cc in n)
+
 pub stands_stopped : (trie : Trie) (events : List Event) (e : Event) → (trie.state ≡ Live → ⊥) → StandsFor trie events → StandsFor trie (events ++ e ∷ [])
 stands_stopped trie events e stopped own = record {
   state = own.state ∙ sym (state_stays trie.room events e (λ live. stopped (own.state ∙ live)));
@@ -256,7 +307,7 @@ stands_entered law old new events e is live own enters_now =
     was = sym own.state ∙ live
 
     within : IsWithin old.room h
-    within = live_within old.room h was
+    within = live_within old.room events was
 
     stack : stacked_after (events ++ e ∷ []) ≡ stacked_with (call ∷ open_of events) (timed_pairs events)
     stack = entry_stack law events e is
@@ -285,7 +336,7 @@ stands_entered law old new events e is live own enters_now =
     count : length old.paths ≡ suc (length (paths_opened events))
     count = ap {B = ℕ} length (own.paths live)
 
-    stops : (s : TrieState) → (s ≡ Live → ⊥) → new ≡ record old { state = s } → excess old.room (e ∷ h) ≡ s → StandsFor new (events ++ e ∷ [])
+    stops : (s : TrieState) → (s ≡ Live → ⊥) → new ≡ record old { state = s } → excess_in old.room (e ∷ h) ≡ s → StandsFor new (events ++ e ∷ [])
     stops s stopped is_new found =
         subst (λ (t : Trie). StandsFor t (events ++ e ∷ [])) (sym is_new) (record {
           state = sym (state_now old.room events e was ∙ found);
@@ -358,7 +409,7 @@ stands_left law old new events e is live own = by_case
     was = sym own.state ∙ live
 
     within : IsWithin old.room h
-    within = live_within old.room h was
+    within = live_within old.room events was
 
     shallow : length (open_of events) ≤ most_open
     shallow = omega (arith, within.depth, open_long events (open_calls h))

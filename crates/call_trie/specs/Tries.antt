@@ -1,7 +1,7 @@
 -- What a recorder keeps of the events of a thread: a live call trie. A history is the events so far, listed from the
 -- last one to the first.
-use Rattle.std.specs.Prelude.{◌≡◌, ◌++◌, Bool, ℕ, List, [], ◌∷◌, length, map, nat_lt, reverse, refl, if◌then◌else◌}
-use Rattle.std.specs.List.{list_any}
+use Rattle.std.specs.Prelude.{◌≡◌, ◌++◌, Bool, ℕ, suc, List, [], ◌∷◌, length, map, nat_lt, reverse, take, refl, if◌then◌else◌}
+use Rattle.std.specs.List.{list_any, range_with_len}
 use Rattle.std.specs.Ordering.{is_eq}
 use mathlib.Core.Path.{◌∙◌}
 use Rattle.fdr_record.specs.declared.event.Event.{Event}
@@ -43,25 +43,22 @@ paths_opened events = paths_in (reverse events)
 
 -- ---- the state
 
--- What is too much after a history: more calls are open than may be at once, or else more paths were opened than there
+-- What is too much after some events: more calls are open than may be at once, or else more paths were opened than there
 -- are nodes for. If neither is, the state is `Live`.
 abbrev pub excess : ℕ → List Event → TrieState
-excess room history =
-    if nat_lt most_open (length (open_calls history)) then Deep else if nat_lt room (length (paths_in history)) then Full else Live
+excess room events =
+    if nat_lt most_open (length (open_calls (reverse events))) then Deep else if nat_lt room (length (paths_opened events)) then Full else Live
 
--- the first of two states that isn't `Live`
-abbrev pub first_stop : TrieState → TrieState → TrieState
-first_stop Live later = later
-first_stop Full later = Full
-first_stop Deep later = Deep
+-- the first of some states that isn't `Live`, or `Live` if all are
+abbrev pub first_stop : List TrieState → TrieState
+first_stop [] = Live
+first_stop (Live ∷ later) = first_stop later
+first_stop (Full ∷ later) = Full
+first_stop (Deep ∷ later) = Deep
 
--- the state after a history: what was too much after the first event after which anything was
-abbrev pub state_in : ℕ → List Event → TrieState
-state_in room [] = Live
-state_in room (e ∷ before) = first_stop (state_in room before) (excess room (e ∷ before))
-
+-- the state after events: what is too much after the fewest first events after which anything is
 abbrev pub state_after : ℕ → List Event → TrieState
-state_after room events = state_in room (reverse events)
+state_after room events = first_stop (map (λ n. excess room (take n events)) (range_with_len 0 (suc (length events))))
 
 -- ---- what a recorder stands for
 

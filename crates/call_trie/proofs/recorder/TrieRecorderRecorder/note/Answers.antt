@@ -1,8 +1,8 @@
-use Rattle.std.proofs.Common.{◌∙◌, ap, sym}
-use Rattle.call_trie.specs.Tries.{Trie}
+use Rattle.std.proofs.Common.{◌∙◌, ap, refl, sym}
+use Rattle.call_trie.specs.Tries.{Trie, same_itself}
 use Rattle.call_trie.proofs.TrieBounds.{roomy}
 use Rattle.call_trie.proofs.RecorderFields.{entered_room, left_room}
-use Rattle.call_trie.proofs.RecorderEvents.{stands_entered, stands_left}
+use Rattle.call_trie.proofs.RecorderEvents.{has_stopped, stands_entered, stands_left, stands_stopped}
 use Rattle.call_trie.proofs.recorder.TrieRecorderRecorder.note.Goals as goal
 
 pub leave-requires : goal.leave-requires
@@ -21,3 +21,11 @@ returns-in-Exit-clause-noted c = λ events stands.
 
 pub returns-in-Exit-clause-follows : goal.returns-in-Exit-clause-follows
 returns-in-Exit-clause-follows c = left_room c.args.event.func c.args.event.tsc c.args.self.now c.leave.new.self c.leave.ensures
+
+pub returns-in-Full : goal.returns-in-Full
+returns-in-Full c = record {
+  noted = λ events stands.
+      stands_stopped c.args.self.now events c.args.event (λ live. has_stopped _ c.in-Full.is (ap (λ (t : Trie). t.state) c.self.view_is ∙ live)) stands;
+  follows = same_itself _;
+  stopped = λ stopped. refl;
+}
