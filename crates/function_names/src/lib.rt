@@ -10,6 +10,6 @@ mod name;
 mod names;
 
 pub use form::NameForm;
-pub use laws::{csv_reads_names_back, yaml_reads_names_back};
+pub use laws::{an_extracted_map_names_as_the_image, csv_reads_names_back, yaml_reads_names_back};
 pub use name::{add_callee_names, add_name};
 pub use names::Names;

@@ -226,7 +226,7 @@ end_is bytes written is =
 -- ---- whole lines
 
 -- the pieces of a line, one by one
-joined_so : (a b c d e f g h i j k l m : List ℕ)
+pub joined_so : (a b c d e f g h i j k l m : List ℕ)
     → a ++ b ++ c ++ d ++ e ++ f ++ g ++ h ++ i ++ j ++ k ++ l ++ m ≡ a ++ (b ++ (c ++ (d ++ (e ++ (f ++ (g ++ (h ++ (i ++ (j ++ (k ++ (l ++ m)))))))))))
 joined_so a b c d e f g h i j k l m = simp append_assoc
 
