@@ -16,6 +16,7 @@ pub mod NameEscapes
 -- lowest row adds up to the whole (src/laws.rt)
 pub mod NestedFrames
 pub mod FramePrefixes
+pub mod FramePlaces
 pub mod FramesApart
 pub mod LowestRow
 -- The rows of a stack report can be drawn (src/laws.rt)

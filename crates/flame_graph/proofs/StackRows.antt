@@ -20,7 +20,7 @@ use Rattle.stack_rebuild.proofs.Items.{IsIn, map-in}
 use Rattle.flame_graph.specs.Frames.{AreAscending, AreStacks, Precedes}
 use Rattle.flame_graph.proofs.Orders.{Ascends, IsBefore, ascending_from}
 
-precedes : (path other : List ℕ) → path_cmp path other ≡ Less → Precedes path other
+pub precedes : (path other : List ℕ) → path_cmp path other ≡ Less → Precedes path other
 precedes [] [] is = absurd (cc)
 precedes [] (g ∷ other) is = tt
 precedes (f ∷ path) [] is = absurd (cc)

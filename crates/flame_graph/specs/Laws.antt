@@ -1,10 +1,11 @@
 -- What is true of every flame graph. Lengths are in thousandths of a pixel, as they are printed.
-use Rattle.std.specs.Prelude.{◌≡◌, ◌≢◌, ◌⊎◌, ◌↔◌, ◌+◌, ◌-◌, ◌<◌, ◌≤◌, ◌==◌, ◌&&◌, ◌||◌, All, Bool, IsTrue, not, ℕ, List, ◌∷◌, ◌++◌, codes, length, nat_le, take, filter, sum_by, Contains}
+use Rattle.std.specs.Prelude.{◌≡◌, ◌≢◌, ◌⊎◌, ◌↔◌, ◌+◌, ◌-◌, ◌<◌, ◌≤◌, ◌==◌, ◌&&◌, ◌||◌, All, Bool, IsTrue, not, ℕ, List, ◌∷◌, ◌++◌, codes, length, nat_le, take, filter, sum_by, Contains, if◌then◌else◌}
 use Rattle.std.specs.List.{AllPairs}
+use Rattle.std.specs.Ordering.{is_lt}
 use Rattle.std.specs.Str.{IsUtf8}
-use Rattle.stack_rebuild.specs.Stacks.{PathRow}
+use Rattle.stack_rebuild.specs.Stacks.{PathRow, path_cmp}
 use Rattle.flame_graph.specs.FlameText.{shortened, xml_text}
-use Rattle.flame_graph.specs.Frames.{frames, own_sum}
+use Rattle.flame_graph.specs.Frames.{frames, own_sum, place_of}
 use Rattle.flame_graph.specs.Picture.{across, left_of, width_of}
 
 -- ---- which frames there are
@@ -24,6 +25,16 @@ AreRowPrefixes rows = (frame : List ℕ) → Contains (frames rows) frame ↔ Is
 -- no frame is listed twice
 abbrev pub NoneTwice : List PathRow → Type 0
 NoneTwice rows = AllPairs (λ frame later. frame ≢ later) (frames rows)
+
+-- ---- where they begin
+
+-- the time of the rows whose paths come before a frame, as lists of numbers
+abbrev pub time_before : List PathRow → List ℕ → ℕ
+time_before rows frame = sum_by (λ row. if is_lt (path_cmp row.path frame) then row.own else 0) rows
+
+-- the place of each frame is this time
+abbrev pub PlacesAreSums : List PathRow → Type 0
+PlacesAreSums rows = All (λ frame. place_of rows frame ≡ time_before rows frame) (frames rows)
 
 -- ---- frames of one height
 

@@ -4,7 +4,7 @@ ghost use Rattle.std.specs.Prelude.{List};
 ghost use Rattle.fdr_file.specs.declared.trace.Block.{Block};
 ghost use Rattle.fdr_record.specs.declared.event.Event.{Event};
 ghost use Rattle.stack_rebuild.specs.Stacks.{PathRow, stack_of, stack_of_threads};
-ghost use Rattle.flame_graph.specs.{Frames.{AreStacks}, Laws.{AreRowPrefixes, LowestAddUp, NamesAreEscaped, NamesAreText, NoneOverlap, NoneSticksOut, NoneTwice}};
+ghost use Rattle.flame_graph.specs.{Frames.{AreStacks}, Laws.{AreRowPrefixes, LowestAddUp, NamesAreEscaped, NamesAreText, NoneOverlap, NoneSticksOut, NoneTwice, PlacesAreSums}};
 
 /// The stacks of blocks are in ascending order of their paths, each path once and with a function.
 /// So a flame graph can be drawn of them.
@@ -22,6 +22,12 @@ pub fn stacks_of_threads_can_be_drawn()
 pub fn each_prefix_is_a_frame_once()
     ensures exactly { (rows : List PathRow) → AreRowPrefixes rows }
     ensures once { (rows : List PathRow) → NoneTwice rows }
+{}
+
+/// The place of each frame is the time that was spent in the calls themselves of the rows whose paths
+/// come before it, in the order of paths.
+pub fn a_frame_begins_after_the_rows_before_it()
+    ensures { (rows : List PathRow) → AreStacks rows → PlacesAreSums rows }
 {}
 
 /// Frames of one height don't overlap. This is true of what is printed, where they are listed from left
