@@ -46,13 +46,13 @@ use Rattle.xray_program.specs.Convert.{ConvertsTo, converted, log_form, no_text_
 use Rattle.xray_program.specs.Plain.{PlainPrints}
 use Rattle.xray_program.specs.Profile.{Profiles}
 use Rattle.xray_program.specs.Reports.{TakeNames, TakeReport}
-use Rattle.xray_program.specs.Run.{FollowsPlan}
+use Rattle.xray_program.specs.Run.{RanBeside}
 use Rattle.xray_program.specs.Setups.{setup_of}
-use Rattle.xray_program.specs.Sim.{Replayed, Replays}
+use Rattle.xray_program.specs.Sim.{RanReplayed, Replays}
 use Rattle.xray_program.specs.Soak.{IsSummary}
 use Rattle.xray_program.specs.Stack.{StacksCome, stacks_text}
 use Rattle.xray_program.specs.Taking.{Form, Leaves, Prints, RefuseIf, Sound, Take, ended_by}
-use Rattle.xray_program.specs.Traced.{Traces}
+use Rattle.xray_program.specs.Traced.{IsTraced}
 use Rattle.xray_program.proofs.ConvertLaws.{converts_done}
 use Rattle.xray_program.proofs.DumpLaws.{readable_decided}
 use Rattle.xray_program.proofs.LogForms.{log_decided}
@@ -139,10 +139,10 @@ abbrev import_next : List ℕ → List ℕ × Facts → Outcome → Type 0
 import_next trace made outcome = outcome ≡ Done ((trace, made.0) ∷ []) (facts_text made.1)
 
 abbrev sim_next : (s t a : List ℕ) → Setup → Program → Plan → List Turns → Outcome → Type 0
-sim_next s t a setup program plan turns = Leaves (Traces (Replayed program plan turns setup) program setup t a)
+sim_next s t a setup program plan turns = Leaves (IsTraced (RanReplayed program plan turns setup) setup t a)
 
 abbrev run_next : (t a : List ℕ) → Setup → Program → Plan → Outcome → Type 0
-run_next t a setup program plan = Leaves (Traces (FollowsPlan setup program plan) program setup t a)
+run_next t a setup program plan = Leaves (IsTraced (RanBeside program (commands_of plan.lines) setup.threads setup.limits) setup t a)
 
 abbrev plain_next : Bounds → Program → Outcome → Type 0
 plain_next bounds program = Prints (PlainPrints program bounds)
@@ -198,12 +198,12 @@ accepted_done is audits logs orders held (Sim i s c t a options) (program, plan,
     (accepted_take (schedule_form setup.threads) (decided_by (codes "schedule") schedule_limit (schedule_of setup.threads) schedule_words) held c
     (Replays s t a setup program plan) turns of_schedule
     (unrefused waits_words (waiting_line plan.lines) s (codes "script") (sim_next s t a setup program plan turns) still
-    (left_done (Traces (Replayed program plan turns setup) program setup t a)))))
+    (left_done (IsTraced (RanReplayed program plan turns setup) setup t a)))))
 accepted_done is audits logs orders held (Run i s t a options) (program, plan, at, of_script) =
     let setup = setup_of options in
     accepted_take image_form is held i (λ p. Take (script_form p setup.threads) Sound held s (λ l. run_next t a setup p l)) program at
     (accepted_take (script_form program setup.threads) (decided_by (codes "script") script_limit (plan_of program setup.threads) script_words) held s
-    (λ l. run_next t a setup program l) plan of_script (left_done (Traces (FollowsPlan setup program plan) program setup t a)))
+    (λ l. run_next t a setup program l) plan of_script (left_done (IsTraced (RanBeside program (commands_of plan.lines) setup.threads setup.limits) setup t a)))
 accepted_done is audits logs orders held (Plain i bounds) (program, at) =
     accepted_take image_form is held i (plain_next bounds) program at (left_done (λ outputs text. (outputs ≡ []) × PlainPrints program bounds text))
 accepted_done is audits logs orders held (Extract i) (program, at) = accepted_take image_form is held i extract_next program at (λ outcome same. ap status_of same)
@@ -332,12 +332,12 @@ not_7 held (Sim i s c t a options) =
     (λ p. take_not_7 (script_form p setup.threads) held s (λ l. Take (schedule_form setup.threads) Sound held c (Replays s t a setup p l))
     (λ l. take_not_7 (schedule_form setup.threads) held c (Replays s t a setup p l)
     (λ turns. refused_not_7 (option_map waits_words (waiting_line l.lines)) s (codes "script") (sim_next s t a setup p l turns)
-    (done_not_7 (sim_next s t a setup p l turns) (left_done (Traces (Replayed p l turns setup) p setup t a))))))
+    (done_not_7 (sim_next s t a setup p l turns) (left_done (IsTraced (RanReplayed p l turns setup) setup t a))))))
 not_7 held (Run i s t a options) =
     let setup = setup_of options in
     take_not_7 image_form held i (λ p. Take (script_form p setup.threads) Sound held s (λ l. run_next t a setup p l))
     (λ p. take_not_7 (script_form p setup.threads) held s (λ l. run_next t a setup p l)
-    (λ l. done_not_7 (run_next t a setup p l) (left_done (Traces (FollowsPlan setup p l) p setup t a))))
+    (λ l. done_not_7 (run_next t a setup p l) (left_done (IsTraced (RanBeside p (commands_of l.lines) setup.threads setup.limits) setup t a))))
 not_7 held (Plain i bounds) =
     take_not_7 image_form held i (plain_next bounds)
     (λ p. done_not_7 (plain_next bounds p) (left_done (λ outputs text. (outputs ≡ []) × PlainPrints p bounds text)))

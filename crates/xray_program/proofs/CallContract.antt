@@ -10,13 +10,12 @@ use Rattle.xray_program.specs.Order.{InOrder, IsNoCall}
 use Rattle.xray_program.specs.Outcomes.{Outcome, BadLine, Unread, TooLong, Refused, Done, Fell, Ending, With, Unwritten, NoMemory, status_at, err_line_at, written_by}
 use Rattle.xray_program.specs.Outputs.{FailsWriting}
 use Rattle.command_words.specs.Words.{Command}
-use Rattle.xray_program.specs.private.CallLaws.{CallLaws}
 use Rattle.xray_program.specs.private.Stops.{answer_of, stop_status, told_of}
 use Rattle.xray_program.specs.private.Works.{Ends, KeepsOthers, SaidHasRanges, StandsAfter, Writes}
 use Rattle.xray_program.specs.declared.stop.Stop.{Stop}
 use Rattle.xray_program.specs.declared.stop.Stop.TheVariants as stops
 use Rattle.xray_io.specs.World.{DeskView, World}
-use Rattle.xray_program.proofs.Headline.{beside, makes_setup, simulated}
+use Rattle.xray_program.proofs.Headline.{makes_setup}
 use Rattle.xray_program.proofs.CallOrder.{went_as}
 use Rattle.xray_program.proofs.ErrLines.{says_nothing}
 
@@ -77,10 +76,10 @@ leaves_all said before after outcome outputs text meant is writes =
     record { outcome = outcome; is = refl; meant = meant; outputs = outputs; text = text; writes = is; whole = writes.whole; out = writes.printed; desk_calm = writes.desk_calm; calm = writes.calm }
 
 -- how the parts of the contract follow, one for each ending
-by_ending : CallLaws → (Way : List Call → Type 0) (said : Option Command) (before after : World) (ending : Ending)
+by_ending : (Way : List Call → Type 0) (said : Option Command) (before after : World) (ending : Ending)
     → (status_at ending ≡ 0 → SaidHasRanges said) → StandsAfter said before.desk after.desk before.out after.out ending → KeepsOthers (outputs_named said) before.desk after.desk
     → Went Way (InOrder said before.desk after.desk ending) → Says before.err after.err (err_line_at ending) → Answered said before after Way (status_at ending)
-by_ending laws Way said before after (With BadLine) ranges (is, nothing) kept order told = record {
+by_ending Way said before after (With BadLine) ranges (is, nothing) kept order told = record {
   ending = With BadLine;
   status = refl;
   told = told;
@@ -96,10 +95,9 @@ by_ending laws Way said before after (With BadLine) ranges (is, nothing) kept or
   untouched = λ e. nothing;
   names = kept;
   complete = inl (BadLine, means_bad said before.desk.held is, refl);
-  headline = λ e. absurd cc;
   setup = λ e. absurd cc;
 }
-by_ending laws Way said before after (With (Refused n kind refusal)) ranges (meant, nothing) kept order told = record {
+by_ending Way said before after (With (Refused n kind refusal)) ranges (meant, nothing) kept order told = record {
   ending = With (Refused n kind refusal);
   status = refl;
   told = told;
@@ -115,10 +113,9 @@ by_ending laws Way said before after (With (Refused n kind refusal)) ranges (mea
   untouched = λ e. nothing;
   names = kept;
   complete = inl (Refused n kind refusal, meant, refl);
-  headline = λ e. absurd cc;
   setup = λ e. absurd cc;
 }
-by_ending laws Way said before after (With (TooLong n)) ranges (meant, nothing) kept order told = record {
+by_ending Way said before after (With (TooLong n)) ranges (meant, nothing) kept order told = record {
   ending = With (TooLong n);
   status = refl;
   told = told;
@@ -134,10 +131,9 @@ by_ending laws Way said before after (With (TooLong n)) ranges (meant, nothing) 
   untouched = λ e. nothing;
   names = kept;
   complete = inl (TooLong n, meant, refl);
-  headline = λ e. absurd cc;
   setup = λ e. absurd cc;
 }
-by_ending laws Way said before after (With (Unread n)) ranges ((turn, cause), nothing) kept order told = record {
+by_ending Way said before after (With (Unread n)) ranges ((turn, cause), nothing) kept order told = record {
   ending = With (Unread n);
   status = refl;
   told = told;
@@ -153,7 +149,6 @@ by_ending laws Way said before after (With (Unread n)) ranges ((turn, cause), no
   untouched = λ e. nothing;
   names = kept;
   complete = answers cause;
-  headline = λ e. absurd cc;
   setup = λ e. absurd cc;
 }
   where
@@ -161,7 +156,7 @@ by_ending laws Way said before after (With (Unread n)) ranges ((turn, cause), no
         → IsAnswer said before after 3
     answers (inl rose) = inr (inr (inl (refl, rose)))
     answers (inr (absent, meant)) = inl (Unread n, meant, refl)
-by_ending laws Way said before after (With (Done outputs text)) ranges (meant, writes) kept order told = record {
+by_ending Way said before after (With (Done outputs text)) ranges (meant, writes) kept order told = record {
   ending = With (Done outputs text);
   status = refl;
   told = told;
@@ -177,13 +172,9 @@ by_ending laws Way said before after (With (Done outputs text)) ranges (meant, w
   untouched = λ e. not_five 0 (λ x. cc) (λ x. cc) (λ x. cc) (λ x. cc) (λ x. cc) e;
   names = kept;
   complete = inl (Done outputs text, meant, refl);
-  headline = λ e. (
-    simulated laws said before.desk.held after.desk.held outputs text meant writes.whole,
-    beside laws said before.desk.held after.desk.held outputs text meant writes.whole,
-  );
   setup = λ e. makes_setup said (ranges refl);
 }
-by_ending laws Way said before after (With (Fell outputs text trouble)) ranges (meant, writes) kept order told = record {
+by_ending Way said before after (With (Fell outputs text trouble)) ranges (meant, writes) kept order told = record {
   ending = With (Fell outputs text trouble);
   status = refl;
   told = told;
@@ -199,10 +190,9 @@ by_ending laws Way said before after (With (Fell outputs text trouble)) ranges (
   untouched = λ e. not_five 7 (λ x. cc) (λ x. cc) (λ x. cc) (λ x. cc) (λ x. cc) e;
   names = kept;
   complete = inl (Fell outputs text trouble, meant, refl);
-  headline = λ e. absurd cc;
   setup = λ e. absurd cc;
 }
-by_ending laws Way said before after (Unwritten n outputs) ranges fails kept order told = record {
+by_ending Way said before after (Unwritten n outputs) ranges fails kept order told = record {
   ending = Unwritten n outputs;
   status = refl;
   told = told;
@@ -227,7 +217,6 @@ by_ending laws Way said before after (Unwritten n outputs) ranges fails kept ord
   untouched = λ e. not_five 4 (λ x. cc) (λ x. cc) (λ x. cc) (λ x. cc) (λ x. cc) e;
   names = kept;
   complete = inr (inr (inr (refl, fault fails.failed)));
-  headline = λ e. absurd cc;
   setup = λ e. absurd cc;
 }
   where
@@ -235,7 +224,7 @@ by_ending laws Way said before after (Unwritten n outputs) ranges fails kept ord
         → Rose before.desk.write_faults after.desk.write_faults ⊎ Rose before.out.faults after.out.faults
     fault (inl (at, silent)) = inl at.fault
     fault (inr at) = inr at.fault
-by_ending laws Way said before after NoMemory ranges nothing kept order told = record {
+by_ending Way said before after NoMemory ranges nothing kept order told = record {
   ending = NoMemory;
   status = refl;
   told = told;
@@ -251,17 +240,16 @@ by_ending laws Way said before after NoMemory ranges nothing kept order told = r
   untouched = λ e. nothing;
   names = kept;
   complete = inr (inl refl);
-  headline = λ e. absurd cc;
   setup = λ e. absurd cc;
 }
 
 -- a call that ended in this way, with its line on err
-pub answered : CallLaws → (Way : List Call → Type 0) (said : Option Command) (before after : World) (answer : ℕ) (line : List ℕ)
+pub answered : (Way : List Call → Type 0) (said : Option Command) (before after : World) (answer : ℕ) (line : List ℕ)
     → (answer ≡ 0 → SaidHasRanges said) → Ends said before.desk after.desk before.out after.out Way answer line → Says before.err after.err line
     → Answered said before after Way answer
-answered laws Way said before after answer line ranges ends says =
+answered Way said before after answer line ranges ends says =
     subst (Answered said before after Way) ends.status
-    (by_ending laws Way said before after ends.ending (λ e. ranges (sym ends.status ∙ e)) ends.stands ends.names ends.order
+    (by_ending Way said before after ends.ending (λ e. ranges (sym ends.status ∙ e)) ends.stands ends.names ends.order
     (subst (λ (l : List ℕ). Says before.err after.err l) (sym ends.told) says))
 
 -- what stopped a call isn't 0
@@ -279,9 +267,9 @@ ranges_at (Ok done) ranges none = ranges
 ranges_at (Err stop) ranges none = absurd (stops_above stop none)
 
 -- a call that answers the status of its end, and says its line
-pub answers_its_end : CallLaws → {Way : List Call → Type 0} {said : Option Command} {before after : World} {answer : ℕ} (ended : Result (Unit {0}) Stop)
+pub answers_its_end : {Way : List Call → Type 0} {said : Option Command} {before after : World} {answer : ℕ} (ended : Result (Unit {0}) Stop)
     → Ends said before.desk after.desk before.out after.out Way (answer_of ended) (told_of ended) → OnOk ended (SaidHasRanges said)
     → Says before.err after.err (told_of ended) → answer ≡ answer_of ended → Answered said before after Way answer
-answers_its_end laws {Way = Way} {said = said} {before = before} {after = after} {answer = answer} ended ends ranges says is =
+answers_its_end {Way = Way} {said = said} {before = before} {after = after} {answer = answer} ended ends ranges says is =
     subst (Answered said before after Way) (sym is)
-    (answered laws Way said before after (answer_of ended) (told_of ended) (ranges_at ended ranges) ends says)
+    (answered Way said before after (answer_of ended) (told_of ended) (ranges_at ended ranges) ends says)

@@ -25,12 +25,13 @@ use Rattle.xray_io.specs.Desk.{Entry, Holds}
 use Rattle.xray_program.specs.Check.{CheckComes, Judges}
 use Rattle.xray_program.specs.Inputs.{audit_form, audit_limit, image_form, schedule_form, script_form, unread_trace_form}
 use Rattle.xray_program.specs.Outcomes.{Outcome, Done, Refused, TooLong, Unread}
-use Rattle.xray_program.specs.Run.{FollowsPlan, RunComes, RunsBeside}
-use Rattle.xray_program.specs.Sim.{Replayed, Replays, SimComes}
+use Rattle.xray_program.specs.Run.{LoadsFollowPlan, RanBeside, RunComes, RunsBeside}
+use Rattle.xray_program.specs.Sim.{RanReplayed, Replays, SimComes}
 use Rattle.xray_program.specs.Taking.{Form, IsAcceptedAs, Leaves, MayHold, RefuseIf, Sound, Take}
-use Rattle.xray_program.specs.Traced.{Traces, written_of}
+use Rattle.xray_program.specs.Traced.{IsTraced, written_of}
 use Rattle.xray_program.proofs.AuditLengths.{statement_short}
 use Rattle.xray_program.proofs.CheckLaws.{AfterAudit, AfterImage, AfterScript}
+use Rattle.xray_program.proofs.LawfulRuns.{is_run, marks_follow}
 
 -- what the crates below say
 pub record YesLaws : Type 0 where
@@ -43,12 +44,10 @@ pub record YesLaws : Type 0 where
       → AllMarksFollow program setup.threads script runs → AreLost setup.size (spare_of setup) runs
       → IsJudged program script (run_statement setup runs) (trace_bytes setup runs) Yes
 
-pub record ReplayLaws : Type 0 where
-  pub follow : (program : Program) (lines : Lines) (text : List ℕ) (schedule : List Turns) (setup : Setup) (runs : List ThreadRun)
-      → schedule_of setup.threads text ≡ Ok schedule → waiting_line lines ≡ None → IsReplayOf program (commands_of lines) schedule setup runs
-      → AllMarksFollow program setup.threads (commands_of lines) runs
-  pub few : (program : Program) (script : List Command) (text : List ℕ) (schedule : List Turns) (setup : Setup) (runs : List ThreadRun)
-      → schedule_of setup.threads text ≡ Ok schedule → IsReplayOf program script schedule setup runs → AreLost setup.size (spare_of setup) runs
+abbrev pub ReplaysFollow : Type 0
+ReplaysFollow = (program : Program) (lines : Lines) (text : List ℕ) (schedule : List Turns) (setup : Setup) (runs : List ThreadRun)
+    → schedule_of setup.threads text ≡ Ok schedule → waiting_line lines ≡ None → IsReplayOf program (commands_of lines) schedule setup runs
+    → AllMarksFollow program setup.threads (commands_of lines) runs
 
 -- ---- what was taken, if all is done
 
@@ -153,15 +152,19 @@ module _ (laws : YesLaws) (held after : List ℕ → Entry) (i s t a : List ℕ)
       let two = taken (script_form program setup.threads) held s (λ plan. RunsBeside t a setup program plan) left text one.2 in
       let plan : Plan = two.0 in
       let script = two.1 in
-      let traces : Traces (FollowsPlan setup program plan) program setup t a two.2.0 two.2.1 = two.2.2 in
-      yes_of_runs program plan traces.runs image script traces.run traces.lawful.follow traces.lawful.losses
-      (same_outputs left two.2.0 text two.2.1 two.2.3 ∙ traces.outputs_are)
+      let Ran : List ThreadRun → Type 0 = RanBeside program (commands_of plan.lines) setup.threads setup.limits in
+      let traced : IsTraced Ran setup t a two.2.0 two.2.1 = two.2.2 in
+      let script_is = commands_of plan.lines in
+      yes_of_runs program plan traced.runs image script
+      (is_run (LoadsFollowPlan program setup.threads script_is) program script_is setup traced.runs traced.ran)
+      (marks_follow program script_is setup.threads setup.limits traced.runs traced.ran) traced.losses
+      (same_outputs left two.2.0 text two.2.1 two.2.3 ∙ traced.outputs_are)
     where
       same_outputs : (x y : List (List ℕ × List ℕ)) (u v : List ℕ) → Done x u ≡ Done y v → x ≡ y
       same_outputs x y u v e = cc
 
-  pub yes_of_sim : ReplayLaws → (c : List ℕ) → SimComes Sound held i s c t a setup (Done left text) → CheckComes Sound after i s t a (Done [] (verdict_text Yes))
-  yes_of_sim replays c comes =
+  pub yes_of_sim : ReplaysFollow → (c : List ℕ) → SimComes Sound held i s c t a setup (Done left text) → CheckComes Sound after i s t a (Done [] (verdict_text Yes))
+  yes_of_sim follow c comes =
       let one = taken image_form held i
       (λ program. Take (script_form program setup.threads) Sound held s
       (λ plan. Take (schedule_form setup.threads) Sound held c (λ turns. Replays s t a setup program plan turns))) left text comes in
@@ -174,14 +177,13 @@ module _ (laws : YesLaws) (held after : List ℕ → Entry) (i s t a : List ℕ)
       let three = taken (schedule_form setup.threads) held c (λ turns. Replays s t a setup program plan turns) left text two.2 in
       let turns : List Turns = three.0 in
       let schedule = three.1 in
-      let four = unrefused (waiting_line plan.lines) s (codes "script") (Leaves (Traces (Replayed program plan turns setup) program setup t a)) left text
+      let four = unrefused (waiting_line plan.lines) s (codes "script") (Leaves (IsTraced (RanReplayed program plan turns setup) setup t a)) left text
       three.2 in
       let still = four.0 in
-      let traces : Traces (Replayed program plan turns setup) program setup t a four.1.0 four.1.1 = four.1.2 in
-      yes_of_runs program plan traces.runs image script traces.run
-      (replays.follow program plan.lines schedule.bytes turns setup traces.runs schedule.reads still traces.lawful)
-      (replays.few program (commands_of plan.lines) schedule.bytes turns setup traces.runs schedule.reads traces.lawful)
-      (same_outputs left four.1.0 text four.1.1 four.1.3 ∙ traces.outputs_are)
+      let traced : IsTraced (RanReplayed program plan turns setup) setup t a four.1.0 four.1.1 = four.1.2 in
+      yes_of_runs program plan traced.runs image script traced.ran.lawful.replay.run
+      (follow program plan.lines schedule.bytes turns setup traced.runs schedule.reads still traced.ran.lawful.replay) traced.losses
+      (same_outputs left four.1.0 text four.1.1 four.1.3 ∙ traced.outputs_are)
     where
       same_outputs : (x y : List (List ℕ × List ℕ)) (u v : List ℕ) → Done x u ≡ Done y v → x ≡ y
       same_outputs x y u v e = cc

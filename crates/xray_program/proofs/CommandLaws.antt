@@ -11,6 +11,7 @@ use Rattle.xray_program.specs.Commands.{Comes, IsDecided, IsStill, Means, TellsA
 use Rattle.xray_program.specs.Outcomes.{Outcome, BadLine, written_by}
 use Rattle.xray_program.specs.Setups.{setup_of}
 use Rattle.xray_program.specs.Taking.{Sound}
+use Rattle.xray_program.specs.private.CallLaws.{CallLaws}
 use Rattle.command_words.specs.Words.{Command, Sim, Run, Plain, Extract, Asm, Account, Stack, Convert, Dump, Check, Order, Profile, Soak, Import, reading}
 use Rattle.xray_program.proofs.AccountLaws.{account_alone, account_some}
 use Rattle.xray_program.proofs.AsmLaws.{asm_alone, asm_some}
@@ -50,6 +51,7 @@ pub record Existence : Type 0 where
   pub end : SomeEnd
   pub run : StillRun
   pub lets : ScriptLetsEnd
+  pub lawful : CallLaws
   pub marks : SomeMarks
   pub losses : SomeLosses
   pub drawn : DrawnLaws
@@ -97,8 +99,8 @@ command_refuses laws held told (Import log trace) = refusal_alone _ (command_alo
 
 -- each command comes to something
 command_some : Existence → (held : List ℕ → Entry) → TellsAll held → HoldsBytes held → (command : Command) → SomeOutcome (Comes Sound held command)
-command_some laws held told holds (Sim i s c t a options) = sim_some (image_judged laws.verdict laws.accepts) laws.run held i s c t a (setup_of options) told holds
-command_some laws held told holds (Run i s t a options) = run_some (image_judged laws.verdict laws.accepts) (some_runs laws.end laws.lets laws.marks laws.losses) held i s t a (setup_of options) told holds
+command_some laws held told holds (Sim i s c t a options) = sim_some laws.lawful (image_judged laws.verdict laws.accepts) laws.run held i s c t a (setup_of options) told holds
+command_some laws held told holds (Run i s t a options) = run_some laws.lawful (image_judged laws.verdict laws.accepts) (some_runs laws.end laws.lets laws.marks laws.losses) held i s t a (setup_of options) told holds
 command_some laws held told holds (Plain i bounds) = plain_some (image_judged laws.verdict laws.accepts) laws.end held i bounds told holds
 command_some laws held told holds (Extract i) = extract_some (image_judged laws.verdict laws.accepts) held i told holds
 command_some laws held told holds (Asm t i threshold relative) = asm_some held t i threshold relative told holds
@@ -109,7 +111,7 @@ command_some laws held told holds (Dump t) = dump_some held t told holds
 command_some laws held told holds (Check i s t a) = check_some (image_judged laws.verdict laws.accepts) laws.audit laws.judged held i s t a told holds
 command_some laws held told holds (Order i s a f o) = order_some (image_judged laws.verdict laws.accepts) laws.audit laws.orders held i s a f o told holds
 command_some laws held told holds (Profile i s options) =
-    profile_some (image_judged laws.verdict laws.accepts) (some_runs laws.end laws.lets laws.marks laws.losses) held i s options told holds
+    profile_some laws.lawful (image_judged laws.verdict laws.accepts) (some_runs laws.end laws.lets laws.marks laws.losses) held i s options told holds
 command_some laws held told holds (Soak number) = soak_some laws.run laws.drawn number
 command_some laws held told holds (Import log trace) = import_some (imported_judged laws.imports) held log trace told holds
 

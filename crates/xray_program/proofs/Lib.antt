@@ -4,7 +4,8 @@ pub mod CallContract
 pub mod WorkEndings
 pub mod ErrLines
 pub mod AcceptedInputs
--- The headline of `sim` and of `run`
+-- Lawful runs, and the headline of `sim`, `run` and `profile` (src/laws.rt)
+pub mod LawfulRuns
 pub mod Headline
 pub mod RunLoads
 pub mod SpokenLines

@@ -24,15 +24,18 @@ use Rattle.xray_program.specs.Inputs.{WholeScript, audit_form, image_form, sched
 use Rattle.xray_program.specs.LoadOrder.{OrderComes, Orders, order_outcome}
 use Rattle.xray_program.specs.OrderReplays.{LeavesRunsOf}
 use Rattle.xray_program.specs.Outcomes.{Outcome, Done, Refused}
-use Rattle.xray_program.specs.Sim.{Replayed, Replays, SimComes}
+use Rattle.xray_program.specs.Sim.{RanReplayed, Replayed, Replays, SimComes}
 use Rattle.xray_program.specs.Taking.{IsAcceptedAs, Leaves, MayHold, RefuseIf, Sound, Take}
-use Rattle.xray_program.specs.Traced.{Traces, state_texts, written_of}
+use Rattle.xray_program.specs.Traced.{IsTraced, state_texts, written_of}
+use Rattle.xray_program.specs.private.CallLaws.{CallLaws}
 use Rattle.xray_program.proofs.Audits.{OneReading}
 use Rattle.xray_program.proofs.CheckYes.{again, holding, outputs_same, taken}
+use Rattle.xray_program.proofs.LawfulRuns.{ran_replayed}
 use Rattle.xray_program.proofs.OrderLaws.{AfterAudit, AfterImage}
 
 -- what the crates below say
 pub record ReplayedOrders : Type 0 where
+  pub lawful : CallLaws
   pub reading : OneReading
   pub free : (program : Program) (threads : ℕ) (text : List ℕ) (plan : Plan) → plan_of program threads text ≡ Ok plan
       → (free : Plan) × (plan_of program threads (free_text text) ≡ Ok free)
@@ -88,9 +91,16 @@ module _ (laws : ReplayedOrders) (after : List ℕ → Entry) (i f o t b : List 
       let replayed : List ThreadRun = replay.0 in
       let lawful : Replayed program free.0 turns setup replayed =
       subst (λ (script : List Command). IsReplayOf program script turns setup replayed) (sym free.2) replay.1 in
-      let Are = Traces (Replayed program free.0 turns setup) program setup t b in
+      let Are = IsTraced (RanReplayed program free.0 turns setup) setup t b in
+      let given = laws.reads image.bytes program text plan statement turns image.reads may e ordered in
       let traces : Are (written_of t b setup replayed) (state_texts 1 replayed) =
-      record { runs = replayed; run = replay.1.run; lawful = lawful; outputs_are = refl; text_is = refl } in
+      record {
+        runs = replayed;
+        ran = ran_replayed laws.lawful image.bytes program free.0 (schedule_text turns) turns setup replayed image.reads given lawful;
+        losses = laws.lawful.loses program (commands_of free.0.lines) (schedule_text turns) turns setup replayed given lawful;
+        outputs_are = refl;
+        text_is = refl;
+      } in
       let done : Outcome = Done (written_of t b setup replayed) (state_texts 1 replayed) in
       let leaves : Leaves Are done = (written_of t b setup replayed, state_texts 1 replayed, traces, refl) in
       let short = laws.short text in
@@ -101,8 +111,7 @@ module _ (laws : ReplayedOrders) (after : List ℕ → Entry) (i f o t b : List 
       (holding (script_form program setup.threads) (after f) (free_text text) free.0 free_held (omega (arith, short, within)) free.1)
       (again (schedule_form setup.threads) after o (λ ts. Replays f t b setup program free.0 ts) turns done
       (holding (schedule_form setup.threads) (after o) (schedule_text turns) turns schedule_held
-      (laws.few image.bytes program text plan statement turns image.reads may e ordered)
-      (laws.reads image.bytes program text plan statement turns image.reads may e ordered))
+      (laws.few image.bytes program text plan statement turns image.reads may e ordered) given)
       (goes_on (waiting_line free.0.lines) f (Leaves Are) done free.3 leaves))) in
       record { runs = runs; are = ordered.are; replayed = replayed; same = replay.2; left = comes }
 

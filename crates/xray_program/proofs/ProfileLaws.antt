@@ -4,6 +4,7 @@ use Rattle.command_words.specs.declared.profile_options.ProfileOptions.{ProfileO
 use Rattle.machine_step.specs.declared.setup.Setup.{Setup}
 use Rattle.patch_script.specs.FaultWords.{script_words}
 use Rattle.patch_script.specs.Plans.{plan_of}
+use Rattle.patch_script.specs.Refusals.{commands_of}
 use Rattle.xray_image.specs.Program.{Program}
 use Rattle.xray_io.specs.Desk.{Entry}
 use Rattle.xray_program.specs.Commands.{TellsAll}
@@ -12,7 +13,9 @@ use Rattle.xray_program.specs.Outcomes.{Outcome}
 use Rattle.xray_program.specs.Profile.{ProfileComes, Profiles, profile_of}
 use Rattle.xray_program.specs.Setups.{limits_of}
 use Rattle.xray_program.specs.Taking.{Sound, Take, ended_by}
+use Rattle.xray_program.specs.private.CallLaws.{CallLaws}
 use Rattle.xray_program.proofs.InputMeanings.{HoldsBytes, IsAlone, IsDecided, IsJudged, IsRefusal, SomeOutcome, decided_by, judged_by, some_take, take_alone}
+use Rattle.xray_program.proofs.LawfulRuns.{ran_beside}
 use Rattle.xray_program.proofs.RunExists.{SomeRuns}
 
 -- what comes of an image
@@ -48,12 +51,14 @@ setup_for options = record {
   frequency = 0;
 }
 
-pub profile_some : IsJudged image_form → SomeRuns → (held : List ℕ → Entry) (i s : List ℕ) (options : ProfileOptions) → TellsAll held
+pub profile_some : CallLaws → IsJudged image_form → SomeRuns → (held : List ℕ → Entry) (i s : List ℕ) (options : ProfileOptions) → TellsAll held
     → HoldsBytes held → SomeOutcome (ProfileComes Sound held i s options)
-profile_some is some held i s options told holds =
+profile_some laws is some held i s options told holds =
     some_take image_form is held i (AfterImage held s options) (told i) holds (λ bytes program reads.
     some_take (script_form program options.bounds.threads)
     (judged_by (codes "script") script_limit (plan_of program options.bounds.threads) script_words) held s
     (Profiles options program) (told s) holds (λ text plan said.
     let runs = some bytes text program plan (setup_for options) reads said in
-    (profile_of options program runs.0, (runs.0, record { count = runs.1.count; plain = runs.1.plain; follow = runs.2.follow }, refl))))
+    let limits = limits_of options.bounds options.stamps in
+    let ran = ran_beside laws bytes program (commands_of plan.lines) options.bounds.threads limits runs.0 reads runs.1.count runs.1.plain runs.2 in
+    (profile_of options program runs.0, (runs.0, ran, refl))))

@@ -23,15 +23,17 @@ use Rattle.thread_run.specs.Recorded.{HaveRecorded}
 use Rattle.thread_run.proofs.EachItem.{there_is}
 use Rattle.traced_run.specs.Following.{MarksFollowScript}
 use Rattle.traced_run.specs.Runs.{ThreadRun, events_of}
-use Rattle.xray_image.specs.Program.{Program}
+use Rattle.xray_image.specs.Program.{IsAccepted, Program}
 use Rattle.function_names.specs.Name.{program_names}
 use Rattle.xray_program.specs.Outcomes.{Outcome, Done, Fell}
-use Rattle.xray_program.specs.Profile.{printed_of, profile_of, states_before, trouble_of}
+use Rattle.xray_program.specs.Profile.{AreProfiled, printed_of, profile_of, states_before, trouble_of}
+use Rattle.xray_program.specs.private.CallLaws.{CallLaws}
 use Rattle.xray_program.specs.private.Profiled.{HaveProfiled}
 use Rattle.xray_program.specs.Setups.{limits_of}
 use Rattle.xray_program.specs.Stack.{rows_text}
 use Rattle.xray_program.specs.Taking.{ended_by}
 use Rattle.xray_program.specs.Traced.{state_texts}
+use Rattle.xray_program.proofs.LawfulRuns.{ran_beside}
 
 -- ---- the recorders
 
@@ -78,21 +80,26 @@ profiled options program plan limits old cpus seats new same_program same_thread
     let news : length new ≡ length have.runs = have.followed.count ∙ sym have.count in
     record {
       runs = have.runs;
-      are = record {
-        count = have.count ∙ count;
-        plain = λ i run found.
-            subst (λ (q : Program). PlainRun q (limits_of options.bounds options.stamps) (i + 1) run.passed run.end run.last) same_program
-            (subst (λ (l : Limits). PlainRun plan.program l (i + 1) run.passed run.end run.last) same_limits (have.plain i run found));
-        follow = λ i run found.
-            subst (λ (q : Program). MarksFollowScript q threads (commands_of plan.lines) (i + 1) (sleds_passed run.passed) run.marks) same_program
-            (subst (λ (n : ℕ). MarksFollowScript plan.program n (commands_of plan.lines) (i + 1) (sleds_passed run.passed) run.marks) same_threads
-            (have.follow i run found));
-      };
+      threads = have.count ∙ count;
+      plain = λ i run found.
+          subst (λ (q : Program). PlainRun q (limits_of options.bounds options.stamps) (i + 1) run.passed run.end run.last) same_program
+          (subst (λ (l : Limits). PlainRun plan.program l (i + 1) run.passed run.end run.last) same_limits (have.plain i run found));
+      follow = λ i run found.
+          subst (λ (q : Program). MarksFollowScript q threads (commands_of plan.lines) (i + 1) (sleds_passed run.passed) run.marks) same_program
+          (subst (λ (n : ℕ). MarksFollowScript plan.program n (commands_of plan.lines) (i + 1) (sleds_passed run.passed) run.marks) same_threads
+          (have.follow i run found));
       count = have.cpus_count;
       cpus_are = have.cpus_are;
       stand = all_stand have.runs new news have.recorded;
       states = states_are options.nodes have.runs new news have.recorded (same_rooms options.nodes old new have.followed rooms);
     }
+
+-- they have run by the law of `run`
+pub were_profiled : CallLaws → (image : List ℕ) (options : ProfileOptions) (program : Program) (plan : Plan) (cpus : List Traced) (tries : List Trie)
+    → IsAccepted image program → (have : HaveProfiled options program plan cpus tries) → AreProfiled options program (commands_of plan.lines) have.runs
+were_profiled laws image options program plan cpus tries accepted have =
+    ran_beside laws image program (commands_of plan.lines) options.bounds.threads (limits_of options.bounds options.stamps) have.runs accepted have.threads
+    have.plain have.follow
 
 -- there are as many recorders as threads
 pub recorders_few : (options : ProfileOptions) (program : Program) (plan : Plan) (cpus : List Traced) (tries : List Trie)
@@ -100,7 +107,7 @@ pub recorders_few : (options : ProfileOptions) (program : Program) (plan : Plan)
 recorders_few options program plan cpus tries have ranges =
     let threads = map events_of have.runs in
     let count = sym (length-map tries (λ (trie : Trie). trie.state)) ∙ ap length have.states ∙ length-map threads (state_after options.nodes)
-    ∙ length-map have.runs events_of ∙ have.are.count in
+    ∙ length-map have.runs events_of ∙ have.threads in
     omega (arith, count, ranges.bounds.threads.1)
 
 -- ---- what went wrong

@@ -20,9 +20,8 @@ use Rattle.machine_step.specs.PlainStep.{Passing, PlainRun, State}
 use Rattle.machine_step.specs.Traced.{sleds_passed}
 use Rattle.traced_run.specs.Losses.{AreLost, without_loss, without_losses}
 use Rattle.traced_run.specs.Runs.{IsRun, ThreadRun}
-use Rattle.traced_run.specs.Following.{MarksFollowScript}
+use Rattle.traced_run.specs.Following.{AllMarksFollow, MarksFollowScript}
 use Rattle.machine_step.specs.Buffers.{spare_of}
-use Rattle.xray_program.specs.Run.{FollowsPlan}
 use Rattle.xray_program.proofs.PlainLaws.{SomeEnd}
 
 -- ---- what the crates below say
@@ -48,7 +47,8 @@ SomeLosses = (size spare : ℕ) (runs : List ThreadRun)
 -- each script that is read has lawful runs
 abbrev pub SomeRuns : Type 0
 SomeRuns = (bytes text : List ℕ) (program : Program) (plan : Plan) (setup : Setup) → IsAccepted bytes program
-    → plan_of program setup.threads text ≡ Ok plan → (runs : List ThreadRun) × IsRun program setup runs × FollowsPlan setup program plan runs
+    → plan_of program setup.threads text ≡ Ok plan → (runs : List ThreadRun) × IsRun program setup runs
+    × AllMarksFollow program setup.threads (commands_of plan.lines) runs × AreLost setup.size (spare_of setup) runs
 
 -- ---- one thread
 
@@ -135,7 +135,8 @@ some_runs ends lets marks losses bytes text program plan setup accepted reads =
     let are = but_for_losses program script setup made.0 lost.0 lost.1 made.2 in (
       lost.0,
       record { count = same_count made.0 lost.0 lost.1 ∙ made.1; plain = λ i run found. (at script lost.0 are i run found).plain },
-      record { follow = λ i run found. (at script lost.0 are i run found).follow; losses = lost.2 },
+      λ i run found. (at script lost.0 are i run found).follow,
+      lost.2,
     )
   where
     at : (script : List Command) (runs : List ThreadRun) → AreBeside program script setup 1 runs → (i : ℕ) (run : ThreadRun)

@@ -1,5 +1,5 @@
 -- `sim`: one thing comes of it, and something in any case.
-use Rattle.std.proofs.Common.{◌≡◌, ◌∙◌, ℕ, List, Option, Some, None, option_map, refl, sym, ap, codes}
+use Rattle.std.proofs.Common.{◌≡◌, ◌∙◌, ℕ, List, Option, Some, None, Ok, option_map, refl, sym, ap, codes}
 use Rattle.machine_step.specs.declared.setup.Setup.{Setup}
 use Rattle.patch_script.specs.declared.command.Command.{Command}
 use Rattle.patch_script.specs.FaultWords.{script_words}
@@ -15,10 +15,12 @@ use Rattle.xray_io.specs.Desk.{Entry}
 use Rattle.xray_program.specs.Commands.{TellsAll}
 use Rattle.xray_program.specs.Inputs.{image_form, script_form, schedule_form, script_limit, schedule_limit}
 use Rattle.xray_program.specs.Outcomes.{Outcome}
-use Rattle.xray_program.specs.Sim.{Replayed, Replays, SimComes}
+use Rattle.xray_program.specs.Sim.{RanReplayed, Replays, SimComes}
 use Rattle.xray_program.specs.Taking.{Leaves, Sound, Take}
-use Rattle.xray_program.specs.Traced.{Traces, state_texts, written_of}
+use Rattle.xray_program.specs.Traced.{IsTraced, state_texts, written_of}
+use Rattle.xray_program.specs.private.CallLaws.{CallLaws}
 use Rattle.xray_program.proofs.InputMeanings.{AnyOutcome, HoldsBytes, IsAlone, IsDecided, IsJudged, SomeOutcome, decided_by, judged_by, leaves_alone, refuse_alone, some_leaves, some_refuse, some_take, take_alone}
+use Rattle.xray_program.proofs.LawfulRuns.{ran_replayed}
 
 -- what replays say: a schedule leaves only one list of runs, and it leaves runs if nothing waits
 abbrev pub OneRun : Type 0
@@ -40,18 +42,18 @@ AfterImage held s c t a setup program = Take (script_form program setup.threads)
 -- ---- one thing
 
 one_traced : OneRun → (bytes : List ℕ) (program : Program) (plan : Plan) (turns : List Turns) (setup : Setup) (trace audit : List ℕ) (o p : List (List ℕ × List ℕ))
-    (t u : List ℕ) → IsAccepted bytes program → Traces (Replayed program plan turns setup) program setup trace audit o t
-    → Traces (Replayed program plan turns setup) program setup trace audit p u → (p ≡ o) × (u ≡ t)
+    (t u : List ℕ) → IsAccepted bytes program → IsTraced (RanReplayed program plan turns setup) setup trace audit o t
+    → IsTraced (RanReplayed program plan turns setup) setup trace audit p u → (p ≡ o) × (u ≡ t)
 one_traced one bytes program plan turns setup trace audit o p t u accepted x y =
-    let same = one bytes program (commands_of plan.lines) turns setup x.runs y.runs accepted x.lawful y.lawful in
+    let same = one bytes program (commands_of plan.lines) turns setup x.runs y.runs accepted x.ran.lawful.replay y.ran.lawful.replay in
     (y.outputs_are ∙ ap (written_of trace audit setup) (sym same) ∙ sym x.outputs_are, y.text_is ∙ ap (state_texts 1) (sym same) ∙ sym x.text_is)
 
 one_replays : OneRun → (bytes s t a : List ℕ) (setup : Setup) (program : Program) (plan : Plan) (turns : List Turns) → IsAccepted bytes program
     → IsAlone AnyOutcome (Replays s t a setup program plan turns)
 one_replays one bytes s t a setup program plan turns accepted =
     refuse_alone AnyOutcome (option_map waits_words (waiting_line plan.lines)) s (codes "script")
-    (Leaves (Traces (Replayed program plan turns setup) program setup t a))
-    (leaves_alone (Traces (Replayed program plan turns setup) program setup t a)
+    (Leaves (IsTraced (RanReplayed program plan turns setup) setup t a))
+    (leaves_alone (IsTraced (RanReplayed program plan turns setup) setup t a)
     (λ o p v w x y. one_traced one bytes program plan turns setup t a o p v w accepted x y))
 
 pub sim_alone : IsDecided image_form → OneRun → (held : List ℕ → Entry) (i s c t a : List ℕ) (setup : Setup) → TellsAll held
@@ -74,21 +76,27 @@ nobody (Some line) e = absurd (none e)
     none : Some (waits_words line) ≡ None → ⊥
     none e = cc
 
-some_replays : StillRun → (bytes s t a : List ℕ) (setup : Setup) (program : Program) (plan : Plan) (turns : List Turns) → IsAccepted bytes program
-    → SomeOutcome (Replays s t a setup program plan turns)
-some_replays some bytes s t a setup program plan turns accepted =
+some_replays : CallLaws → StillRun → (bytes s t a text : List ℕ) (setup : Setup) (program : Program) (plan : Plan) (turns : List Turns)
+    → IsAccepted bytes program → schedule_of setup.threads text ≡ Ok turns → SomeOutcome (Replays s t a setup program plan turns)
+some_replays laws some bytes s t a text setup program plan turns accepted reads =
     some_refuse (option_map waits_words (waiting_line plan.lines)) s (codes "script")
-    (Leaves (Traces (Replayed program plan turns setup) program setup t a)) (λ none.
+    (Leaves (IsTraced (RanReplayed program plan turns setup) setup t a)) (λ none.
     let runs = some bytes program (commands_of plan.lines) turns setup plan.lines accepted refl (nobody (waiting_line plan.lines) none) in
-    some_leaves (Traces (Replayed program plan turns setup) program setup t a) (written_of t a setup runs.0) (state_texts 1 runs.0)
-    (record { runs = runs.0; run = runs.1.run; lawful = runs.1; outputs_are = refl; text_is = refl }))
+    some_leaves (IsTraced (RanReplayed program plan turns setup) setup t a) (written_of t a setup runs.0) (state_texts 1 runs.0)
+    (record {
+      runs = runs.0;
+      ran = ran_replayed laws bytes program plan text turns setup runs.0 accepted reads runs.1;
+      losses = laws.loses program (commands_of plan.lines) text turns setup runs.0 reads runs.1;
+      outputs_are = refl;
+      text_is = refl;
+    }))
 
-pub sim_some : IsJudged image_form → StillRun → (held : List ℕ → Entry) (i s c t a : List ℕ) (setup : Setup) → TellsAll held
+pub sim_some : CallLaws → IsJudged image_form → StillRun → (held : List ℕ → Entry) (i s c t a : List ℕ) (setup : Setup) → TellsAll held
     → HoldsBytes held → SomeOutcome (SimComes Sound held i s c t a setup)
-sim_some is some held i s c t a setup told holds =
+sim_some laws is some held i s c t a setup told holds =
     some_take image_form is held i (AfterImage held s c t a setup) (told i) holds (λ bytes program reads.
     some_take (script_form program setup.threads) (judged_by (codes "script") script_limit (plan_of program setup.threads) script_words) held s
     (AfterScript held s c t a setup program) (told s) holds (λ _ plan _.
     some_take (schedule_form setup.threads) (judged_by (codes "schedule") schedule_limit (schedule_of setup.threads) schedule_words) held c
-    (λ turns. Replays s t a setup program plan turns) (told c) holds (λ _ turns _.
-    some_replays some bytes s t a setup program plan turns reads)))
+    (λ turns. Replays s t a setup program plan turns) (told c) holds (λ schedule turns given.
+    some_replays laws some bytes s t a schedule setup program plan turns reads given)))

@@ -1,7 +1,7 @@
 -- The contract of the top call: what was said, the world before the call and after it, and the status.
 use Rattle.std.specs.Prelude.{◌≡◌, ◌≢◌, ◌⊎◌, ◌↔◌, ℕ, List, Contains, Option, Some, None}
 use Rattle.xray_io.specs.Calls.{Call, Went}
-use Rattle.xray_io.specs.Desk.{Absent, Entry, Holds}
+use Rattle.xray_io.specs.Desk.{Absent}
 use Rattle.xray_io.specs.Faults.{Rose}
 use Rattle.xray_io.specs.Sink.{Adds, AddsPrefix}
 use Rattle.machine_step.specs.Setups.{IsSetup}
@@ -10,10 +10,7 @@ use Rattle.xray_program.specs.Commands.{Means, HadItsTurn, outputs_named}
 use Rattle.xray_program.specs.Order.{InOrder, IsNoCall}
 use Rattle.xray_program.specs.Outcomes.{Outcome, Unread, Ending, With, Unwritten, NoMemory, status_of, status_at, err_line_at, written_by}
 use Rattle.xray_program.specs.Outputs.{OutputsAreWhole, FailsWriting, NoFault, WritesNothing}
-use Rattle.xray_program.specs.Run.{LoadsFollowPlan}
 use Rattle.xray_program.specs.Setups.{setup_of}
-use Rattle.xray_program.specs.Sim.{FollowsSchedule}
-use Rattle.xray_program.specs.Traced.{IsTraced}
 use Rattle.command_words.specs.Words.{Command, Sim, Run}
 use Rattle.xray_io.specs.World.{SinkView, World}
 
@@ -80,20 +77,6 @@ MakesSetup said =
     (i s c t a : List ℕ) (options : RunOptions)
     → (said ≡ Some (Sim i s c t a options)) ⊎ (said ≡ Some (Run i s t a options)) → IsSetup (setup_of options)
 
--- if `sim` was said, with inputs that the desk held, then the files of what the schedule leaves were written
-abbrev pub SimIsTraced : Option Command → (old new : List ℕ → Entry) → Type 0
-SimIsTraced said old new =
-    (i s c t a image script schedule : List ℕ) (options : RunOptions) → said ≡ Some (Sim i s c t a options)
-    → old i ≡ Holds image → old s ≡ Holds script → old c ≡ Holds schedule
-    → IsTraced (FollowsSchedule schedule) image script t a (setup_of options) old new
-
--- if `run` was said, with inputs that the desk held, then the files of what threads leave beside the script were written
-abbrev pub RunIsTraced : Option Command → (old new : List ℕ → Entry) → Type 0
-RunIsTraced said old new =
-    (i s t a image script : List ℕ) (options : RunOptions) → said ≡ Some (Run i s t a options)
-    → old i ≡ Holds image → old s ≡ Holds script
-    → IsTraced (LoadsFollowPlan (setup_of options)) image script t a (setup_of options) old new
-
 -- The whole contract of a call. Its status and its line on err are those of one ending.
 pub record Answered (said : Option Command) (before after : World) (Way : List Call → Type 0) (answer : ℕ) : Type 0 where
   pub ending : Ending
@@ -119,6 +102,4 @@ pub record Answered (said : Option Command) (before after : World) (Way : List C
   pub order : Went Way (InOrder said before.desk after.desk ending)
   -- what is meant comes, unless memory runs out or a fault is counted
   pub complete : IsAnswer said before after answer
-  -- The headline, of `sim` and of `run`. What is printed of these runs is part of `done`.
-  pub headline : answer ≡ 0 → SimIsTraced said before.desk.held after.desk.held × RunIsTraced said before.desk.held after.desk.held
   pub setup : answer ≡ 0 → MakesSetup said

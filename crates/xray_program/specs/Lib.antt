@@ -25,5 +25,6 @@ pub mod OrderReplays
 pub mod Commands
 pub mod Accepted
 pub mod Answers
+pub mod Headline
 pub mod Order
 pub mod private

@@ -1,5 +1,5 @@
 -- `profile`: threads that run over an image while a script patches their sleds, and the stacks of what they recorded.
-use Rattle.std.specs.Prelude.{◌≡◌, ◌+◌, ◌++◌, ℕ, List, [], ◌∷◌, length, map, codes, decimal, Option, Some, None}
+use Rattle.std.specs.Prelude.{◌≡◌, ◌+◌, ◌++◌, ℕ, List, [], ◌∷◌, map, codes, decimal, Option, Some, None}
 use Rattle.call_trie.specs.declared.state.TrieState.{TrieState}
 use Rattle.call_trie.specs.declared.state.TrieState.TheVariants.{Live, Full, Deep}
 use Rattle.call_trie.specs.Tries.{state_after}
@@ -8,15 +8,15 @@ use Rattle.command_words.specs.declared.report_options.StackFormat.{StackFormat}
 use Rattle.command_words.specs.declared.report_options.StackFormat.TheVariants.{Human, Flame, Svg}
 use Rattle.function_names.specs.Name.{program_names}
 use Rattle.fdr_record.specs.declared.event.Event.{Event}
-use Rattle.machine_step.specs.PlainStep.{PlainRun}
+use Rattle.patch_script.specs.declared.command.Command.{Command}
 use Rattle.patch_script.specs.Plans.{Plan}
 use Rattle.patch_script.specs.Refusals.{commands_of}
 use Rattle.stack_rebuild.specs.Stacks.{stack_of_threads}
-use Rattle.traced_run.specs.Following.{AllMarksFollow}
-use Rattle.traced_run.specs.Runs.{EachThread, ThreadRun, events_of}
+use Rattle.traced_run.specs.Runs.{ThreadRun, events_of}
 use Rattle.xray_image.specs.Program.{Program}
 use Rattle.xray_io.specs.Desk.{Entry}
 use Rattle.xray_program.specs.Outcomes.{Outcome}
+use Rattle.xray_program.specs.Run.{RanBeside}
 use Rattle.xray_program.specs.Scripts.{TakeScript}
 use Rattle.xray_program.specs.Setups.{limits_of}
 use Rattle.xray_program.specs.Stack.{rows_text}
@@ -61,15 +61,14 @@ profile_of options program runs =
     let trouble = trouble_of 1 (map (state_after options.nodes) threads) in
     ended_by [] (printed_of trouble options.format program (state_texts 1 runs) threads) trouble
 
--- the threads have run, each as its plain run does, and their marks follow the script
-pub record AreProfiled (options : ProfileOptions) (program : Program) (plan : Plan) (runs : List ThreadRun) : Type 0 where
-  pub count : length runs ≡ options.bounds.threads
-  pub plain : EachThread runs (λ number run. PlainRun program (limits_of options.bounds options.stamps) number run.passed run.end run.last)
-  pub follow : AllMarksFollow program options.bounds.threads (commands_of plan.lines) runs
+-- the threads have run beside a script, by the law of `run`
+abbrev pub AreProfiled : ProfileOptions → Program → List Command → List ThreadRun → Type 0
+AreProfiled options program script = RanBeside program script options.bounds.threads (limits_of options.bounds options.stamps)
 
 -- what comes of the judged inputs: what comes of some such runs
 abbrev pub Profiles : ProfileOptions → Program → Plan → Outcome → Type 0
-Profiles options program plan outcome = (runs : List ThreadRun) × AreProfiled options program plan runs × (outcome ≡ profile_of options program runs)
+Profiles options program plan outcome =
+    (runs : List ThreadRun) × AreProfiled options program (commands_of plan.lines) runs × (outcome ≡ profile_of options program runs)
 
 -- what comes of the command
 abbrev pub ProfileComes : DeskReads → (List ℕ → Entry) → (image script : List ℕ) → ProfileOptions → Outcome → Type 0

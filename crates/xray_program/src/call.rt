@@ -5,7 +5,6 @@ ghost use Rattle.command_words.specs.{Items.{texts}, Ranges.{HasRanges}, Views.{
 ghost use Rattle.command_words.specs.Words.{reading};
 ghost use Rattle.xray_io.specs.World.{desk_view, sink_view};
 ghost use Rattle.xray_program.specs.{Answers.{Answered, Says}, Commands.{IsStill, is_report}, Outcomes.{NoMemory, err_line_at}};
-ghost use Rattle.xray_program.specs.private.CallLaws.{CallLaws};
 ghost use Rattle.xray_program.specs.private.Stops.{answer_of, told_of, IsUnsaid};
 ghost use Rattle.xray_program.specs.private.Works.{Ends, IsOther, SaidHasRanges};
 
@@ -28,13 +27,9 @@ use crate::stop::Stop;
 use crate::traced::TraceFiles;
 use crate::work::perform;
 use command_words::{Command, commands_follow_their_rows, read_words};
-use machine_step::what_follows_is_allowed;
-use patch_script::each_script_keeps_sleds;
 use std::alloc::Global;
 use std::sync::Wait;
 use std::thread::Threads;
-use step_sim::{a_replay_loses_few, buffers_change_no_replay, no_replay_tears_a_sled};
-use traced_run::a_whole_run_executes_to_its_end;
 use xray_io::{Desk, Gate, Sink, Wall};
 
 /// Does what `words` say, with the files of `desk`. `words` don't hold the program's own name, and say
@@ -67,7 +62,6 @@ pub fn xray_still<D: Desk, O: Sink, E: Sink>(
         (record { desk = seen desk.new; out = got out.new; err = heard err.new })
         (D.along desk.old desk.new) result }
 {
-    what_runs_leave();
     let ended = perform_words(alloc, words, wall, desk, out);
     answer(ended, err)
 }
@@ -95,7 +89,6 @@ pub fn xray<T: Threads + Wait + Sync, D: Desk, O: Sink, E: Sink, G: Gate + Sync>
         (record { desk = seen desk.new; out = got out.new; err = heard err.new })
         (D.along desk.old desk.new) result }
 {
-    what_runs_leave();
     let ended = perform_any_words(rt, alloc, words, wall, desk, out, gate);
     answer(ended, err)
 }
@@ -131,20 +124,6 @@ pub fn out_of_memory<E: Sink>(err: &mut E) -> u8
         Says (heard err.old) (heard err.new) (err_line_at NoMemory) }
 {
     answer(Err(Stop::NoMemory), err)
-}
-
-/// A law. No thread of a replay decodes a torn sled, and none of a run does. So each thread that
-/// executes its code always comes to the end of its plain run. A replay loses as few segments as its
-/// buffers allow, and makes the same loads as one without buffers.
-fn what_runs_leave()
-    ensures { CallLaws }
-{
-    no_replay_tears_a_sled();
-    each_script_keeps_sleds();
-    what_follows_is_allowed();
-    a_replay_loses_few();
-    buffers_change_no_replay();
-    a_whole_run_executes_to_its_end();
 }
 
 /// The status of a call that ended so. If something stopped it, a line on `err` says what.

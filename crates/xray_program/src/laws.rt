@@ -10,14 +10,16 @@ ghost use Rattle.traced_run.specs.{Losses.{AreLost}, Runs.{IsRun, ThreadRun}};
 ghost use Rattle.xray_image.specs.Program.{IsAccepted, Program};
 ghost use Rattle.xray_io.specs.Desk.{Entry, Holds};
 ghost use Rattle.xray_io.specs.World.{World};
-ghost use Rattle.xray_program.specs.{Accepted.{AreAccepted, CountsNoFault}, Answers.{IsAnswer}};
+ghost use Rattle.xray_program.specs.{Accepted.{AreAccepted, CountsNoFault}, Answers.{IsAnswer, LeavesAll}};
 ghost use Rattle.xray_program.specs.Commands.{IsDecided, IsProfile, Means, TellsAll, inputs_of};
 ghost use Rattle.xray_program.specs.{
+  Headline.{ProfileIsTraced, RunIsTraced, SimIsTraced},
   Import.{RunsImportThemselves},
   OrderReplays.{LeavesRunsOf},
   Setups.{setup_of},
 };
-ghost use Rattle.xray_program.specs.Outcomes.{Done, Outcome, status_of, written_by};
+ghost use Rattle.xray_program.specs.Outcomes.{Done, Ending, Outcome, status_of, written_by};
+ghost use Rattle.xray_program.specs.private.CallLaws.{CallLaws};
 ghost use Rattle.xray_program.specs.private.Meanings.{OneMeaning, RefusalIsAlone};
 ghost use Rattle.machine_step.specs.Setups.{IsSetup};
 ghost use Rattle.xray_program.specs.Traced.{IsReported};
@@ -33,17 +35,36 @@ use audit_check::{a_lawful_run_is_accepted, one_reading, some_reading};
 use fdr_buffer::segments_hold_all;
 use fdr_file::{a_file_reads_back, a_trace_is_read};
 use flame_graph::{no_frame_sticks_out, stacks_can_be_drawn, the_lowest_frames_add_up};
-use machine_step::{one_end, some_end, some_marks_follow};
-use patch_script::each_script_lets_threads_end;
+use machine_step::{one_end, some_end, some_marks_follow, what_follows_is_allowed};
+use patch_script::{each_script_keeps_sleds, each_script_lets_threads_end};
 use run_order::{
     a_script_reads_without_its_waits, an_order_is_a_schedule, an_order_leaves_its_run,
     one_order_of_an_audit,
 };
 use runtime_log::{a_trace_in_order_is_imported_as_itself, one_import, some_import};
-use step_sim::{a_replay_loses_few, marks_of_a_replay_follow, one_run, some_run};
+use step_sim::{
+    a_replay_loses_few, buffers_change_no_replay, marks_of_a_replay_follow, no_replay_tears_a_sled,
+    one_run, some_run,
+};
 use trace_flush::{a_run_is_traced, a_trace_is_short};
-use traced_run::{a_run_fits_its_buffers, some_losses_are_of_a_queue};
+use traced_run::{
+    a_run_fits_its_buffers, a_whole_run_executes_to_its_end, some_losses_are_of_a_queue,
+};
 use xray_image::{one_verdict, some_verdict};
+
+/// A law. No thread of a replay decodes a torn sled, and none of a run does. So each thread that
+/// executes its code always comes to the end of its plain run. A replay loses as few segments as its
+/// buffers allow, and makes the same loads as one without buffers.
+pub(crate) fn what_runs_leave()
+    ensures { CallLaws }
+{
+    no_replay_tears_a_sled();
+    each_script_keeps_sleds();
+    what_follows_is_allowed();
+    a_replay_loses_few();
+    buffers_change_no_replay();
+    a_whole_run_executes_to_its_end();
+}
 
 /// If a command decides its outcome, its words mean only one thing over a desk that reports every
 /// name: one status and one line on err, or the same outputs and the same text.
@@ -101,6 +122,7 @@ pub fn some_meaning()
     audit_check::some_verdict();
     one_order_of_an_audit();
     some_import();
+    what_runs_leave();
 }
 
 /// The inputs of a command, whose turns come one after another, are the files that are read by its
@@ -134,6 +156,22 @@ pub fn only_profiles_mean_7()
         → Means said held outcome → status_of outcome ≡ 7
         → (command : Command) × (said ≡ Some command) × IsProfile command }
 {}
+
+/// What is done is of one list of runs, which have run lawfully. Suppose that a call ended well, as the
+/// field `done` of its contract says (`LeavesAll`), and that the desk held the inputs of its `sim`, `run`
+/// or `profile`. Then the image is accepted. No thread of these runs has decoded a torn sled, and each
+/// ends as its plain run does, by loads that follow the lines of the schedule or of the script. What is
+/// written is exactly what these runs leave: the trace, the audit and the state texts, or the stacks.
+pub fn what_is_done_is_traced()
+    ensures sim { (said : Option Command) (before after : World) (ending : Ending)
+        → (done : LeavesAll said before after ending) → SimIsTraced said before.desk.held done.outputs done.text }
+    ensures run { (said : Option Command) (before after : World) (ending : Ending)
+        → (done : LeavesAll said before after ending) → RunIsTraced said before.desk.held done.outputs done.text }
+    ensures profile { (said : Option Command) (before after : World) (ending : Ending)
+        → (done : LeavesAll said before after ending) → ProfileIsTraced said before.desk.held done.outcome }
+{
+    buffers_change_no_replay();
+}
 
 /// The reports take the trace of a run that its setup allows (`IsSetup`): its bytes are the trace of the
 /// run (`IsTraceOf`), a report reads that many bytes, and they read as this trace. With the headline,
@@ -174,7 +212,6 @@ pub fn what_is_left_is_accepted()
 {
     a_lawful_run_is_accepted();
     a_trace_is_short();
-    a_replay_loses_few();
     marks_of_a_replay_follow();
 }
 
@@ -191,6 +228,7 @@ pub fn what_is_ordered_is_replayed()
         → (program : Program)
         × LeavesRunsOf (Means (Some (Sim i f o t b options)) after) t b program statement }
 {
+    what_runs_leave();
     one_reading();
     a_script_reads_without_its_waits();
     an_order_leaves_its_run();

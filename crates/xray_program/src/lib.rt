@@ -61,5 +61,5 @@ pub use drawn::soak_inputs;
 pub use laws::{
     a_run_is_imported_as_itself, accepted_inputs_mean_done, inputs_follow_the_rows, one_meaning,
     only_profiles_mean_7, pictures_add_up, refusal_is_the_only_meaning, reports_take_a_run,
-    some_meaning, what_is_left_is_accepted, what_is_ordered_is_replayed,
+    some_meaning, what_is_done_is_traced, what_is_left_is_accepted, what_is_ordered_is_replayed,
 };

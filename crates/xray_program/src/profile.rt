@@ -19,6 +19,7 @@ ghost use Rattle.xray_program.specs.Stack.{rows_text};
 ghost use Rattle.xray_program.specs.private.Works.{Delivers, Ends, Finishes, KeepsOthers};
 
 use crate::delivery::{Both, NoOutputs, deliver};
+use crate::laws::what_runs_leave;
 use crate::run_inputs::{Profile, RunInputs};
 use crate::script_inputs::take_script;
 use crate::setups::profile_limits;
@@ -82,6 +83,9 @@ fn finish<'a, T: Threads + Wait + Sync, D: Desk, O: Sink, G: Gate + Sync>(
         KeepsOthers (outputs_of (said_by command.now)) (seen desk.old) (seen desk.new) }
 {
     let RunInputs { image, script } = inputs;
+    // Called for their contracts: the image was accepted, and threads that run over it run lawfully.
+    image.each_was_accepted();
+    what_runs_leave();
     let steps = Steps::new(alloc, &image)?;
     let end = run_profiled(rt, alloc, &steps, script, command.options, gate)?;
     match trouble_of(&end.recorders) {

@@ -11,6 +11,7 @@ ghost use Rattle.xray_program.specs.private.RunInputs.{comes_of, said_by, IsRead
 ghost use Rattle.xray_program.specs.private.Stops.{answer_of, told_of};
 ghost use Rattle.xray_program.specs.private.Works.{Ends, Finishes, KeepsOthers};
 
+use crate::laws::what_runs_leave;
 use crate::run_inputs::{Run, RunInputs};
 use crate::script_inputs::take_script;
 use crate::setups::setup_of;
@@ -65,6 +66,9 @@ fn finish<'a, T: Threads + Wait + Sync, D: Desk, O: Sink, G: Gate + Sync>(
         KeepsOthers (outputs_of (said_by command.now)) (seen desk.old) (seen desk.new) }
 {
     let RunInputs { image, script } = inputs;
+    // Called for their contracts: the image was accepted, and threads that run over it run lawfully.
+    image.each_was_accepted();
+    what_runs_leave();
     let setup = setup_of(command.options);
     let lines = room_for(alloc, setup.threads)?;
     let steps = Steps::new(alloc, &image)?;

@@ -3,6 +3,7 @@ ghost use Rattle.command_words.specs.Ranges.{AreRunOptions};
 
 use crate::input::{fault_stop, take};
 use crate::inputs::{ImageKind, SCRIPT, ScheduleKind, ScriptKind};
+use crate::laws::what_runs_leave;
 use crate::setups::setup_of;
 use crate::sim_inputs::SimInputs;
 use crate::stop::Stop;
@@ -74,8 +75,11 @@ impl<'a> Work<'a> for Sim<'a> {
         let steps = Steps::new(alloc, &inputs.image)?;
         match SimStart::new(alloc, &steps, &inputs.script, &setup) {
             Ok(start) => {
-                // Called for its contract: buffers in order are also in any order.
+                // Called for their contracts: buffers in order are also in any order, the image was
+                // accepted, and threads of a replay over it run lawfully.
                 kept_buffers_hold_events();
+                inputs.image.each_was_accepted();
+                what_runs_leave();
                 let left = RunLeft::from(start.play(&inputs.schedule));
                 deliver_run(desk, out, &self.files, &setup, left, lines)
             }

@@ -10,6 +10,7 @@ returns c said held told holds =
       end = c.some_end.ensures;
       run = c.some_run.ensures.still;
       lets = c.each_script_lets_threads_end.ensures;
+      lawful = c.what_runs_leave.ensures;
       marks = c.some_marks_follow.ensures;
       losses = c.some_losses_are_of_a_queue.ensures;
       drawn = record {

@@ -14,7 +14,7 @@ returns-clause-sim c = λ held after i s c' t a options trace audit text ranges 
       yes = c.a_lawful_run_is_accepted.ensures.yes;
     })
     held after i s t a (setup_of options) (options_make_a_setup options ranges) trace audit text image script trace_held audit_held
-    (record { follow = c.marks_of_a_replay_follow.ensures; few = c.a_replay_loses_few.ensures.read }) c' comes
+    c.marks_of_a_replay_follow.ensures c' comes
 
 pub returns-clause-run : goal.returns-clause-run
 returns-clause-run c = λ held after i s t a options trace audit text ranges comes image script trace_held audit_held.

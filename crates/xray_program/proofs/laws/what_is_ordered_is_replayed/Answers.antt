@@ -14,6 +14,7 @@ returns c = λ held after i s a f o t b options audit free schedule statement au
     let leaves =
     order_replays
     (record {
+      lawful = c.what_runs_leave.ensures;
       reading = c.one_reading.ensures;
       free = c.a_script_reads_without_its_waits.ensures.reads;
       short = c.a_script_reads_without_its_waits.ensures.short;

@@ -17,7 +17,7 @@ use Rattle.xray_program.specs.Stack.{rows_text}
 use Rattle.xray_program.specs.Traced.{state_texts}
 use Rattle.xray_program.specs.declared.stop.Stop.TheVariants as stops
 use Rattle.xray_program.proofs.WorkEndings.{finishes, refuses}
-use Rattle.xray_program.proofs.ProfiledThreads.{all_live, profile_done, profile_fell}
+use Rattle.xray_program.proofs.ProfiledThreads.{all_live, profile_done, profile_fell, were_profiled}
 use Rattle.xray_program.proofs.RunWritten.{threads_ended, threads_printed}
 use Rattle.xray_program.proofs.profile.finish.Goals as goal
 
@@ -65,7 +65,8 @@ returns-in-Some-clause-finishes g c =
     finishes (comes_of s c.args.inputs) [] text (Some trouble) (seen c.args.desk.now) (seen c.deliver_states.new.desk) (got c.args.out.now)
     (got c.deliver_states.new.out) (g.D.Desk.along c.args.desk.now c.deliver_states.new.desk) c.deliver_states.result (
       have.runs,
-      have.are,
+      were_profiled c.what_runs_leave.ensures c.each_was_accepted.ensures.0 s.options program c.args.inputs.script c.in_ok-end.end.cpus.items
+          c.in_ok-end.end.recorders.items c.each_was_accepted.ensures.1 have,
       profile_fell s.options program have.runs text trouble is
           (wrong ∙ ap (λ (ts : List Trie). trouble_of 1 (map (λ (t : Trie). t.state) ts)) c.deref.ensures.value ∙ ap (trouble_of 1) have.states),
     )
@@ -118,7 +119,8 @@ returns-clause-finishes g c =
     finishes (comes_of s c.args.inputs) [] text None (seen c.args.desk.now) (seen c.deliver_report.new.desk) (got c.args.out.now)
     (got c.deliver_report.new.out) (g.D.Desk.along c.args.desk.now c.deliver_report.new.desk) c.deliver_report.result (
       have.runs,
-      have.are,
+      were_profiled c.what_runs_leave.ensures c.each_was_accepted.ensures.0 s.options program c.args.inputs.script c.in_ok-end.end.cpus.items
+          c.in_ok-end.end.recorders.items c.each_was_accepted.ensures.1 have,
       profile_done s.options program have.runs text is
           (none ∙ ap (λ (ts : List Trie). trouble_of 1 (map (λ (t : Trie). t.state) ts)) c.deref.ensures.value ∙ ap (trouble_of 1) have.states),
     )

@@ -5,11 +5,12 @@ use Rattle.sled_rule.specs.Seats.{work_view}
 use Rattle.thread_run.specs.Runs.{HaveRunBeside}
 use Rattle.xray_image.specs.Program.{Program}
 use Rattle.xray_io.specs.World.{desk_view, sink_view}
-use Rattle.xray_program.specs.Run.{FollowsPlan, RunsBeside}
+use Rattle.xray_program.specs.Run.{RanBeside, RunsBeside}
 use Rattle.xray_program.specs.private.RunInputs.{comes_of}
-use Rattle.xray_program.specs.Traced.{Traces, state_texts, written_of}
+use Rattle.xray_program.specs.Traced.{IsTraced, state_texts, written_of}
 use Rattle.xray_program.specs.private.Works.{Finishes}
 use Rattle.xray_program.specs.declared.stop.Stop.TheVariants as stops
+use Rattle.xray_program.proofs.LawfulRuns.{ran_beside}
 use Rattle.xray_program.proofs.WorkEndings.{finishes, refuses}
 use Rattle.xray_program.proofs.RunWritten.{leaves_same}
 use Rattle.xray_program.proofs.run.finish.Goals as goal
@@ -41,9 +42,16 @@ returns-clause-finishes g c =
     let audit = s.files.audit.now in
     let outputs = written_of trace audit setup is.runs in
     let text = state_texts 1 is.runs in
-    let Are = Traces (FollowsPlan setup inputs.image inputs.script) inputs.image setup trace audit in
-    let traces : Are outputs text =
-    record { runs = is.runs; run = is.run; lawful = record { follow = is.follow; losses = is.losses }; outputs_are = refl; text_is = refl } in
+    let commands = commands_of inputs.script.lines in
+    let image = c.each_was_accepted.ensures in
+    let Are = IsTraced (RanBeside inputs.image commands setup.threads setup.limits) setup trace audit in
+    let traced : Are outputs text = record {
+      runs = is.runs;
+      ran = ran_beside c.what_runs_leave.ensures image.0 inputs.image commands setup.threads setup.limits is.runs image.1 is.run.count is.run.plain is.follow;
+      losses = is.losses;
+      outputs_are = refl;
+      text_is = refl;
+    } in
     let Done : Setup → Type 0 = λ with_it.
     Finishes (RunsBeside trace audit with_it inputs.image inputs.script) (seen c.args.desk.now)
     (seen c.deliver_run.new.desk) (got c.args.out.now) (got c.deliver_run.new.out) (g.D.Desk.along c.args.desk.now c.deliver_run.new.desk) c.deliver_run.result in
@@ -51,7 +59,7 @@ returns-clause-finishes g c =
     (finishes (RunsBeside trace audit setup inputs.image inputs.script) outputs text None
     (seen c.args.desk.now) (seen c.deliver_run.new.desk) (got c.args.out.now) (got c.deliver_run.new.out)
     (g.D.Desk.along c.args.desk.now c.deliver_run.new.desk) c.deliver_run.result
-    (outputs, text, traces, refl)
+    (outputs, text, traced, refl)
     (c.deliver_run.ensures.delivers is.runs (leaves_same setup is.runs end.cpus left.cpus end.segments left.segments end.first left.first end.buffers left.buffers c.from.ensures is.leaves)))
 
 pub returns-in_err-lines-clause-finishes : goal.returns-in_err-lines-clause-finishes

@@ -1,18 +1,19 @@
-use Rattle.std.proofs.Common.{◌≡◌, ℕ, [], None, refl, sym, ap, subst}
+use Rattle.std.proofs.Common.{◌≡◌, ℕ, [], None, Ok, refl, sym, ap, subst}
 use Rattle.std.specs.Prelude.{All}
 use Rattle.patch_script.specs.Plans.{waiting_line}
 use Rattle.patch_script.specs.Refusals.{commands_of}
 use Rattle.step_sim.specs.Replayed.{IsSimulated}
-use Rattle.step_sim.specs.Schedules.{AreTurnsOf}
+use Rattle.step_sim.specs.Schedules.{AreTurnsOf, schedule_of}
 use Rattle.step_sim.specs.Starts.{Start}
 use Rattle.machine_step.specs.declared.setup.Setup.{Setup}
 use Rattle.xray_image.specs.Program.{Program}
 use Rattle.xray_io.specs.World.{desk_view, sink_view}
 use Rattle.xray_program.specs.Setups.{setup_of}
-use Rattle.xray_program.specs.Sim.{Replayed, Replays}
+use Rattle.xray_program.specs.Sim.{RanReplayed, Replays}
 use Rattle.xray_program.specs.Taking.{Leaves}
-use Rattle.xray_program.specs.Traced.{Traces, state_texts, written_of}
+use Rattle.xray_program.specs.Traced.{IsTraced, state_texts, written_of}
 use Rattle.xray_program.specs.private.Works.{Finishes}
+use Rattle.xray_program.proofs.LawfulRuns.{ran_replayed}
 use Rattle.xray_program.proofs.WorkEndings.{finishes}
 use Rattle.xray_program.proofs.RunWritten.{leaves_same}
 use Rattle.xray_program.proofs.SimTurns.{sim_leaves, sim_refuses}
@@ -58,9 +59,17 @@ returns-in-Ok-clause-finishes g c =
     (c.kept_buffers_hold_events.ensures.any_order setup is.runs end.cpus.items end.segments.items end.first.items end.buffers.items is.leaves) in
     let outputs = written_of s.files.trace.now s.files.audit.now setup is.runs in
     let text = state_texts 1 is.runs in
-    let Are = Traces (Replayed inputs.image inputs.script inputs.schedule setup) inputs.image setup s.files.trace.now s.files.audit.now in
-    let traces : Are outputs text =
-    record { runs = is.runs; run = is.replay.run; lawful = is.replay; outputs_are = refl; text_is = refl } in
+    let threads : s.options.bounds.threads ≡ setup.threads = sym (ap (λ (made : Setup). made.threads) c.setup_of-setup.ensures.options) in
+    let reads = subst (λ (n : ℕ). schedule_of n c.requires.schedule_read.0 ≡ Ok inputs.schedule) threads c.requires.schedule_read.1 in
+    let image = c.each_was_accepted.ensures in
+    let Are = IsTraced (RanReplayed inputs.image inputs.script inputs.schedule setup) setup s.files.trace.now s.files.audit.now in
+    let traced : Are outputs text = record {
+      runs = is.runs;
+      ran = ran_replayed c.what_runs_leave.ensures image.0 inputs.image inputs.script c.requires.schedule_read.0 inputs.schedule setup is.runs image.1 reads is.replay;
+      losses = is.losses;
+      outputs_are = refl;
+      text_is = refl;
+    } in
     let Done : Setup → Type 0 = λ with_it.
     Finishes (Replays s.script.now s.files.trace.now s.files.audit.now with_it inputs.image inputs.script inputs.schedule) (seen c.args.desk.now)
     (seen c.deliver_run.new.desk) (got c.args.out.now) (got c.deliver_run.new.out) (g.D.Desk.along c.args.desk.now c.deliver_run.new.desk) c.deliver_run.result in
@@ -69,7 +78,7 @@ returns-in-Ok-clause-finishes g c =
     (seen c.args.desk.now) (seen c.deliver_run.new.desk) (got c.args.out.now) (got c.deliver_run.new.out)
     (g.D.Desk.along c.args.desk.now c.deliver_run.new.desk) c.deliver_run.result
     (sim_leaves s.script.now (waiting_line inputs.script.lines) (Leaves Are) _
-    (λ line waits. let told = (c.new-2.ensures.waits line).1 waits in cc) (outputs, text, traces, refl))
+    (λ line waits. let told = (c.new-2.ensures.waits line).1 waits in cc) (outputs, text, traced, refl))
     (c.deliver_run.ensures.delivers is.runs leaves))
 
 pub returns-clause-finishes : goal.returns-clause-finishes

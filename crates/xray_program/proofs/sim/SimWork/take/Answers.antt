@@ -43,3 +43,13 @@ returns-clause-turns g c =
     all_given (comes_of s) (record { image = program; script = plan; schedule = turns })
     (after_schedule g.met.D.Desk.along_both g.met.D.Desk.along_none desk s c.args.desk.now program plan turns
     c.in_ok-image.ensures.turn c.in_ok-script.ensures.turn c.in_ok-schedule.ensures.turn) (λ _ _ yields. yields)
+
+pub returns-clause-fits : goal.returns-clause-fits
+returns-clause-fits g c =
+    let given = c.in_ok-schedule.ensures.turn.taken in
+    record {
+      program_is = c.in_ok-script.ensures.fits.0;
+      threads_are = c.in_ok-script.ensures.fits.1;
+      turns_of_threads = c.in_ok-schedule.ensures.fits;
+      schedule_read = (given.bytes, given.reads);
+    }

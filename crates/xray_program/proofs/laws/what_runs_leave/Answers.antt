@@ -1,4 +1,4 @@
-use Rattle.xray_program.proofs.call.what_runs_leave.Goals as goal
+use Rattle.xray_program.proofs.laws.what_runs_leave.Goals as goal
 
 pub returns : goal.returns
 returns c = record {
