@@ -12,6 +12,10 @@ pub mod SpokenLines
 -- What `sim` and `run` leave is accepted by `check` (src/laws.rt)
 pub mod CheckYes
 pub mod AuditLengths
+-- The numbers of an audit have at most 64 bits (src/laws.rt)
+pub mod RunNumbers
+-- A profile has the stacks of a run (src/laws.rt)
+pub mod ProfiledStacks
 -- What `order` writes is replayed by `sim` (src/laws.rt)
 pub mod OrderReplays
 -- The trace of a run is imported as itself (src/laws.rt)

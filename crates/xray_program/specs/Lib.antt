@@ -16,6 +16,7 @@ pub mod Account
 pub mod Soak
 pub mod Stack
 pub mod Profile
+pub mod ProfiledStacks
 pub mod Convert
 pub mod Dump
 pub mod Check

@@ -6,7 +6,9 @@ ghost use Rattle.audit_check.specs.declared.verdict.Verdict.TheVariants.{Yes};
 ghost use Rattle.command_words.specs.Files.{inputs_in, names_given, names_of, row_of};
 ghost use Rattle.machine_step.specs.Buffers.{spare_of};
 ghost use Rattle.machine_step.specs.declared.setup.Setup.{Setup};
-ghost use Rattle.traced_run.specs.{Losses.{AreLost}, Runs.{IsRun, ThreadRun}};
+ghost use Rattle.patch_script.specs.declared.command.Command.{Command as PatchCommand};
+ghost use Rattle.trace_flush.specs.Telling.{HasRunNumbers};
+ghost use Rattle.traced_run.specs.{Following.{AllMarksFollow}, Losses.{AreLost}, Runs.{IsRun, ThreadRun, events_of}};
 ghost use Rattle.xray_image.specs.Program.{IsAccepted, Program};
 ghost use Rattle.xray_io.specs.Desk.{Entry, Holds};
 ghost use Rattle.xray_io.specs.World.{World};
@@ -16,19 +18,24 @@ ghost use Rattle.xray_program.specs.{
   Headline.{ProfileIsTraced, RunIsTraced, SimIsTraced},
   Import.{RunsImportThemselves},
   OrderReplays.{LeavesRunsOf},
+  Profile.{profile_of, states_before, trouble_of},
+  ProfiledStacks.{MakeMarksOf},
   Setups.{setup_of},
 };
 ghost use Rattle.xray_program.specs.Outcomes.{Done, Ending, Outcome, status_of, written_by};
 ghost use Rattle.xray_program.specs.private.CallLaws.{CallLaws};
 ghost use Rattle.xray_program.specs.private.Meanings.{OneMeaning, RefusalIsAlone};
 ghost use Rattle.machine_step.specs.Setups.{IsSetup};
-ghost use Rattle.xray_program.specs.Traced.{IsReported};
+ghost use Rattle.xray_program.specs.{Stack.{rows_text}, Traced.{IsReported, state_texts}};
+ghost use Rattle.call_trie.specs.Tries.{state_after};
+ghost use Rattle.command_words.specs.declared.profile_options.ProfileOptions.{ProfileOptions};
+ghost use Rattle.function_names.specs.Name.{program_names};
 ghost use Rattle.command_words.specs.Ranges.{AreRunOptions};
 ghost use Rattle.command_words.specs.Words.{Check, Command, Order, Run, Sim};
 ghost use Rattle.command_words.specs.declared.run_options.RunOptions.{RunOptions};
 ghost use Rattle.fdr_file.specs.declared.trace.Trace.{Trace};
 ghost use Rattle.flame_graph.specs.Laws.{LowestAddUp, NoneSticksOut};
-ghost use Rattle.stack_rebuild.specs.Stacks.{stack_of};
+ghost use Rattle.stack_rebuild.specs.Stacks.{stack_of, stack_of_threads};
 
 use crate::drawn::each_input_is_read;
 use audit_check::{a_lawful_run_is_accepted, one_reading, some_reading};
@@ -42,6 +49,7 @@ use run_order::{
     one_order_of_an_audit,
 };
 use runtime_log::{a_trace_in_order_is_imported_as_itself, one_import, some_import};
+use stack_rebuild::stacks_are_of_threads;
 use step_sim::{
     a_replay_loses_few, buffers_change_no_replay, marks_of_a_replay_follow, no_replay_tears_a_sled,
     one_run, some_run,
@@ -173,6 +181,18 @@ pub fn what_is_done_is_traced()
     buffers_change_no_replay();
 }
 
+/// The audit of a run has only numbers of 64 bits (`HasRunNumbers`), if a run may have its setup, the marks
+/// of its threads follow a script, and as many segments are lost as its queue had no buffers for. This is
+/// true of each list of runs that `sim` or `run` means. So the law `one_run_of_an_audit` of `trace_flush`
+/// says that their audit determines them.
+pub fn a_lawful_run_has_small_numbers()
+    ensures { (program : Program) (script : List PatchCommand) (setup : Setup) (runs : List ThreadRun)
+        → IsSetup setup → IsRun program setup runs → AllMarksFollow program setup.threads script runs
+        → AreLost setup.size (spare_of setup) runs → HasRunNumbers setup runs }
+{
+    a_lawful_run_is_accepted();
+}
+
 /// The reports take the trace of a run that its setup allows (`IsSetup`): its bytes are the trace of the
 /// run (`IsTraceOf`), a report reads that many bytes, and they read as this trace. With the headline,
 /// this says what the file of a `sim` or a `run` reads as.
@@ -233,6 +253,27 @@ pub fn what_is_ordered_is_replayed()
     a_script_reads_without_its_waits();
     an_order_leaves_its_run();
     an_order_is_a_schedule();
+}
+
+/// What a profile and a run print of the same calls is the same. If the threads of a `profile` make the
+/// marks of a `run` or a `sim`, and no segment of that one is lost (`MakeMarksOf`), then the rows that
+/// `profile` prints are those that `stack` prints of the trace. If no recorder stops, `profile` prints the
+/// state texts of the run, and then these rows, with the names of the image, as `stack` prints them of a
+/// counter with no frequency. Only a picture shows the frequency.
+pub fn a_profile_prints_the_stacks_of_a_run()
+    ensures rows { (program : Program) (setup : Setup) (runs : List ThreadRun) (trace : Trace) (options : ProfileOptions)
+        (profiled : List ThreadRun) → MakeMarksOf program setup runs trace options profiled
+        → stack_of_threads (map events_of profiled) ≡ stack_of trace.blocks }
+    ensures printed { (program : Program) (setup : Setup) (runs : List ThreadRun) (trace : Trace) (options : ProfileOptions)
+        (profiled : List ThreadRun) → MakeMarksOf program setup runs trace options profiled
+        → trouble_of 1 (map (state_after options.nodes) (map events_of profiled)) ≡ None
+        → profile_of options program profiled
+        ≡ Done [] (states_before options.format (state_texts 1 runs)
+        ++ rows_text options.format 0 (program_names program) (stack_of trace.blocks)) }
+{
+    one_end();
+    reports_take_a_run();
+    stacks_are_of_threads();
 }
 
 /// In the picture that `stack --format svg` prints of a trace, no frame sticks out of that of its
