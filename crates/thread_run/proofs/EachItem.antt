@@ -1,5 +1,5 @@
 -- Items of a list, each on its own.
-use Rattle.std.proofs.Common.{◌≡◌, ℕ, zero, suc, ◌+◌, ◌<◌, inl, inr, List, [], ◌∷◌, ◌++◌, Option, Some, refl, ap, sym, subst, ◌∙◌, arith, append_assoc, drop, get_or, length, length-append, map, take}
+use Rattle.std.proofs.Common.{◌≡◌, ℕ, zero, suc, ◌<◌, inl, inr, List, [], ◌∷◌, ◌++◌, Option, Some, refl, ap, sym, subst, ◌∙◌, arith, append_assoc, drop, get_or, length, length-append, map, take}
 use Rattle.std.specs.Prelude.{◌⊎◌, All, option_map, slice_get}
 use mathlib.Core.List.{map-append}
 use Rattle.std.proofs.Math.Seq.{get_or-append_seam}

@@ -1,6 +1,7 @@
 -- What is gathered of workers that have ended, and drained of their pool, is what a run leaves.
 use Rattle.std.proofs.Common.{◌≡◌, ℕ, ◌+◌, ◌<◌, List, [], ◌∷◌, ◌++◌, Some, sym, subst, ap, ◌∙◌, arith, append_assoc, get_or, length, length-append, map}
-use Rattle.std.specs.Prelude.{option_map, slice_get}
+use Rattle.std.specs.Prelude.{Vec, option_map, slice_get}
+use Rattle.std.specs.declared.alloc.Global.{Global}
 use Rattle.std.proofs.Math.Seq.{get_or-append_seam}
 use Rattle.std.proofs.lemmas.List.{length-map}
 use Rattle.std.proofs.lemmas.Option.{get_or_from_slice_get, slice_get-map, slice_get_within}
@@ -11,19 +12,21 @@ use Rattle.patch_script.specs.Refusals.{commands_of}
 use Rattle.fdr_buffer.specs.Filled.{Filled}
 use Rattle.buffer_queue.specs.Left.{IsLeft}
 use Rattle.buffer_queue.specs.Passes.{AreNew, AreOf, IsOf, PassIs, PoolIs, new_hand, sealed_of}
+use Rattle.machine_step.specs.declared.limits.Limits.{Limits}
 use Rattle.machine_step.specs.declared.setup.Setup.{Setup}
 use Rattle.machine_step.specs.Traced.{Traced}
 use Rattle.xray_image.specs.Program.{Program}
 use Rattle.sled_rule.specs.declared.seats.WorkSeat.{WorkSeat}
 use Rattle.sled_rule.specs.declared.views.WorkView.{WorkView}
 use Rattle.sled_rule.specs.Seats.{work_view}
+use Rattle.thread_run.specs.declared.recorded.RecordedEnd.{RecordedEnd}
 use Rattle.thread_run.specs.declared.whole.Gathered.{Gathered}
 use Rattle.thread_run.specs.declared.worker.Worker.{Worker}
 use Rattle.thread_run.specs.Each.{HaveChanged}
 use Rattle.thread_run.specs.Recordings.{HasSameOwner, Recording, StandsFor, segments_begun}
-use Rattle.thread_run.specs.private.Rooms.{HaveRunPooled}
+use Rattle.thread_run.specs.private.Rooms.{AreParts, HaveRunPooled}
 use Rattle.thread_run.specs.Runs.{HaveRunBeside}
-use Rattle.thread_run.specs.private.Starting.{AreWorkersAt}
+use Rattle.thread_run.specs.private.Starting.{AreWorkersAt, HaveWorked}
 use Rattle.thread_run.specs.private.Pooled.{AreNewRecorders, AreWorkersOfRun, lost_beside}
 use Rattle.thread_run.specs.Workers.{HasEnded, cpu_of, recorder_of, seat_of}
 use Rattle.thread_run.proofs.EachItem.{there_is}
@@ -75,6 +78,22 @@ run_with_pool plan pool recorders workers new count ended followed i worker foun
       },
       is.1,
     )
+
+-- what such workers leave, gathered
+pub gathered_with_pool : (plan : Plan) (pool : PoolIs) (limits : Limits) (old : List Recording) (end : RecordedEnd Recording) (gathered : Gathered)
+    → AreNewRecorders pool old → HaveWorked StandsFor HasSameOwner plan limits old end.cpus.items end.seats.items end.recorders.items
+    → limits ≡ pool.setup.limits → length old ≡ pool.setup.threads → gathered.cpus ≡ end.cpus → gathered.seats ≡ end.seats
+    → AreParts end.recorders.items gathered.parts → HaveRunPooled plan pool gathered
+gathered_with_pool plan pool limits old end gathered new has same count cpus seats parts = record {
+  workers = has.workers;
+  count = has.count ∙ count;
+  ended = run_with_pool plan pool old has.workers new has.count
+      (subst (λ (l : Limits). AreWorkersAt plan l (HasEnded StandsFor) has.workers) same has.ended)
+      (subst (HaveChanged HasSameOwner old) has.recorders_are has.followed);
+  cpus = ap (λ (v : Vec Traced Global). v.items) cpus ∙ has.cpus_are;
+  seats = ap (λ (v : Vec WorkSeat Global). v.items) seats ∙ has.seats_are;
+  parts = subst (λ rs. AreParts rs gathered.parts) has.recorders_are parts;
+}
 
 -- the passes that were gathered
 pub pooled_passes : (plan : Plan) (pool : PoolIs) (gathered : Gathered) → HaveRunPooled plan pool gathered → AreOf pool 1 gathered.parts.passes.items

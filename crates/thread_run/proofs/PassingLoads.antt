@@ -1,13 +1,12 @@
 -- The loads of a passing, made before the thread is told of them.
-use Rattle.std.proofs.Common.{◌≡◌, ℕ, ◌<◌, ◌≤◌, List, [], ◌∷◌, ◌++◌, Bool, true, false, refl, sym, subst, ap, ◌∙◌, arith, append-nil, length}
-use Rattle.std.specs.Prelude.{IfSome, Option, None}
+use Rattle.std.proofs.Common.{◌≡◌, ℕ, ◌<◌, ◌≤◌, List, [], ◌∷◌, Bool, true, false, refl, sym, subst, ap, ◌∙◌, arith, append-nil, length}
+use Rattle.std.specs.Prelude.{None}
 use Rattle.xray_image.specs.Program.{Program}
 use Rattle.fdr_record.specs.declared.event.Event.{Event}
-use Rattle.handler_word.specs.declared.mark.Mark.{Mark}
 use Rattle.machine_step.specs.declared.underway.Underway.{Underway}
 use Rattle.machine_step.specs.declared.want.Want.TheVariants.{Load as Loads}
-use Rattle.machine_step.specs.Events.{events_in, recorded}
-use Rattle.machine_step.specs.Traced.{IsKept, IsSameThread, MarksAdded, Traced, loads_left}
+use Rattle.machine_step.specs.Events.{recorded}
+use Rattle.machine_step.specs.Traced.{IsSameThread, MarksAdded, Traced, loads_left}
 use Rattle.machine_step.specs.Underway.{in_passing}
 use Rattle.sled_rule.specs.declared.seats.WorkSeat.{WorkSeat}
 use Rattle.sled_rule.specs.declared.views.Load.{Load as SeatLoad}
@@ -15,11 +14,10 @@ use Rattle.sled_rule.specs.declared.views.WorkView.{WorkView}
 use Rattle.sled_rule.specs.Seats.{work_view}
 use Rattle.thread_run.specs.Following.{is_held_by}
 use Rattle.thread_run.specs.declared.worker.Found.{Found}
-use Rattle.thread_run.specs.declared.worker.Found.TheVariants.{Last, More}
 use Rattle.thread_run.specs.declared.worker.Worker.{Worker}
-use Rattle.thread_run.specs.private.Steps.{HasCome, HasFetched, HasRead, HasTaken, HasTakenOne, IsFound, IsGiven, IsLast, Lacks, come_to, left_in}
-use Rattle.thread_run.specs.Workers.{HasMade, IsAtWork, IsGoing, IsSameWorker, cpu_of, loads_of, recorder_of, seat_of, table_of}
-use Rattle.thread_run.proofs.WorkerLoads.{held_again, made_none, made_then, moved_on, no_nearer, same_again, seat_changed, worker_then}
+use Rattle.thread_run.specs.private.Steps.{HasCome, HasFetched, HasRead, HasTaken, HasTakenOne, Lacks, come_to, left_in}
+use Rattle.thread_run.specs.Workers.{HasMade, IsGoing, IsSameWorker, cpu_of, loads_of, seat_of}
+use Rattle.thread_run.proofs.WorkerLoads.{held_again, made_none, made_then, moved_on, no_nearer, same_again, seat_changed}
 
 -- ---- what was taken
 

@@ -1,8 +1,9 @@
--- Workers that are made for the recorders of threads, and have run.
-use Rattle.std.proofs.Common.{◌≡◌, ℕ, zero, suc, ◌+◌, ◌<◌, List, [], ◌∷◌, Some, ap, arith, length, map, refl, subst, sym, ◌∙◌}
+-- Workers that are made for threads and their recorders, and have run.
+use Rattle.std.proofs.Common.{◌≡◌, ℕ, zero, suc, ◌+◌, ◌<◌, List, [], ◌∷◌, ◌++◌, Some, ap, append_assoc, arith, get_or, length, length-append, map, refl, subst, sym, ◌∙◌}
 use Rattle.std.specs.Prelude.{All, slice_get}
 use Rattle.std.proofs.lemmas.List.{length-map}
-use Rattle.std.proofs.lemmas.Option.{slice_get_within}
+use Rattle.std.proofs.Math.Seq.{get_or-append_seam}
+use Rattle.std.proofs.lemmas.Option.{slice_get-get_or, slice_get_within}
 use Rattle.fdr_record.specs.declared.event.Event.{Event}
 use Rattle.machine_step.specs.declared.limits.Limits.{Limits}
 use Rattle.machine_step.proofs.LoadByLoad.{later}
@@ -23,9 +24,62 @@ use Rattle.thread_run.specs.Each.{HaveChanged}
 use Rattle.thread_run.specs.Following.{given}
 use Rattle.thread_run.specs.Recorded.{HaveRecorded}
 use Rattle.thread_run.specs.Runs.{HasRunAlong}
-use Rattle.thread_run.specs.Workers.{HasEnded, HasRunOut, HaveRun, IsGoing, cpu_of, loads_of, recorder_of, seat_of}
-use Rattle.thread_run.specs.private.Starting.{AreStarted, AreWorkersAt, HaveWorked, IsWorkerAt}
-use Rattle.thread_run.proofs.EachItem.{all_of, no_item, of_item, same_found, same_item, there_is}
+use Rattle.thread_run.specs.Workers.{HasEnded, HasRunOut, HaveRun, IsFreshThread, IsGoing, cpu_of, loads_of, recorder_of, seat_of, table_of}
+use Rattle.thread_run.specs.private.Starting.{AreFreshThreads, AreStarted, AreWorkersAt, HaveWorked, IsFreshAt, IsGoingAt, IsWorkerAt}
+use Rattle.thread_run.proofs.EachItem.{all_of, map_more, next_is, no_item, of_item, one_more, one_taken, same_found, same_item, there_is}
+
+-- ---- threads before their first loads
+
+-- the thread that comes next
+pub next_fresh : (plan : Plan) (limits : Limits) (cpus yielded rest : List Traced) (t : Traced) → AreFreshThreads plan limits cpus
+    → (yielded ++ t ∷ []) ++ rest ≡ cpus → IsFreshAt plan limits (length yielded + 1) t
+next_fresh plan limits cpus yielded rest t are order =
+    let placed : yielded ++ t ∷ rest ≡ cpus = sym (append_assoc yielded (t ∷ []) rest) ∙ order in
+    let within : length yielded < length cpus = omega (arith, ap length placed, length-append yielded (t ∷ rest)) in
+    let found : get_or cpus (length yielded) t ≡ t =
+    ap (λ (l : List Traced). get_or l (length yielded) t) (sym placed) ∙ get_or-append_seam yielded t rest t in
+    are (length yielded) t (slice_get-get_or cpus (length yielded) t within ∙ ap (λ (u : Traced). Some u) found)
+
+-- one more thread
+pub one_more_fresh : (plan : Plan) (limits : Limits) (old new : List Traced) (t : Traced) (number : ℕ) → length old ≡ number
+    → AreFreshThreads plan limits old → IsFreshThread plan t → t.thread ≡ number + 1 → t.limits ≡ limits → new ≡ old ++ t ∷ []
+    → AreFreshThreads plan limits new
+one_more_fresh plan limits old new t number count are fresh thread limits_are more =
+    one_more (λ i (u : Traced). IsFreshAt plan limits (i + 1) u) old new t number count are
+    (record { fresh = fresh; thread = thread; limits_are = limits_are }) more
+
+-- the worker of the thread that comes next
+pub one_more_started : {R : Type 0} (stands : R → List Event → Type 0) (table : CodeTable) (limits : Limits) (number : ℕ) (old new : List (Worker R))
+    (worker : Worker R) (t : Traced) → length old ≡ number → AreStarted stands table limits old → IsFreshAt (script_of table) limits (number + 1) t
+    → cpu_of worker ≡ t → IsGoing stands worker → table_of worker ≡ table → new ≡ old ++ worker ∷ [] → AreStarted stands table limits new
+one_more_started {R} stands table limits number old new worker t count are is cpu going same more =
+    one_more (λ i (w : Worker R). IsWorkerAt (script_of table) limits (i + 1) w × IsGoingAt stands table w) old new worker number count are (
+      record {
+        table = ap script_of same;
+        thread = ap (λ (u : Traced). u.thread) cpu ∙ is.thread;
+        limits_are = ap (λ (u : Traced). u.limits) cpu ∙ is.limits_are;
+      },
+      (going, same),
+    )
+    more
+
+-- the recorders of the workers so far, and those that are left
+pub one_recorder_less : {R : Type 0} (old new : List (Worker R)) (worker : Worker R) (recorder : R) (left rest all : List R)
+    → map (λ (w : Worker R). recorder_of w) old ++ left ≡ all → left ≡ recorder ∷ rest → recorder_of worker ≡ recorder → new ≡ old ++ worker ∷ []
+    → map (λ (w : Worker R). recorder_of w) new ++ rest ≡ all
+one_recorder_less {R} old new worker recorder left rest all order is his more =
+    ap (λ (rs : List R). rs ++ rest)
+    (sym (map_more (λ (w : Worker R). recorder_of w) old worker new (map (λ (w : Worker R). recorder_of w) old) recorder refl his more))
+    ∙ one_taken (map (λ (w : Worker R). recorder_of w) old) rest recorder left all is order
+
+-- what holds of all recorders holds of the one that is taken next
+pub next_recorder : {R : Type 0} (P : R → Type 0) (workers : List (Worker R)) (recorder : R) (left rest all : List R) → All P all
+    → map (λ (w : Worker R). recorder_of w) workers ++ left ≡ all → left ≡ recorder ∷ rest → P recorder
+next_recorder {R} P workers recorder left rest all each order is =
+    next_is P all (map (λ (w : Worker R). recorder_of w) workers) rest recorder each
+    (one_taken (map (λ (w : Worker R). recorder_of w) workers) rest recorder left all is order)
+
+-- ---- workers
 
 -- all of them are going
 pub all_going : {R : Type 0} (stands : R → List Event → Type 0) (table : CodeTable) (limits : Limits) (workers : List (Worker R))

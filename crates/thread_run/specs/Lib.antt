@@ -1,6 +1,8 @@
 pub mod Each
 pub mod Following
 pub mod Workers
+pub mod Starters
+pub mod Ready
 pub mod Recorded
 pub mod Recordings
 pub mod Runs

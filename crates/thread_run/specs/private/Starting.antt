@@ -9,7 +9,17 @@ use Rattle.sled_rule.specs.declared.table.CodeTable.{CodeTable}
 use Rattle.sled_rule.specs.Seats.{script_of}
 use Rattle.thread_run.specs.declared.worker.Worker.{Worker}
 use Rattle.thread_run.specs.Each.{HaveChanged}
-use Rattle.thread_run.specs.Workers.{HasEnded, IsGoing, cpu_of, recorder_of, seat_of, table_of}
+use Rattle.thread_run.specs.Workers.{HasEnded, IsFreshThread, IsGoing, cpu_of, recorder_of, seat_of, table_of}
+
+-- the thread of a number before its first load, in a run of a script with these limits
+pub record IsFreshAt (plan : Plan) (limits : Limits) (number : ℕ) (t : Traced) : Type 0 where
+  pub fresh : IsFreshThread plan t
+  pub thread : t.thread ≡ number
+  pub limits_are : t.limits ≡ limits
+
+-- threads of all numbers from 1 on
+abbrev pub AreFreshThreads : Plan → Limits → List Traced → Type 0
+AreFreshThreads plan limits cpus = (i : ℕ) (t : Traced) → slice_get cpus i ≡ Some t → IsFreshAt plan limits (i + 1) t
 
 -- the worker of a number, of a run of a script with these limits
 pub record IsWorkerAt {R : Type 0} (plan : Plan) (limits : Limits) (number : ℕ) (worker : Worker R) : Type 0 where

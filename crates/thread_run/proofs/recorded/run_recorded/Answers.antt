@@ -1,8 +1,9 @@
-use Rattle.sled_rule.specs.Seats.{script_of}
-use Rattle.thread_run.proofs.StartedWorkers.{have_recorded}
+use Rattle.std.proofs.Common.{subst}
+use Rattle.std.specs.Prelude.{All}
+use Rattle.sled_rule.specs.declared.table.CodeTable.{CodeTable}
+use Rattle.sled_rule.specs.Seats.{IsWorkerOf}
 use Rattle.thread_run.proofs.recorded.run_recorded.Goals as goal
 
-pub returns-clause-recorded : goal.returns-clause-recorded
-returns-clause-recorded g c =
-    have_recorded g.R.Recorder.stands g.R.Recorder.follows (script_of c.args.table.now) c.args.limits c.args.recorders.items
-    c.in_ok-end.end.cpus.items c.in_ok-end.end.seats.items c.in_ok-end.end.recorders.items c.in_ok-end.ensures.worked
+pub returns-clause-seats : goal.returns-clause-seats
+returns-clause-seats g c =
+    subst (λ (t : CodeTable). All (IsWorkerOf t) c.go.result.seats.items) c.in_ok-ready.ensures.table c.go.ensures.seats
