@@ -12,3 +12,5 @@ pub mod AmongPaths
 pub mod GroupedPairs
 pub mod AddedTallies
 pub mod JoinedRecorders
+-- The law of states (src/laws.rt)
+pub mod FirstExcess

@@ -1,3 +1,4 @@
 pub mod Merging
+pub mod TrieLaws
 pub mod Tries
 pub mod private

@@ -7,12 +7,14 @@
 #![tactic(auto)]
 
 mod frames;
+mod laws;
 mod merging;
 mod nodes;
 mod recorder;
 mod state;
 mod table;
 
+pub use laws::the_first_excess_decides_the_state;
 pub use merging::merged;
 pub use recorder::{MOST_NODES, TrieRecorder};
 pub use state::TrieState;
