@@ -1,9 +1,9 @@
 -- The sleds of an accepted image: their numbers fit a line, and each name is that of the id of a sled.
-use Rattle.std.proofs.Common.{◌≡◌, ◌≤◌, ◌<◌, ◌+◌, ◌%◌, ◌^◌, ◌∷◌, ◌++◌, ◌∙◌, ◌⊎◌, ◌==◌, ◌||◌, not, ℕ, zero, suc, Bool, true, false, List, [], Option, Some, None, drop, get_or, length, map, take, refl, ap, sym, subst, arith, inl, inr}
+use Rattle.std.proofs.Common.{◌≡◌, ◌≤◌, ◌<◌, ◌+◌, ◌%◌, ◌^◌, ◌∷◌, ◌∙◌, ◌⊎◌, ◌==◌, ◌||◌, not, ℕ, zero, suc, Bool, true, false, List, [], Option, Some, None, drop, get_or, length, map, take, refl, ap, sym, subst, arith, inl, inr}
 use Rattle.std.specs.Prelude.{All, Ok, find, nat_lt, option_and_then, slice_get, if◌then◌else◌}
 use Rattle.std.specs.List.{list_any, position_or_len, zip}
 use Rattle.std.specs.Option.{option_map, unwrap_or}
-use Rattle.std.proofs.lemmas.Bool.{cases_Bool, eq-eqb, eqb-true, false≢true, ne_eqb, or_parts}
+use Rattle.std.proofs.lemmas.Bool.{cases_Bool, eq-eqb, eqb-true, false≢true, or_parts}
 use Rattle.std.proofs.lemmas.List.{length-map}
 use Rattle.std.proofs.lemmas.List.Elements.{All-cons, All-drop, All-head, All-nil, All-tail, All-weaker}
 use Rattle.std.proofs.lemmas.List.Folds.{find_at}
@@ -13,7 +13,7 @@ use Rattle.xray_image.specs.declared.sled.Sled.{Sled}
 use Rattle.xray_image.specs.Container.{Function, MapEntry, MapFields, Parts, address_said, base_address, code_length, entries_from, entry_at, entry_count, function_count, function_entry_at, map_distance, map_fields_at, number4_at, number8_at, parts_of, several}
 use Rattle.xray_image.specs.Extract.{extract_text}
 use Rattle.xray_image.specs.Ids.{name_at, name_of, sledded_functions}
-use Rattle.xray_image.specs.Program.{AreFunctions, IsAccepted, IsFunction, Program, distinct, id_of, is_name_byte, program_of, sled_of}
+use Rattle.xray_image.specs.Program.{AreFunctions, Program, distinct, id_of, is_name_byte, program_of, sled_of}
 use Rattle.xray_image.specs.Units.{SledPlace, places_from}
 use Rattle.xray_image.proofs.Distinct.{distinct_few}
 use Rattle.function_names.specs.Name.{program_names}

@@ -1,19 +1,17 @@
 -- The lines of the map of a program, as texts and as entries.
-use Rattle.std.proofs.Common.{◌≡◌, ◌≤◌, ◌<◌, ◌^◌, ◌∷◌, ◌++◌, ◌∙◌, ◌⊎◌, ◌==◌, ◌||◌, ◌&&◌, ℕ, Bool, true, false, List, [], Option, Some, None, length, map, refl, ap, sym, subst, arith, append_assoc, inl, inr, leb, eqb}
-use Rattle.std.specs.Prelude.{All, IsTrue, codes, decimal, nat_le, if◌then◌else◌}
+use Rattle.std.proofs.Common.{◌≡◌, ◌≤◌, ◌<◌, ◌^◌, ◌∷◌, ◌++◌, ◌∙◌, ◌==◌, ◌||◌, ◌&&◌, ℕ, Bool, true, false, List, [], map, refl, ap, sym, arith, append_assoc, inl}
+use Rattle.std.specs.Prelude.{All, codes, decimal, nat_le, if◌then◌else◌}
 use Rattle.std.specs.List.{flat_map, list_all}
 use Rattle.std.specs.Option.{unwrap_or}
 use Rattle.std.specs.Str.Lines.{lines}
 use Rattle.std.proofs.lemmas.Bool.{and_from, and_parts, eqb-true, leb-true, ne_eqb}
 use Rattle.std.proofs.lemmas.List.{length-append}
 use Rattle.std.proofs.lemmas.List.Elements.{All-head, All-tail}
-use Rattle.text_lines.specs.Numbers.{number_of}
 use Rattle.text_lines.specs.Written.{are_written_words, is_word_byte, is_written_word, written_line, written_text}
 use Rattle.text_lines.proofs.WrittenLemmas.{number_short, number_word, written_lines}
-use Rattle.xray_io.specs.Piece.{hexadecimal}
 use Rattle.map_names.specs.Entries.{Entry, is_entry, is_event, is_exit, is_kind, is_truth}
 use Rattle.map_names.proofs.SpelledLines.{joined_so}
-use Rattle.map_names.specs.Spelling.{SpellEach, SpellsEntry, SpellsMap, single_byte, single_quoted}
+use Rattle.map_names.specs.Spelling.{SpellEach, SpellsEntry, SpellsMap, single_byte}
 use Rattle.xray_image.specs.declared.sled.Sled.{Sled}
 use Rattle.xray_image.specs.declared.sled.SledKind.{SledKind}
 use Rattle.xray_image.specs.declared.sled.SledKind.TheVariants.{Entry as EntryKind, Exit, Tail, Args}

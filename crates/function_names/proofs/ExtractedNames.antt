@@ -1,12 +1,12 @@
 -- The names that the map of a program gives.
-use Rattle.std.proofs.Common.{◌≡◌, ◌≤◌, ◌<◌, ◌∷◌, ◌++◌, ◌∙◌, ◌⊎◌, ◌==◌, ◌||◌, ◌&&◌, not, ℕ, Bool, true, false, List, [], Option, Some, None, length, map, refl, ap, sym, arith, inl, inr}
-use Rattle.std.specs.Prelude.{All, Result, Ok, Err, find, option_map, if◌then◌else◌}
+use Rattle.std.proofs.Common.{◌≡◌, ◌<◌, ◌∷◌, ◌∙◌, ◌⊎◌, ◌==◌, ◌||◌, ◌&&◌, not, ℕ, Bool, true, false, List, [], Option, Some, None, length, map, refl, ap, sym, arith, inl, inr}
+use Rattle.std.specs.Prelude.{All, Ok, find, option_map, if◌then◌else◌}
 use Rattle.std.specs.List.{list_any}
 use Rattle.std.specs.Option.{unwrap_or}
 use Rattle.std.proofs.lemmas.Bool.{cases_Bool, eqb-true, false≢true, ne_eqb}
 use Rattle.xray_io.specs.Rows.{◌>>=◌}
 use Rattle.map_names.specs.Entries.{Entry}
-use Rattle.map_names.specs.Maps.{map_naming, map_of, names_id, naming_of}
+use Rattle.map_names.specs.Maps.{map_naming, names_id, naming_of}
 use Rattle.map_names.proofs.EntryNames.{same_naming}
 use Rattle.map_names.proofs.SpelledMaps.{map_found}
 use Rattle.xray_image.specs.declared.sled.Sled.{Sled}

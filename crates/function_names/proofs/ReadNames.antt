@@ -1,14 +1,13 @@
 -- Names that are read back.
-use Rattle.std.proofs.Common.{◌≡◌, ◌∷◌, ◌++◌, ◌∙◌, ◌⊎◌, ℕ, Bool, true, false, inl, inr, cond, eqb, leb, List, [], Option, Some, None, refl, ap, sym, append_assoc}
-use Rattle.std.specs.Prelude.{◌==◌, ◌||◌, ◌&&◌, ◌≢◌, IsTrue, option_and_then, if◌then◌else◌}
+use Rattle.std.proofs.Common.{◌≡◌, ◌∷◌, ◌++◌, ◌∙◌, ◌⊎◌, ℕ, Bool, true, false, inl, inr, List, [], Some, None, refl, ap, sym, append_assoc}
+use Rattle.std.specs.Prelude.{◌==◌, ◌||◌, ◌≢◌, IsTrue, option_and_then, if◌then◌else◌}
 use Rattle.std.specs.List.{flat_map, list_all, list_any}
 use Rattle.std.proofs.lemmas.List.{append-nil}
-use Rattle.std.proofs.lemmas.Bool.{cases_Bool, cond-false, cond-true, eqb-true, ne_eqb, or_parts, eq-eqb}
+use Rattle.std.proofs.lemmas.Bool.{cases_Bool, eqb-true, ne_eqb, or_parts, eq-eqb}
 use Rattle.function_names.specs.declared.form.NameForm.TheVariants.{Field, Quoted}
-use Rattle.function_names.specs.declared.form.NameForm.{NameForm}
 use Rattle.function_names.specs.Name.{byte_text, needs_marks, spelled}
 use Rattle.function_names.specs.NameLaws.{CsvReadsBack, YamlReadsBack}
-use Rattle.function_names.specs.Reading.{after_byte, bare_field, csv_field, ends_field, in_line, is_in_line, to_mark, yaml_quoted}
+use Rattle.function_names.specs.Reading.{after_byte, bare_field, csv_field, ends_field, in_line, is_in_line, to_mark}
 
 -- a byte of a name between marks
 abbrev doubled : ℕ → ℕ → List ℕ

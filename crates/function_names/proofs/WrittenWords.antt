@@ -1,12 +1,12 @@
 -- Numbers that are written in a line.
-use Rattle.std.proofs.Common.{◌≡◌, ◌<◌, ◌≤◌, ◌+◌, ◌-◌, ◌*◌, ◌^◌, ◌∷◌, ◌++◌, ◌∙◌, ◌==◌, ◌&&◌, not, ℕ, zero, suc, Bool, true, false, cond, List, [], Option, Some, None, length, refl, ap, sym, arith, leb, ltb, eqb}
-use Rattle.std.specs.Prelude.{codes, decimal, nat_le, nat_lt, replicate, is_some, if◌then◌else◌}
+use Rattle.std.proofs.Common.{◌≡◌, ◌<◌, ◌≤◌, ◌-◌, ◌^◌, ◌∷◌, ◌++◌, ◌∙◌, ◌==◌, ◌&&◌, not, ℕ, zero, suc, Bool, true, false, cond, List, [], Option, Some, None, length, refl, ap, arith, ltb}
+use Rattle.std.specs.Prelude.{codes, nat_le, replicate, is_some, if◌then◌else◌}
 use Rattle.std.specs.Char.{digit_value, is_digit}
 use Rattle.std.specs.Fmt.{digits}
 use Rattle.std.specs.List.{list_all}
 use Rattle.std.specs.Option.{option_map_or}
-use Rattle.std.specs.Str.Parse.{AllDigits, IsNumeral, digits_value, digits_value_after}
-use Rattle.std.proofs.lemmas.Bool.{and_from, and_parts, eq-eqb, le-leb, lt-ltb, ltb-false, ltb-true, ne_eqb}
+use Rattle.std.specs.Str.Parse.{AllDigits, digits_value}
+use Rattle.std.proofs.lemmas.Bool.{and_from, and_parts, le-leb, lt-ltb, ltb-false, ltb-true, ne_eqb}
 use Rattle.std.proofs.lemmas.Fmt.{digits_is_IsNumeral}
 use Rattle.std.proofs.lemmas.List.{length-append}
 use Rattle.std.proofs.lemmas.List.Folds.{list_all-append}
@@ -14,7 +14,7 @@ use Rattle.text_lines.specs.Numbers.{is_numeral, numeral}
 use Rattle.text_lines.specs.Words.{is_allowed}
 use Rattle.text_lines.specs.Written.{is_word_byte, is_written_word}
 use Rattle.xray_io.specs.Piece.{hexadecimal}
-use Rattle.map_names.specs.Entries.{after_label, is_address}
+use Rattle.map_names.specs.Entries.{is_address}
 use Rattle.map_names.proofs.LineParts.{after_found}
 
 -- ---- bytes of words

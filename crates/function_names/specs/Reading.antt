@@ -1,6 +1,6 @@
 -- Reading names in the texts that have them, as the formats of these texts say. A reading is a value, and what follows it;
 -- there is none if the text isn't of the format.
-use Rattle.std.specs.Prelude.{◌||◌, ◌&&◌, ◌==◌, Bool, ℕ, nat_le, List, [], ◌∷◌, Option, Some, None, option_map, option_and_then, if◌then◌else◌}
+use Rattle.std.specs.Prelude.{◌||◌, ◌==◌, Bool, ℕ, nat_le, List, [], ◌∷◌, Option, Some, None, option_map, option_and_then, if◌then◌else◌}
 use Rattle.std.specs.List.{list_all}
 
 -- a byte, and then a reading

@@ -1,5 +1,5 @@
 -- Parts that are found in a line, and what the line then is.
-use Rattle.std.proofs.Common.{◌≡◌, ◌<◌, ◌≤◌, ◌+◌, ◌-◌, ◌++◌, ◌∷◌, ◌∙◌, ◌⊎◌, ◌==◌, ◌||◌, ℕ, zero, suc, Bool, true, false, inl, inr, List, [], Option, Some, None, length, take, drop, get_or, not, add-one, drop-cons, refl, sym, ap, subst, arith, append_assoc}
+use Rattle.std.proofs.Common.{◌≡◌, ◌<◌, ◌+◌, ◌-◌, ◌++◌, ◌∷◌, ◌∙◌, ◌==◌, ℕ, Bool, true, false, List, [], Option, Some, None, length, take, drop, get_or, not, add-one, drop-cons, refl, sym, ap, arith}
 use Rattle.std.specs.Prelude.{All, nat_lt, position, option_map, option_and_then, if◌then◌else◌}
 use Rattle.std.specs.List.{position_or_len}
 use Rattle.std.specs.Str.{bytes_eq}

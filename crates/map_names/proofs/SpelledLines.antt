@@ -1,6 +1,6 @@
 -- Lines and their entries.
-use Rattle.std.proofs.Common.{◌≡◌, ◌++◌, ◌∷◌, ◌∙◌, ◌⊎◌, ◌==◌, ◌||◌, ◌&&◌, ◌<◌, ◌≤◌, ◌+◌, ◌-◌, not, ℕ, Bool, true, false, inl, inr, List, [], Option, Some, None, drop, length, take, refl, sym, ap, subst, arith, append_assoc}
-use Rattle.std.specs.Prelude.{◌≢◌, ◌↔◌, All, IsTrue, codes, nat_le, is_some, option_map, option_and_then, if◌then◌else◌}
+use Rattle.std.proofs.Common.{◌≡◌, ◌++◌, ◌∷◌, ◌∙◌, ◌⊎◌, ◌==◌, ◌||◌, ◌&&◌, not, ℕ, Bool, true, false, inl, inr, List, [], Option, Some, None, drop, length, take, refl, sym, ap, subst, arith, append_assoc}
+use Rattle.std.specs.Prelude.{◌≢◌, codes, nat_le, is_some, option_map, option_and_then, if◌then◌else◌}
 use Rattle.std.specs.Char.{is_digit}
 use Rattle.std.specs.Option.{option_map_or, option_or}
 use Rattle.std.specs.List.{flat_map, list_all}
@@ -9,14 +9,14 @@ use Rattle.std.proofs.lemmas.List.{length-append}
 use Rattle.std.proofs.lemmas.List.Folds.{list_all-append}
 use Rattle.std.specs.Str.{bytes_eq}
 use Rattle.std.specs.Str.Parse.{digits_value}
-use Rattle.std.proofs.lemmas.Bool.{and_from, and_parts, cases_Bool, eq-eqb, eqb-true, false≢true, ne_eqb, or_parts}
+use Rattle.std.proofs.lemmas.Bool.{and_parts, cases_Bool, false≢true, ne_eqb}
 use Rattle.std.proofs.lemmas.Option.{same_Some}
-use Rattle.std.proofs.lemmas.List.Elements.{All-cons, All-head, All-nil, All-tail}
+use Rattle.std.proofs.lemmas.List.Elements.{All-cons, All-nil}
 use Rattle.std.proofs.lemmas.Slice.Eq.{bytes_eq-Decides}
 use Rattle.text_lines.specs.Numbers.{is_numeral, number_of, numeral}
 use Rattle.map_names.specs.Entries.{Entry, after_label, before_end, before_ending, entry_of, field_in, id_in, is_address, is_entry, is_event, is_exit, is_kind, is_plain_byte, is_truth, name_written, past_field, written_name}
 use Rattle.map_names.specs.Spelling.{IsEnding, SpellsEntry, SpellsName, letter_text, single_byte}
-use Rattle.map_names.proofs.LineParts.{IsPast, NoComma, after_found, after_is, ending_found, ending_is, field_found, field_is, no_ending, past_found, past_is}
+use Rattle.map_names.proofs.LineParts.{NoComma, after_found, after_is, ending_found, ending_is, field_found, field_is, no_ending, past_found, past_is}
 use Rattle.map_names.proofs.SpelledNames.{all_to, name_found, name_is}
 
 -- ---- values without commas

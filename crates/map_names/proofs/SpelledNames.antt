@@ -1,16 +1,16 @@
 -- Names and the bytes that are written for them.
-use Rattle.std.proofs.Common.{◌≡◌, ◌++◌, ◌∷◌, ◌∙◌, ◌⊎◌, ◌==◌, ◌||◌, ◌&&◌, ◌<◌, ◌≤◌, ◌+◌, ◌-◌, not, ℕ, Bool, true, false, inl, inr, List, [], Option, Some, None, length, refl, sym, ap, subst, arith, append_assoc}
+use Rattle.std.proofs.Common.{◌≡◌, ◌++◌, ◌∷◌, ◌∙◌, ◌⊎◌, ◌==◌, ◌||◌, ◌&&◌, ◌<◌, not, ℕ, Bool, true, false, inl, inr, List, [], Option, Some, None, length, refl, sym, ap, subst, arith}
 use Rattle.std.specs.Prelude.{◌≢◌, All, IsTrue, option_map, option_and_then, if◌then◌else◌}
 use Rattle.std.specs.Option.{option_map_or}
 use Rattle.std.specs.List.{flat_map, list_all}
 use Rattle.map_names.specs.declared.quote.Quote.TheVariants.{Single, Double}
 use Rattle.map_names.specs.declared.quote.Quote.{Quote}
 use Rattle.map_names.specs.Entries.{after_label, before_ending, between, mark_of, name_written, plain_name, quoted_byte, quoted_from, quoted_name, is_plain_byte}
-use Rattle.map_names.specs.Spelling.{Escaped, IsDoubleQuoted, IsLetter, IsPlain, Itself, Letter, SpellsName, letter_name, letter_text, single_byte, single_quoted}
+use Rattle.map_names.specs.Spelling.{Escaped, IsLetter, IsPlain, Itself, Letter, SpellsName, letter_name, letter_text, single_byte, single_quoted}
 use Rattle.std.proofs.lemmas.Bool.{and_from, and_parts, cases_Bool, eq-eqb, eqb-true, false≢true, ne_eqb}
 use Rattle.std.proofs.lemmas.Option.{same_Some}
 use Rattle.std.proofs.lemmas.List.Elements.{All-cons, All-head, All-nil, All-tail}
-use Rattle.map_names.proofs.LineParts.{after_found, after_is, ending_found, ending_is, no_ending, no_label}
+use Rattle.map_names.proofs.LineParts.{after_found, after_is, ending_found, ending_is, no_label}
 
 -- ---- between single marks
 

@@ -1,4 +1,4 @@
-use Rattle.std.proofs.Common.{◌≡◌, ◌≤◌, ◌<◌, ◌∙◌, ◌+◌, ◌-◌, ◌++◌, ◌∷◌, ℕ, List, ap, arith, drop, length, length-take}
+use Rattle.std.proofs.Common.{◌≡◌, ◌≤◌, ◌∙◌, ◌+◌, ◌++◌, ◌∷◌, ℕ, List, ap, arith, drop, length, length-take}
 use Rattle.std.specs.Fmt.{decimal}
 use Rattle.function_names.proofs.Digits.{few_digits, two_before}
 use Rattle.function_names.proofs.name.put_callee_number.Goals as goal
