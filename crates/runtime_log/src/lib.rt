@@ -6,9 +6,9 @@
 //! `version` and `own_event` have what differs from one version to the next. `walk` goes through the
 //! records of a block of the Flight Data Recorder mode, over the step of `fdr_file`. `stretch` has the
 //! function records that are passed and packed many at a time. `basic` reads the records of the basic
-//! mode. `reading` makes a list of all blocks, `taken` chooses and orders those that are taken,
-//! `packing` writes their events as blocks of a trace, `notes` takes what they say, and `facts` is
-//! what is said of all this.
+//! mode, and `threads` puts its passings in the order of threads. `reading` makes a list of all blocks,
+//! `taken` chooses and orders those that are taken, `packing` writes their events as blocks of a trace,
+//! `notes` takes what they say, and `facts` is what is said of all this.
 #![tactic(auto)]
 
 mod basic;
