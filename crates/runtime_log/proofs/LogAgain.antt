@@ -27,6 +27,7 @@ use Rattle.fdr_file.specs.Places.{starts}
 use Rattle.fdr_file.specs.Scanning.{block_span, inside_next, stage_after}
 use Rattle.fdr_file.specs.Traces.{block_length, block_of, first_or, preamble_bytes, type_in, version_in}
 use Rattle.fdr_file.proofs.DecodedRecords.{told_again}
+use Rattle.fdr_file.specs.ThreadEvents.{ThreadEvent}
 use Rattle.runtime_log.specs.declared.blocks.Mode.{Mode}
 use Rattle.runtime_log.specs.declared.blocks.Mode.TheVariants.{Recorder, Basic}
 use Rattle.runtime_log.specs.declared.fault.LogFault.{LogFault}
@@ -45,7 +46,7 @@ use Rattle.runtime_log.proofs.LogRecords.{record_by}
 use Rattle.runtime_log.proofs.LogShapes.{no_custom, no_pid, no_typed}
 use Rattle.runtime_log.proofs.RecordWalk.{starts_none}
 use Rattle.runtime_log.proofs.RecordsAgain.{never_own, run_step, so_lr}
-use Rattle.runtime_log.proofs.WholeLogs.{log_read}
+use Rattle.runtime_log.proofs.WholeLogs.{recorder_read}
 
 -- ---- the records of a block
 
@@ -349,5 +350,6 @@ log_is_logged bytes log is =
     let blocks : recorder_blocks is.version all ≡ Ok log.blocks =
     ap (λ (xs : List ℕ). InTurn (log_block_rows is.version) [] (starts block_length 0 32 xs)) h.rest ∙ blocks_again is.version 32 log.blocks is.following [] is.blocks in
     ap logged is.parts
-    ∙ log_read all (Recorder is.version) log.blocks (mode_again all is.version h.long h.number h.form) (ap as_log blocks)
-    ∙ ap (λ (x : Header). let y : Result Log LogFault = Ok (record { header = x; blocks = log.blocks }) in y) h.same
+    ∙ recorder_read all is.version log.blocks (mode_again all is.version h.long h.number h.form) (ap as_log blocks)
+    ∙ ap (λ (x : Header). let y : Result Log LogFault = Ok (record { header = x; blocks = log.blocks; events = [] }) in y) h.same
+    ∙ ap (λ (es : List ThreadEvent). let y : Result Log LogFault = Ok (record { header = log.header; blocks = log.blocks; events = es }) in y) (sym is.alone)
