@@ -15,7 +15,7 @@ use Rattle.audit_check.specs.Places.{load_places}
 use Rattle.audit_check.proofs.SearchResults.{was_made}
 use Rattle.run_order.specs.FreeScripts.{free_commands, free_place}
 use Rattle.run_order.specs.Merges.{IsMerge}
-use Rattle.run_order.specs.Placed.{Rise}
+use Rattle.machine_step.specs.Follows.{Rise}
 use Rattle.run_order.specs.RunOrders.{IsOrderOf}
 use Rattle.run_order.proofs.FreeMicros.{AllRelease, free_start, free_total, places_rise}
 use Rattle.run_order.proofs.MergedLoads.{order_merges}

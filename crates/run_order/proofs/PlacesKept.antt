@@ -12,7 +12,7 @@ use Rattle.patch_script.specs.declared.command.Command.{Command}
 use Rattle.patch_script.specs.Bounds.{bound_of}
 use Rattle.patch_script.specs.CodeAt.{code_at}
 use Rattle.patch_script.specs.Micros.{hold_of, start_of, total_of}
-use Rattle.machine_step.specs.Follows.{MarksFollow}
+use Rattle.machine_step.specs.Follows.{MarksFollow, Rise}
 use Rattle.machine_step.specs.Loads.{Load, Marked, Reading, Wants, from_head, from_start, is_held_at, marks_from, next_from}
 use Rattle.audit_check.specs.Places.{found_by, head_searches, is_set, load_places, passing_searches, places_from}
 use Rattle.audit_check.specs.private.Ways.{Held, Leaf, Node, Passes, Reaches, Tree, passing_tree, trees_of}
@@ -22,7 +22,6 @@ use Rattle.audit_check.proofs.OwnRelease.{trees_own}
 use Rattle.audit_check.proofs.SearchResults.{found_on}
 use Rattle.run_order.specs.FreeScripts.{is_release_word}
 use Rattle.run_order.specs.KeptWaits.{IsMadeAfter, KeepScript, LoadAtPlace, is_passing_load, their_loads, their_places}
-use Rattle.run_order.specs.Placed.{Rise}
 use Rattle.run_order.proofs.FirstPassing.{go_on}
 use Rattle.run_order.proofs.PassingLoads.{Leads, passing_led}
 use Rattle.run_order.proofs.RisingSearches.{found_rises}

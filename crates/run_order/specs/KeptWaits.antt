@@ -1,7 +1,7 @@
 -- The places of an order keep the waits of a script: its holds and its awaits.
 use Rattle.std.specs.Prelude.{◌≡◌, ◌≢◌, ◌==◌, ◌<◌, ◌≤◌, ◌-◌, ℕ, Bool, not, List, Some, filter, length, map, slice_get, take}
 use Rattle.handler_word.specs.declared.mark.Mark.{Mark}
-use Rattle.machine_step.specs.Follows.{MarksFollow}
+use Rattle.machine_step.specs.Follows.{MarksFollow, Rise}
 use Rattle.machine_step.specs.Loads.{Load, marks_of, next_load}
 use Rattle.patch_script.specs.declared.command.Command.{Command}
 use Rattle.patch_script.specs.Bounds.{bound_of}
@@ -12,7 +12,6 @@ use Rattle.sled_words.specs.Words.{release_word}
 use Rattle.traced_run.specs.Runs.{EachThread, ThreadRun}
 use Rattle.xray_image.specs.Program.{Program}
 use Rattle.run_order.specs.FreeScripts.{free_place}
-use Rattle.run_order.specs.Placed.{Rise}
 
 -- a load, with the place of the script at which it is made
 pub record LoadAtPlace : Type 0 where
