@@ -6,6 +6,7 @@ use Rattle.xray_io.specs.Desk.{Entry, Absent}
 use Rattle.xray_io.specs.Faults.{Rose}
 use Rattle.xray_program.specs.Answers.{Answered, IsAnswer, LeavesAll, Says}
 use Rattle.xray_program.specs.Commands.{Means, HadItsTurn, outputs_named}
+use Rattle.xray_program.specs.Headline.{HaveHeadline}
 use Rattle.xray_program.specs.Order.{InOrder, IsNoCall}
 use Rattle.xray_program.specs.Outcomes.{Outcome, BadLine, Unread, TooLong, Refused, Done, Fell, Ending, With, Unwritten, NoMemory, status_at, err_line_at, written_by}
 use Rattle.xray_program.specs.Outputs.{FailsWriting}
@@ -69,17 +70,28 @@ none_called None desk desk_now e calls (inr (inr (accepted, none))) = none
 none_called (Some command) desk desk_now e calls order = absurd cc
 
 -- an outcome that is meant and writes leaves all that it writes
-leaves_all : (said : Option Command) (before after : World) (outcome : Outcome) (outputs : List (List ℕ × List ℕ)) (text : List ℕ)
+leaves_all : HaveHeadline → (said : Option Command) (before after : World) (outcome : Outcome) (outputs : List (List ℕ × List ℕ)) (text : List ℕ)
     → Means said before.desk.held outcome → written_by outcome ≡ Some (outputs, text)
     → Writes outputs text before.desk after.desk before.out after.out → LeavesAll said before after (With outcome)
-leaves_all said before after outcome outputs text meant is writes =
-    record { outcome = outcome; is = refl; meant = meant; outputs = outputs; text = text; writes = is; whole = writes.whole; out = writes.printed; desk_calm = writes.desk_calm; calm = writes.calm }
+leaves_all heads said before after outcome outputs text meant is writes = record {
+  outcome = outcome;
+  is = refl;
+  meant = meant;
+  outputs = outputs;
+  text = text;
+  writes = is;
+  whole = writes.whole;
+  out = writes.printed;
+  desk_calm = writes.desk_calm;
+  calm = writes.calm;
+  headline = heads said before.desk.held outcome outputs text is meant;
+}
 
 -- how the parts of the contract follow, one for each ending
-by_ending : (Way : List Call → Type 0) (said : Option Command) (before after : World) (ending : Ending)
+by_ending : HaveHeadline → (Way : List Call → Type 0) (said : Option Command) (before after : World) (ending : Ending)
     → (status_at ending ≡ 0 → SaidHasRanges said) → StandsAfter said before.desk after.desk before.out after.out ending → KeepsOthers (outputs_named said) before.desk after.desk
     → Went Way (InOrder said before.desk after.desk ending) → Says before.err after.err (err_line_at ending) → Answered said before after Way (status_at ending)
-by_ending Way said before after (With BadLine) ranges (is, nothing) kept order told = record {
+by_ending heads Way said before after (With BadLine) ranges (is, nothing) kept order told = record {
   ending = With BadLine;
   status = refl;
   told = told;
@@ -97,7 +109,7 @@ by_ending Way said before after (With BadLine) ranges (is, nothing) kept order t
   complete = inl (BadLine, means_bad said before.desk.held is, refl);
   setup = λ e. absurd cc;
 }
-by_ending Way said before after (With (Refused n kind refusal)) ranges (meant, nothing) kept order told = record {
+by_ending heads Way said before after (With (Refused n kind refusal)) ranges (meant, nothing) kept order told = record {
   ending = With (Refused n kind refusal);
   status = refl;
   told = told;
@@ -115,7 +127,7 @@ by_ending Way said before after (With (Refused n kind refusal)) ranges (meant, n
   complete = inl (Refused n kind refusal, meant, refl);
   setup = λ e. absurd cc;
 }
-by_ending Way said before after (With (TooLong n)) ranges (meant, nothing) kept order told = record {
+by_ending heads Way said before after (With (TooLong n)) ranges (meant, nothing) kept order told = record {
   ending = With (TooLong n);
   status = refl;
   told = told;
@@ -133,7 +145,7 @@ by_ending Way said before after (With (TooLong n)) ranges (meant, nothing) kept 
   complete = inl (TooLong n, meant, refl);
   setup = λ e. absurd cc;
 }
-by_ending Way said before after (With (Unread n)) ranges ((turn, cause), nothing) kept order told = record {
+by_ending heads Way said before after (With (Unread n)) ranges ((turn, cause), nothing) kept order told = record {
   ending = With (Unread n);
   status = refl;
   told = told;
@@ -156,12 +168,12 @@ by_ending Way said before after (With (Unread n)) ranges ((turn, cause), nothing
         → IsAnswer said before after 3
     answers (inl rose) = inr (inr (inl (refl, rose)))
     answers (inr (absent, meant)) = inl (Unread n, meant, refl)
-by_ending Way said before after (With (Done outputs text)) ranges (meant, writes) kept order told = record {
+by_ending heads Way said before after (With (Done outputs text)) ranges (meant, writes) kept order told = record {
   ending = With (Done outputs text);
   status = refl;
   told = told;
   order = order;
-  done = λ e. leaves_all said before after (Done outputs text) outputs text meant refl writes;
+  done = λ e. leaves_all heads said before after (Done outputs text) outputs text meant refl writes;
   silent = λ e. says_nothing before.err after.err told;
   bad_line = (λ e. absurd cc, λ e. absurd (read_it said before.desk.held (Done outputs text) meant (λ x. cc) e.0));
   no_command = λ e. absurd (read_it said before.desk.held (Done outputs text) meant (λ x. cc) e);
@@ -174,12 +186,12 @@ by_ending Way said before after (With (Done outputs text)) ranges (meant, writes
   complete = inl (Done outputs text, meant, refl);
   setup = λ e. makes_setup said (ranges refl);
 }
-by_ending Way said before after (With (Fell outputs text trouble)) ranges (meant, writes) kept order told = record {
+by_ending heads Way said before after (With (Fell outputs text trouble)) ranges (meant, writes) kept order told = record {
   ending = With (Fell outputs text trouble);
   status = refl;
   told = told;
   order = order;
-  done = λ e. leaves_all said before after (Fell outputs text trouble) outputs text meant refl writes;
+  done = λ e. leaves_all heads said before after (Fell outputs text trouble) outputs text meant refl writes;
   silent = λ e. absurd cc;
   bad_line = (λ e. absurd cc, λ e. absurd (read_it said before.desk.held (Fell outputs text trouble) meant (λ x. cc) e.0));
   no_command = λ e. absurd (read_it said before.desk.held (Fell outputs text trouble) meant (λ x. cc) e);
@@ -192,7 +204,7 @@ by_ending Way said before after (With (Fell outputs text trouble)) ranges (meant
   complete = inl (Fell outputs text trouble, meant, refl);
   setup = λ e. absurd cc;
 }
-by_ending Way said before after (Unwritten n outputs) ranges fails kept order told = record {
+by_ending heads Way said before after (Unwritten n outputs) ranges fails kept order told = record {
   ending = Unwritten n outputs;
   status = refl;
   told = told;
@@ -224,7 +236,7 @@ by_ending Way said before after (Unwritten n outputs) ranges fails kept order to
         → Rose before.desk.write_faults after.desk.write_faults ⊎ Rose before.out.faults after.out.faults
     fault (inl (at, silent)) = inl at.fault
     fault (inr at) = inr at.fault
-by_ending Way said before after NoMemory ranges nothing kept order told = record {
+by_ending heads Way said before after NoMemory ranges nothing kept order told = record {
   ending = NoMemory;
   status = refl;
   told = told;
@@ -244,12 +256,12 @@ by_ending Way said before after NoMemory ranges nothing kept order told = record
 }
 
 -- a call that ended in this way, with its line on err
-pub answered : (Way : List Call → Type 0) (said : Option Command) (before after : World) (answer : ℕ) (line : List ℕ)
+pub answered : HaveHeadline → (Way : List Call → Type 0) (said : Option Command) (before after : World) (answer : ℕ) (line : List ℕ)
     → (answer ≡ 0 → SaidHasRanges said) → Ends said before.desk after.desk before.out after.out Way answer line → Says before.err after.err line
     → Answered said before after Way answer
-answered Way said before after answer line ranges ends says =
+answered heads Way said before after answer line ranges ends says =
     subst (Answered said before after Way) ends.status
-    (by_ending Way said before after ends.ending (λ e. ranges (sym ends.status ∙ e)) ends.stands ends.names ends.order
+    (by_ending heads Way said before after ends.ending (λ e. ranges (sym ends.status ∙ e)) ends.stands ends.names ends.order
     (subst (λ (l : List ℕ). Says before.err after.err l) (sym ends.told) says))
 
 -- what stopped a call isn't 0
@@ -267,9 +279,9 @@ ranges_at (Ok done) ranges none = ranges
 ranges_at (Err stop) ranges none = absurd (stops_above stop none)
 
 -- a call that answers the status of its end, and says its line
-pub answers_its_end : {Way : List Call → Type 0} {said : Option Command} {before after : World} {answer : ℕ} (ended : Result (Unit {0}) Stop)
+pub answers_its_end : HaveHeadline → {Way : List Call → Type 0} {said : Option Command} {before after : World} {answer : ℕ} (ended : Result (Unit {0}) Stop)
     → Ends said before.desk after.desk before.out after.out Way (answer_of ended) (told_of ended) → OnOk ended (SaidHasRanges said)
     → Says before.err after.err (told_of ended) → answer ≡ answer_of ended → Answered said before after Way answer
-answers_its_end {Way = Way} {said = said} {before = before} {after = after} {answer = answer} ended ends ranges says is =
+answers_its_end heads {Way = Way} {said = said} {before = before} {after = after} {answer = answer} ended ends ranges says is =
     subst (Answered said before after Way) (sym is)
-    (answered Way said before after (answer_of ended) (told_of ended) (ranges_at ended ranges) ends says)
+    (answered heads Way said before after (answer_of ended) (told_of ended) (ranges_at ended ranges) ends says)

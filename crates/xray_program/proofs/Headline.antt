@@ -11,11 +11,11 @@ use Rattle.step_sim.specs.declared.turns.Turns.{Turns}
 use Rattle.traced_run.specs.Runs.{ThreadRun}
 use Rattle.xray_image.specs.Program.{Program, IsAccepted}
 use Rattle.xray_io.specs.Desk.{Entry, Holds}
-use Rattle.xray_io.specs.World.{World}
-use Rattle.xray_program.specs.Answers.{LeavesAll, MakesSetup}
-use Rattle.xray_program.specs.Headline.{FollowsSchedule, ProfileIsTraced, RanBySchedule, RunIsTraced, SimIsTraced}
+use Rattle.xray_program.specs.Answers.{MakesSetup}
+use Rattle.xray_program.specs.Commands.{Means}
+use Rattle.xray_program.specs.Headline.{FollowsSchedule, IsHeadline, ProfileIsTraced, RanBySchedule, RunIsTraced, SimIsTraced}
 use Rattle.xray_program.specs.Inputs.{image_form, script_form, schedule_form}
-use Rattle.xray_program.specs.Outcomes.{Outcome, Ending, written_by}
+use Rattle.xray_program.specs.Outcomes.{Outcome, written_by}
 use Rattle.xray_program.specs.Profile.{AreProfiled, ProfileComes, Profiles, profile_of}
 use Rattle.xray_program.specs.Run.{RanBeside, RunComes, RunsBeside}
 use Rattle.xray_program.specs.Sim.{RanReplayed, Replays, SimComes}
@@ -121,11 +121,10 @@ simulated_by moves held i s c t a image script schedule setup outcome writes ima
           traced,
     )
 
-pub sim_is_traced : MovesAlike → (said : Option Command) (before after : World) (ending : Ending) (done : LeavesAll said before after ending)
-    → SimIsTraced said before.desk.held done.outputs done.text
-sim_is_traced moves said before after ending done i s c t a image script schedule options says image_held script_held schedule_held =
-    simulated_by moves before.desk.held i s c t a image script schedule (setup_of options) done.outcome (done.outputs, done.text, done.writes)
-    image_held script_held schedule_held (rw says at done.meant)
+sim_is_traced : MovesAlike → (said : Option Command) (held : List ℕ → Entry) (outcome : Outcome) (writes : Writes outcome)
+    → Means said held outcome → SimIsTraced said held writes.0 writes.1
+sim_is_traced moves said held outcome writes meant i s c t a image script schedule options says image_held script_held schedule_held =
+    simulated_by moves held i s c t a image script schedule (setup_of options) outcome writes image_held script_held schedule_held (rw says at meant)
 
 -- ---- `run`
 
@@ -146,11 +145,10 @@ beside_by held i s t a image script setup outcome writes image_held script_held 
           (left_alike (IsTraced (Ran (commands_of plan.lines)) setup t a) outcome writes second.next),
     )
 
-pub run_is_traced : (said : Option Command) (before after : World) (ending : Ending) (done : LeavesAll said before after ending)
-    → RunIsTraced said before.desk.held done.outputs done.text
-run_is_traced said before after ending done i s t a image script options says image_held script_held =
-    beside_by before.desk.held i s t a image script (setup_of options) done.outcome (done.outputs, done.text, done.writes) image_held script_held
-    (rw says at done.meant)
+run_is_traced : (said : Option Command) (held : List ℕ → Entry) (outcome : Outcome) (writes : Writes outcome)
+    → Means said held outcome → RunIsTraced said held writes.0 writes.1
+run_is_traced said held outcome writes meant i s t a image script options says image_held script_held =
+    beside_by held i s t a image script (setup_of options) outcome writes image_held script_held (rw says at meant)
 
 -- ---- `profile`
 
@@ -172,10 +170,18 @@ profiled_by held i s image script options outcome writes image_held script_held 
       second.next.2,
     )
 
-pub profile_is_traced : (said : Option Command) (before after : World) (ending : Ending) (done : LeavesAll said before after ending)
-    → ProfileIsTraced said before.desk.held done.outcome
-profile_is_traced said before after ending done i s image script options says image_held script_held =
-    profiled_by before.desk.held i s image script options done.outcome (done.outputs, done.text, done.writes) image_held script_held (rw says at done.meant)
+profile_is_traced : (said : Option Command) (held : List ℕ → Entry) (outcome : Outcome) → Writes outcome → Means said held outcome
+    → ProfileIsTraced said held outcome
+profile_is_traced said held outcome writes meant i s image script options says image_held script_held =
+    profiled_by held i s image script options outcome writes image_held script_held (rw says at meant)
+
+-- ---- all three
+
+pub is_headline : MovesAlike → (said : Option Command) (held : List ℕ → Entry) (outcome : Outcome) (outputs : List (List ℕ × List ℕ)) (text : List ℕ)
+    → written_by outcome ≡ Some (outputs, text) → Means said held outcome → IsHeadline said held outcome outputs text
+is_headline moves said held outcome outputs text writes meant =
+    let of : Writes outcome = (outputs, text, writes) in
+    (sim_is_traced moves said held outcome of meant, run_is_traced said held outcome of meant, profile_is_traced said held outcome of meant)
 
 -- ---- their options
 

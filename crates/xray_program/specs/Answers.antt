@@ -7,6 +7,7 @@ use Rattle.xray_io.specs.Sink.{Adds, AddsPrefix}
 use Rattle.machine_step.specs.Setups.{IsSetup}
 use Rattle.command_words.specs.declared.run_options.RunOptions.{RunOptions}
 use Rattle.xray_program.specs.Commands.{Means, HadItsTurn, outputs_named}
+use Rattle.xray_program.specs.Headline.{IsHeadline}
 use Rattle.xray_program.specs.Order.{InOrder, IsNoCall}
 use Rattle.xray_program.specs.Outcomes.{Outcome, Unread, Ending, With, Unwritten, NoMemory, status_of, status_at, err_line_at, written_by}
 use Rattle.xray_program.specs.Outputs.{OutputsAreWhole, FailsWriting, NoFault, WritesNothing}
@@ -20,7 +21,7 @@ Says before after line =
     Adds before.written after.written line ⊎ (Rose before.faults after.faults × AddsPrefix before.written after.written line)
 
 -- The call ended with an outcome that is meant and writes. Its outputs are whole, out has exactly its text, and no fault
--- of the desk or of out was counted.
+-- of the desk or of out was counted. The headline is said of these outputs and this text.
 pub record LeavesAll (said : Option Command) (before after : World) (ending : Ending) : Type 0 where
   pub outcome : Outcome
   pub is : ending ≡ With outcome
@@ -32,6 +33,7 @@ pub record LeavesAll (said : Option Command) (before after : World) (ending : En
   pub out : Adds before.out.written after.out.written text
   pub desk_calm : NoFault before.desk after.desk
   pub calm : after.out.faults ≡ before.out.faults
+  pub headline : IsHeadline said before.desk.held outcome outputs text
 
 -- it ended with an outcome that is meant
 pub record Reports (said : Option Command) (before : World) (ending : Ending) : Type 0 where

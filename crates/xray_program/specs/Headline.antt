@@ -14,7 +14,8 @@ use Rattle.step_sim.specs.Replayed.{cast_with}
 use Rattle.traced_run.specs.Runs.{ThreadRun}
 use Rattle.xray_image.specs.Program.{IsAccepted, Program}
 use Rattle.xray_io.specs.Desk.{Entry, Holds}
-use Rattle.xray_program.specs.Outcomes.{Outcome}
+use Rattle.xray_program.specs.Commands.{Means}
+use Rattle.xray_program.specs.Outcomes.{Outcome, written_by}
 use Rattle.xray_program.specs.Profile.{AreProfiled, profile_of}
 use Rattle.xray_program.specs.Run.{RanBeside}
 use Rattle.xray_program.specs.Setups.{setup_of}
@@ -60,3 +61,12 @@ ProfileIsTraced said held outcome =
     → held i ≡ Holds image → held s ≡ Holds script
     → (program : Program) × IsAccepted image program
     × (runs : List ThreadRun) × AreProfiled options program (commands_said script) runs × (outcome ≡ profile_of options program runs)
+
+-- The headline: all of this, of an outcome that writes these outputs and this text.
+abbrev pub IsHeadline : Option Command → (held : List ℕ → Entry) → Outcome → (outputs : List (List ℕ × List ℕ)) → (text : List ℕ) → Type 0
+IsHeadline said held outcome outputs text = SimIsTraced said held outputs text × RunIsTraced said held outputs text × ProfileIsTraced said held outcome
+
+-- what is meant and written has it
+abbrev pub HaveHeadline : Type 0
+HaveHeadline = (said : Option Command) (held : List ℕ → Entry) (outcome : Outcome) (outputs : List (List ℕ × List ℕ)) (text : List ℕ)
+    → written_by outcome ≡ Some (outputs, text) → Means said held outcome → IsHeadline said held outcome outputs text

@@ -25,7 +25,7 @@ pub mod LoadOrder
 pub mod OrderReplays
 pub mod Commands
 pub mod Accepted
-pub mod Answers
 pub mod Headline
+pub mod Answers
 pub mod Order
 pub mod private

@@ -15,6 +15,7 @@ use crate::convert::Convert;
 use crate::dump::Dump;
 use crate::extract::Extract;
 use crate::import::Import;
+use crate::laws::what_is_done_is_traced;
 use crate::load_order::LoadOrder;
 use crate::plain::Plain;
 use crate::profile::perform_profile;
@@ -62,6 +63,8 @@ pub fn xray_still<D: Desk, O: Sink, E: Sink>(
         (record { desk = seen desk.new; out = got out.new; err = heard err.new })
         (D.along desk.old desk.new) result }
 {
+    // Called for its contract: what is done has the headline.
+    what_is_done_is_traced();
     let ended = perform_words(alloc, words, wall, desk, out);
     answer(ended, err)
 }
@@ -89,6 +92,8 @@ pub fn xray<T: Threads + Wait + Sync, D: Desk, O: Sink, E: Sink, G: Gate + Sync>
         (record { desk = seen desk.new; out = got out.new; err = heard err.new })
         (D.along desk.old desk.new) result }
 {
+    // Called for its contract: what is done has the headline.
+    what_is_done_is_traced();
     let ended = perform_any_words(rt, alloc, words, wall, desk, out, gate);
     answer(ended, err)
 }

@@ -12,17 +12,17 @@ ghost use Rattle.traced_run.specs.{Following.{AllMarksFollow}, Losses.{AreLost},
 ghost use Rattle.xray_image.specs.Program.{IsAccepted, Program};
 ghost use Rattle.xray_io.specs.Desk.{Entry, Holds};
 ghost use Rattle.xray_io.specs.World.{World};
-ghost use Rattle.xray_program.specs.{Accepted.{AreAccepted, CountsNoFault}, Answers.{IsAnswer, LeavesAll}};
+ghost use Rattle.xray_program.specs.{Accepted.{AreAccepted, CountsNoFault}, Answers.{IsAnswer}};
 ghost use Rattle.xray_program.specs.Commands.{IsDecided, IsProfile, Means, TellsAll, inputs_of};
 ghost use Rattle.xray_program.specs.{
-  Headline.{ProfileIsTraced, RunIsTraced, SimIsTraced},
+  Headline.{HaveHeadline},
   Import.{RunsImportThemselves},
   OrderReplays.{LeavesRunsOf},
   Profile.{profile_of, states_before, trouble_of},
   ProfiledStacks.{MakeMarksOf},
   Setups.{setup_of},
 };
-ghost use Rattle.xray_program.specs.Outcomes.{Done, Ending, Outcome, status_of, written_by};
+ghost use Rattle.xray_program.specs.Outcomes.{Done, Outcome, status_of, written_by};
 ghost use Rattle.xray_program.specs.private.CallLaws.{CallLaws};
 ghost use Rattle.xray_program.specs.private.Meanings.{OneMeaning, RefusalIsAlone};
 ghost use Rattle.machine_step.specs.Setups.{IsSetup};
@@ -165,18 +165,14 @@ pub fn only_profiles_mean_7()
         → (command : Command) × (said ≡ Some command) × IsProfile command }
 {}
 
-/// What is done is of one list of runs, which have run lawfully. Suppose that a call ended well, as the
-/// field `done` of its contract says (`LeavesAll`), and that the desk held the inputs of its `sim`, `run`
-/// or `profile`. Then the image is accepted. No thread of these runs has decoded a torn sled, and each
-/// ends as its plain run does, by loads that follow the lines of the schedule or of the script. What is
-/// written is exactly what these runs leave: the trace, the audit and the state texts, or the stacks.
+/// What is done is of one list of runs, which have run lawfully. Suppose that words mean an outcome that
+/// writes, over a desk that held the inputs of their `sim`, `run` or `profile`. Then the image is
+/// accepted. No thread of these runs has decoded a torn sled, and each ends as its plain run does, by
+/// loads that follow the lines of the schedule or of the script. What is written is exactly what these
+/// runs leave: the trace, the audit and the state texts, or the stacks. The calls cite it for the headline
+/// of what is done (`LeavesAll`).
 pub fn what_is_done_is_traced()
-    ensures sim { (said : Option Command) (before after : World) (ending : Ending)
-        → (done : LeavesAll said before after ending) → SimIsTraced said before.desk.held done.outputs done.text }
-    ensures run { (said : Option Command) (before after : World) (ending : Ending)
-        → (done : LeavesAll said before after ending) → RunIsTraced said before.desk.held done.outputs done.text }
-    ensures profile { (said : Option Command) (before after : World) (ending : Ending)
-        → (done : LeavesAll said before after ending) → ProfileIsTraced said before.desk.held done.outcome }
+    ensures { HaveHeadline }
 {
     buffers_change_no_replay();
 }
