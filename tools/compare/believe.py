@@ -34,7 +34,7 @@ CONTRACT = [
     ("xray_program", "Commands", "IsStill"),
     ("fdr_buffer", "Times", "IsTime"),
 ]
-HEADLINE = [("xray_program", "Headline", name) for name in ("SimIsTraced", "RunIsTraced", "ProfileIsTraced")]
+HEADLINE = [("xray_program", "Headline", name) for name in ("SimIsTraced", "RunIsTraced")]
 MODIFIERS = r"(?:(?:abbrev|unfoldable|opaque|pub) )*"
 OPENS = re.compile(MODIFIERS + r"(?:(?:record|data) ([^\s:(]+)|([^\s:(]+)(?: \{[^}]*\})* :(?= |$))")
 PUBLIC = re.compile(r"\s*(?:(?:abbrev|unfoldable|opaque) )+pub (?:(?:record|data) )?([^\s:(]+)|\s*pub (?:record|data) ([^\s:(]+)|pub (?!use |mod )([^\s:(]+)")
@@ -54,8 +54,8 @@ and stop where a name says enough. [MODEL.md](MODEL.md) says the same in words.
 `tools/compare/believe.py` makes this page from the sources, and the gate compares them. Lines are those of the
 definitions. Comments aren't counted.
 """
-HEADLINE_INTRO = """What `sim`, `run` and `profile` promise about threads, marks, traces and stacks (`SimIsTraced`, `RunIsTraced` and
-`ProfileIsTraced`) stands on these definitions alone."""
+HEADLINE_INTRO = """What `sim` and `run` promise about threads, marks and traces (`SimIsTraced` and `RunIsTraced`) stands on these
+definitions alone."""
 
 
 def split_uses(text):
