@@ -1,11 +1,11 @@
 use Rattle.std.proofs.Common.{◌<◌, ◌∙◌, ℕ, List, Result, All, length, ap, arith, refl, subst, sym}
-use Rattle.std.specs.Prelude.{IfOk}
+use Rattle.std.specs.Prelude.{IfOk, Ok}
 use Rattle.std.specs.Str.Lines.{lines}
 use Rattle.asm_text.specs.Assembling.{statements_said}
 use Rattle.patch_script.specs.FaultWords.{script_words}
 use Rattle.patch_script.specs.Plans.{Plan}
 use Rattle.patch_script.specs.declared.fault.ScriptFault.TheVariants as script_faults
-use Rattle.soak_inputs.specs.Inputs.{soak_turns}
+use Rattle.soak_inputs.specs.Inputs.{soak_schedule, soak_turns}
 use Rattle.soak_inputs.specs.Said.{soak_said}
 use Rattle.step_sim.specs.FaultWords.{schedule_words}
 use Rattle.step_sim.specs.Schedules.{AreTurnsOf}
@@ -66,8 +66,14 @@ returns-clause-fit c =
     let P : Result (List Turns) ScheduleFault → Type 0 = λ read. IfOk read (All (AreTurnsOf 4)) in
     let plan = plan_is laws c.args.number c.in_ok-image.image c.deref-2.result.now image (c.deref-2.ensures.value ∙ c.in_ok-text.ensures.script)
     c.read_script.result c.read_script.ensures.reads c.in_ok-script.script c.in_ok-script.ensures in
+    let turns = turns_are laws c.args.number c.deref-3.result.now (c.deref-3.ensures.value ∙ c.in_ok-text.ensures.schedule)
+    c.read_schedule.result c.read_schedule.ensures.reads c.in_ok-schedule.schedule c.in_ok-schedule.ensures in
     record {
       program_is = ap (λ (p : Plan). p.program) plan ∙ sym image;
       threads_are = ap (λ (p : Plan). p.threads) plan;
       turns_of_threads = subst P c.in_ok-schedule.ensures c.read_schedule.ensures.within;
+      schedule_read = (soak_schedule c.args.number, laws.schedule c.args.number ∙ ap as_read (sym turns));
     }
+  where
+    as_read : List Turns → Result (List Turns) ScheduleFault
+    as_read turns = Ok turns
