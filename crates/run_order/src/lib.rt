@@ -14,7 +14,8 @@ mod waits;
 pub use fault::OrderFault;
 pub use free::FreeText;
 pub use laws::{
-    a_script_reads_without_its_waits, an_order_is_a_schedule, an_order_leaves_its_run,
+    a_lawful_run_is_ordered, a_script_reads_without_its_waits, an_order_is_a_merge,
+    an_order_is_a_schedule, an_order_keeps_the_waits, an_order_leaves_its_run,
     each_lawful_run_has_one_order, one_order_of_an_audit,
 };
 pub use order::Order;

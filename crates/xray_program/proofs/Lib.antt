@@ -16,8 +16,10 @@ pub mod AuditLengths
 pub mod RunNumbers
 -- A profile has the stacks of a run (src/laws.rt)
 pub mod ProfiledStacks
--- What `order` writes is replayed by `sim` (src/laws.rt)
+-- What `order` writes is replayed by `sim`, and so is what `run` leaves (src/laws.rt)
+pub mod OtherLosses
 pub mod OrderReplays
+pub mod RunReplays
 -- The trace of a run is imported as itself (src/laws.rt)
 pub mod ImportedRuns
 -- Inputs: in their turn, what comes of each, and of one that is refused (src/input.rt, src/inputs.rt)

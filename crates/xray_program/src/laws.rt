@@ -17,7 +17,7 @@ ghost use Rattle.xray_program.specs.Commands.{IsDecided, IsProfile, Means, Tells
 ghost use Rattle.xray_program.specs.{
   Headline.{HaveHeadline},
   Import.{RunsImportThemselves},
-  OrderReplays.{LeavesRunsOf},
+  OrderReplays.{HaveSameThreads, IsLeftByOrder, IsLeftByRun, IsOrderedOrLong, LeavesRunsOf},
   Profile.{profile_of, states_before, trouble_of},
   ProfiledStacks.{MakeMarksOf},
   Setups.{setup_of},
@@ -45,8 +45,8 @@ use flame_graph::{no_frame_sticks_out, stacks_can_be_drawn, the_lowest_frames_ad
 use machine_step::{one_end, some_end, some_marks_follow, what_follows_is_allowed};
 use patch_script::{each_script_keeps_sleds, each_script_lets_threads_end};
 use run_order::{
-    a_script_reads_without_its_waits, an_order_is_a_schedule, an_order_leaves_its_run,
-    one_order_of_an_audit,
+    a_lawful_run_is_ordered, a_script_reads_without_its_waits, an_order_is_a_schedule,
+    an_order_leaves_its_run, one_order_of_an_audit,
 };
 use runtime_log::{a_trace_in_order_is_imported_as_itself, one_import, some_import};
 use stack_rebuild::stacks_are_of_threads;
@@ -232,23 +232,56 @@ pub fn what_is_left_is_accepted()
 }
 
 /// What `order` writes is replayed. If a desk holds the script without waits and the schedule that `order`
-/// means to leave of an audit, beside the same image, then `sim` of these three with the options of the
-/// audit means to leave the runs of which the audit speaks. So it prints their state texts, and its audit
-/// has their ends and marks. Only which segments are lost may differ.
+/// means to leave of an audit, beside the same image, then `sim` of these three means to leave the runs of
+/// which the audit speaks, if it has as many threads and the same limits. It prints their state texts, and
+/// its audit states the same ends and marks. Only which segments are lost may differ. If the setup is the
+/// same and no segment is lost, it leaves the very trace.
 pub fn what_is_ordered_is_replayed()
     ensures { (held after : List ℕ → Entry) (i s a f o t b : List ℕ) (options : RunOptions)
-        (audit free schedule : List ℕ) (statement : Statement)
-        → held a ≡ Holds audit → ReadsAs audit (Ok statement) → setup_of options ≡ statement.setup
-        → Means (Some (Order i s a f o)) held (Done ((f, free) ∷ (o, schedule) ∷ []) [])
-        → after i ≡ held i → after f ≡ Holds free → after o ≡ Holds schedule
-        → (program : Program)
-        × LeavesRunsOf (Means (Some (Sim i f o t b options)) after) t b program statement }
+        (image audit free schedule : List ℕ) (statement : Statement)
+        → held i ≡ Holds image → held a ≡ Holds audit → ReadsAs audit (Ok statement)
+        → HaveSameThreads (setup_of options) statement.setup
+        → IsLeftByOrder held after i s a f o free schedule
+        → LeavesRunsOf (Means (Some (Sim i f o t b options)) after) image t b (setup_of options) statement }
 {
     what_runs_leave();
     one_reading();
     a_script_reads_without_its_waits();
     an_order_leaves_its_run();
     an_order_is_a_schedule();
+}
+
+/// A run can be replayed. If a desk holds the audit that `run` means to leave, beside the same image and
+/// the same script, then `order` of these means an order, or refuses the audit as `Long` (`ordered`). If it
+/// means an order, `sim` replays it: with as many threads and the same limits, it means to print the same
+/// text (`replayed`). With an equal setup, and if the audit states that no segment was recycled, it means to
+/// leave the same trace and the same audit (`whole`).
+pub fn a_run_is_replayed()
+    ensures ordered { (held after : List ℕ → Entry) (i s t a f o : List ℕ) (options : RunOptions)
+        (image trace audit text : List ℕ) → IsLeftByRun held after i s t a options image trace audit text
+        → IsOrderedOrLong (Means (Some (Order i s a f o)) after) a f o }
+    ensures replayed { (held after last : List ℕ → Entry) (i s t a f o u b : List ℕ) (options other : RunOptions)
+        (image trace audit text free schedule : List ℕ)
+        → IsLeftByRun held after i s t a options image trace audit text
+        → IsLeftByOrder after last i s a f o free schedule
+        → HaveSameThreads (setup_of other) (setup_of options)
+        → (outputs : List (List ℕ × List ℕ)) × Means (Some (Sim i f o u b other)) last (Done outputs text) }
+    ensures whole { (held after last : List ℕ → Entry) (i s t a f o u b : List ℕ) (options other : RunOptions)
+        (image trace audit text free schedule : List ℕ) (statement : Statement)
+        → IsLeftByRun held after i s t a options image trace audit text
+        → IsLeftByOrder after last i s a f o free schedule → setup_of other ≡ setup_of options
+        → ReadsAs audit (Ok statement) → statement.recycled ≡ 0
+        → Means (Some (Sim i f o u b other)) last (Done ((u, trace) ∷ (b, audit) ∷ []) text) }
+{
+    what_runs_leave();
+    one_reading();
+    one_end();
+    a_lawful_run_is_accepted();
+    a_lawful_run_is_ordered();
+    a_script_reads_without_its_waits();
+    an_order_leaves_its_run();
+    an_order_is_a_schedule();
+    xray_image::one_reading();
 }
 
 /// What a profile and a run print of the same calls is the same. If the threads of a `profile` make the

@@ -1,17 +1,9 @@
-use Rattle.std.proofs.Common.{◌≡◌, sym, subst}
-use Rattle.audit_check.specs.Statements.{Statement}
-use Rattle.machine_step.specs.declared.setup.Setup.{Setup}
-use Rattle.xray_image.specs.Program.{Program}
-use Rattle.xray_program.specs.OrderReplays.{LeavesRunsOf}
 use Rattle.xray_program.specs.Setups.{setup_of}
-use Rattle.xray_program.specs.Sim.{SimComes}
-use Rattle.xray_program.specs.Taking.{Sound}
 use Rattle.xray_program.proofs.OrderReplays.{order_replays}
 use Rattle.xray_program.proofs.laws.what_is_ordered_is_replayed.Goals as goal
 
 pub returns : goal.returns
-returns c = λ held after i s a f o t b options audit free schedule statement audit_held reads setup comes image free_held schedule_held.
-    let leaves =
+returns c = λ held after i s a f o t b options image audit free schedule statement image_held audit_held reads alike order.
     order_replays
     (record {
       lawful = c.what_runs_leave.ensures;
@@ -22,5 +14,5 @@ returns c = λ held after i s a f o t b options audit free schedule statement au
       reads = c.an_order_is_a_schedule.ensures.reads;
       few = c.an_order_is_a_schedule.ensures.short;
     })
-    after i f o t b held s a audit free schedule statement audit_held reads comes image free_held schedule_held in
-    subst (λ (st : Setup). (program : Program) × LeavesRunsOf (SimComes Sound after i f o t b st) t b program statement) (sym setup) leaves
+    after i f o t b (setup_of options) held s a image audit free schedule statement image_held audit_held reads alike order.meant order.image_stays
+    order.free_held order.schedule_held
