@@ -165,7 +165,7 @@ header_of : (h : Header) (version : ℕ) (constant nonstop : Bool) → version �
 header_of h version constant nonstop e1 e2 e3 = rw (e1, e2, e3) refl
 
 -- a version that is read fits its two bytes
-version_fits : (number : ℕ) (version : Version) → version_of number ≡ Some version → number < 256 ^ 2
+pub version_fits : (number : ℕ) (version : Version) → version_of number ≡ Some version → number < 256 ^ 2
 version_fits number version is = by_number (eqb number 3) refl is
   where
     by_other : (b : Bool) → eqb number 2 ≡ b → cond b (Some Two) None ≡ Some version → number < 256 ^ 2

@@ -11,6 +11,8 @@ pub mod PartFaults
 -- The grammar: a file reads as a trace exactly when it is this trace (src/laws.rt)
 pub mod GrammarIsRead
 pub mod ReadIsGrammar
+pub mod ReadFits
+pub mod FewEvents
 -- The writer: what is written is a trace, and reads back (src/writing.rt, src/laws.rt)
 pub mod FileBytes
 pub mod WrittenIsGrammar

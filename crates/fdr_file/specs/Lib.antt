@@ -8,4 +8,5 @@ pub mod Scanning
 pub mod Streams
 pub mod EventsLeft
 pub mod Prefixes
+pub mod FieldRanges
 pub mod private

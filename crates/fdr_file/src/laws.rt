@@ -6,10 +6,12 @@ ghost use Rattle.fdr_record.specs.Refusals.{Answers};
 ghost use Rattle.fdr_file.specs.declared.header.Header.{Header};
 ghost use Rattle.fdr_file.specs.declared.trace.{Block.{Block}, Trace.{Trace}};
 ghost use Rattle.fdr_file.specs.declared.version.Version.{Version};
+ghost use Rattle.fdr_file.specs.FieldRanges.{TraceFieldsFit};
 ghost use Rattle.fdr_file.specs.Files.{file_bytes, trace_told, BlockFits, HeaderFits};
 ghost use Rattle.fdr_file.specs.{Grammar.{IsBlock, IsTrace}, Traces.{header_in, record_in, trace_of, version_of}};
 ghost use Rattle.fdr_file.specs.Prefixes.{first_blocks, longer_trace, trace_ends};
 ghost use Rattle.fdr_file.specs.Scanning.{blocks_given, scanned, scanned_ends};
+ghost use Rattle.fdr_file.specs.ThreadEvents.{thread_events};
 
 use crate::TraceFault;
 use fdr_record::one_answer;
@@ -35,6 +37,17 @@ pub fn a_trace_is_read()
 pub fn what_is_read_is_a_trace()
     ensures { (bytes : List ℕ) (trace : Trace) → All (λ b. b < 256) bytes
         → trace_of bytes ≡ Ok trace → IsTrace bytes trace }
+{
+    one_answer();
+}
+
+/// The fields of a trace that was read fit the records of a file. It has at most as many events as
+/// the file has bytes, so they are fewer than 2^64.
+pub fn what_is_read_fits()
+    ensures fields { (bytes : List ℕ) (trace : Trace) → All (λ b. b < 256) bytes
+        → trace_of bytes ≡ Ok trace → TraceFieldsFit trace }
+    ensures few { (bytes : List ℕ) (trace : Trace) → trace_of bytes ≡ Ok trace
+        → length (thread_events trace.blocks) ≤ length bytes }
 {
     one_answer();
 }

@@ -27,7 +27,8 @@ pub use fault::TraceFault;
 pub use header::{HEADER_BYTES, Header, header_fields};
 pub use laws::{
     a_block_may_follow, a_file_is_read_by_records, a_file_reads_back, a_place_is_decoded,
-    a_trace_is_read, no_bytes_are_out_of_memory, prefixes_end_with_blocks, what_is_read_is_a_trace,
+    a_trace_is_read, no_bytes_are_out_of_memory, prefixes_end_with_blocks, what_is_read_fits,
+    what_is_read_is_a_trace,
 };
 pub use longest::readable;
 pub use reading::read_trace;

@@ -1,11 +1,10 @@
 //! Calls of `trace_forms`: one call, entered at the counter 0 and left at 2, in each form.
 
-ghost use Rattle.std.specs.Prelude.{◌≡◌, IfOk};
+ghost use Rattle.std.specs.Prelude.{◌<◌, ◌^◌, length};
 ghost use Rattle.fdr_file.specs.ThreadEvents.{thread_events};
-ghost use Rattle.trace_forms.specs.BasicLogs.{wide_cpu as first_wide};
 
 use crate::checks::{check_same_list, check_same_text};
-use fdr_file::{Trace, read_trace, readable};
+use fdr_file::{Trace, read_trace, readable, what_is_read_fits};
 use std::alloc::Global;
 use std::process::Abort;
 use std::test::Fail;
@@ -45,20 +44,12 @@ end 128\n",
     ),
 ];
 
-/// The number of the first event of a trace whose CPU is above 255, if it hasn't too many events.
-fn wide_of(trace: &Trace) -> Result<Option<u64>, EventFault>
-    ensures { IfOk result (λ wide. wide ≡ first_wide (thread_events trace.now.blocks)) }
-{
-    if has_too_many(&mut TraceCursor::new(trace)) {
-        return Err(EventFault::Many);
-    }
-    Ok(wide_cpu(trace))
-}
-
 /// The basic log of a trace, or nothing if a CPU is above 255.
-fn log_of(alloc: Global, trace: &Trace) -> Result<MemSink, Fail> {
+fn log_of(alloc: Global, trace: &Trace) -> Result<MemSink, Fail>
+    requires { length (thread_events trace.now.blocks) < 2 ^ 64 }
+{
     let mut sink = MemSink::new(alloc, Vec::new(alloc));
-    match wide_of(trace)? {
+    match wide_cpu(trace) {
         None => write_basic(trace, &mut sink)?,
         Some(_) => (),
     }
@@ -91,6 +82,7 @@ fn check_forms(
     wanted: &[u8],
 ) -> Result<(), Fail> {
     let trace = read_trace(alloc, bytes)?;
+    what_is_read_fits();
     check_events(rt, alloc, &trace, events)?;
     let log = log_of(alloc, &trace)?;
     check_same_list(rt, log.bytes(), wanted);

@@ -1,11 +1,12 @@
 -- Basic logs, record by record.
-use Rattle.std.proofs.Common.{◌≡◌, ℕ, ◌+◌, ◌<◌, ◌≤◌, ◌++◌, ◌∙◌, List, [], ◌∷◌, Bool, true, false, length, drop, Ok, Err, refl, sym, ap, append_assoc, arith, lit<}
-use Rattle.std.specs.Prelude.{◌==◌, All, Result, nat_lt, not}
+use Rattle.std.proofs.Common.{◌≡◌, ℕ, ◌+◌, ◌<◌, ◌^◌, ◌≤◌, ◌++◌, ◌∙◌, List, [], ◌∷◌, Bool, true, false, length, drop, Ok, Err, refl, sym, ap, append_assoc, arith, lit<}
+use Rattle.std.specs.Prelude.{◌==◌, All, Result, nat_lt, not, replicate}
 use Rattle.std.specs.List.{flat_map}
 use Rattle.std.proofs.lemmas.Bool.{le-ltb}
 use Rattle.std.proofs.Math.ListN.{drop_of_length-le}
 use Rattle.std.proofs.lemmas.List.{append-nil, drop-drop, length-drop}
 use Rattle.std.proofs.lemmas.List.Elements.{All-head, All-tail}
+use Rattle.byteorder.specs.Numbers.{little_number-reads_back}
 use Rattle.xray_io.specs.Rows.{First, InTurn, ◌>>=◌}
 use Rattle.fdr_record.specs.declared.event.Event.{Event}
 use Rattle.fdr_file.specs.declared.header.Header.{Header}
@@ -15,7 +16,7 @@ use Rattle.fdr_file.specs.Traces.{type_in, version_in}
 use Rattle.trace_forms.specs.declared.basic.BasicFault.{BasicFault}
 use Rattle.trace_forms.specs.declared.basic.BasicFault.TheVariants as faults
 use Rattle.basic_record.specs.BasicRecords.{basic_length}
-use Rattle.trace_forms.specs.BasicLogs.{EventFits, TraceFits, basic_bytes, basic_header, basic_header_rows, basic_of, event_bytes, events_rows, log_bytes, passing_in, record_rows, record_starts}
+use Rattle.trace_forms.specs.BasicLogs.{EventFits, LogReadsAs, TraceFits, basic_bytes, basic_header, basic_header_rows, basic_of, event_bytes, events_rows, log_bytes, passing_in, record_rows, record_starts}
 use Rattle.trace_forms.specs.Runs.{runs}
 use Rattle.fdr_file.proofs.NextParts.{starts_first}
 use Rattle.trace_forms.proofs.Places.{starts_none}
@@ -140,8 +141,17 @@ log_again header events fits =
     let whole : nat_lt (length bytes) 32 ≡ false = le-ltb (length bytes) 32 (omega arith) in
     rw whole (ap (log_read (basic_header bytes)) (records_again events [] 32 fits))
 
-pub log_reads_back : (trace : Trace) → TraceFits trace
-    → (back : Trace) × (basic_of (basic_bytes trace) ≡ Ok back) × (thread_events back.blocks ≡ thread_events trace.blocks)
+-- the frequency too
+frequency_again : (header : Header) (events : List ThreadEvent) → header.frequency < 2 ^ 64 → (basic_header (log_bytes header events)).frequency ≡ header.frequency
+frequency_again header events low = little_number-reads_back 8 header.frequency (replicate 16 0 ++ flat_map event_bytes events) low
+
+pub log_reads_back : (trace : Trace) → TraceFits trace → (back : Trace) × LogReadsAs trace back
 log_reads_back trace fits =
-    let events = thread_events trace.blocks in
-    (trace_again trace.header events, log_again trace.header events fits.events, (runs_are events).events)
+    let events = thread_events trace.blocks in (
+      trace_again trace.header events,
+      record {
+        read = log_again trace.header events fits.events;
+        frequency = frequency_again trace.header events fits.frequency;
+        events = (runs_are events).events;
+      },
+    )

@@ -1,5 +1,5 @@
 -- Basic logs: how the events of a trace are written as a header and a record for each event, and what such bytes read as.
-use Rattle.std.specs.Prelude.{◌<◌, ◌^◌, ℕ, List, [], ◌∷◌, ◌++◌, ◌==◌, not, nat_lt, length, drop, replicate, All, Option, Result, Ok, Err, if◌then◌else◌}
+use Rattle.std.specs.Prelude.{◌≡◌, ◌<◌, ◌^◌, ℕ, List, [], ◌∷◌, ◌++◌, ◌==◌, not, nat_lt, length, drop, replicate, All, Option, Result, Ok, Err, if◌then◌else◌}
 use Rattle.std.specs.List.{flat_map, position}
 use Rattle.byteorder.specs.Endian.{little_bytes}
 use Rattle.basic_record.specs.BasicRecords.{arg_logged, basic_length, event_in, kind_byte, kind_numbered, pid_in, tag_in, thread_in}
@@ -113,3 +113,10 @@ pub record EventFits (e : ThreadEvent) : Type 0 where
 pub record TraceFits (trace : Trace) : Type 0 where
   pub frequency : trace.header.frequency < 2 ^ 64
   pub events : All EventFits (thread_events trace.blocks)
+
+-- The basic log of the trace reads as the other trace. That has the same frequency, and the same events, each with its thread
+-- and its process, in the same order.
+pub record LogReadsAs (trace back : Trace) : Type 0 where
+  pub read : basic_of (basic_bytes trace) ≡ Ok back
+  pub frequency : back.header.frequency ≡ trace.header.frequency
+  pub events : thread_events back.blocks ≡ thread_events trace.blocks

@@ -23,7 +23,8 @@ const TAG: [u8; 2] = [0; 2];
 const RESERVED: [u8; 16] = [0; 16];
 
 /// The number, from 0, of the first event of a trace whose CPU is above 255. Records of a basic log
-/// have one byte for it. `None` if each CPU fits.
+/// have one byte for it. `None` if each CPU fits. The trace has to have fewer than 2^64 events. One
+/// that was read has: see `what_is_read_fits` of `fdr_file`.
 pub fn wide_cpu(trace: &Trace) -> Option<u64>
     requires { length (thread_events trace.now.blocks) < 2 ^ 64 }
     ensures { result ≡ first_wide (thread_events trace.now.blocks) }

@@ -1,17 +1,23 @@
 //! Laws of the further forms. Each law is the contract of a function that does nothing.
 
-ghost use Rattle.std.specs.Prelude.{◌≡◌, Ok, List};
+ghost use Rattle.std.specs.Prelude.{◌≡◌, ◌<◌, All, List, None, Ok, ℕ};
 ghost use Rattle.fdr_file.specs.declared.trace.{Block.{Block}, Trace.{Trace}};
-ghost use Rattle.fdr_file.specs.ThreadEvents.{ThreadEvent, thread_events};
-ghost use Rattle.trace_forms.specs.{BasicLogs.{TraceFits, basic_bytes, basic_of}, Runs.{AreRuns, runs}};
+ghost use Rattle.fdr_file.specs.{ThreadEvents.{ThreadEvent, thread_events}, Traces.{trace_of}};
+ghost use Rattle.trace_forms.specs.{BasicLogs.{LogReadsAs, TraceFits, wide_cpu}, Runs.{AreRuns, runs}};
 
-/// The basic log of a trace reads back as the same events, each with its thread and its process, in
-/// the same order. Their fields have to fit the bytes that a record has for them.
+use fdr_file::what_is_read_fits;
+
+/// The basic log of a trace reads back with the same frequency and the same events, each with its
+/// thread and its process, in the same order. Its fields have to fit the bytes that a record has for
+/// them. Those of a trace that was read from bytes do, if each CPU is below 256.
 pub fn a_basic_log_reads_back()
-    ensures { (trace : Trace) → TraceFits trace → (back : Trace)
-        × (basic_of (basic_bytes trace) ≡ Ok back)
-        × (thread_events back.blocks ≡ thread_events trace.blocks) }
-{}
+    ensures fits { (trace : Trace) → TraceFits trace → (back : Trace) × LogReadsAs trace back }
+    ensures read { (bytes : List ℕ) (trace : Trace) → All (λ b. b < 256) bytes
+        → trace_of bytes ≡ Ok trace → wide_cpu (thread_events trace.blocks) ≡ None
+        → (back : Trace) × LogReadsAs trace back }
+{
+    what_is_read_fits();
+}
 
 /// The runs of events are blocks with these events, in order. None is empty, and no two that follow
 /// each other are of one thread and one process. No other blocks are so, with a wall time of 0.

@@ -2,4 +2,4 @@ use Rattle.std.proofs.Common.{◌∙◌, sym}
 use Rattle.layer_tests.proofs.forms.log_of.Goals as goal
 
 pub write_basic-requires : goal.write_basic-requires
-write_basic-requires c = sym c.in_ok-wide_of.ensures ∙ c.in-None.is
+write_basic-requires c = sym c.wide_cpu.ensures ∙ c.in-None.is

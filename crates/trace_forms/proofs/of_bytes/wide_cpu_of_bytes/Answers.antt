@@ -1,7 +1,7 @@
 use Rattle.std.proofs.Common.{◌∙◌, ◌<◌, ◌^◌, List, ap, arith, length, rules, subst, sym}
 use Rattle.fdr_file.specs.ThreadEvents.{ThreadEvent}
 use Rattle.trace_forms.specs.BasicLogs.{wide_cpu}
-use Rattle.trace_forms.proofs.FewEvents.{few_events}
+use Rattle.fdr_file.proofs.FewEvents.{few_events}
 use Rattle.trace_forms.proofs.of_bytes.wide_cpu_of_bytes.Goals as goal
 
 pub find_wide-requires : goal.find_wide-requires
