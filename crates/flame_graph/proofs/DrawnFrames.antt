@@ -7,7 +7,7 @@ use Rattle.function_names.specs.Name.{plain_name}
 use Rattle.stack_rebuild.specs.Stacks.{PathRow}
 use Rattle.flame_graph.specs.declared.frame.Calls.{Calls}
 use Rattle.flame_graph.specs.FlameText.{frame_text, func_of, line_text, top_of}
-use Rattle.flame_graph.specs.Frames.{calls_of, capped, end_of, start_of, total_of}
+use Rattle.flame_graph.specs.Frames.{calls_of, capped, end_of, total_of}
 use Rattle.flame_graph.specs.Picture.{is_drawn, least_width, left_of, levels_of, most_levels, width_of}
 use Rattle.flame_graph.proofs.FrameSpans.{span_within}
 

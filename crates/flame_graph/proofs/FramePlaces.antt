@@ -1,16 +1,16 @@
 -- The place of a frame is the time of the rows before it in the order of paths.
-use Rattle.std.proofs.Common.{◌≡◌, ◌⊎◌, ◌∙◌, ◌<◌, ◌≤◌, ◌+◌, Bool, true, false, cond, eqb, ℕ, List, [], ◌∷◌, refl, ap, sym, arith, inl, inr}
-use Rattle.std.specs.Prelude.{All, sum_by}
+use Rattle.std.proofs.Common.{◌≡◌, ◌⊎◌, ◌∙◌, ◌<◌, ◌+◌, true, false, cond, ℕ, List, [], ◌∷◌, refl, ap, sym, arith, inl, inr}
 use Rattle.std.specs.declared.cmp.Ordering.{Ordering}
 use Rattle.std.specs.declared.cmp.Ordering.TheVariants.{Less, Equal, Greater}
 use Rattle.std.specs.List.{AllByRecursion}
 use Rattle.std.specs.Ordering.{is_lt, nat_cmp, ordering_then}
-use Rattle.std.proofs.lemmas.Bool.{cases_Bool, cond-false, cond-true, eq-eqb, false≢true}
+use Rattle.std.proofs.lemmas.Bool.{cases_Bool, cond-false, cond-true, false≢true}
 use Rattle.std.specs.Cmp.{nat_cmp_is}
 use Rattle.std.proofs.lemmas.List.Elements.{All-weaker}
 use Rattle.std.proofs.lemmas.List.Sums.{sum_by-cons}
 use Rattle.stack_rebuild.specs.Stacks.{PathRow, path_cmp}
-use Rattle.flame_graph.specs.Frames.{AreStacks, Precedes, begins, frames, is_begun, place_of}
+use Rattle.stack_rebuild.specs.Weights.{begins}
+use Rattle.flame_graph.specs.Frames.{AreStacks, Precedes, frames, is_begun, place_of}
 use Rattle.flame_graph.specs.Laws.{PlacesAreSums, time_before}
 use Rattle.flame_graph.proofs.Orders.{Ascends, IsBefore, ascends, begins_first, begins_more, no_prefix_after}
 use Rattle.flame_graph.proofs.NestedFrames.{all_begun, begun_later}

@@ -1,13 +1,14 @@
 -- The frames are the prefixes of the paths, each once.
-use Rattle.std.proofs.Common.{◌≡◌, ◌⊎◌, ◌∙◌, ◌<◌, ◌+◌, Bool, true, false, cond, eqb, ℕ, suc, List, [], ◌∷◌, ◌++◌, filter, length, map, not, refl, ap, sym, subst, arith, inl, inr}
-use Rattle.std.specs.Prelude.{◌&&◌, ◌||◌, ◌≢◌, ◌↔◌, All, Contains}
-use Rattle.std.specs.List.{AllPairs, list_any}
-use Rattle.std.proofs.lemmas.Bool.{and_from, and_parts, cases_Bool, eq-eqb, eqb-true, false≢true}
+use Rattle.std.proofs.Common.{◌≡◌, ◌⊎◌, ◌∙◌, ◌<◌, Bool, true, false, cond, ℕ, suc, List, [], ◌∷◌, ◌++◌, filter, length, map, not, refl, ap, sym, subst, arith, inl, inr}
+use Rattle.std.specs.Prelude.{◌||◌, ◌≢◌, All, Contains}
+use Rattle.std.specs.List.{AllPairs}
+use Rattle.std.proofs.lemmas.Bool.{cases_Bool, false≢true}
 use Rattle.std.proofs.lemmas.List.Elements.{All-cons, All-nil}
 use Rattle.std.proofs.lemmas.List.Kept.{AllPairs-cons}
 use Rattle.stack_rebuild.specs.Stacks.{PathRow}
 use Rattle.stack_rebuild.proofs.Items.{IsIn, Pairwise, any-in, in-any, in-map, in_from_Contains, map-in}
-use Rattle.flame_graph.specs.Frames.{begins, frames, is_begun, prefixes}
+use Rattle.stack_rebuild.specs.Weights.{begins}
+use Rattle.flame_graph.specs.Frames.{frames, is_begun, prefixes}
 use Rattle.flame_graph.specs.Laws.{AreRowPrefixes, IsRowPrefix, NoneTwice}
 use Rattle.flame_graph.proofs.Orders.{begins_first, begins_more}
 use Rattle.flame_graph.proofs.NestedFrames.{begun_later}

@@ -5,7 +5,8 @@ use Rattle.std.specs.List.{AllByRecursion}
 use Rattle.std.proofs.lemmas.Bool.{and_from, and_left, and_parts, and_right, cases_Bool, cond-false, cond-true, eq-eqb, eqb-true, false≢true, or_parts}
 use Rattle.std.proofs.lemmas.List.Sums.{sum_by-cons, sum_by-le-sum_by}
 use Rattle.stack_rebuild.specs.Stacks.{PathRow}
-use Rattle.flame_graph.specs.Frames.{Precedes, begins, calls_in, calls_of, is_begun, is_frame, no_calls, own_sum, place_of, weight_of}
+use Rattle.stack_rebuild.specs.Weights.{begins, weight_of}
+use Rattle.flame_graph.specs.Frames.{Precedes, calls_in, calls_of, is_begun, is_frame, no_calls, own_sum, place_of}
 use Rattle.flame_graph.proofs.Orders.{Ascends, IsBefore, between, no_prefix_after}
 
 pub weight_more : (frame : List ℕ) (row : PathRow) (rows : List PathRow) → weight_of (row ∷ rows) frame ≡ cond (begins frame row.path) row.own 0 + weight_of rows frame

@@ -1,12 +1,12 @@
 -- Frames of one height don't overlap.
 use Rattle.std.proofs.Common.{◌≡◌, ◌⊎◌, ◌∙◌, ◌<◌, ◌≤◌, ◌+◌, Bool, true, false, cond, ℕ, List, [], ◌∷◌, filter, length, not, refl, ap, sym, subst, arith, inl, inr}
 use Rattle.std.specs.List.{AllByRecursion}
-use Rattle.std.proofs.lemmas.Bool.{cases_Bool, cond-false, cond-true, false≢true, or_parts}
+use Rattle.std.proofs.lemmas.Bool.{cases_Bool, cond-false, cond-true, false≢true}
 use Rattle.stack_rebuild.specs.Stacks.{PathRow}
 use Rattle.stack_rebuild.proofs.Items.{IsIn, Pairwise}
-use Rattle.flame_graph.specs.Frames.{AreStacks, Precedes, begins, end_of, frames, is_begun, place_of, prefixes, start_of, total_of, weight_of}
+use Rattle.stack_rebuild.specs.Weights.{begins, weight_of}
+use Rattle.flame_graph.specs.Frames.{AreStacks, Precedes, end_of, frames, is_begun, place_of, prefixes, start_of, total_of}
 use Rattle.flame_graph.specs.Laws.{IsLeftOf, NoneOverlap}
-use Rattle.flame_graph.specs.Picture.{left_of, right_of, width_of}
 use Rattle.flame_graph.proofs.Orders.{Ascends, IsBefore, ascends, begins_first}
 use Rattle.flame_graph.proofs.FrameSpans.{weight_more, weight_none}
 use Rattle.flame_graph.proofs.FramePrefixes.{all_pairs, filter_in, frame_begun, pairwise_append, pairwise_filter, pairwise_weaker, prefix_begins, prefixes_grow}

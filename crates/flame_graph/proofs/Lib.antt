@@ -17,6 +17,7 @@ pub mod NameEscapes
 pub mod NestedFrames
 pub mod FramePrefixes
 pub mod FramePlaces
+pub mod FrameSums
 pub mod FramesApart
 pub mod LowestRow
 -- The rows of a stack report can be drawn (src/laws.rt)

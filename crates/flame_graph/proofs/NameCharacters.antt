@@ -1,7 +1,7 @@
 -- How a name is taken apart into its characters, one after the other.
 use Rattle.std.proofs.Common.{◌≡◌, ◌≤◌, ◌<◌, ◌+◌, ◌-◌, ◌++◌, ◌∙◌, ℕ, zero, suc, List, [], ◌∷◌, length, take, drop, refl, sym, ap, append_assoc, arith}
 use Rattle.std.specs.List.{flat_map}
-use Rattle.std.proofs.lemmas.List.{append-nil, length-append, take_all, take_at}
+use Rattle.std.proofs.lemmas.List.{append-nil, take_all, take_at}
 use Rattle.std.proofs.lemmas.List.Concat.{flat_map-append}
 use Rattle.flame_graph.specs.Characters.{characters, characters_after, first_size}
 

@@ -6,7 +6,8 @@ use Rattle.std.proofs.lemmas.Bool.{cases_Bool, cond-false, cond-true, false≢tr
 use Rattle.std.proofs.lemmas.List.Elements.{All-append, All-cons, All-filter, All-map, All-nil, All-weaker}
 use Rattle.std.proofs.lemmas.List.Sums.{sum_by-le-sum_by}
 use Rattle.stack_rebuild.specs.Stacks.{PathRow}
-use Rattle.flame_graph.specs.Frames.{AreStacks, prefixes, begins, end_of, frames, is_begun, place_of, start_of, total_of, weight_of}
+use Rattle.stack_rebuild.specs.Weights.{begins, weight_of}
+use Rattle.flame_graph.specs.Frames.{AreStacks, prefixes, end_of, frames, is_begun, place_of, start_of, total_of}
 use Rattle.flame_graph.specs.Laws.{IsWithin, NoneSticksOut, below}
 use Rattle.flame_graph.specs.Picture.{left_of, right_of}
 use Rattle.flame_graph.proofs.Orders.{Ascends, IsBefore, ascends, begins_first, begins_more, begins_take, between}

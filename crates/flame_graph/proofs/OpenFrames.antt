@@ -1,12 +1,13 @@
 -- Which frames open at a row, and which end there.
-use Rattle.std.proofs.Common.{◌≡◌, ◌⊎◌, ◌∙◌, ◌<◌, ◌≤◌, ◌+◌, ◌-◌, add-one, Bool, true, false, cond, not, ℕ, zero, suc, List, [], ◌∷◌, ◌++◌, length, map, filter, take, drop, get_or, refl, ap, sym, subst, arith, inl, inr, eqb}
+use Rattle.std.proofs.Common.{◌≡◌, ◌⊎◌, ◌∙◌, ◌<◌, ◌≤◌, ◌+◌, ◌-◌, add-one, Bool, true, false, cond, not, ℕ, zero, suc, List, [], ◌∷◌, ◌++◌, length, map, filter, take, drop, get_or, refl, ap, sym, subst, arith, inl, inr}
 use Rattle.std.specs.List.{AllByRecursion, flat_map}
 use Rattle.std.proofs.lemmas.Bool.{cases_Bool, cases_order, cond-false, cond-true, false≢true, not_from_false, not_from_true, or_from, or_left}
 use Rattle.std.proofs.lemmas.Grind.{flat_map-append}
-use Rattle.std.proofs.lemmas.List.{append-nil, append_assoc, drop-map, drop_all, get_or-drop, get_or-map, get_or_default, length-drop, length-map, length-take-le}
+use Rattle.std.proofs.lemmas.List.{append-nil, append_assoc, drop-map, drop_all, get_or-drop, get_or-map, get_or_default, length-drop, length-map}
 use Rattle.std.proofs.lemmas.List.Sums.{sum_by-append, sum_by-take-le, sum_by_more}
 use Rattle.stack_rebuild.specs.Stacks.{PathRow}
-use Rattle.flame_graph.specs.Frames.{Precedes, prefixes, begins, calls_in, calls_of, capped, end_of, frames, is_begun, no_calls, own_sum, place_of, total_of, weight_of}
+use Rattle.stack_rebuild.specs.Weights.{begins, weight_of}
+use Rattle.flame_graph.specs.Frames.{Precedes, prefixes, calls_of, capped, end_of, frames, is_begun, own_sum, place_of, total_of}
 use Rattle.flame_graph.specs.Picture.{is_drawn, most_levels, thousandths_at}
 use Rattle.flame_graph.specs.private.Walking.{AreKept, IsKept, IsOpen, Opening, Stands, calls_by, count_left, ended_at, opened, opening_at, path_at, shared, shared_at}
 use Rattle.flame_graph.specs.declared.frame.Openings.{Openings}

@@ -6,7 +6,8 @@ use Rattle.std.proofs.lemmas.Bool.{and_from, and_parts, eq-eqb, eqb-false, eqb-t
 use Rattle.std.proofs.lemmas.List.Elements.{All-from_recursion, recursion_from_All}
 use Rattle.std.proofs.lemmas.List.Kept.{AllPairs-cons}
 use Rattle.stack_rebuild.specs.Stacks.{PathRow}
-use Rattle.flame_graph.specs.Frames.{AreAscending, Precedes, begins}
+use Rattle.stack_rebuild.specs.Weights.{begins}
+use Rattle.flame_graph.specs.Frames.{AreAscending, Precedes}
 use Rattle.flame_graph.specs.private.Walking.{shared}
 
 -- the path of a row comes before that of another

@@ -1,7 +1,8 @@
 -- The frames of a flame graph. A frame is a path, which is listed from its outermost function, as the paths of rows are.
-use Rattle.std.specs.Prelude.{◌+◌, ◌-◌, ◌^◌, ◌<◌, ◌==◌, ◌&&◌, ◌≡◌, ◌⊎◌, All, Bool, true, false, not, ℕ, List, [], ◌∷◌, ◌++◌, length, map, filter, min, sum_by, if◌then◌else◌}
+use Rattle.std.specs.Prelude.{◌+◌, ◌-◌, ◌^◌, ◌<◌, ◌==◌, ◌&&◌, ◌≡◌, ◌⊎◌, All, Bool, not, ℕ, List, [], ◌∷◌, ◌++◌, length, map, filter, min, sum_by, if◌then◌else◌}
 use Rattle.std.specs.List.{AllPairs, list_any}
 use Rattle.stack_rebuild.specs.Stacks.{PathRow}
+use Rattle.stack_rebuild.specs.Weights.{begins, weight_of}
 use Rattle.flame_graph.specs.declared.frame.Calls.{Calls}
 
 -- ---- the order of the rows
@@ -24,12 +25,6 @@ pub record AreStacks (rows : List PathRow) : Type 0 where
 
 -- ---- which frames there are
 
--- whether a path begins with the functions of a frame
-abbrev pub begins : List ℕ → List ℕ → Bool
-begins [] path = true
-begins (f ∷ frame) [] = false
-begins (f ∷ frame) (g ∷ path) = (f == g) && begins frame path
-
 -- the prefixes of a path, from its outermost function alone to the whole path
 abbrev pub prefixes : List ℕ → List (List ℕ)
 prefixes [] = []
@@ -49,10 +44,6 @@ frames (row ∷ later) = filter (λ frame. not (is_begun later frame)) (prefixes
 -- the time that was spent in the calls of some rows themselves
 abbrev pub own_sum : List PathRow → ℕ
 own_sum rows = sum_by (λ row. row.own) rows
-
--- the weight of a frame: this time, of the rows whose paths begin with it
-abbrev pub weight_of : List PathRow → List ℕ → ℕ
-weight_of rows frame = sum_by (λ row. if begins frame row.path then row.own else 0) rows
 
 -- the place of a frame: this time, of the rows before the first one whose path begins with it
 abbrev pub place_of : List PathRow → List ℕ → ℕ

@@ -3,9 +3,11 @@ use Rattle.std.specs.Prelude.{◌≡◌, ◌≢◌, ◌⊎◌, ◌↔◌, ◌+�
 use Rattle.std.specs.List.{AllPairs}
 use Rattle.std.specs.Ordering.{is_lt}
 use Rattle.std.specs.Str.{IsUtf8}
-use Rattle.stack_rebuild.specs.Stacks.{PathRow, path_cmp}
+use Rattle.fdr_record.specs.declared.event.Event.{Event}
+use Rattle.stack_rebuild.specs.Stacks.{PathRow, path_cmp, stack_of_threads}
+use Rattle.stack_rebuild.specs.Weights.{IsAllTimed, left_over, overrun, weight_of}
 use Rattle.flame_graph.specs.FlameText.{shortened, xml_text}
-use Rattle.flame_graph.specs.Frames.{frames, own_sum, place_of}
+use Rattle.flame_graph.specs.Frames.{calls_of, frames, own_sum, place_of}
 use Rattle.flame_graph.specs.Picture.{across, left_of, width_of}
 
 -- ---- which frames there are
@@ -35,6 +37,20 @@ time_before rows frame = sum_by (λ row. if is_lt (path_cmp row.path frame) then
 -- the place of each frame is this time
 abbrev pub PlacesAreSums : List PathRow → Type 0
 PlacesAreSums rows = All (λ frame. place_of rows frame ≡ time_before rows frame) (frames rows)
+
+-- ---- how wide they are
+
+-- a frame of the stacks of threads weighs as much as the sum that is shown of it, and what is in no sum
+abbrev pub WeighsItsCalls : List (List Event) → List ℕ → Type 0
+WeighsItsCalls threads frame =
+    let rows = stack_of_threads threads in
+    weight_of rows frame ≡ (calls_of rows frame).sum + sum_by (λ events. left_over events frame + overrun events frame) threads
+
+-- it weighs just this sum if each call on its path and below it has its exit, and took at least as long as the calls
+-- made directly in it
+abbrev pub WeighsItsSum : List (List Event) → List ℕ → Type 0
+WeighsItsSum threads frame =
+    let rows = stack_of_threads threads in 0 < length frame → All (IsAllTimed frame) threads → weight_of rows frame ≡ (calls_of rows frame).sum
 
 -- ---- frames of one height
 

@@ -1,10 +1,10 @@
 //! Laws of flame graphs. Each law is the contract of a function that does nothing.
 
-ghost use Rattle.std.specs.Prelude.{List};
+ghost use Rattle.std.specs.Prelude.{ℕ, List};
 ghost use Rattle.fdr_file.specs.declared.trace.Block.{Block};
 ghost use Rattle.fdr_record.specs.declared.event.Event.{Event};
 ghost use Rattle.stack_rebuild.specs.Stacks.{PathRow, stack_of, stack_of_threads};
-ghost use Rattle.flame_graph.specs.{Frames.{AreStacks}, Laws.{AreRowPrefixes, LowestAddUp, NamesAreEscaped, NamesAreText, NoneOverlap, NoneSticksOut, NoneTwice, PlacesAreSums}};
+ghost use Rattle.flame_graph.specs.{Frames.{AreStacks}, Laws.{AreRowPrefixes, LowestAddUp, NamesAreEscaped, NamesAreText, NoneOverlap, NoneSticksOut, NoneTwice, PlacesAreSums, WeighsItsCalls, WeighsItsSum}};
 
 /// The stacks of blocks are in ascending order of their paths, each path once and with a function.
 /// So a flame graph can be drawn of them.
@@ -28,6 +28,15 @@ pub fn each_prefix_is_a_frame_once()
 /// come before it, in the order of paths.
 pub fn a_frame_begins_after_the_rows_before_it()
     ensures { (rows : List PathRow) → AreStacks rows → PlacesAreSums rows }
+{}
+
+/// A frame weighs as much as the `sum` that is shown of it, and the time that is in no sum: that of the
+/// calls made directly in calls without an exit, on its path or below it, and how much longer than a
+/// call there the calls made directly in it took. If there is no such time, it weighs just this `sum`.
+/// The width of a frame is its weight as a part of the whole.
+pub fn a_frame_weighs_the_sum_that_is_shown()
+    ensures exactly { (threads : List (List Event)) (frame : List ℕ) → WeighsItsCalls threads frame }
+    ensures timed { (threads : List (List Event)) (frame : List ℕ) → WeighsItsSum threads frame }
 {}
 
 /// Frames of one height don't overlap. This is true of what is printed, where they are listed from left

@@ -25,5 +25,7 @@ pub mod Sums
 -- The rows of a report are those of all threads (src/rows.rt, src/laws.rt)
 pub mod RowsOf
 pub mod Threads
+-- The weight of a path (src/laws.rt)
+pub mod Weights
 -- The text of a report (src/stack_text.rt)
 pub mod Lines

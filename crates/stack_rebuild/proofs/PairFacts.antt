@@ -78,13 +78,13 @@ entries_apart (e ∷ history) =
 -- ---- each pair
 
 -- an open call is that of an entry
-record IsEntered (events : List Event) (call : Call) : Type 0 where
+pub record IsEntered (events : List Event) (call : Call) : Type 0 where
   pub low : call.entry < length events
   pub begins : enters (event_at events call.entry).kind ≡ true
   pub func : (event_at events call.entry).func ≡ call.func
   pub tsc : (event_at events call.entry).tsc ≡ call.tsc
 
-abbrev AllEntered : List Event → List Call → Type 0
+abbrev pub AllEntered : List Event → List Call → Type 0
 AllEntered events [] = Unit {0}
 AllEntered events (call ∷ outer) = IsEntered events call × AllEntered events outer
 
@@ -146,7 +146,7 @@ entered_after e history before = by_kind e.kind refl
     by_kind Exit is = entered_left events calls (from_innermost e.func calls) kept (entered_from events e.func calls kept)
     by_kind TailExit is = entered_left events calls (from_innermost e.func calls) kept (entered_from events e.func calls kept)
 
-all_entered : (history : List Event) → AllEntered (reverse history) (open_calls history)
+pub all_entered : (history : List Event) → AllEntered (reverse history) (open_calls history)
 all_entered [] = tt
 all_entered (e ∷ history) =
     subst (λ (events : List Event). AllEntered events (open_calls (e ∷ history))) (sym (one_more e history)) (entered_after e history (all_entered history))

@@ -7,4 +7,5 @@ pub mod PairLaws
 pub mod PathSums
 pub mod StackText
 pub mod Stacks
+pub mod Weights
 pub mod private

@@ -6,7 +6,7 @@ ghost use Rattle.fdr_file.specs.declared.trace.Block.{Block};
 ghost use Rattle.stack_rebuild.specs.{Calls.{pairs_of}, Histories.{events_of_thread, pairs_of_blocks, pairs_of_thread}};
 ghost use Rattle.stack_rebuild.specs.OpenPaths.{next_stacked, stacked_after};
 ghost use Rattle.stack_rebuild.specs.PairLaws.{EndsAnOpenCall, EndsBefore, IsInside, IsWholeCall};
-ghost use Rattle.stack_rebuild.specs.Stacks.{AreThreadsOf, stack_of, stack_of_threads};
+ghost use Rattle.stack_rebuild.specs.{Stacks.{AreThreadsOf, stack_of, stack_of_threads}, Weights.{WeighsNoMore, WeighsSum}};
 
 /// Each exit is in at most one pair, and so is each entry. Pairs stand in the order of their exits.
 pub fn each_exit_ends_one_call()
@@ -55,4 +55,17 @@ pub fn stacks_are_of_threads()
     ensures { (blocks : List Block) (threads : List ℕ) → AreThreadsOf blocks threads
         → stack_of blocks
         ≡ stack_of_threads (map (λ thread. events_of_thread thread blocks) threads) }
+{}
+
+/// The time in the calls themselves, of the row of a path and all rows below it, is the `sum` of the
+/// path's row; and the time of the calls that were made directly in calls without an exit, on the path
+/// or below it; and how much longer than a call there the calls made directly in it took.
+pub fn a_path_weighs_its_sum_and_what_is_in_no_sum()
+    ensures { (threads : List (List Event)) (path : List ℕ) → WeighsSum threads path }
+{}
+
+/// So a path weighs as much as its `sum`, if each call on it and below it has its exit, and the calls
+/// made directly in a call there took no longer than the call.
+pub fn a_path_whose_calls_are_all_timed_weighs_its_sum()
+    ensures { (threads : List (List Event)) (path : List ℕ) → WeighsNoMore threads path }
 {}

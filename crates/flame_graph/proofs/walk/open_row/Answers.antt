@@ -1,8 +1,8 @@
-use Rattle.std.proofs.Common.{◌≡◌, ◌∙◌, ◌<◌, ℕ, List, add-one, ap, arith, length, map, sym, take}
+use Rattle.std.proofs.Common.{◌≡◌, ◌∙◌, ◌<◌, ℕ, List, add-one, ap, arith, length, map, take}
 use Rattle.std.proofs.lemmas.List.{length-map}
 use Rattle.stack_rebuild.specs.declared.stack_row.StackRow.{StackRow}
 use Rattle.stack_rebuild.specs.Stacks.{told}
-use Rattle.flame_graph.specs.Frames.{capped, own_sum, total_of}
+use Rattle.flame_graph.specs.Frames.{own_sum, total_of}
 use Rattle.flame_graph.specs.Picture.{thousandths_at}
 use Rattle.flame_graph.specs.private.Walking.{Opening}
 use Rattle.flame_graph.proofs.OpenFrames.{begins_within, row_opens}
