@@ -90,11 +90,11 @@ part_ok : {A P F : Type 0} (o : Option P) (fault : F) (follows : P → Result A 
 part_ok None fault follows x is = absurd cc
 part_ok (Some p) fault follows x is = (p, is)
 
-then_ok : {A B F : Type 0} (r : Result A F) (f : A → Result B F) (x : B) → (r >>= f) ≡ Ok x → (a : A) × (r ≡ Ok a) × (f a ≡ Ok x)
+pub then_ok : {A B F : Type 0} (r : Result A F) (f : A → Result B F) (x : B) → (r >>= f) ≡ Ok x → (a : A) × (r ≡ Ok a) × (f a ≡ Ok x)
 then_ok (Ok a) f x is = (a, refl, is)
 then_ok (Err fault) f x is = absurd cc
 
-ok_same : {A F : Type 0} (a x : A) → (let r : Result A F = Ok a in let s : Result A F = Ok x in r ≡ s) → a ≡ x
+pub ok_same : {A F : Type 0} (a x : A) → (let r : Result A F = Ok a in let s : Result A F = Ok x in r ≡ s) → a ≡ x
 ok_same a x is = cc
 
 -- ---- the blocks of a trace

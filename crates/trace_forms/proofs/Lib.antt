@@ -5,7 +5,8 @@ pub mod Pieces
 pub mod LogRecords
 pub mod Logs
 pub mod Wide
-pub mod FitLogs
+pub mod TracesFit
+pub mod LogsFit
 -- Runs of events: one more event at the end (src/runs.rt)
 pub mod RunLaws
 -- Trace events in JSON: their texts, and escapes in strings (src/trace_events.rt, src/escaped.rt)

@@ -24,7 +24,7 @@ arg_again TailExit arg number fits is = sym fits
 arg_again EntryArgs arg number fits is = is
 
 -- what is logged fits its bytes if the argument does
-arg_low : (kind : Kind) (arg : ℕ) → arg < 2 ^ 64 → arg_logged kind arg < 2 ^ 64
+pub arg_low : (kind : Kind) (arg : ℕ) → arg < 2 ^ 64 → arg_logged kind arg < 2 ^ 64
 arg_low Entry arg low = lit< tt
 arg_low Exit arg low = lit< tt
 arg_low TailExit arg low = lit< tt

@@ -114,8 +114,8 @@ pub record TraceFits (trace : Trace) : Type 0 where
   pub frequency : trace.header.frequency < 2 ^ 64
   pub events : All EventFits (thread_events trace.blocks)
 
--- The basic log of the trace reads as the other trace. That has the same frequency, and the same events, each with its thread
--- and its process, in the same order.
+-- The basic log of the trace reads as the other one, which has the same frequency and the same events, each with its
+-- thread and its process, in the same order.
 pub record LogReadsAs (trace back : Trace) : Type 0 where
   pub read : basic_of (basic_bytes trace) ≡ Ok back
   pub frequency : back.header.frequency ≡ trace.header.frequency
