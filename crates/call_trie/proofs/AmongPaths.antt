@@ -12,7 +12,7 @@ use Rattle.stack_rebuild.specs.declared.tally.Tally.{Tally}
 use Rattle.stack_rebuild.specs.PathSums.{AllNumbered, AreApart, no_tally, path_at, tally_of, with_pair}
 use Rattle.stack_rebuild.specs.Stacks.{Timed, has_path, path_cmp}
 use Rattle.call_trie.specs.private.Paths.{IsNew}
-use Rattle.call_trie.specs.Tries.{is_among, with_path}
+use Rattle.call_trie.specs.Tries.{is_among}
 use Rattle.call_trie.proofs.NodeLemmas.{apart_more, path_kept, path_last}
 
 -- ---- equal paths
@@ -80,6 +80,10 @@ pub among_new : (paths : List (List ℕ)) (path : List ℕ) → is_among paths p
 among_new paths path none k within is = let never : true ≡ false = sym (at_among paths path k within is) ∙ none in (let n : ⊥ = cc in n)
 
 -- ---- one more path, unless it is there
+
+-- paths and one more, unless it is among them
+abbrev pub with_path : List (List ℕ) → List ℕ → List (List ℕ)
+with_path paths path = cond (is_among paths path) paths (paths ++ path ∷ [])
 
 pub with_known : (paths : List (List ℕ)) (path : List ℕ) → is_among paths path ≡ true → with_path paths path ≡ paths
 with_known paths path is = ap (λ b. cond b paths (paths ++ path ∷ [])) is

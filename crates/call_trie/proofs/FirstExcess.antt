@@ -1,5 +1,5 @@
 -- The first of some states that isn't live decides.
-use Rattle.std.proofs.Common.{◌≡◌, ◌+◌, ◌<◌, ◌≤◌, ◌∙◌, ℕ, zero, suc, List, [], ◌∷◌, length, map, take, refl, ap, subst, arith}
+use Rattle.std.proofs.Common.{◌≡◌, ◌+◌, ◌<◌, ◌∙◌, ℕ, zero, suc, List, ◌∷◌, length, map, take, refl, ap, subst, arith}
 use Rattle.std.specs.List.{range_with_len}
 use Rattle.fdr_record.specs.declared.event.Event.{Event}
 use Rattle.call_trie.specs.declared.state.TrieState.{TrieState}

@@ -5,6 +5,7 @@ pub mod TableLemmas
 pub mod FrameLemmas
 -- The recorder: its fields after one more event, and that they are what stacks say (src/recorder.rt)
 pub mod RecorderFields
+pub mod OpenedPaths
 pub mod RecorderEvents
 pub mod TrieBounds
 -- The tallies of tries, added up (src/nodes.rt, src/merging.rt)

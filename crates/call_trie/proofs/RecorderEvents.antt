@@ -17,8 +17,9 @@ use Rattle.call_trie.specs.declared.state.TrieState.{TrieState}
 use Rattle.call_trie.specs.declared.state.TrieState.TheVariants.{Live, Full, Deep}
 use Rattle.call_trie.specs.private.Paths.{IsAt, IsNew}
 use Rattle.call_trie.specs.private.Steps.{Enters, Leaves, deep, ended, fresh, full, known, none}
-use Rattle.call_trie.specs.Tries.{StandsFor, Trie, excess, first_stop, is_among, paths_in, paths_opened, state_after, with_path}
-use Rattle.call_trie.proofs.AmongPaths.{Has, Keeps, at_among, has_kept, new_among, none_has, numbered_append, numbered_kept, tallies_more, with_is, with_known, with_new}
+use Rattle.call_trie.specs.Tries.{StandsFor, Trie, excess, first_stop, is_among, paths_opened, state_after}
+use Rattle.call_trie.proofs.AmongPaths.{Has, Keeps, at_among, has_kept, new_among, none_has, numbered_append, numbered_kept, tallies_more, with_is, with_known, with_new, with_path}
+use Rattle.call_trie.proofs.OpenedPaths.{newest, opened_more}
 
 -- what one more event changes, as stacks say it
 abbrev pub Law : Type 0
@@ -38,9 +39,6 @@ either e = by_kind e.kind refl
     by_kind EntryArgs is = inl (inr is)
     by_kind Exit is = inr (inl is)
     by_kind TailExit is = inr (inr is)
-
-turned : (events : List Event) (e : Event) → reverse (events ++ e ∷ []) ≡ e ∷ reverse events
-turned events e = reverse-append events (e ∷ [])
 
 -- what holds of no event, and of one more event, holds of all
 snoc : (P : List Event → Type 0) → P [] → ((events : List Event) (e : Event) → P events → P (events ++ e ∷ [])) → (events : List Event) → P events
@@ -73,35 +71,24 @@ open_long : (events : List Event) (calls : List Call) → length (open_paths eve
 open_long events [] = refl
 open_long events (call ∷ outer) = ap suc (open_long events outer)
 
--- as many calls are open after one more event
-depth_now : (events : List Event) (e : Event) → length (open_calls (e ∷ reverse events)) ≡ length (open_of (events ++ e ∷ []))
-depth_now events e =
-    sym (open_long (events ++ e ∷ []) (open_calls (e ∷ reverse events)))
-    ∙ ap (λ (h : List Event). length (open_paths (events ++ e ∷ []) (open_calls h))) (sym (turned events e))
+-- as many calls are open, with their paths
+depth_now : (events : List Event) → length (open_calls (reverse events)) ≡ length (open_of events)
+depth_now events = sym (open_long events (open_calls (reverse events)))
 
 -- ---- the paths that were opened
 
-entry_paths : Law → (events : List Event) (e : Event) → IsEntry e
-    → paths_opened (events ++ e ∷ []) ≡ with_path (paths_opened events) (opened_by e (open_of events)).path
-entry_paths law events e is =
-    let h = reverse events in
-    let own : path_of (open_calls (e ∷ h)) ≡ (opened_by e (open_of events)).path =
-    sym (innermost_is (events ++ e ∷ []) (open_calls (e ∷ h)))
-    ∙ (ap (λ (hs : List Event). innermost_path (open_paths (events ++ e ∷ []) (open_calls hs))) (sym (turned events e))
-    ∙ ap (λ (s : Stacked). innermost_path s.calls) (entry_stack law events e is)) in
-    ap paths_in (turned events e)
-    ∙ (ap (λ b. cond b (with_path (paths_in h) (path_of (open_calls (e ∷ h)))) (paths_in h)) (opens is)
-    ∙ ap (with_path (paths_in h)) own)
+entry_paths : (events : List Event) (e : Event) → IsEntry e → paths_opened (events ++ e ∷ []) ≡ with_path (paths_opened events) (opened_by e (open_of events)).path
+entry_paths events e is =
+    opened_more events e
+    ∙ (ap (λ b. cond b (with_path (paths_opened events) (newest events e)) (paths_opened events)) (opens is)
+    ∙ ap (λ (path : List ℕ). with_path (paths_opened events) (path ++ e.func ∷ [])) (sym (innermost_is events (open_calls (reverse events)))))
   where
     opens : IsEntry e → enters e.kind ≡ true
     opens (inl kind) = ap enters kind
     opens (inr kind) = ap enters kind
 
 exit_paths : (events : List Event) (e : Event) → IsExit e → paths_opened (events ++ e ∷ []) ≡ paths_opened events
-exit_paths events e is =
-    let h = reverse events in
-    ap paths_in (turned events e)
-    ∙ ap (λ b. cond b (with_path (paths_in h) (path_of (open_calls (e ∷ h)))) (paths_in h)) (opens is)
+exit_paths events e is = opened_more events e ∙ ap (λ b. cond b (with_path (paths_opened events) (newest events e)) (paths_opened events)) (opens is)
   where
     opens : IsExit e → enters e.kind ≡ false
     opens (inl kind) = ap enters kind
@@ -154,7 +141,7 @@ known_after law = snoc (λ events. Known (paths_opened events) (stacked_after ev
         let call = opened_by e (open_of events) in
         let more = with_is (paths_opened events) call.path in
         subst (λ (s : Stacked). Known (paths_opened (events ++ e ∷ [])) s) (sym (entry_stack law events e is))
-        (subst (λ (paths : List (List ℕ)). Known paths (stacked_with (call ∷ open_of events) (timed_pairs events))) (sym (entry_paths law events e is))
+        (subst (λ (paths : List (List ℕ)). Known paths (stacked_with (call ∷ open_of events) (timed_pairs events))) (sym (entry_paths events e is))
         (record {
           pairs = numbered_kept (paths_opened events) (with_path (paths_opened events) call.path) (timed_pairs events) more.keeps own.pairs;
           calls = (more.has, open_kept (paths_opened events) (with_path (paths_opened events) call.path) (open_of events) more.keeps own.calls);
@@ -167,14 +154,10 @@ known_after law = snoc (λ events. Known (paths_opened events) (stacked_after ev
 
 -- ---- the state
 
--- what a history leaves if nothing was too much
-pub record IsWithin (room : ℕ) (h : List Event) : Type 0 where
-  pub depth : length (open_calls h) ≤ most_open
-  pub nodes : length (paths_in h) ≤ room
-
--- what is too much after a history
-abbrev excess_in : ℕ → List Event → TrieState
-excess_in room h = cond (nat_lt most_open (length (open_calls h))) Deep (cond (nat_lt room (length (paths_in h))) Full Live)
+-- what events leave if nothing is too much
+pub record IsWithin (room : ℕ) (events : List Event) : Type 0 where
+  pub depth : length (open_calls (reverse events)) ≤ most_open
+  pub nodes : length (paths_opened events) ≤ room
 
 -- a state, and what is too much after one more event
 abbrev next_stop : TrieState → TrieState → TrieState
@@ -218,45 +201,43 @@ not_live Live x is = is
 not_live Full x is = let never : Full ≡ Live = is in cc
 not_live Deep x is = let never : Deep ≡ Live = is in cc
 
-within_from : (room : ℕ) (h : List Event) → excess_in room h ≡ Live → IsWithin room h
-within_from room h = by_tests (nat_lt most_open (length (open_calls h))) (nat_lt room (length (paths_in h))) refl refl
+within_from : (room : ℕ) (events : List Event) → excess room events ≡ Live → IsWithin room events
+within_from room events = by_tests (nat_lt most_open (length (open_calls (reverse events)))) (nat_lt room (length (paths_opened events))) refl refl
   where
-    by_tests : (a b : Bool) → nat_lt most_open (length (open_calls h)) ≡ a → nat_lt room (length (paths_in h)) ≡ b → cond a Deep (cond b Full Live) ≡ Live
-        → IsWithin room h
+    by_tests : (a b : Bool) → nat_lt most_open (length (open_calls (reverse events))) ≡ a → nat_lt room (length (paths_opened events)) ≡ b → cond a Deep (cond b Full Live) ≡ Live
+        → IsWithin room events
     by_tests true b one two live = let never : Deep ≡ Live = live in cc
     by_tests false true one two live = let never : Full ≡ Live = live in cc
     by_tests false false one two live = record {
-      depth = let shallow : nat_lt most_open (length (open_calls h)) ≡ false = one in grind (arith, nat_tests);
-      nodes = let few : nat_lt room (length (paths_in h)) ≡ false = two in grind (arith, nat_tests);
+      depth = let shallow : nat_lt most_open (length (open_calls (reverse events))) ≡ false = one in grind (arith, nat_tests);
+      nodes = let few : nat_lt room (length (paths_opened events)) ≡ false = two in grind (arith, nat_tests);
     }
 
-live_within : (room : ℕ) (events : List Event) → state_after room events ≡ Live → IsWithin room (reverse events)
-live_within room = snoc (λ events. state_after room events ≡ Live → IsWithin room (reverse events))
+live_within : (room : ℕ) (events : List Event) → state_after room events ≡ Live → IsWithin room events
+live_within room = snoc (λ events. state_after room events ≡ Live → IsWithin room events)
     (λ is. record { depth = omega arith; nodes = omega arith })
-    (λ events e earlier is. within_from room (reverse (events ++ e ∷ []))
+    (λ events e earlier is. within_from room (events ++ e ∷ [])
     (not_live (state_after room events) (excess room (events ++ e ∷ [])) (sym (state_more room events e) ∙ is)))
 
-excess_deep : (room : ℕ) (h : List Event) → most_open < length (open_calls h) → excess_in room h ≡ Deep
-excess_deep room h more =
-    let test : nat_lt most_open (length (open_calls h)) ≡ true = grind (arith, nat_tests) in
-    ap (λ b. cond b Deep (cond (nat_lt room (length (paths_in h))) Full Live)) test
+excess_deep : (room : ℕ) (events : List Event) → most_open < length (open_calls (reverse events)) → excess room events ≡ Deep
+excess_deep room events more =
+    let test : nat_lt most_open (length (open_calls (reverse events))) ≡ true = grind (arith, nat_tests) in
+    ap (λ b. cond b Deep (cond (nat_lt room (length (paths_opened events))) Full Live)) test
 
-excess_full : (room : ℕ) (h : List Event) → length (open_calls h) ≤ most_open → room < length (paths_in h) → excess_in room h ≡ Full
-excess_full room h shallow more =
-    let one : nat_lt most_open (length (open_calls h)) ≡ false = grind (arith, nat_tests) in
-    let two : nat_lt room (length (paths_in h)) ≡ true = grind (arith, nat_tests) in
-    ap (λ b. cond b Deep (cond (nat_lt room (length (paths_in h))) Full Live)) one ∙ ap (λ b. cond b Full Live) two
+excess_full : (room : ℕ) (events : List Event) → length (open_calls (reverse events)) ≤ most_open → room < length (paths_opened events) → excess room events ≡ Full
+excess_full room events shallow more =
+    let one : nat_lt most_open (length (open_calls (reverse events))) ≡ false = grind (arith, nat_tests) in
+    let two : nat_lt room (length (paths_opened events)) ≡ true = grind (arith, nat_tests) in
+    ap (λ b. cond b Deep (cond (nat_lt room (length (paths_opened events))) Full Live)) one ∙ ap (λ b. cond b Full Live) two
 
-excess_none : (room : ℕ) (h : List Event) → length (open_calls h) ≤ most_open → length (paths_in h) ≤ room → excess_in room h ≡ Live
-excess_none room h shallow few =
-    let one : nat_lt most_open (length (open_calls h)) ≡ false = grind (arith, nat_tests) in
-    let two : nat_lt room (length (paths_in h)) ≡ false = grind (arith, nat_tests) in
-    ap (λ b. cond b Deep (cond (nat_lt room (length (paths_in h))) Full Live)) one ∙ ap (λ b. cond b Full Live) two
+excess_none : (room : ℕ) (events : List Event) → length (open_calls (reverse events)) ≤ most_open → length (paths_opened events) ≤ room → excess room events ≡ Live
+excess_none room events shallow few =
+    let one : nat_lt most_open (length (open_calls (reverse events))) ≡ false = grind (arith, nat_tests) in
+    let two : nat_lt room (length (paths_opened events)) ≡ false = grind (arith, nat_tests) in
+    ap (λ b. cond b Deep (cond (nat_lt room (length (paths_opened events))) Full Live)) one ∙ ap (λ b. cond b Full Live) two
 
-state_now : (room : ℕ) (events : List Event) (e : Event) → state_after room events ≡ Live → state_after room (events ++ e ∷ []) ≡ excess_in room (e ∷ reverse events)
-state_now room events e live =
-    state_more room events e
-    ∙ (ap (λ (s : TrieState). next_stop s (excess room (events ++ e ∷ []))) live ∙ ap (excess_in room) (turned events e))
+state_now : (room : ℕ) (events : List Event) (e : Event) → state_after room events ≡ Live → state_after room (events ++ e ∷ []) ≡ excess room (events ++ e ∷ [])
+state_now room events e live = state_more room events e ∙ ap (λ (s : TrieState). next_stop s (excess room (events ++ e ∷ []))) live
 
 -- a state that isn't live stays
 state_stays : (room : ℕ) (events : List Event) (e : Event) → (state_after room events ≡ Live → ⊥) → state_after room (events ++ e ∷ []) ≡ state_after room events
@@ -300,13 +281,13 @@ stands_entered law old new events e is live own enters_now =
     call : OpenPath
     call = opened_by e (open_of events)
 
-    h : List Event
-    h = reverse events
+    after : List Event
+    after = events ++ e ∷ []
 
     was : state_after old.room events ≡ Live
     was = sym own.state ∙ live
 
-    within : IsWithin old.room h
+    within : IsWithin old.room events
     within = live_within old.room events was
 
     stack : stacked_after (events ++ e ∷ []) ≡ stacked_with (call ∷ open_of events) (timed_pairs events)
@@ -318,17 +299,14 @@ stands_entered law old new events e is live own enters_now =
     pairs_now : timed_pairs (events ++ e ∷ []) ≡ timed_pairs events
     pairs_now = ap (λ (s : Stacked). s.pairs) stack
 
-    deeper : length (open_calls (e ∷ h)) ≡ suc (length (open_of events))
-    deeper = depth_now events e ∙ ap {B = ℕ} length open_now
+    deeper : length (open_calls (reverse after)) ≡ suc (length (open_of events))
+    deeper = depth_now after ∙ ap {B = ℕ} length open_now
 
     paths_same : is_among (paths_opened events) call.path ≡ true → paths_opened (events ++ e ∷ []) ≡ paths_opened events
-    paths_same there = entry_paths law events e is ∙ with_known (paths_opened events) call.path there
+    paths_same there = entry_paths events e is ∙ with_known (paths_opened events) call.path there
 
     paths_longer : is_among (paths_opened events) call.path ≡ false → paths_opened (events ++ e ∷ []) ≡ paths_opened events ++ call.path ∷ []
-    paths_longer absent = entry_paths law events e is ∙ with_new (paths_opened events) call.path absent
-
-    as_in : paths_opened (events ++ e ∷ []) ≡ paths_in (e ∷ h)
-    as_in = ap paths_in (turned events e)
+    paths_longer absent = entry_paths events e is ∙ with_new (paths_opened events) call.path absent
 
     size : length old.calls ≡ length (open_of events)
     size = ap {B = ℕ} length (own.calls live)
@@ -336,7 +314,7 @@ stands_entered law old new events e is live own enters_now =
     count : length old.paths ≡ suc (length (paths_opened events))
     count = ap {B = ℕ} length (own.paths live)
 
-    stops : (s : TrieState) → (s ≡ Live → ⊥) → new ≡ record old { state = s } → excess_in old.room (e ∷ h) ≡ s → StandsFor new (events ++ e ∷ [])
+    stops : (s : TrieState) → (s ≡ Live → ⊥) → new ≡ record old { state = s } → excess old.room after ≡ s → StandsFor new (events ++ e ∷ [])
     stops s stopped is_new found =
         subst (λ (t : Trie). StandsFor t (events ++ e ∷ [])) (sym is_new) (record {
           state = sym (state_now old.room events e was ∙ found);
@@ -347,20 +325,20 @@ stands_entered law old new events e is live own enters_now =
 
     by_case : Enters call old new → StandsFor new (events ++ e ∷ [])
     by_case (deep many is_new) =
-        stops Deep (λ same. let never : Deep ≡ Live = same in (let n : ⊥ = cc in n)) is_new (excess_deep old.room (e ∷ h) (omega (arith, many, deeper, size)))
+        stops Deep (λ same. let never : Deep ≡ Live = same in (let n : ⊥ = cc in n)) is_new (excess_deep old.room after (omega (arith, many, deeper, size)))
     by_case (full few absent used is_new) =
         let fresh_path = new_among (paths_opened events) call.path (new_opened (paths_opened events) call.path (subst (λ (ps : List (List ℕ)). IsNew ps call.path) (own.paths live) absent)) in
-        let longer : length (paths_in (e ∷ h)) ≡ suc (length (paths_opened events)) =
-        ap {B = ℕ} length (sym as_in ∙ paths_longer fresh_path) ∙ (let one : length (paths_opened events ++ call.path ∷ []) ≡ suc (length (paths_opened events)) = omega (arith, length-append (paths_opened events) (call.path ∷ [])) in one) in
+        let longer : length (paths_opened after) ≡ suc (length (paths_opened events)) =
+        ap {B = ℕ} length (paths_longer fresh_path) ∙ (let one : length (paths_opened events ++ call.path ∷ []) ≡ suc (length (paths_opened events)) = omega (arith, length-append (paths_opened events) (call.path ∷ [])) in one) in
         stops Full (λ same. let never : Full ≡ Live = same in (let n : ⊥ = cc in n)) is_new
-        (excess_full old.room (e ∷ h) (omega (arith, few, deeper, size)) (omega (arith, longer, used, count)))
+        (excess_full old.room after (omega (arith, few, deeper, size)) (omega (arith, longer, used, count)))
     by_case (known few n at is_new) =
         let there = at_opened (paths_opened events) (innermost_path (open_of events)) e.func n (subst (λ (ps : List (List ℕ)). IsAt ps call.path n) (own.paths live) at) in
         let same = paths_same (at_among (paths_opened events) call.path there.0 there.1 there.2) in
         subst (λ (t : Trie). StandsFor t (events ++ e ∷ [])) (sym is_new) (record {
           state = live ∙ sym (state_now old.room events e was
-              ∙ excess_none old.room (e ∷ h) (omega (arith, few, deeper, size))
-              (let as_many : length (paths_in (e ∷ h)) ≡ length (paths_in h) = ap {B = ℕ} length (sym as_in ∙ same) in omega (arith, as_many, within.nodes)));
+              ∙ excess_none old.room after (omega (arith, few, deeper, size))
+              (let as_many : length (paths_opened after) ≡ length (paths_opened events) = ap {B = ℕ} length same in omega (arith, as_many, within.nodes)));
           paths = λ still. own.paths live ∙ ap (λ (ps : List (List ℕ)). [] ∷ ps) (sym same);
           tallies = λ still. own.tallies live ∙ (ap (λ (ps : List Timed). map (tally_of ps) (paths_opened events)) (sym pairs_now)
               ∙ ap (map (tally_of (timed_pairs (events ++ e ∷ [])))) (sym same));
@@ -372,8 +350,8 @@ stands_entered law old new events e is live own enters_now =
         let none_yet : tally_of (timed_pairs events) call.path ≡ no_tally = none_has (paths_opened events) call.path (timed_pairs events) (known_after law events).pairs own_new in
         subst (λ (t : Trie). StandsFor t (events ++ e ∷ [])) (sym is_new) (record {
           state = live ∙ sym (state_now old.room events e was
-              ∙ excess_none old.room (e ∷ h) (omega (arith, few, deeper, size))
-              (let more : length (paths_in (e ∷ h)) ≡ length (paths_opened events ++ call.path ∷ []) = ap {B = ℕ} length (sym as_in ∙ longer) in
+              ∙ excess_none old.room after (omega (arith, few, deeper, size))
+              (let more : length (paths_opened after) ≡ length (paths_opened events ++ call.path ∷ []) = ap {B = ℕ} length longer in
               omega (arith, more, length-append (paths_opened events) (call.path ∷ []), room, count)));
           paths = λ still. ap (λ (ps : List (List ℕ)). ps ++ call.path ∷ []) (own.paths live) ∙ ap (λ (ps : List (List ℕ)). [] ∷ ps) (sym longer);
           tallies = λ still. ap (λ (ts : List Tally). ts ++ no_tally ∷ []) (own.tallies live)
@@ -402,17 +380,17 @@ pub stands_left : Law → (old new : Trie) (events : List Event) (e : Event) →
     → Leaves e.func e.tsc old new → StandsFor new (events ++ e ∷ [])
 stands_left law old new events e is live own = by_case
   where
-    h : List Event
-    h = reverse events
+    after : List Event
+    after = events ++ e ∷ []
 
     was : state_after old.room events ≡ Live
     was = sym own.state ∙ live
 
-    within : IsWithin old.room h
+    within : IsWithin old.room events
     within = live_within old.room events was
 
     shallow : length (open_of events) ≤ most_open
-    shallow = omega (arith, within.depth, open_long events (open_calls h))
+    shallow = omega (arith, within.depth, depth_now events)
 
     same : paths_opened (events ++ e ∷ []) ≡ paths_opened events
     same = exit_paths events e is
@@ -425,14 +403,14 @@ stands_left law old new events e is live own = by_case
     goes_on : length (open_of (events ++ e ∷ [])) ≤ most_open → state_after old.room (events ++ e ∷ []) ≡ Live
     goes_on few =
         state_now old.room events e was
-        ∙ excess_none old.room (e ∷ h) (omega (arith, few, depth_now events e))
-        (let as_many : length (paths_in (e ∷ h)) ≡ length (paths_in h) = ap {B = ℕ} length (sym (ap paths_in (turned events e)) ∙ same) in omega (arith, as_many, within.nodes))
+        ∙ excess_none old.room after (omega (arith, few, depth_now after))
+        (let as_many : length (paths_opened after) ≡ length (paths_opened events) = ap {B = ℕ} length same in omega (arith, as_many, within.nodes))
 
     by_case : Leaves e.func e.tsc old new → StandsFor new (events ++ e ∷ [])
     by_case (none found is_new) =
-        let after = stack [] found in
-        let open_now : open_of (events ++ e ∷ []) ≡ open_of events = ap (λ (s : Stacked). s.calls) after in
-        let pairs_now : timed_pairs (events ++ e ∷ []) ≡ timed_pairs events = ap (λ (s : Stacked). s.pairs) after in
+        let stacked = stack [] found in
+        let open_now : open_of (events ++ e ∷ []) ≡ open_of events = ap (λ (s : Stacked). s.calls) stacked in
+        let pairs_now : timed_pairs (events ++ e ∷ []) ≡ timed_pairs events = ap (λ (s : Stacked). s.pairs) stacked in
         subst (λ (t : Trie). StandsFor t (events ++ e ∷ [])) (sym is_new) (record {
           state = live ∙ sym (goes_on (let as_many : length (open_of (events ++ e ∷ [])) ≡ length (open_of events) = ap {B = ℕ} length open_now in omega (arith, as_many, shallow)));
           paths = λ still. own.paths live ∙ ap (λ (ps : List (List ℕ)). [] ∷ ps) (sym same);
@@ -441,13 +419,13 @@ stands_left law old new events e is live own = by_case
           calls = λ still. own.calls live ∙ sym open_now;
         })
     by_case (ended call outer n found some at is_new) =
-        let after = stack (call ∷ outer) found in
+        let stacked = stack (call ∷ outer) found in
         let duration = cycles_between call.tsc e.tsc in
         let pair = pair_of_open e call in
         let paths = paths_opened events in
         let pairs = timed_pairs events in
-        let open_now : open_of (events ++ e ∷ []) ≡ with_spent duration outer = ap (λ (s : Stacked). s.calls) after in
-        let pairs_now : timed_pairs (events ++ e ∷ []) ≡ pairs ++ pair ∷ [] = ap (λ (s : Stacked). s.pairs) after in
+        let open_now : open_of (events ++ e ∷ []) ≡ with_spent duration outer = ap (λ (s : Stacked). s.calls) stacked in
+        let pairs_now : timed_pairs (events ++ e ∷ []) ≡ pairs ++ pair ∷ [] = ap (λ (s : Stacked). s.pairs) stacked in
         let fewer : suc (length outer) ≤ length old.calls = omega (arith, from_shorter e.func old.calls, ap {B = ℕ} length found) in
         let its : (n - 1 < length paths) × (path_at paths (n - 1) ≡ call.path) = below n some (subst (λ (ps : List (List ℕ)). IsAt ps call.path n) (own.paths live) at) in
         subst (λ (t : Trie). StandsFor t (events ++ e ∷ [])) (sym is_new) (record {

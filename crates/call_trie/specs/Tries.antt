@@ -1,6 +1,6 @@
--- What a recorder keeps of the events of a thread: a live call trie. A history is the events so far, listed from the
--- last one to the first.
-use Rattle.std.specs.Prelude.{◌≡◌, ◌++◌, Bool, ℕ, suc, List, [], ◌∷◌, length, map, nat_lt, reverse, take, refl, if◌then◌else◌}
+-- What a recorder keeps of the events of a thread: a live call trie. The events are listed from the first one to the
+-- last.
+use Rattle.std.specs.Prelude.{◌≡◌, ◌&&◌, Bool, not, ℕ, suc, List, [], ◌∷◌, filter, length, map, nat_lt, reverse, take, refl, if◌then◌else◌}
 use Rattle.std.specs.List.{list_any, range_with_len}
 use Rattle.std.specs.Ordering.{is_eq}
 use mathlib.Core.Path.{◌∙◌}
@@ -8,8 +8,10 @@ use Rattle.fdr_record.specs.declared.event.Event.{Event}
 use Rattle.stack_rebuild.specs.declared.tally.Tally.{Tally}
 use Rattle.stack_rebuild.specs.Calls.{enters, open_calls}
 use Rattle.stack_rebuild.specs.OpenPaths.{OpenPath, open_of}
+use Rattle.stack_rebuild.specs.PairLaws.{event_at}
 use Rattle.stack_rebuild.specs.PathSums.{tally_of}
-use Rattle.stack_rebuild.specs.Stacks.{most_open, path_cmp, path_of, timed_pairs}
+use Rattle.stack_rebuild.specs.Stacks.{most_open, path_cmp, timed_pairs}
+use Rattle.stack_rebuild.specs.Weights.{entry_path}
 use Rattle.call_trie.specs.declared.state.TrieState.{TrieState}
 use Rattle.call_trie.specs.declared.state.TrieState.TheVariants.{Live, Full, Deep}
 
@@ -28,18 +30,21 @@ pub record Trie : Type 0 where
 abbrev pub is_among : List (List ℕ) → List ℕ → Bool
 is_among paths path = list_any (λ other. is_eq (path_cmp other path)) paths
 
--- paths and one more, unless it is among them
-abbrev pub with_path : List (List ℕ) → List ℕ → List (List ℕ)
-with_path paths path = if is_among paths path then paths else paths ++ path ∷ []
+-- whether the event at a position is an entry
+abbrev pub enters_at : List Event → ℕ → Bool
+enters_at events at = enters (event_at events at).kind
 
--- The distinct paths that the entries of a history opened, in the order in which they were first opened. An entry opens
--- the path of the call that is the innermost one after it.
-abbrev pub paths_in : List Event → List (List ℕ)
-paths_in [] = []
-paths_in (e ∷ before) = if enters e.kind then with_path (paths_in before) (path_of (open_calls (e ∷ before))) else paths_in before
+-- the paths that the entries before a position opened
+abbrev pub paths_before : List Event → ℕ → List (List ℕ)
+paths_before events end = map (entry_path events) (filter (enters_at events) (range_with_len 0 end))
 
+-- whether the event at a position is an entry that opens a path which no earlier one opened
+abbrev pub opens_first : List Event → ℕ → Bool
+opens_first events at = enters_at events at && not (is_among (paths_before events at) (entry_path events at))
+
+-- the paths that the entries of events opened, each once, in the order in which they were first opened
 abbrev pub paths_opened : List Event → List (List ℕ)
-paths_opened events = paths_in (reverse events)
+paths_opened events = map (entry_path events) (filter (opens_first events) (range_with_len 0 (length events)))
 
 -- ---- the state
 
