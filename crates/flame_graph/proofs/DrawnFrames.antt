@@ -9,7 +9,7 @@ use Rattle.flame_graph.specs.declared.frame.Calls.{Calls}
 use Rattle.flame_graph.specs.FlameText.{frame_text, func_of, line_text, top_of}
 use Rattle.flame_graph.specs.Frames.{calls_of, capped, end_of, total_of}
 use Rattle.flame_graph.specs.Picture.{is_drawn, least_width, left_of, levels_of, most_levels, width_of}
-use Rattle.flame_graph.proofs.FrameSpans.{span_within}
+use Rattle.flame_graph.proofs.FramePlaces.{span_within}
 
 pub too_long : (rows : List PathRow) (frame : List ℕ) → most_levels < length frame → is_drawn rows frame ≡ false
 too_long rows frame long = and_left (leb (length frame) most_levels) (leb least_width (width_of rows frame)) (lt-leb (length frame) most_levels long)

@@ -11,7 +11,7 @@ use Rattle.stack_rebuild.specs.Weights.{begins}
 use Rattle.flame_graph.specs.Frames.{frames, is_begun, prefixes}
 use Rattle.flame_graph.specs.Laws.{AreRowPrefixes, IsRowPrefix, NoneTwice}
 use Rattle.flame_graph.proofs.Orders.{begins_first, begins_more}
-use Rattle.flame_graph.proofs.NestedFrames.{begun_later}
+use Rattle.flame_graph.proofs.FrameSpans.{begun_later}
 
 -- ---- items of a list
 

@@ -1,13 +1,18 @@
 -- Where a frame begins and ends, by the rows before and after one of its rows.
-use Rattle.std.proofs.Common.{◌≡◌, ◌⊎◌, ◌∙◌, ◌≤◌, ◌+◌, Bool, true, false, cond, ℕ, List, [], ◌∷◌, ◌++◌, length, refl, ap, sym, subst, arith, inl, inr, eqb}
-use Rattle.std.specs.Prelude.{◌&&◌}
+use Rattle.std.proofs.Common.{◌≡◌, ◌⊎◌, ◌∙◌, ◌+◌, Bool, true, false, cond, ℕ, List, [], ◌∷◌, ◌++◌, length, refl, ap, sym, subst, arith, inl, inr, eqb}
+use Rattle.std.specs.Prelude.{◌&&◌, ◌||◌}
 use Rattle.std.specs.List.{AllByRecursion}
-use Rattle.std.proofs.lemmas.Bool.{and_from, and_left, and_parts, and_right, cases_Bool, cond-false, cond-true, eq-eqb, eqb-true, false≢true, or_parts}
-use Rattle.std.proofs.lemmas.List.Sums.{sum_by-cons, sum_by-le-sum_by}
+use Rattle.std.proofs.lemmas.Bool.{and_from, and_left, and_parts, and_right, cases_Bool, cond-false, cond-true, eq-eqb, eqb-true, false≢true, or_left, or_parts, or_right}
+use Rattle.std.proofs.lemmas.List.Sums.{sum_by-cons}
 use Rattle.stack_rebuild.specs.Stacks.{PathRow}
 use Rattle.stack_rebuild.specs.Weights.{begins, weight_of}
-use Rattle.flame_graph.specs.Frames.{Precedes, calls_in, calls_of, is_begun, is_frame, no_calls, own_sum, place_of}
+use Rattle.flame_graph.specs.Frames.{Precedes, calls_in, calls_of, is_begun, is_frame, no_calls, own_sum}
 use Rattle.flame_graph.proofs.Orders.{Ascends, IsBefore, between, no_prefix_after}
+
+-- the time of the rows before the first one whose path begins with a frame
+abbrev pub first_place : List PathRow → List ℕ → ℕ
+first_place [] frame = 0
+first_place (row ∷ later) frame = cond (begins frame row.path) 0 (row.own + first_place later frame)
 
 pub weight_more : (frame : List ℕ) (row : PathRow) (rows : List PathRow) → weight_of (row ∷ rows) frame ≡ cond (begins frame row.path) row.own 0 + weight_of rows frame
 weight_more frame row rows = sum_by-cons (λ (r : PathRow). cond (begins frame r.path) r.own 0) row rows
@@ -47,9 +52,9 @@ weight_all frame first (row ∷ before) last later after ascending begun ends no
 -- a frame ends with the last row that begins with it
 pub ends_at : (frame : List ℕ) (before : List PathRow) (last : PathRow) (later : List PathRow) → Ascends (before ++ last ∷ later)
     → begins frame last.path ≡ true → is_begun later frame ≡ false
-    → place_of (before ++ last ∷ later) frame + weight_of (before ++ last ∷ later) frame ≡ own_sum before + last.own
+    → first_place (before ++ last ∷ later) frame + weight_of (before ++ last ∷ later) frame ≡ own_sum before + last.own
 ends_at frame [] last later ascending ends none =
-    let place = cond-true (begins frame last.path) 0 (last.own + place_of later frame) ends in
+    let place = cond-true (begins frame last.path) 0 (last.own + first_place later frame) ends in
     let here = cond-true (begins frame last.path) last.own 0 ends in
     let rest = weight_none frame later none in
     let sums = weight_more frame last later in
@@ -57,17 +62,17 @@ ends_at frame [] last later ascending ends none =
 ends_at frame (row ∷ before) last later ascending ends none = by_test (begins frame row.path) refl (ends_at frame before last later ascending.1 ends none)
   where
     by_test : (t : Bool) → begins frame row.path ≡ t
-        → place_of (before ++ last ∷ later) frame + weight_of (before ++ last ∷ later) frame ≡ own_sum before + last.own
-        → cond (begins frame row.path) 0 (row.own + place_of (before ++ last ∷ later) frame) + weight_of (row ∷ before ++ last ∷ later) frame ≡ own_sum (row ∷ before) + last.own
+        → first_place (before ++ last ∷ later) frame + weight_of (before ++ last ∷ later) frame ≡ own_sum before + last.own
+        → cond (begins frame row.path) 0 (row.own + first_place (before ++ last ∷ later) frame) + weight_of (row ∷ before ++ last ∷ later) frame ≡ own_sum (row ∷ before) + last.own
     by_test true is again =
-        let place = cond-true (begins frame row.path) 0 (row.own + place_of (before ++ last ∷ later) frame) is in
+        let place = cond-true (begins frame row.path) 0 (row.own + first_place (before ++ last ∷ later) frame) is in
         let here = cond-true (begins frame row.path) row.own 0 is in
         let rest = weight_all frame row before last later ascending.0 ascending.1 is ends none in
         let sums = weight_more frame row (before ++ last ∷ later) in
         let owns = own_more row before in
         omega (arith, place, here, rest, sums, owns)
     by_test false is again =
-        let place = cond-false (begins frame row.path) 0 (row.own + place_of (before ++ last ∷ later) frame) is in
+        let place = cond-false (begins frame row.path) 0 (row.own + first_place (before ++ last ∷ later) frame) is in
         let here = cond-false (begins frame row.path) row.own 0 is in
         let rest = again in
         let sums = weight_more frame row (before ++ last ∷ later) in
@@ -76,11 +81,11 @@ ends_at frame (row ∷ before) last later ascending ends none = by_test (begins 
 
 -- a frame begins with the first row that begins with it
 pub starts_at : (frame : List ℕ) (before : List PathRow) (first : PathRow) (later : List PathRow) → is_begun before frame ≡ false → begins frame first.path ≡ true
-    → place_of (before ++ first ∷ later) frame ≡ own_sum before
-starts_at frame [] first later none begun = cond-true (begins frame first.path) 0 (first.own + place_of later frame) begun
+    → first_place (before ++ first ∷ later) frame ≡ own_sum before
+starts_at frame [] first later none begun = cond-true (begins frame first.path) 0 (first.own + first_place later frame) begun
 starts_at frame (row ∷ before) first later none begun =
     let parts = or_parts (begins frame row.path) (is_begun before frame) none in
-    let place = cond-false (begins frame row.path) 0 (row.own + place_of (before ++ first ∷ later) frame) parts.0 in
+    let place = cond-false (begins frame row.path) 0 (row.own + first_place (before ++ first ∷ later) frame) parts.0 in
     let rest = starts_at frame before first later parts.1 begun in
     let owns = own_more row before in
     omega (arith, place, rest, owns)
@@ -128,30 +133,14 @@ calls_at frame (row ∷ before) first later ascending none begun =
     cond-false (is_frame frame row.path) (calls_in row) (calls_of (before ++ first ∷ later) frame) (and_left (begins frame row.path) (eqb (length row.path) (length frame)) parts.0)
     ∙ calls_at frame before first later ascending.1 parts.1 begun
 
--- ---- all rows
+-- ---- rows that begin with a frame
 
-weight_within : (frame : List ℕ) (rows : List PathRow) → weight_of rows frame ≤ own_sum rows
-weight_within frame rows = sum_by-le-sum_by (λ (r : PathRow). cond (begins frame r.path) r.own 0) (λ (r : PathRow). r.own) rows (λ r. at_most (begins frame r.path) r.own)
-  where
-    at_most : (t : Bool) (n : ℕ) → cond t n 0 ≤ n
-    at_most true n = omega arith
-    at_most false n = omega arith
+-- if the first row of several doesn't begin with a frame, but some do, a later one does
+pub begun_later : (frame : List ℕ) (row : PathRow) (rows : List PathRow) → begins frame row.path ≡ false → is_begun (row ∷ rows) frame ≡ true → is_begun rows frame ≡ true
+begun_later frame row rows misses some = sym (ap (λ (t : Bool). t || is_begun rows frame) misses) ∙ some
 
--- a frame ends within them
-pub span_within : (frame : List ℕ) (rows : List PathRow) → place_of rows frame + weight_of rows frame ≤ own_sum rows
-span_within frame [] = omega arith
-span_within frame (row ∷ rows) = by_test (begins frame row.path) refl (span_within frame rows)
-  where
-    by_test : (t : Bool) → begins frame row.path ≡ t → place_of rows frame + weight_of rows frame ≤ own_sum rows
-        → cond (begins frame row.path) 0 (row.own + place_of rows frame) + weight_of (row ∷ rows) frame ≤ own_sum (row ∷ rows)
-    by_test true is again =
-        let place = cond-true (begins frame row.path) 0 (row.own + place_of rows frame) is in
-        let rest = weight_within frame (row ∷ rows) in
-        omega (arith, place, rest)
-    by_test false is again =
-        let place = cond-false (begins frame row.path) 0 (row.own + place_of rows frame) is in
-        let here = cond-false (begins frame row.path) row.own 0 is in
-        let rest = again in
-        let sums = weight_more frame row rows in
-        let owns = own_more row rows in
-        omega (arith, place, here, rest, sums, owns)
+-- one of several rows begins with a frame
+pub begun_in : (frame : List ℕ) (before : List PathRow) (first : PathRow) (later : List PathRow) → begins frame first.path ≡ true
+    → is_begun (before ++ first ∷ later) frame ≡ true
+begun_in frame [] first later begun = or_left (begins frame first.path) (is_begun later frame) begun
+begun_in frame (row ∷ before) first later begun = or_right (begins frame row.path) (is_begun (before ++ first ∷ later) frame) (begun_in frame before first later begun)

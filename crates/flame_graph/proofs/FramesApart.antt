@@ -5,12 +5,13 @@ use Rattle.std.proofs.lemmas.Bool.{cases_Bool, cond-false, cond-true, false≢tr
 use Rattle.stack_rebuild.specs.Stacks.{PathRow}
 use Rattle.stack_rebuild.proofs.Items.{IsIn, Pairwise}
 use Rattle.stack_rebuild.specs.Weights.{begins, weight_of}
-use Rattle.flame_graph.specs.Frames.{AreStacks, Precedes, end_of, frames, is_begun, place_of, prefixes, start_of, total_of}
+use Rattle.flame_graph.specs.Frames.{AreStacks, Precedes, end_of, frames, is_begun, prefixes, start_of, total_of}
 use Rattle.flame_graph.specs.Laws.{IsLeftOf, NoneOverlap}
 use Rattle.flame_graph.proofs.Orders.{Ascends, IsBefore, ascends, begins_first}
-use Rattle.flame_graph.proofs.FrameSpans.{weight_more, weight_none}
+use Rattle.flame_graph.proofs.FrameSpans.{begun_later, first_place, weight_more, weight_none}
 use Rattle.flame_graph.proofs.FramePrefixes.{all_pairs, filter_in, frame_begun, pairwise_append, pairwise_filter, pairwise_weaker, prefix_begins, prefixes_grow}
-use Rattle.flame_graph.proofs.NestedFrames.{begun_later, left_le_right}
+use Rattle.flame_graph.proofs.FramePlaces.{place_first}
+use Rattle.flame_graph.proofs.NestedFrames.{left_le_right}
 use Rattle.flame_graph.proofs.Scales.{thousandths_le}
 
 -- ---- prefixes of two paths
@@ -113,7 +114,7 @@ none_after a b row rows after same before begun some = by_test (cases_Bool (begi
     ]
 
 -- an earlier frame weighs at most what is before a later one
-weight_before : (a b : List ℕ) (rows : List PathRow) → Ascends rows → length a ≡ length b → Precedes a b → weight_of rows a ≤ place_of rows b
+weight_before : (a b : List ℕ) (rows : List PathRow) → Ascends rows → length a ≡ length b → Precedes a b → weight_of rows a ≤ first_place rows b
 weight_before a b [] ascending same before = omega arith
 weight_before a b (row ∷ rows) ascending same before = by_test (cases_Bool (begins b row.path)) (cases_Bool (is_begun (row ∷ rows) a)) (weight_before a b rows ascending.1 same before)
   where
@@ -122,32 +123,32 @@ weight_before a b (row ∷ rows) ascending same before = by_test (cases_Bool (be
     at_most false n = omega arith
 
     by_test : (begins b row.path ≡ true) ⊎ (begins b row.path ≡ false) → (is_begun (row ∷ rows) a ≡ true) ⊎ (is_begun (row ∷ rows) a ≡ false)
-        → weight_of rows a ≤ place_of rows b → weight_of (row ∷ rows) a ≤ place_of (row ∷ rows) b
+        → weight_of rows a ≤ first_place rows b → weight_of (row ∷ rows) a ≤ first_place (row ∷ rows) b
     by_test (inl begun) (inl some) again = absurd (none_after a b row rows ascending.0 same before begun some)
     by_test (inl begun) (inr none) again = let nothing = weight_none a (row ∷ rows) none in omega (arith, nothing)
     by_test (inr misses) some again =
-        let place = cond-false (begins b row.path) 0 (row.own + place_of rows b) misses in
+        let place = cond-false (begins b row.path) 0 (row.own + first_place rows b) misses in
         let weight = weight_more a row rows in
         let most = at_most (begins a row.path) row.own in
         omega (arith, place, weight, most, again)
 
 -- and it ends there
 ends_before : (a b : List ℕ) (rows : List PathRow) → Ascends rows → length a ≡ length b → Precedes a b → is_begun rows a ≡ true
-    → place_of rows a + weight_of rows a ≤ place_of rows b
+    → first_place rows a + weight_of rows a ≤ first_place rows b
 ends_before a b [] ascending same before some = absurd (false≢true some)
 ends_before a b (row ∷ rows) ascending same before some =
     by_test (cases_Bool (begins b row.path)) (cases_Bool (begins a row.path)) (λ later. ends_before a b rows ascending.1 same before later)
   where
     by_test : (begins b row.path ≡ true) ⊎ (begins b row.path ≡ false) → (begins a row.path ≡ true) ⊎ (begins a row.path ≡ false)
-        → (is_begun rows a ≡ true → place_of rows a + weight_of rows a ≤ place_of rows b) → place_of (row ∷ rows) a + weight_of (row ∷ rows) a ≤ place_of (row ∷ rows) b
+        → (is_begun rows a ≡ true → first_place rows a + weight_of rows a ≤ first_place rows b) → first_place (row ∷ rows) a + weight_of (row ∷ rows) a ≤ first_place (row ∷ rows) b
     by_test (inl begun) here again = absurd (none_after a b row rows ascending.0 same before begun some)
     by_test (inr misses) (inl is) again =
-        let place = cond-true (begins a row.path) 0 (row.own + place_of rows a) is in
+        let place = cond-true (begins a row.path) 0 (row.own + first_place rows a) is in
         let less = weight_before a b (row ∷ rows) ascending same before in
         omega (arith, place, less)
     by_test (inr misses) (inr nor) again =
-        let other = cond-false (begins b row.path) 0 (row.own + place_of rows b) misses in
-        let place = cond-false (begins a row.path) 0 (row.own + place_of rows a) nor in
+        let other = cond-false (begins b row.path) 0 (row.own + first_place rows b) misses in
+        let place = cond-false (begins a row.path) 0 (row.own + first_place rows a) nor in
         let none = cond-false (begins a row.path) row.own 0 nor in
         let weight = weight_more a row rows in
         let rest = again (begun_later a row rows nor some) in
@@ -155,17 +156,19 @@ ends_before a b (row ∷ rows) ascending same before some =
 
 -- ---- in thousandths of a pixel
 
-is_left : (rows : List PathRow) (a b : List ℕ) → Ascends rows → is_begun rows a ≡ true → Ordered a b → IsLeftOf rows a b
-is_left rows a b ascending some ordered same =
+is_left : (rows : List PathRow) (a b : List ℕ) → Ascends rows → is_begun rows a ≡ true → is_begun rows b ≡ true → Ordered a b → IsLeftOf rows a b
+is_left rows a b ascending some other ordered same =
     let ends = ends_before a b rows ascending same (ordered same) some in
-    let one = thousandths_le (total_of rows) (end_of rows a) (start_of rows b) (omega (arith, ends)) in
+    let first = place_first a rows ascending some in
+    let second = place_first b rows ascending other in
+    let one = thousandths_le (total_of rows) (end_of rows a) (start_of rows b) (omega (arith, ends, first, second)) in
     let own = left_le_right rows a in
     omega (arith, one, own)
 
 left_each : (rows : List PathRow) (all : List (List ℕ)) → Ascends rows → ((frame : List ℕ) → IsIn frame all → is_begun rows frame ≡ true) → Pairwise Ordered all → Pairwise (IsLeftOf rows) all
 left_each rows [] ascending begun each = tt
 left_each rows (frame ∷ all) ascending begun each =
-    (λ later is. is_left rows frame later ascending (begun frame (inl refl)) (each.0 later is), left_each rows all ascending (λ x is. begun x (inr is)) each.1)
+    (λ later is. is_left rows frame later ascending (begun frame (inl refl)) (begun later (inr is)) (each.0 later is), left_each rows all ascending (λ x is. begun x (inr is)) each.1)
 
 pub none_overlap : (rows : List PathRow) → AreStacks rows → NoneOverlap rows
 none_overlap rows stacks =

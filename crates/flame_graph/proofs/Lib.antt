@@ -4,6 +4,7 @@ pub mod Rows
 pub mod Measures
 pub mod Orders
 pub mod FrameSpans
+pub mod FramePlaces
 pub mod OpenFrames
 pub mod Openings
 pub mod DrawnFrames
@@ -16,7 +17,6 @@ pub mod NameEscapes
 -- lowest row adds up to the whole (src/laws.rt)
 pub mod NestedFrames
 pub mod FramePrefixes
-pub mod FramePlaces
 pub mod FrameSums
 pub mod FramesApart
 pub mod LowestRow

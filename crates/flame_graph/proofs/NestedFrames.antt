@@ -1,18 +1,19 @@
 -- No frame sticks out of one that it begins with.
-use Rattle.std.proofs.Common.{◌≡◌, ◌⊎◌, ◌∙◌, ◌≤◌, ◌+◌, ◌-◌, Bool, true, false, cond, ℕ, List, [], ◌∷◌, filter, length, not, refl, ap, sym, arith, inl, inr}
-use Rattle.std.specs.Prelude.{◌||◌, All}
+use Rattle.std.proofs.Common.{◌≡◌, ◌⊎◌, ◌∙◌, ◌≤◌, ◌+◌, ◌-◌, true, false, cond, ℕ, List, [], ◌∷◌, filter, length, not, refl, sym, arith, inl, inr}
+use Rattle.std.specs.Prelude.{All}
 use Rattle.std.specs.List.{AllByRecursion}
 use Rattle.std.proofs.lemmas.Bool.{cases_Bool, cond-false, cond-true, false≢true, false_from_ne_true, or_left, or_right}
 use Rattle.std.proofs.lemmas.List.Elements.{All-append, All-cons, All-filter, All-map, All-nil, All-weaker}
 use Rattle.std.proofs.lemmas.List.Sums.{sum_by-le-sum_by}
 use Rattle.stack_rebuild.specs.Stacks.{PathRow}
 use Rattle.stack_rebuild.specs.Weights.{begins, weight_of}
-use Rattle.flame_graph.specs.Frames.{AreStacks, prefixes, end_of, frames, is_begun, place_of, start_of, total_of}
+use Rattle.flame_graph.specs.Frames.{AreStacks, prefixes, end_of, frames, is_begun, start_of, total_of}
 use Rattle.flame_graph.specs.Laws.{IsWithin, NoneSticksOut, below}
 use Rattle.flame_graph.specs.Picture.{left_of, right_of}
 use Rattle.flame_graph.proofs.Orders.{Ascends, IsBefore, ascends, begins_first, begins_more, begins_take, between}
 use Rattle.flame_graph.proofs.Scales.{thousandths_le}
-use Rattle.flame_graph.proofs.FrameSpans.{weight_more}
+use Rattle.flame_graph.proofs.FrameSpans.{begun_later, first_place, weight_more}
+use Rattle.flame_graph.proofs.FramePlaces.{place_first}
 
 -- ---- which paths begin with a frame and with an outer one
 
@@ -24,10 +25,6 @@ begins_both (g ∷ outer) (f ∷ frame) (h ∷ path) on is =
     let first = begins_first g f outer frame on in
     let second = begins_first f h frame path is in
     begins_more g h outer path (first.0 ∙ second.0) (begins_both outer frame path first.1 second.1)
-
--- if the first row of several doesn't begin with a frame, but some do, a later one does
-pub begun_later : (frame : List ℕ) (row : PathRow) (rows : List PathRow) → begins frame row.path ≡ false → is_begun (row ∷ rows) frame ≡ true → is_begun rows frame ≡ true
-begun_later frame row rows misses some = sym (ap (λ (t : Bool). t || is_begun rows frame) misses) ∙ some
 
 begun_outer : (outer frame : List ℕ) (rows : List PathRow) → begins outer frame ≡ true → is_begun rows frame ≡ true → is_begun rows outer ≡ true
 begun_outer outer frame [] on some = absurd (false≢true some)
@@ -63,20 +60,20 @@ weight_le outer frame rows on =
 
 -- after a row that begins with an outer frame, a frame ends within it
 ends_within : (outer frame : List ℕ) (row : PathRow) (rows : List PathRow) → begins outer frame ≡ true → begins outer row.path ≡ true
-    → AllByRecursion (IsBefore row) rows → Ascends rows → is_begun rows frame ≡ true → place_of rows frame + weight_of rows frame ≤ weight_of rows outer
+    → AllByRecursion (IsBefore row) rows → Ascends rows → is_begun rows frame ≡ true → first_place rows frame + weight_of rows frame ≤ weight_of rows outer
 ends_within outer frame row [] on begun after ascending some = absurd (false≢true some)
 ends_within outer frame row (next ∷ rows) on begun after ascending some =
     by_test (cases_Bool (begins frame next.path)) (λ rest. ends_within outer frame row rows on begun after.1 ascending.1 rest)
   where
-    by_test : (begins frame next.path ≡ true) ⊎ (begins frame next.path ≡ false) → (is_begun rows frame ≡ true → place_of rows frame + weight_of rows frame ≤ weight_of rows outer)
-        → place_of (next ∷ rows) frame + weight_of (next ∷ rows) frame ≤ weight_of (next ∷ rows) outer
+    by_test : (begins frame next.path ≡ true) ⊎ (begins frame next.path ≡ false) → (is_begun rows frame ≡ true → first_place rows frame + weight_of rows frame ≤ weight_of rows outer)
+        → first_place (next ∷ rows) frame + weight_of (next ∷ rows) frame ≤ weight_of (next ∷ rows) outer
     by_test (inl is) again =
-        let place = cond-true (begins frame next.path) 0 (next.own + place_of rows frame) is in
+        let place = cond-true (begins frame next.path) 0 (next.own + first_place rows frame) is in
         let less = weight_le outer frame (next ∷ rows) on in
         omega (arith, place, less)
     by_test (inr misses) again =
         let later = begun_later frame next rows misses some in
-        let place = cond-false (begins frame next.path) 0 (next.own + place_of rows frame) misses in
+        let place = cond-false (begins frame next.path) 0 (next.own + first_place rows frame) misses in
         let none = cond-false (begins frame next.path) next.own 0 misses in
         let weight = weight_more frame next rows in
         let here = cond-true (begins outer next.path) next.own 0 (begins_between outer row next rows after.0 ascending.0 begun (begun_outer outer frame rows on later)) in
@@ -85,35 +82,35 @@ ends_within outer frame row (next ∷ rows) on begun after ascending some =
         omega (arith, place, none, weight, here, whole, rest)
 
 -- a frame begins no earlier than an outer one
-pub starts_within : (outer frame : List ℕ) (rows : List PathRow) → begins outer frame ≡ true → place_of rows outer ≤ place_of rows frame
+pub starts_within : (outer frame : List ℕ) (rows : List PathRow) → begins outer frame ≡ true → first_place rows outer ≤ first_place rows frame
 starts_within outer frame [] on = omega arith
 starts_within outer frame (row ∷ rows) on = by_test (cases_Bool (begins outer row.path)) (starts_within outer frame rows on)
   where
-    by_test : (begins outer row.path ≡ true) ⊎ (begins outer row.path ≡ false) → place_of rows outer ≤ place_of rows frame → place_of (row ∷ rows) outer ≤ place_of (row ∷ rows) frame
-    by_test (inl is) again = let place = cond-true (begins outer row.path) 0 (row.own + place_of rows outer) is in omega (arith, place)
+    by_test : (begins outer row.path ≡ true) ⊎ (begins outer row.path ≡ false) → first_place rows outer ≤ first_place rows frame → first_place (row ∷ rows) outer ≤ first_place (row ∷ rows) frame
+    by_test (inl is) again = let place = cond-true (begins outer row.path) 0 (row.own + first_place rows outer) is in omega (arith, place)
     by_test (inr misses) again =
         let none = false_from_ne_true (begins frame row.path) (λ is. false≢true (sym misses ∙ begins_both outer frame row.path on is)) in
-        let place = cond-false (begins outer row.path) 0 (row.own + place_of rows outer) misses in
-        let other = cond-false (begins frame row.path) 0 (row.own + place_of rows frame) none in
+        let place = cond-false (begins outer row.path) 0 (row.own + first_place rows outer) misses in
+        let other = cond-false (begins frame row.path) 0 (row.own + first_place rows frame) none in
         omega (arith, place, other, again)
 
 -- and it ends no later
 pub frame_within : (outer frame : List ℕ) (rows : List PathRow) → begins outer frame ≡ true → Ascends rows → is_begun rows frame ≡ true
-    → place_of rows frame + weight_of rows frame ≤ place_of rows outer + weight_of rows outer
+    → first_place rows frame + weight_of rows frame ≤ first_place rows outer + weight_of rows outer
 frame_within outer frame [] on ascending some = absurd (false≢true some)
 frame_within outer frame (row ∷ rows) on ascending some =
     by_tests (cases_Bool (begins frame row.path)) (cases_Bool (begins outer row.path)) (λ rest. frame_within outer frame rows on ascending.1 rest)
   where
     by_tests : (begins frame row.path ≡ true) ⊎ (begins frame row.path ≡ false) → (begins outer row.path ≡ true) ⊎ (begins outer row.path ≡ false)
-        → (is_begun rows frame ≡ true → place_of rows frame + weight_of rows frame ≤ place_of rows outer + weight_of rows outer)
-        → place_of (row ∷ rows) frame + weight_of (row ∷ rows) frame ≤ place_of (row ∷ rows) outer + weight_of (row ∷ rows) outer
+        → (is_begun rows frame ≡ true → first_place rows frame + weight_of rows frame ≤ first_place rows outer + weight_of rows outer)
+        → first_place (row ∷ rows) frame + weight_of (row ∷ rows) frame ≤ first_place (row ∷ rows) outer + weight_of (row ∷ rows) outer
     by_tests (inl is) begun again =
-        let place = cond-true (begins frame row.path) 0 (row.own + place_of rows frame) is in
+        let place = cond-true (begins frame row.path) 0 (row.own + first_place rows frame) is in
         let less = weight_le outer frame (row ∷ rows) on in
         omega (arith, place, less)
     by_tests (inr misses) (inl begun) again =
         let later = begun_later frame row rows misses some in
-        let place = cond-false (begins frame row.path) 0 (row.own + place_of rows frame) misses in
+        let place = cond-false (begins frame row.path) 0 (row.own + first_place rows frame) misses in
         let none = cond-false (begins frame row.path) row.own 0 misses in
         let weight = weight_more frame row rows in
         let here = cond-true (begins outer row.path) row.own 0 begun in
@@ -121,10 +118,10 @@ frame_within outer frame (row ∷ rows) on ascending some =
         let rest = ends_within outer frame row rows on begun ascending.0 ascending.1 later in
         omega (arith, place, none, weight, here, whole, rest)
     by_tests (inr misses) (inr nor) again =
-        let place = cond-false (begins frame row.path) 0 (row.own + place_of rows frame) misses in
+        let place = cond-false (begins frame row.path) 0 (row.own + first_place rows frame) misses in
         let none = cond-false (begins frame row.path) row.own 0 misses in
         let weight = weight_more frame row rows in
-        let other = cond-false (begins outer row.path) 0 (row.own + place_of rows outer) nor in
+        let other = cond-false (begins outer row.path) 0 (row.own + first_place rows outer) nor in
         let neither = cond-false (begins outer row.path) row.own 0 nor in
         let whole = weight_more outer row rows in
         let rest = again (begun_later frame row rows misses some) in
@@ -139,8 +136,10 @@ is_within : (rows : List PathRow) (frame outer : List ℕ) → Ascends rows → 
 is_within rows frame outer ascending on some =
     let starts = starts_within outer frame rows on in
     let ends = frame_within outer frame rows on ascending some in
-    let lefts = thousandths_le (total_of rows) (start_of rows outer) (start_of rows frame) (omega (arith, starts)) in
-    let rights = thousandths_le (total_of rows) (end_of rows frame) (end_of rows outer) (omega (arith, ends)) in
+    let own = place_first frame rows ascending some in
+    let its = place_first outer rows ascending (begun_outer outer frame rows on some) in
+    let lefts = thousandths_le (total_of rows) (start_of rows outer) (start_of rows frame) (omega (arith, starts, own, its)) in
+    let rights = thousandths_le (total_of rows) (end_of rows frame) (end_of rows outer) (omega (arith, ends, own, its)) in
     let one = left_le_right rows frame in
     let other = left_le_right rows outer in
     record { left = lefts; right = omega (arith, lefts, rights, one, other) }

@@ -13,7 +13,8 @@ use Rattle.flame_graph.specs.private.Walking.{AreKept, IsKept, IsOpen, Opening, 
 use Rattle.flame_graph.specs.declared.frame.Openings.{Openings}
 use Rattle.flame_graph.specs.declared.walk.Walk.{Walk}
 use Rattle.flame_graph.proofs.Orders.{Ascends, IsBefore, begins_take, between, same_shared, shared_comm, shared_within, shares, shares_not}
-use Rattle.flame_graph.proofs.FrameSpans.{calls_at, ends_at, starts_at}
+use Rattle.flame_graph.proofs.FrameSpans.{begun_in, calls_at, ends_at, first_place}
+use Rattle.flame_graph.proofs.FramePlaces.{place_at, place_first}
 
 -- ---- rows by their positions
 
@@ -188,8 +189,8 @@ opens_at rows at n ascending within new few = record {
   where
     place_is : place_of rows (take (suc n) (path_at rows at)) ≡ own_sum (take at rows)
     place_is =
-        ap (λ (rs : List PathRow). place_of rs (take (suc n) (path_at rows at))) (split_at rows at no_row within)
-        ∙ starts_at (take (suc n) (path_at rows at)) (take at rows) (get_or rows at no_row) (drop (suc at) rows) (is_new rows at n ascending within new few) (begins_row rows at n within)
+        place_at rows (take (suc n) (path_at rows at)) (take at rows) (get_or rows at no_row) (drop (suc at) rows) ascending (split_at rows at no_row within)
+        (is_new rows at n ascending within new few) (begins_row rows at n within)
 
     calls_are : calls_of rows (take (suc n) (path_at rows at)) ≡ calls_by (get_or rows at no_row) (length (take (suc n) (path_at rows at)))
     calls_are =
@@ -206,8 +207,12 @@ own_next rows at d within =
 pub closes_at : (rows : List PathRow) (at n : ℕ) → Ascends rows → at < length rows → shared_at rows (suc at) ≤ n → n < length (path_at rows at)
     → end_of rows (take (suc n) (path_at rows at)) ≡ capped (own_sum (take (suc at) rows))
 closes_at rows at n ascending within over few =
-    ap capped
-    (ap (λ (rs : List PathRow). place_of rs (take (suc n) (path_at rows at)) + weight_of rs (take (suc n) (path_at rows at))) (split_at rows at no_row within)
+    ap (λ (place : ℕ). capped (place + weight_of rows (take (suc n) (path_at rows at))))
+    (place_first (take (suc n) (path_at rows at)) rows ascending
+    (ap (λ (rs : List PathRow). is_begun rs (take (suc n) (path_at rows at))) (split_at rows at no_row within)
+    ∙ begun_in (take (suc n) (path_at rows at)) (take at rows) (get_or rows at no_row) (drop (suc at) rows) (begins_row rows at n within)))
+    ∙ ap capped
+    (ap (λ (rs : List PathRow). first_place rs (take (suc n) (path_at rows at)) + weight_of rs (take (suc n) (path_at rows at))) (split_at rows at no_row within)
     ∙ ends_at (take (suc n) (path_at rows at)) (take at rows) (get_or rows at no_row) (drop (suc at) rows) (subst Ascends (split_at rows at no_row within) ascending)
     (begins_row rows at n within) (is_over rows at n ascending within over few)
     ∙ sym (own_next rows at no_row within))

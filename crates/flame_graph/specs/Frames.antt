@@ -1,7 +1,8 @@
 -- The frames of a flame graph. A frame is a path, which is listed from its outermost function, as the paths of rows are.
 use Rattle.std.specs.Prelude.{◌+◌, ◌-◌, ◌^◌, ◌<◌, ◌==◌, ◌&&◌, ◌≡◌, ◌⊎◌, All, Bool, not, ℕ, List, [], ◌∷◌, ◌++◌, length, map, filter, min, sum_by, if◌then◌else◌}
 use Rattle.std.specs.List.{AllPairs, list_any}
-use Rattle.stack_rebuild.specs.Stacks.{PathRow}
+use Rattle.std.specs.Ordering.{is_lt}
+use Rattle.stack_rebuild.specs.Stacks.{PathRow, path_cmp}
 use Rattle.stack_rebuild.specs.Weights.{begins, weight_of}
 use Rattle.flame_graph.specs.declared.frame.Calls.{Calls}
 
@@ -45,10 +46,9 @@ frames (row ∷ later) = filter (λ frame. not (is_begun later frame)) (prefixes
 abbrev pub own_sum : List PathRow → ℕ
 own_sum rows = sum_by (λ row. row.own) rows
 
--- the place of a frame: this time, of the rows before the first one whose path begins with it
+-- the place of a frame: this time, of the rows whose paths come before it, as lists of numbers
 abbrev pub place_of : List PathRow → List ℕ → ℕ
-place_of [] frame = 0
-place_of (row ∷ later) frame = if begins frame row.path then 0 else row.own + place_of later frame
+place_of rows frame = sum_by (λ row. if is_lt (path_cmp row.path frame) then row.own else 0) rows
 
 -- Sums stop at 2^128 - 1. No trace of fewer than 2^64 bytes has a greater one.
 abbrev pub capped : ℕ → ℕ

@@ -1,13 +1,12 @@
 -- What is true of every flame graph. Lengths are in thousandths of a pixel, as they are printed.
-use Rattle.std.specs.Prelude.{◌≡◌, ◌≢◌, ◌⊎◌, ◌↔◌, ◌+◌, ◌-◌, ◌<◌, ◌≤◌, ◌==◌, ◌&&◌, ◌||◌, All, Bool, IsTrue, not, ℕ, List, ◌∷◌, ◌++◌, codes, length, nat_le, take, filter, sum_by, Contains, if◌then◌else◌}
+use Rattle.std.specs.Prelude.{◌≡◌, ◌≢◌, ◌⊎◌, ◌↔◌, ◌+◌, ◌-◌, ◌<◌, ◌≤◌, ◌==◌, ◌&&◌, ◌||◌, All, Bool, IsTrue, false, true, not, ℕ, List, ◌∷◌, ◌++◌, codes, length, nat_le, take, filter, sum_by, Contains}
 use Rattle.std.specs.List.{AllPairs}
-use Rattle.std.specs.Ordering.{is_lt}
 use Rattle.std.specs.Str.{IsUtf8}
 use Rattle.fdr_record.specs.declared.event.Event.{Event}
-use Rattle.stack_rebuild.specs.Stacks.{PathRow, path_cmp, stack_of_threads}
-use Rattle.stack_rebuild.specs.Weights.{IsAllTimed, left_over, overrun, weight_of}
+use Rattle.stack_rebuild.specs.Stacks.{PathRow, stack_of_threads}
+use Rattle.stack_rebuild.specs.Weights.{IsAllTimed, begins, left_over, overrun, weight_of}
 use Rattle.flame_graph.specs.FlameText.{shortened, xml_text}
-use Rattle.flame_graph.specs.Frames.{calls_of, frames, own_sum, place_of}
+use Rattle.flame_graph.specs.Frames.{calls_of, frames, is_begun, own_sum, place_of}
 use Rattle.flame_graph.specs.Picture.{across, left_of, width_of}
 
 -- ---- which frames there are
@@ -30,13 +29,11 @@ NoneTwice rows = AllPairs (λ frame later. frame ≢ later) (frames rows)
 
 -- ---- where they begin
 
--- the time of the rows whose paths come before a frame, as lists of numbers
-abbrev pub time_before : List PathRow → List ℕ → ℕ
-time_before rows frame = sum_by (λ row. if is_lt (path_cmp row.path frame) then row.own else 0) rows
-
--- the place of each frame is this time
-abbrev pub PlacesAreSums : List PathRow → Type 0
-PlacesAreSums rows = All (λ frame. place_of rows frame ≡ time_before rows frame) (frames rows)
+-- the place of a frame is the time of the rows that stand before the first one whose path begins with it
+abbrev pub BeginsAtItsRows : List PathRow → List ℕ → Type 0
+BeginsAtItsRows rows frame =
+    (before later : List PathRow) (first : PathRow) → rows ≡ before ++ first ∷ later → is_begun before frame ≡ false → begins frame first.path ≡ true
+    → place_of rows frame ≡ own_sum before
 
 -- ---- how wide they are
 

@@ -4,7 +4,7 @@ ghost use Rattle.std.specs.Prelude.{ℕ, List};
 ghost use Rattle.fdr_file.specs.declared.trace.Block.{Block};
 ghost use Rattle.fdr_record.specs.declared.event.Event.{Event};
 ghost use Rattle.stack_rebuild.specs.Stacks.{PathRow, stack_of, stack_of_threads};
-ghost use Rattle.flame_graph.specs.{Frames.{AreStacks}, Laws.{AreRowPrefixes, LowestAddUp, NamesAreEscaped, NamesAreText, NoneOverlap, NoneSticksOut, NoneTwice, PlacesAreSums, WeighsItsCalls, WeighsItsSum}};
+ghost use Rattle.flame_graph.specs.{Frames.{AreStacks}, Laws.{AreRowPrefixes, BeginsAtItsRows, LowestAddUp, NamesAreEscaped, NamesAreText, NoneOverlap, NoneSticksOut, NoneTwice, WeighsItsCalls, WeighsItsSum}};
 
 /// The stacks of blocks are in ascending order of their paths, each path once and with a function.
 /// So a flame graph can be drawn of them.
@@ -24,10 +24,11 @@ pub fn each_prefix_is_a_frame_once()
     ensures once { (rows : List PathRow) → NoneTwice rows }
 {}
 
-/// The place of each frame is the time that was spent in the calls themselves of the rows whose paths
-/// come before it, in the order of paths.
+/// The place of a frame is the time that was spent in the calls themselves of the rows that stand
+/// before the first one whose path begins with it. So the frames of a row begin where the rows before
+/// it end, unless an earlier row begins with them.
 pub fn a_frame_begins_after_the_rows_before_it()
-    ensures { (rows : List PathRow) → AreStacks rows → PlacesAreSums rows }
+    ensures { (rows : List PathRow) (frame : List ℕ) → AreStacks rows → BeginsAtItsRows rows frame }
 {}
 
 /// A frame weighs as much as the `sum` that is shown of it, and the time that is in no sum: that of the

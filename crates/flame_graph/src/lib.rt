@@ -19,7 +19,8 @@ mod walk;
 pub use flame::{FlameGraph, write_flame_graph};
 pub use frame::Calls;
 pub use laws::{
-    a_frame_begins_after_the_rows_before_it, each_prefix_is_a_frame_once,
-    frames_of_a_height_are_apart, names_are_escaped, names_are_text, no_frame_sticks_out,
-    stacks_can_be_drawn, stacks_of_threads_can_be_drawn, the_lowest_frames_add_up,
+    a_frame_begins_after_the_rows_before_it, a_frame_weighs_the_sum_that_is_shown,
+    each_prefix_is_a_frame_once, frames_of_a_height_are_apart, names_are_escaped, names_are_text,
+    no_frame_sticks_out, stacks_can_be_drawn, stacks_of_threads_can_be_drawn,
+    the_lowest_frames_add_up,
 };

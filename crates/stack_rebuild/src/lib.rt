@@ -30,6 +30,7 @@ pub use call::{Call, Pair};
 pub use calls::ThreadCalls;
 pub use fold::{MOST_OPEN, StackFold};
 pub use laws::{
+    a_path_weighs_its_sum_and_what_is_in_no_sum, a_path_whose_calls_are_all_timed_weighs_its_sum,
     a_thread_goes_on, a_thread_makes_its_own_pairs, an_exit_ends_an_open_call,
     each_exit_ends_one_call, each_pair_is_a_whole_call, pairs_nest_or_are_apart,
     stacks_are_of_threads,

@@ -1,5 +1,5 @@
-use Rattle.flame_graph.proofs.FramePlaces.{places_are_sums}
+use Rattle.flame_graph.proofs.FramePlaces.{begins_at_its_rows}
 use Rattle.flame_graph.proofs.laws.a_frame_begins_after_the_rows_before_it.Goals as goal
 
 pub returns : goal.returns
-returns c = places_are_sums
+returns c = begins_at_its_rows
