@@ -6,8 +6,9 @@ ghost use Rattle.fdr_buffer.specs.Times.{IsTime};
 use std::process::ExitCode;
 use std::time::{SystemTime, UNIX_EPOCH};
 use std::{env, io};
+use thread_run::Starter;
 use xray_io::{ErrSink, FileDesk, OpenGate, OutSink, Wall};
-use xray_program::{may_wait, out_of_memory, xray, xray_still};
+use xray_program::{may_wait, out_of_memory, xray_still, xray_through};
 
 /// Does what the words of the command line say, over files and the standard streams, and ends with
 /// the status. Only a command that may wait is given leave to wait.
@@ -27,9 +28,15 @@ fn main(rt: HostRuntime) -> ExitCode {
     let mut out = OutSink::new(&rt);
     let mut err = ErrSink::new(rt.stderr());
     let status = if may_wait(&words) {
-        let gate = &OpenGate;
-        xray(
-            &rt, alloc, &words, wall, &mut desk, &mut out, &mut err, gate,
+        let mut starter = Starter::new(&rt, &OpenGate);
+        xray_through(
+            &mut starter,
+            alloc,
+            &words,
+            wall,
+            &mut desk,
+            &mut out,
+            &mut err,
         )
     } else {
         xray_still(alloc, &words, wall, &mut desk, &mut out, &mut err)

@@ -47,6 +47,7 @@ pub mod SoakTexts
 pub mod RunSetups
 pub mod PlainThreads
 pub mod RunExists
+pub mod StartedThreads
 pub mod ProfiledThreads
 pub mod SoakReads
 -- Each command: something comes of it, and one thing only if it is deterministic (src/laws.rt)

@@ -27,5 +27,6 @@ pub mod Commands
 pub mod Accepted
 pub mod Headline
 pub mod Answers
+pub mod Started
 pub mod Order
 pub mod private

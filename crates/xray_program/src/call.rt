@@ -4,7 +4,8 @@ ghost use Rattle.fdr_buffer.specs.Times.{IsTime};
 ghost use Rattle.command_words.specs.{Items.{texts}, Ranges.{HasRanges}, Views.{command_view}};
 ghost use Rattle.command_words.specs.Words.{reading};
 ghost use Rattle.xray_io.specs.World.{desk_view, sink_view};
-ghost use Rattle.xray_program.specs.{Answers.{Answered, Says}, Commands.{IsStill, is_report}, Outcomes.{NoMemory, err_line_at}};
+ghost use Rattle.thread_run.specs.Starters.{has_started};
+ghost use Rattle.xray_program.specs.{Answers.{Answered, Says}, Commands.{IsStill, is_report}, Outcomes.{NoMemory, err_line_at}, Started.{StartsLate}};
 ghost use Rattle.xray_program.specs.private.Stops.{answer_of, told_of, IsUnsaid};
 ghost use Rattle.xray_program.specs.private.Works.{Ends, IsOther, SaidHasRanges};
 
@@ -31,6 +32,7 @@ use command_words::{Command, commands_follow_their_rows, read_words};
 use std::alloc::Global;
 use std::sync::Wait;
 use std::thread::Threads;
+use thread_run::Starter;
 use xray_io::{Desk, Gate, Sink, Wall};
 
 /// Does what `words` say, with the files of `desk`. `words` don't hold the program's own name, and say
@@ -73,6 +75,8 @@ pub fn xray_still<D: Desk, O: Sink, E: Sink>(
 /// Returns the program's status, as `xray_still` does. `run` and `profile` start their threads through
 /// `rt`, and they and the patcher pass `gate`. No clause says that they pass it, or that the call of
 /// `run` or of `profile` returns. All other commands are those of `xray_still`.
+///
+/// It is `xray_through` with a starter of its own.
 pub fn xray<T: Threads + Wait + Sync, D: Desk, O: Sink, E: Sink, G: Gate + Sync>(
     rt: &T,
     alloc: Global,
@@ -92,9 +96,39 @@ pub fn xray<T: Threads + Wait + Sync, D: Desk, O: Sink, E: Sink, G: Gate + Sync>
         (record { desk = seen desk.new; out = got out.new; err = heard err.new })
         (D.along desk.old desk.new) result }
 {
+    let mut starter = Starter::new(rt, gate);
+    xray_through(&mut starter, alloc, words, wall, desk, out, err)
+}
+
+/// Does what `words` say, as `xray` does. `run` and `profile` start their threads through the starter,
+/// which then says so.
+///
+/// No thread has run if the words say another command or none, or if an input stops the call: status
+/// 1, 2, 3 or 6. Nor has one if memory runs out: status 5. Only a `profile` may run out of memory
+/// after its threads have ended, for its report.
+pub fn xray_through<T: Threads + Wait + Sync, D: Desk, O: Sink, E: Sink, G: Gate + Sync>(
+    starter: &mut Starter<'_, T, G>,
+    alloc: Global,
+    words: &[String],
+    wall: Wall,
+    desk: &mut D,
+    out: &mut O,
+    err: &mut E,
+) -> u8
+    requires { IsTime wall }
+    ensures answered { let seen = desk_view D.held D.read_faults D.write_faults in
+        let got = sink_view O.written O.faults in
+        let heard = sink_view E.written E.faults in
+        Answered (reading wall (texts words.now))
+        (record { desk = seen desk.old; out = got out.old; err = heard err.old })
+        (record { desk = seen desk.new; out = got out.new; err = heard err.new })
+        (D.along desk.old desk.new) result }
+    ensures starts { StartsLate (reading wall (texts words.now)) result
+        (has_started starter.old) (has_started starter.new) }
+{
     // Called for its contract: what is done has the headline.
     what_is_done_is_traced();
-    let ended = perform_any_words(rt, alloc, words, wall, desk, out, gate);
+    let ended = perform_any_words(starter, alloc, words, wall, desk, out);
     answer(ended, err)
 }
 
@@ -162,13 +196,12 @@ fn command_said<'a>(alloc: Global, wall: Wall, words: &'a [String]) -> Result<Co
 
 /// Does what any words say, and leaves err as it is.
 fn perform_any_words<'a, T: Threads + Wait + Sync, D: Desk, O: Sink, G: Gate + Sync>(
-    rt: &T,
+    starter: &mut Starter<'_, T, G>,
     alloc: Global,
     words: &'a [String],
     wall: Wall,
     desk: &mut D,
     out: &mut O,
-    gate: &G,
 ) -> Result<(), Stop<'a>>
     requires { IsTime wall }
     ensures ends { let seen = desk_view D.held D.read_faults D.write_faults in
@@ -176,25 +209,28 @@ fn perform_any_words<'a, T: Threads + Wait + Sync, D: Desk, O: Sink, G: Gate + S
         Ends (reading wall (texts words.now)) (seen desk.old) (seen desk.new) (got out.old) (got out.new)
         (D.along desk.old desk.new) (answer_of result) (told_of result) }
     ensures ranges { OnOk result (SaidHasRanges (reading wall (texts words.now))) }
+    ensures starts { StartsLate (reading wall (texts words.now)) (answer_of result)
+        (has_started starter.old) (has_started starter.new) }
 {
     let command = command_said(alloc, wall, words)?;
-    perform_any(rt, alloc, command, desk, out, gate)
+    perform_any(starter, alloc, command, desk, out)
 }
 
 /// Does what any command says.
 fn perform_any<'a, T: Threads + Wait + Sync, D: Desk, O: Sink, G: Gate + Sync>(
-    rt: &T,
+    starter: &mut Starter<'_, T, G>,
     alloc: Global,
     command: Command<'a>,
     desk: &mut D,
     out: &mut O,
-    gate: &G,
 ) -> Result<(), Stop<'a>>
     requires { HasRanges (command_view command) }
     ensures ends { let seen = desk_view D.held D.read_faults D.write_faults in
         let got = sink_view O.written O.faults in
         Ends (Some (command_view command.entry)) (seen desk.old) (seen desk.new) (got out.old) (got out.new)
         (D.along desk.old desk.new) (answer_of result) (told_of result) }
+    ensures starts { StartsLate (Some (command_view command.entry)) (answer_of result)
+        (has_started starter.old) (has_started starter.new) }
 {
     match command {
         Command::Run {
@@ -204,19 +240,13 @@ fn perform_any<'a, T: Threads + Wait + Sync, D: Desk, O: Sink, G: Gate + Sync>(
             audit,
             options,
         } => {
-            perform_run(
-                rt,
-                alloc,
-                &Run {
-                    image,
-                    script,
-                    files: TraceFiles { trace, audit },
-                    options,
-                },
-                desk,
-                out,
-                gate,
-            )
+            let run = Run {
+                image,
+                script,
+                files: TraceFiles { trace, audit },
+                options,
+            };
+            perform_run(starter, alloc, &run, desk, out)
         }
         Command::Profile {
             image,
@@ -228,7 +258,7 @@ fn perform_any<'a, T: Threads + Wait + Sync, D: Desk, O: Sink, G: Gate + Sync>(
                 script,
                 options,
             };
-            perform_profile(rt, alloc, &profile, desk, out, gate)
+            perform_profile(starter, alloc, &profile, desk, out)
         }
         other => perform_command(alloc, other, desk, out),
     }

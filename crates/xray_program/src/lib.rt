@@ -12,7 +12,8 @@
 //! The meaning of a command is one relation: `Comes` of `specs/Commands.antt`. The contract of the
 //! call is one record: `Answered` of `specs/Answers.antt`, over what was said, the world before the
 //! call and the world after it. For another command, add a case to `Comes`, to `inputs_of` and to
-//! `outputs_of` (of `command_words`). The record doesn't change.
+//! `outputs_of` (of `command_words`). The record doesn't change. `StartsLate` of `specs/Started.antt`
+//! says when threads are started.
 #![tactic(auto)]
 
 mod account;
@@ -56,7 +57,7 @@ mod trace_feed;
 mod traced;
 mod work;
 
-pub use call::{may_wait, out_of_memory, xray, xray_still};
+pub use call::{may_wait, out_of_memory, xray, xray_still, xray_through};
 pub use drawn::soak_inputs;
 pub use laws::{
     a_lawful_run_has_small_numbers, a_profile_prints_the_stacks_of_a_run,

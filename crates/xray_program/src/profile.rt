@@ -1,6 +1,6 @@
 //! `profile`: threads that run over an image while a script patches their sleds, and the stacks of
 //! what they recorded.
-ghost use Rattle.std.specs.Prelude.{◌≡◌, ◌≤◌, ◌++◌, [], All, IfOk, None, Some, length, map, option_map};
+ghost use Rattle.std.specs.Prelude.{◌≡◌, ◌≤◌, ◌++◌, [], All, IfOk, None, OnErr, Some, length, map, option_map};
 ghost use Rattle.std.specs.List.{flat_map};
 ghost use Rattle.call_trie.specs.Tries.{StandsFor};
 ghost use Rattle.command_words.specs.Ranges.{AreProfileOptions};
@@ -10,7 +10,9 @@ ghost use Rattle.flame_graph.specs.Frames.{AreStacks};
 ghost use Rattle.function_names.specs.Name.{program_names};
 ghost use Rattle.machine_step.specs.{EndedText.{thread_text}, Traced.{IsDone}};
 ghost use Rattle.stack_rebuild.specs.Stacks.{told};
+ghost use Rattle.thread_run.specs.Starters.{has_started};
 ghost use Rattle.xray_io.specs.World.{desk_view, sink_view};
+ghost use Rattle.xray_program.specs.{Answers.{IsUnwriting}, Started.{StartsLate}};
 ghost use Rattle.xray_program.specs.Profile.{states_before, trouble_in, trouble_of};
 ghost use Rattle.xray_program.specs.private.Profiled.{comes_of, said_by, HaveProfiled};
 ghost use Rattle.xray_program.specs.private.RunInputs.{IsReadFor};
@@ -39,40 +41,40 @@ use stack_rebuild::StackRow;
 use std::alloc::Global;
 use std::sync::Wait;
 use std::thread::Threads;
-use thread_run::{RecordedEnd, run_recorded};
+use thread_run::{ReadyThreads, RecordedEnd, Starter};
 use xray_image::Image;
 use xray_io::{Desk, Each, Gate, NoMemory, Piece, Printed, Sink, Text, WriteFault};
 
-/// Does all of `profile`, and leaves err as it is. The threads start through `rt`. They and the patcher
-/// pass `gate`. No clause says that the call returns: threads may wait for the patcher.
+/// Does all of `profile`, and leaves err as it is. Its threads start through the starter. No clause
+/// says that the call returns: threads may wait for the patcher.
 pub(crate) fn perform_profile<'a, T: Threads + Wait + Sync, D: Desk, O: Sink, G: Gate + Sync>(
-    rt: &T,
+    starter: &mut Starter<'_, T, G>,
     alloc: Global,
     command: &Profile<'a>,
     desk: &mut D,
     out: &mut O,
-    gate: &G,
 ) -> Result<(), Stop<'a>>
-    ensures { let seen = desk_view D.held D.read_faults D.write_faults in
+    ensures ends { let seen = desk_view D.held D.read_faults D.write_faults in
         let got = sink_view O.written O.faults in
         Ends (Some (said_by command.now)) (seen desk.old) (seen desk.new) (got out.old) (got out.new)
         (D.along desk.old desk.new) (answer_of result) (told_of result) }
+    ensures starts { StartsLate (Some (said_by command.now)) (answer_of result)
+        (has_started starter.old) (has_started starter.new) }
 {
     let threads = command.options.bounds.threads;
     let inputs = take_script(alloc, desk, command.image, command.script, threads)?;
-    finish(rt, alloc, command, inputs, desk, out, gate)
+    finish(starter, alloc, command, inputs, desk, out)
 }
 
-/// Runs the threads beside the script, and writes what comes of it. All memory is asked for before
-/// the first thread starts, except that of the report.
+/// Runs the threads beside the script, and writes what comes of it. All memory is taken before the
+/// threads start, except that of the report.
 fn finish<'a, T: Threads + Wait + Sync, D: Desk, O: Sink, G: Gate + Sync>(
-    rt: &T,
+    starter: &mut Starter<'_, T, G>,
     alloc: Global,
     command: &Profile<'a>,
     inputs: RunInputs,
     desk: &mut D,
     out: &mut O,
-    gate: &G,
 ) -> Result<(), Stop<'a>>
     requires { IsReadFor command.now.options.bounds.threads inputs }
     ensures finishes { let seen = desk_view D.held D.read_faults D.write_faults in
@@ -81,13 +83,14 @@ fn finish<'a, T: Threads + Wait + Sync, D: Desk, O: Sink, G: Gate + Sync>(
         (D.along desk.old desk.new) result }
     ensures others { let seen = desk_view D.held D.read_faults D.write_faults in
         KeepsOthers (outputs_of (said_by command.now)) (seen desk.old) (seen desk.new) }
+    ensures stops { IsUnwriting (answer_of result) → answer_of result ≡ 5 }
 {
     let RunInputs { image, script } = inputs;
     // Called for their contracts: the image was accepted, and threads that run over it run lawfully.
     image.each_was_accepted();
     what_runs_leave();
     let steps = Steps::new(alloc, &image)?;
-    let end = run_profiled(rt, alloc, &steps, script, command.options, gate)?;
+    let end = run_profiled(starter, alloc, &steps, script, command.options)?;
     match trouble_of(&end.recorders) {
         Some(trouble) => deliver_states(desk, out, &end.cpus, trouble),
         None => {
@@ -188,14 +191,13 @@ impl Printed for StatesBefore<'_, '_> {
 }
 
 /// Runs all threads over an image's steps, and a script beside them. Each thread has a recorder of its
-/// own, which stands for the events of the thread.
+/// own, which stands for the events of the thread. All memory is taken before the threads start.
 fn run_profiled<'s, T: Threads + Wait + Sync, G: Gate + Sync>(
-    rt: &T,
+    starter: &mut Starter<'_, T, G>,
     alloc: Global,
     steps: &'s Steps<'s>,
     script: Script,
     options: ProfileOptions,
-    gate: &G,
 ) -> Result<RecordedEnd<'s, TrieRecorder>, NoMemory>
     requires program { script.program ≡ steps.now }
     requires threads { script.threads ≡ options.bounds.threads }
@@ -203,14 +205,15 @@ fn run_profiled<'s, T: Threads + Wait + Sync, G: Gate + Sync>(
     ensures profiled { IfOk result (λ end.
         HaveProfiled options steps.now script end.cpus.items end.recorders.items) }
     ensures few { IfOk result (λ end. length end.recorders.items ≤ MAX_THREADS) }
+    ensures unstarted { OnErr result (has_started starter.new ≡ has_started starter.old) }
 {
     let threads = options.bounds.threads;
     let (table, mut seat) = CodeTable::new(alloc, steps.image(), script, threads)?;
-    run_prefix(&table, &mut seat);
     let recorders = new_recorders(alloc, threads, options.nodes)?;
     let limits = profile_limits(options);
-    let end = run_recorded(rt, alloc, steps, &table, &mut seat, limits, recorders, gate)?;
-    Ok(end)
+    let ready = ReadyThreads::new(alloc, steps, &table, threads, limits)?;
+    run_prefix(&table, &mut seat);
+    Ok(ready.go(starter, &mut seat, recorders))
 }
 
 /// A recorder for each thread, each with so many nodes.

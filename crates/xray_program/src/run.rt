@@ -1,12 +1,13 @@
 //! `run`: threads that run over an image while a script patches their sleds.
-ghost use Rattle.std.specs.Prelude.{◌≡◌, ◌∷◌, [], IfOk, Some, map};
+ghost use Rattle.std.specs.Prelude.{◌≡◌, ◌∷◌, [], IfOk, OnErr, Some, map};
 ghost use Rattle.command_words.specs.Words.{outputs_of};
 ghost use Rattle.patch_script.specs.Refusals.{commands_of};
 ghost use Rattle.machine_step.specs.Setups.{IsSetup};
 ghost use Rattle.machine_step.specs.declared.setup.Setup.{Setup};
 ghost use Rattle.sled_rule.specs.Seats.{work_view};
-ghost use Rattle.thread_run.specs.Runs.{HaveRunBeside};
+ghost use Rattle.thread_run.specs.{Runs.{HaveRunBeside}, Starters.{has_started}};
 ghost use Rattle.xray_io.specs.World.{desk_view, sink_view};
+ghost use Rattle.xray_program.specs.{Answers.{IsUnwriting}, Started.{StartsLate}};
 ghost use Rattle.xray_program.specs.private.RunInputs.{comes_of, said_by, IsReadFor};
 ghost use Rattle.xray_program.specs.private.Stops.{answer_of, told_of};
 ghost use Rattle.xray_program.specs.private.Works.{Ends, Finishes, KeepsOthers};
@@ -23,39 +24,39 @@ use sled_rule::CodeTable;
 use std::alloc::Global;
 use std::sync::Wait;
 use std::thread::Threads;
-use thread_run::{RunEnd, run};
+use thread_run::{ReadyRun, RunEnd, Starter};
 use xray_io::{Desk, Gate, NoMemory, Sink};
 
-/// Does all of `run`, and leaves err as it is. The threads start through `rt`. They and the patcher
-/// pass `gate`. No clause says that the call returns: threads may wait for the patcher.
+/// Does all of `run`, and leaves err as it is. Its threads start through the starter. No clause says
+/// that the call returns: threads may wait for the patcher.
 pub(crate) fn perform_run<'a, T: Threads + Wait + Sync, D: Desk, O: Sink, G: Gate + Sync>(
-    rt: &T,
+    starter: &mut Starter<'_, T, G>,
     alloc: Global,
     command: &Run<'a>,
     desk: &mut D,
     out: &mut O,
-    gate: &G,
 ) -> Result<(), Stop<'a>>
-    ensures { let seen = desk_view D.held D.read_faults D.write_faults in
+    ensures ends { let seen = desk_view D.held D.read_faults D.write_faults in
         let got = sink_view O.written O.faults in
         Ends (Some (said_by command.now)) (seen desk.old) (seen desk.new) (got out.old) (got out.new)
         (D.along desk.old desk.new) (answer_of result) (told_of result) }
+    ensures starts { StartsLate (Some (said_by command.now)) (answer_of result)
+        (has_started starter.old) (has_started starter.new) }
 {
     let threads = command.options.bounds.threads;
     let inputs = take_script(alloc, desk, command.image, command.script, threads)?;
-    finish(rt, alloc, command, inputs, desk, out, gate)
+    finish(starter, alloc, command, inputs, desk, out)
 }
 
-/// Runs the threads beside the script, and writes what comes of it. All memory is asked for before
-/// the first thread starts.
+/// Runs the threads beside the script, and writes what comes of it. If nothing is written, no thread
+/// was started.
 fn finish<'a, T: Threads + Wait + Sync, D: Desk, O: Sink, G: Gate + Sync>(
-    rt: &T,
+    starter: &mut Starter<'_, T, G>,
     alloc: Global,
     command: &Run<'a>,
     inputs: RunInputs,
     desk: &mut D,
     out: &mut O,
-    gate: &G,
 ) -> Result<(), Stop<'a>>
     requires { IsReadFor command.now.options.bounds.threads inputs }
     ensures finishes { let seen = desk_view D.held D.read_faults D.write_faults in
@@ -64,6 +65,7 @@ fn finish<'a, T: Threads + Wait + Sync, D: Desk, O: Sink, G: Gate + Sync>(
         (D.along desk.old desk.new) result }
     ensures others { let seen = desk_view D.held D.read_faults D.write_faults in
         KeepsOthers (outputs_of (said_by command.now)) (seen desk.old) (seen desk.new) }
+    ensures starts { IsUnwriting (answer_of result) → has_started starter.new ≡ has_started starter.old }
 {
     let RunInputs { image, script } = inputs;
     // Called for their contracts: the image was accepted, and threads that run over it run lawfully.
@@ -72,26 +74,27 @@ fn finish<'a, T: Threads + Wait + Sync, D: Desk, O: Sink, G: Gate + Sync>(
     let setup = setup_of(command.options);
     let lines = room_for(alloc, setup.threads)?;
     let steps = Steps::new(alloc, &image)?;
-    let end = run_beside(rt, alloc, &steps, script, &setup, gate)?;
+    let end = run_beside(starter, alloc, &steps, script, &setup)?;
     deliver_run(desk, out, &command.files, &setup, RunLeft::from(end), lines)
 }
 
-/// Runs all threads over an image's steps, and a script beside them.
+/// Runs all threads over an image's steps, and a script beside them. All memory is taken before the
+/// threads start.
 fn run_beside<'s, T: Threads + Wait + Sync, G: Gate + Sync>(
-    rt: &T,
+    starter: &mut Starter<'_, T, G>,
     alloc: Global,
     steps: &'s Steps<'s>,
     script: Script,
     setup: &Setup,
-    gate: &G,
 ) -> Result<RunEnd<'s>, NoMemory>
     requires program { script.program ≡ steps.now }
     requires threads { script.threads ≡ setup.now.threads }
     requires setup { IsSetup setup.now }
     ensures left { IfOk result (λ end. HaveRunBeside steps.now (commands_of script.lines) setup.now
         end.cpus.items (map work_view end.seats.items) end.segments.items end.first.items end.buffers.items) }
+    ensures unstarted { OnErr result (has_started starter.new ≡ has_started starter.old) }
 {
     let (table, mut seat) = CodeTable::new(alloc, steps.image(), script, setup.threads)?;
-    let end = run(rt, alloc, steps, &table, &mut seat, setup, gate)?;
-    Ok(end)
+    let ready = ReadyRun::new(starter, alloc, steps, &table, setup)?;
+    Ok(ready.go(starter, &mut seat))
 }

@@ -1,4 +1,5 @@
 use Rattle.std.proofs.Common.{[], refl}
+use Rattle.xray_program.proofs.StartedThreads.{unstarted}
 use Rattle.xray_program.proofs.WorkEndings.{unsaid_on}
 use Rattle.xray_program.proofs.call.perform_any_words.Goals as goal
 
@@ -6,3 +7,6 @@ pub returns-in_err-command-clause-ends : goal.returns-in_err-command-clause-ends
 returns-in_err-command-clause-ends g c =
     unsaid_on _ _ _ c.from_residual.result _ c.from_residual.ensures.1 c.in_err-command.ensures.stops
     (record { calls = []; way = g.met.D.Desk.along_none c.args.desk.now; are = refl })
+
+pub returns-in_err-command-clause-starts : goal.returns-in_err-command-clause-starts
+returns-in_err-command-clause-starts g c = unstarted _ _ _

@@ -19,6 +19,7 @@ use Rattle.xray_program.specs.declared.stop.Stop.TheVariants as stops
 use Rattle.xray_program.proofs.WorkEndings.{finishes, refuses}
 use Rattle.xray_program.proofs.ProfiledThreads.{all_live, profile_done, profile_fell, were_profiled}
 use Rattle.xray_program.proofs.RunWritten.{threads_ended, threads_printed}
+use Rattle.xray_program.proofs.StartedThreads.{delivers_something, ran_out}
 use Rattle.xray_program.proofs.profile.finish.Goals as goal
 
 pub returns-in_err-steps-clause-finishes : goal.returns-in_err-steps-clause-finishes
@@ -125,3 +126,31 @@ returns-clause-finishes g c =
           (none ∙ ap (λ (ts : List Trie). trouble_of 1 (map (λ (t : Trie). t.state) ts)) c.deref.ensures.value ∙ ap (trouble_of 1) have.states),
     )
     c.deliver_report.ensures.delivers
+
+pub returns-in_err-steps-clause-stops : goal.returns-in_err-steps-clause-stops
+returns-in_err-steps-clause-stops g c = ran_out c.from_residual.result c.from_residual.ensures.1
+
+pub returns-in_err-end-clause-stops : goal.returns-in_err-end-clause-stops
+returns-in_err-end-clause-stops g c = ran_out c.from_residual-in_err-end.result c.from_residual-in_err-end.ensures.1
+
+pub returns-in_err-rows-in-None-clause-stops : goal.returns-in_err-rows-in-None-clause-stops
+returns-in_err-rows-in-None-clause-stops g c = ran_out c.from_residual-in_err-rows-in-None.result c.from_residual-in_err-rows-in-None.ensures.1
+
+pub returns-in-Some-clause-stops : goal.returns-in-Some-clause-stops
+returns-in-Some-clause-stops g c unwriting =
+    let seen = desk_view g.D.Desk.held g.D.Desk.read_faults g.D.Desk.write_faults in
+    let got = sink_view g.O.Sink.written g.O.Sink.faults in
+    absurd (delivers_something [] (flat_map thread_text c.deref-in-Some.result.now) (Some (words_text c.in-Some.trouble))
+    (seen c.args.desk.now) (seen c.deliver_states.new.desk) (got c.args.out.now) (got c.deliver_states.new.out)
+    (g.D.Desk.along c.args.desk.now c.deliver_states.new.desk) c.deliver_states.result c.deliver_states.ensures.delivers unwriting)
+
+pub returns-clause-stops : goal.returns-clause-stops
+returns-clause-stops g c unwriting =
+    let seen = desk_view g.D.Desk.held g.D.Desk.read_faults g.D.Desk.write_faults in
+    let got = sink_view g.O.Sink.written g.O.Sink.faults in
+    let format = c.args.command.now.options.format in
+    let text = states_before format (flat_map thread_text c.deref-in-None-2.result.now)
+    ++ rows_text format 0 (program_names c.args.inputs.image) (map told c.deref-in-None-3.result.now) in
+    absurd (delivers_something [] text None
+    (seen c.args.desk.now) (seen c.deliver_report.new.desk) (got c.args.out.now) (got c.deliver_report.new.out)
+    (g.D.Desk.along c.args.desk.now c.deliver_report.new.desk) c.deliver_report.result c.deliver_report.ensures.delivers unwriting)

@@ -1,13 +1,14 @@
 use Rattle.std.proofs.Common.{Ok, Err}
 use Rattle.xray_io.specs.World.{desk_view, sink_view}
 use Rattle.xray_program.specs.private.Profiled.{comes_of, said_by}
+use Rattle.xray_program.proofs.StartedThreads.{profile_starts_late, unstarted}
 use Rattle.xray_program.proofs.WorkEndings.{ends_at_input, ends_with_work}
 use Rattle.xray_program.proofs.Scripts.{script_taken}
 use Rattle.xray_program.specs.Profile.{Profiles}
 use Rattle.xray_program.proofs.profile.perform_profile.Goals as goal
 
-pub returns-in_err-inputs : goal.returns-in_err-inputs
-returns-in_err-inputs g c =
+pub returns-in_err-inputs-clause-ends : goal.returns-in_err-inputs-clause-ends
+returns-in_err-inputs-clause-ends g c =
     let seen = desk_view g.D.Desk.held g.D.Desk.read_faults g.D.Desk.write_faults in
     let got = sink_view g.O.Sink.written g.O.Sink.faults in
     let s = c.args.command.now in
@@ -17,8 +18,8 @@ returns-in_err-inputs g c =
     (seen c.take_script.new.desk) (Err _) c.in_err-inputs.ensures.taken)
     c.take_script.ensures.held c.in_err-inputs.ensures.calls
 
-pub returns : goal.returns
-returns g c =
+pub returns-clause-ends : goal.returns-clause-ends
+returns-clause-ends g c =
     let seen = desk_view g.D.Desk.held g.D.Desk.read_faults g.D.Desk.write_faults in
     let got = sink_view g.O.Sink.written g.O.Sink.faults in
     let s = c.args.command.now in
@@ -29,3 +30,11 @@ returns g c =
     (seen c.take_script.new.desk) (Ok c.in_ok-inputs.inputs) c.in_ok-inputs.ensures.taken)
     c.take_script.ensures.held c.in_ok-inputs.ensures.calm c.take_script.ensures.writes c.finish.ensures.finishes c.finish.ensures.others
     c.in_ok-inputs.ensures.calls
+
+pub returns-in_err-inputs-clause-starts : goal.returns-in_err-inputs-clause-starts
+returns-in_err-inputs-clause-starts g c = unstarted _ _ _
+
+pub returns-clause-starts : goal.returns-clause-starts
+returns-clause-starts g c =
+    let s = c.args.command.now in
+    profile_starts_late s.image.now s.script.now s.options _ _ _ c.finish.ensures.stops

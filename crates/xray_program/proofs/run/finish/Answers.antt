@@ -13,6 +13,7 @@ use Rattle.xray_program.specs.declared.stop.Stop.TheVariants as stops
 use Rattle.xray_program.proofs.LawfulRuns.{ran_beside}
 use Rattle.xray_program.proofs.WorkEndings.{finishes, refuses}
 use Rattle.xray_program.proofs.RunWritten.{leaves_same}
+use Rattle.xray_program.proofs.StartedThreads.{delivers_something}
 use Rattle.xray_program.proofs.run.finish.Goals as goal
 
 pub deliver_run-requires-clause-left : goal.deliver_run-requires-clause-left
@@ -79,3 +80,18 @@ returns-in_err-end-clause-finishes g c =
     refuses (comes_of c.args.command.now c.args.inputs) (desk_view g.D.Desk.held g.D.Desk.read_faults g.D.Desk.write_faults c.args.desk.now)
     (sink_view g.O.Sink.written g.O.Sink.faults c.args.out.now) (g.D.Desk.along c.args.desk.now c.args.desk.now) stops.NoMemory c.from_residual-in_err-end.result c.from_residual-in_err-end.ensures.1
     ((refl, refl), record { calls = []; way = g.met.D.Desk.along_none c.args.desk.now; are = refl })
+
+pub returns-clause-starts : goal.returns-clause-starts
+returns-clause-starts g c unwriting =
+    let seen = desk_view g.D.Desk.held g.D.Desk.read_faults g.D.Desk.write_faults in
+    let got = sink_view g.O.Sink.written g.O.Sink.faults in
+    let s = c.args.command.now in
+    let setup = c.setup_of-setup.result in
+    let end = c.in_ok-end.end in
+    let left = c.from.result in
+    let is = c.in_ok-end.ensures.left in
+    absurd (delivers_something (written_of s.files.trace.now s.files.audit.now setup is.runs) (state_texts 1 is.runs) None
+    (seen c.args.desk.now) (seen c.deliver_run.new.desk) (got c.args.out.now) (got c.deliver_run.new.out)
+    (g.D.Desk.along c.args.desk.now c.deliver_run.new.desk) c.deliver_run.result
+    (c.deliver_run.ensures.delivers is.runs (leaves_same setup is.runs end.cpus left.cpus end.segments left.segments end.first left.first end.buffers left.buffers c.from.ensures is.leaves))
+    unwriting)
