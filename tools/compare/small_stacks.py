@@ -4,7 +4,8 @@
 usage: tools/compare/small_stacks.py [PROGRAM] [--with ROWS] [--stack BYTES]
     PROGRAM: the built program, crates/xray/out/xray if left out
     --with: which rows of the table of commands are run, with commas between them; all of them if left out
-    --stack: the most stack that a run may need, 65,536 if left out
+    --stack: the most stack that a run may need, 131,072 if left out. Half of it is for the commands, and the rest for the
+        start of a program and the C library
 
 The commands are those of fail_alloc.py without the script that waits, and those of the table below, which take a log of
 a runtime and the deepest stacks. Each of them runs
@@ -128,7 +129,7 @@ def main():
     words = CommandLine(__doc__)
     words.add_program()
     words.add_argument("--with", dest="commands", default=",".join(ROWS))
-    words.add_argument("--stack", type=int, default=65_536)
+    words.add_argument("--stack", type=int, default=131_072)
     said = words.parse_args()
     found, tried = [], 0
     with tempfile.TemporaryDirectory() as scratch:
