@@ -57,7 +57,7 @@ pub ascend_tail : (block : Block) (blocks : List Block) → AscendByThread (bloc
 ascend_tail block [] ascend = tt
 ascend_tail block (next ∷ blocks) ascend = ascend.1
 
-not_lower : (before block : Block) → StandsBehind before block → before.thread ≤ block.thread
+pub not_lower : (before block : Block) → StandsBehind before block → before.thread ≤ block.thread
 not_lower before block (inl lower) = omega (arith, lower)
 not_lower before block (inr same) = omega (arith, same.0)
 

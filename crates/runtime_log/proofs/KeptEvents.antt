@@ -1,12 +1,11 @@
 -- What is imported of a log: all events of each thread, and what is printed of them.
-use Rattle.std.proofs.Common.{◌≡◌, ℕ, suc, ◌+◌, ◌-◌, ◌<◌, ◌≤◌, Bool, true, false, cond, eqb, List, [], ◌∷◌, ◌++◌, All, length, map, Option, Some, None, Result, Ok, refl, sym, ap, subst, ◌∙◌, append-nil, inl, inr, zero-add, arith}
-use Rattle.std.specs.Prelude.{⊤, ◌⊎◌, Contains, MatchOption, count_by, filter, min, max}
-use Rattle.std.specs.Set.{distinct_count, is_member}
+use Rattle.std.proofs.Common.{◌≡◌, ℕ, suc, ◌+◌, ◌-◌, ◌<◌, ◌≤◌, Bool, true, false, cond, eqb, List, [], ◌∷◌, ◌++◌, All, length, map, Option, Some, None, Result, Ok, refl, sym, ap, subst, ◌∙◌, append-nil, inl, inr, arith}
+use Rattle.std.specs.Prelude.{◌⊎◌, Contains, MatchOption, count_by, filter, min, max}
 use Rattle.std.specs.List.{AllByRecursion, flat_map, sum_by}
 use Rattle.std.specs.Option.{option_map_or}
 use Rattle.std.proofs.lemmas.List.{length-map, map-append}
 use Rattle.std.proofs.lemmas.List.Concat.{flat_map-cons}
-use Rattle.std.proofs.lemmas.Bool.{cases_lt, eqb-false, lt-ltb, ne_eqb}
+use Rattle.std.proofs.lemmas.Bool.{cases_lt, lt-ltb}
 use Rattle.std.proofs.lemmas.List.Elements.{All-from_recursion, filter-append}
 use Rattle.std.proofs.lemmas.List.Sums.{count_by-le-length, length-filter, sum_by-cons}
 use Rattle.std.proofs.lemmas.List.Sorted.{sum_by-IsPermutation}
@@ -16,17 +15,19 @@ use Rattle.fdr_file.specs.declared.fault.TraceFault.{TraceFault}
 use Rattle.fdr_file.specs.declared.trace.Block.{Block}
 use Rattle.fdr_file.specs.declared.trace.Trace.{Trace}
 use Rattle.fdr_file.specs.ThreadEvents.{ThreadEvent, block_events, thread_events}
-use Rattle.fdr_file.specs.Traces.{logs_arg, trace_of, type_in}
+use Rattle.fdr_file.specs.Traces.{trace_of, type_in}
 use Rattle.runtime_log.specs.declared.facts.Facts.{Facts}
 use Rattle.runtime_log.specs.declared.blocks.Mode.{Mode}
-use Rattle.runtime_log.specs.Facts.{different, facts_of, greatest_of, least_of}
+use Rattle.runtime_log.specs.Facts.{facts_of, greatest_of, least_of}
 use Rattle.runtime_log.specs.Imports.{AreTakenOf, IsImport, trace_taken}
 use Rattle.runtime_log.specs.Laws.{ImportsRead}
-use Rattle.runtime_log.specs.LogLaws.{IsGreatest, IsLeast, NumbersAreMeant, NumbersAreOf, ThreadsAreKept, blocks_of_thread, pool_events}
+use Rattle.runtime_log.specs.LogLaws.{IsGreatest, IsLeast, NumbersAreMeant, NumbersAreOf, NumbersAreOfEvents, ThreadsAreKept, blocks_of_thread, pool_events}
 use Rattle.runtime_log.specs.Logs.{Log, LogBlock, logged}
 use Rattle.runtime_log.specs.Threads.{AreByThread, recorded_by}
 use Rattle.runtime_log.specs.Taken.{AreTaken, chosen, comes_before, first_ones, has_events, is_among, order_key, undoubled}
 use Rattle.runtime_log.proofs.ByThread.{none_by_thread}
+use Rattle.runtime_log.proofs.CountedThreads.{AtMost, DontFall, back_counted, threads_counted, threads_of}
+use Rattle.runtime_log.proofs.LeftOut.{doubled_count, empty_places}
 use Rattle.runtime_log.proofs.LogDescribed.{header_read}
 use Rattle.runtime_log.proofs.OneOrder.{NoneBefore, Rises, rises_from_sorted}
 use Rattle.runtime_log.proofs.TakenBlocks.{empty_count}
@@ -189,30 +190,6 @@ greatest_is ns (Some n) is = (is.0, All-from_recursion (λ (m : ℕ). m ≤ n) n
 
 -- ---- threads
 
--- each number is at most those behind it
-abbrev AtMost : ℕ → List ℕ → Type 0
-AtMost n ns = AllByRecursion (λ (m : ℕ). n ≤ m) ns
-
-abbrev DontFall : List ℕ → Type 0
-DontFall [] = ⊤
-DontFall (n ∷ ns) = AtMost n ns × DontFall ns
-
-not_among : (n m : ℕ) (ns : List ℕ) → n < m → AtMost m ns → is_member (λ (a b : ℕ). eqb a b) ns n ≡ false
-not_among n m [] low high = refl
-not_among n m (x ∷ ns) low high = rw (ne_eqb n x (λ same. omega (arith, same, low, high.0))) (not_among n m ns low high.1)
-
-threads_counted : (ns : List ℕ) → DontFall ns → different ns ≡ distinct_count (λ (a b : ℕ). eqb a b) ns
-threads_counted [] rise = refl
-threads_counted (n ∷ []) rise = refl
-threads_counted (n ∷ m ∷ ns) rise = by_test (threads_counted (m ∷ ns) rise.1) (eqb n m) refl
-  where
-    by_test : different (m ∷ ns) ≡ distinct_count (λ (a b : ℕ). eqb a b) (m ∷ ns) → (b : Bool) → eqb n m ≡ b → different (n ∷ m ∷ ns) ≡ distinct_count (λ (a b : ℕ). eqb a b) (n ∷ m ∷ ns)
-    by_test again true e = rw e (zero-add (different (m ∷ ns)) ∙ again)
-    by_test again false e =
-        let other = eqb-false n m e in
-        let below : n < m = omega (arith, rise.0.0, other) in
-        rw (e, not_among n m ns below rise.1.0) (ap (λ (k : ℕ). 1 + k) again ∙ omega arith)
-
 thread_low : (b other : LogBlock) → comes_before other b ≡ false → b.block.thread ≤ other.block.thread
 thread_low b other after = by_order (cases_lt other.block.thread b.block.thread)
   where
@@ -226,11 +203,11 @@ thread_low b other after = by_order (cases_lt other.block.thread b.block.thread)
 abbrev threads_in : List LogBlock → List ℕ
 threads_in taken = map (λ (e : ThreadEvent). e.thread) (pool_events taken)
 
-at_most_join : (n : ℕ) (xs ys : List ℕ) → AtMost n xs → AtMost n ys → AtMost n (xs ++ ys)
+pub at_most_join : (n : ℕ) (xs ys : List ℕ) → AtMost n xs → AtMost n ys → AtMost n (xs ++ ys)
 at_most_join n [] ys one two = two
 at_most_join n (x ∷ xs) ys one two = (one.0, at_most_join n xs ys one.1 two)
 
-own_threads : (block : Block) (events : List Event) (rest : List ℕ) → AtMost block.thread rest → DontFall rest
+pub own_threads : (block : Block) (events : List Event) (rest : List ℕ) → AtMost block.thread rest → DontFall rest
     → AtMost block.thread (map (λ (e : ThreadEvent). e.thread) (of_block block events) ++ rest) × DontFall (map (λ (e : ThreadEvent). e.thread) (of_block block events) ++ rest)
 own_threads block [] rest low rise = (low, rise)
 own_threads block (event ∷ events) rest low rise =
@@ -246,7 +223,7 @@ lower : (n m : ℕ) (ns : List ℕ) → n ≤ m → AtMost m ns → AtMost n ns
 lower n m [] low is = tt
 lower n m (x ∷ ns) low is = (omega (arith, low, is.0), lower n m ns low is.1)
 
-threads_high : (n : ℕ) (block : Block) (events : List Event) → n ≤ block.thread → AtMost n (map (λ (e : ThreadEvent). e.thread) (of_block block events))
+pub threads_high : (n : ℕ) (block : Block) (events : List Event) → n ≤ block.thread → AtMost n (map (λ (e : ThreadEvent). e.thread) (of_block block events))
 threads_high n block [] low = tt
 threads_high n block (event ∷ events) low = (low, threads_high n block events low)
 
@@ -264,20 +241,27 @@ threads_rise (b ∷ taken) rise =
 
 -- ---- what is printed
 
+-- what is printed of the events of blocks, thread by thread
+pub events_printed : (blocks : List LogBlock) (taken : List Block) → DontFall (threads_of (thread_events taken)) → NumbersAreOfEvents (thread_events taken) (facts_of blocks taken)
+events_printed blocks taken rise =
+    let ns = map (λ (e : ThreadEvent). e.event.tsc) (thread_events taken) in record {
+      events = refl;
+      arguments = refl;
+      threads = threads_counted (threads_of (thread_events taken)) rise;
+      first = least_is ns (least_of ns) (is_least ns);
+      last = greatest_is ns (greatest_of ns) (is_greatest ns);
+      back = back_counted (thread_events taken) rise;
+    }
+
 printed : (log : Log) (trace : Trace) (taken : List LogBlock) → AreTaken log.blocks taken → thread_events trace.blocks ≡ pool_events taken → NumbersAreOf log trace (facts_of log.blocks (map (λ (b : LogBlock). b.block) taken))
 printed log trace taken are events =
-    let counters : map (λ (e : ThreadEvent). e.event.tsc) (pool_events taken) ≡ map (λ (e : ThreadEvent). e.event.tsc) (thread_events trace.blocks) = ap (map (λ (e : ThreadEvent). e.event.tsc)) (sym events) in
-    let ns = map (λ (e : ThreadEvent). e.event.tsc) (pool_events taken) in record {
+    let blocks = map (λ (b : LogBlock). b.block) taken in record {
       blocks = ap (λ (n : ℕ). n + (length log.blocks - length (undoubled log.blocks)) + count_by (λ (b : LogBlock). eqb (length b.block.events) 0) (undoubled log.blocks)) (length-map taken (λ (b : LogBlock). b.block)) ∙ each_counted log.blocks taken are;
+      doubled = doubled_count log.blocks;
+      empty = empty_places log.blocks;
       custom = refl;
       typed = refl;
-      events = ap length (sym events);
-      arguments = ap (count_by (λ (e : ThreadEvent). logs_arg e.event.kind)) (sym events);
-      threads =
-          threads_counted (threads_in taken) (threads_rise taken (rises_from_sorted order_key taken are.sorted))
-          ∙ ap (λ (es : List ThreadEvent). distinct_count (λ (a b : ℕ). eqb a b) (map (λ (e : ThreadEvent). e.thread) es)) (sym events);
-      first = subst (λ (xs : List ℕ). IsLeast xs (least_of ns)) counters (least_is ns (least_of ns) (is_least ns));
-      last = subst (λ (xs : List ℕ). IsGreatest xs (greatest_of ns)) counters (greatest_is ns (greatest_of ns) (is_greatest ns));
+      of_events = subst (λ (es : List ThreadEvent). NumbersAreOfEvents es (facts_of log.blocks blocks)) (sym events) (events_printed log.blocks blocks (threads_rise taken (rises_from_sorted order_key taken are.sorted)));
     }
 
 pub numbers_meant : ImportsRead → AllHeld → NumbersAreMeant

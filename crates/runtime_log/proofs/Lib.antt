@@ -14,6 +14,8 @@ pub mod RecordsAgain
 pub mod EventsAgain
 pub mod LogAgain
 -- What is imported of a log: each event of each thread, and what is printed (src/laws.rt)
+pub mod LeftOut
+pub mod CountedThreads
 pub mod KeptEvents
 pub mod WhichBlocks
 -- Records and their events: which fit the records of a trace (src/blocks.rt)
@@ -44,5 +46,6 @@ pub mod ItselfImported
 pub mod ByThread
 pub mod ThreadRuns
 pub mod ThreadsKept
+pub mod BasicNumbers
 -- The lines of facts (src/facts.rt)
 pub mod FactTexts

@@ -117,7 +117,7 @@ pieces_events whole (block ∷ blocks) =
 -- ---- the law
 
 -- a log of this type is a basic one
-not_recorder : (bytes : List ℕ) (version : LogVersion) → type_in bytes ≡ 0 → mode_of bytes ≡ Ok (Recorder version) → ⊥
+pub not_recorder : (bytes : List ℕ) (version : LogVersion) → type_in bytes ≡ 0 → mode_of bytes ≡ Ok (Recorder version) → ⊥
 not_recorder bytes version zero_type is =
     by_parts (ltb (length bytes) 32) (log_version_of (version_in bytes)) (eqb (type_in bytes) 1) (ap (λ (n : ℕ). eqb n 1) zero_type) (not (eqb (type_in bytes) 0)) (not (eqb (version_in bytes) 3)) is
   where

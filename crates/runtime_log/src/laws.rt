@@ -1,5 +1,5 @@
 //! Laws of imports. Each law is the contract of a function that does nothing.
-ghost use Rattle.runtime_log.specs.LogLaws.{BlocksAreTaken, LogIsLogged, LoggedIsLog, NumbersAreMeant, ThreadsAreKept};
+ghost use Rattle.runtime_log.specs.LogLaws.{BasicNumbersAreMeant, BlocksAreTaken, LogIsLogged, LoggedIsLog, NumbersAreMeant, ThreadsAreKept};
 ghost use Rattle.runtime_log.specs.Laws.{ImportsItself, ImportsRead, OneImport, SomeImport, ThreadsKeepTheirOrder, TracesAreLogs};
 
 use fdr_buffer::{a_body_has_room, segments_hold_all};
@@ -73,6 +73,15 @@ pub fn each_block_is_taken_once()
 /// The numbers that are printed are those of the log and of the trace that is made of it.
 pub fn printed_numbers_are_meant()
     ensures { NumbersAreMeant }
+{
+    an_import_reads_back();
+    segments_hold_all();
+}
+
+/// The numbers that are printed of a basic log are those of the trace that is made of it, and nothing
+/// is left out.
+pub fn printed_numbers_of_a_basic_log_are_meant()
+    ensures { BasicNumbersAreMeant }
 {
     an_import_reads_back();
     segments_hold_all();

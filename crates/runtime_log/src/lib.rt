@@ -33,7 +33,8 @@ pub use fault::LogFault;
 pub use import::{ImportedLog, import_log};
 pub use laws::{
     a_log_is_read, a_trace_in_order_is_imported_as_itself, an_import_reads_back,
-    each_block_is_taken_once, one_import, printed_numbers_are_meant, some_import,
+    each_block_is_taken_once, one_import, printed_numbers_are_meant,
+    printed_numbers_of_a_basic_log_are_meant, some_import,
     the_threads_of_a_basic_log_keep_their_order, threads_keep_their_events, traces_are_logs,
     what_is_read_is_a_log,
 };
