@@ -10,8 +10,8 @@ abbrev pub Rise : ℕ → ℕ → List ℕ → Type 0
 Rise from last [] = Unit {0}
 Rise from last (number ∷ later) = (from ≤ number) × (number ≤ last) × Rise number last later
 
--- The loads that a thread can have made when a script is at a place, counted from `start` on. Each load is made at a place
--- of its own, and these places never fall. It is of the word that the thread wants next, and gives the value that `code`
+-- The loads that a thread can have made when a script is at a place, counted from `start` on. Each load is made at a
+-- place, and the places never fall. It is of the word that the thread wants next, and gives the value that `code`
 -- says the word has at this place. `bound` gives the last place for the loads of each passing, by the passing's number,
 -- which is the number of marks of the loads before. `threads` is how many threads there are.
 pub record Follows (program : Program) (threads : ℕ) (code : ℕ → ℕ → ℕ) (start : ℕ) (bound : ℕ → ℕ) (thread : ℕ) (hold : Option ℕ) (sleds : List ℕ)

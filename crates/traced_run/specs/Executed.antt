@@ -1,6 +1,6 @@
 -- A thread that executes the code, whose sleds have the bytes that the thread loaded.
 -- In the plain run a sled is only counted, whatever its bytes are. Here each passing decodes its bytes, and does what the
--- Intel SDM says of them. No instruction but that of a patched sled writes r10, and none reads it.
+-- Intel SDM says of them. Only the instructions of a patched sled write r10, and none reads it.
 use Rattle.std.specs.Prelude.{◌≡◌, ◌+◌, ◌-ℤ◌, ◌==◌, ℕ, ℤ, pos, zero, suc, List, [], ◌∷◌, ◌++◌, length, take, if◌then◌else◌, find, nat_eq, Option, Some, None, option_and_then, option_map, slice_get, slice_set}
 use Rattle.std.specs.Int.{to_le_bytes, w64}
 use Rattle.std.specs.List.{flat_map, starts_with}
@@ -99,8 +99,8 @@ executed program limits loads (suc n) s = after (code_step program limits loads 
     after (Some (Ends end last)) later = Some (end, last)
 
 -- With these loads the thread executes the code from the entry function on, and comes to the end of the run. As it has at
--- most one step from a state, it comes to no other end. Its last state is that of the run but for r10: the other
--- registers, the zero flag, the stack, the output and the counts.
+-- most one step from a state, it comes to no other end. Its last state is that of the run except for
+-- r10. The other registers, the zero flag, the stack, the output and the counts are the same.
 pub record Executes (program : Program) (limits : Limits) (threads number : ℕ) (hold : Option ℕ) (run : ThreadRun) (loads : List Load) : Type 0 where
   pub steps : ℕ
   pub r10 : ℕ

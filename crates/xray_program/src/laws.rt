@@ -235,7 +235,7 @@ pub fn what_is_left_is_accepted()
 /// means to leave of an audit, beside the same image, then `sim` of these three means to leave the runs of
 /// which the audit speaks, if it has as many threads and the same limits. It prints their state texts, and
 /// its audit states the same ends and marks. Only which segments are lost may differ. If the setup is the
-/// same and no segment is lost, it leaves the very trace.
+/// same, the losses are those of a run (`AreLost`) and no segment is lost, it leaves the very trace.
 pub fn what_is_ordered_is_replayed()
     ensures { (held after : List ℕ → Entry) (i s a f o t b : List ℕ) (options : RunOptions)
         (image audit free schedule : List ℕ) (statement : Statement)
