@@ -16,7 +16,7 @@ use Rattle.runtime_log.specs.Facts.{facts_of}
 use Rattle.runtime_log.specs.Imports.{trace_taken}
 use Rattle.runtime_log.specs.Laws.{ImportsRead}
 use Rattle.runtime_log.specs.LogLaws.{BasicNumbersAreMeant, BasicNumbersAreOf, NumbersAreOfEvents, run_count}
-use Rattle.runtime_log.specs.Logs.{LogBlock}
+use Rattle.runtime_log.specs.Logs.{Log, LogBlock}
 use Rattle.runtime_log.specs.Taken.{AreTaken}
 use Rattle.runtime_log.specs.Threads.{AreByThread, AscendByThread, StandsBehind}
 use Rattle.runtime_log.specs.private.Headers.{mode_of}
@@ -24,6 +24,7 @@ use Rattle.runtime_log.proofs.AddedBlocks.{event_of}
 use Rattle.runtime_log.proofs.ByThread.{IsSome, ascend_tail, eqb_same, not_lower}
 use Rattle.runtime_log.proofs.CountedThreads.{AtMost, DontFall, threads_of}
 use Rattle.runtime_log.proofs.KeptEvents.{AllHeld, at_most_join, events_printed, own_threads, threads_high}
+use Rattle.runtime_log.proofs.SameEvents.{numbers_move}
 use Rattle.runtime_log.proofs.ThreadsKept.{not_recorder, pieces_events}
 use Rattle.runtime_log.proofs.WholeLogs.{HasParts, LogParts, log_parts}
 
@@ -99,14 +100,15 @@ runs_counted (block ∷ blocks) ascend some =
 
 -- ---- what is printed
 
-basic_printed : (events : List ThreadEvent) (trace : Trace) (threads : List Block) → AreByThread events threads → thread_events trace.blocks ≡ thread_events threads → BasicNumbersAreOf trace (facts_of [] threads)
-basic_printed events trace threads are same = record {
+basic_printed : (log : Log) (trace : Trace) (threads : List Block) → AreByThread log.events threads → thread_events trace.blocks ≡ thread_events threads → BasicNumbersAreOf log trace (facts_of [] threads)
+basic_printed log trace threads are same = record {
   blocks = runs_counted threads are.ascend are.some ∙ ap run_count (sym same);
   doubled = refl;
   empty = refl;
   custom = refl;
   typed = refl;
   of_events = subst (λ (es : List ThreadEvent). NumbersAreOfEvents es (facts_of [] threads)) (sym same) (events_printed [] threads (threads_ascend threads are.ascend));
+  of_log = numbers_move (thread_events threads) log.events (facts_of [] threads) are.same (events_printed [] threads (threads_ascend threads are.ascend));
 }
 
 none_taken : (pool : List LogBlock) → AreTaken [] pool → pool ≡ []
@@ -122,7 +124,7 @@ basic_numbers_meant reads held bytes file facts trace all zero_type made is = by
     parts : LogParts bytes made.log
     parts = log_parts bytes made.log made.says
 
-    by_mode : (mode : Mode) → mode_of bytes ≡ Ok mode → HasParts mode bytes made.log → BasicNumbersAreOf trace facts
+    by_mode : (mode : Mode) → mode_of bytes ≡ Ok mode → HasParts mode bytes made.log → BasicNumbersAreOf made.log trace facts
     by_mode (Recorder version) headed has = absurd (not_recorder bytes version zero_type headed)
     by_mode Basic headed has =
         let takes = made.takes in
@@ -134,4 +136,4 @@ basic_numbers_meant reads held bytes file facts trace all zero_type made is = by
         ap (λ (t : Trace). thread_events t.blocks) same ∙ pieces_events held made.taken ∙ ap thread_events alone in
         let printed : facts ≡ facts_of [] takes.threads =
         made.facts_are ∙ ap (λ (bs : List LogBlock). facts_of bs made.taken) has.0 ∙ ap (facts_of []) alone in
-        subst (BasicNumbersAreOf trace) (sym printed) (basic_printed made.log.events trace takes.threads takes.by_thread events)
+        subst (BasicNumbersAreOf made.log trace) (sym printed) (basic_printed made.log trace takes.threads takes.by_thread events)

@@ -40,7 +40,7 @@ threads_counted (n ∷ m ∷ ns) rise = by_test (threads_counted (m ∷ ns) rise
 
 -- ---- the same threads are as many
 
-abbrev same : ℕ → ℕ → Bool
+abbrev pub same : ℕ → ℕ → Bool
 same n m = eqb n m
 
 unique_has : (ns : List ℕ) (q : ℕ) → is_member same (unique_keys same ns) q ≡ is_member same ns q
@@ -71,7 +71,7 @@ unique_apart (n ∷ ns) = by_test (is_member same ns n) refl (unique_apart ns)
     by_test true m again = again
     by_test false m again = (apart n (unique_keys same ns) (unique_has ns n ∙ m), again)
 
-same_count : (ns ms : List ℕ) → ((q : ℕ) → is_member same ns q ≡ is_member same ms q) → distinct_count same ns ≡ distinct_count same ms
+pub same_count : (ns ms : List ℕ) → ((q : ℕ) → is_member same ns q ≡ is_member same ms q) → distinct_count same ns ≡ distinct_count same ms
 same_count ns ms are = length-from_keys nat_eq_equiv (unique_keys same ns) ms (unique_apart ns) (λ q. unique_has ns q ∙ are q)
 
 -- ---- the threads whose counters fall

@@ -46,6 +46,7 @@ pub mod ItselfImported
 pub mod ByThread
 pub mod ThreadRuns
 pub mod ThreadsKept
+pub mod SameEvents
 pub mod BasicNumbers
 -- The lines of facts (src/facts.rt)
 pub mod FactTexts

@@ -126,16 +126,17 @@ run_count [] = 0
 run_count (e ∷ []) = 1
 run_count (e ∷ next ∷ events) = (if (e.thread == next.thread) && (e.pid == next.pid) then 0 else 1) + run_count (next ∷ events)
 
--- What is printed of a basic log by the trace that is made of it. The blocks are the runs of its events. A basic log has
--- nothing else, so nothing is left out.
-pub record BasicNumbersAreOf (trace : Trace) (facts : Facts) : Type 0 where
+-- What is printed of a basic log and of the trace that is made of it. The blocks are the runs of the trace. A basic log has
+-- nothing else, so nothing is left out. The numbers of events are those of the trace, and those of the log.
+pub record BasicNumbersAreOf (log : Log) (trace : Trace) (facts : Facts) : Type 0 where
   pub blocks : facts.blocks ≡ run_count (thread_events trace.blocks)
   pub doubled : facts.doubled ≡ 0
   pub empty : facts.empty ≡ 0
   pub custom : facts.custom ≡ 0
   pub typed : facts.typed ≡ 0
   pub of_events : NumbersAreOfEvents (thread_events trace.blocks) facts
+  pub of_log : NumbersAreOfEvents log.events facts
 
 abbrev pub BasicNumbersAreMeant : Type 0
 BasicNumbersAreMeant = (bytes file : List ℕ) (facts : Facts) (trace : Trace) → All (λ b. b < 256) bytes → type_in bytes ≡ 0
-    → IsImport bytes file facts → trace_of file ≡ Ok trace → BasicNumbersAreOf trace facts
+    → (made : IsImport bytes file facts) → trace_of file ≡ Ok trace → BasicNumbersAreOf made.log trace facts
