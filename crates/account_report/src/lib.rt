@@ -16,4 +16,4 @@ pub use laws::{a_row_sums_the_stacks_of_its_function, each_entry_and_exit_is_cou
 pub use order::order_rows;
 pub use report::{account, latencies};
 pub use row::{AccountRow, SortKey};
-pub use text::{AccountFormat, AccountText, write_account};
+pub use text::{AccountLayout, AccountText, write_account};

@@ -16,7 +16,7 @@ const WIDTH: usize = 10;
 
 /// The form of a printed account.
 #[derive(Clone, Copy, Debug)]
-pub enum AccountFormat {
+pub enum AccountLayout {
     /// Columns that end at the same place of each line, for readers. The first line says how many
     /// functions have a pair.
     Text,
@@ -36,7 +36,7 @@ pub struct AccountText<'a> {
     /// What names the functions of the rows. If a name isn't known, `#` and the id are printed.
     pub names: Names<'a>,
     /// The form.
-    pub format: AccountFormat,
+    pub format: AccountLayout,
 }
 
 impl Printed for AccountText<'_> {
@@ -76,12 +76,12 @@ pub fn write_account<S: Sink>(
 }
 
 /// The form of an account that is csv or not.
-fn format_of(csv: bool) -> AccountFormat
+fn format_of(csv: bool) -> AccountLayout
     ensures { result ≡ format_for csv }
 {
     match csv {
-        true => AccountFormat::Csv,
-        false => AccountFormat::Text,
+        true => AccountLayout::Csv,
+        false => AccountLayout::Text,
     }
 }
 
@@ -89,30 +89,30 @@ fn format_of(csv: bool) -> AccountFormat
 fn add_first_line<S: Sink>(
     text: &mut Text<S>,
     latencies: u64,
-    format: AccountFormat,
+    format: AccountLayout,
 ) -> Result<(), WriteFault>
     ensures { AddsText S.written S.faults S.along text.old text.new
         (first_line format latencies) result }
 {
     match format {
-        AccountFormat::Text => text.pieces(&[
+        AccountLayout::Text => text.pieces(&[
             Piece::Bytes(b"Functions with latencies: "),
             Piece::Number(u128::from(latencies)),
             Piece::Bytes(b"\n"),
         ]),
-        AccountFormat::Csv => text.bytes(b""),
+        AccountLayout::Csv => text.bytes(b""),
     }
 }
 
 /// The line with the names of the columns.
-fn head_line(format: AccountFormat) -> &'static [u8]
+fn head_line(format: AccountLayout) -> &'static [u8]
     ensures { result.now ≡ line_text format head_words (codes "function") }
 {
     match format {
-        AccountFormat::Text => {
+        AccountLayout::Text => {
             b"    funcid      count        min        med        90p        99p        max        sum    entries      exits function\n"
         }
-        AccountFormat::Csv => b"funcid,count,min,med,90p,99p,max,sum,entries,exits,function\n",
+        AccountLayout::Csv => b"funcid,count,min,med,90p,99p,max,sum,entries,exits,function\n",
     }
 }
 
@@ -121,7 +121,7 @@ fn add_rows<S: Sink>(
     text: &mut Text<S>,
     rows: &[AccountRow],
     names: Names,
-    format: AccountFormat,
+    format: AccountLayout,
 ) -> Result<(), WriteFault>
     ensures { AddsText S.written S.faults S.along text.old text.new
         (flat_map (function_row_text format (naming names.entry)) rows.now) result }
@@ -137,7 +137,7 @@ fn add_row<S: Sink>(
     text: &mut Text<S>,
     row: &AccountRow,
     names: Names,
-    format: AccountFormat,
+    format: AccountLayout,
 ) -> Result<(), WriteFault>
     ensures { AddsText S.written S.faults S.along text.old text.new
         (function_row_text format (naming names.entry) row.now) result }
@@ -152,7 +152,7 @@ fn add_row_name<S: Sink>(
     text: &mut Text<S>,
     row: &AccountRow,
     names: Names,
-    format: AccountFormat,
+    format: AccountLayout,
 ) -> Result<(), WriteFault>
     ensures { AddsText S.written S.faults S.along text.old text.new
         (name_text (name_form format) (naming names.entry) row.now.func) result }
@@ -161,12 +161,12 @@ fn add_row_name<S: Sink>(
 }
 
 /// How a function is named in a row.
-fn name_form(format: AccountFormat) -> NameForm
+fn name_form(format: AccountLayout) -> NameForm
     ensures { result ≡ name_form format }
 {
     match format {
-        AccountFormat::Text => NameForm::Plain,
-        AccountFormat::Csv => NameForm::Field,
+        AccountLayout::Text => NameForm::Plain,
+        AccountLayout::Csv => NameForm::Field,
     }
 }
 
@@ -174,7 +174,7 @@ fn name_form(format: AccountFormat) -> NameForm
 fn add_columns<S: Sink>(
     text: &mut Text<S>,
     row: &AccountRow,
-    format: AccountFormat,
+    format: AccountLayout,
 ) -> Result<(), WriteFault>
     ensures { AddsText S.written S.faults S.along text.old text.new
         (flat_map (column_text format) (column_words row.now)) result }
@@ -205,37 +205,37 @@ fn add_columns<S: Sink>(
 }
 
 /// The text between two columns.
-fn separator(format: AccountFormat) -> &'static [u8]
+fn separator(format: AccountLayout) -> &'static [u8]
     ensures { result.now ≡ separator_text format }
 {
     match format {
-        AccountFormat::Text => b" ",
-        AccountFormat::Csv => b",",
+        AccountLayout::Text => b" ",
+        AccountLayout::Csv => b",",
     }
 }
 
 /// A number, in its column.
-fn number(n: u128, format: AccountFormat) -> Piece<'static>
+fn number(n: u128, format: AccountLayout) -> Piece<'static>
     ensures { piece_text result ≡ in_column format (decimal n) }
 {
     match format {
-        AccountFormat::Text => Piece::Right {
+        AccountLayout::Text => Piece::Right {
             number: n,
             width: WIDTH,
         },
-        AccountFormat::Csv => Piece::Number(n),
+        AccountLayout::Csv => Piece::Number(n),
     }
 }
 
 /// A number of a row that comes from durations, in its column. If there is no pair, it is a dash.
-fn duration(row: &AccountRow, n: u128, format: AccountFormat) -> Piece<'static>
+fn duration(row: &AccountRow, n: u128, format: AccountLayout) -> Piece<'static>
     ensures { piece_text result ≡ in_column format (duration_word row.now n) }
 {
     if row.count > 0 {
         return number(n, format);
     }
     match format {
-        AccountFormat::Text => Piece::Bytes(b"         -"),
-        AccountFormat::Csv => Piece::Bytes(b"-"),
+        AccountLayout::Text => Piece::Bytes(b"         -"),
+        AccountLayout::Csv => Piece::Bytes(b"-"),
     }
 }

@@ -16,7 +16,7 @@ use Rattle.xray_image.specs.Program.{addresses, branch_target, BranchesReach}
 use Rattle.asm_text.specs.declared.statement.Branch.{Branch}
 use Rattle.asm_text.specs.declared.statement.Branch.TheVariants as branches
 use Rattle.asm_text.specs.Statements.{Operation, Plain, Go, TailJump, Return, Statement, Base, Entry, Func, Label, Does}
-use Rattle.asm_text.specs.Layout.{StatementLines, Fixed, Jump, Placed, Owner, Choosing, by_threshold, is_function, is_instruction, defines, owner_of, no_owner, parts_of_line, aligned, placed_from, lines_placed, widths, branch_width, sled_shift, piece_of, own_place, next_place, place_of, line_pieces, pieces, base_of}
+use Rattle.asm_text.specs.Layout.{StatementLines, Fixed, Jump, Placed, LineOwner, Choosing, by_threshold, is_function, is_instruction, defines, owner_of, no_owner, parts_of_line, aligned, placed_from, lines_placed, widths, branch_width, sled_shift, piece_of, own_place, next_place, place_of, line_pieces, pieces, base_of}
 use Rattle.asm_text.specs.private.Laying.{earlier, lines_of}
 use Rattle.asm_text.specs.Refusals.{is_defined, is_missing, target_name, is_unresolved}
 use Rattle.asm_text.specs.Assembling.{statements_said}
@@ -72,7 +72,7 @@ defined_first name p following rest true here there e = here refl
 defined_first name p following rest false here there e = there e
 
 -- a name that lines define has a place
-defined_has_place : (all : StatementLines) (name : List ℕ) (chosen : Choosing) (place : ℕ) (owner : Owner) (lines : StatementLines) → Settled all lines → is_defined name lines ≡ true
+defined_has_place : (all : StatementLines) (name : List ℕ) (chosen : Choosing) (place : ℕ) (owner : LineOwner) (lines : StatementLines) → Settled all lines → is_defined name lines ≡ true
     → is_some (place_of name (placed_from chosen place owner lines)) ≡ true
 defined_has_place all name chosen place owner [] settled e = absurd (cc e)
 defined_has_place all name chosen place owner (line ∷ following) settled e =
@@ -217,7 +217,7 @@ module _ (all : List Placed) (base : ℕ) (begins : List ℕ) where
   line_reaches said before traced place (Label name) following knows may settled = tt
   line_reaches said before traced place (Does operation) following knows may settled = operation_reaches traced place operation may.short (found said (target_name operation) knows settled)
 
-  lines_reach : (said : StatementLines) (chosen : Choosing) (place : ℕ) (owner : Owner) (before lines : StatementLines) → KnowsPlaces said → Allowed before lines → Settled said lines
+  lines_reach : (said : StatementLines) (chosen : Choosing) (place : ℕ) (owner : LineOwner) (before lines : StatementLines) → KnowsPlaces said → Allowed before lines → Settled said lines
       → Reach begins (base + place) (flat_map (line_pieces all) (placed_from chosen place owner lines))
   lines_reach said chosen place owner before [] knows may settled = tt
   lines_reach said chosen place owner before (line ∷ following) knows may settled =

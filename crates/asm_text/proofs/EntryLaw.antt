@@ -7,7 +7,7 @@ use Rattle.std.proofs.lemmas.Bool.{not-false}
 use Rattle.std.proofs.lemmas.List.Folds.{find_at}
 use Rattle.xray_image.specs.Container.{Function}
 use Rattle.asm_text.specs.Statements.{Statement, Base, Entry, Func, Label, Does}
-use Rattle.asm_text.specs.Layout.{StatementLines, Placed, Owner, Choosing, owner_of, no_owner, parts_of_line, placed_from, lines_placed, widths, is_function, names_function, functions, function_in, entry_in_line, number_of_function, entry_of}
+use Rattle.asm_text.specs.Layout.{StatementLines, Placed, LineOwner, Choosing, owner_of, no_owner, parts_of_line, placed_from, lines_placed, widths, is_function, names_function, functions, function_in, entry_in_line, number_of_function, entry_of}
 use Rattle.asm_text.specs.Refusals.{has_function, is_unresolved}
 use Rattle.asm_text.specs.Programs.{entry_function}
 use Rattle.asm_text.proofs.SaidLines.{AreSaid, Settled}
@@ -22,7 +22,7 @@ some_first base p (Func name choice) fs t h rest = omega arith
 some_first base p (Label name) fs t h rest = rest h
 some_first base p (Does operation) fs t h rest = rest h
 
-some_function : (base : ℕ) (chosen : Choosing) (place : ℕ) (owner : Owner) (lines : StatementLines) → has_function lines ≡ true → 0 < length (functions base (placed_from chosen place owner lines))
+some_function : (base : ℕ) (chosen : Choosing) (place : ℕ) (owner : LineOwner) (lines : StatementLines) → has_function lines ≡ true → 0 < length (functions base (placed_from chosen place owner lines))
 some_function base chosen place owner [] h = absurd (cc h)
 some_function base chosen place owner (line ∷ following) h =
     let here = owner_of chosen place owner line.1 following in
@@ -39,7 +39,7 @@ named_first name base p (Label other) fs = refl
 named_first name base p (Does operation) fs = refl
 
 -- by its name
-named_function : (name : List ℕ) (base : ℕ) (chosen : Choosing) (place : ℕ) (owner : Owner) (lines : StatementLines)
+named_function : (name : List ℕ) (base : ℕ) (chosen : Choosing) (place : ℕ) (owner : LineOwner) (lines : StatementLines)
     → list_any (λ f. bytes_eq f.name name) (functions base (placed_from chosen place owner lines)) ≡ list_any (λ line. names_function name line.1) lines
 named_function name base chosen place owner [] = refl
 named_function name base chosen place owner (line ∷ following) =

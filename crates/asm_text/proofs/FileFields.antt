@@ -6,12 +6,12 @@ use Rattle.std.proofs.lemmas.List.Sums.{sum_by-append}
 use Rattle.xray_image.specs.Container.{Function, MapEntry}
 use Rattle.asm_text.specs.Statements.{Statement, Base, Entry, Func, Label, Does}
 use Rattle.asm_text.specs.private.Fits.{Fits, AllFit}
-use Rattle.asm_text.specs.Layout.{StatementLines, Placed, Owner, Choosing, owner_of, no_owner, parts_of_line, parts_at, placed_from, lines_placed, widths, width, sled_kind, functions, function_in, map_entries}
+use Rattle.asm_text.specs.Layout.{StatementLines, Placed, LineOwner, Choosing, owner_of, no_owner, parts_of_line, parts_at, placed_from, lines_placed, widths, width, sled_kind, functions, function_in, map_entries}
 use Rattle.asm_text.proofs.Owners.{start_to}
 use Rattle.asm_text.proofs.ReadBack.{FunctionFits, EntryFits}
 
 -- each line's function starts within the code
-start_small : (chosen : Choosing) (place : ℕ) (owner : Owner) (s : Statement) (following : StatementLines) → owner.start ≤ 1048576
+start_small : (chosen : Choosing) (place : ℕ) (owner : LineOwner) (s : Statement) (following : StatementLines) → owner.start ≤ 1048576
     → let here = owner_of chosen place owner s following in place + widths (parts_of_line here.traced place s) ≤ 1048576 → here.start ≤ 1048576
 start_small chosen place owner (Base address) following small within = small
 start_small chosen place owner (Entry name) following small within = small
@@ -34,7 +34,7 @@ entry_first base p true None es low small place rest = rest
 entry_first base p true (Some k) es low small place rest = ((omega arith, omega arith), rest)
 entry_first base p false kind es low small place rest = rest
 
-lines_fit_file : (base : ℕ) (chosen : Choosing) (place : ℕ) (owner : Owner) (lines : StatementLines) → base ≤ 0x7FFF00000000 → owner.start ≤ 1048576 → AllFit lines
+lines_fit_file : (base : ℕ) (chosen : Choosing) (place : ℕ) (owner : LineOwner) (lines : StatementLines) → base ≤ 0x7FFF00000000 → owner.start ≤ 1048576 → AllFit lines
     → place + widths (flat_map parts_at (placed_from chosen place owner lines)) ≤ 1048576
     → AllByRecursion FunctionFits (functions base (placed_from chosen place owner lines)) × AllByRecursion EntryFits (map_entries base (placed_from chosen place owner lines))
 lines_fit_file base chosen place owner [] low small fit within = (tt, tt)

@@ -12,7 +12,7 @@ use Rattle.xray_image.specs.Program.{addresses, is_name_byte, BeginsAfter, IsFun
 use Rattle.asm_text.specs.declared.statement.Choice.{Choice}
 use Rattle.asm_text.specs.Names.{is_name, is_decimal}
 use Rattle.asm_text.specs.Statements.{Statement, Base, Entry, Func, Label, Does}
-use Rattle.asm_text.specs.Layout.{StatementLines, Placed, Owner, Choosing, by_threshold, is_function, is_instruction, defines, owner_of, no_owner, owner_at, instruction_lines, parts_at, placed_from, lines_placed, widths, own_place, pieces, functions, function_in, base_of}
+use Rattle.asm_text.specs.Layout.{StatementLines, Placed, LineOwner, Choosing, by_threshold, is_function, is_instruction, defines, owner_of, no_owner, owner_at, instruction_lines, parts_at, placed_from, lines_placed, widths, own_place, pieces, functions, function_in, base_of}
 use Rattle.asm_text.specs.Refusals.{has_function, is_bare, is_defined}
 use Rattle.asm_text.specs.Assembling.{statements_said}
 use Rattle.asm_text.proofs.WidthLemmas.{operation_width}
@@ -79,7 +79,7 @@ stood_same base place before number s (Some g) f i stood =
     (omega (arith, stood.0), λ h. omega (arith, stood.1 (sym (more ∙ same) ∙ h)))
 
 -- where a function starts
-first_start : (chosen : Choosing) (base place : ℕ) (owner : Owner) (name : List ℕ) (choice : Choice) (following : StatementLines) → place ≡ 0
+first_start : (chosen : Choosing) (base place : ℕ) (owner : LineOwner) (name : List ℕ) (choice : Choice) (following : StatementLines) → place ≡ 0
     → base + (owner_of chosen place owner (Func name choice) following).start ≡ base
 first_start chosen base place owner name choice following h = by_traced (chosen choice (instruction_lines following))
   where
@@ -88,7 +88,7 @@ first_start chosen base place owner name choice following h = by_traced (chosen 
     by_traced false = omega (arith, h)
 
 -- one line
-line_ascends : (chosen : Choosing) (base place : ℕ) (owner : Owner) (before : StatementLines) (number : ℕ) (s : Statement) (following : StatementLines) (o : Option Function)
+line_ascends : (chosen : Choosing) (base place : ℕ) (owner : LineOwner) (before : StatementLines) (number : ℕ) (s : Statement) (following : StatementLines) (o : Option Function)
     → IsAllowed before s → Stood base place before o
     → let p : Placed = record { line = number; statement = s; owner = owner_of chosen place owner s following; place = place } in
     MayBegin base o (function_in base p s) × Stood base (place + widths (parts_at p)) (before ++ (number, s) ∷ []) (latest (function_in base p s) o)
@@ -107,7 +107,7 @@ line_ascends chosen base place owner before number (Does operation) following No
 line_ascends chosen base place owner before number (Does operation) following (Some f) may stood =
     (tt, (omega (arith, stood.0), λ h. omega (arith, stood.0, operation_width owner.traced place operation)))
 
-pub ascending : (base : ℕ) (chosen : Choosing) (place : ℕ) (owner : Owner) (before lines : StatementLines) (o : Option Function) → Allowed before lines → Stood base place before o
+pub ascending : (base : ℕ) (chosen : Choosing) (place : ℕ) (owner : LineOwner) (before lines : StatementLines) (o : Option Function) → Allowed before lines → Stood base place before o
     → Ascend base o (functions base (placed_from chosen place owner lines))
 ascending base chosen place owner before [] o all stood = tt
 ascending base chosen place owner before (line ∷ following) o all stood =
@@ -131,7 +131,7 @@ names_first base before p (Func name choice) fs may rest = (may.short, rest)
 names_first base before p (Label name) fs may rest = rest
 names_first base before p (Does operation) fs may rest = rest
 
-have_names : (base : ℕ) (chosen : Choosing) (place : ℕ) (owner : Owner) (before lines : StatementLines) → Allowed before lines → AllByRecursion HasName (functions base (placed_from chosen place owner lines))
+have_names : (base : ℕ) (chosen : Choosing) (place : ℕ) (owner : LineOwner) (before lines : StatementLines) → Allowed before lines → AllByRecursion HasName (functions base (placed_from chosen place owner lines))
 have_names base chosen place owner before [] all = tt
 have_names base chosen place owner before (line ∷ following) all =
     let here = owner_of chosen place owner line.1 following in
@@ -178,7 +178,7 @@ apart_first base before p (Func other choice) fs name may knows rest = (knows ot
 apart_first base before p (Label other) fs name may knows rest = rest
 apart_first base before p (Does operation) fs name may knows rest = rest
 
-apart : (base : ℕ) (chosen : Choosing) (place : ℕ) (owner : Owner) (before lines : StatementLines) (name : List ℕ) → Allowed before lines → Knows name before
+apart : (base : ℕ) (chosen : Choosing) (place : ℕ) (owner : LineOwner) (before lines : StatementLines) (name : List ℕ) → Allowed before lines → Knows name before
     → AllByRecursion (λ g. bytes_eq name g.name ≡ false) (functions base (placed_from chosen place owner lines))
 apart base chosen place owner before [] name all knows = tt
 apart base chosen place owner before (line ∷ following) name all knows =
@@ -201,7 +201,7 @@ own_first base p (Func name choice) fs first rest = (first name choice refl, res
 own_first base p (Label name) fs first rest = rest
 own_first base p (Does operation) fs first rest = rest
 
-own_names : (base : ℕ) (chosen : Choosing) (place : ℕ) (owner : Owner) (before lines : StatementLines) → Allowed before lines → OwnNames (functions base (placed_from chosen place owner lines))
+own_names : (base : ℕ) (chosen : Choosing) (place : ℕ) (owner : LineOwner) (before lines : StatementLines) → Allowed before lines → OwnNames (functions base (placed_from chosen place owner lines))
 own_names base chosen place owner before [] all = tt
 own_names base chosen place owner before (line ∷ following) all =
     let here = owner_of chosen place owner line.1 following in

@@ -7,11 +7,11 @@ use Rattle.xray_image.specs.Units.{JumpSled, ReturnSled}
 use Rattle.asm_text.specs.declared.statement.Choice.TheVariants.{ByLength, Always, Args, Never}
 use Rattle.asm_text.specs.declared.statement.Branch.TheVariants as branches
 use Rattle.asm_text.specs.Statements.{Plain, Go, TailJump, Return, Statement, Base, Entry, Func, Label, Does}
-use Rattle.asm_text.specs.Layout.{StatementLines, Part, Owner, by_threshold, unless_never, owner_of, no_owner, parts_of_line, parts_at, placed_from, all_parts, width, widths, sleds_of_part, sled_shift}
+use Rattle.asm_text.specs.Layout.{StatementLines, UnitDraft, LineOwner, by_threshold, unless_never, owner_of, no_owner, parts_of_line, parts_at, placed_from, all_parts, width, widths, sleds_of_part, sled_shift}
 use Rattle.asm_text.proofs.WidthLemmas.{widths_aligned, sleds_aligned, widths_aligned_branch, sleds_aligned_branch}
 
 -- no more bytes up to the end, and no more sleds
-abbrev pub NoMore : ℕ → List Part → ℕ → List Part → Type 0
+abbrev pub NoMore : ℕ → List UnitDraft → ℕ → List UnitDraft → Type 0
 NoMore p xs q ys = (p + widths xs ≤ q + widths ys) × (sum_by sleds_of_part xs ≤ sum_by sleds_of_part ys)
 
 round_up : (p q : ℕ) → p ≤ q → p + p % 2 ≤ q + q % 2
@@ -46,7 +46,7 @@ line_no_more false true p q (Does Return) h i =
 line_no_more false false p q (Does operation) h i = (omega arith, omega arith)
 
 -- what is instrumented is counted so
-counted_too : (threshold p q : ℕ) (o c : Owner) (s : Statement) (xs ys : StatementLines) → (o.traced ≡ true → c.traced ≡ true)
+counted_too : (threshold p q : ℕ) (o c : LineOwner) (s : Statement) (xs ys : StatementLines) → (o.traced ≡ true → c.traced ≡ true)
     → (owner_of (by_threshold threshold) p o s xs).traced ≡ true → (owner_of unless_never q c s ys).traced ≡ true
 counted_too threshold p q o c (Base address) xs ys i h = i h
 counted_too threshold p q o c (Entry name) xs ys i h = i h
@@ -57,7 +57,7 @@ counted_too threshold p q o c (Func name Never) xs ys i h = h
 counted_too threshold p q o c (Label name) xs ys i h = i h
 counted_too threshold p q o c (Does operation) xs ys i h = i h
 
-lines_no_more : (threshold p q : ℕ) (o c : Owner) (lines : StatementLines) → p ≤ q → (o.traced ≡ true → c.traced ≡ true)
+lines_no_more : (threshold p q : ℕ) (o c : LineOwner) (lines : StatementLines) → p ≤ q → (o.traced ≡ true → c.traced ≡ true)
     → NoMore p (flat_map parts_at (placed_from (by_threshold threshold) p o lines)) q (flat_map parts_at (placed_from unless_never q c lines))
 lines_no_more threshold p q o c [] h i = (omega arith, omega arith)
 lines_no_more threshold p q o c (line ∷ following) h i =

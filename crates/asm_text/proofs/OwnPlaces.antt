@@ -8,7 +8,7 @@ use Rattle.subset_decode.specs.declared.instr.Instr.TheVariants as instrs
 use Rattle.asm_text.specs.declared.statement.Choice.{Choice}
 use Rattle.asm_text.specs.declared.statement.Branch.TheVariants as branches
 use Rattle.asm_text.specs.Statements.{Operation, Plain, Go, TailJump, Return, Statement, Base, Entry, Func, Label, Does}
-use Rattle.asm_text.specs.Layout.{StatementLines, Part, Fixed, Jump, Placed, Owner, Choosing, owner_of, owner_at, instruction_lines, parts_of_line, aligned, placed_from, widths, sled_shift, piece_of, line_pieces, own_place}
+use Rattle.asm_text.specs.Layout.{StatementLines, UnitDraft, Fixed, Jump, Placed, LineOwner, Choosing, owner_of, owner_at, instruction_lines, parts_of_line, aligned, placed_from, widths, sled_shift, piece_of, line_pieces, own_place}
 use Rattle.asm_text.proofs.WidthLemmas.{at_parity}
 use Rattle.asm_text.proofs.PlacesInCode.{parts_length}
 use Rattle.asm_text.proofs.SaidLines.{IsFilled, AllFilled}
@@ -23,11 +23,11 @@ stand_after base xs ys [] all = tt
 stand_after base xs ys (p ∷ lines) all = ((λ own e. Contains-append_right xs ys (base + own) (all.0 own e)), stand_after base xs ys lines all.1)
 
 module _ (all : List Placed) (following : ℕ) where
-  abbrev made : List Part → List Piece
+  abbrev made : List UnitDraft → List Piece
   made parts = map (piece_of all following) parts
 
   -- the alignment byte of a sled, or the sled, begins where its line does
-  aligned_first : (address place : ℕ) (sled : Piece) (rest : List Part) → Contains (addresses_from address (made (aligned place sled ++ rest))) address
+  aligned_first : (address place : ℕ) (sled : Piece) (rest : List UnitDraft) → Contains (addresses_from address (made (aligned place sled ++ rest))) address
   aligned_first address place sled rest =
       elim (eqb (place % 2) 0) as (λ t. Contains (addresses_from address (map (piece_of all following) (cond t (Fixed sled ∷ []) (Fixed Align ∷ Fixed sled ∷ []) ++ rest))) address) [
         | true ↦ first_address address sled (map (piece_of all following) rest)
@@ -61,11 +61,11 @@ module _ (all : List Placed) (following : ℕ) where
 
 module _ (all : List Placed) (base : ℕ) where
   -- where the units of lines begin
-  abbrev begins : Choosing → ℕ → Owner → StatementLines → List ℕ
+  abbrev begins : Choosing → ℕ → LineOwner → StatementLines → List ℕ
   begins chosen place owner lines = addresses_from (base + place) (flat_map (line_pieces all) (placed_from chosen place owner lines))
 
   -- if an instruction line follows, a unit begins at the place of the lines
-  next_unit : (chosen : Choosing) (place : ℕ) (owner : Owner) (lines : StatementLines) → 0 < instruction_lines lines → Contains (begins chosen place owner lines) (base + place)
+  next_unit : (chosen : Choosing) (place : ℕ) (owner : LineOwner) (lines : StatementLines) → 0 < instruction_lines lines → Contains (begins chosen place owner lines) (base + place)
   next_unit chosen place owner [] h = absurd (omega arith)
   next_unit chosen place owner ((number, Base address) ∷ following) h =
       subst (λ n. Contains (addresses_from (base + place) (flat_map (line_pieces all) (placed_from chosen n owner following))) (base + place)) (sym (add-zero place)) (next_unit chosen place owner following h)
@@ -81,7 +81,7 @@ module _ (all : List Placed) (base : ℕ) where
       (operation_first all next owner.traced (base + place) place operation)
 
   -- the units of a line, and those after it
-  abbrev line_begins : (here : Owner) (chosen : Choosing) (place : ℕ) (s : Statement) (following : StatementLines) → List ℕ
+  abbrev line_begins : (here : LineOwner) (chosen : Choosing) (place : ℕ) (s : Statement) (following : StatementLines) → List ℕ
   line_begins here chosen place s following =
       addresses_from (base + place) (map (piece_of all (place + widths (parts_of_line here.traced place s))) (parts_of_line here.traced place s))
       ++ begins chosen (place + widths (parts_of_line here.traced place s)) here following
@@ -97,7 +97,7 @@ module _ (all : List Placed) (base : ℕ) where
       let here = owner_at false choice place in
       subst (λ n. Contains (begins chosen (place + 0) here following) (base + n)) (add-zero place) (next_unit chosen (place + 0) here following h)
 
-  own_first : (chosen : Choosing) (place : ℕ) (owner : Owner) (number : ℕ) (s : Statement) (following : StatementLines) → IsFilled s following
+  own_first : (chosen : Choosing) (place : ℕ) (owner : LineOwner) (number : ℕ) (s : Statement) (following : StatementLines) → IsFilled s following
       → let here = owner_of chosen place owner s following in Stands base (line_begins here chosen place s following) (record { line = number; statement = s; owner = here; place = place })
   own_first chosen place owner number (Base address) following filled own e = absurd (cc e)
   own_first chosen place owner number (Entry name) following filled own e = absurd (cc e)
@@ -113,7 +113,7 @@ module _ (all : List Placed) (base : ℕ) where
       subst (λ n. Contains (line_begins owner chosen place (Does operation) following) (base + n)) at
       (Contains-append_left (addresses_from (base + place) (map (piece_of all next) xs)) (begins chosen next owner following) (base + place) (operation_first all next owner.traced (base + place) place operation))
 
-  line_joins : (here : Owner) (chosen : Choosing) (place : ℕ) (s : Statement) (following : StatementLines)
+  line_joins : (here : LineOwner) (chosen : Choosing) (place : ℕ) (s : Statement) (following : StatementLines)
       → let xs = parts_of_line here.traced place s in
       addresses_from (base + place) (map (piece_of all (place + widths xs)) xs ++ flat_map (line_pieces all) (placed_from chosen (place + widths xs) here following)) ≡ line_begins here chosen place s following
   line_joins here chosen place s following =
@@ -124,7 +124,7 @@ module _ (all : List Placed) (base : ℕ) where
       addresses-append (base + place) first others
       ∙ ap (λ n. addresses_from (base + place) first ++ addresses_from n others) (ap (λ w. base + place + w) (parts_length all next xs) ∙ add_assoc base place (widths xs))
 
-  all_stand : (chosen : Choosing) (place : ℕ) (owner : Owner) (lines : StatementLines) → AllFilled lines → AllByRecursion (Stands base (begins chosen place owner lines)) (placed_from chosen place owner lines)
+  all_stand : (chosen : Choosing) (place : ℕ) (owner : LineOwner) (lines : StatementLines) → AllFilled lines → AllByRecursion (Stands base (begins chosen place owner lines)) (placed_from chosen place owner lines)
   all_stand chosen place owner [] filled = tt
   all_stand chosen place owner (line ∷ following) filled =
       let here = owner_of chosen place owner line.1 following in
@@ -138,6 +138,6 @@ module _ (all : List Placed) (base : ℕ) where
       )
 
 -- each line's own place
-pub own_places : (all : List Placed) (base : ℕ) (chosen : Choosing) (place : ℕ) (owner : Owner) (lines : StatementLines) → AllFilled lines
+pub own_places : (all : List Placed) (base : ℕ) (chosen : Choosing) (place : ℕ) (owner : LineOwner) (lines : StatementLines) → AllFilled lines
     → AllByRecursion (Stands base (addresses_from (base + place) (flat_map (line_pieces all) (placed_from chosen place owner lines)))) (placed_from chosen place owner lines)
 own_places all base chosen place owner lines filled = all_stand all base chosen place owner lines filled

@@ -8,7 +8,7 @@ use Rattle.xray_image.specs.Container.{Function}
 use Rattle.asm_text.specs.declared.statement.Choice.{Choice}
 use Rattle.asm_text.specs.declared.statement.Branch.TheVariants as branches
 use Rattle.asm_text.specs.Statements.{Plain, Go, TailJump, Return, Statement, Base, Entry, Func, Label, Does}
-use Rattle.asm_text.specs.Layout.{StatementLines, Placed, Owner, Choosing, owner_of, owner_at, instruction_lines, no_owner, parts_of_line, parts_at, placed_from, lines_placed, widths, sled_shift, sled_kind, functions, function_in, entry_kind}
+use Rattle.asm_text.specs.Layout.{StatementLines, Placed, LineOwner, Choosing, owner_of, owner_at, instruction_lines, no_owner, parts_of_line, parts_at, placed_from, lines_placed, widths, sled_shift, sled_kind, functions, function_in, entry_kind}
 use Rattle.asm_text.proofs.WidthLemmas.{widths_aligned, widths_aligned_branch}
 
 -- the last start at or below an address, or else another
@@ -26,7 +26,7 @@ last_below o address f fs below =
     ap (λ t. last_or o (map (λ (g : Function). g.start) (cond t (f ∷ filter (λ g. leb g.start address) fs) (filter (λ g. leb g.start address) fs)))) (le-leb f.start address below)
 
 -- a start isn't before its line's place, and a line with a sled is longer than its alignment
-pub start_from : (chosen : Choosing) (place : ℕ) (owner : Owner) (name : List ℕ) (choice : Choice) (following : StatementLines)
+pub start_from : (chosen : Choosing) (place : ℕ) (owner : LineOwner) (name : List ℕ) (choice : Choice) (following : StatementLines)
     → place ≤ (owner_of chosen place owner (Func name choice) following).start
 start_from chosen place owner name choice following = by_traced (chosen choice (instruction_lines following))
   where
@@ -34,7 +34,7 @@ start_from chosen place owner name choice following = by_traced (chosen choice (
     by_traced true = omega arith
     by_traced false = omega arith
 
-pub start_to : (chosen : Choosing) (place : ℕ) (owner : Owner) (name : List ℕ) (choice : Choice) (following : StatementLines)
+pub start_to : (chosen : Choosing) (place : ℕ) (owner : LineOwner) (name : List ℕ) (choice : Choice) (following : StatementLines)
     → let here = owner_of chosen place owner (Func name choice) following in here.start ≤ place + widths (parts_of_line here.traced place (Func name choice))
 start_to chosen place owner name choice following = by_traced (chosen choice (instruction_lines following))
   where
@@ -60,7 +60,7 @@ above : (base address n : ℕ) (fs : List Function) → address < base + n → A
 above base address n [] h all = tt
 above base address n (f ∷ fs) h all = (omega (arith, all.0), above base address n fs h all.1)
 
-start_first : (chosen : Choosing) (base place : ℕ) (owner : Owner) (number : ℕ) (s : Statement) (following : StatementLines) (fs : List Function)
+start_first : (chosen : Choosing) (base place : ℕ) (owner : LineOwner) (number : ℕ) (s : Statement) (following : StatementLines) (fs : List Function)
     → AllByRecursion (λ f. base + place ≤ f.start) fs
     → AllByRecursion (λ f. base + place ≤ f.start) (cons_option (function_in base (record { line = number; statement = s; owner = owner_of chosen place owner s following; place = place }) s) fs)
 start_first chosen base place owner number (Base address) following fs all = all
@@ -70,7 +70,7 @@ start_first chosen base place owner number (Label name) following fs all = all
 start_first chosen base place owner number (Does operation) following fs all = all
 
 -- functions start where their lines begin, or after that
-starts_from : (chosen : Choosing) (base place : ℕ) (owner : Owner) (lines : StatementLines) → AllByRecursion (λ f. base + place ≤ f.start) (functions base (placed_from chosen place owner lines))
+starts_from : (chosen : Choosing) (base place : ℕ) (owner : LineOwner) (lines : StatementLines) → AllByRecursion (λ f. base + place ≤ f.start) (functions base (placed_from chosen place owner lines))
 starts_from chosen base place owner [] = tt
 starts_from chosen base place owner (line ∷ following) =
     let here = owner_of chosen place owner line.1 following in
@@ -80,7 +80,7 @@ starts_from chosen base place owner (line ∷ following) =
     (weaker base place (place + w) (functions base left) (omega arith) (starts_from chosen base (place + w) here following))
 
 -- lines begin where those before them end, or after that
-places_from_next : (chosen : Choosing) (place : ℕ) (owner : Owner) (lines : StatementLines) (n : ℕ) → n ≤ place → AllByRecursion (λ p. n ≤ p.place) (placed_from chosen place owner lines)
+places_from_next : (chosen : Choosing) (place : ℕ) (owner : LineOwner) (lines : StatementLines) (n : ℕ) → n ≤ place → AllByRecursion (λ p. n ≤ p.place) (placed_from chosen place owner lines)
 places_from_next chosen place owner [] n h = tt
 places_from_next chosen place owner (line ∷ following) n h =
     let here = owner_of chosen place owner line.1 following in
@@ -124,7 +124,7 @@ more_among base next o p (Func name choice) fs (q ∷ lines) h places among = (
 more_among base next o p (Label name) fs (q ∷ lines) h places among = (among.0, more_among base next o p (Label name) fs lines h places.1 among.1)
 more_among base next o p (Does operation) fs (q ∷ lines) h places among = (among.0, more_among base next o p (Does operation) fs lines h places.1 among.1)
 
-head_among : (chosen : Choosing) (base place : ℕ) (owner : Owner) (number : ℕ) (s : Statement) (following : StatementLines) (o : Option ℕ) (fs : List Function)
+head_among : (chosen : Choosing) (base place : ℕ) (owner : LineOwner) (number : ℕ) (s : Statement) (following : StatementLines) (o : Option ℕ) (fs : List Function)
     → (owner.traced ≡ true → o ≡ Some (base + owner.start))
     → let p : Placed = record { line = number; statement = s; owner = owner_of chosen place owner s following; place = place } in
     AllByRecursion (λ f. base + (place + widths (parts_at p)) ≤ f.start) fs → LiesAmong base o (cons_option (function_in base p s) fs) p
@@ -147,7 +147,7 @@ head_among chosen base place owner number (Does operation) following o fs h all 
     (above base (base + (place + place % 2)) (place + widths (parts_of_line true place (Does operation))) fs (omega (arith, sled_width place (Does operation) k kind)) whole)
     ∙ h traced
 
-keeps_start : (chosen : Choosing) (base place : ℕ) (owner : Owner) (number : ℕ) (s : Statement) (following : StatementLines) (o : Option ℕ)
+keeps_start : (chosen : Choosing) (base place : ℕ) (owner : LineOwner) (number : ℕ) (s : Statement) (following : StatementLines) (o : Option ℕ)
     → (owner.traced ≡ true → o ≡ Some (base + owner.start))
     → let p : Placed = record { line = number; statement = s; owner = owner_of chosen place owner s following; place = place } in
     p.owner.traced ≡ true → start_after base p s o ≡ Some (base + p.owner.start)
@@ -157,7 +157,7 @@ keeps_start chosen base place owner number (Func name choice) following o h = λ
 keeps_start chosen base place owner number (Label name) following o h = h
 keeps_start chosen base place owner number (Does operation) following o h = h
 
-starts_to : (chosen : Choosing) (place : ℕ) (owner : Owner) (number : ℕ) (s : Statement) (following : StatementLines)
+starts_to : (chosen : Choosing) (place : ℕ) (owner : LineOwner) (number : ℕ) (s : Statement) (following : StatementLines)
     → let p : Placed = record { line = number; statement = s; owner = owner_of chosen place owner s following; place = place } in StartsTo p (place + widths (parts_at p)) s
 starts_to chosen place owner number (Base address) following = tt
 starts_to chosen place owner number (Entry name) following = tt
@@ -165,7 +165,7 @@ starts_to chosen place owner number (Func name choice) following = start_to chos
 starts_to chosen place owner number (Label name) following = tt
 starts_to chosen place owner number (Does operation) following = tt
 
-all_among : (chosen : Choosing) (base place : ℕ) (owner : Owner) (lines : StatementLines) (o : Option ℕ) → (owner.traced ≡ true → o ≡ Some (base + owner.start))
+all_among : (chosen : Choosing) (base place : ℕ) (owner : LineOwner) (lines : StatementLines) (o : Option ℕ) → (owner.traced ≡ true → o ≡ Some (base + owner.start))
     → AllByRecursion (LiesAmong base o (functions base (placed_from chosen place owner lines))) (placed_from chosen place owner lines)
 all_among chosen base place owner [] o h = tt
 all_among chosen base place owner (line ∷ following) o h =

@@ -12,13 +12,13 @@ use Rattle.asm_text.specs.declared.statement.Branch.{Branch}
 use Rattle.asm_text.specs.declared.statement.Branch.TheVariants as branches
 use Rattle.asm_text.specs.declared.layout.Laid.{Laid}
 use Rattle.asm_text.specs.Statements.{Plain, Go, TailJump, Return, Statement, Base, Entry, Func, Label, Does}
-use Rattle.asm_text.specs.Layout.{StatementLines, Part, Fixed, Jump, Placed, Owner, Choosing, owner_of, instruction_lines, owner_at, parts_of_line, parts_at, placed_from, width, widths, sleds_of_part, sled_shift, own_place, next_place, place_of, defines, is_function, is_instruction, branch_to, branch_width, piece_of, line_pieces, pieces, functions, function_in, map_entries, entry_in, sled_kind}
+use Rattle.asm_text.specs.Layout.{StatementLines, UnitDraft, Fixed, Jump, Placed, LineOwner, Choosing, owner_of, instruction_lines, owner_at, parts_of_line, parts_at, placed_from, width, widths, sleds_of_part, sled_shift, own_place, next_place, place_of, defines, is_function, is_instruction, branch_to, branch_width, piece_of, line_pieces, pieces, functions, function_in, map_entries, entry_in, sled_kind}
 use Rattle.asm_text.specs.private.Laying.{earlier, line_placed, placed_in, lines_of}
 use Rattle.asm_text.proofs.TargetLemmas.{next_place-cons}
 use Rattle.asm_text.proofs.WidthLemmas.{widths_aligned, sleds_aligned, sleds_aligned_branch}
 
 -- the lines that were placed
-pub lines_of-placed : (chosen : Choosing) (place : ℕ) (owner : Owner) (lines : StatementLines) → lines_of (placed_from chosen place owner lines) ≡ lines
+pub lines_of-placed : (chosen : Choosing) (place : ℕ) (owner : LineOwner) (lines : StatementLines) → lines_of (placed_from chosen place owner lines) ≡ lines
 lines_of-placed chosen place owner [] = refl
 lines_of-placed chosen place owner (line ∷ following) =
     let here = owner_of chosen place owner line.1 following in
@@ -28,7 +28,7 @@ lines_of-placed chosen place owner (line ∷ following) =
 abbrev pub Lies : ℕ → Placed → Type 0
 Lies n p = (p.place ≤ n) × ((own : ℕ) → own_place p ≡ Some own → own ≤ n)
 
-start_within : (chosen : Choosing) (place : ℕ) (owner : Owner) (s : Statement) (following : StatementLines) (n own : ℕ)
+start_within : (chosen : Choosing) (place : ℕ) (owner : LineOwner) (s : Statement) (following : StatementLines) (n own : ℕ)
     → let here = owner_of chosen place owner s following in place + widths (parts_of_line here.traced place s) ≤ n
     → cond (is_function s) (Some here.start) (cond (is_instruction s) (Some place) None) ≡ Some own → own ≤ n
 start_within chosen place owner (Base address) following n own h e = absurd (cc e)
@@ -47,7 +47,7 @@ abbrev pub AllLie : ℕ → List Placed → Type 0
 AllLie n [] = Unit {0}
 AllLie n (p ∷ following) = Lies n p × AllLie n following
 
-pub all_lie : (chosen : Choosing) (n place : ℕ) (owner : Owner) (lines : StatementLines)
+pub all_lie : (chosen : Choosing) (n place : ℕ) (owner : LineOwner) (lines : StatementLines)
     → place + widths (flat_map parts_at (placed_from chosen place owner lines)) ≤ n → AllLie n (placed_from chosen place owner lines)
 all_lie chosen n place owner [] h = tt
 all_lie chosen n place owner (line ∷ following) h =
@@ -95,11 +95,11 @@ branch_bytes branches.Call rel = refl
 branch_bytes branches.Jmp rel = refl
 branch_bytes branches.Jnz rel = refl
 
-part_bytes : (all : List Placed) (following : ℕ) (part : Part) → length (piece_bytes (piece_of all following part)) ≡ width part
+part_bytes : (all : List Placed) (following : ℕ) (part : UnitDraft) → length (piece_bytes (piece_of all following part)) ≡ width part
 part_bytes all following (Fixed piece) = refl
 part_bytes all following (Jump branch name) = branch_bytes branch (pos (unwrap_or (place_of name all) 0) -ℤ pos following)
 
-pub parts_length : (all : List Placed) (following : ℕ) (parts : List Part) → length (flat_map piece_bytes (map (piece_of all following) parts)) ≡ widths parts
+pub parts_length : (all : List Placed) (following : ℕ) (parts : List UnitDraft) → length (flat_map piece_bytes (map (piece_of all following) parts)) ≡ widths parts
 parts_length all following [] = refl
 parts_length all following (part ∷ parts) =
     length-append (piece_bytes (piece_of all following part)) (flat_map piece_bytes (map (piece_of all following) parts))
@@ -117,7 +117,7 @@ code_length all = lines_length all all
 
 -- ---- the number of functions and sleds
 
-pub functions_count : (chosen : Choosing) (place : ℕ) (owner : Owner) (lines : StatementLines) → length (functions 0 (placed_from chosen place owner lines)) ≡ count_by (λ line. is_function line.1) lines
+pub functions_count : (chosen : Choosing) (place : ℕ) (owner : LineOwner) (lines : StatementLines) → length (functions 0 (placed_from chosen place owner lines)) ≡ count_by (λ line. is_function line.1) lines
 functions_count chosen place owner [] = refl
 functions_count chosen place owner (line ∷ following) =
     let here = owner_of chosen place owner line.1 following in

@@ -12,7 +12,7 @@ use Rattle.asm_text.specs.declared.statement.Choice.TheVariants.{ByLength, Alway
 use Rattle.asm_text.specs.declared.statement.Branch.{Branch}
 use Rattle.asm_text.specs.declared.statement.Branch.TheVariants as branches
 use Rattle.asm_text.specs.Statements.{Plain, Go, TailJump, Return, Statement, Base, Entry, Func, Label, Does}
-use Rattle.asm_text.specs.Layout.{StatementLines, Part, Fixed, Jump, Placed, Owner, Choosing, owner_of, no_owner, parts_of_line, parts_at, aligned, placed_from, lines_placed, widths, sled_shift, piece_of, line_pieces, pieces, sled_kind, entry_in, map_entries, functions}
+use Rattle.asm_text.specs.Layout.{StatementLines, UnitDraft, Fixed, Jump, Placed, LineOwner, Choosing, owner_of, no_owner, parts_of_line, parts_at, aligned, placed_from, lines_placed, widths, sled_shift, piece_of, line_pieces, pieces, sled_kind, entry_in, map_entries, functions}
 use Rattle.asm_text.proofs.PlacesInCode.{AllLie, parts_length}
 use Rattle.asm_text.specs.Programs.{trampolines_at}
 use Rattle.asm_text.proofs.Owners.{LiesAmong, lines_lie}
@@ -77,14 +77,14 @@ add_zero : (n : ℕ) → n + 0 ≡ n
 add_zero n = omega arith
 
 -- a sled by the parity of its place
-sled_at : (all : List Placed) (following at : ℕ) (sled : Piece) (r : ℕ) → r < 2 → (rest : List Part)
+sled_at : (all : List Placed) (following at : ℕ) (sled : Piece) (r : ℕ) → r < 2 → (rest : List UnitDraft)
     → places_from at (map (piece_of all following) (cond (eqb r 0) (Fixed sled ∷ []) (Fixed Align ∷ Fixed sled ∷ []) ++ rest)) ≡ places_from (at + r) (sled ∷ map (piece_of all following) rest)
 sled_at all following at sled zero h rest = ap (λ n. places_from n (sled ∷ map (piece_of all following) rest)) (sym (add_zero at))
 sled_at all following at sled (suc zero) h rest = refl
 sled_at all following at sled (suc (suc r)) h rest = absurd (omega arith)
 
 -- a sled after its alignment byte
-sled_after : (all : List Placed) (following base place : ℕ) (sled : Piece) (rest : List Part)
+sled_after : (all : List Placed) (following base place : ℕ) (sled : Piece) (rest : List UnitDraft)
     → places_from (base + place) (map (piece_of all following) (aligned place sled ++ rest)) ≡ places_from (base + (place + place % 2)) (sled ∷ map (piece_of all following) rest)
 sled_after all following base place sled rest =
     sled_at all following (base + place) sled (place % 2) (omega arith) rest
@@ -131,7 +131,7 @@ places_first : (base : ℕ) (o : Option (Placed × ℕ)) (lines : List (Placed �
 places_first base None lines = refl
 places_first base (Some line) lines = refl
 
-code_places : (all : List Placed) (base : ℕ) (chosen : Choosing) (place : ℕ) (owner : Owner) (lines : StatementLines)
+code_places : (all : List Placed) (base : ℕ) (chosen : Choosing) (place : ℕ) (owner : LineOwner) (lines : StatementLines)
     → places_from (base + place) (flat_map (line_pieces all) (placed_from chosen place owner lines)) ≡ map (place_for base) (sled_lines (placed_from chosen place owner lines))
 code_places all base chosen place owner [] = refl
 code_places all base chosen place owner (line ∷ following) =

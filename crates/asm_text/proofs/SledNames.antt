@@ -9,7 +9,7 @@ use Rattle.xray_image.specs.Container.{Function, MapEntry}
 use Rattle.xray_image.specs.Program.{Program, distinct}
 use Rattle.xray_image.specs.Ids.{sledded_functions, name_at, name_of}
 use Rattle.asm_text.specs.Statements.{Statement, Base, Entry, Func, Label, Does}
-use Rattle.asm_text.specs.Layout.{StatementLines, Placed, Owner, Choosing, by_threshold, owner_of, no_owner, parts_at, placed_from, lines_placed, widths, base_of, functions, function_in, sled_kind, entry_in, map_entries}
+use Rattle.asm_text.specs.Layout.{StatementLines, Placed, LineOwner, Choosing, by_threshold, owner_of, no_owner, parts_at, placed_from, lines_placed, widths, base_of, functions, function_in, sled_kind, entry_in, map_entries}
 use Rattle.asm_text.specs.Assembling.{statements_said}
 use Rattle.asm_text.specs.Programs.{sled_said, program_said, function_named, function_over, sled_at_line}
 use Rattle.asm_text.proofs.SaidLines.{are_said}
@@ -106,13 +106,13 @@ all_found base o (f ∷ fs) ascend =
 -- ---- the last function line
 
 -- no function line came yet, or the owner starts where the function of that name does
-abbrev pub OwnerIs : List Function → ℕ → Option (List ℕ) → Owner → Type 0
+abbrev pub OwnerIs : List Function → ℕ → Option (List ℕ) → LineOwner → Type 0
 OwnerIs all base None owner = owner.traced ≡ false
 OwnerIs all base (Some name) owner = IsFound all (record { start = base + owner.start; name = name })
 
 module _ (all : List Function) (base : ℕ) (chosen : Choosing) where
   -- one line
-  owner_first : (place : ℕ) (owner : Owner) (number : ℕ) (s : Statement) (following : StatementLines) (name : Option (List ℕ)) (fs : List Function) → OwnerIs all base name owner
+  owner_first : (place : ℕ) (owner : LineOwner) (number : ℕ) (s : Statement) (following : StatementLines) (name : Option (List ℕ)) (fs : List Function) → OwnerIs all base name owner
       → let p : Placed = record { line = number; statement = s; owner = owner_of chosen place owner s following; place = place } in
       AllByRecursion (IsFound all) (cons_option (function_in base p s) fs)
       → OwnerIs all base (last_or name (cons_option (function_named s) [])) p.owner × AllByRecursion (IsFound all) fs
@@ -130,7 +130,7 @@ module _ (all : List Function) (base : ℕ) (chosen : Choosing) where
   name_first (Label other) name names = refl
   name_first (Does operation) name names = refl
 
-  owner_at : (place : ℕ) (owner : Owner) (lines : StatementLines) (name : Option (List ℕ)) (i : ℕ) (p : Placed) → OwnerIs all base name owner
+  owner_at : (place : ℕ) (owner : LineOwner) (lines : StatementLines) (name : Option (List ℕ)) (i : ℕ) (p : Placed) → OwnerIs all base name owner
       → AllByRecursion (IsFound all) (functions base (placed_from chosen place owner lines)) → slice_get (placed_from chosen place owner lines) i ≡ Some p
       → OwnerIs all base (last_or name (filter_map (λ line. function_named line.1) (take (suc i) lines))) p.owner
   owner_at place owner [] name i p is found e = absurd (cc e)
@@ -179,7 +179,7 @@ module _ (text : List ℕ) (threshold : ℕ) (said : StatementLines) (read : sta
       ∙ ap (name_at program) owner.1
       ∙ by_over fs base p.owner (function_over said i) over owner.0
     where
-      by_over : (fs : List Function) (base : ℕ) (owner : Owner) (o : Option (List ℕ)) → OwnerIs fs base o owner → owner.traced ≡ true
+      by_over : (fs : List Function) (base : ℕ) (owner : LineOwner) (o : Option (List ℕ)) → OwnerIs fs base o owner → owner.traced ≡ true
           → option_map (λ f. f.name) (find (λ f. eqb f.start (base + owner.start)) fs) ≡ o
       by_over fs base owner None over traced = absurd (cc (traced, over))
       by_over fs base owner (Some name) over traced = ap (option_map (λ f. f.name)) over

@@ -10,7 +10,7 @@ use Rattle.asm_text.specs.declared.statement.Branch.{Branch}
 use Rattle.asm_text.specs.declared.statement.Branch.TheVariants as branches
 use Rattle.asm_text.specs.Statements.{Operation, Plain, Go, TailJump, Return, Statement, Base, Entry, Func, Label, Does}
 use Rattle.asm_text.specs.private.Fits.{Fits, OperationFits, AllFit}
-use Rattle.asm_text.specs.Layout.{StatementLines, Part, Fixed, Jump, Placed, Owner, Choosing, owner_of, no_owner, parts_of_line, parts_at, plain_parts, traced_parts, aligned, placed_from, lines_placed, all_parts, width, widths, sled_shift, branch_to, piece_of, line_pieces, pieces, place_of}
+use Rattle.asm_text.specs.Layout.{StatementLines, UnitDraft, Fixed, Jump, Placed, LineOwner, Choosing, owner_of, no_owner, parts_of_line, parts_at, plain_parts, traced_parts, aligned, placed_from, lines_placed, all_parts, width, widths, sled_shift, branch_to, piece_of, line_pieces, pieces, place_of}
 use Rattle.asm_text.proofs.PlacesInCode.{AllLie, all_lie, name_within}
 
 all_both : {X : Type 0} (P : X → Type 0) (xs ys : List X) → AllByRecursion P xs → AllByRecursion P ys → AllByRecursion P (xs ++ ys)
@@ -32,7 +32,7 @@ target_within (Some place) h = h place refl
 
 module _ (all : List Placed) (lie : AllLie 1048576 all) where
   -- the parts are pieces whose fields fit
-  Fit : ℕ → List Part → Type 0
+  Fit : ℕ → List UnitDraft → Type 0
   Fit following parts = AllByRecursion IsPiece (map (piece_of all following) parts)
 
   sled_fits : (following place : ℕ) (sled : Piece) → IsPiece sled → Fit following (aligned place sled)
@@ -81,7 +81,7 @@ module _ (all : List Placed) (lie : AllLie 1048576 all) where
   line_fits true following place (Does operation) fit within = traced_fits following place operation fit within
   line_fits false following place (Does operation) fit within = plain_fits following operation fit within
 
-  lines_fit : (chosen : Choosing) (place : ℕ) (owner : Owner) (lines : StatementLines) → AllFit lines → place + widths (flat_map parts_at (placed_from chosen place owner lines)) ≤ 1048576
+  lines_fit : (chosen : Choosing) (place : ℕ) (owner : LineOwner) (lines : StatementLines) → AllFit lines → place + widths (flat_map parts_at (placed_from chosen place owner lines)) ≤ 1048576
       → AllByRecursion IsPiece (flat_map (line_pieces all) (placed_from chosen place owner lines))
   unfolding Fit
   lines_fit chosen place owner [] fit within = tt

@@ -9,10 +9,10 @@ use Rattle.xray_image.specs.Units.{Piece, JumpSled, ReturnSled, Align, piece_byt
 use Rattle.asm_text.specs.declared.statement.Branch.{Branch}
 use Rattle.asm_text.specs.declared.statement.Branch.TheVariants as branches
 use Rattle.asm_text.specs.Statements.{Operation, Plain, Go, TailJump, Return, Does}
-use Rattle.asm_text.specs.Layout.{Part, Fixed, Jump, parts_of_line, aligned, widths, sleds_of_part, sled_shift, branch_width}
+use Rattle.asm_text.specs.Layout.{UnitDraft, Fixed, Jump, parts_of_line, aligned, widths, sleds_of_part, sled_shift, branch_width}
 
 -- a sled after its alignment byte, by the parity of its place
-abbrev pub at_parity : ℕ → Piece → List Part
+abbrev pub at_parity : ℕ → Piece → List UnitDraft
 at_parity r sled = cond (eqb r 0) (Fixed sled ∷ []) (Fixed Align ∷ Fixed sled ∷ [])
 
 widths_at_parity : (r : ℕ) (sled : Piece) → r < 2 → widths (at_parity r sled) ≡ r + length (piece_bytes sled)

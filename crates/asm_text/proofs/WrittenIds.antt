@@ -9,7 +9,7 @@ use Rattle.xray_image.specs.Program.{distinct}
 use Rattle.xray_image.specs.Units.{JumpSled}
 use Rattle.asm_text.specs.declared.statement.Choice.TheVariants.{ByLength, Always, Args, Never}
 use Rattle.asm_text.specs.Statements.{Plain, Go, TailJump, Return, Statement, Base, Entry, Func, Label, Does}
-use Rattle.asm_text.specs.Layout.{StatementLines, Owner, by_threshold, owner_of, no_owner, is_function, parts_of_line, placed_from, lines_placed, widths, sled_shift, map_entries, base_of}
+use Rattle.asm_text.specs.Layout.{StatementLines, LineOwner, by_threshold, owner_of, no_owner, is_function, parts_of_line, placed_from, lines_placed, widths, sled_shift, map_entries, base_of}
 use Rattle.asm_text.specs.Programs.{sled_said}
 use Rattle.asm_text.specs.WrittenTexts.{is_always_function, AllHaveIds}
 use Rattle.asm_text.proofs.WidthLemmas.{widths_aligned}
@@ -47,16 +47,16 @@ no_entry false f = refl
 -- ---- line after line
 
 -- the function at hand was seen if it is instrumented, and all that was seen starts before the place
-record IsKnown (base place : ℕ) (owner : Owner) (seen : List ℕ) : Type 0 where
+record IsKnown (base place : ℕ) (owner : LineOwner) (seen : List ℕ) : Type 0 where
   own : owner.traced ≡ true → list_any (λ y. y == base + owner.start) seen ≡ true
   below : AllByRecursion (λ y. y < base + place) seen
 
-further : (base place more : ℕ) (owner : Owner) (seen : List ℕ) → IsKnown base place owner seen → IsKnown base (place + more) owner seen
+further : (base place more : ℕ) (owner : LineOwner) (seen : List ℕ) → IsKnown base place owner seen → IsKnown base (place + more) owner seen
 further base place more owner seen known =
     record { own = known.own; below = weaker (base + place) (base + (place + more)) seen (omega arith) known.below }
 
 module _ (threshold base : ℕ) where
-  abbrev counted : (place : ℕ) → Owner → List ℕ → StatementLines → ℕ
+  abbrev counted : (place : ℕ) → LineOwner → List ℕ → StatementLines → ℕ
   counted place owner seen said = length (distinct seen (functions_in (map_entries base (placed_from (by_threshold threshold) place owner said))))
 
   abbrev function_count : StatementLines → ℕ
@@ -64,15 +64,15 @@ module _ (threshold base : ℕ) where
 
   -- what is counted in the rest of the lines, wherever they begin
   abbrev Counts : StatementLines → Type 0
-  Counts said = (place : ℕ) (owner : Owner) (seen : List ℕ) → IsKnown base place owner seen → counted place owner seen said ≡ function_count said
+  Counts said = (place : ℕ) (owner : LineOwner) (seen : List ℕ) → IsKnown base place owner seen → counted place owner seen said ≡ function_count said
 
   -- the entries of the lines after a line, and the sled's entry of a line that has one
-  abbrev entries_after : (place : ℕ) → Owner → Statement → StatementLines → List MapEntry
+  abbrev entries_after : (place : ℕ) → LineOwner → Statement → StatementLines → List MapEntry
   entries_after place owner s following =
       let here = owner_of (by_threshold threshold) place owner s following in
       map_entries base (placed_from (by_threshold threshold) (place + widths (parts_of_line here.traced place s)) here following)
 
-  abbrev entry_at : (place : ℕ) → Owner → (kind : ℕ) → MapEntry
+  abbrev entry_at : (place : ℕ) → LineOwner → (kind : ℕ) → MapEntry
   entry_at place owner kind = record {
     sled = base + (place + place % 2);
     function = base + owner.start;
@@ -82,11 +82,11 @@ module _ (threshold base : ℕ) where
   }
 
   -- a line that makes no entry, or one of a function that was seen
-  adds_none : (place : ℕ) (owner : Owner) (seen : List ℕ) (made : Option MapEntry) (entries : List MapEntry) → made ≡ None
+  adds_none : (place : ℕ) (owner : LineOwner) (seen : List ℕ) (made : Option MapEntry) (entries : List MapEntry) → made ≡ None
       → length (distinct seen (functions_in (cons_option made entries))) ≡ length (distinct seen (functions_in entries))
   adds_none place owner seen made entries e = ap (λ m. length (distinct seen (functions_in (cons_option m entries)))) e
 
-  one : (place : ℕ) (owner : Owner) (seen : List ℕ) (number : ℕ) (s : Statement) (following : StatementLines) → IsKnown base place owner seen
+  one : (place : ℕ) (owner : LineOwner) (seen : List ℕ) (number : ℕ) (s : Statement) (following : StatementLines) → IsKnown base place owner seen
       → is_always_function s ≡ true → Counts following
       → counted place owner seen ((number, s) ∷ following) ≡ cond (is_function s) 1 0 + function_count following
   one place owner seen number (Base address) following known always rest =
@@ -102,7 +102,7 @@ module _ (threshold base : ℕ) where
   one place owner seen number (Func name Never) following known always rest = absurd (cc always)
   one place owner seen number (Func name Always) following known always rest =
       let start = base + (place + place % 2) in
-      let here : Owner = record { traced = true; always = true; start = place + place % 2 } in
+      let here : LineOwner = record { traced = true; always = true; start = place + place % 2 } in
       let width = widths (parts_of_line true place (Func name Always)) in
       let left = functions_in (entries_after place owner (Func name Always) following) in
       let fresh : list_any (λ y. y == start) seen ≡ false = not_seen start seen (weaker (base + place) start seen (omega arith) known.below) in
@@ -114,7 +114,7 @@ module _ (threshold base : ℕ) where
       ∙ (let more = rest (place + width) here (start ∷ seen) known_then in omega (arith, more))
   one place owner seen number (Func name Args) following known always rest =
       let start = base + (place + place % 2) in
-      let here : Owner = record { traced = true; always = true; start = place + place % 2 } in
+      let here : LineOwner = record { traced = true; always = true; start = place + place % 2 } in
       let width = widths (parts_of_line true place (Func name Args)) in
       let left = functions_in (entries_after place owner (Func name Args) following) in
       let fresh : list_any (λ y. y == start) seen ≡ false = not_seen start seen (weaker (base + place) start seen (omega arith) known.below) in

@@ -21,7 +21,7 @@ use Rattle.asm_text.specs.declared.statement.Branch.{Branch}
 use Rattle.asm_text.specs.declared.statement.Branch.TheVariants as branches
 use Rattle.asm_text.specs.Statements.{Plain, Go, TailJump, Return, Statement, Base, Entry, Func, Label, Does}
 use Rattle.asm_text.specs.Language.{statement_of}
-use Rattle.asm_text.specs.Layout.{StatementLines, Owner, Choosing, owner_of, no_owner, is_function, parts_of_line, parts_at, placed_from, all_parts, width, widths, sleds_of_part, sled_shift, unless_never, branch_width}
+use Rattle.asm_text.specs.Layout.{StatementLines, LineOwner, Choosing, owner_of, no_owner, is_function, parts_of_line, parts_at, placed_from, all_parts, width, widths, sleds_of_part, sled_shift, unless_never, branch_width}
 use Rattle.asm_text.specs.Refusals.{is_statement_misplaced, names_reserved, is_out_of_range, repeats, exceeds_limits, statement_judged, statement_spoken, with_words, statement_with_line, read_statements, resolved, text_ended}
 use Rattle.asm_text.specs.WrittenTexts.{Says, MayFollow, IsOrderly, WrittenTextsRead}
 use Rattle.asm_text.proofs.WidthLemmas.{widths_aligned, sleds_aligned, widths_aligned_branch, sleds_aligned_branch}
@@ -67,7 +67,7 @@ line_short false place (Does (Go branch name)) = (omega (arith, branch_short bra
 line_short false place (Does (TailJump name)) = (omega arith, omega arith)
 line_short false place (Does Return) = (omega arith, omega arith)
 
-lines_short : (chosen : Choosing) (place : ℕ) (owner : Owner) (said : StatementLines)
+lines_short : (chosen : Choosing) (place : ℕ) (owner : LineOwner) (said : StatementLines)
     → (widths (flat_map parts_at (placed_from chosen place owner said)) ≤ 18 * length said) × (sum_by sleds_of_part (flat_map parts_at (placed_from chosen place owner said)) ≤ length said)
 lines_short chosen place owner [] = (omega arith, omega arith)
 lines_short chosen place owner (line ∷ following) =

@@ -19,9 +19,9 @@ StatementLines = List (ℕ × Statement)
 -- ---- the parts of the code
 
 -- a unit that its line determines, or a branch to a name
-pub data Part : Type 0 where
-  Fixed : (piece : Piece) → Part
-  Jump : (branch : Branch) (name : List ℕ) → Part
+pub data UnitDraft : Type 0 where
+  Fixed : (piece : Piece) → UnitDraft
+  Jump : (branch : Branch) (name : List ℕ) → UnitDraft
 
 -- the displacement of the nop in each sled
 abbrev pub sled_shift : ℕ
@@ -33,32 +33,32 @@ branch_width branches.Jmp = 5
 branch_width branches.Jnz = 6
 
 -- the length of a part in bytes
-abbrev pub width : Part → ℕ
+abbrev pub width : UnitDraft → ℕ
 width (Fixed piece) = length (piece_bytes piece)
 width (Jump branch name) = branch_width branch
 
-abbrev pub widths : List Part → ℕ
+abbrev pub widths : List UnitDraft → ℕ
 widths parts = sum_by width parts
 
 -- a sled at an odd place gets an alignment byte before it
-abbrev pub aligned : ℕ → Piece → List Part
+abbrev pub aligned : ℕ → Piece → List UnitDraft
 aligned place sled = if place % 2 == 0 then Fixed sled ∷ [] else Fixed Align ∷ Fixed sled ∷ []
 
 -- the parts of an instruction line in a function that isn't instrumented, and in one that is
-abbrev pub plain_parts : Operation → List Part
+abbrev pub plain_parts : Operation → List UnitDraft
 plain_parts (Plain instr) = Fixed (Instruction instr) ∷ []
 plain_parts (Go branch name) = Jump branch name ∷ []
 plain_parts (TailJump name) = Jump branches.Jmp name ∷ []
 plain_parts Return = Fixed (Instruction instrs.Ret) ∷ []
 
-abbrev pub traced_parts : ℕ → Operation → List Part
+abbrev pub traced_parts : ℕ → Operation → List UnitDraft
 traced_parts place (Plain instr) = Fixed (Instruction instr) ∷ []
 traced_parts place (Go branch name) = Jump branch name ∷ []
 traced_parts place (TailJump name) = aligned place (JumpSled sled_shift) ++ Jump branches.Jmp name ∷ []
 traced_parts place Return = aligned place (ReturnSled sled_shift)
 
 -- the parts of a line, by whether its function is instrumented and where the line begins
-abbrev pub parts_of_line : Bool → ℕ → Statement → List Part
+abbrev pub parts_of_line : Bool → ℕ → Statement → List UnitDraft
 parts_of_line traced place (Base address) = []
 parts_of_line traced place (Entry name) = []
 parts_of_line traced place (Func name choice) = if traced then aligned place (JumpSled sled_shift) else []
@@ -103,12 +103,12 @@ unless_never ByLength count = true
 -- ---- places
 
 -- the function that a line belongs to: whether it is instrumented, whether it always is, and where it starts
-pub record Owner : Type 0 where
+pub record LineOwner : Type 0 where
   pub traced : Bool
   pub always : Bool
   pub start : ℕ
 
-abbrev pub no_owner : Owner
+abbrev pub no_owner : LineOwner
 no_owner = record { traced = false; always = false; start = 0 }
 
 -- a function that says always or args is always instrumented
@@ -119,12 +119,12 @@ is_always Args = true
 is_always Never = false
 
 -- a function that begins at a place; an instrumented one starts with its entry sled, after any alignment byte
-abbrev pub owner_at : Bool → Choice → ℕ → Owner
+abbrev pub owner_at : Bool → Choice → ℕ → LineOwner
 owner_at traced choice place =
     record { traced = traced; always = is_always choice; start = if traced then place + place % 2 else place }
 
 -- the function that a line belongs to, by that of the line before it and by the lines after it
-abbrev pub owner_of : Choosing → ℕ → Owner → Statement → StatementLines → Owner
+abbrev pub owner_of : Choosing → ℕ → LineOwner → Statement → StatementLines → LineOwner
 owner_of chosen place owner (Base address) following = owner
 owner_of chosen place owner (Entry name) following = owner
 owner_of chosen place owner (Func name choice) following = owner_at (chosen choice (instruction_lines following)) choice place
@@ -135,14 +135,14 @@ owner_of chosen place owner (Does operation) following = owner
 pub record Placed : Type 0 where
   pub line : ℕ
   pub statement : Statement
-  pub owner : Owner
+  pub owner : LineOwner
   pub place : ℕ
 
-abbrev pub parts_at : Placed → List Part
+abbrev pub parts_at : Placed → List UnitDraft
 parts_at p = parts_of_line p.owner.traced p.place p.statement
 
 -- the first line begins at 0, and each other one after the parts of the line before it
-abbrev pub placed_from : Choosing → ℕ → Owner → StatementLines → List Placed
+abbrev pub placed_from : Choosing → ℕ → LineOwner → StatementLines → List Placed
 placed_from chosen place owner [] = []
 placed_from chosen place owner (line ∷ following) =
     let here = owner_of chosen place owner line.1 following in
@@ -153,10 +153,10 @@ abbrev pub lines_placed : Choosing → StatementLines → List Placed
 lines_placed chosen lines = placed_from chosen 0 no_owner lines
 
 -- all parts, one after the other
-abbrev pub all_parts : Choosing → StatementLines → List Part
+abbrev pub all_parts : Choosing → StatementLines → List UnitDraft
 all_parts chosen lines = flat_map parts_at (lines_placed chosen lines)
 
-abbrev pub sleds_of_part : Part → ℕ
+abbrev pub sleds_of_part : UnitDraft → ℕ
 sleds_of_part (Fixed piece) = sleds_in piece
 sleds_of_part (Jump branch name) = 0
 
@@ -203,7 +203,7 @@ branch_to branches.Jmp rel = instrs.Jmp rel
 branch_to branches.Jnz rel = instrs.Jnz rel
 
 -- A part as a unit. A branch is the last part of its line, so its distance counts from the end of the line.
-abbrev pub piece_of : List Placed → ℕ → Part → Piece
+abbrev pub piece_of : List Placed → ℕ → UnitDraft → Piece
 piece_of lines following (Fixed piece) = piece
 piece_of lines following (Jump branch name) =
     Instruction (branch_to branch (pos (unwrap_or (place_of name lines) 0) -ℤ pos following))

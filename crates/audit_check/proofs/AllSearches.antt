@@ -3,7 +3,7 @@ use Rattle.std.proofs.Common.{◌≡◌, ℕ, zero, suc, ◌+◌, ◌≤◌, Lis
 use Rattle.std.specs.Prelude.{option_and_then, option_map, replicate, slice_get}
 use Rattle.std.proofs.lemmas.List.{length-replicate}
 use Rattle.xray_image.specs.Program.{Program}
-use Rattle.patch_script.specs.declared.command.Command.{Command}
+use Rattle.patch_script.specs.declared.command.PatchCommand.{PatchCommand}
 use Rattle.patch_script.specs.CodeAt.{code_at}
 use Rattle.patch_script.specs.Micros.{total_of}
 use Rattle.audit_check.specs.declared.follower.Follower.{Follower}
@@ -24,7 +24,7 @@ use Rattle.audit_check.proofs.SearchResults.{was_made}
 -- after the first searches the others go on from a place, and these are the places of the loads so far
 abbrev pub GoesOn : Follower → List Sought → (sled from bound i place : ℕ) → List ℕ → Type 0
 GoesOn f sought sled from bound i place places =
-    (program : Program) (threads : ℕ) (script : List Command) → Judges program threads script f → bound ≤ total_of program threads script
+    (program : Program) (threads : ℕ) (script : List PatchCommand) → Judges program threads script f → bound ≤ total_of program threads script
     → found_by bound from (map (search_of program threads (code_at program threads script) sled) sought)
     ≡ option_map (λ (found : ℕ × List ℕ). (found.0, places ++ found.1))
     (found_by bound place (map (search_of program threads (code_at program threads script) sled) (drop i sought)))
@@ -79,7 +79,7 @@ module _ (f : Follower) (sought : List Sought) (sled from bound : ℕ) where
   -- a search that finds nothing
   goes_nowhere : (g : Follower) (i place : ℕ) (s : Sought) (places : List ℕ) → SameButGuesses f g → slice_get sought i ≡ Some s
       → Finds g s sled place bound None → GoesOn f sought sled from bound i place places
-      → (program : Program) (threads : ℕ) (script : List Command) → Judges program threads script f → bound ≤ total_of program threads script
+      → (program : Program) (threads : ℕ) (script : List PatchCommand) → Judges program threads script f → bound ≤ total_of program threads script
       → found_by bound from (map (search_of program threads (code_at program threads script) sled) sought) ≡ None
   goes_nowhere g i place s places same at finds goes program threads script judges low =
       let meaning : Sought → Search = search_of program threads (code_at program threads script) sled in
@@ -98,7 +98,7 @@ module _ (f : Follower) (sought : List Sought) (sled from bound : ℕ) where
 
   -- all searches
   goes_last : (i place : ℕ) (places : List ℕ) → length sought ≤ i → GoesOn f sought sled from bound i place places
-      → (program : Program) (threads : ℕ) (script : List Command) → Judges program threads script f → bound ≤ total_of program threads script
+      → (program : Program) (threads : ℕ) (script : List PatchCommand) → Judges program threads script f → bound ≤ total_of program threads script
       → found_by bound from (map (search_of program threads (code_at program threads script) sled) sought) ≡ Some (place, places)
   goes_last i place places past goes program threads script judges low =
       let meaning : Sought → Search = search_of program threads (code_at program threads script) sled in

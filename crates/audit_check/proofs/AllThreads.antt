@@ -5,7 +5,7 @@ use Rattle.std.proofs.lemmas.List.{length-map}
 use Rattle.std.proofs.lemmas.List.Sums.{sum_by-cons}
 use Rattle.std.proofs.lemmas.Option.{slice_get-map, slice_get_cases, slice_get_read, slice_get_within}
 use Rattle.xray_image.specs.Program.{Program}
-use Rattle.patch_script.specs.declared.command.Command.{Command}
+use Rattle.patch_script.specs.declared.command.PatchCommand.{PatchCommand}
 use Rattle.machine_step.specs.PlainStep.{PlainRun}
 use Rattle.traced_run.specs.Runs.{ThreadRun}
 use Rattle.trace_flush.specs.Audit.{ThreadAudit}
@@ -18,7 +18,7 @@ use Rattle.audit_check.specs.declared.judging.FirstThreads.{FirstThreads}
 use Rattle.audit_check.specs.private.Blocks.{HasCompared}
 use Rattle.audit_check.specs.private.Walks.{IsFound, first_of, verdict_by}
 use Rattle.audit_check.specs.Rows.{AreRunsOf, RecycledAgrees}
-use Rattle.audit_check.specs.Statements.{NamesThreads, Statement, said_by, statement_of}
+use Rattle.audit_check.specs.Statements.{NamesThreads, AuditStatement, said_by, statement_of}
 use Rattle.audit_check.specs.Verdicts.{IsVerdict}
 use Rattle.audit_check.proofs.SameRows.{Judged, all_bytes, first_bytes, judged_next, same_at, way_of}
 use Rattle.audit_check.proofs.FirstDifferences.{verdict_is}
@@ -56,7 +56,7 @@ entry_count audit names = sym (length-map audit.entries.items said_by) ∙ names
 -- ---- one more thread
 
 -- what is found of a thread, whatever the bytes before it are
-abbrev pub Finds : Program → List Command → Audit → List ℕ → AuditEntry → Agreement → TraceLeft → TraceLeft → Type 0
+abbrev pub Finds : Program → List PatchCommand → Audit → List ℕ → AuditEntry → Agreement → TraceLeft → TraceLeft → Type 0
 Finds program script audit trace entry agreement t t' =
     (before : List ℕ) (run : ThreadRun) → PlainRun program audit.setup.limits entry.thread run.passed run.end run.last → run.marks ≡ entry.marks.items
     → run.lost ≡ entry.first → IsFound (record {
@@ -70,9 +70,9 @@ Finds program script audit trace entry agreement t t' =
       before = before;
     }) (said_by entry) run agreement t t'
 
-module _ (program : Program) (script : List Command) (audit : Audit) (names : NamesThreads (statement_of audit)) (trace : List ℕ) (runs : List ThreadRun)
+module _ (program : Program) (script : List PatchCommand) (audit : Audit) (names : NamesThreads (statement_of audit)) (trace : List ℕ) (runs : List ThreadRun)
     (are : AreRunsOf program (statement_of audit) runs) where
-  abbrev statement : Statement
+  abbrev statement : AuditStatement
   statement = statement_of audit
 
   pub run_at : (i : ℕ) → i < audit.setup.threads → (run : ThreadRun) × (slice_get runs i ≡ Some run)

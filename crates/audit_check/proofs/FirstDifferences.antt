@@ -3,10 +3,10 @@ use Rattle.std.proofs.Common.{◌≡◌, ℕ, ◌+◌, Bool, true, false, List, 
 use Rattle.std.specs.Prelude.{◌↔◌, IsTrue}
 use Rattle.std.proofs.lemmas.Bool.{cases_lt}
 use Rattle.xray_image.specs.Program.{Program}
-use Rattle.patch_script.specs.declared.command.Command.{Command}
+use Rattle.patch_script.specs.declared.command.PatchCommand.{PatchCommand}
 use Rattle.traced_run.specs.Runs.{ThreadRun}
 use Rattle.audit_check.specs.private.Walks.{IsFirst, first_of, verdict_by}
-use Rattle.audit_check.specs.Statements.{Statement}
+use Rattle.audit_check.specs.Statements.{AuditStatement}
 use Rattle.audit_check.specs.Verdicts.{AllAgree, CountsRow, EndsRow, FirstToDiffer, IsVerdict, MarksRow, RecycledRow, TraceRow}
 
 module _ (Row : ℕ → Type 0) where
@@ -52,7 +52,7 @@ module _ (Row : ℕ → Type 0) where
   }
 
 -- the verdict, by the first threads
-module _ (program : Program) (script : List Command) (statement : Statement) (trace : List ℕ) (runs : List ThreadRun) where
+module _ (program : Program) (script : List PatchCommand) (statement : AuditStatement) (trace : List ℕ) (runs : List ThreadRun) where
   abbrev threads : ℕ
   threads = statement.setup.threads
 

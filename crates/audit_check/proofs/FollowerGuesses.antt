@@ -7,7 +7,7 @@ use Rattle.xray_image.specs.declared.sled.Sled.{Sled}
 use Rattle.xray_image.specs.declared.sled.SledKind.{SledKind}
 use Rattle.xray_image.specs.declared.sled.SledKind.TheVariants.{Entry, Exit, Tail}
 use Rattle.xray_image.specs.Program.{Program}
-use Rattle.patch_script.specs.declared.command.Command.{Command}
+use Rattle.patch_script.specs.declared.command.PatchCommand.{PatchCommand}
 use Rattle.machine_step.specs.Loads.{is_held_at, logs_args, sled_logs_args}
 use Rattle.audit_check.specs.declared.follower.Follower.{Follower}
 use Rattle.audit_check.specs.private.Judging.{IsReady, Judges, SameButGuesses}
@@ -39,7 +39,7 @@ same_parts f g same = record {
 pub ready_again : (f g : Follower) → SameButGuesses f g → IsReady f → IsReady g
 ready_again f g same ready = same_ready f g (same_parts f g same) ready
 
-pub judges_again : (program : Program) (threads : ℕ) (script : List Command) (f g : Follower) → SameButGuesses f g
+pub judges_again : (program : Program) (threads : ℕ) (script : List PatchCommand) (f g : Follower) → SameButGuesses f g
     → Judges program threads script f → Judges program threads script g
 judges_again program threads script f g same judges = same_judges program threads script f g (same_parts f g same) judges
 

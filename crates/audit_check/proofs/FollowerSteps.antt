@@ -3,7 +3,7 @@ use Rattle.std.proofs.Common.{◌≡◌, ℕ, ◌+◌, ◌<◌, ◌≤◌, List,
 use Rattle.std.specs.Prelude.{MatchOption, option_map}
 use Rattle.xray_image.specs.Program.{Program}
 use Rattle.handler_word.specs.declared.mark.Mark.{Mark}
-use Rattle.patch_script.specs.declared.command.Command.{Command}
+use Rattle.patch_script.specs.declared.command.PatchCommand.{PatchCommand}
 use Rattle.patch_script.specs.CodeAt.{code_at}
 use Rattle.patch_script.specs.Micros.{hold_of, micros, total_of}
 use Rattle.patch_script.proofs.Steps.{start_within}
@@ -20,7 +20,7 @@ use Rattle.audit_check.proofs.PassingBounds.{bound_within}
 use Rattle.audit_check.proofs.WayToMark.{passing_is_least}
 use Rattle.audit_check.proofs.JudgedMarks.{Same, judged_first, judged_more, same_judges, same_ready}
 
-pub begins : (f : Follower) (program : Program) (threads : ℕ) (script : List Command) → f.image.now ≡ program → IsCourseOf program threads script f.course.now
+pub begins : (f : Follower) (program : Program) (threads : ℕ) (script : List PatchCommand) → f.image.now ≡ program → IsCourseOf program threads script f.course.now
     → length f.passed.heads.items ≡ length f.image.now.sleds → 0 < f.thread → f.thread ≤ threads → f.hold ≡ hold_of f.thread script → f.passing ≡ 0
     → f.awaits ≡ 0 → f.place ≡ Some f.course.now.start → HasJudged program threads script f [] []
 begins f program threads script image course heads some within hold none no_awaits place =
@@ -75,7 +75,7 @@ step_ready f g h place waits guesses ready = same_ready f (stepped h place) (ste
 
 pub judged_step : (f g h : Follower) (bound sled : ℕ) (mark : Mark) (found : Option Found) (place : Option ℕ) → place ≡ end_of found → g ≡ record f { awaits = g.awaits } → SameButGuesses g h
     → (ArePassed f f.passing f.awaits → FindsBound f f.passing bound) → (ArePassed f f.passing f.awaits → ArePassed g f.passing g.awaits)
-    → FindsNext g sled mark bound found → sled < length f.image.now.sleds → (program : Program) (threads : ℕ) (script : List Command) (sleds : List ℕ) (marks : List Mark)
+    → FindsNext g sled mark bound found → sled < length f.image.now.sleds → (program : Program) (threads : ℕ) (script : List PatchCommand) (sleds : List ℕ) (marks : List Mark)
     → HasJudged program threads script f sleds marks
     → HasJudged program threads script (stepped h place) (sleds ++ sled ∷ []) (marks ++ mark ∷ [])
 judged_step f g h bound sled mark found place place_is waits guesses finds passes next low program threads script sleds marks has =

@@ -3,7 +3,7 @@ use Rattle.std.proofs.Common.{◌≡◌, ℕ, ◌==◌, ◌≤◌, Bool, true, f
 use Rattle.std.specs.Prelude.{◌&&◌, ◌↔◌, IfSome, IsTrue, is_some}
 use Rattle.xray_image.specs.Program.{Program}
 use Rattle.handler_word.specs.declared.mark.Mark.{Mark}
-use Rattle.patch_script.specs.declared.command.Command.{Command}
+use Rattle.patch_script.specs.declared.command.PatchCommand.{PatchCommand}
 use Rattle.patch_script.specs.Micros.{total_of}
 use Rattle.machine_step.specs.Events.{recorded}
 use Rattle.machine_step.specs.Traced.{sleds_passed}
@@ -22,7 +22,7 @@ use Rattle.audit_check.proofs.WalkedThread.{first_all, take_all}
 -- ---- marks
 
 -- marks that follow the script up to a place follow all of it
-whole_script : (program : Program) (threads : ℕ) (script : List Command) (thread : ℕ) (sleds : List ℕ) (marks : List Mark) (place : ℕ)
+whole_script : (program : Program) (threads : ℕ) (script : List PatchCommand) (thread : ℕ) (sleds : List ℕ) (marks : List Mark) (place : ℕ)
     → place ≤ total_of program threads script → Follow program threads script thread sleds marks place
     → MarksFollowScript program threads script thread sleds marks
 whole_script program threads script thread sleds marks place low f = record {
@@ -33,7 +33,7 @@ whole_script program threads script thread sleds marks place low f = record {
   each = f.each;
 }
 
-least_follows : (program : Program) (threads : ℕ) (script : List Command) (thread : ℕ) (sleds : List ℕ) (marks : List Mark) (place : Option ℕ)
+least_follows : (program : Program) (threads : ℕ) (script : List PatchCommand) (thread : ℕ) (sleds : List ℕ) (marks : List Mark) (place : Option ℕ)
     → IsLeast (Follow program threads script thread sleds marks) place → IfSome place (λ p. p ≤ total_of program threads script)
     → IsTrue (is_some place) ↔ MarksFollowScript program threads script thread sleds marks
 least_follows program threads script thread sleds marks None never low =
@@ -45,7 +45,7 @@ least_follows program threads script thread sleds marks (Some place) (follows, l
 pub marks_whole : (marks : List Mark) (count : ℕ) → length marks ≡ count → first_marks count marks ≡ marks
 marks_whole marks count same = ap (λ n. first_marks n marks) (sym same) ∙ first_all marks
 
-module _ (program : Program) (threads : ℕ) (script : List Command) (thread : ℕ) (f : Follower) (thread_is : f.thread ≡ thread) (said : ThreadAudit) (run : ThreadRun)
+module _ (program : Program) (threads : ℕ) (script : List PatchCommand) (thread : ℕ) (f : Follower) (thread_is : f.thread ≡ thread) (said : ThreadAudit) (run : ThreadRun)
     (judged : HasJudged program threads script f (sleds_passed (take (length run.passed) run.passed)) (first_marks (length run.passed) said.marks))
     (ends : EndsAgree said run) where
   follows_if : length said.marks ≡ said.passings

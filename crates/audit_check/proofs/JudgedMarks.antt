@@ -4,7 +4,7 @@ use Rattle.std.specs.Prelude.{IfSome, MatchOption}
 use Rattle.std.proofs.lemmas.List.Elements.{All-append, All-cons, All-nil}
 use Rattle.xray_image.specs.Program.{Program}
 use Rattle.handler_word.specs.declared.mark.Mark.{Mark}
-use Rattle.patch_script.specs.declared.command.Command.{Command}
+use Rattle.patch_script.specs.declared.command.PatchCommand.{PatchCommand}
 use Rattle.patch_script.specs.Bounds.{bound_of}
 use Rattle.patch_script.specs.CodeAt.{code_at}
 use Rattle.patch_script.specs.Micros.{hold_of, micros, start_of, total_of}
@@ -54,7 +54,7 @@ same_ready old new same ready = record {
   within = let low = ready.within in let count = ap (λ (c : Bor Course). length c.now.switches.releases.items) same.course in omega (arith, low, count, same.thread);
 }
 
-module _ (program : Program) (threads : ℕ) (script : List Command) where
+module _ (program : Program) (threads : ℕ) (script : List PatchCommand) where
   abbrev code : ℕ → ℕ → ℕ
   code = code_at program threads script
 

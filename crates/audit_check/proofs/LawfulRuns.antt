@@ -13,7 +13,7 @@ use Rattle.fdr_buffer.specs.Segments.{has_room, segments, segments_from}
 use Rattle.handler_word.specs.declared.mark.Mark.{Mark}
 use Rattle.handler_word.specs.declared.mark.Mark.TheVariants.{Skipped, NoHandler, NotLogging, Recorded, RecordedArg}
 use Rattle.handler_word.specs.MarkList.{is_recorded, recorded_count}
-use Rattle.patch_script.specs.declared.command.Command.{Command}
+use Rattle.patch_script.specs.declared.command.PatchCommand.{PatchCommand}
 use Rattle.machine_step.specs.Buffers.{spare_of}
 use Rattle.machine_step.specs.declared.end.End.{End}
 use Rattle.machine_step.specs.declared.setup.Setup.{Setup}
@@ -114,7 +114,7 @@ runs_stated program setup runs is_run = record {
   lost = said_of_all setup (λ said. said.first) (λ run. run.lost) (λ n run. refl) 1 runs;
 }
 
-module _ (program : Program) (script : List Command) (setup : Setup) (runs : List ThreadRun) (is_run : IsRun program setup runs)
+module _ (program : Program) (script : List PatchCommand) (setup : Setup) (runs : List ThreadRun) (is_run : IsRun program setup runs)
     (follow : AllMarksFollow program setup.threads script runs) (lost : AreLost setup.size (spare_of setup) runs) where
   as_many : (i : ℕ) (run : ThreadRun) → slice_get runs i ≡ Some run → length run.marks ≡ length run.passed
   as_many i run at = (follow i run at).each ∙ length-map run.passed (λ (p : Passing). p.sled)

@@ -13,7 +13,7 @@ use Rattle.machine_step.specs.Loads.{is_held_at, sled_logs_args}
 use Rattle.audit_check.specs.private.Ways.{Leaf, Passes, Reaches, Tree, arg_handler_tree, handler_tree, head_tree, id_tree, passing_tree, state_tree, trees_of}
 use Rattle.audit_check.proofs.FollowWays.{marks_pass}
 use Rattle.audit_check.proofs.OwnRelease.{trees_own}
-use Rattle.audit_check.specs.Places.{Search, either_handler, first_among, found_by, handler_searches, has_arg_handler, has_handler, head_searches, is_patched, is_set, log_records, passing_searches, patched_search, places_from}
+use Rattle.audit_check.specs.Places.{Search, either_handler, first_among, found_by, handler_searches, has_arg_handler, has_handler, head_searches, is_patched, is_set, log_records, passing_searches, patched_search, load_places_from}
 
 -- ---- the first place is the least
 
@@ -342,7 +342,7 @@ module _ (program : Program) (threads : ℕ) (code : ℕ → ℕ → ℕ) (bound
 
 pub passings_least : (program : Program) (threads : ℕ) (code : ℕ → ℕ → ℕ) (bound : ℕ → ℕ) (thread : ℕ) (hold : Option ℕ) (number from place end : ℕ)
     (sleds : List ℕ) (marks : List Mark) → from ≤ place → Passes code bound number (trees_of program threads thread hold number sleds) marks place end
-    → (places : List ℕ) × (places_from program threads code bound thread hold number from sleds marks ≡ Some places)
+    → (places : List ℕ) × (load_places_from program threads code bound thread hold number from sleds marks ≡ Some places)
 passings_least program threads code bound thread hold number from place end [] [] low way = ([], refl)
 passings_least program threads code bound thread hold number from place end [] (mark ∷ marks) low way = absurd way
 passings_least program threads code bound thread hold number from place end (sled ∷ sleds) [] low way = absurd way
@@ -350,7 +350,7 @@ passings_least program threads code bound thread hold number from place end (sle
     let first = passing_least program threads code (bound number) thread (is_held_at hold number) sled mark from place at low way in
     let later = passings_least program threads code bound thread hold (number + 1) first.found.0 at end sleds marks first.high rest in
     let next : ℕ × List ℕ → Option (List ℕ) = λ found.
-    option_map (λ (more : List ℕ). found.1 ++ more) (places_from program threads code bound thread hold (number + 1) found.0 sleds marks) in (
+    option_map (λ (more : List ℕ). found.1 ++ more) (load_places_from program threads code bound thread hold (number + 1) found.0 sleds marks) in (
       first.found.1 ++ later.0,
       ap (option_and_then next) first.is ∙ ap (option_map (λ (more : List ℕ). first.found.1 ++ more)) later.1,
     )
@@ -359,7 +359,7 @@ passings_least program threads code bound thread hold number from place end (sle
 pub following_least : (program : Program) (threads : ℕ) (code : ℕ → ℕ → ℕ) (start : ℕ) (bound : ℕ → ℕ) (thread : ℕ) (hold : Option ℕ) (sleds : List ℕ)
     (marks : List Mark) (place : ℕ) → 0 < thread → thread ≤ threads → All (λ sled. sled < length program.sleds) sleds
     → MarksFollow program threads code start bound thread hold sleds marks place
-    → (places : List ℕ) × (places_from program threads code bound thread hold 0 start sleds marks ≡ Some places)
+    → (places : List ℕ) × (load_places_from program threads code bound thread hold 0 start sleds marks ≡ Some places)
 following_least program threads code start bound thread hold sleds marks place some within exist follow =
     passings_least program threads code bound thread hold 0 start start place sleds marks (omega arith)
     (marks_pass program threads code start bound thread hold sleds (trees_own program threads thread some within hold 0 sleds exist) marks place follow)

@@ -4,7 +4,7 @@ use Rattle.std.specs.Prelude.{MatchOption, option_and_then, option_map, replicat
 use Rattle.xray_image.specs.declared.sled.Sled.{Sled}
 use Rattle.xray_image.specs.Program.{Program}
 use Rattle.handler_word.specs.declared.mark.Mark.{Mark}
-use Rattle.patch_script.specs.declared.command.Command.{Command}
+use Rattle.patch_script.specs.declared.command.PatchCommand.{PatchCommand}
 use Rattle.patch_script.specs.Bounds.{bound_of}
 use Rattle.patch_script.specs.CodeAt.{code_at}
 use Rattle.patch_script.specs.Micros.{hold_of, micros, start_of, total_of}
@@ -14,7 +14,7 @@ use Rattle.audit_check.specs.declared.follower.Follower.{Follower}
 use Rattle.audit_check.specs.declared.follower.Found.{Found}
 use Rattle.audit_check.specs.declared.searches.Sought.{Sought}
 use Rattle.audit_check.specs.declared.stop.LoadStops.{LoadStops}
-use Rattle.audit_check.specs.Places.{Search, found_by, head_searches, is_set, passing_searches, places_from}
+use Rattle.audit_check.specs.Places.{Search, found_by, head_searches, is_set, passing_searches, load_places_from}
 use Rattle.audit_check.specs.private.Judging.{ArePassed, FindsBound, FindsPlace, HasJudged, Judges, SameButGuesses}
 use Rattle.audit_check.specs.private.LoadStops.{places_in}
 use Rattle.audit_check.specs.private.Searches.{AddsAll, AddsNext, FindsAll, FindsNext, HasPlaced, counted, end_of, search_of}
@@ -36,7 +36,7 @@ IsReleased f from bound answer =
     × (is_held_at f.hold f.passing ≡ true → FindsPlace f (λ program threads. release_word program f.thread) is_on true from bound answer)
 
 module _ (f : Follower) (sled : ℕ) (mark : Mark) (from bound : ℕ) (at : Option ℕ) (released : IsReleased f from bound at) where
-  after_release : (program : Program) (threads : ℕ) (script : List Command) → Judges program threads script f → bound ≤ total_of program threads script
+  after_release : (program : Program) (threads : ℕ) (script : List PatchCommand) → Judges program threads script f → bound ≤ total_of program threads script
       → (held : Bool) → is_held_at f.hold f.passing ≡ held
       → found_by bound from (passing_searches program threads (code_at program threads script) f.thread held sled mark)
       ≡ option_and_then (λ place. found_by bound place (head_searches program threads (code_at program threads script) sled mark)) at
@@ -54,7 +54,7 @@ module _ (f : Follower) (sled : ℕ) (mark : Mark) (from bound : ℕ) (at : Opti
       sym (ap (option_and_then (λ place. found_by bound place (head_searches program threads (code_at program threads script) sled mark))) (released.0 held))
 
   -- nothing lets the thread go on
-  held_nowhere : at ≡ None → (program : Program) (threads : ℕ) (script : List Command) → Judges program threads script f → bound ≤ total_of program threads script
+  held_nowhere : at ≡ None → (program : Program) (threads : ℕ) (script : List PatchCommand) → Judges program threads script f → bound ≤ total_of program threads script
       → found_by bound from (passing_searches program threads (code_at program threads script) f.thread (is_held_at f.hold f.passing) sled mark) ≡ None
   held_nowhere none program threads script judges low =
       after_release program threads script judges low (is_held_at f.hold f.passing) refl
@@ -79,7 +79,7 @@ module _ (f : Follower) (sled : ℕ) (mark : Mark) (from bound : ℕ) (at : Opti
       (there_is : slice_get g.image.now.sleds sled ≡ Some s)
       (searches : (program : Program) (threads : ℕ) (code : ℕ → ℕ → ℕ) (sled : ℕ) → sled_logs_args program sled ≡ logs_args s.kind
       → map (search_of program threads code sled) sought ≡ head_searches program threads code sled mark) where
-    sought_from : (program : Program) (threads : ℕ) (script : List Command) → Judges program threads script f → bound ≤ total_of program threads script
+    sought_from : (program : Program) (threads : ℕ) (script : List PatchCommand) → Judges program threads script f → bound ≤ total_of program threads script
         → found_by bound from (passing_searches program threads (code_at program threads script) f.thread (is_held_at f.hold f.passing) sled mark)
         ≡ found_by bound place (map (search_of program threads (code_at program threads script) sled) sought)
     sought_from program threads script judges low =
@@ -150,13 +150,13 @@ adds_here f sled mark bound here old new place added next = λ program threads s
 -- ---- the places of all passings
 
 -- before the first
-pub placed_first : (program : Program) (threads : ℕ) (script : List Command) (f : Follower) → IsCourseOf program threads script f.course.now
+pub placed_first : (program : Program) (threads : ℕ) (script : List PatchCommand) (f : Follower) → IsCourseOf program threads script f.course.now
     → f.place ≡ Some f.course.now.start → HasPlaced program threads script f [] [] []
 placed_first program threads script f course place = record {
   goes_on = λ more more_marks.
       let first : f.place ≡ Some (start_of program threads script) = place ∙ ap Some course.start in
       let all : ℕ → Option (List ℕ) = λ from.
-      places_from program threads (code_at program threads script) (bound_of program threads script f.thread) f.thread (hold_of f.thread script) 0 from more more_marks in
+      load_places_from program threads (code_at program threads script) (bound_of program threads script f.thread) f.thread (hold_of f.thread script) 0 from more more_marks in
       same_places (all (start_of program threads script))
       ∙ sym (ap (option_and_then (λ from. option_map (λ (later : List ℕ). [] ++ later) (all from))) first);
 }
@@ -176,7 +176,7 @@ end_counted None = refl
 end_counted (Some found) = refl
 
 -- and after one more
-module _ (program : Program) (threads : ℕ) (script : List Command) (thread : ℕ) (hold : Option ℕ) (sled : ℕ) (mark : Mark) (n : ℕ) (before after : List ℕ)
+module _ (program : Program) (threads : ℕ) (script : List PatchCommand) (thread : ℕ) (hold : Option ℕ) (sled : ℕ) (mark : Mark) (n : ℕ) (before after : List ℕ)
     (more : List ℕ) (more_marks : List Mark) where
   abbrev code : ℕ → ℕ → ℕ
   code = code_at program threads script
@@ -185,7 +185,7 @@ module _ (program : Program) (threads : ℕ) (script : List Command) (thread : �
   bounds = bound_of program threads script thread
 
   abbrev from_next : ℕ → Option (List ℕ)
-  from_next place = places_from program threads code bounds thread hold (n + 1) place more more_marks
+  from_next place = load_places_from program threads code bounds thread hold (n + 1) place more more_marks
 
   joined : (own : List ℕ) (later : Option (List ℕ)) → after ≡ before ++ own
       → option_map (λ (later : List ℕ). before ++ later) (option_map (λ (later : List ℕ). own ++ later) later)
@@ -208,7 +208,7 @@ module _ (program : Program) (threads : ℕ) (script : List Command) (thread : �
       → MatchOption first (place ≡ None)
       (λ from. Continues before after place (found_by (bounds n) from (passing_searches program threads code thread (is_held_at hold n) sled mark)))
       → option_and_then (λ from. option_map (λ (later : List ℕ). before ++ later)
-      (places_from program threads code bounds thread hold n from (sled ∷ more) (mark ∷ more_marks))) first
+      (load_places_from program threads code bounds thread hold n from (sled ∷ more) (mark ∷ more_marks))) first
       ≡ option_and_then (λ at. option_map (λ (later : List ℕ). after ++ later) (from_next at)) place
   passing_goes_on None place none =
       ap (option_and_then (λ at. option_map (λ (later : List ℕ). after ++ later) (from_next at))) (sym none)
@@ -218,7 +218,7 @@ module _ (program : Program) (threads : ℕ) (script : List Command) (thread : �
 placed_step : (f g h : Follower) (bound sled : ℕ) (mark : Mark) (found : Option Found) (place : Option ℕ) (old new : LoadStops) → place ≡ end_of found → g ≡ record f { awaits = g.awaits }
     → SameButGuesses g h → (ArePassed f f.passing f.awaits → FindsBound f f.passing bound) → FindsNext g sled mark bound found
     → AddsNext g sled mark bound old new
-    → (program : Program) (threads : ℕ) (script : List Command) (sleds : List ℕ) (marks : List Mark)
+    → (program : Program) (threads : ℕ) (script : List PatchCommand) (sleds : List ℕ) (marks : List Mark)
     → HasJudged program threads script f sleds marks → HasPlaced program threads script f sleds marks (places_in old)
     → HasPlaced program threads script (stepped h place) (sleds ++ sled ∷ []) (marks ++ mark ∷ []) (places_in new)
 placed_step f g h bound sled mark found place old new place_is waits guesses finds next adds program threads script sleds marks has placed =
@@ -249,7 +249,7 @@ placed_step f g h bound sled mark found place old new place_is waits guesses fin
   where
     from_here : (thread n from : ℕ) → List ℕ → List Mark → Option (List ℕ)
     from_here thread n from ss ms =
-        places_from program threads (code_at program threads script) (bound_of program threads script thread) thread (hold_of thread script) n from ss ms
+        load_places_from program threads (code_at program threads script) (bound_of program threads script thread) thread (hold_of thread script) n from ss ms
 
     all : (thread : ℕ) → List ℕ → List Mark → Option (List ℕ)
     all thread ss ms = from_here thread 0 (start_of program threads script) ss ms
@@ -304,7 +304,7 @@ placed_step f g h bound sled mark found place old new place_is waits guesses fin
 pub placed_again : (f g h k : Follower) (bound sled : ℕ) (mark : Mark) (found : Option Found) (place : Option ℕ) (old new : LoadStops) → place ≡ end_of found
     → g ≡ record f { awaits = g.awaits } → SameButGuesses g h → SameButGuesses h k → (ArePassed f f.passing f.awaits → FindsBound f f.passing bound)
     → FindsNext g sled mark bound found → (FindsNext h sled mark bound found → AddsNext h sled mark bound old new)
-    → (program : Program) (threads : ℕ) (script : List Command) (sleds : List ℕ) (marks : List Mark)
+    → (program : Program) (threads : ℕ) (script : List PatchCommand) (sleds : List ℕ) (marks : List Mark)
     → HasJudged program threads script f sleds marks → HasPlaced program threads script f sleds marks (places_in old)
     → HasPlaced program threads script (stepped k place) (sleds ++ sled ∷ []) (marks ++ mark ∷ []) (places_in new)
 placed_again f g h k bound sled mark found place old new place_is waits guesses more finds next adds =

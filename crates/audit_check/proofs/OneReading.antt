@@ -10,8 +10,8 @@ use Rattle.trace_flush.specs.Audit.{ThreadAudit, audit_text}
 use Rattle.trace_flush.specs.Telling.{HasNumbers, HasSetupNumbers}
 use Rattle.audit_check.specs.declared.fault.AuditFault.{AuditFault}
 use Rattle.audit_check.specs.declared.fault.AuditFault.TheVariants.{Form, NoMemory}
-use Rattle.audit_check.specs.Reading.{IsRefused, ReadsAs, whole_lines}
-use Rattle.audit_check.specs.Statements.{HasCounts, MayState, Statement, text_of}
+use Rattle.audit_check.specs.Reading.{IsRefused, ReadsAsAudit, whole_lines}
+use Rattle.audit_check.specs.Statements.{HasCounts, MayState, AuditStatement, text_of}
 
 -- ---- the numbers of a statement have 64 bits
 
@@ -25,7 +25,7 @@ thread_has said i has number low = record {
   marks = let small = has.marks in omega arith;
 }
 
-threads_have : (s : Statement) → MayState s → All HasNumbers s.threads
+threads_have : (s : AuditStatement) → MayState s → All HasNumbers s.threads
 threads_have s may = λ i d low.
     let count : length s.threads ≡ s.setup.threads = may.names.count in
     let few = may.names.setup_is.few_threads in
@@ -83,10 +83,10 @@ TellsItsSetup =
     (setup other : Setup) (threads others : List ThreadAudit) (n m : ℕ) → HasSetupNumbers setup → HasSetupNumbers other
     → audit_text setup threads n ≡ audit_text other others m → setup ≡ other
 
-abbrev stated : Setup → List ThreadAudit → ℕ → Statement
+abbrev stated : Setup → List ThreadAudit → ℕ → AuditStatement
 stated setup threads recycled = record { setup = setup; threads = threads; recycled = recycled }
 
-same_statement : TellsThreads → TellsRecycled → TellsItsSetup → (s t : Statement) → MayState s → MayState t → text_of s ≡ text_of t → s ≡ t
+same_statement : TellsThreads → TellsRecycled → TellsItsSetup → (s t : AuditStatement) → MayState s → MayState t → text_of s ≡ text_of t → s ≡ t
 same_statement threads recycled setup s t may may' same =
     let each = threads s.setup t.setup s.threads t.threads s.recycled t.recycled (threads_have s may) (threads_have t may') same in
     let count = recycled s.setup t.setup s.threads t.threads s.recycled t.recycled (threads_have s may) (threads_have t may') may.recycled may'.recycled same in
@@ -95,7 +95,7 @@ same_statement threads recycled setup s t may may' same =
     ∙ (ap (λ (x : List ThreadAudit). stated t.setup x s.recycled) each ∙ ap (λ (x : ℕ). stated t.setup t.threads x) count)
 
 -- what is read isn't refused
-not_both : (bytes : List ℕ) (s : Statement) (line : ℕ) → MayState s → bytes ≡ text_of s → IsRefused bytes line → ⊥
+not_both : (bytes : List ℕ) (s : AuditStatement) (line : ℕ) → MayState s → bytes ≡ text_of s → IsRefused bytes line → ⊥
 not_both bytes s line may is refused =
     refused.fails (record { statement = s; may = may; same = ap (λ (b : List ℕ). take line (whole_lines b)) (sym is) })
 
@@ -108,8 +108,8 @@ same_line bytes line other a b = elim (cases_lt line other) [
   ]
 ]
 
-pub one_reading : TellsThreads → TellsRecycled → TellsItsSetup → (bytes : List ℕ) (reading other : Result Statement AuditFault)
-    → ReadsAs bytes reading → ReadsAs bytes other → reading ≡ other
+pub one_reading : TellsThreads → TellsRecycled → TellsItsSetup → (bytes : List ℕ) (reading other : Result AuditStatement AuditFault)
+    → ReadsAsAudit bytes reading → ReadsAsAudit bytes other → reading ≡ other
 one_reading threads recycled setup bytes (Ok s) (Ok t) a b = ap Ok (same_statement threads recycled setup s t a.0 b.0 (sym a.1 ∙ b.1))
 one_reading threads recycled setup bytes (Ok s) (Err (Form line)) a b = absurd (not_both bytes s line a.0 a.1 b)
 one_reading threads recycled setup bytes (Ok s) (Err NoMemory) a b = absurd b

@@ -4,7 +4,7 @@ use Rattle.std.specs.Prelude.{map, slice_get}
 use Rattle.std.proofs.lemmas.Bool.{cases_order}
 use Rattle.xray_image.specs.Program.{Program}
 use Rattle.handler_word.specs.declared.mark.Mark.{Mark}
-use Rattle.patch_script.specs.declared.command.Command.{Command}
+use Rattle.patch_script.specs.declared.command.PatchCommand.{PatchCommand}
 use Rattle.machine_step.specs.declared.end.End.{End}
 use Rattle.machine_step.specs.declared.limits.Limits.{Limits}
 use Rattle.machine_step.specs.PlainStep.{Passing, PlainRun, State}
@@ -12,7 +12,7 @@ use Rattle.traced_run.specs.Runs.{ThreadRun}
 use Rattle.audit_check.specs.declared.verdict.Verdict.{Verdict}
 use Rattle.audit_check.specs.declared.verdict.Verdict.TheVariants.{Yes, Ends, Marks, Counts, Recycled, Trace}
 use Rattle.audit_check.specs.Rows.{AreRunsOf}
-use Rattle.audit_check.specs.Statements.{Statement}
+use Rattle.audit_check.specs.Statements.{AuditStatement}
 use Rattle.audit_check.specs.Verdicts.{AllAgree, FirstToDiffer, IsJudged, IsVerdict}
 
 -- ---- one thread
@@ -30,7 +30,7 @@ module _ (threads : ℕ) (Row : ℕ → Type 0) where
 
 -- ---- one verdict on some runs
 
-pub verdicts_same : (program : Program) (script : List Command) (s : Statement) (trace : List ℕ) (runs : List ThreadRun) (v w : Verdict)
+pub verdicts_same : (program : Program) (script : List PatchCommand) (s : AuditStatement) (trace : List ℕ) (runs : List ThreadRun) (v w : Verdict)
     → IsVerdict program script s trace runs v → IsVerdict program script s trace runs w → v ≡ w
 verdicts_same program script s trace runs (Ends t) (Ends u) a b = ap Ends (first_same _ _ t u a b)
 verdicts_same program script s trace runs (Ends t) (Marks u) a b = absurd (not_first _ _ t b.0 a)
@@ -119,13 +119,13 @@ plain_from : (program : Program) (limits : Limits) (runs : List ThreadRun) (thre
 plain_from program limits runs threads plain = λ i r is.
     subst (λ n. PlainRun program limits n r.passed r.end r.last) (omega arith) (plain i r is)
 
-pub runs_same : (program : Program) → OneEnd program → (s : Statement) (runs others : List ThreadRun)
+pub runs_same : (program : Program) → OneEnd program → (s : AuditStatement) (runs others : List ThreadRun)
     → AreRunsOf program s runs → AreRunsOf program s others → runs ≡ others
 runs_same program one s runs others a b =
     runs_from program one s.setup.limits 1 runs others (plain_from program s.setup.limits runs s.setup.threads a.run.plain)
     (plain_from program s.setup.limits others s.setup.threads b.run.plain) (a.marks ∙ sym b.marks) (a.lost ∙ sym b.lost)
 
-pub judged_same : (program : Program) → OneEnd program → (script : List Command) (s : Statement) (trace : List ℕ) (v w : Verdict)
+pub judged_same : (program : Program) → OneEnd program → (script : List PatchCommand) (s : AuditStatement) (trace : List ℕ) (v w : Verdict)
     → IsJudged program script s trace v → IsJudged program script s trace w → v ≡ w
 judged_same program one script s trace v w a b =
     let same = runs_same program one s a.runs b.runs a.are b.are in

@@ -1,13 +1,13 @@
 -- A script for its own image and number of threads.
 use Rattle.std.proofs.Common.{◌≡◌, ◌<◌, ℕ, List, ap, subst, ◌∙◌}
 use Rattle.xray_image.specs.Program.{Program}
-use Rattle.patch_script.specs.declared.command.Command.{Command}
+use Rattle.patch_script.specs.declared.command.PatchCommand.{PatchCommand}
 use Rattle.patch_script.specs.declared.micro.Micro.{Micro}
 use Rattle.patch_script.specs.Micros.{micro_at, total_of}
 
-module _ (program own : Program) (number owns : ℕ) (script : List Command) (same : own ≡ program) (equal : owns ≡ number) where
+module _ (program own : Program) (number owns : ℕ) (script : List PatchCommand) (same : own ≡ program) (equal : owns ≡ number) where
   -- a place of it
-  pub own_place : (of : Program → ℕ → List Command → ℕ) (place : ℕ) → place ≡ of own owns script → place ≡ of program number script
+  pub own_place : (of : Program → ℕ → List PatchCommand → ℕ) (place : ℕ) → place ≡ of own owns script → place ≡ of program number script
   own_place of place is = is ∙ ap (λ (p : Program). of p owns script) same ∙ ap (λ n. of program n script) equal
 
   -- the micro step at a place of it

@@ -4,7 +4,7 @@ use Rattle.std.specs.Prelude.{slice_get}
 use Rattle.std.proofs.lemmas.Bool.{cases_lt}
 use Rattle.std.proofs.lemmas.Option.{same_Some}
 use Rattle.xray_image.specs.Program.{Program}
-use Rattle.patch_script.specs.declared.command.Command.{Command}
+use Rattle.patch_script.specs.declared.command.PatchCommand.{PatchCommand}
 use Rattle.patch_script.specs.declared.micro.Micro.{Micro}
 use Rattle.patch_script.specs.Bounds.{bound_of}
 use Rattle.patch_script.specs.Micros.{micros}
@@ -35,7 +35,7 @@ passed_next f g awaited same found none passed =
 
 -- ---- the bound
 
-module _ (program : Program) (threads : ℕ) (script : List Command) (f : Follower) (judges : Judges program threads script f) where
+module _ (program : Program) (threads : ℕ) (script : List PatchCommand) (f : Follower) (judges : Judges program threads script f) where
   abbrev steps : List Micro
   steps = micros program threads script
 

@@ -5,7 +5,7 @@ use Rattle.std.proofs.lemmas.Bool.{cases_lt}
 use Rattle.std.proofs.lemmas.Option.{slice_get_within}
 use Rattle.xray_image.specs.Program.{Program}
 use Rattle.handler_word.specs.declared.mark.Mark.{Mark}
-use Rattle.patch_script.specs.declared.command.Command.{Command}
+use Rattle.patch_script.specs.declared.command.PatchCommand.{PatchCommand}
 use Rattle.patch_script.specs.CodeAt.{code_at}
 use Rattle.patch_script.specs.Micros.{start_of}
 use Rattle.machine_step.specs.declared.end.End.{End}
@@ -21,7 +21,7 @@ use Rattle.audit_check.specs.declared.placing.PlacedThread.{PlacedThread}
 use Rattle.audit_check.specs.Places.{load_places}
 use Rattle.audit_check.specs.Placings.{IsPlacing}
 use Rattle.audit_check.specs.Rows.{AreRunsOf, EndsAgree, MarksAgree}
-use Rattle.audit_check.specs.Statements.{Statement}
+use Rattle.audit_check.specs.Statements.{AuditStatement}
 use Rattle.audit_check.specs.Stops.{places_of}
 use Rattle.audit_check.specs.Verdicts.{AllAgree, EndsRow, MarksRow}
 use Rattle.audit_check.specs.private.Judging.{HasJudged}
@@ -37,18 +37,18 @@ use Rattle.audit_check.proofs.WalkedThread.{first_more, sleds_more, take_all}
 -- ---- one passing more
 
 -- no passing was made
-pub stopped_first : (program : Program) (threads : ℕ) (script : List Command) (all : List Mark) (passed : List Passing) (t : Traced) (f : Follower) (places : List ℕ)
+pub stopped_first : (program : Program) (threads : ℕ) (script : List PatchCommand) (all : List Mark) (passed : List Passing) (t : Traced) (f : Follower) (places : List ℕ)
     → t.marks ≡ [] → HasStopped program threads script all passed 0 f places
     → (t.marks ≡ first_marks (length t.marks) all) × HasStopped program threads script all passed (length t.marks) f places
 stopped_first program threads script all passed t f places none has =
     subst (λ (ms : List Mark). (ms ≡ first_marks (length ms) all) × HasStopped program threads script all passed (length ms) f places) (sym none) (refl, has)
 
-module _ (program : Program) (threads : ℕ) (script : List Command) (all : List Mark) (passed : List Passing) where
+module _ (program : Program) (threads : ℕ) (script : List PatchCommand) (all : List Mark) (passed : List Passing) where
   stopped_more : (n : ℕ) (p : Passing) (f g : Follower) (sled : ℕ) (mark : Mark) (before after : List ℕ) → slice_get passed n ≡ Some p → p.sled ≡ sled
       → mark ≡ mark_or_skipped all n
-      → ((program : Program) (threads : ℕ) (script : List Command) (sleds : List ℕ) (marks : List Mark) → HasJudged program threads script f sleds marks
+      → ((program : Program) (threads : ℕ) (script : List PatchCommand) (sleds : List ℕ) (marks : List Mark) → HasJudged program threads script f sleds marks
       → HasJudged program threads script g (sleds ++ sled ∷ []) (marks ++ mark ∷ []))
-      → ((program : Program) (threads : ℕ) (script : List Command) (sleds : List ℕ) (marks : List Mark) → HasJudged program threads script f sleds marks
+      → ((program : Program) (threads : ℕ) (script : List PatchCommand) (sleds : List ℕ) (marks : List Mark) → HasJudged program threads script f sleds marks
       → HasPlaced program threads script f sleds marks before → HasPlaced program threads script g (sleds ++ sled ∷ []) (marks ++ mark ∷ []) after)
       → HasStopped program threads script all passed n f before → HasStopped program threads script all passed (n + 1) g after
   stopped_more n p f g sled mark before after found of_sled mark_is judges places has =
@@ -70,9 +70,9 @@ module _ (program : Program) (threads : ℕ) (script : List Command) (all : List
   -- as many passings were made as a thread has marks
   pub stopped_next : (t u : Traced) (p : Passing) (f g : Follower) (sled : ℕ) (mark : Mark) (before after : List ℕ) → slice_get passed (length t.marks) ≡ Some p
       → p.sled ≡ sled → mark ≡ mark_or_skipped all (length t.marks) → u.marks ≡ t.marks ++ mark ∷ []
-      → ((program : Program) (threads : ℕ) (script : List Command) (sleds : List ℕ) (marks : List Mark) → HasJudged program threads script f sleds marks
+      → ((program : Program) (threads : ℕ) (script : List PatchCommand) (sleds : List ℕ) (marks : List Mark) → HasJudged program threads script f sleds marks
       → HasJudged program threads script g (sleds ++ sled ∷ []) (marks ++ mark ∷ []))
-      → ((program : Program) (threads : ℕ) (script : List Command) (sleds : List ℕ) (marks : List Mark) → HasJudged program threads script f sleds marks
+      → ((program : Program) (threads : ℕ) (script : List PatchCommand) (sleds : List ℕ) (marks : List Mark) → HasJudged program threads script f sleds marks
       → HasPlaced program threads script f sleds marks before → HasPlaced program threads script g (sleds ++ sled ∷ []) (marks ++ mark ∷ []) after)
       → (t.marks ≡ first_marks (length t.marks) all) × HasStopped program threads script all passed (length t.marks) f before
       → (u.marks ≡ first_marks (length u.marks) all) × HasStopped program threads script all passed (length u.marks) g after
@@ -90,7 +90,7 @@ right_of : (a b : Bool) → IsTrue (a && b) → IsTrue b
 right_of true b both = both
 right_of false b both = absurd (let q : false ≡ true = both in cc)
 
-module _ (program : Program) (threads : ℕ) (script : List Command) (thread : ℕ) (f : Follower) (thread_is : f.thread ≡ thread) (said : ThreadAudit) (run : ThreadRun)
+module _ (program : Program) (threads : ℕ) (script : List PatchCommand) (thread : ℕ) (f : Follower) (thread_is : f.thread ≡ thread) (said : ThreadAudit) (run : ThreadRun)
     (places : List ℕ) (has : HasStopped program threads script said.marks run.passed (length run.passed) f places) where
   places_found : EndsAgree said run → MarksAgree program threads script thread said run
       → load_places program threads script thread (sleds_passed run.passed) said.marks ≡ Some places
@@ -130,7 +130,7 @@ module _ (program : Program) (threads : ℕ) (script : List Command) (thread : �
 
 -- ---- the first threads
 
-module _ (program : Program) (script : List Command) (statement : Statement) (runs : List ThreadRun) where
+module _ (program : Program) (script : List PatchCommand) (statement : AuditStatement) (runs : List ThreadRun) where
   abbrev Ends : ℕ → Type 0
   Ends number = EndsRow program script statement [] runs number
 
@@ -237,7 +237,7 @@ module _ (program : Program) (script : List Command) (statement : Statement) (ru
 -- ---- some runs of which an audit speaks
 
 -- all of their threads were placed, after as many as there are
-pub some_placed : (program : Program) (script : List Command) (statement : Statement) (first : FirstThreads) (places : List (List ℕ)) (threads : ℕ)
+pub some_placed : (program : Program) (script : List PatchCommand) (statement : AuditStatement) (first : FirstThreads) (places : List (List ℕ)) (threads : ℕ)
     → length statement.threads ≡ statement.setup.threads → threads ≡ statement.setup.threads
     → ((thread : ℕ) → (passed : List Passing) × (end : End) × (last : State) × PlainRun program statement.setup.limits thread passed end last)
     → ((runs : List ThreadRun) → AreRunsOf program statement runs → PlacedUpTo program script statement runs threads first places)

@@ -18,8 +18,8 @@ use Rattle.audit_check.specs.declared.thread_rows.Counts.{Counts}
 use Rattle.audit_check.specs.private.Lines.{AreFirst, HasTaken, Refuses, all_rows, counts_of, counts_row, first_rows, rows_of}
 use Rattle.audit_check.specs.private.Parts.{HasShortCounts, format_row, setup_row}
 use Rattle.audit_check.specs.private.Taking.{counts_in, recycled_in}
-use Rattle.audit_check.specs.Reading.{IsRefused, ReadsAs, whole_lines}
-use Rattle.audit_check.specs.Statements.{HasCounts, MayState, Statement, most_marks, text_of}
+use Rattle.audit_check.specs.Reading.{IsRefused, ReadsAsAudit, whole_lines}
+use Rattle.audit_check.specs.Statements.{HasCounts, MayState, AuditStatement, most_marks, text_of}
 use Rattle.audit_check.proofs.Refusals.{IsCountsRow, IsFormatRow, IsMarksRow, IsRecycledRow, IsSetupRow, TellsSetup, Unlike, counted_rows, one_more, refused_counts, refused_end, refused_format, refused_marks, refused_recycled, refused_setup, said_of, text_by_rows}
 use Rattle.audit_check.proofs.ReadRows.{counts_only, recycled_only}
 use Rattle.audit_check.proofs.RowLines.{joined_lines}
@@ -143,11 +143,11 @@ all_may setup threads recycled are count small = record {
 
 -- ---- the end
 
-pub whole_text : (bytes : List ℕ) (statement : Statement) (rows : Rows) → HasTaken bytes rows (all_rows statement) → rows.left.now ≡ [] → bytes ≡ text_of statement
+pub whole_text : (bytes : List ℕ) (statement : AuditStatement) (rows : Rows) → HasTaken bytes rows (all_rows statement) → rows.left.now ≡ [] → bytes ≡ text_of statement
 whole_text bytes statement rows has empty =
     text_by_rows bytes statement (no_rows bytes rows (all_rows statement) has empty ∙ append-nil (all_rows statement))
 
-pub end_refused : TellsSetup → (bytes : List ℕ) (statement : Statement) (rows : Rows) → MayState statement → HasTaken bytes rows (all_rows statement) → rows.left.now ≢ []
+pub end_refused : TellsSetup → (bytes : List ℕ) (statement : AuditStatement) (rows : Rows) → MayState statement → HasTaken bytes rows (all_rows statement) → rows.left.now ≢ []
     → IsRefused bytes (rows.number + 1)
 end_refused tells bytes statement rows may has some =
     at_line bytes (length (all_rows statement) + 1) (rows.number + 1) (let count = has.number in omega (arith, count)) (by (whole_lines rows.left.now) refl)
@@ -157,6 +157,6 @@ end_refused tells bytes statement rows may has some =
     by (row ∷ more) is = refused_end tells bytes statement row more may (has.left ∙ ap (λ (l : List (List ℕ)). all_rows statement ++ l) is)
 
 -- bytes that are refused read as that, unless memory ran out
-pub refused_reads : (bytes : List ℕ) (fault : AuditFault) → Refuses bytes fault → (fault ≡ NoMemory) ⊎ ReadsAs bytes (Err fault)
+pub refused_reads : (bytes : List ℕ) (fault : AuditFault) → Refuses bytes fault → (fault ≡ NoMemory) ⊎ ReadsAsAudit bytes (Err fault)
 refused_reads bytes (Form line) refused = inr refused
 refused_reads bytes NoMemory refused = inl refl

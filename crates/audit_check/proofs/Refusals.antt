@@ -14,8 +14,8 @@ use Rattle.handler_word.specs.declared.mark.Mark.{Mark}
 use Rattle.audit_check.specs.declared.thread_rows.Counts.{Counts}
 use Rattle.audit_check.specs.private.Lines.{AreFirst, all_rows, counts_row, first_rows, rows_of}
 use Rattle.audit_check.specs.private.Parts.{HasShortCounts, buffers_part, format_row, setup_row, stamps_part}
-use Rattle.audit_check.specs.Reading.{Begins, IsRefused, whole_lines}
-use Rattle.audit_check.specs.Statements.{HasCounts, MayState, Statement, most_marks, text_of}
+use Rattle.audit_check.specs.Reading.{BeginsAudit, IsRefused, whole_lines}
+use Rattle.audit_check.specs.Statements.{HasCounts, MayState, AuditStatement, most_marks, text_of}
 use Rattle.audit_check.proofs.RowLines.{joined_lines, lines_of_text}
 use Rattle.audit_check.proofs.RowTexts.{rows_are}
 
@@ -39,7 +39,7 @@ threads_joined (said ∷ threads) =
     ap (λ (l : List ℕ). thread_line said ++ (marks_line said.marks ++ l)) (threads_joined threads)
     ∙ sym (append_assoc (thread_line said) (marks_line said.marks) (flat_map thread_lines threads))
 
-pub rows_joined : (statement : Statement) → join (all_rows statement) ≡ text_of statement
+pub rows_joined : (statement : AuditStatement) → join (all_rows statement) ≡ text_of statement
 rows_joined s =
     let each : List ℕ = flat_map thread_lines s.threads in
     let last : List ℕ = recycled_line s.recycled in
@@ -48,10 +48,10 @@ rows_joined s =
     ∙ (ap (λ (l : List ℕ). (format_row ++ (setup_row s.setup ++ each)) ++ l) (append-nil last)
     ∙ ap (λ (l : List ℕ). l ++ last) (sym (append_assoc format_row (setup_row s.setup) each) ∙ ap (λ (l : List ℕ). l ++ each) (sym (setup_joined s.setup)))))
 
-pub rows_of_text : (statement : Statement) → whole_lines (text_of statement) ≡ all_rows statement
+pub rows_of_text : (statement : AuditStatement) → whole_lines (text_of statement) ≡ all_rows statement
 rows_of_text statement = ap whole_lines (sym (rows_joined statement)) ∙ lines_of_text (all_rows statement) (rows_are statement)
 
-pub text_by_rows : (bytes : List ℕ) (statement : Statement) → whole_lines bytes ≡ all_rows statement → bytes ≡ text_of statement
+pub text_by_rows : (bytes : List ℕ) (statement : AuditStatement) → whole_lines bytes ≡ all_rows statement → bytes ≡ text_of statement
 text_by_rows bytes statement same = sym (joined_lines bytes) ∙ (ap (λ (ls : List (List ℕ)). flat_map (λ line. line) ls) same ∙ rows_joined statement)
 
 -- ---- lists of rows
@@ -109,7 +109,7 @@ blanks_numbered next zero i said is = absurd cc
 blanks_numbered next (suc count) zero said is = let same : blank next ≡ said = cc in sym (ap (λ (s : ThreadAudit). s.thread) same) ∙ omega arith
 blanks_numbered next (suc count) (suc i) said is = let later = blanks_numbered (next + 1) count i said is in omega arith
 
-completed : Setup → List ThreadAudit → Statement
+completed : Setup → List ThreadAudit → AuditStatement
 completed setup threads = record {
   setup = setup;
   threads = threads ++ blanks (length threads + 1) (setup.threads - length threads);
@@ -146,8 +146,8 @@ rows-append [] ys = refl
 rows-append (x ∷ xs) ys = ap (λ (ls : List (List ℕ)). thread_line x ∷ marks_line x.marks ∷ ls) (rows-append xs ys)
 
 -- rows that an audit begins with
-begins_by : (bytes : List ℕ) (s : Statement) (taken rest others : List (List ℕ)) → MayState s → all_rows s ≡ taken ++ others
-    → whole_lines bytes ≡ taken ++ rest → (count : ℕ) → count ≤ length taken → Begins bytes count
+begins_by : (bytes : List ℕ) (s : AuditStatement) (taken rest others : List (List ℕ)) → MayState s → all_rows s ≡ taken ++ others
+    → whole_lines bytes ≡ taken ++ rest → (count : ℕ) → count ≤ length taken → BeginsAudit bytes count
 begins_by bytes s taken rest others may rows lines count within = record {
   statement = s;
   may = may;
@@ -170,7 +170,7 @@ completed_rows setup threads =
 -- the first rows begin an audit
 pub first_begin : (bytes : List ℕ) (setup : Setup) (threads : List ThreadAudit) (rest : List (List ℕ)) → AreFirst setup threads
     → length threads ≤ setup.threads → whole_lines bytes ≡ first_rows setup threads ++ rest
-    → (count : ℕ) → count ≤ length (first_rows setup threads) → Begins bytes count
+    → (count : ℕ) → count ≤ length (first_rows setup threads) → BeginsAudit bytes count
 first_begin bytes setup threads rest are low lines =
     begins_by bytes (completed setup threads) (first_rows setup threads) rest (later_rows setup threads) (completed_may setup threads are low)
     (completed_rows setup threads) lines
@@ -184,7 +184,7 @@ length-rows (x ∷ threads) = let later = length-rows threads in omega (arith, l
 pub length-first : (setup : Setup) (threads : List ThreadAudit) → length (first_rows setup threads) ≡ 2 + 2 * length threads
 length-first setup threads = omega (arith, length-rows threads)
 
-pub length-all : (s : Statement) → length (all_rows s) ≡ 3 + 2 * length s.threads
+pub length-all : (s : AuditStatement) → length (all_rows s) ≡ 3 + 2 * length s.threads
 length-all s = omega (arith, length-append (first_rows s.setup s.threads) (recycled_line s.recycled ∷ []), length-first s.setup s.threads)
 
 -- the two rows of a thread
@@ -243,8 +243,8 @@ all_same (x ∷ xs) (y ∷ ys) same =
 
 -- Rows were taken that begin an audit. In each audit that begins with them the next row is a certain row. The next row isn't.
 pub refused_next : (bytes : List ℕ) (taken rest : List (List ℕ)) (IsRow : List ℕ → Type 0) → whole_lines bytes ≡ taken ++ rest → Unlike IsRow rest
-    → ((count : ℕ) → count ≤ length taken → Begins bytes count)
-    → ((s : Statement) → MayState s → take (length taken) (all_rows s) ≡ taken
+    → ((count : ℕ) → count ≤ length taken → BeginsAudit bytes count)
+    → ((s : AuditStatement) → MayState s → take (length taken) (all_rows s) ≡ taken
     → (row : List ℕ) × (slice_get (all_rows s) (length taken) ≡ Some row) × IsRow row)
     → IsRefused bytes (length taken + 1)
 refused_next bytes taken rest IsRow lines other begins next = record {
@@ -252,7 +252,7 @@ refused_next bytes taken rest IsRow lines other begins next = record {
   before = λ count less. begins count (omega arith);
 }
   where
-    fail : (rest : List (List ℕ)) → whole_lines bytes ≡ taken ++ rest → Unlike IsRow rest → Begins bytes (length taken + 1) → ⊥
+    fail : (rest : List (List ℕ)) → whole_lines bytes ≡ taken ++ rest → Unlike IsRow rest → BeginsAudit bytes (length taken + 1) → ⊥
     fail [] is unlike b =
         let count : length taken + 1 ≡ suc (length taken) = omega arith in
         let none : taken ++ [] ≡ taken = simp append-nil in
@@ -314,7 +314,7 @@ some_setup_is = record {
   frequency = lit< tt;
 }
 
-some_statement : Statement
+some_statement : AuditStatement
 some_statement = completed some_setup []
 
 some_may : MayState some_statement
@@ -328,7 +328,7 @@ pub refused_format : (bytes : List ℕ) (rest : List (List ℕ)) → whole_lines
 refused_format bytes rest lines other =
     refused_next bytes [] rest IsFormatRow lines other
     (λ count low. let none : count ≡ 0 = omega arith in
-    subst (λ n. Begins bytes n) (sym none) (record { statement = some_statement; may = some_may; same = refl }))
+    subst (λ n. BeginsAudit bytes n) (sym none) (record { statement = some_statement; may = some_may; same = refl }))
     (λ s may same. (format_row, refl, refl))
 
 abbrev pub IsSetupRow : List ℕ → Type 0
@@ -339,7 +339,7 @@ refused_setup bytes rest lines other =
     refused_next bytes (format_row ∷ []) rest IsSetupRow lines other (λ count low. begins count low)
     (λ s may same. (setup_row s.setup, refl, (s.setup, may.names.setup_is, refl)))
   where
-    begins : (count : ℕ) → count ≤ length (format_row ∷ []) → Begins bytes count
+    begins : (count : ℕ) → count ≤ length (format_row ∷ []) → BeginsAudit bytes count
     begins zero low = record { statement = some_statement; may = some_may; same = refl }
     begins (suc zero) low = record {
       statement = some_statement;
@@ -352,7 +352,7 @@ refused_setup bytes rest lines other =
 abbrev pub TellsSetup : Type 0
 TellsSetup = (s t : Setup) → IsSetup s → IsSetup t → setup_row s ≡ setup_row t → s ≡ t
 
-same_setup : TellsSetup → (setup : Setup) (threads : List ThreadAudit) (more : List (List ℕ)) (s : Statement) → IsSetup setup → MayState s
+same_setup : TellsSetup → (setup : Setup) (threads : List ThreadAudit) (more : List (List ℕ)) (s : AuditStatement) → IsSetup setup → MayState s
     → take (suc (suc (length more))) (all_rows s) ≡ format_row ∷ setup_row setup ∷ more → length s.threads ≡ setup.threads
 same_setup tells setup threads more s is may same =
     let row : setup_row s.setup ≡ setup_row setup = ap (λ (rows : List (List ℕ)). get_or rows 1 []) same in
@@ -369,7 +369,7 @@ refused_counts tells bytes setup threads rest are low lines other =
     refused_next bytes (first_rows setup threads) rest (IsCountsRow (length threads + 1)) lines other
     (first_begin bytes setup threads rest are (omega arith) lines) next
   where
-    next : (s : Statement) → MayState s → take (length (first_rows setup threads)) (all_rows s) ≡ first_rows setup threads
+    next : (s : AuditStatement) → MayState s → take (length (first_rows setup threads)) (all_rows s) ≡ first_rows setup threads
         → (row : List ℕ) × (slice_get (all_rows s) (length (first_rows setup threads)) ≡ Some row) × IsCountsRow (length threads + 1) row
     next s may same =
         let count = same_setup tells setup threads (flat_map rows_of threads) s are.setup_is may same in
@@ -458,7 +458,7 @@ refused_marks tells bytes setup threads counts rest are low short lines other =
     (marks_line [] ∷ later_rows setup (with_unmarked threads counts)) (unmarked_may setup threads counts are low short) (unmarked_rows setup threads counts) lines)
     next
   where
-    next : (s : Statement) → MayState s → take (length (counted_rows setup threads (length threads + 1) counts)) (all_rows s)
+    next : (s : AuditStatement) → MayState s → take (length (counted_rows setup threads (length threads + 1) counts)) (all_rows s)
         ≡ counted_rows setup threads (length threads + 1) counts
         → (row : List ℕ) × (slice_get (all_rows s) (length (counted_rows setup threads (length threads + 1) counts)) ≡ Some row) × IsMarksRow row
     next s may same =
@@ -486,7 +486,7 @@ refused_recycled tells bytes setup threads rest are all lines other =
     refused_next bytes (first_rows setup threads) rest IsRecycledRow lines other
     (first_begin bytes setup threads rest are (omega (arith, all)) lines) next
   where
-    next : (s : Statement) → MayState s → take (length (first_rows setup threads)) (all_rows s) ≡ first_rows setup threads
+    next : (s : AuditStatement) → MayState s → take (length (first_rows setup threads)) (all_rows s) ≡ first_rows setup threads
         → (row : List ℕ) × (slice_get (all_rows s) (length (first_rows setup threads)) ≡ Some row) × IsRecycledRow row
     next s may same =
         let count = same_setup tells setup threads (flat_map rows_of threads) s are.setup_is may same in
@@ -497,7 +497,7 @@ refused_recycled tells bytes setup threads rest are all lines other =
         )
 
 -- rows after all of an audit
-pub refused_end : TellsSetup → (bytes : List ℕ) (statement : Statement) (row : List ℕ) (more : List (List ℕ)) → MayState statement
+pub refused_end : TellsSetup → (bytes : List ℕ) (statement : AuditStatement) (row : List ℕ) (more : List (List ℕ)) → MayState statement
     → whole_lines bytes ≡ all_rows statement ++ row ∷ more → IsRefused bytes (length (all_rows statement) + 1)
 refused_end tells bytes statement row more may lines = record {
   fails = λ b.

@@ -14,7 +14,7 @@ use Rattle.machine_step.specs.Texts.{end_text, line_feed, marks_line}
 use Rattle.trace_flush.specs.Audit.{ThreadAudit, limits_text, recycled_line, thread_line}
 use Rattle.audit_check.specs.private.Lines.{all_rows, first_rows, rows_of}
 use Rattle.audit_check.specs.private.Parts.{buffers_part, format_row, setup_row, stamps_part}
-use Rattle.audit_check.specs.Statements.{Statement}
+use Rattle.audit_check.specs.Statements.{AuditStatement}
 use Rattle.audit_check.proofs.Digits.{decimal_feeds}
 use Rattle.audit_check.proofs.RowLines.{AreLines, HasNoFeed, IsLine, feeds-append, lines-append}
 
@@ -134,7 +134,7 @@ threads_are (said ∷ threads) = (thread_is said, (marks_is said.marks, threads_
 
 -- ---- an audit
 
-pub rows_are : (statement : Statement) → AreLines (all_rows statement)
+pub rows_are : (statement : AuditStatement) → AreLines (all_rows statement)
 rows_are statement =
     lines-append (first_rows statement.setup statement.threads) (recycled_line statement.recycled ∷ [])
     (format_is, (setup_is statement.setup, threads_are statement.threads)) (recycled_is statement.recycled, tt)

@@ -8,7 +8,7 @@ use Rattle.std.proofs.lemmas.Option.{same_Some}
 use Rattle.xray_image.specs.Program.{Program}
 use Rattle.fdr_buffer.specs.Filled.{Filled}
 use Rattle.fdr_file.specs.Files.{block_bytes, header_bytes}
-use Rattle.patch_script.specs.declared.command.Command.{Command}
+use Rattle.patch_script.specs.declared.command.PatchCommand.{PatchCommand}
 use Rattle.machine_step.specs.declared.setup.Setup.{Setup}
 use Rattle.traced_run.specs.Kept.{segments_of, thread_buffers}
 use Rattle.traced_run.specs.Runs.{ThreadRun}
@@ -20,7 +20,7 @@ use Rattle.audit_check.specs.declared.judging.FirstThreads.{FirstThreads}
 use Rattle.audit_check.specs.private.Blocks.{HasCompared, kept_bytes}
 use Rattle.audit_check.specs.private.Walks.{IsFirst, IsFound, Way, first_of}
 use Rattle.audit_check.specs.Rows.{CountsAgree, EndsAgree, MarksAgree}
-use Rattle.audit_check.specs.Statements.{Statement}
+use Rattle.audit_check.specs.Statements.{AuditStatement}
 use Rattle.audit_check.specs.Verdicts.{AllAgree, AtThread, CountsRow, EndsRow, MarksRow}
 use Rattle.audit_check.proofs.FirstDifferences.{fewer, first_next, last, none_yet}
 use Rattle.audit_check.proofs.WalkedThread.{take_all}
@@ -65,7 +65,7 @@ bytes_next setup runs i run at =
 
 -- ---- the first threads
 
-module _ (program : Program) (script : List Command) (statement : Statement) (trace : List ℕ) (runs : List ThreadRun) where
+module _ (program : Program) (script : List PatchCommand) (statement : AuditStatement) (trace : List ℕ) (runs : List ThreadRun) where
   abbrev pub Ends : ℕ → Type 0
   Ends number = EndsRow program script statement trace runs number
 

@@ -4,7 +4,7 @@ use Rattle.std.specs.Prelude.{unwrap_or}
 use Rattle.std.proofs.lemmas.List.{take_more}
 use Rattle.std.proofs.lemmas.Option.{unwrap_or-slice_get}
 use Rattle.xray_image.specs.Program.{Program}
-use Rattle.patch_script.specs.declared.command.Command.{Command}
+use Rattle.patch_script.specs.declared.command.PatchCommand.{PatchCommand}
 use Rattle.patch_script.specs.declared.micro.Micro.{Micro}
 use Rattle.patch_script.specs.declared.micro.Micro.TheVariants.{Store, Await, End}
 use Rattle.patch_script.specs.CodeAt.{code_at, stored_in}
@@ -15,7 +15,7 @@ use Rattle.audit_check.specs.private.Switches.{AreSwitches, IsCourseUpTo, IsOfWo
 use Rattle.audit_check.proofs.PassingBounds.{awaits-append}
 use Rattle.audit_check.proofs.ScriptSwitches.{Follows, next_waits, stays}
 
-module _ (program : Program) (threads : ℕ) (script : List Command) where
+module _ (program : Program) (threads : ℕ) (script : List PatchCommand) where
   abbrev steps : List Micro
   steps = micros program threads script
 

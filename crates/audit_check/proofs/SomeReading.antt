@@ -17,8 +17,8 @@ use Rattle.audit_check.specs.declared.thread_rows.Counts.{Counts}
 use Rattle.audit_check.specs.private.Lines.{AreFirst, all_rows, counts_row, first_rows}
 use Rattle.audit_check.specs.private.Parts.{HasShortCounts, format_row}
 use Rattle.audit_check.specs.private.Taking.{counts_in, recycled_in, setup_in}
-use Rattle.audit_check.specs.Reading.{IsRefused, ReadsAs, whole_lines}
-use Rattle.audit_check.specs.Statements.{MayState, Statement, most_marks}
+use Rattle.audit_check.specs.Reading.{IsRefused, ReadsAsAudit, whole_lines}
+use Rattle.audit_check.specs.Statements.{MayState, AuditStatement, most_marks}
 use Rattle.audit_check.proofs.KnownFacts.{Known, known_as, known_below, known_both, known_bytes, known_most}
 use Rattle.audit_check.proofs.ReadRows.{SaysCounts, counts_found, recycled_found, setup_found, setup_only, setup_tells}
 use Rattle.audit_check.proofs.ReadAudits.{all_may, none_first, rows_more, unread_counts, unread_recycled}
@@ -171,12 +171,12 @@ module _ (reads : WrittenNumbersRead) where
 
   module _ (bytes : List ℕ) where
     abbrev pub Reading : Type 0
-    Reading = (reading : Result Statement AuditFault) × ReadsAs bytes reading
+    Reading = (reading : Result AuditStatement AuditFault) × ReadsAsAudit bytes reading
 
     refuse : (line : ℕ) → IsRefused bytes line → Reading
     refuse line is = (Err (Form line), is)
 
-    at_end : (s : Statement) → MayState s → (rest : List (List ℕ)) → whole_lines bytes ≡ all_rows s ++ rest → Reading
+    at_end : (s : AuditStatement) → MayState s → (rest : List (List ℕ)) → whole_lines bytes ≡ all_rows s ++ rest → Reading
     at_end s may [] lines = (Ok s, (may, text_by_rows bytes s (lines ∙ append-nil (all_rows s))))
     at_end s may (row ∷ more) lines =
         refuse (length (all_rows s) + 1) (refused_end (setup_tells reads) bytes s row more may lines)

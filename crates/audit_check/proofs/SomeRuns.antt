@@ -9,7 +9,7 @@ use Rattle.machine_step.specs.PlainStep.{Passing, PlainRun, State}
 use Rattle.traced_run.specs.Runs.{ThreadRun}
 use Rattle.trace_flush.specs.Audit.{ThreadAudit}
 use Rattle.audit_check.specs.Rows.{AreRunsOf}
-use Rattle.audit_check.specs.Statements.{Statement}
+use Rattle.audit_check.specs.Statements.{AuditStatement}
 
 module _ (program : Program) (limits : Limits)
     (ends : (thread : ℕ) → (passed : List Passing) × (end : End) × (last : State) × PlainRun program limits thread passed end last) where
@@ -48,7 +48,7 @@ module _ (program : Program) (limits : Limits)
   lost_are thread [] = refl
   lost_are thread (said ∷ all) = ap (λ l. said.first ∷ l) (lost_are (thread + 1) all)
 
-pub some_runs : (program : Program) (statement : Statement) → length statement.threads ≡ statement.setup.threads
+pub some_runs : (program : Program) (statement : AuditStatement) → length statement.threads ≡ statement.setup.threads
     → ((thread : ℕ) → (passed : List Passing) × (end : End) × (last : State) × PlainRun program statement.setup.limits thread passed end last)
     → (runs : List ThreadRun) × AreRunsOf program statement runs
 some_runs program statement count ends = (

@@ -6,7 +6,7 @@ use Rattle.std.proofs.lemmas.List.Elements.{All-cons, All-head, All-nil, All-tai
 use Rattle.xray_image.specs.Program.{Program}
 use Rattle.handler_word.specs.declared.mark.Mark.{Mark}
 use Rattle.handler_word.specs.Runs.{mark_byte}
-use Rattle.patch_script.specs.declared.command.Command.{Command}
+use Rattle.patch_script.specs.declared.command.PatchCommand.{PatchCommand}
 use Rattle.patch_script.specs.Bounds.{bound_of}
 use Rattle.patch_script.specs.CodeAt.{code_at}
 use Rattle.patch_script.specs.Micros.{hold_of, start_of, total_of}
@@ -26,7 +26,7 @@ use Rattle.audit_check.specs.private.Turns.{IsLeast}
 use Rattle.audit_check.specs.private.Walks.{IsFirst, first_of, verdict_by}
 use Rattle.audit_check.specs.private.Ways.{Tree, Leaf, Node, Held, Passes, Reaches, trees_of}
 use Rattle.audit_check.specs.Rows.{AreRunsOf, CountsAgree, EndsAgree, MarksAgree, RecycledAgrees}
-use Rattle.audit_check.specs.Statements.{NamesThreads, Statement}
+use Rattle.audit_check.specs.Statements.{NamesThreads, AuditStatement}
 use Rattle.audit_check.specs.Verdicts.{AtThread, IsJudged}
 use Rattle.audit_check.proofs.SameRows.{of_row, row_of}
 use Rattle.audit_check.proofs.FirstDifferences.{first_next, none_yet, verdict_is}
@@ -193,7 +193,7 @@ exist program (p ∷ passed) all =
     All-cons (λ k. k < length program.sleds) p.sled (sleds_passed passed) (All-head (IsSled program) p passed all)
     (exist program passed (All-tail (IsSled program) p passed all))
 
-known_follow : (program : Program) (threads : ℕ) (script : List Command) (thread : ℕ) (sleds : List ℕ) (marks : List Mark) → 0 < thread → thread ≤ threads
+known_follow : (program : Program) (threads : ℕ) (script : List PatchCommand) (thread : ℕ) (sleds : List ℕ) (marks : List Mark) → 0 < thread → thread ≤ threads
     → All (λ k. k < length program.sleds) sleds → Known (MarksFollowScript program threads script thread sleds marks)
 known_follow program threads script thread sleds marks some within all =
     let code : ℕ → ℕ → ℕ = code_at program threads script in
@@ -211,7 +211,7 @@ known_ends said run =
     known_as (λ both. record { end = both.0; passings = both.1 }) (λ agree. (agree.end, agree.passings))
     (known_both (known_end said.end run.end) (known_equal said.passings (length run.passed)))
 
-known_marks : (program : Program) (threads : ℕ) (script : List Command) (number : ℕ) (said : ThreadAudit) (run : ThreadRun) → 0 < number → number ≤ threads
+known_marks : (program : Program) (threads : ℕ) (script : List PatchCommand) (number : ℕ) (said : ThreadAudit) (run : ThreadRun) → 0 < number → number ≤ threads
     → All (λ k. k < length program.sleds) (sleds_passed run.passed) → Known (MarksAgree program threads script number said run)
 known_marks program threads script number said run some within all =
     known_as (λ both. record { each = both.0; follow = both.1 }) (λ agree. (agree.each, agree.follow))
@@ -231,7 +231,7 @@ known_counts size said run =
     (known_both (known_if (known_below 0 said.segments) (known_below said.first said.segments))
     (known_if (known_equal said.segments 0) (known_equal said.first 0)))))
 
-known_recycled : (s : Statement) → Known (RecycledAgrees s)
+known_recycled : (s : AuditStatement) → Known (RecycledAgrees s)
 known_recycled s =
     known_as (λ both. record { sum = both.0; queue = both.1 }) (λ agrees. (agrees.sum, agrees.queue))
     (known_both (known_equal s.recycled (sum_by (λ said. said.first) s.threads))
@@ -251,7 +251,7 @@ some_first Row (suc threads) known =
 
 -- ---- the verdict
 
-module _ (program : Program) (script : List Command) (s : Statement) (trace : List ℕ) (names : NamesThreads s) (runs : List ThreadRun)
+module _ (program : Program) (script : List PatchCommand) (s : AuditStatement) (trace : List ℕ) (names : NamesThreads s) (runs : List ThreadRun)
     (are : AreRunsOf program s runs) where
   known_row : (Agree : ℕ → ThreadAudit → ThreadRun → Type 0)
       → ((i : ℕ) (said : ThreadAudit) (run : ThreadRun) → i < s.setup.threads → slice_get runs i ≡ Some run → Known (Agree (i + 1) said run))
@@ -285,7 +285,7 @@ module _ (program : Program) (script : List Command) (s : Statement) (trace : Li
       )
 
 pub some_verdict : (program : Program)
-    → ((thread : ℕ) (s : Statement) → (passed : List Passing) × (end : End) × (last : State) × PlainRun program s.setup.limits thread passed end last)
-    → (script : List Command) (s : Statement) (trace : List ℕ) → NamesThreads s → (verdict : Verdict) × IsJudged program script s trace verdict
+    → ((thread : ℕ) (s : AuditStatement) → (passed : List Passing) × (end : End) × (last : State) × PlainRun program s.setup.limits thread passed end last)
+    → (script : List PatchCommand) (s : AuditStatement) (trace : List ℕ) → NamesThreads s → (verdict : Verdict) × IsJudged program script s trace verdict
 some_verdict program ends script s trace names =
     let runs = some_runs program s names.count (λ thread. ends thread s) in judged program script s trace names runs.0 runs.1

@@ -9,7 +9,7 @@ use Rattle.xray_image.specs.Program.{Program}
 use Rattle.sled_words.specs.declared.part.Part.TheVariants.{Head}
 use Rattle.sled_words.specs.Parts.{all_sled_words, unpatched_head}
 use Rattle.sled_words.specs.Words.{arg_handler_word, handler_word, release_word, state_word, word_of}
-use Rattle.patch_script.specs.declared.command.Command.{Command}
+use Rattle.patch_script.specs.declared.command.PatchCommand.{PatchCommand}
 use Rattle.patch_script.specs.CodeAt.{code_at}
 use Rattle.patch_script.proofs.WordNumbers.{part_at_first, zero_at_first}
 use Rattle.audit_check.specs.declared.switches.Switches.{Switches}
@@ -39,7 +39,7 @@ unpatched_off Exit = refl
 unpatched_off Tail = refl
 unpatched_off Args = refl
 
-module _ (program : Program) (threads : ℕ) (script : List Command) where
+module _ (program : Program) (threads : ℕ) (script : List PatchCommand) where
   abbrev code : ℕ → ℕ → ℕ
   code = code_at program threads script
 

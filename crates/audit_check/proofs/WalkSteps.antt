@@ -4,7 +4,7 @@ use Rattle.std.specs.Prelude.{slice_get}
 use Rattle.xray_image.specs.Program.{IsAccepted, Program}
 use Rattle.fdr_record.specs.declared.event.Event.{Event}
 use Rattle.handler_word.specs.declared.mark.Mark.{Mark}
-use Rattle.patch_script.specs.declared.command.Command.{Command}
+use Rattle.patch_script.specs.declared.command.PatchCommand.{PatchCommand}
 use Rattle.machine_step.specs.declared.end.End.{End}
 use Rattle.machine_step.specs.declared.limits.Limits.{Limits}
 use Rattle.machine_step.specs.declared.setup.Setup.{Setup}
@@ -92,7 +92,7 @@ stands_first way passed t f r left none walked =
 module _ (way : Way) (passed : List Passing) (t u : Traced) (sled : ℕ) (mark : Mark) (f g : Follower) (p : Passing)
     (found : slice_get passed (length t.marks) ≡ Some p) (of_sled : p.sled ≡ sled) (mark_is : mark ≡ mark_or_skipped way.marks (length t.marks))
     (more : u.marks ≡ t.marks ++ mark ∷ []) (thread : g.thread ≡ f.thread)
-    (judges : (program : Program) (threads : ℕ) (script : List Command) (sleds : List ℕ) (marks : List Mark) → HasJudged program threads script f sleds marks
+    (judges : (program : Program) (threads : ℕ) (script : List PatchCommand) (sleds : List ℕ) (marks : List Mark) → HasJudged program threads script f sleds marks
     → HasJudged program threads script g (sleds ++ sled ∷ []) (marks ++ mark ∷ [])) where
   abbrev n : ℕ
   n = length t.marks

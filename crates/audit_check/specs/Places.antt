@@ -5,7 +5,7 @@ use Rattle.std.specs.Prelude.{◌+◌, ◌++◌, ◌-◌, ◌==◌, ◌||◌, �
 use Rattle.handler_word.specs.declared.mark.Mark.{Mark}
 use Rattle.handler_word.specs.declared.mark.Mark.TheVariants.{Skipped, NoHandler, NotLogging, Recorded, RecordedArg}
 use Rattle.machine_step.specs.Loads.{is_held_at, sled_logs_args}
-use Rattle.patch_script.specs.declared.command.Command.{Command}
+use Rattle.patch_script.specs.declared.command.PatchCommand.{PatchCommand}
 use Rattle.patch_script.specs.Bounds.{bound_of}
 use Rattle.patch_script.specs.CodeAt.{code_at}
 use Rattle.patch_script.specs.Micros.{hold_of, start_of}
@@ -105,17 +105,17 @@ found_by last from (search ∷ later) =
 
 -- The places of the loads of a thread that passes these sleds with these marks, numbered from a number on, from a place
 -- on. Each passing has one mark, and its loads are within its bound.
-abbrev pub places_from : Program → (threads : ℕ) → (ℕ → ℕ → ℕ) → (ℕ → ℕ) → (thread : ℕ) → Option ℕ → (number from : ℕ) → List ℕ → List Mark → Option (List ℕ)
-places_from program threads code bound thread hold number from [] [] = Some []
-places_from program threads code bound thread hold number from [] (mark ∷ marks) = None
-places_from program threads code bound thread hold number from (sled ∷ sleds) [] = None
-places_from program threads code bound thread hold number from (sled ∷ sleds) (mark ∷ marks) =
+abbrev pub load_places_from : Program → (threads : ℕ) → (ℕ → ℕ → ℕ) → (ℕ → ℕ) → (thread : ℕ) → Option ℕ → (number from : ℕ) → List ℕ → List Mark → Option (List ℕ)
+load_places_from program threads code bound thread hold number from [] [] = Some []
+load_places_from program threads code bound thread hold number from [] (mark ∷ marks) = None
+load_places_from program threads code bound thread hold number from (sled ∷ sleds) [] = None
+load_places_from program threads code bound thread hold number from (sled ∷ sleds) (mark ∷ marks) =
     option_and_then
-    (λ found. option_map (λ later. found.1 ++ later) (places_from program threads code bound thread hold (number + 1) found.0 sleds marks))
+    (λ found. option_map (λ later. found.1 ++ later) (load_places_from program threads code bound thread hold (number + 1) found.0 sleds marks))
     (found_by (bound number) from (passing_searches program threads code thread (is_held_at hold number) sled mark))
 
 -- the places of the loads of a thread beside a script, if some loads that follow the script have these marks
-abbrev pub load_places : Program → (threads : ℕ) → List Command → (thread : ℕ) → List ℕ → List Mark → Option (List ℕ)
+abbrev pub load_places : Program → (threads : ℕ) → List PatchCommand → (thread : ℕ) → List ℕ → List Mark → Option (List ℕ)
 load_places program threads script thread sleds marks =
-    places_from program threads (code_at program threads script) (bound_of program threads script thread) thread (hold_of thread script) 0
+    load_places_from program threads (code_at program threads script) (bound_of program threads script thread) thread (hold_of thread script) 0
     (start_of program threads script) sleds marks

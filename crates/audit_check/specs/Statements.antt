@@ -11,19 +11,19 @@ use Rattle.audit_check.specs.declared.audit.AuditEntry.{AuditEntry}
 
 -- what an audit states: what the run was made with, the numbers and the marks of each thread, and how many segments were
 -- recycled
-pub record Statement : Type 0 where
+pub record AuditStatement : Type 0 where
   pub setup : Setup
   pub threads : List ThreadAudit
   pub recycled : ℕ
 
 -- the text that states it
-abbrev pub text_of : Statement → List ℕ
+abbrev pub text_of : AuditStatement → List ℕ
 text_of statement = audit_text statement.setup statement.threads statement.recycled
 
 -- ---- which statements audits make
 
 -- A run may have the setup. There is one entry for each of its threads, thread 1 first.
-pub record NamesThreads (statement : Statement) : Type 0 where
+pub record NamesThreads (statement : AuditStatement) : Type 0 where
   pub setup_is : IsSetup statement.setup
   pub count : length statement.threads ≡ statement.setup.threads
   pub numbered : (i : ℕ) (said : ThreadAudit) → slice_get statement.threads i ≡ Some said → said.thread ≡ i + 1
@@ -41,7 +41,7 @@ pub record HasCounts (said : ThreadAudit) : Type 0 where
   pub marks : length said.marks ≤ most_marks
 
 -- an audit may state this, whether or not it is true of any run
-pub record MayState (statement : Statement) : Type 0 where
+pub record MayState (statement : AuditStatement) : Type 0 where
   pub names : NamesThreads statement
   pub counts : All HasCounts statement.threads
   pub recycled : statement.recycled < 2 ^ 64
@@ -59,9 +59,9 @@ said_by entry = record {
   marks = entry.marks.items;
 }
 
-abbrev pub statement_of : Audit → Statement
+abbrev pub statement_of : Audit → AuditStatement
 statement_of audit = record { setup = audit.setup; threads = map said_by audit.entries.items; recycled = audit.recycled }
 
 -- what the audit of a run states
-abbrev pub run_statement : Setup → List ThreadRun → Statement
+abbrev pub run_statement : Setup → List ThreadRun → AuditStatement
 run_statement setup runs = record { setup = setup; threads = audits_of setup runs; recycled = recycled_of runs }

@@ -1,17 +1,17 @@
 -- The verdict on an audit and a trace: the first row that doesn't agree, and the least thread of which it doesn't.
 use Rattle.std.specs.Prelude.{◌≡◌, ◌<◌, ◌≤◌, ◌-◌, ℕ, List, Some, slice_get}
 use Rattle.xray_image.specs.Program.{Program}
-use Rattle.patch_script.specs.declared.command.Command.{Command}
+use Rattle.patch_script.specs.declared.command.PatchCommand.{PatchCommand}
 use Rattle.traced_run.specs.Runs.{ThreadRun}
 use Rattle.trace_flush.specs.Audit.{ThreadAudit}
 use Rattle.trace_flush.specs.Flush.{trace_bytes}
 use Rattle.audit_check.specs.declared.verdict.Verdict.{Verdict}
 use Rattle.audit_check.specs.declared.verdict.Verdict.TheVariants.{Yes, Ends, Marks, Counts, Recycled, Trace}
 use Rattle.audit_check.specs.Rows.{AreRunsOf, CountsAgree, EndsAgree, MarksAgree, RecycledAgrees}
-use Rattle.audit_check.specs.Statements.{Statement}
+use Rattle.audit_check.specs.Statements.{AuditStatement}
 
 -- what is stated of the thread of this number, from 1, agrees with its run
-abbrev pub AtThread : Statement → List ThreadRun → (ThreadAudit → ThreadRun → Type 0) → ℕ → Type 0
+abbrev pub AtThread : AuditStatement → List ThreadRun → (ThreadAudit → ThreadRun → Type 0) → ℕ → Type 0
 AtThread statement runs Agree number =
     (said : ThreadAudit) (run : ThreadRun) → slice_get statement.threads (number - 1) ≡ Some said → slice_get runs (number - 1) ≡ Some run
     → Agree said run
@@ -27,7 +27,7 @@ pub record FirstToDiffer (threads : ℕ) (Row : ℕ → Type 0) (number : ℕ) :
   pub differs : Row number → ⊥
   pub earlier : (other : ℕ) → 0 < other → other < number → Row other
 
-module _ (program : Program) (script : List Command) (statement : Statement) (trace : List ℕ) (runs : List ThreadRun) where
+module _ (program : Program) (script : List PatchCommand) (statement : AuditStatement) (trace : List ℕ) (runs : List ThreadRun) where
   -- ---- the rows, in their order
 
   abbrev pub EndsRow : ℕ → Type 0
@@ -64,7 +64,7 @@ module _ (program : Program) (script : List Command) (statement : Statement) (tr
 
 -- The verdict on an audit that states this and on a trace, for an image's program and a script: that over the runs of which
 -- the audit speaks. An accepted image has exactly one list of them.
-pub record IsJudged (program : Program) (script : List Command) (statement : Statement) (trace : List ℕ) (verdict : Verdict) : Type 0 where
+pub record IsJudged (program : Program) (script : List PatchCommand) (statement : AuditStatement) (trace : List ℕ) (verdict : Verdict) : Type 0 where
   pub runs : List ThreadRun
   pub are : AreRunsOf program statement runs
   pub verdict_is : IsVerdict program script statement trace runs verdict

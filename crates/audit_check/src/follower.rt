@@ -2,7 +2,7 @@
 
 ghost use Rattle.std.specs.Prelude.{◌≡◌, ◌<◌, ◌≤◌, ◌+◌, ◌^◌, ◌∷◌, ◌++◌, [], ℕ, Some, false, true, List, length, IfOk, IfSome, OnOk, is_some, option_map};
 ghost use Rattle.handler_word.specs.declared.mark.Mark.{Mark};
-ghost use Rattle.patch_script.specs.declared.command.Command.{Command};
+ghost use Rattle.patch_script.specs.declared.command.PatchCommand.{PatchCommand};
 ghost use Rattle.patch_script.specs.Refusals.{commands_of};
 ghost use Rattle.sled_words.specs.declared.part.Part.TheVariants.{Head};
 ghost use Rattle.sled_words.specs.Words.{arg_handler_word, handler_word, release_word, state_word, word_of};
@@ -156,7 +156,7 @@ impl<'a> Follower<'a> {
         ensures passing { self.new.passing ≡ self.old.passing + 1 }
         ensures image { self.new.image ≡ self.old.image }
         ensures thread { self.new.thread ≡ self.old.thread }
-        ensures judged { (program : Program) (threads : ℕ) (script : List Command) (sleds : List ℕ)
+        ensures judged { (program : Program) (threads : ℕ) (script : List PatchCommand) (sleds : List ℕ)
             (marks : List Mark) → HasJudged program threads script self.old sleds marks
             → HasJudged program threads script self.new (sleds ++ sled ∷ []) (marks ++ mark ∷ []) }
     {
@@ -181,10 +181,10 @@ impl<'a> Follower<'a> {
         ensures passing { OnOk result (self.new.passing ≡ self.old.passing + 1) }
         ensures image { OnOk result (self.new.image ≡ self.old.image) }
         ensures thread { OnOk result (self.new.thread ≡ self.old.thread) }
-        ensures judged { OnOk result ((program : Program) (threads : ℕ) (script : List Command) (sleds : List ℕ)
+        ensures judged { OnOk result ((program : Program) (threads : ℕ) (script : List PatchCommand) (sleds : List ℕ)
             (marks : List Mark) → HasJudged program threads script self.old sleds marks
             → HasJudged program threads script self.new (sleds ++ sled ∷ []) (marks ++ mark ∷ [])) }
-        ensures placed { OnOk result ((program : Program) (threads : ℕ) (script : List Command) (sleds : List ℕ)
+        ensures placed { OnOk result ((program : Program) (threads : ℕ) (script : List PatchCommand) (sleds : List ℕ)
             (marks : List Mark) → HasJudged program threads script self.old sleds marks
             → HasPlaced program threads script self.old sleds marks (places_in loads.old)
             → HasPlaced program threads script self.new (sleds ++ sled ∷ []) (marks ++ mark ∷ [])

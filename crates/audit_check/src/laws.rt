@@ -2,7 +2,7 @@
 
 ghost use Rattle.std.specs.Prelude.{◌≡◌, ℕ, List, Result};
 ghost use Rattle.xray_image.specs.Program.{IsAccepted, Program};
-ghost use Rattle.patch_script.specs.declared.command.Command.{Command};
+ghost use Rattle.patch_script.specs.declared.command.PatchCommand.{PatchCommand};
 ghost use Rattle.machine_step.specs.{Buffers.{spare_of}, Setups.{IsSetup}};
 ghost use Rattle.machine_step.specs.declared.setup.Setup.{Setup};
 ghost use Rattle.traced_run.specs.{Following.{AllMarksFollow}, Losses.{AreLost}, Runs.{IsRun, ThreadRun}};
@@ -10,8 +10,8 @@ ghost use Rattle.trace_flush.specs.{Flush.{trace_bytes}, Lines.{audit_of_run}};
 ghost use Rattle.audit_check.specs.declared.fault.AuditFault.{AuditFault};
 ghost use Rattle.audit_check.specs.declared.verdict.Verdict.{Verdict};
 ghost use Rattle.audit_check.specs.declared.verdict.Verdict.TheVariants.{Yes};
-ghost use Rattle.audit_check.specs.Reading.{ReadsAs};
-ghost use Rattle.audit_check.specs.Statements.{MayState, Statement, run_statement, text_of};
+ghost use Rattle.audit_check.specs.Reading.{ReadsAsAudit};
+ghost use Rattle.audit_check.specs.Statements.{MayState, AuditStatement, run_statement, text_of};
 ghost use Rattle.audit_check.specs.Verdicts.{IsJudged};
 
 use machine_step::{one_end, passings_are_limited, some_end};
@@ -20,8 +20,8 @@ use trace_flush::audit_tells_its_run;
 
 /// Bytes read as one statement, or are refused at one line.
 pub fn one_reading()
-    ensures { (bytes : List ℕ) (reading other : Result Statement AuditFault)
-        → ReadsAs bytes reading → ReadsAs bytes other → reading ≡ other }
+    ensures { (bytes : List ℕ) (reading other : Result AuditStatement AuditFault)
+        → ReadsAsAudit bytes reading → ReadsAsAudit bytes other → reading ≡ other }
 {
     audit_tells_its_run();
 }
@@ -29,14 +29,14 @@ pub fn one_reading()
 /// Any bytes read as a statement, or are refused at a line. With `one_reading` there is exactly one
 /// reading of them.
 pub fn some_reading()
-    ensures { (bytes : List ℕ) → (reading : Result Statement AuditFault) × ReadsAs bytes reading }
+    ensures { (bytes : List ℕ) → (reading : Result AuditStatement AuditFault) × ReadsAsAudit bytes reading }
 {
     a_written_number_is_itself();
 }
 
 /// There is only one verdict on a statement and a trace, for an accepted image and a script.
 pub fn one_verdict()
-    ensures { (bytes : List ℕ) (program : Program) (script : List Command) (statement : Statement)
+    ensures { (bytes : List ℕ) (program : Program) (script : List PatchCommand) (statement : AuditStatement)
         (trace : List ℕ) (verdict other : Verdict) → IsAccepted bytes program
         → IsJudged program script statement trace verdict → IsJudged program script statement trace other
         → verdict ≡ other }
@@ -47,7 +47,7 @@ pub fn one_verdict()
 /// There is a verdict on any statement that an audit may make and any trace, for an accepted image and
 /// any script.
 pub fn some_verdict()
-    ensures { (bytes : List ℕ) (program : Program) (script : List Command) (statement : Statement)
+    ensures { (bytes : List ℕ) (program : Program) (script : List PatchCommand) (statement : AuditStatement)
         (trace : List ℕ) → IsAccepted bytes program → MayState statement
         → (verdict : Verdict) × IsJudged program script statement trace verdict }
 {
@@ -58,11 +58,11 @@ pub fn some_verdict()
 /// follow the script, and as many segments are lost as the threads' queue had no spare buffers for. This
 /// is what a replay and a run on real threads promise. Its audit is read as what the run states (`read`).
 pub fn a_lawful_run_is_accepted()
-    ensures read { (program : Program) (script : List Command) (setup : Setup) (runs : List ThreadRun)
+    ensures read { (program : Program) (script : List PatchCommand) (setup : Setup) (runs : List ThreadRun)
         → IsSetup setup → IsRun program setup runs → AllMarksFollow program setup.threads script runs
         → AreLost setup.size (spare_of setup) runs
         → MayState (run_statement setup runs) × (audit_of_run setup runs ≡ text_of (run_statement setup runs)) }
-    ensures yes { (program : Program) (script : List Command) (setup : Setup) (runs : List ThreadRun)
+    ensures yes { (program : Program) (script : List PatchCommand) (setup : Setup) (runs : List ThreadRun)
         → IsRun program setup runs → AllMarksFollow program setup.threads script runs
         → AreLost setup.size (spare_of setup) runs
         → IsJudged program script (run_statement setup runs) (trace_bytes setup runs) Yes }

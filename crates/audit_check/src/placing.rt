@@ -4,7 +4,7 @@ ghost use Rattle.std.specs.Prelude.{◌≡◌, ◌≤◌, ◌<◌, ◌+◌, ◌^
 ghost use Rattle.xray_image.specs.Program.{IsAccepted, Program};
 ghost use Rattle.handler_word.specs.declared.mark.Mark.{Mark as Given};
 ghost use Rattle.patch_script.specs.Refusals.{commands_of};
-ghost use Rattle.patch_script.specs.declared.command.Command.{Command};
+ghost use Rattle.patch_script.specs.declared.command.PatchCommand.{PatchCommand};
 ghost use Rattle.machine_step.specs.declared.end.End.{End as How};
 ghost use Rattle.machine_step.specs.{PlainStep.{Passing, PlainRun, State}, Setups.{IsSetup}, Traced.{IsLoad}};
 ghost use Rattle.traced_run.specs.Runs.{ThreadRun};
@@ -181,7 +181,7 @@ fn walk_places(
         → IsAccepted bytes cpu.old.program
         → PlainRun cpu.old.program cpu.old.limits cpu.old.thread passed end last
         → (walked.end ≡ end) × (walked.passings ≡ length passed)) }
-    ensures walked { OnOk result ((bytes : List ℕ) (threads : ℕ) (script : List Command)
+    ensures walked { OnOk result ((bytes : List ℕ) (threads : ℕ) (script : List PatchCommand)
         (passed : List Passing) (end : How) (last : State) → IsAccepted bytes cpu.old.program
         → PlainRun cpu.old.program cpu.old.limits cpu.old.thread passed end last → cpu.old.marks ≡ []
         → HasStopped cpu.old.program threads script marks.now.items passed 0 follower.old (places_in loads.old)

@@ -8,8 +8,8 @@ ghost use Rattle.audit_check.specs.declared.fault.AuditFault.TheVariants.{Form, 
 ghost use Rattle.audit_check.specs.declared.thread_rows.Counts.{Counts as Said};
 ghost use Rattle.audit_check.specs.private.Lines.{AreFirst, HasTaken, Refuses, all_rows, counts_row, first_rows};
 ghost use Rattle.audit_check.specs.private.Parts.{HasShortCounts, format_row};
-ghost use Rattle.audit_check.specs.Reading.{ReadsAs, whole_lines};
-ghost use Rattle.audit_check.specs.Statements.{MayState, Statement, most_marks, said_by, statement_of, text_of};
+ghost use Rattle.audit_check.specs.Reading.{ReadsAsAudit, whole_lines};
+ghost use Rattle.audit_check.specs.Statements.{MayState, AuditStatement, most_marks, said_by, statement_of, text_of};
 
 use crate::audit::{Audit, AuditEntry};
 use crate::fault::AuditFault;
@@ -33,8 +33,8 @@ const FORMAT: &[u8] = b"xray-audit 1\n";
 /// Bytes that are no audit are refused by their first line that no audit goes on with; see
 /// `AuditFault`. `NoMemory` may come in place of any answer.
 pub fn read_audit(alloc: Global, bytes: &[u8]) -> Result<Audit, AuditFault>
-    ensures reads { MatchResult result (λ audit. ReadsAs bytes.now (Ok (statement_of audit)))
-        (λ fault. (fault ≡ NoMemory) ⊎ ReadsAs bytes.now (Err fault)) }
+    ensures reads { MatchResult result (λ audit. ReadsAsAudit bytes.now (Ok (statement_of audit)))
+        (λ fault. (fault ≡ NoMemory) ⊎ ReadsAsAudit bytes.now (Err fault)) }
 {
     let mut rows = Rows::new(bytes);
     rows.format()?;
@@ -222,7 +222,7 @@ impl<'a> Rows<'a> {
     /// Whether no row is left. If one is, the audit is refused there.
     fn end(&self) -> Result<(), AuditFault>
         requires { self.now.number ≤ 35 }
-        ensures { (bytes : List ℕ) (statement : Statement) → MayState statement
+        ensures { (bytes : List ℕ) (statement : AuditStatement) → MayState statement
             → HasTaken bytes self.now (all_rows statement)
             → MatchResult result (λ _. bytes ≡ text_of statement) (Refuses bytes) }
     {

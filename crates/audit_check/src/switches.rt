@@ -2,7 +2,7 @@
 
 ghost use Rattle.std.specs.Prelude.{◌≡◌, ◌<◌, ◌≤◌, ◌+◌, ℕ, List, [], All, IfOk, OnOk, length};
 ghost use Rattle.xray_image.specs.Program.{Program};
-ghost use Rattle.patch_script.specs.declared.command.Command.{Command};
+ghost use Rattle.patch_script.specs.declared.command.PatchCommand.{PatchCommand};
 ghost use Rattle.patch_script.specs.{CodeAt.{code_at}, Limits.{most_micros}, Refusals.{commands_of}};
 ghost use Rattle.audit_check.specs.private.Switches.{AreSwitches, IsCourseOf, IsNext, IsOfWords, TakesOne, TakesStep, TakesStore};
 
@@ -79,7 +79,7 @@ impl Switches {
     fn new(alloc: Global, image: &Image, threads: u32) -> Result<Switches, NoMemory>
         requires { threads ≤ MAX_THREADS }
         ensures words { IfOk result (IsOfWords image.now threads) }
-        ensures switches { IfOk result (λ switches. (script : List Command)
+        ensures switches { IfOk result (λ switches. (script : List PatchCommand)
             → AreSwitches image.now threads (code_at image.now threads script) 0 switches) }
     {
         Ok(Switches {

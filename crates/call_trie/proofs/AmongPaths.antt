@@ -12,7 +12,7 @@ use Rattle.stack_rebuild.specs.declared.tally.Tally.{Tally}
 use Rattle.stack_rebuild.specs.PathSums.{AllNumbered, AreApart, no_tally, path_at, tally_of, with_pair}
 use Rattle.stack_rebuild.specs.Stacks.{Timed, has_path, path_cmp}
 use Rattle.call_trie.specs.private.Paths.{IsNew}
-use Rattle.call_trie.specs.Tries.{is_among}
+use Rattle.call_trie.specs.Tries.{is_among_paths}
 use Rattle.call_trie.proofs.NodeLemmas.{apart_more, path_kept, path_last}
 
 -- ---- equal paths
@@ -50,9 +50,9 @@ differs path other apart = by_answer (same_path path other) refl
 
 -- ---- paths among others
 
-pub at_among : (paths : List (List ℕ)) (path : List ℕ) (k : ℕ) → k < length paths → path_at paths k ≡ path → is_among paths path ≡ true
+pub at_among : (paths : List (List ℕ)) (path : List ℕ) (k : ℕ) → k < length paths → path_at paths k ≡ path → is_among_paths paths path ≡ true
 at_among [] path k within is = absurd (omega (arith, within))
-at_among (other ∷ paths) path zero within is = ap (λ (b : Bool). b || is_among paths path) (same_path_is path other is)
+at_among (other ∷ paths) path zero within is = ap (λ (b : Bool). b || is_among_paths paths path) (same_path_is path other is)
 at_among (other ∷ paths) path (suc k) within is =
     ap (λ (b : Bool). same_path path other || b) (at_among paths path k (omega (arith, within)) is) ∙ or_true (same_path path other)
   where
@@ -60,35 +60,35 @@ at_among (other ∷ paths) path (suc k) within is =
     or_true true = refl
     or_true false = refl
 
-pub among_at : (paths : List (List ℕ)) (path : List ℕ) → is_among paths path ≡ true → (k : ℕ) × (k < length paths) × (path_at paths k ≡ path)
+pub among_at : (paths : List (List ℕ)) (path : List ℕ) → is_among_paths paths path ≡ true → (k : ℕ) × (k < length paths) × (path_at paths k ≡ path)
 among_at [] path is = let never : false ≡ true = is in absurd (let n : ⊥ = cc in n)
 among_at (other ∷ paths) path is = by_first (same_path path other) refl is (among_at paths path)
   where
-    by_first : (b : Bool) → same_path path other ≡ b → (b || is_among paths path) ≡ true
-        → (is_among paths path ≡ true → (k : ℕ) × (k < length paths) × (path_at paths k ≡ path)) → (k : ℕ) × (k < length (other ∷ paths)) × (path_at (other ∷ paths) k ≡ path)
+    by_first : (b : Bool) → same_path path other ≡ b → (b || is_among_paths paths path) ≡ true
+        → (is_among_paths paths path ≡ true → (k : ℕ) × (k < length paths) × (path_at paths k ≡ path)) → (k : ℕ) × (k < length (other ∷ paths)) × (path_at (other ∷ paths) k ≡ path)
     by_first true same all later = (0, omega arith, same_path_from path other same)
     by_first false same all later = let there = later all in (suc there.0, omega (arith, there.1), there.2)
 
-pub new_among : (paths : List (List ℕ)) (path : List ℕ) → IsNew paths path → is_among paths path ≡ false
-new_among paths path absent = by_answer (is_among paths path) refl
+pub new_among : (paths : List (List ℕ)) (path : List ℕ) → IsNew paths path → is_among_paths paths path ≡ false
+new_among paths path absent = by_answer (is_among_paths paths path) refl
   where
-    by_answer : (b : Bool) → is_among paths path ≡ b → is_among paths path ≡ false
+    by_answer : (b : Bool) → is_among_paths paths path ≡ b → is_among_paths paths path ≡ false
     by_answer true is = let there = among_at paths path is in absurd (absent there.0 there.1 there.2)
     by_answer false is = is
 
-pub among_new : (paths : List (List ℕ)) (path : List ℕ) → is_among paths path ≡ false → IsNew paths path
+pub among_new : (paths : List (List ℕ)) (path : List ℕ) → is_among_paths paths path ≡ false → IsNew paths path
 among_new paths path none k within is = let never : true ≡ false = sym (at_among paths path k within is) ∙ none in (let n : ⊥ = cc in n)
 
 -- ---- one more path, unless it is there
 
 -- paths and one more, unless it is among them
 abbrev pub with_path : List (List ℕ) → List ℕ → List (List ℕ)
-with_path paths path = cond (is_among paths path) paths (paths ++ path ∷ [])
+with_path paths path = cond (is_among_paths paths path) paths (paths ++ path ∷ [])
 
-pub with_known : (paths : List (List ℕ)) (path : List ℕ) → is_among paths path ≡ true → with_path paths path ≡ paths
+pub with_known : (paths : List (List ℕ)) (path : List ℕ) → is_among_paths paths path ≡ true → with_path paths path ≡ paths
 with_known paths path is = ap (λ b. cond b paths (paths ++ path ∷ [])) is
 
-pub with_new : (paths : List (List ℕ)) (path : List ℕ) → is_among paths path ≡ false → with_path paths path ≡ paths ++ path ∷ []
+pub with_new : (paths : List (List ℕ)) (path : List ℕ) → is_among_paths paths path ≡ false → with_path paths path ≡ paths ++ path ∷ []
 with_new paths path is = ap (λ b. cond b paths (paths ++ path ∷ [])) is
 
 -- each path that had a number still has it
@@ -108,16 +108,16 @@ pub record IsWith (old new : List (List ℕ)) (path : List ℕ) : Type 0 where
   pub apart : AreApart old → AreApart new
 
 pub with_is : (paths : List (List ℕ)) (path : List ℕ) → IsWith paths (with_path paths path) path
-with_is paths path = by_answer (is_among paths path) refl
+with_is paths path = by_answer (is_among_paths paths path) refl
   where
-    more : is_among paths path ≡ false → IsWith paths (paths ++ path ∷ []) path
+    more : is_among_paths paths path ≡ false → IsWith paths (paths ++ path ∷ []) path
     more none = record {
       keeps = record { kept = λ n within. (omega (arith, within, length-append paths (path ∷ [])), path_kept paths path n within) };
       has = (length paths, omega (arith, length-append paths (path ∷ [])), path_last paths path (length paths) refl);
       apart = λ own. apart_more paths path own (among_new paths path none);
     }
 
-    by_answer : (b : Bool) → is_among paths path ≡ b → IsWith paths (with_path paths path) path
+    by_answer : (b : Bool) → is_among_paths paths path ≡ b → IsWith paths (with_path paths path) path
     by_answer true is =
         subst (λ (new : List (List ℕ)). IsWith paths new path) (sym (with_known paths path is))
         (record { keeps = record { kept = λ n within. (within, refl) }; has = among_at paths path is; apart = λ own. own })

@@ -15,7 +15,7 @@ use Rattle.stack_rebuild.specs.Weights.{entry_path}
 use Rattle.stack_rebuild.proofs.NestedCalls.{open_kept}
 use Rattle.stack_rebuild.proofs.Orders.{range_more}
 use Rattle.stack_rebuild.proofs.PairFacts.{event_kept}
-use Rattle.call_trie.specs.Tries.{is_among, enters_at, opens_first, paths_before, paths_opened}
+use Rattle.call_trie.specs.Tries.{is_among_paths, enters_at, opens_first, paths_before, paths_opened}
 use Rattle.call_trie.proofs.AmongPaths.{same_path_from, with_path}
 
 -- ---- one position more
@@ -57,32 +57,32 @@ range_alike test test' path path' a (suc n) tests paths =
 abbrev firsts : List Event → ℕ → List (List ℕ)
 firsts events end = map (entry_path events) (filter (opens_first events) (range_with_len 0 end))
 
-among_append : (paths more : List (List ℕ)) (path : List ℕ) → is_among (paths ++ more) path ≡ (is_among paths path || is_among more path)
+among_append : (paths more : List (List ℕ)) (path : List ℕ) → is_among_paths (paths ++ more) path ≡ (is_among_paths paths path || is_among_paths more path)
 among_append paths more path = list_any-append (λ (other : List ℕ). is_eq (path_cmp other path)) paths more
 
 -- a path is among them exactly if it was opened
-same_among : (events : List Event) (n : ℕ) (path : List ℕ) → is_among (paths_before events n) path ≡ is_among (firsts events n) path
+same_among : (events : List Event) (n : ℕ) (path : List ℕ) → is_among_paths (paths_before events n) path ≡ is_among_paths (firsts events n) path
 same_among events zero path = refl
 same_among events (suc n) path =
-    ap (λ (ps : List (List ℕ)). is_among ps path) (range_kept (enters_at events) (entry_path events) n)
+    ap (λ (ps : List (List ℕ)). is_among_paths ps path) (range_kept (enters_at events) (entry_path events) n)
     ∙ (among_append (paths_before events n) (cond (enters_at events n) (own ∷ []) []) path
-    ∙ (by_tests (enters_at events n) (is_among (paths_before events n) own) refl (same_among events n path)
+    ∙ (by_tests (enters_at events n) (is_among_paths (paths_before events n) own) refl (same_among events n path)
     ∙ (sym (among_append (firsts events n) (cond (opens_first events n) (own ∷ []) []) path)
-    ∙ ap (λ (ps : List (List ℕ)). is_among ps path) (sym (range_kept (opens_first events) (entry_path events) n)))))
+    ∙ ap (λ (ps : List (List ℕ)). is_among_paths ps path) (sym (range_kept (opens_first events) (entry_path events) n)))))
   where
     own : List ℕ
     own = entry_path events n
 
-    by_tests : (a b : Bool) → is_among (paths_before events n) own ≡ b → is_among (paths_before events n) path ≡ is_among (firsts events n) path
-        → (is_among (paths_before events n) path || is_among (cond a (own ∷ []) []) path) ≡ (is_among (firsts events n) path || is_among (cond (a && not b) (own ∷ []) []) path)
+    by_tests : (a b : Bool) → is_among_paths (paths_before events n) own ≡ b → is_among_paths (paths_before events n) path ≡ is_among_paths (firsts events n) path
+        → (is_among_paths (paths_before events n) path || is_among_paths (cond a (own ∷ []) []) path) ≡ (is_among_paths (firsts events n) path || is_among_paths (cond (a && not b) (own ∷ []) []) path)
     by_tests false b there again = ap (λ (x : Bool). x || false) again
-    by_tests true false there again = ap (λ (x : Bool). x || is_among (own ∷ []) path) again
+    by_tests true false there again = ap (λ (x : Bool). x || is_among_paths (own ∷ []) path) again
     by_tests true true there again = by_path (is_eq (path_cmp own path)) refl
       where
-        by_path : (s : Bool) → is_eq (path_cmp own path) ≡ s → (is_among (paths_before events n) path || (s || false)) ≡ (is_among (firsts events n) path || false)
+        by_path : (s : Bool) → is_eq (path_cmp own path) ≡ s → (is_among_paths (paths_before events n) path || (s || false)) ≡ (is_among_paths (firsts events n) path || false)
         by_path false other = ap (λ (x : Bool). x || false) again
         by_path true same =
-            let known : is_among (paths_before events n) path ≡ true = ap (is_among (paths_before events n)) (sym (same_path_from path own same)) ∙ there in
+            let known : is_among_paths (paths_before events n) path ≡ true = ap (is_among_paths (paths_before events n)) (sym (same_path_from path own same)) ∙ there in
             ap (λ (x : Bool). x || true) known ∙ sym (ap (λ (x : Bool). x || false) (sym again ∙ known))
 
 -- ---- one more event
@@ -102,9 +102,9 @@ before_kept events e n low =
 
 first_kept : (events : List Event) (e : Event) (at : ℕ) → at < length events → opens_first (events ++ e ∷ []) at ≡ opens_first events at
 first_kept events e at low =
-    ap (λ (b : Bool). b && not (is_among (paths_before (events ++ e ∷ []) at) (entry_path (events ++ e ∷ []) at))) (kind_kept events e at low)
-    ∙ (ap (λ (ps : List (List ℕ)). enters_at events at && not (is_among ps (entry_path (events ++ e ∷ []) at))) (before_kept events e at (omega (arith, low)))
-    ∙ ap (λ (p : List ℕ). enters_at events at && not (is_among (paths_before events at) p)) (entry_kept events e at low))
+    ap (λ (b : Bool). b && not (is_among_paths (paths_before (events ++ e ∷ []) at) (entry_path (events ++ e ∷ []) at))) (kind_kept events e at low)
+    ∙ (ap (λ (ps : List (List ℕ)). enters_at events at && not (is_among_paths ps (entry_path (events ++ e ∷ []) at))) (before_kept events e at (omega (arith, low)))
+    ∙ ap (λ (p : List ℕ). enters_at events at && not (is_among_paths (paths_before events at) p)) (entry_kept events e at low))
 
 -- the path that the last event opens, if it is an entry
 abbrev pub newest : List Event → Event → List ℕ
@@ -120,11 +120,11 @@ newest_is events e =
     ∙ ap (λ (x : Event). path_of (open_calls (reverse events)) ++ x.func ∷ []) (last_is events e)
 
 -- whether the last event opens a path that no other entry opened
-newest_first : (events : List Event) (e : Event) → opens_first (events ++ e ∷ []) (length events) ≡ (enters e.kind && not (is_among (paths_opened events) (newest events e)))
+newest_first : (events : List Event) (e : Event) → opens_first (events ++ e ∷ []) (length events) ≡ (enters e.kind && not (is_among_paths (paths_opened events) (newest events e)))
 newest_first events e =
-    ap (λ (x : Event). enters x.kind && not (is_among (paths_before (events ++ e ∷ []) (length events)) (entry_path (events ++ e ∷ []) (length events)))) (last_is events e)
-    ∙ (ap (λ (ps : List (List ℕ)). enters e.kind && not (is_among ps (entry_path (events ++ e ∷ []) (length events)))) (before_kept events e (length events) (omega arith))
-    ∙ (ap (λ (p : List ℕ). enters e.kind && not (is_among (paths_before events (length events)) p)) (newest_is events e)
+    ap (λ (x : Event). enters x.kind && not (is_among_paths (paths_before (events ++ e ∷ []) (length events)) (entry_path (events ++ e ∷ []) (length events)))) (last_is events e)
+    ∙ (ap (λ (ps : List (List ℕ)). enters e.kind && not (is_among_paths ps (entry_path (events ++ e ∷ []) (length events)))) (before_kept events e (length events) (omega arith))
+    ∙ (ap (λ (p : List ℕ). enters e.kind && not (is_among_paths (paths_before events (length events)) p)) (newest_is events e)
     ∙ ap (λ (b : Bool). enters e.kind && not b) (same_among events (length events) (newest events e))))
 
 -- an entry opens its path, unless it was opened before, and other events open none
@@ -140,7 +140,7 @@ opened_more events e =
     (λ k low. first_kept events e k (omega (arith, low))) (λ k low. entry_kept events e k (omega (arith, low))))
     ∙ (ap (λ (p : List ℕ). paths_opened events ++ cond (opens_first after n) (p ∷ []) []) (newest_is events e)
     ∙ (ap (λ b. paths_opened events ++ cond b (newest events e ∷ []) []) (newest_first events e)
-    ∙ by_tests (enters e.kind) (is_among (paths_opened events) (newest events e))))))
+    ∙ by_tests (enters e.kind) (is_among_paths (paths_opened events) (newest events e))))))
   where
     by_tests : (a b : Bool) → paths_opened events ++ cond (a && not b) (newest events e ∷ []) []
         ≡ cond a (cond b (paths_opened events) (paths_opened events ++ newest events e ∷ [])) (paths_opened events)

@@ -17,7 +17,7 @@ use Rattle.call_trie.specs.declared.state.TrieState.{TrieState}
 use Rattle.call_trie.specs.declared.state.TrieState.TheVariants.{Live, Full, Deep}
 use Rattle.call_trie.specs.private.Paths.{IsAt, IsNew}
 use Rattle.call_trie.specs.private.Steps.{Enters, Leaves, deep, ended, fresh, full, known, none}
-use Rattle.call_trie.specs.Tries.{StandsFor, Trie, excess, first_stop, is_among, paths_opened, state_after}
+use Rattle.call_trie.specs.Tries.{StandsFor, Trie, excess, first_stop, is_among_paths, paths_opened, state_after}
 use Rattle.call_trie.proofs.AmongPaths.{Has, Keeps, at_among, has_kept, new_among, none_has, numbered_append, numbered_kept, tallies_more, with_is, with_known, with_new, with_path}
 use Rattle.call_trie.proofs.OpenedPaths.{newest, opened_more}
 
@@ -302,10 +302,10 @@ stands_entered law old new events e is live own enters_now =
     deeper : length (open_calls (reverse after)) ≡ suc (length (open_of events))
     deeper = depth_now after ∙ ap {B = ℕ} length open_now
 
-    paths_same : is_among (paths_opened events) call.path ≡ true → paths_opened (events ++ e ∷ []) ≡ paths_opened events
+    paths_same : is_among_paths (paths_opened events) call.path ≡ true → paths_opened (events ++ e ∷ []) ≡ paths_opened events
     paths_same there = entry_paths events e is ∙ with_known (paths_opened events) call.path there
 
-    paths_longer : is_among (paths_opened events) call.path ≡ false → paths_opened (events ++ e ∷ []) ≡ paths_opened events ++ call.path ∷ []
+    paths_longer : is_among_paths (paths_opened events) call.path ≡ false → paths_opened (events ++ e ∷ []) ≡ paths_opened events ++ call.path ∷ []
     paths_longer absent = entry_paths events e is ∙ with_new (paths_opened events) call.path absent
 
     size : length old.calls ≡ length (open_of events)

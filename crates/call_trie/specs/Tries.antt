@@ -27,8 +27,8 @@ pub record Trie : Type 0 where
 -- ---- the paths that entries opened
 
 -- whether a path is among others
-abbrev pub is_among : List (List ℕ) → List ℕ → Bool
-is_among paths path = list_any (λ other. is_eq (path_cmp other path)) paths
+abbrev pub is_among_paths : List (List ℕ) → List ℕ → Bool
+is_among_paths paths path = list_any (λ other. is_eq (path_cmp other path)) paths
 
 -- whether the event at a position is an entry
 abbrev pub enters_at : List Event → ℕ → Bool
@@ -40,7 +40,7 @@ paths_before events end = map (entry_path events) (filter (enters_at events) (ra
 
 -- whether the event at a position is an entry that opens a path which no earlier one opened
 abbrev pub opens_first : List Event → ℕ → Bool
-opens_first events at = enters_at events at && not (is_among (paths_before events at) (entry_path events at))
+opens_first events at = enters_at events at && not (is_among_paths (paths_before events at) (entry_path events at))
 
 -- the paths that the entries of events opened, each once, in the order in which they were first opened
 abbrev pub paths_opened : List Event → List (List ℕ)

@@ -15,7 +15,7 @@ use Rattle.clap.specs.declared.error.kind.ErrorKind.{ErrorKind}
 use Rattle.clap.specs.declared.error.kind.ErrorKind.TheVariants.{InvalidValue, UnknownArgument}
 use Rattle.clap.specs.Lexer.{usize_max}
 use Rattle.command_words.specs.private.Clapped.{after}
-use Rattle.command_words.specs.Items.{Item, File, Given, Bare, is_name, is_equals, items_after}
+use Rattle.command_words.specs.Items.{Item, File, Given, Bare, may_name_file, is_equals, items_after}
 use Rattle.command_words.proofs.Arguments.{Each, IsOne, after_else, arg_by_option, found_each, leaf, run, run_none, use_is, used_by, used_one}
 use Rattle.command_words.proofs.WordShapes.{IsText, Shaped, named, dashes, long, short, before_cons, after_cons, before_none, first_char, shaped}
 
@@ -141,7 +141,7 @@ run_given rules o v rows place items none = rw none (run_none rules place items)
 run_unknown : (rules : List Rule) (word : Text) (rows : Option (List Row)) (place : ℕ) (words : List Text) → arg_by_option rules word ≡ None
     → run rules rows place (items_after (Some word) words) ≡ None
 run_unknown rules word rows place [] none = refl
-run_unknown rules word rows place (v ∷ words) none = go (is_name v)
+run_unknown rules word rows place (v ∷ words) none = go (may_name_file v)
   where
     go : (b : Bool) → run rules rows place (if b then Given word v ∷ items_after None words else Bare word ∷ []) ≡ None
     go true = run_given rules (arg_by_option rules word) v rows place (items_after None words) none

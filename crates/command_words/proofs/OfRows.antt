@@ -7,8 +7,8 @@ use Rattle.std.specs.Str.{bytes_eq}
 use Rattle.xray_io.specs.declared.wall.Wall.{Wall}
 use Rattle.command_words.specs.Files.{AreOfTheirRows, IsOfItsRow, OutputsAreOfTheRow, files_given, image_named, map_named, named_in, names_given, names_of, row_of}
 use Rattle.command_words.specs.Items.{Item, items_of}
-use Rattle.command_words.specs.Lines.{Line, line_of, number_in, value_in}
-use Rattle.command_words.specs.Numbers.{number_of}
+use Rattle.command_words.specs.Lines.{Line, line_of, number_given, value_in}
+use Rattle.command_words.specs.Numbers.{number_meant}
 use Rattle.command_words.specs.Reports.{NameSource, ByIds, ByImage, ByMap, account_options_in, choice_in, convert_options_in, stack_formats}
 use Rattle.command_words.specs.Rows.{CommandRow}
 use Rattle.command_words.specs.Tables.{account_row, asm_row, check_row, convert_row, dump_row, extract_row, plain_row, run_row, sim_row}
@@ -94,9 +94,9 @@ extract_of line command says = go line.files refl
     go (a ∷ b ∷ names) e = absurd (never command (rw e at says))
 
 asm_of : (line : Line) (command : Command) → asm_in line ≡ Some command → IsOfLine asm_row line command
-asm_of line command says = go line.files (number_in threshold_option line) (number_in map_version_option line) refl refl refl
+asm_of line command says = go line.files (number_given threshold_option line) (number_given map_version_option line) refl refl refl
   where
-    go : (names : List (List ℕ)) (threshold version : Option ℕ) → line.files ≡ names → number_in threshold_option line ≡ threshold → number_in map_version_option line ≡ version → IsOfLine asm_row line command
+    go : (names : List (List ℕ)) (threshold version : Option ℕ) → line.files ≡ names → number_given threshold_option line ≡ threshold → number_given map_version_option line ≡ version → IsOfLine asm_row line command
     go (text ∷ image ∷ []) (Some threshold) (Some version) e f g =
         let is : Asm text image threshold (version == relative_map) ≡ command = same _ _ (rw (e, f, g) at says) in
         rw (sym is, e) (record { row_is = refl; names_are = refl; given_are = refl })
@@ -220,7 +220,7 @@ soak_of line command says = go line.files refl
     by_number seed None says = absurd (never command says)
 
     go : (names : List (List ℕ)) → line.files ≡ names → IsOfLine soak_row line command
-    go (seed ∷ []) e = rw e (by_number seed (number_of seeds seed) (rw e at says))
+    go (seed ∷ []) e = rw e (by_number seed (number_meant seeds seed) (rw e at says))
     go [] e = absurd (never command (rw e at says))
     go (a ∷ b ∷ names) e = absurd (never command (rw e at says))
 

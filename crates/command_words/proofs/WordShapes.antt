@@ -6,11 +6,11 @@ use Rattle.std.specs.Char.{encode_utf8}
 use Rattle.std.specs.Str.{bytes_eq, chars, encode_utf8_all}
 use Rattle.std.proofs.lemmas.Bool.{eqb-true}
 use Rattle.clap.specs.Lexer.{long_of, short_of}
-use Rattle.command_words.specs.Items.{is_name}
+use Rattle.command_words.specs.Items.{may_name_file}
 
 -- a name, the word --, an option with two dashes (45), or one dash before something else
 pub data Shaped : List ℕ → Type 0 where
-  named : (word : List ℕ) → is_name word ≡ true → long_of word ≡ None → short_of word ≡ None → bytes_eq word (codes "--") ≡ false → Shaped word
+  named : (word : List ℕ) → may_name_file word ≡ true → long_of word ≡ None → short_of word ≡ None → bytes_eq word (codes "--") ≡ false → Shaped word
   dashes : Shaped (45 ∷ 45 ∷ [])
   long : (first : ℕ) (rest : List ℕ) → Shaped (45 ∷ 45 ∷ first ∷ rest)
   short : (first : ℕ) (rest : List ℕ) → (first == 45) ≡ false → Shaped (45 ∷ first ∷ rest)

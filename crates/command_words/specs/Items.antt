@@ -15,9 +15,9 @@ pub data Item : Type 0 where
   Bare : (option : List ℕ) → Item
 
 -- a word of two or more characters that begins with - (45) isn't a name
-abbrev pub is_name : List ℕ → Bool
-is_name (first ∷ second ∷ rest) = not (first == 45)
-is_name word = true
+abbrev pub may_name_file : List ℕ → Bool
+may_name_file (first ∷ second ∷ rest) = not (first == 45)
+may_name_file word = true
 
 -- the character = comes between an option and its value
 abbrev pub is_equals : ℕ → Bool
@@ -29,10 +29,10 @@ abbrev pub items_after : Option (List ℕ) → List (List ℕ) → List Item
 items_after None [] = []
 items_after (Some option) [] = Bare option ∷ []
 items_after (Some option) (value ∷ words) =
-    if is_name value then Given option value ∷ items_after None words else Bare option ∷ []
+    if may_name_file value then Given option value ∷ items_after None words else Bare option ∷ []
 items_after None (word ∷ words) =
     if bytes_eq word (codes "--") then map File words
-    else if is_name word then File word ∷ items_after None words
+    else if may_name_file word then File word ∷ items_after None words
     else if list_any is_equals word
     then Given (before_first is_equals word) (after_first is_equals word) ∷ items_after None words
     else items_after (Some word) words
@@ -66,7 +66,7 @@ abbrev pub values_of : List ℕ → List Item → List (List ℕ)
 values_of name items = filter_map (value_of name) items
 
 -- an item is a file name, or an option of one of these names with a value
-abbrev pub is_among : List (List ℕ) → Item → Bool
-is_among names (File name) = true
-is_among names (Given option value) = list_any (λ name. bytes_eq (dashed name) option) names
-is_among names (Bare option) = false
+abbrev pub is_among_options : List (List ℕ) → Item → Bool
+is_among_options names (File name) = true
+is_among_options names (Given option value) = list_any (λ name. bytes_eq (dashed name) option) names
+is_among_options names (Bare option) = false

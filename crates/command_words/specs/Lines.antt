@@ -3,8 +3,8 @@ use Rattle.std.specs.Prelude.{ℕ, ◌==◌, ◌&&◌, List, [], ◌∷◌, leng
 use Rattle.std.specs.List.{filter_map, list_all}
 use Rattle.std.specs.Option.{option_map_or}
 use Rattle.std.specs.Str.{bytes_eq}
-use Rattle.command_words.specs.Items.{Item, files_of, is_among, values_of}
-use Rattle.command_words.specs.Numbers.{number_of}
+use Rattle.command_words.specs.Items.{Item, files_of, is_among_options, values_of}
+use Rattle.command_words.specs.Numbers.{number_meant}
 use Rattle.command_words.specs.Rows.{CommandRow, FileRow, OptionRow, is_optional, is_output, option_names}
 
 -- The names of the files in order. The options that are given, in the order of the command's row: each name with its
@@ -17,7 +17,7 @@ pub record Line : Type 0 where
 
 -- each item is a file name, or an option of one of these names with its value
 abbrev pub have_only : List (List ℕ) → List Item → Bool
-have_only names items = list_all (is_among names) items
+have_only names items = list_all (is_among_options names) items
 
 -- items give the option of this name a value at most once
 abbrev pub comes_once : List Item → List ℕ → Bool
@@ -66,5 +66,5 @@ abbrev pub value_in : List ℕ → Line → Option (List ℕ)
 value_in name line = option_map (λ given. given.1) (find (λ given. bytes_eq given.0 name) line.given)
 
 -- The number that its value stands for, or its default if it isn't given. None if it has a value that isn't allowed.
-abbrev pub number_in : OptionRow → Line → Option ℕ
-number_in option line = option_map_or (number_of option.values) (value_in option.name line) option.default
+abbrev pub number_given : OptionRow → Line → Option ℕ
+number_given option line = option_map_or (number_meant option.values) (value_in option.name line) option.default

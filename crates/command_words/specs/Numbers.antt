@@ -36,8 +36,8 @@ number_among numbers word =
 
 -- the number that a value stands for: the one that it writes, or its place among the listed words, from 0; the name of a
 -- file stands for none
-abbrev pub number_of : Values → List ℕ → Option ℕ
-number_of (Number least most) value = number_within least most value
-number_of (OneOf numbers) value = number_among numbers value
-number_of (Listed words) value = position_from (bytes_eq value) 0 words
-number_of FileName value = None
+abbrev pub number_meant : Values → List ℕ → Option ℕ
+number_meant (Number least most) value = number_within least most value
+number_meant (OneOf numbers) value = number_among numbers value
+number_meant (Listed words) value = position_from (bytes_eq value) 0 words
+number_meant FileName value = None

@@ -1,8 +1,8 @@
 -- The files and options of the commands that report on a trace.
 use Rattle.std.specs.Prelude.{ℕ, List, [], ◌∷◌, Option, Some, None, option_and_then, option_map, slice_get}
 use Rattle.std.specs.Option.{option_map_or}
-use Rattle.command_words.specs.Lines.{Line, number_in, value_in}
-use Rattle.command_words.specs.Numbers.{number_of}
+use Rattle.command_words.specs.Lines.{Line, number_given, value_in}
+use Rattle.command_words.specs.Numbers.{number_meant}
 use Rattle.command_words.specs.Rows.{OptionRow}
 use Rattle.command_words.specs.Tables.{account_format_option, convert_format_option, input_option, map_option, sort_option, sort_order_option, top_option}
 use Rattle.command_words.specs.declared.report_options.AccountFormat.{AccountFormat}
@@ -39,7 +39,7 @@ report_files_in line = of_parts line.files (value_in map_option.name line)
 
 -- one of these choices: the one at the place of the word that is given, or of the default
 abbrev pub choice_in : {X : Type 0} → OptionRow → (choices : List X) → Line → Option X
-choice_in option choices line = option_and_then (slice_get choices) (number_in option line)
+choice_in option choices line = option_and_then (slice_get choices) (number_given option line)
 
 -- the columns of an account, in the order of their words; the orders; and the formats
 abbrev pub columns : List SortColumn
@@ -73,7 +73,7 @@ convert_options_in line =
 
 -- the most rows that are printed: the number that is given, or none for all rows
 abbrev pub top_in : Line → Option (Option ℕ)
-top_in line = option_map_or (λ value. option_map (λ top. Some top) (number_of top_option.values value))
+top_in line = option_map_or (λ value. option_map (λ top. Some top) (number_meant top_option.values value))
     (value_in top_option.name line) (Some None)
 
 -- all options of an account

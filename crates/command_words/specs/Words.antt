@@ -5,8 +5,8 @@ use Rattle.std.specs.Str.{bytes_eq}
 use Rattle.xray_io.specs.declared.wall.Wall.{Wall}
 use Rattle.command_words.specs.Items.{items_of}
 use Rattle.command_words.specs.Limits.{trace_limit}
-use Rattle.command_words.specs.Lines.{Line, line_of, number_in, value_in}
-use Rattle.command_words.specs.Numbers.{number_of}
+use Rattle.command_words.specs.Lines.{Line, line_of, number_given, value_in}
+use Rattle.command_words.specs.Numbers.{number_meant}
 use Rattle.command_words.specs.Reports.{NameSource, account_options_in, choice_in, convert_options_in, report_files_in, stack_formats}
 use Rattle.command_words.specs.Tables.{account_row, asm_row, check_row, convert_row, dump_row, extract_row, plain_row, run_row, sim_row}
 use Rattle.command_words.specs.Tables.{import_row, order_row, profile_row, seeds, soak_row, stack_row}
@@ -42,7 +42,7 @@ pub data Command : Type 0 where
 
 -- the limits of the threads
 abbrev pub bounds_in : Line → Option Bounds
-bounds_in line = of_numbers (number_in threads_option line) (number_in fuel_option line) (number_in passings_option line)
+bounds_in line = of_numbers (number_given threads_option line) (number_given fuel_option line) (number_given passings_option line)
   where
     of_numbers : Option ℕ → Option ℕ → Option ℕ → Option Bounds
     of_numbers (Some threads) (Some fuel) (Some passings) = Some (record { threads = threads; fuel = fuel; passings = passings })
@@ -50,8 +50,8 @@ bounds_in line = of_numbers (number_in threads_option line) (number_in fuel_opti
 
 -- how passings are stamped
 abbrev pub stamps_in : Line → Option Stamps
-stamps_in line = of_numbers (number_in tick_option line) (number_in tsc_option line) (number_in cpus_option line)
-    (number_in migrate_option line)
+stamps_in line = of_numbers (number_given tick_option line) (number_given tsc_option line) (number_given cpus_option line)
+    (number_given migrate_option line)
   where
     of_numbers : Option ℕ → Option ℕ → Option ℕ → Option ℕ → Option Stamps
     of_numbers (Some tick) (Some tsc) (Some cpus) (Some migrate) =
@@ -60,7 +60,7 @@ stamps_in line = of_numbers (number_in tick_option line) (number_in tsc_option l
 
 -- the buffers
 abbrev pub buffers_in : Line → Option Buffers
-buffers_in line = of_numbers (number_in buffer_size_option line) (number_in buffer_max_option line)
+buffers_in line = of_numbers (number_given buffer_size_option line) (number_given buffer_max_option line)
   where
     of_numbers : Option ℕ → Option ℕ → Option Buffers
     of_numbers (Some size) (Some max) = Some (record { size = size; max = max })
@@ -69,7 +69,7 @@ buffers_in line = of_numbers (number_in buffer_size_option line) (number_in buff
 -- the wall time: the given seconds with no microseconds, or the time that is passed in
 abbrev pub wall_in : Wall → Line → Option Wall
 wall_in wall line = option_map_or
-    (λ value. option_map (λ secs. record { secs = secs; micros = 0 }) (number_of wall_option.values value))
+    (λ value. option_map (λ secs. record { secs = secs; micros = 0 }) (number_meant wall_option.values value))
     (value_in wall_option.name line) (Some wall)
 
 -- There is a buffer for each thread. The longest trace file has room for its header of 32 bytes and for all
@@ -80,8 +80,8 @@ have_room options = nat_le options.bounds.threads options.buffers.max
 
 -- all options of a run
 unfoldable pub run_options_in : Wall → Line → Option RunOptions
-run_options_in wall line = of_parts (bounds_in line) (stamps_in line) (number_in frequency_option line) (buffers_in line)
-    (number_in pid_option line) (wall_in wall line)
+run_options_in wall line = of_parts (bounds_in line) (stamps_in line) (number_given frequency_option line) (buffers_in line)
+    (number_given pid_option line) (wall_in wall line)
   where
     checked : RunOptions → Option RunOptions
     checked options = if have_room options then Some options else None
@@ -100,7 +100,7 @@ run_options_in wall line = of_parts (bounds_in line) (stamps_in line) (number_in
 
 -- all options of a profile
 unfoldable pub profile_options_in : Line → Option ProfileOptions
-profile_options_in line = of_parts (bounds_in line) (stamps_in line) (number_in nodes_option line)
+profile_options_in line = of_parts (bounds_in line) (stamps_in line) (number_given nodes_option line)
     (choice_in stack_format_option stack_formats line)
   where
     of_parts : Option Bounds → Option Stamps → Option ℕ → Option StackFormat → Option ProfileOptions
@@ -140,7 +140,7 @@ extract_in line = of_files line.files
     of_files _ = None
 
 abbrev pub asm_in : Line → Option Command
-asm_in line = of_parts line.files (number_in threshold_option line) (number_in map_version_option line)
+asm_in line = of_parts line.files (number_given threshold_option line) (number_given map_version_option line)
   where
     of_parts : List (List ℕ) → Option ℕ → Option ℕ → Option Command
     of_parts (text ∷ image ∷ []) (Some threshold) (Some version) = Some (Asm text image threshold (version == relative_map))
@@ -195,7 +195,7 @@ abbrev pub soak_in : Line → Option Command
 soak_in line = of_files line.files
   where
     of_files : List (List ℕ) → Option Command
-    of_files (seed ∷ []) = option_map Soak (number_of seeds seed)
+    of_files (seed ∷ []) = option_map Soak (number_meant seeds seed)
     of_files _ = None
 
 abbrev pub import_in : Line → Option Command

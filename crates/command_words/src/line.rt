@@ -1,8 +1,8 @@
 //! A line: the words after a command, cut into the names of its files and the values of its options.
 ghost use Rattle.std.specs.Prelude.{◌≡◌, ◌<◌, ◌≤◌, IfSome, length, option_copied, true};
 ghost use Rattle.std.specs.{List.{position_from}, Str.{bytes_eq}};
-ghost use Rattle.command_words.specs.Lines.{number_in, value_in};
-ghost use Rattle.command_words.specs.Numbers.{has_number, number_among, number_of, number_within};
+ghost use Rattle.command_words.specs.Lines.{number_given, value_in};
+ghost use Rattle.command_words.specs.Numbers.{has_number, number_among, number_meant, number_within};
 ghost use Rattle.command_words.specs.private.Allowed.{IsAmongValues};
 ghost use Rattle.command_words.specs.private.Allowed.{has_default_in_range};
 ghost use Rattle.command_words.specs.private.CodeViews.{line_view, option_view, values_view};
@@ -35,13 +35,13 @@ impl<'a> Line<'a> {
 impl OptionRow {
     /// The number that a line gives the option, or its default. `None` if the line gives it a value
     /// that isn't allowed, or if the line gives it no value and it has no default.
-    pub(crate) fn number_in(&self, line: &Line<'_>) -> Option<u64>
+    pub(crate) fn number_given(&self, line: &Line<'_>) -> Option<u64>
         requires { has_default_in_range (option_view self.now) ≡ true }
-        ensures number { result ≡ number_in (option_view self.now) (line_view line.now) }
+        ensures number { result ≡ number_given (option_view self.now) (line_view line.now) }
         ensures within { IfSome result (IsAmongValues (values_view self.now.values)) }
     {
         match line.value(self.name) {
-            Some(value) => self.values.number_of(value),
+            Some(value) => self.values.number_meant(value),
             None => self.default,
         }
     }
@@ -50,8 +50,8 @@ impl OptionRow {
 impl Values {
     /// The number that a value stands for. `None` if the value isn't allowed.
     #[tactic(auto, using(crate::proofs::ClapMatches::position_of_texts))]
-    pub(crate) fn number_of(&self, value: &str) -> Option<u64>
-        ensures number { result ≡ number_of (values_view self.now) value.now }
+    pub(crate) fn number_meant(&self, value: &str) -> Option<u64>
+        ensures number { result ≡ number_meant (values_view self.now) value.now }
         ensures within { IfSome result (IsAmongValues (values_view self.now)) }
     {
         match self {

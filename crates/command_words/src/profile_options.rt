@@ -30,7 +30,7 @@ pub(crate) fn profile_options_in(line: &Line<'_>) -> Option<ProfileOptions>
 {
     let bounds = bounds_in(line)?;
     let stamps = stamps_in(line)?;
-    let nodes = NODES.number_in(line)?;
+    let nodes = NODES.number_given(line)?;
     let format = stack_format_in(line)?;
     Some(ProfileOptions {
         bounds,

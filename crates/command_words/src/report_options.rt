@@ -160,7 +160,7 @@ pub(crate) fn report_files_in<'a>(line: &Line<'a>) -> Option<ReportFiles<'a>>
 fn column_in(line: &Line<'_>) -> Option<SortColumn>
     ensures { result ≡ choice_in sort_option columns (line_view line.now) }
 {
-    match SORT.number_in(line)? {
+    match SORT.number_given(line)? {
         0 => Some(SortColumn::FuncId),
         1 => Some(SortColumn::Count),
         2 => Some(SortColumn::Min),
@@ -176,7 +176,7 @@ fn column_in(line: &Line<'_>) -> Option<SortColumn>
 fn order_in(line: &Line<'_>) -> Option<SortOrder>
     ensures { result ≡ choice_in sort_order_option orders (line_view line.now) }
 {
-    match SORT_ORDER.number_in(line)? {
+    match SORT_ORDER.number_given(line)? {
         0 => Some(SortOrder::Ascending),
         _ => Some(SortOrder::Descending),
     }
@@ -186,7 +186,7 @@ fn order_in(line: &Line<'_>) -> Option<SortOrder>
 fn account_format_in(line: &Line<'_>) -> Option<AccountFormat>
     ensures { result ≡ choice_in account_format_option account_formats (line_view line.now) }
 {
-    match ACCOUNT_FORMAT.number_in(line)? {
+    match ACCOUNT_FORMAT.number_given(line)? {
         0 => Some(AccountFormat::Text),
         _ => Some(AccountFormat::Csv),
     }
@@ -196,7 +196,7 @@ fn account_format_in(line: &Line<'_>) -> Option<AccountFormat>
 pub(crate) fn stack_format_in(line: &Line<'_>) -> Option<StackFormat>
     ensures { result ≡ choice_in stack_format_option stack_formats (line_view line.now) }
 {
-    match STACK_FORMAT.number_in(line)? {
+    match STACK_FORMAT.number_given(line)? {
         0 => Some(StackFormat::Human),
         1 => Some(StackFormat::Flame),
         _ => Some(StackFormat::Svg),
@@ -210,7 +210,7 @@ fn top_in(line: &Line<'_>) -> Option<Option<u32>>
 {
     match line.value(TOP.name) {
         Some(value) => {
-            let top = TOP.values.number_of(value)?;
+            let top = TOP.values.number_meant(value)?;
             Some(Some(top as u32))
         }
         None => Some(None),
@@ -238,7 +238,7 @@ pub(crate) fn account_options_in(line: &Line<'_>) -> Option<AccountOptions>
 fn convert_format_in(line: &Line<'_>) -> Option<ConvertFormat>
     ensures { result ≡ choice_in convert_format_option convert_formats (line_view line.now) }
 {
-    match CONVERT_FORMAT.number_in(line)? {
+    match CONVERT_FORMAT.number_given(line)? {
         0 => Some(ConvertFormat::Yaml),
         1 => Some(ConvertFormat::TraceEvents),
         _ => Some(ConvertFormat::Basic),
@@ -249,7 +249,7 @@ fn convert_format_in(line: &Line<'_>) -> Option<ConvertFormat>
 fn input_form_in(line: &Line<'_>) -> Option<InputForm>
     ensures { result ≡ choice_in input_option input_forms (line_view line.now) }
 {
-    match INPUT.number_in(line)? {
+    match INPUT.number_given(line)? {
         0 => Some(InputForm::Fdr),
         _ => Some(InputForm::Basic),
     }

@@ -90,9 +90,9 @@ pub(crate) fn bounds_in(line: &Line<'_>) -> Option<Bounds>
     ensures ranges { IfSome result AreBounds }
 {
     Some(Bounds {
-        threads: THREADS.number_in(line)? as u32,
-        fuel: FUEL.number_in(line)?,
-        passings: PASSINGS.number_in(line)? as u32,
+        threads: THREADS.number_given(line)? as u32,
+        fuel: FUEL.number_given(line)?,
+        passings: PASSINGS.number_given(line)? as u32,
     })
 }
 
@@ -102,10 +102,10 @@ pub(crate) fn stamps_in(line: &Line<'_>) -> Option<Stamps>
     ensures ranges { IfSome result AreStamps }
 {
     Some(Stamps {
-        tick: TICK.number_in(line)?,
-        tsc: TSC.number_in(line)?,
-        cpus: CPUS.number_in(line)? as u16,
-        migrate: MIGRATE.number_in(line)? as u32,
+        tick: TICK.number_given(line)?,
+        tsc: TSC.number_given(line)?,
+        cpus: CPUS.number_given(line)? as u16,
+        migrate: MIGRATE.number_given(line)? as u32,
     })
 }
 
@@ -115,8 +115,8 @@ fn buffers_in(line: &Line<'_>) -> Option<Buffers>
     ensures ranges { IfSome result AreBuffers }
 {
     Some(Buffers {
-        size: BUFFER_SIZE.number_in(line)? as u32,
-        max: BUFFER_MAX.number_in(line)? as u32,
+        size: BUFFER_SIZE.number_given(line)? as u32,
+        max: BUFFER_MAX.number_given(line)? as u32,
     })
 }
 
@@ -129,7 +129,7 @@ fn wall_in(wall: Wall, line: &Line<'_>) -> Option<Wall>
 {
     match line.value(WALL.name) {
         Some(value) => {
-            let secs = WALL.values.number_of(value)?;
+            let secs = WALL.values.number_meant(value)?;
             Some(Wall { secs, micros: 0 })
         }
         None => Some(wall),
@@ -146,9 +146,9 @@ pub(crate) fn run_options_in(wall: Wall, line: &Line<'_>) -> Option<RunOptions>
 {
     let bounds = bounds_in(line)?;
     let stamps = stamps_in(line)?;
-    let frequency = FREQUENCY.number_in(line)?;
+    let frequency = FREQUENCY.number_given(line)?;
     let buffers = buffers_in(line)?;
-    let pid = PID.number_in(line)?;
+    let pid = PID.number_given(line)?;
     let wall = wall_in(wall, line)?;
     let options = RunOptions {
         bounds,

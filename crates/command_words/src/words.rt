@@ -345,8 +345,8 @@ fn asm_in<'a>(line: &Line<'a>) -> Option<Command<'a>>
         [text, image] => Some(Command::Asm {
             text,
             image,
-            threshold: THRESHOLD.number_in(line)? as u32,
-            relative: MAP_VERSION.number_in(line)? == RELATIVE_MAP,
+            threshold: THRESHOLD.number_given(line)? as u32,
+            relative: MAP_VERSION.number_given(line)? == RELATIVE_MAP,
         }),
         _ => None,
     }
@@ -483,7 +483,7 @@ fn soak_in<'a>(line: &Line<'a>) -> Option<Command<'a>>
 {
     match line.files.as_slice() {
         [seed] => Some(Command::Soak {
-            number: SEEDS.number_of(seed)?,
+            number: SEEDS.number_meant(seed)?,
         }),
         _ => None,
     }

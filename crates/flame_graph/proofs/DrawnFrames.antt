@@ -6,8 +6,8 @@ use Rattle.map_names.specs.Naming.{Naming}
 use Rattle.function_names.specs.Name.{plain_name}
 use Rattle.stack_rebuild.specs.Stacks.{PathRow}
 use Rattle.flame_graph.specs.declared.frame.Calls.{Calls}
-use Rattle.flame_graph.specs.FlameText.{frame_text, func_of, line_text, top_of}
-use Rattle.flame_graph.specs.Frames.{calls_of, capped, end_of, total_of}
+use Rattle.flame_graph.specs.FlameText.{frame_text, func_of, frame_line, top_of}
+use Rattle.flame_graph.specs.Frames.{calls_of, capped, end_of, frames_total}
 use Rattle.flame_graph.specs.Picture.{is_drawn, least_width, left_of, levels_of, most_levels, width_of}
 use Rattle.flame_graph.proofs.FramePlaces.{span_within}
 
@@ -25,16 +25,16 @@ is_wide rows frame few wide =
 pub text_none : (names : Naming) (rows : List PathRow) (frame : List ℕ) → is_drawn rows frame ≡ false → frame_text names rows frame ≡ []
 text_none names rows frame misses =
     cond-false (is_drawn rows frame)
-    (line_text (left_of rows frame) (width_of rows frame) (top_of (levels_of rows) (length frame)) (func_of frame) (plain_name names (func_of frame)) (calls_of rows frame)) [] misses
+    (frame_line (left_of rows frame) (width_of rows frame) (top_of (levels_of rows) (length frame)) (func_of frame) (plain_name names (func_of frame)) (calls_of rows frame)) [] misses
 
 pub text_line : (names : Naming) (rows : List PathRow) (frame : List ℕ) → is_drawn rows frame ≡ true
-    → frame_text names rows frame ≡ line_text (left_of rows frame) (width_of rows frame) (top_of (levels_of rows) (length frame)) (func_of frame) (plain_name names (func_of frame)) (calls_of rows frame)
+    → frame_text names rows frame ≡ frame_line (left_of rows frame) (width_of rows frame) (top_of (levels_of rows) (length frame)) (func_of frame) (plain_name names (func_of frame)) (calls_of rows frame)
 text_line names rows frame is =
     cond-true (is_drawn rows frame)
-    (line_text (left_of rows frame) (width_of rows frame) (top_of (levels_of rows) (length frame)) (func_of frame) (plain_name names (func_of frame)) (calls_of rows frame)) [] is
+    (frame_line (left_of rows frame) (width_of rows frame) (top_of (levels_of rows) (length frame)) (func_of frame) (plain_name names (func_of frame)) (calls_of rows frame)) [] is
 
 -- it is within all rows
-pub end_within : (rows : List PathRow) (frame : List ℕ) → end_of rows frame ≤ total_of rows
+pub end_within : (rows : List PathRow) (frame : List ℕ) → end_of rows frame ≤ frames_total rows
 end_within rows frame = let span = span_within frame rows in omega (arith, span)
 
 -- and it isn't counted with those that are left out
@@ -49,12 +49,12 @@ on_ok_from (Err error) is = tt
 -- the line with the frame's own place and calls is its text
 pub line_drawn : (names : Naming) (rows : List PathRow) (frame : List ℕ) (left width top : ℕ) (calls : Calls) → is_drawn rows frame ≡ true → left ≡ left_of rows frame
     → width ≡ width_of rows frame → top ≡ top_of (levels_of rows) (length frame) → calls ≡ calls_of rows frame
-    → line_text left width top (func_of frame) (plain_name names (func_of frame)) calls ≡ frame_text names rows frame
+    → frame_line left width top (func_of frame) (plain_name names (func_of frame)) calls ≡ frame_text names rows frame
 line_drawn names rows frame left width top calls is lefts widths tops all =
     let func : ℕ = func_of frame in
     let name : List ℕ = plain_name names func in
-    ap (λ (n : ℕ). line_text n width top func name calls) lefts
-    ∙ (ap (λ (n : ℕ). line_text (left_of rows frame) n top func name calls) widths
-    ∙ (ap (λ (n : ℕ). line_text (left_of rows frame) (width_of rows frame) n func name calls) tops
-    ∙ (ap (λ (some : Calls). line_text (left_of rows frame) (width_of rows frame) (top_of (levels_of rows) (length frame)) func name some) all
+    ap (λ (n : ℕ). frame_line n width top func name calls) lefts
+    ∙ (ap (λ (n : ℕ). frame_line (left_of rows frame) n top func name calls) widths
+    ∙ (ap (λ (n : ℕ). frame_line (left_of rows frame) (width_of rows frame) n func name calls) tops
+    ∙ (ap (λ (some : Calls). frame_line (left_of rows frame) (width_of rows frame) (top_of (levels_of rows) (length frame)) func name some) all
     ∙ sym (text_line names rows frame is))))

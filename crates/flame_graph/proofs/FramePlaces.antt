@@ -9,7 +9,7 @@ use Rattle.std.specs.Cmp.{nat_cmp_is}
 use Rattle.std.proofs.lemmas.List.Sums.{sum_by-cons}
 use Rattle.stack_rebuild.specs.Stacks.{PathRow, path_cmp}
 use Rattle.stack_rebuild.specs.Weights.{begins, weight_of}
-use Rattle.flame_graph.specs.Frames.{AreStacks, Precedes, is_begun, own_sum, place_of}
+use Rattle.flame_graph.specs.Frames.{AreStacks, Precedes, is_begun, own_sum, frame_place}
 use Rattle.flame_graph.specs.Laws.{BeginsAtItsRows}
 use Rattle.flame_graph.proofs.Orders.{Ascends, IsBefore, ascends, begins_first, begins_more, no_prefix_after}
 use Rattle.flame_graph.proofs.FrameSpans.{begun_in, begun_later, first_place, own_more, starts_at, weight_more}
@@ -67,10 +67,10 @@ not_before frame path never = by_test (cases_Bool (is_lt (path_cmp path frame)))
 
 -- ---- rows before a frame
 
-before_more : (frame : List ℕ) (row : PathRow) (rows : List PathRow) → place_of (row ∷ rows) frame ≡ cond (is_lt (path_cmp row.path frame)) row.own 0 + place_of rows frame
+before_more : (frame : List ℕ) (row : PathRow) (rows : List PathRow) → frame_place (row ∷ rows) frame ≡ cond (is_lt (path_cmp row.path frame)) row.own 0 + frame_place rows frame
 before_more frame row rows = sum_by-cons (λ (r : PathRow). cond (is_lt (path_cmp r.path frame)) r.own 0) row rows
 
-none_before : (frame : List ℕ) (row : PathRow) (rows : List PathRow) → AllByRecursion (IsBefore row) rows → begins frame row.path ≡ true → place_of rows frame ≡ 0
+none_before : (frame : List ℕ) (row : PathRow) (rows : List PathRow) → AllByRecursion (IsBefore row) rows → begins frame row.path ≡ true → frame_place rows frame ≡ 0
 none_before frame row [] after is = refl
 none_before frame row (next ∷ rows) after is =
     let here = not_before frame next.path (λ before. no_prefix_after row.path frame (transitive row.path next.path frame after.0 before) is) in
@@ -88,12 +88,12 @@ row_before frame row (next ∷ rows) after isnt some = by_test (cases_Bool (begi
     by_test (inl is) again = ap is_lt (before_frame frame row.path next.path after.0 is isnt)
     by_test (inr misses) again = again (begun_later frame next rows misses some)
 
-pub place_first : (frame : List ℕ) (rows : List PathRow) → Ascends rows → is_begun rows frame ≡ true → place_of rows frame ≡ first_place rows frame
+pub place_first : (frame : List ℕ) (rows : List PathRow) → Ascends rows → is_begun rows frame ≡ true → frame_place rows frame ≡ first_place rows frame
 place_first frame [] ascending some = absurd (false≢true some)
 place_first frame (row ∷ rows) ascending some = by_test (cases_Bool (begins frame row.path)) (place_first frame rows ascending.1)
   where
-    by_test : (begins frame row.path ≡ true) ⊎ (begins frame row.path ≡ false) → (is_begun rows frame ≡ true → place_of rows frame ≡ first_place rows frame)
-        → place_of (row ∷ rows) frame ≡ first_place (row ∷ rows) frame
+    by_test : (begins frame row.path ≡ true) ⊎ (begins frame row.path ≡ false) → (is_begun rows frame ≡ true → frame_place rows frame ≡ first_place rows frame)
+        → frame_place (row ∷ rows) frame ≡ first_place (row ∷ rows) frame
     by_test (inl is) again =
         let place = cond-true (begins frame row.path) 0 (row.own + first_place rows frame) is in
         let here = cond-false (is_lt (path_cmp row.path frame)) row.own 0 (not_before frame row.path (λ before. no_prefix_after row.path frame before is)) in
@@ -110,7 +110,7 @@ place_first frame (row ∷ rows) ascending some = by_test (cases_Bool (begins fr
 
 -- if no row before one begins with a frame, and this one does, the frame begins after the others
 pub place_at : (rows : List PathRow) (frame : List ℕ) (before : List PathRow) (first : PathRow) (later : List PathRow) → Ascends rows → rows ≡ before ++ first ∷ later
-    → is_begun before frame ≡ false → begins frame first.path ≡ true → place_of rows frame ≡ own_sum before
+    → is_begun before frame ≡ false → begins frame first.path ≡ true → frame_place rows frame ≡ own_sum before
 place_at rows frame before first later ascending whole none begun =
     place_first frame rows ascending (ap (λ (rs : List PathRow). is_begun rs frame) whole ∙ begun_in frame before first later begun)
     ∙ (ap (λ (rs : List PathRow). first_place rs frame) whole ∙ starts_at frame before first later none begun)
@@ -121,7 +121,7 @@ begins_at_its_rows rows frame stacks before later first whole none begun = place
 -- ---- all rows
 
 -- a frame ends within them
-pub span_within : (frame : List ℕ) (rows : List PathRow) → place_of rows frame + weight_of rows frame ≤ own_sum rows
+pub span_within : (frame : List ℕ) (rows : List PathRow) → frame_place rows frame + weight_of rows frame ≤ own_sum rows
 span_within frame [] = omega arith
 span_within frame (row ∷ rows) = by_test (cases_Bool (begins frame row.path)) (span_within frame rows)
   where
@@ -129,8 +129,8 @@ span_within frame (row ∷ rows) = by_test (cases_Bool (begins frame row.path)) 
     at_most true n = omega arith
     at_most false n = omega arith
 
-    by_test : (begins frame row.path ≡ true) ⊎ (begins frame row.path ≡ false) → place_of rows frame + weight_of rows frame ≤ own_sum rows
-        → place_of (row ∷ rows) frame + weight_of (row ∷ rows) frame ≤ own_sum (row ∷ rows)
+    by_test : (begins frame row.path ≡ true) ⊎ (begins frame row.path ≡ false) → frame_place rows frame + weight_of rows frame ≤ own_sum rows
+        → frame_place (row ∷ rows) frame + weight_of (row ∷ rows) frame ≤ own_sum (row ∷ rows)
     by_test (inl is) again =
         let none = cond-false (is_lt (path_cmp row.path frame)) row.own 0 (not_before frame row.path (λ before. no_prefix_after row.path frame before is)) in
         let most = at_most (begins frame row.path) row.own in

@@ -5,7 +5,7 @@ use Rattle.std.proofs.lemmas.Bool.{cases_Bool, cond-false, cond-true, false≢tr
 use Rattle.stack_rebuild.specs.Stacks.{PathRow}
 use Rattle.stack_rebuild.proofs.Items.{IsIn, Pairwise}
 use Rattle.stack_rebuild.specs.Weights.{begins, weight_of}
-use Rattle.flame_graph.specs.Frames.{AreStacks, Precedes, end_of, frames, is_begun, prefixes, start_of, total_of}
+use Rattle.flame_graph.specs.Frames.{AreStacks, Precedes, end_of, frames, is_begun, prefixes, frame_start, frames_total}
 use Rattle.flame_graph.specs.Laws.{IsLeftOf, NoneOverlap}
 use Rattle.flame_graph.proofs.Orders.{Ascends, IsBefore, ascends, begins_first}
 use Rattle.flame_graph.proofs.FrameSpans.{begun_later, first_place, weight_more, weight_none}
@@ -161,7 +161,7 @@ is_left rows a b ascending some other ordered same =
     let ends = ends_before a b rows ascending same (ordered same) some in
     let first = place_first a rows ascending some in
     let second = place_first b rows ascending other in
-    let one = thousandths_le (total_of rows) (end_of rows a) (start_of rows b) (omega (arith, ends, first, second)) in
+    let one = thousandths_le (frames_total rows) (end_of rows a) (frame_start rows b) (omega (arith, ends, first, second)) in
     let own = left_le_right rows a in
     omega (arith, one, own)
 

@@ -7,7 +7,7 @@ use Rattle.std.proofs.lemmas.List.{drop-map, drop_all, take_all}
 use Rattle.std.proofs.lemmas.List.Elements.{filter-append}
 use Rattle.std.proofs.lemmas.List.Sums.{sum_by-append, sum_by-cons}
 use Rattle.stack_rebuild.specs.Stacks.{PathRow}
-use Rattle.flame_graph.specs.Frames.{AreStacks, prefixes, capped, end_of, frames, own_sum, total_of}
+use Rattle.flame_graph.specs.Frames.{AreStacks, prefixes, capped, end_of, frames, own_sum, frames_total}
 use Rattle.flame_graph.specs.Laws.{LowestAddUp, is_lowest}
 use Rattle.flame_graph.specs.Picture.{left_of, right_of, thousandths_at, width_of}
 use Rattle.flame_graph.specs.private.Walking.{ended_at, path_at, shared_at}
@@ -82,7 +82,7 @@ width_and_left rows frame = let less = left_le_right rows frame in omega (arith,
 
 -- the widths of the lowest frames that end at a row or later add up to what is between the first of them and the end
 pub lowest_from : (rows : List PathRow) (more at : ℕ) → Ascends rows → ((k : ℕ) → k < length rows → 0 < length (path_at rows k)) → at + suc more ≡ length rows
-    → lowest_width rows (frames (drop at rows)) + left_of rows (take (suc zero) (path_at rows at)) ≡ thousandths_at (total_of rows) (total_of rows)
+    → lowest_width rows (frames (drop at rows)) + left_of rows (take (suc zero) (path_at rows at)) ≡ thousandths_at (frames_total rows) (frames_total rows)
 lowest_from rows zero at ascending some last = by_count (shared_at rows (suc at)) refl
   where
     within : at < length rows
@@ -95,15 +95,15 @@ lowest_from rows zero at ascending some last = by_count (shared_at rows (suc at)
     after = ap (λ (l : List PathRow). lowest_width rows (frames l)) (drop_all (suc at) rows (omega (arith, last))) ∙ width_of_nothing rows
 
     by_count : (n : ℕ) → shared_at rows (suc at) ≡ n
-        → lowest_width rows (frames (drop at rows)) + left_of rows (take (suc zero) (path_at rows at)) ≡ thousandths_at (total_of rows) (total_of rows)
+        → lowest_width rows (frames (drop at rows)) + left_of rows (take (suc zero) (path_at rows at)) ≡ thousandths_at (frames_total rows) (frames_total rows)
     by_count (suc n) is = absurd (let next = is_row (path_at rows at) rows (suc at) n (omega (arith, is)) in omega (arith, last, next))
     by_count zero is =
         let path = path_at rows at in
         let here : lowest_width rows (ended_at rows at) ≡ width_of rows (take (suc zero) path) =
         ap (λ (n : ℕ). lowest_width rows (drop n (prefixes path))) is ∙ width_of_one rows path (some at within) in
-        let ends : end_of rows (take (suc zero) path) ≡ total_of rows =
+        let ends : end_of rows (take (suc zero) path) ≡ frames_total rows =
         closes_at rows at zero ascending within (omega (arith, is)) (some at within) ∙ ap (λ (l : List PathRow). capped (own_sum l)) (take_all (suc at) rows (omega (arith, last))) in
-        let right : right_of rows (take (suc zero) path) ≡ thousandths_at (total_of rows) (total_of rows) = ap (λ (n : ℕ). thousandths_at (total_of rows) n) ends in
+        let right : right_of rows (take (suc zero) path) ≡ thousandths_at (frames_total rows) (frames_total rows) = ap (λ (n : ℕ). thousandths_at (frames_total rows) n) ends in
         let both = width_and_left rows (take (suc zero) path) in
         omega (arith, split, after, here, both, right)
 lowest_from rows (suc more) at ascending some last =
@@ -119,8 +119,8 @@ lowest_from rows (suc more) at ascending some last =
     split = ap (λ (l : List (List ℕ)). lowest_width rows l) (frames_from rows at ascending within) ∙ width_more rows (ended_at rows at) (frames (drop (suc at) rows))
 
     by_count : (n : ℕ) → shared_at rows (suc at) ≡ n
-        → lowest_width rows (frames (drop (suc at) rows)) + left_of rows (take (suc zero) (path_at rows (suc at))) ≡ thousandths_at (total_of rows) (total_of rows)
-        → lowest_width rows (frames (drop at rows)) + left_of rows (take (suc zero) (path_at rows at)) ≡ thousandths_at (total_of rows) (total_of rows)
+        → lowest_width rows (frames (drop (suc at) rows)) + left_of rows (take (suc zero) (path_at rows (suc at))) ≡ thousandths_at (frames_total rows) (frames_total rows)
+        → lowest_width rows (frames (drop at rows)) + left_of rows (take (suc zero) (path_at rows at)) ≡ thousandths_at (frames_total rows) (frames_total rows)
     by_count (suc n) is again =
         let none : lowest_width rows (ended_at rows at) ≡ 0 =
         ap (λ (k : ℕ). lowest_width rows (drop k (prefixes (path_at rows at)))) is ∙ width_of_none rows (path_at rows at) n in
@@ -133,7 +133,7 @@ lowest_from rows (suc more) at ascending some last =
         let ends = closes_at rows at zero ascending within (omega (arith, is)) (some at within) in
         let starts = (opens_at rows (suc at) zero ascending next_within (omega (arith, is)) (some (suc at) next_within)).left in
         let meet : right_of rows (take (suc zero) path) ≡ left_of rows (take (suc zero) (path_at rows (suc at))) =
-        ap (λ (n : ℕ). thousandths_at (total_of rows) n) ends ∙ starts in
+        ap (λ (n : ℕ). thousandths_at (frames_total rows) n) ends ∙ starts in
         let both = width_and_left rows (take (suc zero) path) in
         omega (arith, split, here, both, meet, again)
 
@@ -151,6 +151,6 @@ lowest_add_up (row ∷ rows) stacks spent =
     let rising = ascends all stacks.ascending in
     let whole = lowest_from all (length rows) zero rising each (omega arith) in
     let starts = (opens_at all zero zero rising (omega arith) (omega arith) (each zero (omega arith))).left in
-    let first : left_of all (take (suc zero) (path_at all zero)) ≡ 0 = sym starts ∙ at_none (total_of all) in
-    let full = at_whole (total_of all) (omega (arith, spent)) in
+    let first : left_of all (take (suc zero) (path_at all zero)) ≡ 0 = sym starts ∙ at_none (frames_total all) in
+    let full = at_whole (frames_total all) (omega (arith, spent)) in
     width_is all (frames all) ∙ omega (arith, whole, first, full)

@@ -7,7 +7,7 @@ use Rattle.std.proofs.lemmas.List.Elements.{All-append, All-cons, All-filter, Al
 use Rattle.std.proofs.lemmas.List.Sums.{sum_by-le-sum_by}
 use Rattle.stack_rebuild.specs.Stacks.{PathRow}
 use Rattle.stack_rebuild.specs.Weights.{begins, weight_of}
-use Rattle.flame_graph.specs.Frames.{AreStacks, prefixes, end_of, frames, is_begun, start_of, total_of}
+use Rattle.flame_graph.specs.Frames.{AreStacks, prefixes, end_of, frames, is_begun, frame_start, frames_total}
 use Rattle.flame_graph.specs.Laws.{IsWithin, NoneSticksOut, below}
 use Rattle.flame_graph.specs.Picture.{left_of, right_of}
 use Rattle.flame_graph.proofs.Orders.{Ascends, IsBefore, ascends, begins_first, begins_more, begins_take, between}
@@ -130,7 +130,7 @@ frame_within outer frame (row ∷ rows) on ascending some =
 -- ---- in thousandths of a pixel
 
 pub left_le_right : (rows : List PathRow) (frame : List ℕ) → left_of rows frame ≤ right_of rows frame
-left_le_right rows frame = thousandths_le (total_of rows) (start_of rows frame) (end_of rows frame) (omega arith)
+left_le_right rows frame = thousandths_le (frames_total rows) (frame_start rows frame) (end_of rows frame) (omega arith)
 
 is_within : (rows : List PathRow) (frame outer : List ℕ) → Ascends rows → begins outer frame ≡ true → is_begun rows frame ≡ true → IsWithin rows frame outer
 is_within rows frame outer ascending on some =
@@ -138,8 +138,8 @@ is_within rows frame outer ascending on some =
     let ends = frame_within outer frame rows on ascending some in
     let own = place_first frame rows ascending some in
     let its = place_first outer rows ascending (begun_outer outer frame rows on some) in
-    let lefts = thousandths_le (total_of rows) (start_of rows outer) (start_of rows frame) (omega (arith, starts, own, its)) in
-    let rights = thousandths_le (total_of rows) (end_of rows frame) (end_of rows outer) (omega (arith, ends, own, its)) in
+    let lefts = thousandths_le (frames_total rows) (frame_start rows outer) (frame_start rows frame) (omega (arith, starts, own, its)) in
+    let rights = thousandths_le (frames_total rows) (end_of rows frame) (end_of rows outer) (omega (arith, ends, own, its)) in
     let one = left_le_right rows frame in
     let other = left_le_right rows outer in
     record { left = lefts; right = omega (arith, lefts, rights, one, other) }

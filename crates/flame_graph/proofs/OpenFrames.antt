@@ -7,7 +7,7 @@ use Rattle.std.proofs.lemmas.List.{append-nil, append_assoc, drop-map, drop_all,
 use Rattle.std.proofs.lemmas.List.Sums.{sum_by-append, sum_by-take-le, sum_by_more}
 use Rattle.stack_rebuild.specs.Stacks.{PathRow}
 use Rattle.stack_rebuild.specs.Weights.{begins, weight_of}
-use Rattle.flame_graph.specs.Frames.{Precedes, prefixes, calls_of, capped, end_of, frames, is_begun, own_sum, place_of, total_of}
+use Rattle.flame_graph.specs.Frames.{Precedes, prefixes, calls_of, capped, end_of, frames, is_begun, own_sum, frame_place, frames_total}
 use Rattle.flame_graph.specs.Picture.{is_drawn, most_levels, thousandths_at}
 use Rattle.flame_graph.specs.private.Walking.{AreKept, IsKept, IsOpen, Opening, Stands, calls_by, count_left, ended_at, opened, opening_at, path_at, shared, shared_at}
 use Rattle.flame_graph.specs.declared.frame.Openings.{Openings}
@@ -182,12 +182,12 @@ begins_row rows at n within =
 pub opens_at : (rows : List PathRow) (at n : ℕ) → Ascends rows → at < length rows → shared_at rows at ≤ n → n < length (path_at rows at)
     → IsKept rows (take (suc n) (path_at rows at)) (opened rows at)
 opens_at rows at n ascending within new few = record {
-  left = sym (ap (λ (place : ℕ). thousandths_at (total_of rows) (capped place)) place_is);
+  left = sym (ap (λ (place : ℕ). thousandths_at (frames_total rows) (capped place)) place_is);
   first = within;
   calls = λ d. ap (λ (row : PathRow). calls_by row (length (take (suc n) (path_at rows at)))) (get_or_default rows at d no_row within) ∙ sym calls_are;
 }
   where
-    place_is : place_of rows (take (suc n) (path_at rows at)) ≡ own_sum (take at rows)
+    place_is : frame_place rows (take (suc n) (path_at rows at)) ≡ own_sum (take at rows)
     place_is =
         place_at rows (take (suc n) (path_at rows at)) (take at rows) (get_or rows at no_row) (drop (suc at) rows) ascending (split_at rows at no_row within)
         (is_new rows at n ascending within new few) (begins_row rows at n within)
@@ -286,7 +286,7 @@ pub stands_first : (rows : List PathRow) (openings : Openings) → Stands rows 0
 stands_first rows openings = record { place = refl; standing = refl; kept = λ n few low. absurd (omega (arith, few)) }
 
 -- a row begins within all rows
-pub begins_within : (rows : List PathRow) (at : ℕ) → capped (own_sum (take at rows)) ≤ total_of rows
+pub begins_within : (rows : List PathRow) (at : ℕ) → capped (own_sum (take at rows)) ≤ frames_total rows
 begins_within rows at = let all = sum_by-take-le (λ (row : PathRow). row.own) rows at in omega (arith, all)
 
 -- a row is opened

@@ -6,7 +6,7 @@ use Rattle.map_names.specs.Naming.{Naming}
 use Rattle.function_names.specs.Name.{plain_name}
 use Rattle.stack_rebuild.specs.Stacks.{PathRow}
 use Rattle.flame_graph.specs.Characters.{characters}
-use Rattle.flame_graph.specs.Frames.{calls_of, frames, total_of}
+use Rattle.flame_graph.specs.Frames.{calls_of, frames, frames_total}
 use Rattle.flame_graph.specs.Picture.{is_drawn, left_of, left_out, levels_of, width_of}
 use Rattle.flame_graph.specs.declared.frame.Calls.{Calls}
 
@@ -113,8 +113,8 @@ label_text left width top name =
     if nat_lt (fitting width) 3 then codes "</g>\n" else room_text (left + 13000) (top + 12) (fitting width) name
 
 -- the line of a frame
-abbrev pub line_text : (left width top id : ℕ) → List ℕ → Calls → List ℕ
-line_text left width top id name calls = hint_text name calls ++ box_text left width top id ++ label_text left width top name
+abbrev pub frame_line : (left width top id : ℕ) → List ℕ → Calls → List ℕ
+frame_line left width top id name calls = hint_text name calls ++ box_text left width top id ++ label_text left width top name
 
 -- the function of a frame: the innermost one
 abbrev pub func_of : List ℕ → ℕ
@@ -124,7 +124,7 @@ func_of frame = slice_index frame (length frame - 1)
 abbrev pub frame_text : Naming → List PathRow → List ℕ → List ℕ
 frame_text names rows frame =
     if is_drawn rows frame then
-    line_text (left_of rows frame) (width_of rows frame) (top_of (levels_of rows) (length frame)) (func_of frame) (plain_name names (func_of frame)) (calls_of rows frame)
+    frame_line (left_of rows frame) (width_of rows frame) (top_of (levels_of rows) (length frame)) (func_of frame) (plain_name names (func_of frame)) (calls_of rows frame)
     else []
 
 -- ---- the picture
@@ -148,4 +148,4 @@ foot_text levels left =
 -- the flame graph of rows
 abbrev pub flame_text : (frequency : ℕ) → Naming → List PathRow → List ℕ
 flame_text frequency names rows =
-    head_text frequency (levels_of rows) (total_of rows) ++ flat_map (frame_text names rows) (frames rows) ++ foot_text (levels_of rows) (left_out rows)
+    head_text frequency (levels_of rows) (frames_total rows) ++ flat_map (frame_text names rows) (frames rows) ++ foot_text (levels_of rows) (left_out rows)

@@ -47,22 +47,22 @@ abbrev pub own_sum : List PathRow → ℕ
 own_sum rows = sum_by (λ row. row.own) rows
 
 -- the place of a frame: this time, of the rows whose paths come before it, as lists of numbers
-abbrev pub place_of : List PathRow → List ℕ → ℕ
-place_of rows frame = sum_by (λ row. if is_lt (path_cmp row.path frame) then row.own else 0) rows
+abbrev pub frame_place : List PathRow → List ℕ → ℕ
+frame_place rows frame = sum_by (λ row. if is_lt (path_cmp row.path frame) then row.own else 0) rows
 
 -- Sums stop at 2^128 - 1. No trace of fewer than 2^64 bytes has a greater one.
 abbrev pub capped : ℕ → ℕ
 capped n = min n (2 ^ 128 - 1)
 
 -- where a frame begins, where it ends, and where all rows end
-abbrev pub start_of : List PathRow → List ℕ → ℕ
-start_of rows frame = capped (place_of rows frame)
+abbrev pub frame_start : List PathRow → List ℕ → ℕ
+frame_start rows frame = capped (frame_place rows frame)
 
 abbrev pub end_of : List PathRow → List ℕ → ℕ
-end_of rows frame = capped (place_of rows frame + weight_of rows frame)
+end_of rows frame = capped (frame_place rows frame + weight_of rows frame)
 
-abbrev pub total_of : List PathRow → ℕ
-total_of rows = capped (own_sum rows)
+abbrev pub frames_total : List PathRow → ℕ
+frames_total rows = capped (own_sum rows)
 
 -- ---- what is said of them
 

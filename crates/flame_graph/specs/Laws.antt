@@ -6,7 +6,7 @@ use Rattle.fdr_record.specs.declared.event.Event.{Event}
 use Rattle.stack_rebuild.specs.Stacks.{PathRow, stack_of_threads}
 use Rattle.stack_rebuild.specs.Weights.{IsAllTimed, begins, left_over, overrun, weight_of}
 use Rattle.flame_graph.specs.FlameText.{shortened, xml_text}
-use Rattle.flame_graph.specs.Frames.{calls_of, frames, is_begun, own_sum, place_of}
+use Rattle.flame_graph.specs.Frames.{calls_of, frames, is_begun, own_sum, frame_place}
 use Rattle.flame_graph.specs.Picture.{across, left_of, width_of}
 
 -- ---- which frames there are
@@ -33,7 +33,7 @@ NoneTwice rows = AllPairs (λ frame later. frame ≢ later) (frames rows)
 abbrev pub BeginsAtItsRows : List PathRow → List ℕ → Type 0
 BeginsAtItsRows rows frame =
     (before later : List PathRow) (first : PathRow) → rows ≡ before ++ first ∷ later → is_begun before frame ≡ false → begins frame first.path ≡ true
-    → place_of rows frame ≡ own_sum before
+    → frame_place rows frame ≡ own_sum before
 
 -- ---- how wide they are
 

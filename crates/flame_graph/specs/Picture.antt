@@ -1,7 +1,7 @@
 -- Where a frame is drawn. Lengths are in pixels, or in thousandths of a pixel where a name says so.
 use Rattle.std.specs.Prelude.{◌-◌, ◌*◌, ◌/◌, ◌^◌, ◌&&◌, Bool, not, ℕ, List, [], ◌∷◌, length, max, min, nat_le, nat_lt, count_by, if◌then◌else◌}
 use Rattle.stack_rebuild.specs.Stacks.{PathRow}
-use Rattle.flame_graph.specs.Frames.{capped, end_of, frames, start_of, total_of}
+use Rattle.flame_graph.specs.Frames.{capped, end_of, frames, frame_start, frames_total}
 
 -- ---- across
 
@@ -19,10 +19,10 @@ thousandths_at total place = place / unit_of total * across / (total / unit_of t
 
 -- a frame's left end and its width, in thousandths: the width is what is between the two ends
 abbrev pub left_of : List PathRow → List ℕ → ℕ
-left_of rows frame = thousandths_at (total_of rows) (start_of rows frame)
+left_of rows frame = thousandths_at (frames_total rows) (frame_start rows frame)
 
 abbrev pub right_of : List PathRow → List ℕ → ℕ
-right_of rows frame = thousandths_at (total_of rows) (end_of rows frame)
+right_of rows frame = thousandths_at (frames_total rows) (end_of rows frame)
 
 abbrev pub width_of : List PathRow → List ℕ → ℕ
 width_of rows frame = right_of rows frame - left_of rows frame

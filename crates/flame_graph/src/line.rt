@@ -3,7 +3,7 @@
 ghost use Rattle.std.specs.Prelude.{◌≡◌, ◌<◌, ◌^◌};
 ghost use Rattle.function_names.specs.Name.{naming, plain_name};
 ghost use Rattle.xray_io.specs.Text.{AddsText};
-ghost use Rattle.flame_graph.specs.FlameText.{baseline_text, box_text, calls_text, colour_text, corner_text, fitting, hint_text, label_text, line_text, room_text, size_text};
+ghost use Rattle.flame_graph.specs.FlameText.{baseline_text, box_text, calls_text, colour_text, corner_text, fitting, hint_text, label_text, frame_line, room_text, size_text};
 
 use crate::frame::Calls;
 use crate::names::{ROOM, add_shortened, add_xml, put_number};
@@ -31,7 +31,7 @@ pub(crate) fn add_frame_line<S: Sink>(
     requires width { place.now.width < 2 ^ 64 }
     requires top { place.now.top < 2 ^ 64 }
     ensures { AddsText S.written S.faults S.along to.old to.new
-        (line_text place.now.left place.now.width place.now.top func
+        (frame_line place.now.left place.now.width place.now.top func
         (plain_name (naming names.entry) func) calls.now) result }
 {
     if let Some(name) = names.name_of(func) {
@@ -54,7 +54,7 @@ fn add_line<S: Sink>(
     requires width { place.now.width < 2 ^ 64 }
     requires top { place.now.top < 2 ^ 64 }
     ensures { AddsText S.written S.faults S.along to.old to.new
-        (line_text place.now.left place.now.width place.now.top func name.now calls.now) result }
+        (frame_line place.now.left place.now.width place.now.top func name.now calls.now) result }
 {
     add_hint(to, name, calls)?;
     add_box(to, place, u128::from(func))?;

@@ -2,7 +2,7 @@
 
 ghost use Rattle.std.specs.Prelude.{◌≡◌, length, map, max};
 ghost use Rattle.stack_rebuild.specs.Stacks.{told};
-ghost use Rattle.flame_graph.specs.Frames.{total_of};
+ghost use Rattle.flame_graph.specs.Frames.{frames_total};
 ghost use Rattle.flame_graph.specs.Picture.{levels_of};
 ghost use Rattle.flame_graph.specs.private.Walking.{shared};
 
@@ -13,7 +13,7 @@ pub(crate) const MOST_LEVELS: usize = 4096;
 
 /// The time that was spent in the calls of the rows themselves, in cycles.
 pub(crate) fn total_of(rows: &[StackRow]) -> u128
-    ensures { result ≡ total_of (map told rows.now) }
+    ensures { result ≡ frames_total (map told rows.now) }
 {
     let mut total: u128 = 0;
     'rows: for row in rows {

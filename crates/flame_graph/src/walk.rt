@@ -6,7 +6,7 @@ ghost use Rattle.function_names.specs.Name.{naming};
 ghost use Rattle.stack_rebuild.specs.Stacks.{told};
 ghost use Rattle.xray_io.specs.Text.{AddsText};
 ghost use Rattle.flame_graph.specs.FlameText.{frame_text, top_of};
-ghost use Rattle.flame_graph.specs.Frames.{AreAscending, capped, end_of, frames, total_of};
+ghost use Rattle.flame_graph.specs.Frames.{AreAscending, capped, end_of, frames, frames_total};
 ghost use Rattle.flame_graph.specs.Picture.{is_drawn, left_of, left_out, levels_of, most_levels, width_of};
 ghost use Rattle.flame_graph.specs.private.Walking.{IsKept, IsOpen, Stands, count_left, ended_at, opening_at, shared_at};
 
@@ -37,7 +37,7 @@ pub(crate) struct Picture<'a> {
     pub(crate) total: u128,
     /// How many rows of frames are drawn.
     pub(crate) levels: usize,
-    ghost total_is: { total ≡ total_of (map told rows.now) },
+    ghost total_is: { total ≡ frames_total (map told rows.now) },
     ghost levels_are: { levels ≡ levels_of (map told rows.now) },
 }
 

@@ -9,7 +9,7 @@ use Rattle.std.proofs.lemmas.List.{length-append}
 use Rattle.std.proofs.lemmas.List.Elements.{All-head, All-tail}
 use Rattle.text_lines.specs.Written.{are_written_words, is_word_byte, is_written_word, written_line, written_text}
 use Rattle.text_lines.proofs.WrittenLemmas.{number_short, number_word, written_lines}
-use Rattle.map_names.specs.Entries.{Entry, is_entry, is_event, is_exit, is_kind, is_truth}
+use Rattle.map_names.specs.Entries.{NamedFunction, is_entry, is_event, is_exit, is_kind, is_truth}
 use Rattle.map_names.proofs.SpelledLines.{joined_so}
 use Rattle.map_names.specs.Spelling.{SpellEach, SpellsEntry, SpellsMap, single_byte}
 use Rattle.xray_image.specs.declared.sled.Sled.{Sled}
@@ -21,7 +21,7 @@ use Rattle.xray_image.specs.Program.{Program, is_name_byte}
 use Rattle.function_names.proofs.WrittenWords.{address_bytes, address_is, word_append, word_byte, word_bytes, word_is}
 
 -- the entry of a sled
-abbrev pub sled_entry : Program → Sled → Entry
+abbrev pub sled_entry : Program → Sled → NamedFunction
 sled_entry program sled = record { id = sled.id; name = unwrap_or (name_of program sled.id) [] }
 
 -- ---- names

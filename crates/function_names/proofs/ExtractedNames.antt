@@ -5,7 +5,7 @@ use Rattle.std.specs.List.{list_any}
 use Rattle.std.specs.Option.{unwrap_or}
 use Rattle.std.proofs.lemmas.Bool.{cases_Bool, eqb-true, false≢true, ne_eqb}
 use Rattle.xray_io.specs.Rows.{◌>>=◌}
-use Rattle.map_names.specs.Entries.{Entry}
+use Rattle.map_names.specs.Entries.{NamedFunction}
 use Rattle.map_names.specs.Maps.{map_naming, names_id, naming_of}
 use Rattle.map_names.proofs.EntryNames.{same_naming}
 use Rattle.map_names.proofs.SpelledMaps.{map_found}
@@ -18,7 +18,7 @@ use Rattle.function_names.proofs.ExtractedLines.{Fits, map_spelled, sled_entry}
 
 -- what an id is named by the entries of sleds
 abbrev named_by : Program → ℕ → List Sled → Option (List ℕ)
-named_by program id sleds = option_map (λ (e : Entry). e.name) (find (names_id id) (map (sled_entry program) sleds))
+named_by program id sleds = option_map (λ (e : NamedFunction). e.name) (find (names_id id) (map (sled_entry program) sleds))
 
 -- whether an entry names an id, if the id is its own, or if it isn't
 abbrev named_if : (own : Bool) → List ℕ → Bool
@@ -26,7 +26,7 @@ named_if own name = own && not (length name == 0)
 
 abbrev next_named : Program → ℕ → Sled → List Sled → Bool → Option (List ℕ)
 next_named program id sled sleds passes =
-    option_map (λ (e : Entry). e.name) (if passes then Some (sled_entry program sled) else find (names_id id) (map (sled_entry program) sleds))
+    option_map (λ (e : NamedFunction). e.name) (if passes then Some (sled_entry program sled) else find (names_id id) (map (sled_entry program) sleds))
 
 named_some : (program : Program) (id : ℕ) (name : List ℕ) → name_of program id ≡ Some name → 0 < length name → (sleds : List Sled) → list_any (λ (s : Sled). s.id == id) sleds ≡ true
     → named_by program id sleds ≡ Some name
@@ -73,6 +73,6 @@ each_name program have id = by_name (name_of program id) refl
 
 pub map_names_it : (program : Program) → All (Fits program) program.sleds → HaveSleds program → map_naming (extract_text program) ≡ Ok (program_names program)
 map_names_it program fits have =
-    let entries : List Entry = map (sled_entry program) program.sleds in
+    let entries : List NamedFunction = map (sled_entry program) program.sleds in
     ap (λ es. es >>= λ all. Ok (naming_of all)) (map_found (extract_text program) entries (map_spelled program fits))
     ∙ ap Ok (same_naming (naming_of entries) (program_names program) (each_name program have))

@@ -16,7 +16,7 @@ use xray_io::MemSink;
 use yaml_convert::{write_yaml, write_yaml_bytes};
 
 /// The text of rows, without an image.
-fn text_of(alloc: Global, rows: &[AccountRow], format: AccountFormat) -> Result<String, Fail> {
+fn text_of(alloc: Global, rows: &[AccountRow], format: AccountLayout) -> Result<String, Fail> {
     let text = AccountText {
         rows,
         latencies: latencies(rows),
@@ -31,7 +31,7 @@ const CSV_HEAD: &str = "funcid,count,min,med,90p,99p,max,sum,entries,exits,funct
 /// Checks the lines of the rows of events.
 fn check_rows(rt: &impl Abort, alloc: Global, events: &[Said], lines: &str) -> Result<(), Fail> {
     let rows = account(alloc, &trace_of(alloc, events)?)?;
-    let text = text_of(alloc, &rows, AccountFormat::Csv)?;
+    let text = text_of(alloc, &rows, AccountLayout::Csv)?;
     check_same(rt, &text.as_str().strip_prefix(CSV_HEAD), &Some(lines));
     Ok(())
 }
@@ -179,7 +179,7 @@ const WIDE: &str = "Functions with latencies: 1\n    \
 
 #[test]
 fn columns_are_aligned_and_a_longer_number_is_printed_whole(rt: HostRuntime) -> Result<(), Fail> {
-    let text = text_of(rt.alloc(), &WIDE_ROWS, AccountFormat::Text)?;
+    let text = text_of(rt.alloc(), &WIDE_ROWS, AccountLayout::Text)?;
     check_same_text(&rt, text.as_str(), WIDE);
     Ok(())
 }

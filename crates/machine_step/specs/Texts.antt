@@ -18,8 +18,8 @@ end_text ends.StackEmpty = codes "stack-empty"
 end_text ends.BadTarget = codes "bad-target"
 
 -- lower-case hexadecimal, without leading zeros
-abbrev pub hexadecimal : ℕ → List ℕ
-hexadecimal n = digits 16 false n
+abbrev pub short_hexadecimal : ℕ → List ℕ
+short_hexadecimal n = digits 16 false n
 
 -- the registers that are printed, by their numbers
 abbrev pub printed_registers : List (List ℕ × ℕ)
@@ -29,19 +29,19 @@ printed_registers =
     ∷ (codes "r14=", 14) ∷ (codes "r15=", 15) ∷ []
 
 abbrev pub register_text : List ℕ → List ℕ × ℕ → List ℕ
-register_text registers (name, n) = name ++ hexadecimal (slice_index registers n) ++ codes " "
+register_text registers (name, n) = name ++ short_hexadecimal (slice_index registers n) ++ codes " "
 
 abbrev pub flag_text : Bool → List ℕ
 flag_text true = codes "zf=1"
 flag_text false = codes "zf=0"
 
 -- two digits per byte, or - if there are none
-abbrev pub byte_text : ℕ → List ℕ
-byte_text b = hexadecimal (b / 16) ++ hexadecimal (b % 16)
+abbrev pub hex_byte : ℕ → List ℕ
+hex_byte b = short_hexadecimal (b / 16) ++ short_hexadecimal (b % 16)
 
 abbrev pub output_text : List ℕ → List ℕ
 output_text [] = codes "-"
-output_text (b ∷ bytes) = flat_map byte_text (b ∷ bytes)
+output_text (b ∷ bytes) = flat_map hex_byte (b ∷ bytes)
 
 abbrev pub line_feed : List ℕ
 line_feed = 10 ∷ []

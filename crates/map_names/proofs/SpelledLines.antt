@@ -14,7 +14,7 @@ use Rattle.std.proofs.lemmas.Option.{same_Some}
 use Rattle.std.proofs.lemmas.List.Elements.{All-cons, All-nil}
 use Rattle.std.proofs.lemmas.Slice.Eq.{bytes_eq-Decides}
 use Rattle.text_lines.specs.Numbers.{is_numeral, number_of, numeral}
-use Rattle.map_names.specs.Entries.{Entry, after_label, before_end, before_ending, entry_of, field_in, id_in, is_address, is_entry, is_event, is_exit, is_kind, is_plain_byte, is_truth, name_written, past_field, written_name}
+use Rattle.map_names.specs.Entries.{NamedFunction, after_label, before_line_end, before_ending, entry_said, field_in, id_in, is_address, is_entry, is_event, is_exit, is_kind, is_plain_byte, is_truth, name_spelled, past_field, written_name}
 use Rattle.map_names.specs.Spelling.{IsEnding, SpellsEntry, SpellsName, letter_text, single_byte}
 use Rattle.map_names.proofs.LineParts.{NoComma, after_found, after_is, ending_found, ending_is, field_found, field_is, no_ending, past_found, past_is}
 use Rattle.map_names.proofs.SpelledNames.{all_to, name_found, name_is}
@@ -170,11 +170,11 @@ no_version written name n spells single double =
 abbrev in_turn : (two one zeroth none : Option (List ℕ)) → Option (List ℕ)
 in_turn two one zeroth none = option_or two (option_or one (option_or zeroth none))
 
-end_found : (written name ending : List ℕ) → SpellsName written name → IsEnding ending → before_end (written ++ ending) ≡ Some written
-unfolding before_end
+end_found : (written name ending : List ℕ) → SpellsName written name → IsEnding ending → before_line_end (written ++ ending) ≡ Some written
+unfolding before_line_end
 end_found written name ending spells (inl is) =
     let text : List ℕ = written ++ codes " }" in
-    ap (λ (l : List ℕ). before_end (written ++ l)) is
+    ap (λ (l : List ℕ). before_line_end (written ++ l)) is
     ∙ (ap (λ (o : Option (List ℕ)). in_turn o (before_ending (codes ", version: 1 }") text) (before_ending (codes ", version: 0 }") text) (before_ending (codes " }") text))
     (no_version written name 50 spells (λ same. omega (arith, same)) (λ same. omega (arith, same)))
     ∙ (ap (λ (o : Option (List ℕ)). in_turn None o (before_ending (codes ", version: 0 }") text) (before_ending (codes " }") text))
@@ -184,7 +184,7 @@ end_found written name ending spells (inl is) =
     ∙ ending_found (codes " }") written)))
 end_found written name ending spells (inr (inl is)) =
     let text : List ℕ = written ++ codes ", version: 0 }" in
-    ap (λ (l : List ℕ). before_end (written ++ l)) is
+    ap (λ (l : List ℕ). before_line_end (written ++ l)) is
     ∙ (ap (λ (o : Option (List ℕ)). in_turn o (before_ending (codes ", version: 1 }") text) (before_ending (codes ", version: 0 }") text) (before_ending (codes " }") text))
     (no_ending (codes ", version: 2 }") text (λ front same. other_version written front 48 50 (λ e. omega (arith, e)) same))
     ∙ (ap (λ (o : Option (List ℕ)). in_turn None o (before_ending (codes ", version: 0 }") text) (before_ending (codes " }") text))
@@ -192,13 +192,13 @@ end_found written name ending spells (inr (inl is)) =
     ∙ ap (λ (o : Option (List ℕ)). in_turn None None o (before_ending (codes " }") text)) (ending_found (codes ", version: 0 }") written)))
 end_found written name ending spells (inr (inr (inl is))) =
     let text : List ℕ = written ++ codes ", version: 1 }" in
-    ap (λ (l : List ℕ). before_end (written ++ l)) is
+    ap (λ (l : List ℕ). before_line_end (written ++ l)) is
     ∙ (ap (λ (o : Option (List ℕ)). in_turn o (before_ending (codes ", version: 1 }") text) (before_ending (codes ", version: 0 }") text) (before_ending (codes " }") text))
     (no_ending (codes ", version: 2 }") text (λ front same. other_version written front 49 50 (λ e. omega (arith, e)) same))
     ∙ ap (λ (o : Option (List ℕ)). in_turn None o (before_ending (codes ", version: 0 }") text) (before_ending (codes " }") text)) (ending_found (codes ", version: 1 }") written))
 end_found written name ending spells (inr (inr (inr is))) =
     let text : List ℕ = written ++ codes ", version: 2 }" in
-    ap (λ (l : List ℕ). before_end (written ++ l)) is
+    ap (λ (l : List ℕ). before_line_end (written ++ l)) is
     ∙ ap (λ (o : Option (List ℕ)). in_turn o (before_ending (codes ", version: 1 }") text) (before_ending (codes ", version: 0 }") text) (before_ending (codes " }") text))
     (ending_found (codes ", version: 2 }") written)
 
@@ -208,8 +208,8 @@ record IsEnded (bytes written : List ℕ) : Type 0 where
   is_ending : IsEnding ending
   whole : bytes ≡ written ++ ending
 
-end_is : (bytes written : List ℕ) → before_end bytes ≡ Some written → IsEnded bytes written
-unfolding before_end
+end_is : (bytes written : List ℕ) → before_line_end bytes ≡ Some written → IsEnded bytes written
+unfolding before_line_end
 end_is bytes written is =
     by_found (before_ending (codes ", version: 2 }") bytes) refl (before_ending (codes ", version: 1 }") bytes) refl (before_ending (codes ", version: 0 }") bytes) refl is
   where
@@ -240,7 +240,7 @@ split_map f (Some x) y is = (x, refl, same_Some _ _ is)
 
 -- what is written for the name, after the fields before it
 abbrev at_end : Option (List ℕ) → Option (List ℕ)
-at_end o = option_and_then before_end (option_and_then (after_label (codes " function-name: ")) o)
+at_end o = option_and_then before_line_end (option_and_then (after_label (codes " function-name: ")) o)
 
 abbrev at_always : Option (List ℕ) → Option (List ℕ)
 at_always o = option_and_then (past_field (codes " always-instrument: ") is_truth) o
@@ -252,39 +252,39 @@ abbrev at_function : Option (List ℕ) → Option (List ℕ)
 at_function o = option_and_then (past_field (codes " function: ") is_address) o
 
 -- the entry of a line whose id and name were read
-abbrev entry_from : ℕ × List ℕ → Option Entry
-entry_from start = option_map (λ (name : List ℕ). let entry : Entry = record { id = start.0; name = name } in entry) (option_and_then name_written (written_name start.1))
+abbrev entry_from : ℕ × List ℕ → Option NamedFunction
+entry_from start = option_map (λ (name : List ℕ). let entry : NamedFunction = record { id = start.0; name = name } in entry) (option_and_then name_spelled (written_name start.1))
 
 -- what follows the id: the other pieces
-abbrev pub after_always : {line : List ℕ} {entry : Entry} → SpellsEntry line entry → List ℕ
+abbrev pub after_always : {line : List ℕ} {entry : NamedFunction} → SpellsEntry line entry → List ℕ
 after_always is = codes " function-name: " ++ (is.written ++ is.ending)
 
-abbrev pub after_kind : {line : List ℕ} {entry : Entry} → SpellsEntry line entry → List ℕ
+abbrev pub after_kind : {line : List ℕ} {entry : NamedFunction} → SpellsEntry line entry → List ℕ
 after_kind is = codes " always-instrument: " ++ (is.always ++ 44 ∷ after_always is)
 
-abbrev pub after_function : {line : List ℕ} {entry : Entry} → SpellsEntry line entry → List ℕ
+abbrev pub after_function : {line : List ℕ} {entry : NamedFunction} → SpellsEntry line entry → List ℕ
 after_function is = codes " kind: " ++ (is.kind ++ 44 ∷ after_kind is)
 
-abbrev pub after_address : {line : List ℕ} {entry : Entry} → SpellsEntry line entry → List ℕ
+abbrev pub after_address : {line : List ℕ} {entry : NamedFunction} → SpellsEntry line entry → List ℕ
 after_address is = codes " function: " ++ (is.function ++ 44 ∷ after_function is)
 
-abbrev pub after_id : {line : List ℕ} {entry : Entry} → SpellsEntry line entry → List ℕ
+abbrev pub after_id : {line : List ℕ} {entry : NamedFunction} → SpellsEntry line entry → List ℕ
 after_id is = codes " address: " ++ (is.address ++ 44 ∷ after_address is)
 
-pub whole_line : (line : List ℕ) (entry : Entry) (is : SpellsEntry line entry) → line ≡ codes "- { id: " ++ (is.id ++ 44 ∷ after_id is)
+pub whole_line : (line : List ℕ) (entry : NamedFunction) (is : SpellsEntry line entry) → line ≡ codes "- { id: " ++ (is.id ++ 44 ∷ after_id is)
 whole_line line entry is =
     is.joined
     ∙ joined_so (codes "- { id: ") is.id (codes ", address: ") is.address (codes ", function: ") is.function (codes ", kind: ") is.kind (codes ", always-instrument: ") is.always
     (codes ", function-name: ") is.written is.ending
 
-id_read : (line : List ℕ) (entry : Entry) (is : SpellsEntry line entry) → id_in (codes "- { id: " ++ (is.id ++ 44 ∷ after_id is)) ≡ Some (entry.id, after_id is)
+id_read : (line : List ℕ) (entry : NamedFunction) (is : SpellsEntry line entry) → id_in (codes "- { id: " ++ (is.id ++ 44 ∷ after_id is)) ≡ Some (entry.id, after_id is)
 unfolding id_in
 id_read line entry is =
     ap (option_and_then (λ (field : List ℕ × List ℕ). option_map {U = ℕ × List ℕ} (λ (id : ℕ). (id, field.1)) (number_of field.0)))
     (field_found (codes "- { id: ") is.id (after_id is) (id_no_comma is.id entry.id is.id_is))
     ∙ ap (option_map {U = ℕ × List ℕ} (λ (id : ℕ). (id, after_id is))) is.id_is
 
-name_read : (line : List ℕ) (entry : Entry) (is : SpellsEntry line entry) → written_name (after_id is) ≡ Some is.written
+name_read : (line : List ℕ) (entry : NamedFunction) (is : SpellsEntry line entry) → written_name (after_id is) ≡ Some is.written
 unfolding written_name
 name_read line entry is =
     ap (λ (o : Option (List ℕ)). at_end (at_always (at_kind (at_function o))))
@@ -293,26 +293,26 @@ name_read line entry is =
     (past_found (codes " function: ") is_address is.function (after_function is) (address_no_comma is.function is.function_is) is.function_is)
     ∙ (ap (λ (o : Option (List ℕ)). at_end (at_always o)) (past_found (codes " kind: ") is_kind is.kind (after_kind is) (kind_no_comma is.kind is.kind_is) is.kind_is)
     ∙ (ap at_end (past_found (codes " always-instrument: ") is_truth is.always (after_always is) (truth_no_comma is.always is.always_is) is.always_is)
-    ∙ (ap (option_and_then before_end) (after_found (codes " function-name: ") (is.written ++ is.ending))
+    ∙ (ap (option_and_then before_line_end) (after_found (codes " function-name: ") (is.written ++ is.ending))
     ∙ end_found is.written entry.name is.ending is.name_is is.ending_is))))
 
-pub entry_found : (line : List ℕ) (entry : Entry) → SpellsEntry line entry → entry_of line ≡ Some entry
-unfolding entry_of
+pub entry_found : (line : List ℕ) (entry : NamedFunction) → SpellsEntry line entry → entry_said line ≡ Some entry
+unfolding entry_said
 entry_found line entry is =
-    ap entry_of (whole_line line entry is)
+    ap entry_said (whole_line line entry is)
     ∙ (ap (option_and_then entry_from) (id_read line entry is)
-    ∙ (ap (λ (o : Option (List ℕ)). option_map (λ (name : List ℕ). let made : Entry = record { id = entry.id; name = name } in made) (option_and_then name_written o)) (name_read line entry is)
-    ∙ ap (option_map (λ (name : List ℕ). let made : Entry = record { id = entry.id; name = name } in made)) (name_found is.written entry.name is.name_is)))
+    ∙ (ap (λ (o : Option (List ℕ)). option_map (λ (name : List ℕ). let made : NamedFunction = record { id = entry.id; name = name } in made) (option_and_then name_spelled o)) (name_read line entry is)
+    ∙ ap (option_map (λ (name : List ℕ). let made : NamedFunction = record { id = entry.id; name = name } in made)) (name_found is.written entry.name is.name_is)))
 
 -- ---- and what a line with an entry is
 
-pub entry_is : (line : List ℕ) (entry : Entry) → entry_of line ≡ Some entry → SpellsEntry line entry
-unfolding entry_of written_name id_in
+pub entry_is : (line : List ℕ) (entry : NamedFunction) → entry_said line ≡ Some entry → SpellsEntry line entry
+unfolding entry_said written_name id_in
 entry_is line entry is =
     let start = split_then entry_from (id_in line) entry is in
-    let made = split_map (λ (name : List ℕ). let e : Entry = record { id = start.0.0; name = name } in e) (option_and_then name_written (written_name start.0.1)) entry start.2 in
-    let named = split_then name_written (written_name start.0.1) made.0 made.1 in
-    let ended = split_then before_end (option_and_then (after_label (codes " function-name: ")) (at_always (at_kind (at_function (past_field (codes " address: ") is_address start.0.1))))) named.0 named.1 in
+    let made = split_map (λ (name : List ℕ). let e : NamedFunction = record { id = start.0.0; name = name } in e) (option_and_then name_spelled (written_name start.0.1)) entry start.2 in
+    let named = split_then name_spelled (written_name start.0.1) made.0 made.1 in
+    let ended = split_then before_line_end (option_and_then (after_label (codes " function-name: ")) (at_always (at_kind (at_function (past_field (codes " address: ") is_address start.0.1))))) named.0 named.1 in
     let labelled = split_then (after_label (codes " function-name: ")) (at_always (at_kind (at_function (past_field (codes " address: ") is_address start.0.1)))) ended.0 ended.1 in
     let always = split_then (past_field (codes " always-instrument: ") is_truth) (at_kind (at_function (past_field (codes " address: ") is_address start.0.1))) labelled.0 labelled.1 in
     let kind = split_then (past_field (codes " kind: ") is_kind) (at_function (past_field (codes " address: ") is_address start.0.1)) always.0 always.1 in
@@ -328,8 +328,8 @@ entry_is line entry is =
     let id_whole = field_is (codes "- { id: ") line id_field.0.0 id_field.0.1 id_field.1 in
     let same_rest : id_field.0.1 ≡ start.0.1 = ap (λ (p : ℕ × List ℕ). p.1) id_number.2 in
     let same_id : id_number.0 ≡ start.0.0 = ap (λ (p : ℕ × List ℕ). p.0) id_number.2 in
-    let ids : start.0.0 ≡ entry.id = ap (λ (e : Entry). e.id) made.2 in
-    let names : made.0 ≡ entry.name = ap (λ (e : Entry). e.name) made.2 in
+    let ids : start.0.0 ≡ entry.id = ap (λ (e : NamedFunction). e.id) made.2 in
+    let names : made.0 ≡ entry.name = ap (λ (e : NamedFunction). e.name) made.2 in
     record {
       id = id_field.0.0;
       address = address_past.value;

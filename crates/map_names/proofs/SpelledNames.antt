@@ -5,7 +5,7 @@ use Rattle.std.specs.Option.{option_map_or}
 use Rattle.std.specs.List.{flat_map, list_all}
 use Rattle.map_names.specs.declared.quote.Quote.TheVariants.{Single, Double}
 use Rattle.map_names.specs.declared.quote.Quote.{Quote}
-use Rattle.map_names.specs.Entries.{after_label, before_ending, between, mark_of, name_written, plain_name, quoted_byte, quoted_from, quoted_name, is_plain_byte}
+use Rattle.map_names.specs.Entries.{after_label, before_ending, between, mark_of, name_spelled, unquoted_name, quoted_byte, quoted_from, quoted_name, is_plain_byte}
 use Rattle.map_names.specs.Spelling.{Escaped, IsLetter, IsPlain, Itself, Letter, SpellsName, letter_name, letter_text, single_byte, single_quoted}
 use Rattle.std.proofs.lemmas.Bool.{and_from, and_parts, cases_Bool, eq-eqb, eqb-true, false≢true, ne_eqb}
 use Rattle.std.proofs.lemmas.Option.{same_Some}
@@ -250,35 +250,35 @@ double_not : is_plain_byte 34 ≡ false
 unfolding is_plain_byte
 double_not = refl
 
-plain_found : (written name : List ℕ) → IsPlain written name → name_written written ≡ Some name
-unfolding name_written plain_name
+plain_found : (written name : List ℕ) → IsPlain written name → name_spelled written ≡ Some name
+unfolding name_spelled unquoted_name
 plain_found [] name plain = absurd (omega (arith, plain.some))
 plain_found (b ∷ written) name plain =
     let own : IsTrue (is_plain_byte b) = All-head (λ (x : ℕ). IsTrue (is_plain_byte x)) b written plain.bytes in
     let bytes : List ℕ = b ∷ written in
     let some : not (length bytes == 0) ≡ true = ap not (ne_eqb (length bytes) 0 (λ same. omega (arith, same))) in
-    ap (λ (o : Option (List ℕ)). first_of_three o (between Double bytes) (plain_name bytes)) (between_none Single b written (not_plain b 39 single_not own))
-    ∙ (ap (λ (o : Option (List ℕ)). first_of_three None o (plain_name bytes)) (between_none Double b written (not_plain b 34 double_not own))
+    ap (λ (o : Option (List ℕ)). first_of_three o (between Double bytes) (unquoted_name bytes)) (between_none Single b written (not_plain b 39 single_not own))
+    ∙ (ap (λ (o : Option (List ℕ)). first_of_three None o (unquoted_name bytes)) (between_none Double b written (not_plain b 34 double_not own))
     ∙ (ap (λ (t : Bool). if t then Some bytes else None) (and_from (not (length bytes == 0)) (list_all is_plain_byte bytes) some (all_to bytes plain.bytes))
     ∙ ap (λ (l : List ℕ). Some l) (sym plain.same)))
 
-pub name_found : (written name : List ℕ) → SpellsName written name → name_written written ≡ Some name
-unfolding name_written
+pub name_found : (written name : List ℕ) → SpellsName written name → name_spelled written ≡ Some name
+unfolding name_spelled
 name_found written name (inl is) =
-    ap name_written is
-    ∙ (ap (λ (o : Option (List ℕ)). first_of_three o (between Double (single_quoted name)) (plain_name (single_quoted name))) (between_found Single (flat_map single_byte name))
+    ap name_spelled is
+    ∙ (ap (λ (o : Option (List ℕ)). first_of_three o (between Double (single_quoted name)) (unquoted_name (single_quoted name))) (between_found Single (flat_map single_byte name))
     ∙ single_found name)
 name_found written name (inr (inl is)) =
     let inner : List ℕ = flat_map letter_text is.letters in
     let whole : List ℕ = marked Double inner in
-    ap name_written is.text
-    ∙ (ap (λ (o : Option (List ℕ)). first_of_three o (between Double whole) (plain_name whole)) (between_none Single 34 (inner ++ 34 ∷ []) (λ same. omega (arith, same)))
-    ∙ (ap (λ (o : Option (List ℕ)). first_of_three None o (plain_name whole)) (between_found Double inner)
+    ap name_spelled is.text
+    ∙ (ap (λ (o : Option (List ℕ)). first_of_three o (between Double whole) (unquoted_name whole)) (between_none Single 34 (inner ++ 34 ∷ []) (λ same. omega (arith, same)))
+    ∙ (ap (λ (o : Option (List ℕ)). first_of_three None o (unquoted_name whole)) (between_found Double inner)
     ∙ (double_found is.letters is.each ∙ ap (λ (l : List ℕ). Some l) (sym is.says))))
 name_found written name (inr (inr is)) = plain_found written name is
 
-plain_is : (written name : List ℕ) → plain_name written ≡ Some name → IsPlain written name
-unfolding plain_name
+plain_is : (written name : List ℕ) → unquoted_name written ≡ Some name → IsPlain written name
+unfolding unquoted_name
 plain_is written name is = by_test (not (length written == 0) && list_all is_plain_byte written) refl is
   where
     by_test : (t : Bool) → (not (length written == 0) && list_all is_plain_byte written) ≡ t → (if t then Some written else None) ≡ Some name → IsPlain written name
@@ -291,12 +291,12 @@ plain_is written name is = by_test (not (length written == 0) && list_all is_pla
         has_some (inl none) some = absurd (false≢true (sym (ap not none) ∙ some))
         has_some (inr isnt) some = let ne : length written ≡ 0 → ⊥ = ne_from (length written) 0 isnt in omega (arith, ne)
 
-pub name_is : (written name : List ℕ) → name_written written ≡ Some name → SpellsName written name
-unfolding name_written
+pub name_is : (written name : List ℕ) → name_spelled written ≡ Some name → SpellsName written name
+unfolding name_spelled
 name_is written name is = by_marks (between Single written) refl (between Double written) refl is
   where
     by_marks : (single : Option (List ℕ)) → between Single written ≡ single → (double : Option (List ℕ)) → between Double written ≡ double
-        → first_of_three single double (plain_name written) ≡ Some name → SpellsName written name
+        → first_of_three single double (unquoted_name written) ≡ Some name → SpellsName written name
     by_marks (Some inner) one double other same =
         inl (between_is Single written inner one ∙ ap (λ (l : List ℕ). 39 ∷ l ++ 39 ∷ []) (single_is inner name same))
     by_marks None one (Some inner) other same =

@@ -9,15 +9,15 @@ use Rattle.text_lines.specs.Lines.{numbered_lines}
 use Rattle.map_names.specs.declared.fault.MapFault.{MapFault}
 use Rattle.map_names.specs.declared.fault.MapFault.TheVariants.{Syntax, NoMemory}
 use Rattle.map_names.specs.declared.reading.Draft.{Draft}
-use Rattle.map_names.specs.Entries.{Entry, entry_of}
+use Rattle.map_names.specs.Entries.{NamedFunction, entry_said}
 use Rattle.map_names.specs.MapNames.{named}
-use Rattle.map_names.specs.Maps.{Before, Start, Listed, Whole, ended, is_line, line_rows, map_naming, map_of, names_id, naming_of}
+use Rattle.map_names.specs.Maps.{Before, Start, Listed, Whole, map_ended, is_line, map_line_rows, map_naming, map_of, names_id, naming_of}
 use Rattle.map_names.proofs.EntryNames.{naming_more}
 use Rattle.map_names.specs.private.Drafts.{IsDraftOf, Reads, Stands, Takes, before_in}
 
 -- what the lines after these come to
 abbrev later : List (ℕ × List ℕ) → Result Before MapFault → Result Before MapFault
-later lines before = before >>= λ after. InTurn line_rows after lines
+later lines before = before >>= λ after. InTurn map_line_rows after lines
 
 -- the answer of a call that did what it had to
 abbrev done : Result (Unit {0}) MapFault
@@ -25,47 +25,47 @@ done = Ok tt
 
 -- what a call that takes a line ensures
 abbrev Took : Draft → ℕ × List ℕ → Result (Unit {0}) MapFault → Draft → Type 0
-Took old line result new = (entries : List Entry) → IsDraftOf entries old → Takes result (line_rows (before_in old.ended entries) line) new
+Took old line result new = (entries : List NamedFunction) → IsDraftOf entries old → Takes result (map_line_rows (before_in old.ended entries) line) new
 
 -- a line was taken
 pub line_taken : (old new : Draft) (before : Before) (line : ℕ × List ℕ) (rest : List (ℕ × List ℕ)) → Stands old before → Took old line done new
-    → (after : Before) × Stands new after × (InTurn line_rows before (line ∷ rest) ≡ InTurn line_rows after rest)
+    → (after : Before) × Stands new after × (InTurn map_line_rows before (line ∷ rest) ≡ InTurn map_line_rows after rest)
 line_taken old new before line rest stands took =
-    by_rows (line_rows (before_in old.ended stands.0) line) refl (took stands.0 stands.1)
+    by_rows (map_line_rows (before_in old.ended stands.0) line) refl (took stands.0 stands.1)
   where
-    by_rows : (rows : Result Before MapFault) → line_rows (before_in old.ended stands.0) line ≡ rows → Takes done rows new
-        → (after : Before) × Stands new after × (InTurn line_rows before (line ∷ rest) ≡ InTurn line_rows after rest)
-    by_rows (Ok after) is now = (after, now, ap (λ b. later rest (line_rows b line)) (sym stands.2) ∙ ap (later rest) is)
+    by_rows : (rows : Result Before MapFault) → map_line_rows (before_in old.ended stands.0) line ≡ rows → Takes done rows new
+        → (after : Before) × Stands new after × (InTurn map_line_rows before (line ∷ rest) ≡ InTurn map_line_rows after rest)
+    by_rows (Ok after) is now = (after, now, ap (λ b. later rest (map_line_rows b line)) (sym stands.2) ∙ ap (later rest) is)
     by_rows (Err fault) is now = absurd now
 
 -- a line was refused, or memory ran out
 pub line_refused : (old new : Draft) (before : Before) (line : ℕ × List ℕ) (rest : List (ℕ × List ℕ)) (fault : MapFault) → Stands old before
-    → Took old line (Err fault) new → (fault ≡ NoMemory) ⊎ (InTurn line_rows before (line ∷ rest) ≡ Err fault)
+    → Took old line (Err fault) new → (fault ≡ NoMemory) ⊎ (InTurn map_line_rows before (line ∷ rest) ≡ Err fault)
 line_refused old new before line rest fault stands took =
     elim (took stands.0 stands.1) [
       | inl memory ↦ inl memory
-      | inr is ↦ inr (ap (λ b. later rest (line_rows b line)) (sym stands.2) ∙ ap (later rest) is)
+      | inr is ↦ inr (ap (λ b. later rest (map_line_rows b line)) (sym stands.2) ∙ ap (later rest) is)
     ]
 
 -- the text is refused where its lines are
-pub text_refused : (text : List ℕ) (fault : MapFault) → InTurn line_rows Start (numbered_lines text) ≡ Err fault → map_of text ≡ Err fault
-text_refused text fault is = ap (λ before. before >>= ended (length (lines text) + 1)) is
+pub text_refused : (text : List ℕ) (fault : MapFault) → InTurn map_line_rows Start (numbered_lines text) ≡ Err fault → map_of text ≡ Err fault
+text_refused text fault is = ap (λ before. before >>= map_ended (length (lines text) + 1)) is
 
 -- the names of a text that is refused
 pub naming_refused : (text : List ℕ) (fault : MapFault) → map_of text ≡ Err fault → map_naming text ≡ Err fault
 naming_refused text fault is = ap (λ entries. entries >>= λ es. Ok (naming_of es)) is
 
 -- what the end of the text comes to
-at_end : (text : List ℕ) (before : Before) → InTurn line_rows Start (numbered_lines text) ≡ Ok before
-    → map_of text ≡ ended (length (lines text) + 1) before
-at_end text before is = ap (λ all. all >>= ended (length (lines text) + 1)) is
+at_end : (text : List ℕ) (before : Before) → InTurn map_line_rows Start (numbered_lines text) ≡ Ok before
+    → map_of text ≡ map_ended (length (lines text) + 1) before
+at_end text before is = ap (λ all. all >>= map_ended (length (lines text) + 1)) is
 
 -- the map ended with its text
 pub naming_read : (text : List ℕ) (draft : Draft) → draft.ended ≡ true → Reads text (Ok draft) → map_naming text ≡ Ok (named draft.names)
 naming_read text draft is read =
     let entries = read.1.0 in
     let whole : read.0 ≡ Whole entries = sym read.1.2 ∙ ap (λ b. before_in b entries) is in
-    let end : map_of text ≡ Ok entries = at_end text read.0 read.2 ∙ ap (ended (length (lines text) + 1)) whole in
+    let end : map_of text ≡ Ok entries = at_end text read.0 read.2 ∙ ap (map_ended (length (lines text) + 1)) whole in
     ap (λ es. es >>= λ all. Ok (naming_of all)) end ∙ ap Ok (sym read.1.1.names)
 
 -- the text ended before its map
@@ -74,21 +74,21 @@ pub naming_open : (text : List ℕ) (draft : Draft) → draft.ended ≡ false �
 naming_open text draft is read =
     let entries = read.1.0 in
     let open_map : read.0 ≡ Listed entries = sym read.1.2 ∙ ap (λ b. before_in b entries) is in
-    naming_refused text (Syntax (length (lines text) + 1)) (at_end text read.0 read.2 ∙ ap (ended (length (lines text) + 1)) open_map)
+    naming_refused text (Syntax (length (lines text) + 1)) (at_end text read.0 read.2 ∙ ap (map_ended (length (lines text) + 1)) open_map)
 
 -- ---- lines
 
 -- a line that says an entry
-pub line_listed : (entries : List Entry) (old new : Draft) (number : ℕ) (line : List ℕ) (entry : Entry) → IsDraftOf entries old → old.ended ≡ false
-    → is_line (codes "...") line ≡ false → entry_of line ≡ Some entry
+pub line_listed : (entries : List NamedFunction) (old new : Draft) (number : ℕ) (line : List ℕ) (entry : NamedFunction) → IsDraftOf entries old → old.ended ≡ false
+    → is_line (codes "...") line ≡ false → entry_said line ≡ Some entry
     → ((id : ℕ) → (named new.names).name id ≡ option_or ((named old.names).name id) (if names_id id entry then Some entry.name else None))
-    → new.ended ≡ false → Takes done (line_rows (before_in old.ended entries) (number, line)) new
+    → new.ended ≡ false → Takes done (map_line_rows (before_in old.ended entries) (number, line)) new
 line_listed entries old new number line entry before is_open not_end says adds stays =
-    let listed : List Entry = entries ++ entry ∷ [] in
-    let rows : line_rows (before_in old.ended entries) (number, line) ≡ Ok (Listed listed) =
-    ap (λ (b : Bool). line_rows (before_in b entries) (number, line)) is_open
-    ∙ ap (λ (end : Bool). First end (Ok (Whole entries)) (NeedsPart (entry_of line) (Err (Syntax number)) λ e. Ok (Listed (entries ++ e ∷ [])))) not_end
-    ∙ ap (λ (said : Option Entry). NeedsPart said (Err (Syntax number)) λ e. Ok (Listed (entries ++ e ∷ []))) says in
+    let listed : List NamedFunction = entries ++ entry ∷ [] in
+    let rows : map_line_rows (before_in old.ended entries) (number, line) ≡ Ok (Listed listed) =
+    ap (λ (b : Bool). map_line_rows (before_in b entries) (number, line)) is_open
+    ∙ ap (λ (end : Bool). First end (Ok (Whole entries)) (NeedsPart (entry_said line) (Err (Syntax number)) λ e. Ok (Listed (entries ++ e ∷ [])))) not_end
+    ∙ ap (λ (said : Option NamedFunction). NeedsPart said (Err (Syntax number)) λ e. Ok (Listed (entries ++ e ∷ []))) says in
     let is_draft : IsDraftOf listed new = record { names = naming_more entries entry (named old.names) (named new.names) before.names adds } in
     subst (λ (r : Result Before MapFault). Takes done r new) (sym rows) (listed, is_draft, ap (λ (b : Bool). before_in b listed) stays)
 
@@ -100,12 +100,12 @@ none_numbered n (x ∷ xs) h = cc
 -- a text without lines
 pub empty_refused : (text : List ℕ) → numbered_lines text ≡ [] → map_of text ≡ Err (Syntax 1)
 empty_refused text none =
-    ap (λ (all : List (ℕ × List ℕ)). InTurn line_rows Start all >>= ended (length (lines text) + 1)) none
-    ∙ ap (λ (ls : List (List ℕ)). ended (length ls + 1) Start) (none_numbered 1 (lines text) none)
+    ap (λ (all : List (ℕ × List ℕ)). InTurn map_line_rows Start all >>= map_ended (length (lines text) + 1)) none
+    ∙ ap (λ (ls : List (List ℕ)). map_ended (length ls + 1) Start) (none_numbered 1 (lines text) none)
 
 -- the first line
 pub first_taken : (text : List ℕ) (number : ℕ) (line : List ℕ) (rest : List (ℕ × List ℕ)) → numbered_lines text ≡ (number, line) ∷ rest
-    → is_line (codes "---") line ≡ true → InTurn line_rows Start (numbered_lines text) ≡ InTurn line_rows (Listed []) rest
+    → is_line (codes "---") line ≡ true → InTurn map_line_rows Start (numbered_lines text) ≡ InTurn map_line_rows (Listed []) rest
 first_taken text number line rest is begins =
-    ap (InTurn line_rows Start) is
+    ap (InTurn map_line_rows Start) is
     ∙ ap (λ (begin : Bool). later rest (First (not begin) (Err (Syntax number)) (Ok (Listed [])))) begins

@@ -11,7 +11,7 @@ use Rattle.map_names.specs.declared.quote.Quote.{Quote}
 use Rattle.map_names.specs.declared.quote.Quote.TheVariants.{Single, Double}
 
 -- an entry, as far as reports need it: the id of a function, and its name, which is empty if the map doesn't have it
-pub record Entry : Type 0 where
+pub record NamedFunction : Type 0 where
   pub id : ℕ
   pub name : List ℕ
 
@@ -61,8 +61,8 @@ unfoldable pub past_field : (label : List ℕ) → (List ℕ → Bool) → (byte
 past_field label test bytes = option_and_then (λ field. if test field.0 then Some field.1 else None) (field_in label bytes)
 
 -- what stands before the end of a line: before the brace, and the version (0 to 2), if there is one
-unfoldable pub before_end : List ℕ → Option (List ℕ)
-before_end bytes =
+unfoldable pub before_line_end : List ℕ → Option (List ℕ)
+before_line_end bytes =
     option_or (before_ending (codes ", version: 2 }") bytes)
     (option_or (before_ending (codes ", version: 1 }") bytes)
     (option_or (before_ending (codes ", version: 0 }") bytes)
@@ -71,7 +71,7 @@ before_end bytes =
 -- what is written for the name, if the fields after the id are as they have to be
 unfoldable pub written_name : List ℕ → Option (List ℕ)
 written_name bytes =
-    option_and_then before_end
+    option_and_then before_line_end
     (option_and_then (after_label (codes " function-name: "))
     (option_and_then (past_field (codes " always-instrument: ") is_truth)
     (option_and_then (past_field (codes " kind: ") is_kind)
@@ -87,8 +87,8 @@ is_plain_byte b =
     || b == 46 || b == 44 || b == 32 || b == 9
 
 -- a name without quotation marks
-unfoldable pub plain_name : List ℕ → Option (List ℕ)
-plain_name bytes = if not (length bytes == 0) && list_all is_plain_byte bytes then Some bytes else None
+unfoldable pub unquoted_name : List ℕ → Option (List ℕ)
+unquoted_name bytes = if not (length bytes == 0) && list_all is_plain_byte bytes then Some bytes else None
 
 -- the byte of a quotation mark
 abbrev pub mark_of : Quote → ℕ
@@ -121,11 +121,11 @@ abbrev pub quoted_name : Quote → List ℕ → Option (List ℕ)
 quoted_name quote bytes = quoted_from quote bytes false
 
 -- the name that is written so: between single or double quotation marks, or without any
-unfoldable pub name_written : List ℕ → Option (List ℕ)
-name_written bytes =
+unfoldable pub name_spelled : List ℕ → Option (List ℕ)
+name_spelled bytes =
     option_map_or (quoted_name Single) (between Single bytes)
     (option_map_or (quoted_name Double) (between Double bytes)
-    (plain_name bytes))
+    (unquoted_name bytes))
 
 -- ---- lines
 
@@ -134,7 +134,7 @@ unfoldable pub id_in : List ℕ → Option (ℕ × List ℕ)
 id_in line = option_and_then (λ field. option_map (λ id. (id, field.1)) (number_of field.0)) (field_in (codes "- { id: ") line)
 
 -- the entry that a line says
-unfoldable pub entry_of : List ℕ → Option Entry
-entry_of line =
-    option_and_then (λ start. option_map (λ name. record { id = start.0; name = name }) (option_and_then name_written (written_name start.1)))
+unfoldable pub entry_said : List ℕ → Option NamedFunction
+entry_said line =
+    option_and_then (λ start. option_map (λ name. record { id = start.0; name = name }) (option_and_then name_spelled (written_name start.1)))
     (id_in line)

@@ -3,7 +3,7 @@ use Rattle.std.specs.Prelude.{◌≡◌, ◌≢◌, ◌<◌, ◌==◌, ◌||◌,
 use Rattle.std.specs.List.{flat_map}
 use Rattle.std.specs.Str.Lines.{lines}
 use Rattle.text_lines.specs.Numbers.{number_of}
-use Rattle.map_names.specs.Entries.{Entry, is_address, is_kind, is_plain_byte, is_truth}
+use Rattle.map_names.specs.Entries.{NamedFunction, is_address, is_kind, is_plain_byte, is_truth}
 
 -- ---- names between single marks
 
@@ -63,7 +63,7 @@ IsEnding ending =
     (ending ≡ codes " }") ⊎ (ending ≡ codes ", version: 0 }") ⊎ (ending ≡ codes ", version: 1 }") ⊎ (ending ≡ codes ", version: 2 }")
 
 -- the line is the pieces of an entry, joined
-pub record SpellsEntry (line : List ℕ) (entry : Entry) : Type 0 where
+pub record SpellsEntry (line : List ℕ) (entry : NamedFunction) : Type 0 where
   pub id : List ℕ
   pub address : List ℕ
   pub function : List ℕ
@@ -85,14 +85,14 @@ pub record SpellsEntry (line : List ℕ) (entry : Entry) : Type 0 where
 -- ---- texts
 
 -- each line is that of the entry at its place
-abbrev pub SpellEach : List (List ℕ) → List Entry → Type 0
+abbrev pub SpellEach : List (List ℕ) → List NamedFunction → Type 0
 SpellEach [] [] = Unit {0}
 SpellEach [] (entry ∷ entries) = ⊥
 SpellEach (line ∷ said) [] = ⊥
 SpellEach (line ∷ said) (entry ∷ entries) = SpellsEntry line entry × SpellEach said entries
 
 -- the lines of the text are `---`, a line for each entry, and `...`
-pub record SpellsMap (text : List ℕ) (entries : List Entry) : Type 0 where
+pub record SpellsMap (text : List ℕ) (entries : List NamedFunction) : Type 0 where
   pub said : List (List ℕ)
   pub each : SpellEach said entries
   pub whole : lines text ≡ codes "---" ∷ said ++ codes "..." ∷ []

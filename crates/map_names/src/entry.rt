@@ -2,7 +2,7 @@
 
 ghost use Rattle.std.specs.Prelude.{◌≡◌, codes, option_map, IfOk};
 ghost use Rattle.std.specs.List.{list_all};
-ghost use Rattle.map_names.specs.Entries.{before_end, entry_of, id_in, is_address, is_entry, is_event, is_exit, is_kind, is_plain_byte, is_truth, name_written, past_field, plain_name, written_name};
+ghost use Rattle.map_names.specs.Entries.{before_line_end, entry_said, id_in, is_address, is_entry, is_event, is_exit, is_kind, is_plain_byte, is_truth, name_spelled, past_field, unquoted_name, written_name};
 ghost use Rattle.map_names.specs.private.Parts.{entry_read, written_in};
 
 use crate::parts::{after_label, before_ending, field_in};
@@ -98,9 +98,9 @@ fn past_truth(bytes: &[u8]) -> Option<&[u8]>
 }
 
 /// What stands before the brace at the end of a line, and before the version, if there is one.
-#[tactic(auto, unfolding(crate::specs::Entries::before_end))]
-fn before_end(bytes: &[u8]) -> Option<&[u8]>
-    ensures { option_map (λ part. part.now) result ≡ before_end bytes.now }
+#[tactic(auto, unfolding(crate::specs::Entries::before_line_end))]
+fn before_line_end(bytes: &[u8]) -> Option<&[u8]>
+    ensures { option_map (λ part. part.now) result ≡ before_line_end bytes.now }
 {
     if let Some(part) = before_ending(b", version: 2 }", bytes) {
         return Some(part);
@@ -123,7 +123,7 @@ fn written_name(bytes: &[u8]) -> Option<&[u8]>
     let bytes = past_address(b" function: ", bytes)?;
     let bytes = past_kind(bytes)?;
     let bytes = past_truth(bytes)?;
-    before_end(after_label(b" function-name: ", bytes)?)
+    before_line_end(after_label(b" function-name: ", bytes)?)
 }
 
 /// The id of a line, and what follows its field.
@@ -161,9 +161,9 @@ fn are_plain(bytes: &[u8]) -> bool
 }
 
 /// The name that bytes without quotation marks are.
-#[tactic(auto, unfolding(crate::specs::Entries::plain_name))]
-fn plain_name(alloc: Global, bytes: &[u8]) -> Result<Option<Vec<u8>>, AllocError>
-    ensures { IfOk result (λ name. option_map (λ n. n.items) name ≡ plain_name bytes.now) }
+#[tactic(auto, unfolding(crate::specs::Entries::unquoted_name))]
+fn unquoted_name(alloc: Global, bytes: &[u8]) -> Result<Option<Vec<u8>>, AllocError>
+    ensures { IfOk result (λ name. option_map (λ n. n.items) name ≡ unquoted_name bytes.now) }
 {
     if bytes.is_empty() || !are_plain(bytes) {
         return Ok(None);
@@ -173,9 +173,9 @@ fn plain_name(alloc: Global, bytes: &[u8]) -> Result<Option<Vec<u8>>, AllocError
 }
 
 /// The name that is written so, or `None` if no name is.
-#[tactic(auto, unfolding(crate::specs::Entries::name_written))]
-fn name_written(alloc: Global, bytes: &[u8]) -> Result<Option<Vec<u8>>, AllocError>
-    ensures { IfOk result (λ name. option_map (λ n. n.items) name ≡ name_written bytes.now) }
+#[tactic(auto, unfolding(crate::specs::Entries::name_spelled))]
+fn name_spelled(alloc: Global, bytes: &[u8]) -> Result<Option<Vec<u8>>, AllocError>
+    ensures { IfOk result (λ name. option_map (λ n. n.items) name ≡ name_spelled bytes.now) }
 {
     if let Some(inner) = Quote::Single.between(bytes) {
         return Quote::Single.read(alloc, inner);
@@ -183,18 +183,18 @@ fn name_written(alloc: Global, bytes: &[u8]) -> Result<Option<Vec<u8>>, AllocErr
     if let Some(inner) = Quote::Double.between(bytes) {
         return Quote::Double.read(alloc, inner);
     }
-    plain_name(alloc, bytes)
+    unquoted_name(alloc, bytes)
 }
 
 /// The entry that a line says, or `None` if it says none.
-#[tactic(auto, unfolding(crate::specs::Entries::entry_of))]
+#[tactic(auto, unfolding(crate::specs::Entries::entry_said))]
 pub(crate) fn read_entry(alloc: Global, line: &[u8]) -> Result<Option<IdName>, AllocError>
-    ensures { IfOk result (λ read. option_map entry_read read ≡ entry_of line.now) }
+    ensures { IfOk result (λ read. option_map entry_read read ≡ entry_said line.now) }
 {
     let Some((id, written)) = written_in(line) else {
         return Ok(None);
     };
-    let Some(name) = name_written(alloc, written)? else {
+    let Some(name) = name_spelled(alloc, written)? else {
         return Ok(None);
     };
     Ok(Some(IdName { id, name }))

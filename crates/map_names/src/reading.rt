@@ -1,8 +1,8 @@
 //! Reading sled maps from their texts.
 
 ghost use Rattle.std.specs.Prelude.{◌≡◌, ◌<◌, [], List, false, length};
-ghost use Rattle.map_names.specs.Entries.{Entry};
-ghost use Rattle.map_names.specs.Maps.{line_rows, map_naming};
+ghost use Rattle.map_names.specs.Entries.{NamedFunction};
+ghost use Rattle.map_names.specs.Maps.{map_line_rows, map_naming};
 ghost use Rattle.map_names.specs.MapNames.{IsReading};
 ghost use Rattle.map_names.specs.private.Drafts.{IsDraftOf, Reads, Takes, before_in};
 
@@ -40,8 +40,8 @@ impl Draft {
 
     /// Takes a line, or refuses it.
     fn take_line(&mut self, alloc: Global, line: &Line) -> Result<(), MapFault>
-        ensures { (entries : List Entry) → IsDraftOf entries self.old → Takes result
-            (line_rows (before_in self.old.ended entries) (line.now.number, line.now.bytes.now)) self.new }
+        ensures { (entries : List NamedFunction) → IsDraftOf entries self.old → Takes result
+            (map_line_rows (before_in self.old.ended entries) (line.now.number, line.now.bytes.now)) self.new }
     {
         if self.ended {
             return Err(MapFault::Syntax(line.number));

@@ -7,8 +7,8 @@ use Rattle.std.proofs.lemmas.Bool.{cases_lt}
 use Rattle.std.proofs.lemmas.List.{map-append, length-append, take-append-le}
 use Rattle.std.proofs.lemmas.Option.{same_Some, slice_get_within}
 use Rattle.xray_image.specs.Ids.{id_count}
-use Rattle.patch_script.specs.declared.command.Command.{Command}
-use Rattle.patch_script.specs.declared.command.Command.TheVariants as commands
+use Rattle.patch_script.specs.declared.command.PatchCommand.{PatchCommand}
+use Rattle.patch_script.specs.declared.command.PatchCommand.TheVariants as commands
 use Rattle.patch_script.specs.declared.first_patches.FirstPatches.{FirstPatches}
 use Rattle.patch_script.specs.declared.placed.Placed.{Placed}
 use Rattle.patch_script.specs.declared.placed.PlacedCommands.{PlacedCommands}
@@ -25,18 +25,18 @@ use Rattle.patch_script.proofs.Places.{as_many, take_all}
 use Rattle.patch_script.proofs.Ranges.{range_length}
 use Rattle.patch_script.proofs.Steps.{total_more, start_more, waiting_more}
 
-step_count-few : (command : Command) (n : ℕ) → n ≤ 4096 → step_count command n ≤ 16384
+step_count-few : (command : PatchCommand) (n : ℕ) → n ≤ 4096 → step_count command n ≤ 16384
 step_count-few commands.Patch n few = omega arith
 step_count-few commands.Unpatch n few = omega arith
 step_count-few (commands.PatchFunction id) n few = omega arith
 step_count-few (commands.UnpatchFunction id) n few = omega arith
 step_count-few command n few = omega arith
 
-few_threads : (command : Command) → names_no_thread 16 command ≡ false → NamesFewThreads command
+few_threads : (command : PatchCommand) → names_no_thread 16 command ≡ false → NamesFewThreads command
 few_threads (commands.Release thread) fits = grind arith
 few_threads command fits = tt
 
-module _ (old : PlacedCommands) (line : ℕ) (command : Command) (range : SledRange) (going : Bool)
+module _ (old : PlacedCommands) (line : ℕ) (command : PatchCommand) (range : SledRange) (going : Bool)
     (are : ArePlaced old) (follows : MayBePlaced old command) (has : HasSleds old.image.value command range) (going_is : going ≡ has_go (commands_of (lines_in old)))
     (items : Vec Placed Global) (first : FirstPatches) (total start : ℕ) (waits : Option ℕ)
     (items_are : items.items ≡ old.commands.items ++ record { line = line; command = command; sleds = range; before = old.total; after = total } ∷ [])
@@ -50,14 +50,14 @@ module _ (old : PlacedCommands) (line : ℕ) (command : Command) (range : SledRa
   abbrev last : Placed
   last = record { line = line; command = command; sleds = range; before = old.total; after = total }
 
-  abbrev before : List Command
+  abbrev before : List PatchCommand
   before = commands_of (lines_in old)
 
   pub lines_more : lines_in new ≡ lines_in old ++ (line, command) ∷ []
   lines_more = ap (map line_in) items_are ∙ map-append line_in old.commands.items (last ∷ [])
 
   script_more : commands_of (lines_in new) ≡ before ++ command ∷ []
-  script_more = ap (map (λ l. l.1)) lines_more ∙ map-append (λ (l : ℕ × Command). l.1) (lines_in old) ((line, command) ∷ [])
+  script_more = ap (map (λ l. l.1)) lines_more ∙ map-append (λ (l : ℕ × PatchCommand). l.1) (lines_in old) ((line, command) ∷ [])
 
   sled_count : length (sleds_named old.image.value command) ≡ range.end - range.start
   sled_count = ap length has.sleds ∙ range_length old.image.value range has.ordered has.within
@@ -79,7 +79,7 @@ module _ (old : PlacedCommands) (line : ℕ) (command : Command) (range : SledRa
       elim (cases_lt i (length old.commands.items)) [
         | inl lt ↦
             let same : take i (commands_of (lines_in new)) ≡ take i before = ap (take i) script_more ∙ take-append-le i before (command ∷ []) (omega (arith, count)) in
-            subst (λ (front : List Command). IsPlaced old.image.value old.threads front one) (sym same)
+            subst (λ (front : List PatchCommand). IsPlaced old.image.value old.threads front one) (sym same)
             (are.each i one (sym (slice_get-append_left old.commands.items (last ∷ []) i lt) ∙ there))
         | inr le ↦
             let within = slice_get_within (old.commands.items ++ last ∷ []) i one there in
@@ -87,7 +87,7 @@ module _ (old : PlacedCommands) (line : ℕ) (command : Command) (range : SledRa
             let is : last ≡ one = same_Some last one (sym (ap (slice_get (old.commands.items ++ last ∷ [])) here ∙ slice_get-append_right old.commands.items (last ∷ []) 0) ∙ there) in
             let same : take i (commands_of (lines_in new)) ≡ before =
             ap (take i) script_more ∙ take-append-le i before (command ∷ []) (omega (arith, count, here)) ∙ take_all i before (omega (arith, count)) in
-            subst (λ (front : List Command). IsPlaced old.image.value old.threads front one) (sym same) (subst (IsPlaced old.image.value old.threads before) is last_placed)
+            subst (λ (front : List PatchCommand). IsPlaced old.image.value old.threads front one) (sym same) (subst (IsPlaced old.image.value old.threads before) is last_placed)
       ]
 
   pub placed_more : ArePlaced new
@@ -100,7 +100,7 @@ module _ (old : PlacedCommands) (line : ℕ) (command : Command) (range : SledRa
         ∙ sym (ap (start_of old.image.value old.threads) script_more ∙ start_more old.image.value old.threads before command);
     waits = waits_are ∙ ap (λ w. option_or w (cond (is_waiting command) (Some line) None)) are.waits
         ∙ sym (ap waiting_line lines_more ∙ waiting_more (lines_in old) line command);
-    first = subst (λ (script : List Command). AreFirst (id_count old.image.value) script first) (sym script_more)
+    first = subst (λ (script : List PatchCommand). AreFirst (id_count old.image.value) script first) (sym script_more)
         (first_more _ before command (length old.commands.items) old.first_patches first are.first (sym count) first_is);
     few = omega (
       arith,

@@ -11,7 +11,7 @@ use Rattle.sled_words.specs.Allowed.{IsAllowed, IsAllowedPart, IsUnpatchedHead}
 use Rattle.sled_words.specs.ChangingCode.{KeepsSleds}
 use Rattle.sled_words.specs.Parts.{patched, patched_head}
 use Rattle.sled_words.specs.Words.{word_of, handler_word}
-use Rattle.patch_script.specs.declared.command.Command.{Command}
+use Rattle.patch_script.specs.declared.command.PatchCommand.{PatchCommand}
 use Rattle.patch_script.specs.CodeAt.{code_at}
 use Rattle.patch_script.specs.Patched.{HasPatchedHead}
 use Rattle.patch_script.specs.Values.{IsCodeValue, IsHead}
@@ -47,13 +47,13 @@ allowed_by program threads thread word value is after_head = record {
     by_part k sled Opcode at same = after_head k sled Opcode at same (λ e. cc)
     by_part k sled Offset at same = after_head k sled Offset at same (λ e. cc)
 
-allowed_head : (program : Program) (threads : ℕ) (script : List Command) (thread place k : ℕ)
+allowed_head : (program : Program) (threads : ℕ) (script : List PatchCommand) (thread place k : ℕ)
     → IsAllowed program threads thread (word_of k Head) (code_at program threads script place (word_of k Head))
 allowed_head program threads script thread place k =
     allowed_by program threads thread (word_of k Head) _ (code_values program threads script place (word_of k Head))
     (λ j sled part at same other. absurd (other (sym (same_part k j Head part same))))
 
-allowed_after_head : (program : Program) (threads : ℕ) (script : List Command) (thread p q k : ℕ) (part : Part) → p ≤ q → HasPatchedHead program threads script p k
+allowed_after_head : (program : Program) (threads : ℕ) (script : List PatchCommand) (thread p q k : ℕ) (part : Part) → p ≤ q → HasPatchedHead program threads script p k
     → part ≢ Head → IsAllowed program threads thread (word_of k part) (code_at program threads script q (word_of k part))
 allowed_after_head program threads script thread p q k part le head other =
     allowed_by program threads thread (word_of k part) _ (code_values program threads script q (word_of k part))
@@ -62,20 +62,20 @@ allowed_after_head program threads script thread p q k part le head other =
     subst (HasPatchedHead program threads script p) (same_sled k j part a same) head in
     ap (code_at program threads script q) same ∙ part_patched program threads script p q j sled a at following le patched_j)
 
-allowed_part : (program : Program) (threads : ℕ) (script : List Command) (thread p q k : ℕ) (part : Part) → p ≤ q → HasPatchedHead program threads script p k
+allowed_part : (program : Program) (threads : ℕ) (script : List PatchCommand) (thread p q k : ℕ) (part : Part) → p ≤ q → HasPatchedHead program threads script p k
     → IsAllowed program threads thread (word_of k part) (code_at program threads script q (word_of k part))
 allowed_part program threads script thread p q k Head le head = allowed_head program threads script thread q k
 allowed_part program threads script thread p q k Id le head = allowed_after_head program threads script thread p q k Id le head (λ e. cc)
 allowed_part program threads script thread p q k Opcode le head = allowed_after_head program threads script thread p q k Opcode le head (λ e. cc)
 allowed_part program threads script thread p q k Offset le head = allowed_after_head program threads script thread p q k Offset le head (λ e. cc)
 
-allowed_others : (program : Program) (threads : ℕ) (script : List Command) (thread place word : ℕ) → handler_word program ≤ word
+allowed_others : (program : Program) (threads : ℕ) (script : List PatchCommand) (thread place word : ℕ) → handler_word program ≤ word
     → IsAllowed program threads thread word (code_at program threads script place word)
 allowed_others program threads script thread place word past =
     allowed_by program threads thread word _ (code_values program threads script place word)
     (λ k sled part at same other. absurd (apart program k sled part word at past same))
 
-pub keeps_sleds : (program : Program) (threads : ℕ) (script : List Command) (thread : ℕ) → KeepsSleds program threads thread (code_at program threads script)
+pub keeps_sleds : (program : Program) (threads : ℕ) (script : List PatchCommand) (thread : ℕ) → KeepsSleds program threads thread (code_at program threads script)
 keeps_sleds program threads script thread = record {
   head = allowed_head program threads script thread;
   part = allowed_part program threads script thread;

@@ -6,8 +6,8 @@ use Rattle.std.proofs.lemmas.Bool.{cases_Bool}
 use Rattle.std.proofs.lemmas.List.{append-nil}
 use Rattle.std.proofs.lemmas.Option.{slice_get-get_or}
 use Rattle.xray_image.specs.Program.{Program}
-use Rattle.patch_script.specs.declared.command.Command.{Command}
-use Rattle.patch_script.specs.declared.command.Command.TheVariants as commands
+use Rattle.patch_script.specs.declared.command.PatchCommand.{PatchCommand}
+use Rattle.patch_script.specs.declared.command.PatchCommand.TheVariants as commands
 use Rattle.patch_script.specs.declared.micro.Micro.{Micro}
 use Rattle.patch_script.specs.declared.micro.Micro.TheVariants.{Store, Await, End}
 use Rattle.patch_script.specs.Micros.{Numbered, all_sleds, sleds_of, unpatch_sled, steps_of, micros_after, micros, micro_at, start_of, is_go}
@@ -18,7 +18,7 @@ use Rattle.patch_script.proofs.Lists.{list_any-last, slice_get-append_left}
 use Rattle.patch_script.proofs.Steps.{stays, front-cons, whole_front, micros_after-append}
 use Rattle.patch_script.proofs.MicroNames.{neither, patched_none, unpatched_none, script_none, found_none, is_bad_sled}
 
-abbrev pub awaits : Command → Bool
+abbrev pub awaits : PatchCommand → Bool
 awaits (commands.Await thread count) = true
 awaits _ = false
 
@@ -29,11 +29,11 @@ is_no_store End = true
 
 -- ---- no command there awaits
 
-stands_after : (before : List Command) (command : Command) → has_go before ≡ false → is_misplaced before command ≡ false → awaits command ≡ false
+stands_after : (before : List PatchCommand) (command : PatchCommand) → has_go before ≡ false → is_misplaced before command ≡ false → awaits command ≡ false
 stands_after before (commands.Await thread count) none fits = absurd (let some : not (has_go before) ≡ true = ap not none in cc)
 stands_after before command none fits = refl
 
-pub no_await : (before rest : List Command) → has_go before ≡ false → ((i : ℕ) (c : Command) → slice_get rest i ≡ Some c → is_misplaced (before ++ take i rest) c ≡ false)
+pub no_await : (before rest : List PatchCommand) → has_go before ≡ false → ((i : ℕ) (c : PatchCommand) → slice_get rest i ≡ Some c → is_misplaced (before ++ take i rest) c ≡ false)
     → list_any awaits (take_while stays rest) ≡ false
 no_await before [] none fits = refl
 no_await before (x ∷ xs) none fits = elim (cases_Bool (is_go x)) [
@@ -56,7 +56,7 @@ store_heads : (earlier : List ℕ) (sleds : List Numbered) → list_any (λ s. i
 store_heads earlier [] = refl
 store_heads earlier (s ∷ ss) = store_heads earlier ss
 
-store_steps : (program : Program) (threads : ℕ) (earlier : List ℕ) (command : Command) → awaits command ≡ false → list_any is_no_store (steps_of program threads earlier command) ≡ false
+store_steps : (program : Program) (threads : ℕ) (earlier : List ℕ) (command : PatchCommand) → awaits command ≡ false → list_any is_no_store (steps_of program threads earlier command) ≡ false
 store_steps program threads earlier commands.Patch fits = patched_none is_no_store program (all_sleds program) (store_sleds program (all_sleds program))
 store_steps program threads earlier commands.Unpatch fits = unpatched_none is_no_store program earlier (all_sleds program) (store_heads earlier (all_sleds program))
 store_steps program threads earlier (commands.PatchFunction id) fits = patched_none is_no_store program (sleds_of program id) (store_sleds program (sleds_of program id))
@@ -88,13 +88,13 @@ stores_before_go plan all place lt =
     subst IsStore (sym (ap (λ o. unwrap_or o End) there))
     (is_store (get_or (micros program threads front) place End) (found_none is_no_store program (micros program threads front) stores place lt))
   where
-    placed : (i : ℕ) (c : Command) → slice_get (commands_of plan.lines) i ≡ Some c → is_misplaced (take i (commands_of plan.lines)) c ≡ false
+    placed : (i : ℕ) (c : PatchCommand) → slice_get (commands_of plan.lines) i ≡ Some c → is_misplaced (take i (commands_of plan.lines)) c ≡ false
     placed i c at =
         let line = mapped plan.lines i c at in
         ap (is_misplaced (take i (commands_of plan.lines))) line.2 ∙ (all.admitted i line.0 line.1).place
       where
-        mapped : (lines : List (ℕ × Command)) (i : ℕ) (c : Command) → slice_get (commands_of lines) i ≡ Some c
-            → (line : ℕ × Command) × (slice_get lines i ≡ Some line) × (c ≡ line.1)
+        mapped : (lines : List (ℕ × PatchCommand)) (i : ℕ) (c : PatchCommand) → slice_get (commands_of lines) i ≡ Some c
+            → (line : ℕ × PatchCommand) × (slice_get lines i ≡ Some line) × (c ≡ line.1)
         mapped [] i c at = absurd cc
         mapped (l ∷ ls) zero c at = (l, refl, let same : l.1 ≡ c = cc in sym same)
         mapped (l ∷ ls) (suc i) c at = mapped ls i c at

@@ -2,13 +2,13 @@
 use Rattle.std.proofs.Common.{◌≡◌, ℕ, List, [], ◌∷◌, map, refl}
 use Rattle.sled_words.specs.declared.part.Part.TheVariants.{Head, Id, Opcode, Offset}
 use Rattle.sled_words.specs.Words.{word_of, handler_word, state_word, release_word, arg_handler_word}
-use Rattle.patch_script.specs.declared.command.Command.{Command}
-use Rattle.patch_script.specs.declared.command.Command.TheVariants as commands
+use Rattle.patch_script.specs.declared.command.PatchCommand.{PatchCommand}
+use Rattle.patch_script.specs.declared.command.PatchCommand.TheVariants as commands
 use Rattle.patch_script.specs.CodeAt.{code_at}
 use Rattle.patch_script.proofs.Rows.{one_function}
 
 -- eight stores patch the two sleds, and two unpatch them
-script : List Command
+script : List PatchCommand
 script = commands.Patch ∷ commands.Go ∷ commands.Unpatch ∷ commands.Init ∷ commands.SetHandler ∷ commands.SetArgHandler ∷ []
 
 -- words of the code after some of the stores: how many stores, the word, and what it holds

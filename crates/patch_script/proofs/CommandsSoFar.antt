@@ -5,8 +5,8 @@ use Rattle.std.specs.Option.{option_or}
 use Rattle.std.specs.List.{list_any}
 use Rattle.std.proofs.lemmas.Bool.{cases_Bool}
 use Rattle.std.proofs.lemmas.List.Folds.{list_any_none}
-use Rattle.patch_script.specs.declared.command.Command.{Command}
-use Rattle.patch_script.specs.declared.command.Command.TheVariants as commands
+use Rattle.patch_script.specs.declared.command.PatchCommand.{PatchCommand}
+use Rattle.patch_script.specs.declared.command.PatchCommand.TheVariants as commands
 use Rattle.patch_script.specs.declared.standing.Hold.{Hold}
 use Rattle.patch_script.specs.declared.standing.Hold.TheVariants.{Free, Held, Released}
 use Rattle.patch_script.specs.declared.standing.Holds.{Holds}
@@ -52,7 +52,7 @@ none_if None h = refl
 none_if (Some n) h = cc
 
 -- the hold with one more command
-hold_of-last : (thread : ℕ) (before : List Command) (command : Command) → hold_of thread (before ++ command ∷ []) ≡ option_or (hold_of thread before) (hold_by thread command)
+hold_of-last : (thread : ℕ) (before : List PatchCommand) (command : PatchCommand) → hold_of thread (before ++ command ∷ []) ≡ option_or (hold_of thread before) (hold_by thread command)
 hold_of-last thread [] command = option_or-none (hold_by thread command)
 hold_of-last thread (c ∷ cs) command =
     ap (option_or (hold_by thread c)) (hold_of-last thread cs command) ∙ option_or_assoc (hold_by thread c) (hold_of thread cs) (hold_by thread command)
@@ -64,13 +64,13 @@ fresh_log Uninitialized h = refl
 fresh_log Initialized h = refl
 fresh_log Finalized h = cc
 
-init_after : (command : Command) (log : Log) (before : List Command) → was_initialized log ≡ list_any is_init before → breaks_log before command ≡ false
+init_after : (command : PatchCommand) (log : Log) (before : List PatchCommand) → was_initialized log ≡ list_any is_init before → breaks_log before command ≡ false
     → was_initialized (log_after command log) ≡ (list_any is_init before || is_init command)
 init_after commands.Init log before is fits = sym (or_true (list_any is_init before))
 init_after commands.Finalize log before is fits = sym (or_false (list_any is_init before) ∙ holds_then (list_any is_init before) (list_any is_finalize before) fits)
 init_after command log before is fits = is ∙ sym (or_false (list_any is_init before))
 
-final_after : (command : Command) (log : Log) (before : List Command) → was_initialized log ≡ list_any is_init before → was_finalized log ≡ list_any is_finalize before
+final_after : (command : PatchCommand) (log : Log) (before : List PatchCommand) → was_initialized log ≡ list_any is_init before → was_finalized log ≡ list_any is_finalize before
     → breaks_log before command ≡ false → was_finalized (log_after command log) ≡ (list_any is_finalize before || is_finalize command)
 final_after commands.Init log before init is fits = sym (or_false (list_any is_finalize before) ∙ sym is ∙ fresh_log log (init ∙ fits))
 final_after commands.Finalize log before init is fits = sym (or_true (list_any is_finalize before))
@@ -84,7 +84,7 @@ same_passing true (Held passing) = refl
 same_passing true (Released passing) = refl
 same_passing false hold = refl
 
-passing_after : (thread : ℕ) (command : Command) (hold : Hold) (before : List Command) → passing_of hold ≡ hold_of thread before → breaks_hold before command ≡ false
+passing_after : (thread : ℕ) (command : PatchCommand) (hold : Hold) (before : List PatchCommand) → passing_of hold ≡ hold_of thread before → breaks_hold before command ≡ false
     → passing_of (hold_after thread command hold) ≡ option_or (hold_of thread before) (hold_by thread command)
 passing_after thread (commands.Hold held passing) hold before is fits = elim (cases_Bool (held == thread)) [
   | inl so ↦
@@ -108,7 +108,7 @@ released_if Free h = cc
 released_if (Held passing) h = refl
 released_if (Released passing) h = refl
 
-released_after : (thread : ℕ) (command : Command) (hold : Hold) (before : List Command) → passing_of hold ≡ hold_of thread before → was_released hold ≡ is_released thread before
+released_after : (thread : ℕ) (command : PatchCommand) (hold : Hold) (before : List PatchCommand) → passing_of hold ≡ hold_of thread before → was_released hold ≡ is_released thread before
     → breaks_hold before command ≡ false → was_released (hold_after thread command hold) ≡ (is_released thread before || releases thread command)
 released_after thread (commands.Hold held passing) hold before at is fits = elim (cases_Bool (held == thread)) [
   | inl so ↦
@@ -130,7 +130,7 @@ released_after thread command hold before at is fits = is ∙ sym (or_false (is_
 
 -- ---- all of it
 
-pub standing_more : (before : List Command) (command : Command) (old new : Standing) → IsStanding before old → Follows old command new
+pub standing_more : (before : List PatchCommand) (command : PatchCommand) (old new : Standing) → IsStanding before old → Follows old command new
     → breaks_hold before command ≡ false → breaks_log before command ≡ false → IsStanding (before ++ command ∷ []) new
 standing_more before command old new is more hold log = record {
   going = more.going ∙ ap (λ b. b || is_go command) is.going ∙ sym (list_any-last is_go before command);
@@ -147,7 +147,7 @@ standing_more before command old new is more hold log = record {
 
 -- ---- holds for good
 
-pub held_found : (thread : ℕ) (script part : List Command) (passing : ℕ) → hold_of thread part ≡ Some passing → is_released thread script ≡ false
+pub held_found : (thread : ℕ) (script part : List PatchCommand) (passing : ℕ) → hold_of thread part ≡ Some passing → is_released thread script ≡ false
     → list_any (holds_for_good script) part ≡ true
 held_found thread script [] passing at free = cc
 held_found thread script (commands.Hold held before ∷ cs) passing at free = elim (cases_Bool (held == thread)) [
@@ -163,11 +163,11 @@ or_some : (a b : Option ℕ) → is_some b ≡ true → is_some (option_or a b) 
 or_some None b h = h
 or_some (Some n) b h = refl
 
-hold_somewhere : (thread passing : ℕ) (script : List Command) (k : ℕ) (d : Command) → k < length script → get_or script k d ≡ commands.Hold thread passing
+hold_somewhere : (thread passing : ℕ) (script : List PatchCommand) (k : ℕ) (d : PatchCommand) → k < length script → get_or script k d ≡ commands.Hold thread passing
     → is_some (hold_of thread script) ≡ true
 hold_somewhere thread passing [] k d lt at = absurd (omega arith)
 hold_somewhere thread passing (c ∷ cs) zero d lt at =
-    ap (λ (x : Command). is_some (option_or (hold_by thread x) (hold_of thread cs))) at
+    ap (λ (x : PatchCommand). is_some (option_or (hold_by thread x) (hold_of thread cs))) at
     ∙ ap (λ b. is_some (option_or (cond b (Some passing) None) (hold_of thread cs))) (eq-eqb thread thread refl)
 hold_somewhere thread passing (c ∷ cs) (suc k) d lt at = or_some (hold_by thread c) (hold_of thread cs) (hold_somewhere thread passing cs k d (omega arith) at)
 
@@ -185,13 +185,13 @@ then_released Free some isnt = cc
 then_released (Held passing) some isnt = cc
 then_released (Released passing) some isnt = refl
 
-not_for_good : (script : List Command) (holds : Holds) → AreHolds script holds → any_held holds ≡ false → (command : Command)
+not_for_good : (script : List PatchCommand) (holds : Holds) → AreHolds script holds → any_held holds ≡ false → (command : PatchCommand)
     → ((thread passing : ℕ) → command ≡ commands.Hold thread passing → is_some (hold_of thread script) ≡ true) → holds_for_good script command ≡ false
 not_for_good script holds are isnt (commands.Hold thread passing) some =
     ap not (sym (are.released thread) ∙ then_released (hold_in holds thread) (ap is_some (are.passings thread) ∙ some thread passing refl) (not_held holds isnt thread))
 not_for_good script holds are isnt command some = refl
 
-held_at : (script : List Command) (holds : Holds) → AreHolds script holds → (hold : Hold) (thread : ℕ) → hold ≡ hold_in holds thread → is_held hold ≡ true
+held_at : (script : List PatchCommand) (holds : Holds) → AreHolds script holds → (hold : Hold) (thread : ℕ) → hold ≡ hold_in holds thread → is_held hold ≡ true
     → list_any (holds_for_good script) script ≡ true
 held_at script holds are Free thread is held = cc
 held_at script holds are (Held passing) thread is held =
@@ -206,7 +206,7 @@ held_place (h ∷ hs) so = elim (cases_Bool (is_held h)) [
   | inr other ↦ let there = held_place hs (sym (ap (λ b. b || list_any is_held hs) other) ∙ so) in (suc there.0, there.1)
 ]
 
-pub any_held-is : (script : List Command) (standing : Standing) → IsStanding script standing → any_held standing.holds ≡ list_any (holds_for_good script) script
+pub any_held-is : (script : List PatchCommand) (standing : Standing) → IsStanding script standing → any_held standing.holds ≡ list_any (holds_for_good script) script
 any_held-is script standing is = elim (cases_Bool (any_held standing.holds)) [
   | inl so ↦
       let there = held_place standing.holds.threads so in

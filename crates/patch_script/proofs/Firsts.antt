@@ -7,8 +7,8 @@ use Rattle.std.proofs.lemmas.List.Folds.{list_any-append}
 use Rattle.std.proofs.lemmas.Option.{none-some, same_Some}
 use Rattle.xray_image.specs.declared.sled.Sled.{Sled}
 use Rattle.xray_image.specs.Program.{Program}
-use Rattle.patch_script.specs.declared.command.Command.{Command}
-use Rattle.patch_script.specs.declared.command.Command.TheVariants as commands
+use Rattle.patch_script.specs.declared.command.PatchCommand.{PatchCommand}
+use Rattle.patch_script.specs.declared.command.PatchCommand.TheVariants as commands
 use Rattle.patch_script.specs.declared.first_patches.FirstPatches.{FirstPatches}
 use Rattle.patch_script.specs.private.FirstPatches.{patches_all, patches_function, first_number, AreFirst, or_number, AddsFirst, is_before}
 use Rattle.patch_script.specs.Micros.{all_sleds, sleds_of, patches, numbers}
@@ -21,7 +21,7 @@ or_next None true n = refl
 or_next None false n = refl
 or_next (Some m) b n = refl
 
-first_number-last : (test : Command → Bool) (before : List Command) (command : Command)
+first_number-last : (test : PatchCommand → Bool) (before : List PatchCommand) (command : PatchCommand)
     → first_number test (before ++ command ∷ []) ≡ or_number (first_number test before) (test command) (length before)
 first_number-last test [] command = elim (test command) as (λ b. cond b (Some 0) None ≡ or_number None b 0) [ true ↦ refl | false ↦ refl ]
 first_number-last test (c ∷ cs) command =
@@ -29,7 +29,7 @@ first_number-last test (c ∷ cs) command =
     ∙ elim (test c) as (λ b. cond b (Some 0) (or_number (option_map suc (first_number test cs)) (test command) (suc (length cs)))
     ≡ or_number (cond b (Some 0) (option_map suc (first_number test cs))) (test command) (suc (length cs))) [ true ↦ refl | false ↦ refl ]
 
-pub first_more : (ids : ℕ) (before : List Command) (command : Command) (number : ℕ) (old new : FirstPatches) → AreFirst ids before old → number ≡ length before
+pub first_more : (ids : ℕ) (before : List PatchCommand) (command : PatchCommand) (number : ℕ) (old new : FirstPatches) → AreFirst ids before old → number ≡ length before
     → AddsFirst old command number new → AreFirst ids (before ++ command ∷ []) new
 first_more ids before command number old new are count more = record {
   room = more.room ∙ are.room;
@@ -53,7 +53,7 @@ none_before : (o : Option ℕ) → is_before o 0 ≡ false
 none_before None = refl
 none_before (Some m) = le-ltb m 0 (omega arith)
 
-pub is_before-first : (test : Command → Bool) (script : List Command) (n : ℕ) → is_before (first_number test script) n ≡ list_any test (take n script)
+pub is_before-first : (test : PatchCommand → Bool) (script : List PatchCommand) (n : ℕ) → is_before (first_number test script) n ≡ list_any test (take n script)
 is_before-first test [] zero = refl
 is_before-first test [] (suc n) = refl
 is_before-first test (c ∷ cs) zero = none_before (first_number test (c ∷ cs))
@@ -105,7 +105,7 @@ all_counted n (s ∷ ss) (suc k) sled at =
     ∙ ap (λ m. list_any (λ j. j == m) (numbers (enumerate_from (n + 1) ss))) next ∙ all_counted (n + 1) ss k sled at
 
 -- a command patches a sled if it patches all, or the sled's function
-patches_sled : (program : Program) (k : ℕ) (sled : Sled) → slice_get program.sleds k ≡ Some sled → (command : Command)
+patches_sled : (program : Program) (k : ℕ) (sled : Sled) → slice_get program.sleds k ≡ Some sled → (command : PatchCommand)
     → list_any (λ j. j == k) (numbers (patches program command)) ≡ (patches_all command || patches_function sled.id command)
 patches_sled program k sled at commands.Patch = ap (λ m. list_any (λ j. j == m) (numbers (all_sleds program))) (let zero_first : k ≡ 0 + k = omega arith in zero_first) ∙ all_counted 0 program.sleds k sled at
 patches_sled program k sled at (commands.PatchFunction id) =
@@ -128,7 +128,7 @@ swap_or false false true d = refl
 swap_or false false false d = refl
 
 -- whether earlier commands patch a sled
-pub patched_before-is : (program : Program) (k : ℕ) (sled : Sled) → slice_get program.sleds k ≡ Some sled → (before : List Command)
+pub patched_before-is : (program : Program) (k : ℕ) (sled : Sled) → slice_get program.sleds k ≡ Some sled → (before : List PatchCommand)
     → list_any (λ j. j == k) (patched_by program before) ≡ (list_any patches_all before || list_any (patches_function sled.id) before)
 patched_before-is program k sled at [] = refl
 patched_before-is program k sled at (c ∷ cs) =

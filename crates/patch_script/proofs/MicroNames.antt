@@ -9,8 +9,8 @@ use Rattle.std.proofs.lemmas.Option.{slice_get-get_or, slice_get_past}
 use Rattle.xray_image.specs.declared.sled.Sled.{Sled}
 use Rattle.xray_image.specs.Program.{Program}
 use Rattle.sled_words.specs.Words.{IsCodeWord, arg_handler_word, progress_word}
-use Rattle.patch_script.specs.declared.command.Command.{Command}
-use Rattle.patch_script.specs.declared.command.Command.TheVariants as commands
+use Rattle.patch_script.specs.declared.command.PatchCommand.{PatchCommand}
+use Rattle.patch_script.specs.declared.command.PatchCommand.TheVariants as commands
 use Rattle.patch_script.specs.declared.micro.Micro.{Micro}
 use Rattle.patch_script.specs.declared.micro.Micro.TheVariants.{Store, Await, End}
 use Rattle.patch_script.specs.Micros.{Numbered, all_sleds, sleds_of, patches, numbers, patch_sled, unpatch_sled, steps_of, micros_after, micros, micro_at, total_of}
@@ -67,8 +67,8 @@ module _ (bad : Micro → Bool) (program : Program) where
       neither (bad (unpatch_sled earlier s)) (list_any bad (map (unpatch_sled earlier) ss)) parts.0 (unpatched_none earlier ss parts.1)
 
   -- if no step of a command is bad, no step of the script is
-  pub script_none : (threads : ℕ) (fault : Command → Bool) → ((earlier : List ℕ) (command : Command) → fault command ≡ false → list_any bad (steps_of program threads earlier command) ≡ false)
-      → (earlier : List ℕ) (script : List Command) → list_any fault script ≡ false → list_any bad (micros_after program threads earlier script) ≡ false
+  pub script_none : (threads : ℕ) (fault : PatchCommand → Bool) → ((earlier : List ℕ) (command : PatchCommand) → fault command ≡ false → list_any bad (steps_of program threads earlier command) ≡ false)
+      → (earlier : List ℕ) (script : List PatchCommand) → list_any fault script ≡ false → list_any bad (micros_after program threads earlier script) ≡ false
   script_none threads fault each earlier [] none = refl
   script_none threads fault each earlier (c ∷ cs) none =
       let parts = or_parts (fault c) (list_any fault cs) none in
@@ -145,7 +145,7 @@ module _ (program : Program) (threads : ℕ) where
       let few = ltb-false threads thread parts.1 in
       (omega (arith, some), omega arith)
 
-  steps_near : (earlier : List ℕ) (command : Command) → names_no_thread threads command ≡ false → list_any is_astray (steps_of program threads earlier command) ≡ false
+  steps_near : (earlier : List ℕ) (command : PatchCommand) → names_no_thread threads command ≡ false → list_any is_astray (steps_of program threads earlier command) ≡ false
   steps_near earlier commands.Patch fits = patched_none is_astray program (all_sleds program) (stores_near (all_sleds program) all_near)
   steps_near earlier commands.Unpatch fits = unpatched_none is_astray program earlier (all_sleds program) (heads_near earlier (all_sleds program) all_near)
   steps_near earlier (commands.PatchFunction id) fits = patched_none is_astray program (sleds_of program id) (stores_near (sleds_of program id) (some_near id))
@@ -174,9 +174,9 @@ micro_within plan all place micro is = elim (cases_lt place (total_of plan.progr
   | inr le ↦ subst (IsWithin plan) (sym (is ∙ ap (λ o. unwrap_or o End) (slice_get_past (micros plan.program plan.threads (commands_of plan.lines)) place le))) tt
 ]
   where
-    named : (k : ℕ) (d : Command) → k < length (commands_of plan.lines) → names_no_thread plan.threads (get_or (commands_of plan.lines) k d) ≡ false
+    named : (k : ℕ) (d : PatchCommand) → k < length (commands_of plan.lines) → names_no_thread plan.threads (get_or (commands_of plan.lines) k d) ≡ false
     named k d lt =
-        let line : get_or (commands_of plan.lines) k d ≡ (get_or plan.lines k (0, d)).1 = get_or-map (λ (l : ℕ × Command). l.1) plan.lines k (0, d) d (omega (arith, length-map plan.lines (λ l. l.1))) in
+        let line : get_or (commands_of plan.lines) k d ≡ (get_or plan.lines k (0, d)).1 = get_or-map (λ (l : ℕ × PatchCommand). l.1) plan.lines k (0, d) d (omega (arith, length-map plan.lines (λ l. l.1))) in
         ap (names_no_thread plan.threads) line
         ∙ (all.admitted k (get_or plan.lines k (0, d)) (slice_get-get_or plan.lines k (0, d) (omega (arith, length-map plan.lines (λ l. l.1))))).thread
 

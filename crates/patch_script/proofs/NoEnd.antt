@@ -6,8 +6,8 @@ use Rattle.std.proofs.lemmas.Bool.{cases_lt}
 use Rattle.std.proofs.lemmas.List.Folds.{list_any-append, list_any_at}
 use Rattle.std.proofs.lemmas.Option.{slice_get-get_or, slice_get_past}
 use Rattle.xray_image.specs.Program.{Program}
-use Rattle.patch_script.specs.declared.command.Command.{Command}
-use Rattle.patch_script.specs.declared.command.Command.TheVariants as commands
+use Rattle.patch_script.specs.declared.command.PatchCommand.{PatchCommand}
+use Rattle.patch_script.specs.declared.command.PatchCommand.TheVariants as commands
 use Rattle.patch_script.specs.declared.micro.Micro.{Micro}
 use Rattle.patch_script.specs.declared.micro.Micro.TheVariants.{Store, Await, End}
 use Rattle.patch_script.specs.Micros.{Numbered, all_sleds, sleds_of, patches, numbers, patch_sled, unpatch_sled, steps_of, micros_after, micros, micro_at, total_of}
@@ -28,7 +28,7 @@ module _ where
   no_unpatch_end earlier [] = refl
   no_unpatch_end earlier (s ∷ ss) = no_unpatch_end earlier ss
 
-  no_step_end : (program : Program) (threads : ℕ) (earlier : List ℕ) (command : Command) → list_any is_end (steps_of program threads earlier command) ≡ false
+  no_step_end : (program : Program) (threads : ℕ) (earlier : List ℕ) (command : PatchCommand) → list_any is_end (steps_of program threads earlier command) ≡ false
   unfolding is_end
   no_step_end program threads earlier commands.Patch = no_patch_end program (all_sleds program)
   no_step_end program threads earlier commands.Unpatch = no_unpatch_end earlier (all_sleds program)
@@ -36,14 +36,14 @@ module _ where
   no_step_end program threads earlier (commands.UnpatchFunction id) = no_unpatch_end earlier (sleds_of program id)
   no_step_end program threads earlier command = refl
 
-  no_end : (program : Program) (threads : ℕ) (earlier : List ℕ) (script : List Command) → list_any is_end (micros_after program threads earlier script) ≡ false
+  no_end : (program : Program) (threads : ℕ) (earlier : List ℕ) (script : List PatchCommand) → list_any is_end (micros_after program threads earlier script) ≡ false
   no_end program threads earlier [] = refl
   no_end program threads earlier (c ∷ cs) =
       list_any-append is_end (steps_of program threads earlier c) (micros_after program threads (earlier ++ numbers (patches program c)) cs)
       ∙ ap (λ b. b || list_any is_end (micros_after program threads (earlier ++ numbers (patches program c)) cs)) (no_step_end program threads earlier c)
       ∙ no_end program threads (earlier ++ numbers (patches program c)) cs
 
-  some_step : (program : Program) (threads : ℕ) (script : List Command) (place : ℕ) → place < total_of program threads script → micro_at program threads script place ≡ End → ⊥
+  some_step : (program : Program) (threads : ℕ) (script : List PatchCommand) (place : ℕ) → place < total_of program threads script → micro_at program threads script place ≡ End → ⊥
   unfolding is_end
   some_step program threads script place lt is =
       let steps = micros program threads script in
@@ -52,7 +52,7 @@ module _ where
       let not_found : list_any is_end steps ≡ false = no_end program threads [] script in
       cc
 
-pub end_only_past : (program : Program) (threads : ℕ) (script : List Command) (place : ℕ) (micro : Micro) → micro ≡ micro_at program threads script place → (micro ≡ End) ↔ (total_of program threads script ≤ place)
+pub end_only_past : (program : Program) (threads : ℕ) (script : List PatchCommand) (place : ℕ) (micro : Micro) → micro ≡ micro_at program threads script place → (micro ≡ End) ↔ (total_of program threads script ≤ place)
 end_only_past program threads script place micro is = (
   λ end. elim (cases_lt place (total_of program threads script)) [
     | inl lt ↦ absurd (some_step program threads script place lt (sym is ∙ end))

@@ -4,7 +4,7 @@ use Rattle.std.specs.Prelude.{◌==◌, ◌&&◌, nat_lt, slice_get}
 use Rattle.std.specs.List.{position_or_len}
 use Rattle.std.proofs.lemmas.Bool.Decides.{nat_tests}
 use Rattle.xray_image.specs.Program.{Program}
-use Rattle.patch_script.specs.declared.command.Command.{Command}
+use Rattle.patch_script.specs.declared.command.PatchCommand.{PatchCommand}
 use Rattle.patch_script.specs.declared.micro.Micro.{Micro}
 use Rattle.patch_script.specs.declared.micro.Micro.TheVariants.{Store, Await, End}
 use Rattle.patch_script.specs.Bounds.{awaits_passing, bound_of}
@@ -54,13 +54,13 @@ reached_from thread passing (Await awaited count ∷ steps) (suc place) within f
 reached_from thread passing (End ∷ steps) (suc place) within few =
     let rest = reached_from thread passing steps place (omega arith) (λ i count less at. few (suc i) count (omega arith) at) in omega arith
 
-pub bound_within : (program : Program) (threads : ℕ) (script : List Command) (thread passing : ℕ) → bound_of program threads script thread passing ≤ total_of program threads script
+pub bound_within : (program : Program) (threads : ℕ) (script : List PatchCommand) (thread passing : ℕ) → bound_of program threads script thread passing ≤ total_of program threads script
 bound_within program threads script thread passing = first_within (awaits_passing thread passing) (micros program threads script)
 
-pub bound_awaited : (program : Program) (threads : ℕ) (script : List Command) (thread passing place count : ℕ) → micro_at program threads script place ≡ Await thread count
+pub bound_awaited : (program : Program) (threads : ℕ) (script : List PatchCommand) (thread passing place count : ℕ) → micro_at program threads script place ≡ Await thread count
     → passing < count → bound_of program threads script thread passing ≤ place
 bound_awaited program threads script thread passing place count at less = first_awaited thread passing (micros program threads script) place count at less
 
-pub bound_reached : (program : Program) (threads : ℕ) (script : List Command) (thread passing place : ℕ) → place ≤ total_of program threads script
+pub bound_reached : (program : Program) (threads : ℕ) (script : List PatchCommand) (thread passing place : ℕ) → place ≤ total_of program threads script
     → ((i count : ℕ) → i < place → micro_at program threads script i ≡ Await thread count → count ≤ passing) → place ≤ bound_of program threads script thread passing
 bound_reached program threads script thread passing place within few = reached_from thread passing (micros program threads script) place within few

@@ -7,8 +7,8 @@ use Rattle.xray_image.specs.declared.sled.Sled.{Sled}
 use Rattle.xray_image.specs.Program.{Program}
 use Rattle.sled_words.specs.declared.part.Part.TheVariants.{Head}
 use Rattle.sled_words.specs.Words.{word_of, handler_word, state_word, release_word, arg_handler_word}
-use Rattle.patch_script.specs.declared.command.Command.{Command}
-use Rattle.patch_script.specs.declared.command.Command.TheVariants as commands
+use Rattle.patch_script.specs.declared.command.PatchCommand.{PatchCommand}
+use Rattle.patch_script.specs.declared.command.PatchCommand.TheVariants as commands
 use Rattle.patch_script.specs.declared.micro.Micro.{Micro}
 use Rattle.patch_script.specs.declared.micro.Micro.TheVariants.{Store, Await}
 use Rattle.patch_script.specs.Micros.{Numbered, all_sleds, sleds_of, patch_sled, unpatch_sled, head_left, steps_of, patches, numbers, micros_after, micros}
@@ -76,7 +76,7 @@ one_before : (program : Program) (step : Micro) (rest : List Micro) → IsLone p
     → ArePatches program (step ∷ rest)
 one_before program step rest is later = lone step rest is later
 
-command_before : (program : Program) (threads : ℕ) (earlier : List ℕ) (command : Command) (rest : List Micro) → ArePatches program rest
+command_before : (program : Program) (threads : ℕ) (earlier : List ℕ) (command : PatchCommand) (rest : List Micro) → ArePatches program rest
     → ArePatches program (steps_of program threads earlier command ++ rest)
 command_before program threads earlier commands.Patch rest later = patched_before program (all_sleds program) rest (all_listed program) later
 command_before program threads earlier commands.Unpatch rest later = unpatched_before program earlier (all_sleds program) rest (all_listed program) later
@@ -97,12 +97,12 @@ command_before program threads earlier commands.Go rest later = later
 command_before program threads earlier (commands.Release thread) rest later = lone (Store (release_word program thread) 1) rest (releasing thread) later
 command_before program threads earlier (commands.Await thread count) rest later = lone (Await thread count) rest (awaiting thread count) later
 
-patches_after : (program : Program) (threads : ℕ) (earlier : List ℕ) (script : List Command) → ArePatches program (micros_after program threads earlier script)
+patches_after : (program : Program) (threads : ℕ) (earlier : List ℕ) (script : List PatchCommand) → ArePatches program (micros_after program threads earlier script)
 patches_after program threads earlier [] = ended
 patches_after program threads earlier (command ∷ rest) =
     let earlier' : List ℕ = earlier ++ numbers (patches program command) in
     command_before program threads earlier command (micros_after program threads earlier' rest) (patches_after program threads earlier' rest)
 
 -- the micro steps of a script
-pub script_patches : (program : Program) (threads : ℕ) (script : List Command) → ArePatches program (micros program threads script)
+pub script_patches : (program : Program) (threads : ℕ) (script : List PatchCommand) → ArePatches program (micros program threads script)
 script_patches program threads script = patches_after program threads [] script

@@ -13,7 +13,7 @@ use Rattle.sled_words.specs.declared.part.Part.{Part}
 use Rattle.sled_words.specs.declared.part.Part.TheVariants.{Head, Id, Opcode, Offset}
 use Rattle.sled_words.specs.Words.{word_of, handler_word, state_word, release_word, arg_handler_word}
 use Rattle.sled_words.specs.Parts.{unpatched_head, patched_head, patched, unpatched}
-use Rattle.patch_script.specs.declared.command.Command.{Command}
+use Rattle.patch_script.specs.declared.command.PatchCommand.{PatchCommand}
 use Rattle.patch_script.specs.declared.micro.Micro.{Micro}
 use Rattle.patch_script.specs.declared.micro.Micro.TheVariants.{Store}
 use Rattle.patch_script.specs.Micros.{head_left, patch_sled, micros}
@@ -263,7 +263,7 @@ first_head Tail = omega arith
 first_head Args = omega arith
 
 -- once the head is patched at a place, each other part is patched there and at all later places
-pub part_patched : (program : Program) (threads : ℕ) (script : List Command) (p q k : ℕ) (sled : Sled) (part : Part) → slice_get program.sleds k ≡ Some sled
+pub part_patched : (program : Program) (threads : ℕ) (script : List PatchCommand) (p q k : ℕ) (sled : Sled) (part : Part) → slice_get program.sleds k ≡ Some sled
     → part ≢ Head → p ≤ q → HasPatchedHead program threads script p k
     → code_at program threads script q (word_of k part) ≡ patched program.trampolines sled part
 part_patched program threads script p q k sled part at other le head =
@@ -286,7 +286,7 @@ part_patched program threads script p q k sled part at other le head =
     (All-take (λ step. IfSome (stored_in word step) (λ v. v ≡ goal)) q steps each)) at_p in
     code_at_held program threads script q word ∙ held_later word steps p q (first word) le ∙ stays
 
-pub parts_patched : (program : Program) (threads : ℕ) (script : List Command) (p q k : ℕ) (sled : Sled) → slice_get program.sleds k ≡ Some sled
+pub parts_patched : (program : Program) (threads : ℕ) (script : List PatchCommand) (p q k : ℕ) (sled : Sled) → slice_get program.sleds k ≡ Some sled
     → p ≤ q → HasPatchedHead program threads script p k → HasPatchedParts program threads script q k sled
 parts_patched program threads script p q k sled at le head = record {
   id = part_patched program threads script p q k sled Id at id_after le head;
@@ -316,7 +316,7 @@ file_value trampolines sled Opcode = inl refl
 file_value trampolines sled Offset = inl refl
 
 -- a fact of a word that holds at first, and that each step keeps, holds at each place
-at_each_place : (program : Program) (threads : ℕ) (script : List Command) (place word : ℕ) (P : ℕ → Type 0)
+at_each_place : (program : Program) (threads : ℕ) (script : List PatchCommand) (place word : ℕ) (P : ℕ → Type 0)
     → ((step : Micro) → IsStep program step → IfSome (stored_in word step) P) → P (initial_value program word)
     → P (code_at program threads script place word)
 at_each_place program threads script place word P keeps first =
@@ -326,7 +326,7 @@ at_each_place program threads script place word P keeps first =
     subst P (sym (code_at_held program threads script place word))
     (held_has P word (take place steps) (initial_value program word) (All-take Q place steps each) first)
 
-part_has_value : (program : Program) (threads : ℕ) (script : List Command) (place k : ℕ) (sled : Sled) (part : Part) → slice_get program.sleds k ≡ Some sled
+part_has_value : (program : Program) (threads : ℕ) (script : List PatchCommand) (place k : ℕ) (sled : Sled) (part : Part) → slice_get program.sleds k ≡ Some sled
     → IsPartValue program.trampolines sled part (code_at program threads script place (word_of k part))
 part_has_value program threads script place k sled part at =
     let P : ℕ → Type 0 = IsPartValue program.trampolines sled part in
@@ -355,7 +355,7 @@ stored_after_sleds program word P past handler arg_handler state release _ (patc
     by_word P (word_of j part) word (patched program.trampolines s part) (λ same. absurd (apart program j s part word at past (sym same)))
 
 -- such a word is at most this much, if no step stores more in it
-at_most : (program : Program) (threads : ℕ) (script : List Command) (place word limit : ℕ) → handler_word program ≤ word
+at_most : (program : Program) (threads : ℕ) (script : List PatchCommand) (place word limit : ℕ) → handler_word program ≤ word
     → ((value : ℕ) → value ≤ 1 → handler_word program ≡ word → value ≤ limit)
     → ((threads value : ℕ) → value ≤ 1 → arg_handler_word program threads ≡ word → value ≤ limit)
     → ((value : ℕ) → value ≤ 4 → state_word program ≡ word → value ≤ limit)
@@ -366,7 +366,7 @@ at_most program threads script place word limit past handler arg_handler state r
     at_each_place program threads script place word (λ v. v ≤ limit)
     (stored_after_sleds program word (λ v. v ≤ limit) past handler arg_handler state release) (omega arith)
 
-pub code_values : (program : Program) (threads : ℕ) (script : List Command) (place word : ℕ) → IsCodeValue program threads word (code_at program threads script place word)
+pub code_values : (program : Program) (threads : ℕ) (script : List PatchCommand) (place word : ℕ) → IsCodeValue program threads word (code_at program threads script place word)
 code_values program threads script place word = record {
   part = λ k sled part at same.
       subst (λ (w : ℕ). IsPartValue program.trampolines sled part (code_at program threads script place w)) (sym same)

@@ -9,8 +9,8 @@ use Rattle.std.proofs.lemmas.List.FromFn.{length-enumerate_from}
 use Rattle.std.proofs.lemmas.Option.{slice_get-map, slice_get-get_or, slice_get_within, slice_get_past}
 use Rattle.xray_image.specs.declared.sled.Sled.{Sled}
 use Rattle.xray_image.specs.Program.{Program}
-use Rattle.patch_script.specs.declared.command.Command.{Command}
-use Rattle.patch_script.specs.declared.command.Command.TheVariants as commands
+use Rattle.patch_script.specs.declared.command.PatchCommand.{PatchCommand}
+use Rattle.patch_script.specs.declared.command.PatchCommand.TheVariants as commands
 use Rattle.patch_script.specs.declared.micro.Micro.{Micro}
 use Rattle.patch_script.specs.declared.micro.Micro.TheVariants.{End}
 use Rattle.patch_script.specs.declared.placed.Placed.{Placed}
@@ -57,8 +57,8 @@ all_range program count is = sym (take_all (count - 0) (all_sleds program) (omeg
 module _ (placed : PlacedCommands) (are : ArePlaced placed) where
   pub command_at : (i : ℕ) (one : Placed) → slice_get placed.commands.items i ≡ Some one → slice_get (commands_of (lines_in placed)) i ≡ Some one.command
   command_at i one at =
-      slice_get-map (λ (line : ℕ × Command). line.1) (lines_in placed) i
-      ∙ ap (option_map (λ (line : ℕ × Command). line.1)) (slice_get-map line_in placed.commands.items i ∙ ap (option_map line_in) at)
+      slice_get-map (λ (line : ℕ × PatchCommand). line.1) (lines_in placed) i
+      ∙ ap (option_map (λ (line : ℕ × PatchCommand). line.1)) (slice_get-map line_in placed.commands.items i ∙ ap (option_map line_in) at)
 
   pub as_many : length (commands_of (lines_in placed)) ≡ length placed.commands.items
   as_many = length-map (lines_in placed) (λ line. line.1) ∙ length-map placed.commands.items line_in
@@ -93,7 +93,7 @@ module _ (placed : PlacedCommands) (are : ArePlaced placed) where
       | inr none ↦ absurd (first none placed.commands.items refl)
     ]
       where
-        nothing : (script : List Command) → length script ≡ 0 → total_of placed.image.value placed.threads script ≡ 0
+        nothing : (script : List PatchCommand) → length script ≡ 0 → total_of placed.image.value placed.threads script ≡ 0
         nothing [] e = refl
         nothing (x ∷ xs) e = absurd (omega arith)
 
@@ -169,25 +169,25 @@ module _ (placed : PlacedCommands) (are : ArePlaced placed) where
 -- ---- commands on sleds
 
 -- a command that patches sleds, and one that unpatches them
-abbrev pub IsPatching : Command → Type 0
+abbrev pub IsPatching : PatchCommand → Type 0
 IsPatching command = (command ≡ commands.Patch) ⊎ ((id : ℕ) × (command ≡ commands.PatchFunction id))
 
-abbrev pub IsUnpatching : Command → Type 0
+abbrev pub IsUnpatching : PatchCommand → Type 0
 IsUnpatching command = (command ≡ commands.Unpatch) ⊎ ((id : ℕ) × (command ≡ commands.UnpatchFunction id))
 
-patching_count : (command : Command) (n : ℕ) → IsPatching command → step_count command n ≡ 4 * n
+patching_count : (command : PatchCommand) (n : ℕ) → IsPatching command → step_count command n ≡ 4 * n
 patching_count command n (inl is) = ap (λ c. step_count c n) is
 patching_count command n (inr is) = ap (λ c. step_count c n) is.1
 
-unpatching_count : (command : Command) (n : ℕ) → IsUnpatching command → step_count command n ≡ n
+unpatching_count : (command : PatchCommand) (n : ℕ) → IsUnpatching command → step_count command n ≡ n
 unpatching_count command n (inl is) = ap (λ c. step_count c n) is
 unpatching_count command n (inr is) = ap (λ c. step_count c n) is.1
 
-patching_steps : (program : Program) (threads : ℕ) (earlier : List ℕ) (command : Command) → IsPatching command → steps_of program threads earlier command ≡ flat_map (patch_sled program) (sleds_named program command)
+patching_steps : (program : Program) (threads : ℕ) (earlier : List ℕ) (command : PatchCommand) → IsPatching command → steps_of program threads earlier command ≡ flat_map (patch_sled program) (sleds_named program command)
 patching_steps program threads earlier command (inl is) = ap (steps_of program threads earlier) is ∙ sym (ap (λ c. flat_map (patch_sled program) (sleds_named program c)) is)
 patching_steps program threads earlier command (inr is) = ap (steps_of program threads earlier) is.1 ∙ sym (ap (λ c. flat_map (patch_sled program) (sleds_named program c)) is.1)
 
-unpatching_steps : (program : Program) (threads : ℕ) (earlier : List ℕ) (command : Command) → IsUnpatching command → steps_of program threads earlier command ≡ map (unpatch_sled earlier) (sleds_named program command)
+unpatching_steps : (program : Program) (threads : ℕ) (earlier : List ℕ) (command : PatchCommand) → IsUnpatching command → steps_of program threads earlier command ≡ map (unpatch_sled earlier) (sleds_named program command)
 unpatching_steps program threads earlier command (inl is) = ap (steps_of program threads earlier) is ∙ sym (ap (λ c. map (unpatch_sled earlier) (sleds_named program c)) is)
 unpatching_steps program threads earlier command (inr is) = ap (steps_of program threads earlier) is.1 ∙ sym (ap (λ c. map (unpatch_sled earlier) (sleds_named program c)) is.1)
 
@@ -197,7 +197,7 @@ item_at [] k lt = absurd (omega arith)
 item_at (x ∷ xs) zero lt = (x, refl)
 item_at (x ∷ xs) (suc k) lt = item_at xs k (omega arith)
 
-module _ (program : Program) (command : Command) (range : SledRange) (has : HasSleds program command range) (step : ℕ) (within : step < step_count command (range.end - range.start)) where
+module _ (program : Program) (command : PatchCommand) (range : SledRange) (has : HasSleds program command range) (step : ℕ) (within : step < step_count command (range.end - range.start)) where
   pub patched_within : IsPatching command → range.start + step / 4 < length program.sleds
   patched_within is = omega (arith, patching_count command (range.end - range.start) is, has.ordered, has.within, within)
 
@@ -224,7 +224,7 @@ module _ (program : Program) (command : Command) (range : SledRange) (has : HasS
 
 -- ---- the sleds of a command
 
-pub all_named : (program : Program) (command : Command) (count : ℕ) → (command ≡ commands.Patch) ⊎ (command ≡ commands.Unpatch) → count ≡ length program.sleds
+pub all_named : (program : Program) (command : PatchCommand) (count : ℕ) → (command ≡ commands.Patch) ⊎ (command ≡ commands.Unpatch) → count ≡ length program.sleds
     → HasSleds program command (record { start = 0; end = count })
 all_named program command count is sleds = record {
   ordered = omega arith;
@@ -236,7 +236,7 @@ all_named program command count is sleds = record {
     named (inl is) = ap (sleds_named program) is
     named (inr is) = ap (sleds_named program) is
 
-pub function_named : (program : Program) (command : Command) (id : ℕ) (values : List SledValues) (range : SledRange)
+pub function_named : (program : Program) (command : PatchCommand) (id : ℕ) (values : List SledValues) (range : SledRange)
     → (command ≡ commands.PatchFunction id) ⊎ (command ≡ commands.UnpatchFunction id)
     → values ≡ map (values_of program.trampolines) program.sleds → HasId values id range → HasSleds program command range
 function_named program command id values range is are has = record {

@@ -5,8 +5,8 @@ use Rattle.xray_image.specs.declared.sled.Sled.{Sled}
 use Rattle.xray_image.specs.declared.sled.SledKind.{SledKind}
 use Rattle.xray_image.specs.declared.sled.SledKind.TheVariants.{Entry, Exit, Args}
 use Rattle.xray_image.specs.Program.{Program}
-use Rattle.patch_script.specs.declared.command.Command.{Command}
-use Rattle.patch_script.specs.declared.command.Command.TheVariants as commands
+use Rattle.patch_script.specs.declared.command.PatchCommand.{PatchCommand}
+use Rattle.patch_script.specs.declared.command.PatchCommand.TheVariants as commands
 use Rattle.patch_script.specs.declared.fault.ScriptFault.{ScriptFault}
 use Rattle.patch_script.specs.declared.fault.ScriptFault.TheVariants as faults
 use Rattle.patch_script.specs.declared.micro.Micro.TheVariants.{Store, Await, End}
@@ -99,7 +99,7 @@ with_comments = refl
 
 -- ---- micro steps
 
-abbrev traced : List Command
+abbrev traced : List PatchCommand
 traced = commands.Patch ∷ commands.SetHandler ∷ commands.Init ∷ commands.Go ∷ []
 
 traced_steps : micros one_function 1 traced

@@ -10,7 +10,7 @@ use Rattle.xray_io.specs.Rows.{◌>>=◌}
 use Rattle.text_lines.specs.Lines.{numbered_lines}
 use Rattle.text_lines.specs.Words.{words_of}
 use Rattle.xray_image.specs.Program.{Program}
-use Rattle.patch_script.specs.declared.command.Command.{Command}
+use Rattle.patch_script.specs.declared.command.PatchCommand.{PatchCommand}
 use Rattle.patch_script.specs.declared.fault.ScriptFault.{ScriptFault}
 use Rattle.patch_script.specs.declared.fault.ScriptFault.TheVariants as faults
 use Rattle.patch_script.specs.Plans.{Plan, plan_of, IsOrderly}
@@ -40,12 +40,12 @@ six false false false false false false p q r s t u y x is = (refl, refl, refl, 
 
 module _ (program : Program) (threads : ℕ) where
   -- a line adds nothing, or a command that no row refuses
-  record Adds (before : Lines) (number : ℕ) (x : Lines) (command : Command) : Type 0 where
+  record Adds (before : Lines) (number : ℕ) (x : Lines) (command : PatchCommand) : Type 0 where
     lines : before ++ (number, command) ∷ [] ≡ x
     admitted : IsAdmitted program threads (commands_of before) command
     room : length before < 1024
 
-  judged_ok : (before : Lines) (number : ℕ) (command : Command) (x : Lines) → length before < 1024 → judged program threads before number command ≡ Ok x → Adds before number x command
+  judged_ok : (before : Lines) (number : ℕ) (command : PatchCommand) (x : Lines) → length before < 1024 → judged program threads before number command ≡ Ok x → Adds before number x command
   judged_ok before number command x room is =
       let all = six (names_no_function program command) (names_no_thread threads command) (is_misplaced (commands_of before) command)
       (breaks_hold (commands_of before) command) (breaks_log (commands_of before) command) (waits_for_itself (commands_of before) command)
@@ -57,9 +57,9 @@ module _ (program : Program) (threads : ℕ) where
         room = room;
       }
 
-  chosen : (before : Lines) (number : ℕ) (x : Lines) (blank full : Bool) (said : Option Command) → full ≡ nat_le 1024 (length before)
+  chosen : (before : Lines) (number : ℕ) (x : Lines) (blank full : Bool) (said : Option PatchCommand) → full ≡ nat_le 1024 (length before)
       → cond blank (Ok before) (cond full (Err (faults.Limit number)) (spoken program threads before number said)) ≡ Ok x
-      → (before ≡ x) ⊎ ((command : Command) × Adds before number x command)
+      → (before ≡ x) ⊎ ((command : PatchCommand) × Adds before number x command)
   chosen before number x true full said is e = inl (same_Ok before x e)
   chosen before number x false true said is e = absurd cc
   chosen before number x false false None is e = absurd cc
@@ -67,24 +67,24 @@ module _ (program : Program) (threads : ℕ) where
       inr (command, judged_ok before number command x (let more = leb-false 1024 (length before) (sym is) in omega arith) e)
 
   line_ok : (before : Lines) (line : ℕ × List ℕ) (x : Lines) → with_line program threads before line ≡ Ok x
-      → (before ≡ x) ⊎ ((command : Command) × Adds before line.0 x command)
+      → (before ≡ x) ⊎ ((command : PatchCommand) × Adds before line.0 x command)
   line_ok before (number, bytes) x e = chosen before number x (length (words_of bytes) == 0) (nat_le 1024 (length before)) (command_in bytes) refl e
 
   -- ---- all lines
 
   abbrev AllAdmitted : Lines → Type 0
-  AllAdmitted all = (i : ℕ) (line : ℕ × Command) → slice_get all i ≡ Some line → IsAdmitted program threads (take i (commands_of all)) line.1
+  AllAdmitted all = (i : ℕ) (line : ℕ × PatchCommand) → slice_get all i ≡ Some line → IsAdmitted program threads (take i (commands_of all)) line.1
 
-  admitted_more : (before : Lines) (number : ℕ) (command : Command) → AllAdmitted before → IsAdmitted program threads (commands_of before) command
+  admitted_more : (before : Lines) (number : ℕ) (command : PatchCommand) → AllAdmitted before → IsAdmitted program threads (commands_of before) command
       → AllAdmitted (before ++ (number, command) ∷ [])
   admitted_more before number command all last i line at =
-      let script : commands_of (before ++ (number, command) ∷ []) ≡ commands_of before ++ command ∷ [] = map-append (λ (l : ℕ × Command). l.1) before ((number, command) ∷ []) in
+      let script : commands_of (before ++ (number, command) ∷ []) ≡ commands_of before ++ command ∷ [] = map-append (λ (l : ℕ × PatchCommand). l.1) before ((number, command) ∷ []) in
       let count : length (commands_of before) ≡ length before = length-map before (λ l. l.1) in
       elim (cases_lt i (length before)) [
         | inl lt ↦
             let same : take i (commands_of (before ++ (number, command) ∷ [])) ≡ take i (commands_of before) =
             ap (take i) script ∙ take-append-le i (commands_of before) (command ∷ []) (omega (arith, count)) in
-            subst (λ (front : List Command). IsAdmitted program threads front line.1) (sym same)
+            subst (λ (front : List PatchCommand). IsAdmitted program threads front line.1) (sym same)
             (all i line (sym (slice_get-append_left before ((number, command) ∷ []) i lt) ∙ at))
         | inr le ↦
             let within = slice_get_within (before ++ (number, command) ∷ []) i line at in
@@ -92,8 +92,8 @@ module _ (program : Program) (threads : ℕ) where
             let is : (number, command) ≡ line = same_Some (number, command) line (sym (ap (slice_get (before ++ (number, command) ∷ [])) here ∙ slice_get-append_right before ((number, command) ∷ []) 0) ∙ at) in
             let same : take i (commands_of (before ++ (number, command) ∷ [])) ≡ commands_of before =
             ap (take i) script ∙ take-append-le i (commands_of before) (command ∷ []) (omega (arith, count, here)) ∙ take_all i (commands_of before) (omega (arith, count)) in
-            subst (λ (front : List Command). IsAdmitted program threads front line.1) (sym same)
-            (subst (λ (l : ℕ × Command). IsAdmitted program threads (commands_of before) l.1) is last)
+            subst (λ (front : List PatchCommand). IsAdmitted program threads front line.1) (sym same)
+            (subst (λ (l : ℕ × PatchCommand). IsAdmitted program threads (commands_of before) l.1) is last)
       ]
 
   read_admitted : (before : Lines) (following : List (ℕ × List ℕ)) (all : Lines) → AllAdmitted before → length before ≤ 1024

@@ -16,8 +16,8 @@ use Rattle.sled_words.specs.declared.part.Part.TheVariants.{Head, Id, Opcode, Of
 use Rattle.sled_words.specs.ChangingCode.{LetsEnd}
 use Rattle.sled_words.specs.Parts.{patched}
 use Rattle.sled_words.specs.Words.{handler_word, release_word, state_word, arg_handler_word}
-use Rattle.patch_script.specs.declared.command.Command.{Command}
-use Rattle.patch_script.specs.declared.command.Command.TheVariants as commands
+use Rattle.patch_script.specs.declared.command.PatchCommand.{PatchCommand}
+use Rattle.patch_script.specs.declared.command.PatchCommand.TheVariants as commands
 use Rattle.patch_script.specs.declared.micro.Micro.{Micro}
 use Rattle.patch_script.specs.declared.micro.Micro.TheVariants.{Store, Await, End}
 use Rattle.patch_script.specs.Bounds.{awaits_passing, bound_of}
@@ -53,44 +53,44 @@ or_first a b h = (or_parts a b h).0
 -- ---- the commands before a command
 
 -- a command and its line
-lined : (lines : Lines) (i : ℕ) (command : Command) → slice_get (commands_of lines) i ≡ Some command
-    → (line : ℕ × Command) × (slice_get lines i ≡ Some line) × (line.1 ≡ command)
+lined : (lines : Lines) (i : ℕ) (command : PatchCommand) → slice_get (commands_of lines) i ≡ Some command
+    → (line : ℕ × PatchCommand) × (slice_get lines i ≡ Some line) × (line.1 ≡ command)
 lined [] i command at = absurd cc
 lined (line ∷ lines) zero command at = (line, refl, let same : line.1 ≡ command = cc in same)
 lined (line ∷ lines) (suc i) command at = lined lines i command at
 
-hold_of-append : (thread : ℕ) (xs ys : List Command) → hold_of thread (xs ++ ys) ≡ option_or (hold_of thread xs) (hold_of thread ys)
+hold_of-append : (thread : ℕ) (xs ys : List PatchCommand) → hold_of thread (xs ++ ys) ≡ option_or (hold_of thread xs) (hold_of thread ys)
 hold_of-append thread [] ys = refl
 hold_of-append thread (x ∷ xs) ys =
     ap (option_or (hold_by thread x)) (hold_of-append thread xs ys) ∙ option_or_assoc (hold_by thread x) (hold_of thread xs) (hold_of thread ys)
 
 -- the command awaits the passing of a thread
-abbrev awaits_too : ℕ → ℕ → Command → Bool
+abbrev awaits_too : ℕ → ℕ → PatchCommand → Bool
 awaits_too thread passing (commands.Await awaited count) = (awaited == thread) && nat_lt passing count
 awaits_too thread passing _ = false
 
-module _ (program : Program) (threads : ℕ) (script : List Command) where
+module _ (program : Program) (threads : ℕ) (script : List PatchCommand) where
   -- each command may follow those before it
   abbrev pub AllFollow : Type 0
-  AllFollow = (before : List Command) (command : Command) (rest : List Command) → script ≡ before ++ command ∷ rest
+  AllFollow = (before : List PatchCommand) (command : PatchCommand) (rest : List PatchCommand) → script ≡ before ++ command ∷ rest
       → IsAdmitted program threads before command
 
-  one_further : (before : List Command) (command : Command) (rest : List Command) → script ≡ before ++ command ∷ rest
+  one_further : (before : List PatchCommand) (command : PatchCommand) (rest : List PatchCommand) → script ≡ before ++ command ∷ rest
       → script ≡ (before ++ command ∷ []) ++ rest
   one_further before command rest is = is ∙ sym (append_assoc before (command ∷ []) rest)
 
-  gone_on : (before : List Command) (command : Command) → has_go before ≡ true → has_go (before ++ command ∷ []) ≡ true
+  gone_on : (before : List PatchCommand) (command : PatchCommand) → has_go before ≡ true → has_go (before ++ command ∷ []) ≡ true
   gone_on before command go = list_any-last is_go before command ∙ ap (λ b. b || is_go command) go
 
   -- no thread is held after `go`
-  no_hold : AllFollow → (thread : ℕ) (before rest : List Command) → script ≡ before ++ rest → has_go before ≡ true → hold_of thread rest ≡ None
+  no_hold : AllFollow → (thread : ℕ) (before rest : List PatchCommand) → script ≡ before ++ rest → has_go before ≡ true → hold_of thread rest ≡ None
   no_hold follow thread before [] is go = refl
   no_hold follow thread before (commands.Hold held passing ∷ rest) is go =
       let misplaced = (follow before (commands.Hold held passing) rest is).place in absurd cc
   no_hold follow thread before (command ∷ rest) is go =
       no_hold follow thread (before ++ command ∷ []) rest (one_further before command rest is) (gone_on before command go)
 
-  hold_before : AllFollow → (thread passing : ℕ) (before rest : List Command) → script ≡ before ++ rest → has_go before ≡ true
+  hold_before : AllFollow → (thread passing : ℕ) (before rest : List PatchCommand) → script ≡ before ++ rest → has_go before ≡ true
       → hold_of thread script ≡ Some passing → hold_of thread before ≡ Some passing
   hold_before follow thread passing before rest is go held =
       sym (option_or-none (hold_of thread before))
@@ -98,7 +98,7 @@ module _ (program : Program) (threads : ℕ) (script : List Command) where
       ∙ (sym (hold_of-append thread before rest) ∙ (ap (hold_of thread) (sym is) ∙ held)))
 
   -- a held thread that isn't released yet is awaited for no passing from its hold on
-  awaited_early : AllFollow → (thread passing count : ℕ) (before rest : List Command) → script ≡ before ++ commands.Await thread count ∷ rest
+  awaited_early : AllFollow → (thread passing count : ℕ) (before rest : List PatchCommand) → script ≡ before ++ commands.Await thread count ∷ rest
       → hold_of thread script ≡ Some passing → is_released thread before ≡ false → nat_lt passing count ≡ false
   awaited_early follow thread passing count before rest is held free =
       let fits = follow before (commands.Await thread count) rest is in
@@ -111,7 +111,7 @@ module _ (program : Program) (threads : ℕ) (script : List Command) where
       not_false true h = refl
       not_false false h = absurd cc
 
-  early : AllFollow → (thread passing : ℕ) → hold_of thread script ≡ Some passing → (before rest following : List Command)
+  early : AllFollow → (thread passing : ℕ) → hold_of thread script ≡ Some passing → (before rest following : List PatchCommand)
       → script ≡ before ++ (rest ++ following) → is_released thread (before ++ rest) ≡ false → list_any (awaits_too thread passing) rest ≡ false
   early follow thread passing held before [] following is free = refl
   early follow thread passing held before (command ∷ rest) following is free =
@@ -121,7 +121,7 @@ module _ (program : Program) (threads : ℕ) (script : List Command) where
       (early follow thread passing held (before ++ command ∷ []) rest following (one_further before command (rest ++ following) is)
       (ap (is_released thread) (append_assoc before (command ∷ []) rest) ∙ free))
     where
-      here : (command : Command) → script ≡ before ++ command ∷ (rest ++ following) → is_released thread before ≡ false
+      here : (command : PatchCommand) → script ≡ before ++ command ∷ (rest ++ following) → is_released thread before ≡ false
           → awaits_too thread passing command ≡ false
       here (commands.Await awaited count) is free = elim (cases_Bool (awaited == thread)) [
         | inl so ↦
@@ -134,13 +134,13 @@ module _ (program : Program) (threads : ℕ) (script : List Command) where
 
 -- ---- the first release of a thread
 
-record Releases (thread : ℕ) (script : List Command) : Type 0 where
-  before : List Command
-  following : List Command
+record Releases (thread : ℕ) (script : List PatchCommand) : Type 0 where
+  before : List PatchCommand
+  following : List PatchCommand
   is : script ≡ before ++ commands.Release thread ∷ following
   first : is_released thread before ≡ false
 
-later_release : (thread : ℕ) (command : Command) (rest : List Command) → releases thread command ≡ false → Releases thread rest
+later_release : (thread : ℕ) (command : PatchCommand) (rest : List PatchCommand) → releases thread command ≡ false → Releases thread rest
     → Releases thread (command ∷ rest)
 later_release thread command rest isnt later = record {
   before = command ∷ later.before;
@@ -149,11 +149,11 @@ later_release thread command rest isnt later = record {
   first = neither (releases thread command) (is_released thread later.before) isnt later.first;
 }
 
-first_release : (thread : ℕ) (script : List Command) → is_released thread script ≡ true → Releases thread script
+first_release : (thread : ℕ) (script : List PatchCommand) → is_released thread script ≡ true → Releases thread script
 first_release thread [] so = absurd cc
 first_release thread (command ∷ rest) so = by_command command (first_release thread rest) so
   where
-    by_command : (command : Command) → (is_released thread rest ≡ true → Releases thread rest)
+    by_command : (command : PatchCommand) → (is_released thread rest ≡ true → Releases thread rest)
         → (releases thread command || is_released thread rest) ≡ true → Releases thread (command ∷ rest)
     by_command (commands.Release released) later so = elim (cases_Bool (released == thread)) [
       | inl same ↦ record {
@@ -177,7 +177,7 @@ calm_heads : (thread passing : ℕ) (earlier : List ℕ) (sleds : List Numbered)
 calm_heads thread passing earlier [] = refl
 calm_heads thread passing earlier (s ∷ ss) = calm_heads thread passing earlier ss
 
-calm_steps : (program : Program) (threads thread passing : ℕ) (earlier : List ℕ) (command : Command) → awaits_too thread passing command ≡ false
+calm_steps : (program : Program) (threads thread passing : ℕ) (earlier : List ℕ) (command : PatchCommand) → awaits_too thread passing command ≡ false
     → list_any (awaits_passing thread passing) (steps_of program threads earlier command) ≡ false
 calm_steps program threads thread passing earlier commands.Patch fits =
     patched_none (awaits_passing thread passing) program (all_sleds program) (calm_sleds thread passing program (all_sleds program))
@@ -191,7 +191,7 @@ calm_steps program threads thread passing earlier (commands.Await awaited count)
     neither ((awaited == thread) && nat_lt passing count) false fits refl
 calm_steps program threads thread passing earlier command fits = refl
 
-calm_micros : (program : Program) (threads thread passing : ℕ) (script : List Command) → list_any (awaits_too thread passing) script ≡ false
+calm_micros : (program : Program) (threads thread passing : ℕ) (script : List PatchCommand) → list_any (awaits_too thread passing) script ≡ false
     → list_any (awaits_passing thread passing) (micros program threads script) ≡ false
 calm_micros program threads thread passing script none =
     script_none (awaits_passing thread passing) program threads (awaits_too thread passing) (calm_steps program threads thread passing) [] script none
@@ -206,18 +206,18 @@ first_after p (x ∷ xs) ys none =
 
 -- ---- the bounds
 
-unawaited : (commands : List Command) (thread passing : ℕ) → list_any awaits commands ≡ false → list_any (awaits_too thread passing) commands ≡ false
+unawaited : (commands : List PatchCommand) (thread passing : ℕ) → list_any awaits commands ≡ false → list_any (awaits_too thread passing) commands ≡ false
 unawaited [] thread passing none = refl
 unawaited (c ∷ cs) thread passing none =
     let parts = or_parts (awaits c) (list_any awaits cs) none in
     neither (awaits_too thread passing c) (list_any (awaits_too thread passing) cs) (one c parts.0) (unawaited cs thread passing parts.1)
   where
-    one : (c : Command) → awaits c ≡ false → awaits_too thread passing c ≡ false
+    one : (c : PatchCommand) → awaits c ≡ false → awaits_too thread passing c ≡ false
     one (commands.Await awaited count) h = absurd cc
     one c h = refl
 
 -- none is before `go`
-bound_begins : (program : Program) (threads : ℕ) (script : List Command) → AllFollow program threads script → (thread passing : ℕ)
+bound_begins : (program : Program) (threads : ℕ) (script : List PatchCommand) → AllFollow program threads script → (thread passing : ℕ)
     → start_of program threads script ≤ bound_of program threads script thread passing
 bound_begins program threads script follow thread passing =
     let front = take_while stays script in
@@ -231,7 +231,7 @@ bound_begins program threads script follow thread passing =
     (calm_micros program threads thread passing front (unawaited front thread passing none)))
 
 -- they never fall
-bound_rises : (program : Program) (threads : ℕ) (script : List Command) (thread passing : ℕ)
+bound_rises : (program : Program) (threads : ℕ) (script : List PatchCommand) (thread passing : ℕ)
     → bound_of program threads script thread passing ≤ bound_of program threads script thread (passing + 1)
 bound_rises program threads script thread passing =
     bound_reached program threads script thread (passing + 1) (bound_of program threads script thread passing) (bound_within program threads script thread passing)
@@ -290,7 +290,7 @@ module _ (program : Program) (threads thread : ℕ) (some : 0 < thread) (few : t
   later_sets word value above =
       false_and (word == own_word) (not (value == 1)) (ne_eqb word own_word (λ same. omega (arith, same, above)))
 
-  steps_set : (earlier : List ℕ) (command : Command) → list_any (unsets own_word) (steps_of program threads earlier command) ≡ false
+  steps_set : (earlier : List ℕ) (command : PatchCommand) → list_any (unsets own_word) (steps_of program threads earlier command) ≡ false
   steps_set earlier commands.Patch =
       patched_none (unsets own_word) program (all_sleds program) (sleds_set (all_sleds program) (all_near program 0))
   steps_set earlier commands.Unpatch =
@@ -312,10 +312,10 @@ module _ (program : Program) (threads thread : ℕ) (some : 0 < thread) (few : t
   steps_set earlier (commands.Release released) = neither _ _ (and_false (release_word program released == own_word) false refl) refl
   steps_set earlier (commands.Await awaited count) = refl
 
-  all_set : (script : List Command) → list_any (unsets own_word) (micros program threads script) ≡ false
+  all_set : (script : List PatchCommand) → list_any (unsets own_word) (micros program threads script) ≡ false
   all_set script = script_none (unsets own_word) program threads (λ _. false) (λ earlier command _. steps_set earlier command) [] script (none_false script)
     where
-      none_false : (cs : List Command) → list_any (λ _. false) cs ≡ false
+      none_false : (cs : List PatchCommand) → list_any (λ _. false) cs ≡ false
       none_false [] = refl
       none_false (c ∷ cs) = none_false cs
 
@@ -334,7 +334,7 @@ module _ (program : Program) (threads thread : ℕ) (some : 0 < thread) (few : t
   stays_one (Await awaited count) value set one = one
   stays_one End value set one = one
 
-  step_sets : (script : List Command) (place : ℕ) → unsets own_word (micro_at program threads script place) ≡ false
+  step_sets : (script : List PatchCommand) (place : ℕ) → unsets own_word (micro_at program threads script place) ≡ false
   step_sets script place = elim (cases_lt place (total_of program threads script)) [
     | inl lt ↦
         ap (λ o. unsets own_word (unwrap_or o End)) (slice_get-get_or (micros program threads script) place End lt)
@@ -342,7 +342,7 @@ module _ (program : Program) (threads thread : ℕ) (some : 0 < thread) (few : t
     | inr past ↦ ap (λ o. unsets own_word (unwrap_or o End)) (slice_get_past (micros program threads script) place past)
   ]
 
-  one_from : (script : List Command) (place more : ℕ) → code_at program threads script place own_word ≡ 1 → code_at program threads script (place + more) own_word ≡ 1
+  one_from : (script : List PatchCommand) (place more : ℕ) → code_at program threads script place own_word ≡ 1 → code_at program threads script (place + more) own_word ≡ 1
   one_from script place zero one = ap (λ p. code_at program threads script p own_word) (let here : place + 0 ≡ place = omega arith in here) ∙ one
   one_from script place (suc more) one =
       ap (λ p. code_at program threads script p own_word) (let next : place + suc more ≡ place + more + 1 = omega arith in next)
@@ -351,7 +351,7 @@ module _ (program : Program) (threads thread : ℕ) (some : 0 < thread) (few : t
       (step_sets script (place + more)) (one_from script place more one))
 
   -- it is 1 at all places after its release
-  one_after : (script before rest : List Command) → script ≡ before ++ commands.Release thread ∷ rest → (place : ℕ)
+  one_after : (script before rest : List PatchCommand) → script ≡ before ++ commands.Release thread ∷ rest → (place : ℕ)
       → total_of program threads before < place → code_at program threads script place own_word ≡ 1
   one_after script before rest is place past =
       let first = total_of program threads before in
@@ -373,7 +373,7 @@ module _ (program : Program) (threads thread : ℕ) (some : 0 < thread) (few : t
 -- ---- a held thread
 
 -- it is released before it is awaited for the passing before which it is held
-released_first : (program : Program) (threads : ℕ) (script : List Command) → AllFollow program threads script → (thread passing : ℕ)
+released_first : (program : Program) (threads : ℕ) (script : List PatchCommand) → AllFollow program threads script → (thread passing : ℕ)
     → hold_of thread script ≡ Some passing → (free : Releases thread script)
     → total_of program threads free.before < bound_of program threads script thread passing
 released_first program threads script follow thread passing held free =
@@ -393,7 +393,7 @@ released_first program threads script follow thread passing held free =
     omega (arith, first, bound, length-append before (release ∷ []))
 
 -- each held thread is released
-is_let_go : (script : List Command) (thread passing : ℕ) → list_any (holds_for_good script) script ≡ false
+is_let_go : (script : List PatchCommand) (thread passing : ℕ) → list_any (holds_for_good script) script ≡ false
     → hold_of thread script ≡ Some passing → is_released thread script ≡ true
 is_let_go script thread passing none held = elim (cases_Bool (is_released thread script)) [
   | inl so ↦ so

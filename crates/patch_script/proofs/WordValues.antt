@@ -7,7 +7,7 @@ use Rattle.std.proofs.lemmas.List.{take-append-drop, take-take, length-set, get_
 use Rattle.std.proofs.lemmas.List.Elements.{All-head, All-tail}
 use Rattle.xray_image.specs.Program.{Program}
 use Rattle.sled_words.specs.Parts.{all_sled_words, initial_words}
-use Rattle.patch_script.specs.declared.command.Command.{Command}
+use Rattle.patch_script.specs.declared.command.PatchCommand.{PatchCommand}
 use Rattle.patch_script.specs.declared.micro.Micro.{Micro}
 use Rattle.patch_script.specs.declared.micro.Micro.TheVariants.{Store, Await, End}
 use Rattle.patch_script.specs.Micros.{micros, micro_at}
@@ -42,7 +42,7 @@ held_last word [] value = refl
 held_last word (step ∷ steps) value =
     last_cons (stored_in word step) (filter_map (stored_in word) steps) value ∙ held_last word steps (following word step value)
 
-pub code_at_held : (program : Program) (threads : ℕ) (script : List Command) (place word : ℕ)
+pub code_at_held : (program : Program) (threads : ℕ) (script : List PatchCommand) (place word : ℕ)
     → code_at program threads script place word ≡ held word (take place (micros program threads script)) (initial_value program word)
 code_at_held program threads script place word = held_last word (take place (micros program threads script)) (initial_value program word)
 
@@ -79,7 +79,7 @@ held_next word [] (suc place) value = refl
 held_next word (step ∷ steps) zero value = refl
 held_next word (step ∷ steps) (suc place) value = held_next word steps place (following word step value)
 
-pub code_at_next : (program : Program) (threads : ℕ) (script : List Command) (place word : ℕ)
+pub code_at_next : (program : Program) (threads : ℕ) (script : List PatchCommand) (place word : ℕ)
     → code_at program threads script (place + 1) word
     ≡ following word (micro_at program threads script place) (code_at program threads script place word)
 code_at_next program threads script place word =
@@ -99,7 +99,7 @@ get_or-zeros [] n i = zeros n i
 get_or-zeros (x ∷ xs) n zero = refl
 get_or-zeros (x ∷ xs) n (suc i) = get_or-zeros xs n i
 
-pub code_at_first : (program : Program) (threads : ℕ) (script : List Command) → AreCodeAt program threads script 0 (initial_words program threads)
+pub code_at_first : (program : Program) (threads : ℕ) (script : List PatchCommand) → AreCodeAt program threads script 0 (initial_words program threads)
 code_at_first program threads script word within = get_or-zeros (all_sled_words program) (3 + 2 * threads) word
 
 -- a step changes each word to its value after the step
@@ -122,7 +122,7 @@ stored_within words (Await thread count) word within = within
 stored_within words End word within = within
 stored_within words (Store w value) word within = subst (λ (n : ℕ). word < n) (length-set words w value) within
 
-pub code_stored : (program : Program) (threads : ℕ) (script : List Command) (place : ℕ) (words : List ℕ) → AreCodeAt program threads script place words
+pub code_stored : (program : Program) (threads : ℕ) (script : List PatchCommand) (place : ℕ) (words : List ℕ) → AreCodeAt program threads script place words
     → AreCodeAt program threads script (place + 1) (stored words (micro_at program threads script place))
 code_stored program threads script place words are word within =
     let step : Micro = micro_at program threads script place in

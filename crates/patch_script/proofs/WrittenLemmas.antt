@@ -11,8 +11,8 @@ use Rattle.xray_io.specs.Rows.{◌>>=◌}
 use Rattle.text_lines.specs.Words.{words_of}
 use Rattle.text_lines.specs.Written.{is_written_word, are_written_words, written_line, WrittenNumbersRead, WrittenTextsRead}
 use Rattle.xray_image.specs.Program.{Program}
-use Rattle.patch_script.specs.declared.command.Command.{Command}
-use Rattle.patch_script.specs.declared.command.Command.TheVariants as commands
+use Rattle.patch_script.specs.declared.command.PatchCommand.{PatchCommand}
+use Rattle.patch_script.specs.declared.command.PatchCommand.TheVariants as commands
 use Rattle.patch_script.specs.declared.fault.ScriptFault.{ScriptFault}
 use Rattle.patch_script.specs.declared.fault.ScriptFault.TheVariants as faults
 use Rattle.patch_script.specs.Language.{command_of, on_two}
@@ -23,18 +23,18 @@ use Rattle.patch_script.proofs.Lists.{slice_get-append_right}
 
 -- ---- numbered commands
 
-numbered_commands : (n : ℕ) (script : List Command) → commands_of (enumerate_from n script) ≡ script
+numbered_commands : (n : ℕ) (script : List PatchCommand) → commands_of (enumerate_from n script) ≡ script
 numbered_commands n [] = refl
-numbered_commands n (command ∷ script) = ap (λ (cs : List Command). command ∷ cs) (numbered_commands (n + 1) script)
+numbered_commands n (command ∷ script) = ap (λ (cs : List PatchCommand). command ∷ cs) (numbered_commands (n + 1) script)
 
-numbered_more : (n : ℕ) (front : List Command) (command : Command)
+numbered_more : (n : ℕ) (front : List PatchCommand) (command : PatchCommand)
     → enumerate_from n front ++ (n + length front, command) ∷ [] ≡ enumerate_from n (front ++ command ∷ [])
 numbered_more n [] command = ap (λ m. (m, command) ∷ []) (let e : n + 0 ≡ n = omega arith in e)
 numbered_more n (first ∷ front) command =
     ap (λ (ls : Lines). (n, first) ∷ ls)
     (ap (λ m. enumerate_from (n + 1) front ++ (m, command) ∷ []) (let e : n + length (first ∷ front) ≡ n + 1 + length front = omega arith in e) ∙ numbered_more (n + 1) front command)
 
-slice_get-numbered : (n i : ℕ) (script : List Command) (command : Command) → slice_get script i ≡ Some command
+slice_get-numbered : (n i : ℕ) (script : List PatchCommand) (command : PatchCommand) → slice_get script i ≡ Some command
     → slice_get (enumerate_from n script) i ≡ Some (n + i, command)
 slice_get-numbered n i [] command at = absurd cc
 slice_get-numbered n zero (first ∷ script) command at =
@@ -60,7 +60,7 @@ module _ (numbers : WrittenNumbersRead) where
   two_numbers : (n m : ℕ) → (n ≤ 4294967295) × (m ≤ 4294967295) → are_written_words (decimal n ∷ decimal m ∷ []) ≡ true
   two_numbers n m h = and_from (is_written_word (decimal n)) (are_written_words (decimal m ∷ [])) (number_word n h.0) (one_number m h.1)
 
-  pub command_written : (command : Command) → HasWords command → are_written_words (command_words command) ≡ true
+  pub command_written : (command : PatchCommand) → HasWords command → are_written_words (command_words command) ≡ true
   command_written commands.Patch h = refl
   command_written commands.Unpatch h = refl
   command_written (commands.PatchFunction id) h = one_number id h
@@ -76,14 +76,14 @@ module _ (numbers : WrittenNumbersRead) where
   command_written (commands.Release thread) h = one_number thread h
   command_written (commands.Await thread count) h = two_numbers thread count h
 
-  pub script_written : (script : List Command) → All HasWords script → list_all are_written_words (map command_words script) ≡ true
+  pub script_written : (script : List PatchCommand) → All HasWords script → list_all are_written_words (map command_words script) ≡ true
   script_written [] h = refl
   script_written (command ∷ script) h =
       and_from (are_written_words (command_words command)) (list_all are_written_words (map command_words script))
       (command_written command (h 0 command (omega arith))) (script_written script (λ k d lt. h (suc k) d (omega (arith, lt))))
 
 module _ (program : Program) (threads : ℕ) where
-  judged_admits : (before : Lines) (number : ℕ) (command : Command) → IsAdmitted program threads (commands_of before) command
+  judged_admits : (before : Lines) (number : ℕ) (command : PatchCommand) → IsAdmitted program threads (commands_of before) command
       → judged program threads before number command ≡ Ok (before ++ (number, command) ∷ [])
   judged_admits before number command h =
       six_false (names_no_function program command) (names_no_thread threads command) (is_misplaced (commands_of before) command)
@@ -92,10 +92,10 @@ module _ (program : Program) (threads : ℕ) where
       (before ++ (number, command) ∷ []) h.function h.thread h.place h.hold h.log h.wait
 
   module _ (texts : WrittenTextsRead) (numbers : WrittenNumbersRead) where
-    two_said : (command : ℕ → ℕ → Command) (n m : ℕ) → (n ≤ 4294967295) × (m ≤ 4294967295) → on_two command (decimal n) (decimal m) ≡ Some (command n m)
+    two_said : (command : ℕ → ℕ → PatchCommand) (n m : ℕ) → (n ≤ 4294967295) × (m ≤ 4294967295) → on_two command (decimal n) (decimal m) ≡ Some (command n m)
     two_said command n m h = rw (numbers.short n h.0, numbers.short m h.1) refl
 
-    command_said : (command : Command) → HasWords command → command_of (command_words command) ≡ Some command
+    command_said : (command : PatchCommand) → HasWords command → command_of (command_words command) ≡ Some command
     command_said commands.Patch h = refl
     command_said commands.Unpatch h = refl
     command_said (commands.PatchFunction id) h = ap (option_map commands.PatchFunction) (numbers.short id h)
@@ -111,7 +111,7 @@ module _ (program : Program) (threads : ℕ) where
     command_said (commands.Release thread) h = ap (option_map commands.Release) (numbers.short thread h)
     command_said (commands.Await thread count) h = two_said commands.Await thread count h
 
-    has_words : (command : Command) → (length (command_words command) == 0) ≡ false
+    has_words : (command : PatchCommand) → (length (command_words command) == 0) ≡ false
     has_words commands.Patch = refl
     has_words commands.Unpatch = refl
     has_words (commands.PatchFunction id) = refl
@@ -127,7 +127,7 @@ module _ (program : Program) (threads : ℕ) where
     has_words (commands.Release thread) = refl
     has_words (commands.Await thread count) = refl
 
-    line_read : (before : Lines) (number : ℕ) (command : Command) → HasWords command → length before < 1024
+    line_read : (before : Lines) (number : ℕ) (command : PatchCommand) → HasWords command → length before < 1024
         → IsAdmitted program threads (commands_of before) command
         → with_line program threads before (number, written_line (command_words command)) ≡ Ok (before ++ (number, command) ∷ [])
     line_read before number command h room admitted =
@@ -144,22 +144,22 @@ module _ (program : Program) (threads : ℕ) where
 
     -- ---- all lines
 
-    abbrev written_after : ℕ → List Command → List (ℕ × List ℕ)
+    abbrev written_after : ℕ → List PatchCommand → List (ℕ × List ℕ)
     written_after n script = enumerate_from n (map written_line (map command_words script))
 
     -- each command may follow those before it
-    abbrev EachMayFollow : List Command → Type 0
-    EachMayFollow script = (front : List Command) (command : Command) (following : List Command) → script ≡ front ++ command ∷ following
+    abbrev EachMayFollow : List PatchCommand → Type 0
+    EachMayFollow script = (front : List PatchCommand) (command : PatchCommand) (following : List PatchCommand) → script ≡ front ++ command ∷ following
         → IsAdmitted program threads front command × HasWords command × (length front < 1024)
 
-    lines_read : (script front following : List Command) → EachMayFollow script → script ≡ front ++ following
+    lines_read : (script front following : List PatchCommand) → EachMayFollow script → script ≡ front ++ following
         → read_lines program threads (enumerate_from 1 front) (written_after (1 + length front) following) ≡ Ok (enumerate_from 1 script)
     lines_read script front [] each is = ap (λ cs. Ok (enumerate_from 1 cs)) (sym (is ∙ append-nil front))
     lines_read script front (command ∷ following) each is =
         let here = each front command following is in
         let before = enumerate_from 1 front in
         let admitted : IsAdmitted program threads (commands_of before) command =
-        subst (λ (cs : List Command). IsAdmitted program threads cs command) (sym (numbered_commands 1 front)) here.0 in
+        subst (λ (cs : List PatchCommand). IsAdmitted program threads cs command) (sym (numbered_commands 1 front)) here.0 in
         let one = line_read before (1 + length front) command here.1 (omega (arith, here.2, length-enumerate_from 1 front)) admitted in
         let left = written_after (1 + length front + 1) following in
         ap (λ r. r >>= λ ls. read_lines program threads ls left) one
@@ -168,26 +168,26 @@ module _ (program : Program) (threads : ℕ) where
         (let e : 1 + length front + 1 ≡ 1 + length (front ++ command ∷ []) = omega (arith, length-append front (command ∷ [])) in e)
         ∙ lines_read script (front ++ command ∷ []) following each (is ∙ sym (append_assoc front (command ∷ []) following))
 
-    may_follow : (script : List Command) → All HasWords script → IsOrderly (written_plan program threads script) → EachMayFollow script
+    may_follow : (script : List PatchCommand) → All HasWords script → IsOrderly (written_plan program threads script) → EachMayFollow script
     may_follow script words orderly front command following is =
         let at : slice_get script (length front) ≡ Some command =
-        ap (λ (cs : List Command). slice_get cs (length front)) is
+        ap (λ (cs : List PatchCommand). slice_get cs (length front)) is
         ∙ ap (slice_get (front ++ command ∷ following)) (let e : length front ≡ length front + 0 = omega arith in e)
         ∙ slice_get-append_right front (command ∷ following) 0 in
         let taken : take (length front) (commands_of (enumerate_from 1 script)) ≡ front =
         ap (take (length front)) (numbered_commands 1 script ∙ is) ∙ take-append_seam front (command ∷ following) in
         let count : length script ≡ length front + suc (length following) = ap length is ∙ length-append front (command ∷ following) in
         let fits : HasWords command = at_seam front words is in (
-          subst (λ (cs : List Command). IsAdmitted program threads cs command) taken
+          subst (λ (cs : List PatchCommand). IsAdmitted program threads cs command) taken
               (orderly.admitted (length front) (1 + length front, command) (slice_get-numbered 1 (length front) script command at)),
           fits,
           omega (arith, count, orderly.few, length-enumerate_from 1 script),
         )
       where
-        at_seam : (front : List Command) → All HasWords script → script ≡ front ++ command ∷ following → HasWords command
+        at_seam : (front : List PatchCommand) → All HasWords script → script ≡ front ++ command ∷ following → HasWords command
         at_seam front words is = seam front (subst (All HasWords) is words)
           where
-            seam : (front : List Command) → All HasWords (front ++ command ∷ following) → HasWords command
+            seam : (front : List PatchCommand) → All HasWords (front ++ command ∷ following) → HasWords command
             seam [] h = h 0 command (omega arith)
             seam (first ∷ front) h = seam front (λ k d lt. h (suc k) d (omega (arith, lt)))
 

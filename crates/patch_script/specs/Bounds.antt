@@ -2,7 +2,7 @@
 use Rattle.std.specs.Prelude.{ℕ, List, Bool, false, ◌==◌, ◌&&◌, nat_lt}
 use Rattle.std.specs.List.{position_or_len}
 use Rattle.xray_image.specs.Program.{Program}
-use Rattle.patch_script.specs.declared.command.Command.{Command}
+use Rattle.patch_script.specs.declared.command.PatchCommand.{PatchCommand}
 use Rattle.patch_script.specs.declared.micro.Micro.{Micro}
 use Rattle.patch_script.specs.declared.micro.Micro.TheVariants.{Store, Await, End}
 use Rattle.patch_script.specs.Micros.{micros}
@@ -15,5 +15,5 @@ awaits_passing thread passing End = false
 
 -- the bound of a thread's passing: the number of the first micro step that awaits it, or of all micro steps if none
 -- does
-abbrev pub bound_of : Program → ℕ → List Command → ℕ → ℕ → ℕ
+abbrev pub bound_of : Program → ℕ → List PatchCommand → ℕ → ℕ → ℕ
 bound_of program threads script thread passing = position_or_len (awaits_passing thread passing) (micros program threads script)

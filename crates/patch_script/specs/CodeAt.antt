@@ -3,7 +3,7 @@ use Rattle.std.specs.Prelude.{ℕ, List, Option, Some, None, ◌==◌, if◌then
 use Rattle.std.specs.List.{filter_map, last_or}
 use Rattle.xray_image.specs.Program.{Program}
 use Rattle.sled_words.specs.Parts.{all_sled_words}
-use Rattle.patch_script.specs.declared.command.Command.{Command}
+use Rattle.patch_script.specs.declared.command.PatchCommand.{PatchCommand}
 use Rattle.patch_script.specs.declared.micro.Micro.{Micro}
 use Rattle.patch_script.specs.declared.micro.Micro.TheVariants.{Store, Await, End}
 use Rattle.patch_script.specs.Micros.{micros}
@@ -20,6 +20,6 @@ initial_value program word = slice_index (all_sled_words program) word
 
 -- the value of a word after the first `place` micro steps: that of the last store to it, or its first value if there is
 -- none
-abbrev pub code_at : Program → ℕ → List Command → ℕ → ℕ → ℕ
+abbrev pub code_at : Program → ℕ → List PatchCommand → ℕ → ℕ → ℕ
 code_at program threads script place word =
     unwrap_or (last_or None (filter_map (stored_in word) (take place (micros program threads script)))) (initial_value program word)

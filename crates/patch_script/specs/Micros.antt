@@ -9,8 +9,8 @@ use Rattle.xray_image.specs.Program.{Program}
 use Rattle.sled_words.specs.declared.part.Part.TheVariants.{Head, Id, Opcode, Offset}
 use Rattle.sled_words.specs.Words.{word_of, handler_word, state_word, release_word, arg_handler_word}
 use Rattle.sled_words.specs.Parts.{jump_head, patched, return_head}
-use Rattle.patch_script.specs.declared.command.Command.{Command}
-use Rattle.patch_script.specs.declared.command.Command.TheVariants as commands
+use Rattle.patch_script.specs.declared.command.PatchCommand.{PatchCommand}
+use Rattle.patch_script.specs.declared.command.PatchCommand.TheVariants as commands
 use Rattle.patch_script.specs.declared.micro.Micro.{Micro}
 use Rattle.patch_script.specs.declared.micro.Micro.TheVariants.{Store, Await, End}
 
@@ -27,7 +27,7 @@ abbrev pub sleds_of : Program → ℕ → List Numbered
 sleds_of program id = filter (λ s. s.1.id == id) (all_sleds program)
 
 -- the sleds that a command patches
-abbrev pub patches : Program → Command → List Numbered
+abbrev pub patches : Program → PatchCommand → List Numbered
 patches program commands.Patch = all_sleds program
 patches program (commands.PatchFunction id) = sleds_of program id
 patches program commands.Unpatch = []
@@ -69,7 +69,7 @@ abbrev pub unpatch_sled : List ℕ → Numbered → Micro
 unpatch_sled earlier (k, sled) = Store (word_of k Head) (head_left sled.kind (list_any (λ j. j == k) earlier))
 
 -- the micro steps of a command for this many threads, if earlier commands patched the sleds of these numbers
-abbrev pub steps_of : Program → ℕ → List ℕ → Command → List Micro
+abbrev pub steps_of : Program → ℕ → List ℕ → PatchCommand → List Micro
 steps_of program threads earlier commands.Patch = flat_map (patch_sled program) (all_sleds program)
 steps_of program threads earlier commands.Unpatch = map (unpatch_sled earlier) (all_sleds program)
 steps_of program threads earlier (commands.PatchFunction id) = flat_map (patch_sled program) (sleds_of program id)
@@ -90,35 +90,35 @@ abbrev pub numbers : List Numbered → List ℕ
 numbers sleds = map (λ s. s.0) sleds
 
 -- the micro steps of commands, command after command
-abbrev pub micros_after : Program → ℕ → List ℕ → List Command → List Micro
+abbrev pub micros_after : Program → ℕ → List ℕ → List PatchCommand → List Micro
 micros_after program threads earlier [] = []
 micros_after program threads earlier (command ∷ rest) =
     steps_of program threads earlier command ++ micros_after program threads (earlier ++ numbers (patches program command)) rest
 
 -- the micro steps of a script for this many threads
-abbrev pub micros : Program → ℕ → List Command → List Micro
+abbrev pub micros : Program → ℕ → List PatchCommand → List Micro
 micros program threads script = micros_after program threads [] script
 
-abbrev pub is_go : Command → Bool
+abbrev pub is_go : PatchCommand → Bool
 is_go commands.Go = true
 is_go _ = false
 
 -- how many micro steps come before `go`, and how many there are
-abbrev pub start_of : Program → ℕ → List Command → ℕ
+abbrev pub start_of : Program → ℕ → List PatchCommand → ℕ
 start_of program threads script = length (micros program threads (take_while (λ c. not (is_go c)) script))
 
-abbrev pub total_of : Program → ℕ → List Command → ℕ
+abbrev pub total_of : Program → ℕ → List PatchCommand → ℕ
 total_of program threads script = length (micros program threads script)
 
 -- the micro step at a place, or the end after all of them
-abbrev pub micro_at : Program → ℕ → List Command → ℕ → Micro
+abbrev pub micro_at : Program → ℕ → List PatchCommand → ℕ → Micro
 micro_at program threads script place = unwrap_or (slice_get (micros program threads script) place) End
 
 -- the passing that a script holds a thread before
-abbrev pub hold_by : ℕ → Command → Option ℕ
+abbrev pub hold_by : ℕ → PatchCommand → Option ℕ
 hold_by thread (commands.Hold held passing) = if held == thread then Some passing else None
 hold_by thread _ = None
 
-abbrev pub hold_of : ℕ → List Command → Option ℕ
+abbrev pub hold_of : ℕ → List PatchCommand → Option ℕ
 hold_of thread [] = None
 hold_of thread (command ∷ rest) = option_or (hold_by thread command) (hold_of thread rest)

@@ -6,8 +6,8 @@ use Rattle.xray_io.specs.Rows.{◌>>=◌}
 use Rattle.text_lines.specs.Lines.{numbered_lines}
 use Rattle.xray_image.specs.Program.{Program}
 use Rattle.sled_words.specs.Words.{IsCodeWord}
-use Rattle.patch_script.specs.declared.command.Command.{Command}
-use Rattle.patch_script.specs.declared.command.Command.TheVariants as commands
+use Rattle.patch_script.specs.declared.command.PatchCommand.{PatchCommand}
+use Rattle.patch_script.specs.declared.command.PatchCommand.TheVariants as commands
 use Rattle.patch_script.specs.declared.fault.ScriptFault.{ScriptFault}
 use Rattle.patch_script.specs.declared.micro.Micro.{Micro}
 use Rattle.patch_script.specs.declared.micro.Micro.TheVariants.{Store, Await, End}
@@ -31,7 +31,7 @@ plan_of program threads text =
     >>= λ said. Ok (record { program = program; threads = threads; lines = said })
 
 -- a thread may wait because of the command, or the patcher may wait at it
-abbrev pub is_waiting : Command → Bool
+abbrev pub is_waiting : PatchCommand → Bool
 is_waiting (commands.Hold thread passing) = true
 is_waiting (commands.Release thread) = true
 is_waiting (commands.Await thread count) = true
@@ -57,7 +57,7 @@ IsRead plan = (text : List ℕ) × (plan_of plan.program plan.threads text ≡ O
 
 -- each command of the script may follow those before it, and nothing is missing at the end
 pub record IsOrderly (plan : Plan) : Type 0 where
-  pub admitted : (i : ℕ) (line : ℕ × Command) → slice_get plan.lines i ≡ Some line
+  pub admitted : (i : ℕ) (line : ℕ × PatchCommand) → slice_get plan.lines i ≡ Some line
       → IsAdmitted plan.program plan.threads (take i (commands_of plan.lines)) line.1
   pub goes : has_go (commands_of plan.lines) ≡ true
   pub released : list_any (holds_for_good (commands_of plan.lines)) (commands_of plan.lines) ≡ false

@@ -7,8 +7,8 @@ use Rattle.xray_io.specs.Rows.{First, NeedsPart, InTurn}
 use Rattle.text_lines.specs.Words.{is_clean, words_of}
 use Rattle.xray_image.specs.Program.{Program}
 use Rattle.xray_image.specs.Ids.{id_count}
-use Rattle.patch_script.specs.declared.command.Command.{Command}
-use Rattle.patch_script.specs.declared.command.Command.TheVariants as commands
+use Rattle.patch_script.specs.declared.command.PatchCommand.{PatchCommand}
+use Rattle.patch_script.specs.declared.command.PatchCommand.TheVariants as commands
 use Rattle.patch_script.specs.declared.fault.ScriptFault.{ScriptFault}
 use Rattle.patch_script.specs.declared.fault.ScriptFault.TheVariants.{Limit, Syntax, Function, Thread, Go, Hold, Log, SelfWait}
 use Rattle.patch_script.specs.Micros.{is_go, hold_of}
@@ -17,31 +17,31 @@ use Rattle.patch_script.specs.Language.{command_of}
 
 -- the commands of a script, each with the number of its line
 abbrev pub Lines : Type 0
-Lines = List (ℕ × Command)
+Lines = List (ℕ × PatchCommand)
 
-abbrev pub commands_of : Lines → List Command
+abbrev pub commands_of : Lines → List PatchCommand
 commands_of lines = map (λ line. line.1) lines
 
 -- ---- what the commands so far have done
 
-abbrev pub has_go : List Command → Bool
+abbrev pub has_go : List PatchCommand → Bool
 has_go before = list_any is_go before
 
-abbrev pub is_held : ℕ → List Command → Bool
+abbrev pub is_held : ℕ → List PatchCommand → Bool
 is_held thread before = is_some (hold_of thread before)
 
-abbrev pub releases : ℕ → Command → Bool
+abbrev pub releases : ℕ → PatchCommand → Bool
 releases thread (commands.Release released) = released == thread
 releases thread _ = false
 
-abbrev pub is_released : ℕ → List Command → Bool
+abbrev pub is_released : ℕ → List PatchCommand → Bool
 is_released thread before = list_any (releases thread) before
 
-abbrev pub is_init : Command → Bool
+abbrev pub is_init : PatchCommand → Bool
 is_init commands.Init = true
 is_init _ = false
 
-abbrev pub is_finalize : Command → Bool
+abbrev pub is_finalize : PatchCommand → Bool
 is_finalize commands.Finalize = true
 is_finalize _ = false
 
@@ -51,7 +51,7 @@ is_finalize _ = false
 abbrev pub is_beyond : ℕ → ℕ → Bool
 is_beyond count number = number == 0 || nat_lt count number
 
-abbrev pub names_no_function : Program → Command → Bool
+abbrev pub names_no_function : Program → PatchCommand → Bool
 names_no_function program (commands.PatchFunction id) = is_beyond (id_count program) id
 names_no_function program (commands.UnpatchFunction id) = is_beyond (id_count program) id
 names_no_function program commands.Patch = false
@@ -67,7 +67,7 @@ names_no_function program commands.Go = false
 names_no_function program (commands.Release thread) = false
 names_no_function program (commands.Await thread count) = false
 
-abbrev pub names_no_thread : ℕ → Command → Bool
+abbrev pub names_no_thread : ℕ → PatchCommand → Bool
 names_no_thread threads (commands.Hold thread passing) = is_beyond threads thread
 names_no_thread threads (commands.Release thread) = is_beyond threads thread
 names_no_thread threads (commands.Await thread count) = is_beyond threads thread
@@ -84,7 +84,7 @@ names_no_thread threads commands.Finalize = false
 names_no_thread threads commands.Go = false
 
 -- Threads are held before `go`, and released and awaited after it. There is one `go`.
-abbrev pub is_misplaced : List Command → Command → Bool
+abbrev pub is_misplaced : List PatchCommand → PatchCommand → Bool
 is_misplaced before commands.Go = has_go before
 is_misplaced before (commands.Hold thread passing) = has_go before
 is_misplaced before (commands.Release thread) = not (has_go before)
@@ -101,7 +101,7 @@ is_misplaced before commands.Init = false
 is_misplaced before commands.Finalize = false
 
 -- a thread is held once, and a held thread is released once
-abbrev pub breaks_hold : List Command → Command → Bool
+abbrev pub breaks_hold : List PatchCommand → PatchCommand → Bool
 breaks_hold before (commands.Hold thread passing) = is_held thread before
 breaks_hold before (commands.Release thread) = not (is_held thread before) || is_released thread before
 breaks_hold before commands.Patch = false
@@ -118,7 +118,7 @@ breaks_hold before commands.Go = false
 breaks_hold before (commands.Await thread count) = false
 
 -- the log is initialized once, and finalized once after that
-abbrev pub breaks_log : List Command → Command → Bool
+abbrev pub breaks_log : List PatchCommand → PatchCommand → Bool
 breaks_log before commands.Init = list_any is_init before
 breaks_log before commands.Finalize = not (list_any is_init before) || list_any is_finalize before
 breaks_log before commands.Patch = false
@@ -135,7 +135,7 @@ breaks_log before (commands.Release thread) = false
 breaks_log before (commands.Await thread count) = false
 
 -- a thread that is held before a passing, and not released, makes no more passings than the ones before it
-abbrev pub waits_for_itself : List Command → Command → Bool
+abbrev pub waits_for_itself : List PatchCommand → PatchCommand → Bool
 waits_for_itself before (commands.Await thread count) =
     option_map_or (λ passing. nat_lt passing count) (hold_of thread before) false && not (is_released thread before)
 waits_for_itself before commands.Patch = false
@@ -153,7 +153,7 @@ waits_for_itself before commands.Go = false
 waits_for_itself before (commands.Release thread) = false
 
 -- no row refuses a command that follows these
-pub record IsAdmitted (program : Program) (threads : ℕ) (before : List Command) (command : Command) : Type 0 where
+pub record IsAdmitted (program : Program) (threads : ℕ) (before : List PatchCommand) (command : PatchCommand) : Type 0 where
   pub function : names_no_function program command ≡ false
   pub thread : names_no_thread threads command ≡ false
   pub place : is_misplaced before command ≡ false
@@ -162,7 +162,7 @@ pub record IsAdmitted (program : Program) (threads : ℕ) (before : List Command
   pub wait : waits_for_itself before command ≡ false
 
 -- the lines with one more, or the first row that refuses it
-abbrev pub judged : Program → ℕ → Lines → ℕ → Command → Result Lines ScriptFault
+abbrev pub judged : Program → ℕ → Lines → ℕ → PatchCommand → Result Lines ScriptFault
 judged program threads before number command =
     First (names_no_function program command) (Err (Function number))
     (First (names_no_thread threads command) (Err (Thread number))
@@ -173,12 +173,12 @@ judged program threads before number command =
     (Ok (before ++ (number, command) ∷ [])))))))
 
 -- words that aren't a command are refused earlier
-abbrev pub spoken : Program → ℕ → Lines → ℕ → Option Command → Result Lines ScriptFault
+abbrev pub spoken : Program → ℕ → Lines → ℕ → Option PatchCommand → Result Lines ScriptFault
 spoken program threads before number said =
     NeedsPart said (Err (Syntax number)) (λ command. judged program threads before number command)
 
 -- the command of a line, which has to be clean
-abbrev pub command_in : List ℕ → Option Command
+abbrev pub command_in : List ℕ → Option PatchCommand
 command_in line = if is_clean line then command_of (words_of line) else None
 
 -- A line without words is skipped. The 1,025th line with words is refused before anything else is checked.
@@ -195,7 +195,7 @@ read_lines program threads before lines = InTurn (λ said line. with_line progra
 -- ---- the rows at the end of the text
 
 -- a command holds a thread that no command releases
-abbrev pub holds_for_good : List Command → Command → Bool
+abbrev pub holds_for_good : List PatchCommand → PatchCommand → Bool
 holds_for_good script (commands.Hold thread passing) = not (is_released thread script)
 holds_for_good script _ = false
 

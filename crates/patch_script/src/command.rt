@@ -3,7 +3,7 @@
 /// A command of a patch script. Each line has one. Function ids and threads count from 1, passings
 /// from 0.
 #[derive(Clone, Copy)]
-pub enum Command {
+pub enum PatchCommand {
     /// `patch`: patches every sled.
     Patch,
     /// `unpatch`: unpatches every sled.

@@ -3,7 +3,7 @@
 ghost use Rattle.std.specs.Prelude.{◌≡◌, ◌||◌, [], IfOk};
 ghost use Rattle.patch_script.specs.private.FirstPatches.{is_before};
 
-use crate::command::Command;
+use crate::command::PatchCommand;
 use std::alloc::{AllocError, Global};
 
 /// The numbers, counted from 0, of the first commands that patch sleds.
@@ -36,13 +36,13 @@ impl FirstPatches {
     }
 
     /// Adds a command with its number.
-    pub(crate) fn add(&mut self, command: Command, number: u32)
+    pub(crate) fn add(&mut self, command: PatchCommand, number: u32)
         requires { HasRoom command self.old }
         ensures { AddsFirst self.old command number self.new }
     {
         match command {
-            Command::Patch => self.all = self.all.or(Some(number)),
-            Command::PatchFunction { id } => {
+            PatchCommand::Patch => self.all = self.all.or(Some(number)),
+            PatchCommand::PatchFunction { id } => {
                 let first = &mut self.by_id[id as usize - 1];
                 *first = first.or(Some(number));
             }

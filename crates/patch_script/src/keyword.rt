@@ -7,7 +7,7 @@ use text_lines::keyword_in;
 
 /// The first word of a command.
 #[derive(Clone, Copy)]
-pub(crate) enum Keyword {
+pub(crate) enum CommandKeyword {
     Patch,
     Unpatch,
     PatchFunction,
@@ -25,25 +25,25 @@ pub(crate) enum Keyword {
 }
 
 /// The keywords, as scripts have them.
-const KEYWORDS: [(&[u8], Keyword); 14] = [
-    (b"patch", Keyword::Patch),
-    (b"unpatch", Keyword::Unpatch),
-    (b"patch_function", Keyword::PatchFunction),
-    (b"unpatch_function", Keyword::UnpatchFunction),
-    (b"set_handler", Keyword::SetHandler),
-    (b"remove_handler", Keyword::RemoveHandler),
-    (b"set_arg_handler", Keyword::SetArgHandler),
-    (b"remove_arg_handler", Keyword::RemoveArgHandler),
-    (b"init", Keyword::Init),
-    (b"finalize", Keyword::Finalize),
-    (b"hold", Keyword::Hold),
-    (b"go", Keyword::Go),
-    (b"release", Keyword::Release),
-    (b"await", Keyword::Await),
+const KEYWORDS: [(&[u8], CommandKeyword); 14] = [
+    (b"patch", CommandKeyword::Patch),
+    (b"unpatch", CommandKeyword::Unpatch),
+    (b"patch_function", CommandKeyword::PatchFunction),
+    (b"unpatch_function", CommandKeyword::UnpatchFunction),
+    (b"set_handler", CommandKeyword::SetHandler),
+    (b"remove_handler", CommandKeyword::RemoveHandler),
+    (b"set_arg_handler", CommandKeyword::SetArgHandler),
+    (b"remove_arg_handler", CommandKeyword::RemoveArgHandler),
+    (b"init", CommandKeyword::Init),
+    (b"finalize", CommandKeyword::Finalize),
+    (b"hold", CommandKeyword::Hold),
+    (b"go", CommandKeyword::Go),
+    (b"release", CommandKeyword::Release),
+    (b"await", CommandKeyword::Await),
 ];
 
 /// The keyword that a word is, if it is one.
-pub(crate) fn keyword_of(word: &[u8]) -> Option<Keyword>
+pub(crate) fn keyword_of(word: &[u8]) -> Option<CommandKeyword>
     ensures { result ≡ keyword_of word.now }
 {
     keyword_in(&KEYWORDS, word)

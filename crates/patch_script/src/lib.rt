@@ -21,7 +21,7 @@ mod sleds;
 mod standing;
 mod written;
 
-pub use command::Command;
+pub use command::PatchCommand;
 pub use fault::ScriptFault;
 pub use laws::{
     a_patched_head_has_patched_parts, awaits_bound_passings, each_script_keeps_sleds,

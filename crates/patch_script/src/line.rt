@@ -4,74 +4,74 @@ ghost use Rattle.std.specs.Prelude.{◌≡◌, ◌==◌, ◌∷◌, [], not, len
 ghost use Rattle.text_lines.specs.Words.{words_of};
 ghost use Rattle.patch_script.specs.{Language.{says, command_of}, Refusals.{command_in}};
 
-use crate::command::Command;
-use crate::keyword::{Keyword, keyword_of};
+use crate::command::PatchCommand;
+use crate::keyword::{CommandKeyword, keyword_of};
 use text_lines::{Line, Operands, Words, parse_number, read_operands};
 
 /// The command that a keyword is by itself.
-fn says_alone(keyword: Keyword) -> Option<Command>
+fn says_alone(keyword: CommandKeyword) -> Option<PatchCommand>
     ensures { result ≡ says keyword [] }
 {
     match keyword {
-        Keyword::Patch => Some(Command::Patch),
-        Keyword::Unpatch => Some(Command::Unpatch),
-        Keyword::SetHandler => Some(Command::SetHandler),
-        Keyword::RemoveHandler => Some(Command::RemoveHandler),
-        Keyword::SetArgHandler => Some(Command::SetArgHandler),
-        Keyword::RemoveArgHandler => Some(Command::RemoveArgHandler),
-        Keyword::Init => Some(Command::Init),
-        Keyword::Finalize => Some(Command::Finalize),
-        Keyword::Go => Some(Command::Go),
-        Keyword::PatchFunction
-        | Keyword::UnpatchFunction
-        | Keyword::Hold
-        | Keyword::Release
-        | Keyword::Await => None,
+        CommandKeyword::Patch => Some(PatchCommand::Patch),
+        CommandKeyword::Unpatch => Some(PatchCommand::Unpatch),
+        CommandKeyword::SetHandler => Some(PatchCommand::SetHandler),
+        CommandKeyword::RemoveHandler => Some(PatchCommand::RemoveHandler),
+        CommandKeyword::SetArgHandler => Some(PatchCommand::SetArgHandler),
+        CommandKeyword::RemoveArgHandler => Some(PatchCommand::RemoveArgHandler),
+        CommandKeyword::Init => Some(PatchCommand::Init),
+        CommandKeyword::Finalize => Some(PatchCommand::Finalize),
+        CommandKeyword::Go => Some(PatchCommand::Go),
+        CommandKeyword::PatchFunction
+        | CommandKeyword::UnpatchFunction
+        | CommandKeyword::Hold
+        | CommandKeyword::Release
+        | CommandKeyword::Await => None,
     }
 }
 
 /// The command that a keyword is with one word.
-fn says_one(keyword: Keyword, word: &[u8]) -> Option<Command>
+fn says_one(keyword: CommandKeyword, word: &[u8]) -> Option<PatchCommand>
     ensures { result ≡ says keyword (word.now ∷ []) }
 {
     match keyword {
-        Keyword::PatchFunction => {
+        CommandKeyword::PatchFunction => {
             let id = parse_number(word)?;
-            Some(Command::PatchFunction { id })
+            Some(PatchCommand::PatchFunction { id })
         }
-        Keyword::UnpatchFunction => {
+        CommandKeyword::UnpatchFunction => {
             let id = parse_number(word)?;
-            Some(Command::UnpatchFunction { id })
+            Some(PatchCommand::UnpatchFunction { id })
         }
-        Keyword::Release => {
+        CommandKeyword::Release => {
             let thread = parse_number(word)?;
-            Some(Command::Release { thread })
+            Some(PatchCommand::Release { thread })
         }
         _ => None,
     }
 }
 
 /// The command that a keyword is with two words.
-fn says_two(keyword: Keyword, first: &[u8], second: &[u8]) -> Option<Command>
+fn says_two(keyword: CommandKeyword, first: &[u8], second: &[u8]) -> Option<PatchCommand>
     ensures { result ≡ says keyword (first.now ∷ second.now ∷ []) }
 {
     match keyword {
-        Keyword::Hold => {
+        CommandKeyword::Hold => {
             let thread = parse_number(first)?;
             let passing = parse_number(second)?;
-            Some(Command::Hold { thread, passing })
+            Some(PatchCommand::Hold { thread, passing })
         }
-        Keyword::Await => {
+        CommandKeyword::Await => {
             let thread = parse_number(first)?;
             let count = parse_number(second)?;
-            Some(Command::Await { thread, count })
+            Some(PatchCommand::Await { thread, count })
         }
         _ => None,
     }
 }
 
 /// The command that a keyword is with the words after it.
-fn says(keyword: Keyword, words: Words) -> Option<Command>
+fn says(keyword: CommandKeyword, words: Words) -> Option<PatchCommand>
     ensures { result ≡ says keyword words.entry }
 {
     match read_operands(words) {
@@ -83,7 +83,7 @@ fn says(keyword: Keyword, words: Words) -> Option<Command>
 }
 
 /// The command that these words are.
-fn command_of(mut words: Words) -> Option<Command>
+fn command_of(mut words: Words) -> Option<PatchCommand>
     ensures { result ≡ command_of words.entry }
 {
     let first = words.next()?;
@@ -99,7 +99,7 @@ pub(crate) fn is_blank(line: &Line) -> bool
 }
 
 /// The command that a line is, or `None` if it isn't one.
-pub(crate) fn command_in(line: &Line) -> Option<Command>
+pub(crate) fn command_in(line: &Line) -> Option<PatchCommand>
     ensures { result ≡ command_in line.now.bytes.now }
 {
     if !line.is_clean() {

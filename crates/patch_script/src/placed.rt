@@ -6,7 +6,7 @@ ghost use Rattle.patch_script.specs.Micros.{micro_at, steps_of, patch_sled, unpa
 ghost use Rattle.patch_script.specs.{Plans.{is_waiting}, Refusals.{commands_of, has_go}};
 ghost use Rattle.patch_script.specs.private.Sleds.{HasSleds};
 
-use crate::command::Command;
+use crate::command::PatchCommand;
 use crate::first_patches::FirstPatches;
 use crate::micro::Micro;
 use crate::sleds::{SledRange, SledValues, sled_values};
@@ -46,7 +46,7 @@ const FINALIZE_STATES: [LogState; 2] = [LogState::Finalizing, LogState::Finalize
 pub(crate) struct Placed {
     /// The number of its line, from 1.
     pub(crate) line: u32,
-    pub(crate) command: Command,
+    pub(crate) command: PatchCommand,
     /// The sleds that it patches or unpatches.
     sleds: SledRange,
     /// How many micro steps come before it.
@@ -79,7 +79,7 @@ pub(crate) struct PlacedCommands {
     arg_handler_word: u32,
 }
 
-impl Command {
+impl PatchCommand {
     ghost use Rattle.patch_script.specs.private.Placing.{step_count};
 
     /// How many micro steps a command has. `sleds` is the number of sleds that it patches or
@@ -88,15 +88,16 @@ impl Command {
         ensures { result ≡ step_count self sleds }
     {
         match self {
-            Command::Patch | Command::PatchFunction { .. } => PATCH_STORES * u64::from(sleds),
-            Command::Unpatch | Command::UnpatchFunction { .. } => u64::from(sleds),
-            Command::SetHandler
-            | Command::RemoveHandler
-            | Command::SetArgHandler
-            | Command::RemoveArgHandler => 1,
-            Command::Init | Command::Finalize => 2,
-            Command::Hold { .. } | Command::Go => 0,
-            Command::Release { .. } | Command::Await { .. } => 1,
+            PatchCommand::Patch | PatchCommand::PatchFunction { .. } => PATCH_STORES
+                * u64::from(sleds),
+            PatchCommand::Unpatch | PatchCommand::UnpatchFunction { .. } => u64::from(sleds),
+            PatchCommand::SetHandler
+            | PatchCommand::RemoveHandler
+            | PatchCommand::SetArgHandler
+            | PatchCommand::RemoveArgHandler => 1,
+            PatchCommand::Init | PatchCommand::Finalize => 2,
+            PatchCommand::Hold { .. } | PatchCommand::Go => 0,
+            PatchCommand::Release { .. } | PatchCommand::Await { .. } => 1,
         }
     }
 
@@ -105,7 +106,8 @@ impl Command {
         ensures { result ≡ (if is_waiting self then Some line else None) }
     {
         match self {
-            Command::Hold { .. } | Command::Release { .. } | Command::Await { .. } => Some(line),
+            PatchCommand::Hold { .. } | PatchCommand::Release { .. } | PatchCommand::Await { .. } =>
+                Some(line),
             _ => None,
         }
     }
@@ -144,16 +146,16 @@ impl PlacedCommands {
     }
 
     /// The sleds that a command patches or unpatches.
-    fn sleds_of(&self, command: Command) -> SledRange
+    fn sleds_of(&self, command: PatchCommand) -> SledRange
         requires { ArePlaced self.now }
         ensures { HasSleds self.now.image.value command result }
     {
         match command {
-            Command::Patch | Command::Unpatch => SledRange {
+            PatchCommand::Patch | PatchCommand::Unpatch => SledRange {
                 start: 0,
                 end: self.sleds.len() as u32,
             },
-            Command::PatchFunction { id } | Command::UnpatchFunction { id } =>
+            PatchCommand::PatchFunction { id } | PatchCommand::UnpatchFunction { id } =>
                 SledRange::of_function(&self.sleds, id),
             _ => SledRange::none(),
         }
@@ -163,7 +165,7 @@ impl PlacedCommands {
     pub(crate) fn push(
         &mut self,
         line: u32,
-        command: Command,
+        command: PatchCommand,
         going: bool,
     ) -> Result<(), AllocError>
         requires sound { ArePlaced self.old }
@@ -274,44 +276,44 @@ impl PlacedCommands {
             ≡ Some result }
     {
         match placed.command {
-            Command::Patch | Command::PatchFunction { .. } => self.patch_step(
+            PatchCommand::Patch | PatchCommand::PatchFunction { .. } => self.patch_step(
                 placed.sleds.start + (step / PATCH_STORES) as u32,
                 (step % PATCH_STORES) as usize,
             ),
-            Command::Unpatch | Command::UnpatchFunction { .. } => self.unpatch_step(
+            PatchCommand::Unpatch | PatchCommand::UnpatchFunction { .. } => self.unpatch_step(
                 number,
                 placed.sleds.start + step as u32,
             ),
-            Command::SetHandler => Micro::Store {
+            PatchCommand::SetHandler => Micro::Store {
                 word: self.handler_word,
                 value: HANDLER_SET,
             },
-            Command::RemoveHandler => Micro::Store {
+            PatchCommand::RemoveHandler => Micro::Store {
                 word: self.handler_word,
                 value: NO_HANDLER,
             },
-            Command::SetArgHandler => Micro::Store {
+            PatchCommand::SetArgHandler => Micro::Store {
                 word: self.arg_handler_word,
                 value: HANDLER_SET,
             },
-            Command::RemoveArgHandler => Micro::Store {
+            PatchCommand::RemoveArgHandler => Micro::Store {
                 word: self.arg_handler_word,
                 value: NO_HANDLER,
             },
-            Command::Init => Micro::Store {
+            PatchCommand::Init => Micro::Store {
                 word: self.state_word,
                 value: INIT_STATES[step as usize] as u64,
             },
-            Command::Finalize => Micro::Store {
+            PatchCommand::Finalize => Micro::Store {
                 word: self.state_word,
                 value: FINALIZE_STATES[step as usize] as u64,
             },
-            Command::Release { thread } => Micro::Store {
+            PatchCommand::Release { thread } => Micro::Store {
                 word: self.state_word + thread,
                 value: RELEASED,
             },
-            Command::Await { thread, count } => Micro::Await { thread, count },
-            Command::Hold { .. } | Command::Go => unreachable!(),
+            PatchCommand::Await { thread, count } => Micro::Await { thread, count },
+            PatchCommand::Hold { .. } | PatchCommand::Go => unreachable!(),
         }
     }
 

@@ -9,7 +9,7 @@ ghost use Rattle.patch_script.specs.Refusals.{is_beyond, names_no_function, name
 ghost use Rattle.patch_script.specs.Plans.{plan_of};
 ghost use Rattle.patch_script.specs.private.Drafts.{program_of, lines_of, IsDraft, MayFollow, Judges, HasLines, Takes, Reads};
 
-use crate::command::Command;
+use crate::command::PatchCommand;
 use crate::fault::ScriptFault;
 use crate::line::{command_in, is_blank};
 use crate::placed::PlacedCommands;
@@ -53,12 +53,12 @@ impl Draft {
     }
 
     /// Whether a command names a function that doesn't exist.
-    fn names_no_function(&self, command: Command) -> bool
+    fn names_no_function(&self, command: PatchCommand) -> bool
         ensures { (program : Program) → self.now.ids ≡ id_count program
             → result ≡ names_no_function program command }
     {
         match command {
-            Command::PatchFunction { id } | Command::UnpatchFunction { id } => is_beyond(
+            PatchCommand::PatchFunction { id } | PatchCommand::UnpatchFunction { id } => is_beyond(
                 self.ids, id,
             ),
             _ => false,
@@ -66,19 +66,19 @@ impl Draft {
     }
 
     /// Whether a command names a thread that doesn't exist.
-    fn names_no_thread(&self, command: Command) -> bool
+    fn names_no_thread(&self, command: PatchCommand) -> bool
         ensures { result ≡ names_no_thread self.now.placed.threads command }
     {
         match command {
-            Command::Hold { thread, .. }
-            | Command::Release { thread }
-            | Command::Await { thread, .. } => is_beyond(self.placed.threads, thread),
+            PatchCommand::Hold { thread, .. }
+            | PatchCommand::Release { thread }
+            | PatchCommand::Await { thread, .. } => is_beyond(self.placed.threads, thread),
             _ => false,
         }
     }
 
     /// The first refusal that applies to the command of a line, by the commands before it.
-    fn judge(&self, line: u32, command: Command) -> Result<(), ScriptFault>
+    fn judge(&self, line: u32, command: PatchCommand) -> Result<(), ScriptFault>
         requires { IsDraft self.now }
         ensures { Judges self.now line command result }
     {
@@ -104,7 +104,7 @@ impl Draft {
     }
 
     /// Adds a command that may follow.
-    fn push(&mut self, line: u32, command: Command) -> Result<(), AllocError>
+    fn push(&mut self, line: u32, command: PatchCommand) -> Result<(), AllocError>
         requires sound { IsDraft self.old }
         requires admitted { MayFollow self.old command }
         requires room { length (lines_of self.old) < most_commands }

@@ -1,10 +1,10 @@
 //! What the commands so far have done.
 
 ghost use Rattle.std.specs.{Prelude.{◌≡◌, ◌<◌, ◌≤◌, ℕ, List, [], false}, List.{list_any}};
-ghost use Rattle.patch_script.specs.declared.command.Command.{Command as Said};
+ghost use Rattle.patch_script.specs.declared.command.PatchCommand.{PatchCommand as Said};
 ghost use Rattle.patch_script.specs.Refusals.{is_misplaced, breaks_hold, breaks_log, waits_for_itself, holds_for_good, names_no_thread};
 
-use crate::command::Command;
+use crate::command::PatchCommand;
 use sled_words::MAX_THREADS;
 
 /// Whether a thread waits before a passing.
@@ -124,49 +124,49 @@ impl Standing {
     }
 
     /// Whether a command is on the wrong side of `go`.
-    pub(crate) fn misplaces(&self, command: Command) -> bool
+    pub(crate) fn misplaces(&self, command: PatchCommand) -> bool
         ensures { (before : List Said) → IsStanding before self.now
             → result ≡ is_misplaced before command }
     {
         match command {
-            Command::Go | Command::Hold { .. } => self.going,
-            Command::Release { .. } | Command::Await { .. } => !self.going,
+            PatchCommand::Go | PatchCommand::Hold { .. } => self.going,
+            PatchCommand::Release { .. } | PatchCommand::Await { .. } => !self.going,
             _ => false,
         }
     }
 
     /// Whether a command holds a thread that was held before, or releases one that isn't held or
     /// was released.
-    pub(crate) fn breaks_hold(&self, command: Command) -> bool
+    pub(crate) fn breaks_hold(&self, command: PatchCommand) -> bool
         ensures { (before : List Said) → IsStanding before self.now
             → result ≡ breaks_hold before command }
     {
         match command {
-            Command::Hold { thread, .. } => self.holds.of(thread) != Hold::Free,
-            Command::Release { thread } => !matches!(self.holds.of(thread), Hold::Held { .. }),
+            PatchCommand::Hold { thread, .. } => self.holds.of(thread) != Hold::Free,
+            PatchCommand::Release { thread } => !matches!(self.holds.of(thread), Hold::Held { .. }),
             _ => false,
         }
     }
 
     /// Whether a command isn't allowed in the log's state.
-    pub(crate) fn breaks_log(&self, command: Command) -> bool
+    pub(crate) fn breaks_log(&self, command: PatchCommand) -> bool
         ensures { (before : List Said) → IsStanding before self.now
             → result ≡ breaks_log before command }
     {
         match command {
-            Command::Init => self.log != Log::Uninitialized,
-            Command::Finalize => self.log != Log::Initialized,
+            PatchCommand::Init => self.log != Log::Uninitialized,
+            PatchCommand::Finalize => self.log != Log::Initialized,
             _ => false,
         }
     }
 
     /// Whether a command awaits passings that a held thread can't make before it is released.
-    pub(crate) fn waits_for_itself(&self, command: Command) -> bool
+    pub(crate) fn waits_for_itself(&self, command: PatchCommand) -> bool
         ensures { (before : List Said) → IsStanding before self.now
             → result ≡ waits_for_itself before command }
     {
         match command {
-            Command::Await { thread, count } => match self.holds.of(thread) {
+            PatchCommand::Await { thread, count } => match self.holds.of(thread) {
                 Hold::Held { passing } => passing < count,
                 Hold::Free | Hold::Released { .. } => false,
             },
@@ -175,16 +175,18 @@ impl Standing {
     }
 
     /// Takes a command that may follow.
-    pub(crate) fn take(&mut self, command: Command)
+    pub(crate) fn take(&mut self, command: PatchCommand)
         requires { names_no_thread 16 command ≡ false }
         ensures { Follows self.old command self.new }
     {
         match command {
-            Command::Go => self.going = true,
-            Command::Init => self.log = Log::Initialized,
-            Command::Finalize => self.log = Log::Finalized,
-            Command::Hold { thread, passing } => self.holds.set(thread, Hold::Held { passing }),
-            Command::Release { thread } => self.holds.release(thread),
+            PatchCommand::Go => self.going = true,
+            PatchCommand::Init => self.log = Log::Initialized,
+            PatchCommand::Finalize => self.log = Log::Finalized,
+            PatchCommand::Hold { thread, passing } => self
+                .holds
+                .set(thread, Hold::Held { passing }),
+            PatchCommand::Release { thread } => self.holds.release(thread),
             _ => {}
         }
     }

@@ -5,12 +5,12 @@ use Rattle.std.proofs.lemmas.List.{length-map, length-replicate}
 use Rattle.xray_image.specs.Program.{Program}
 use Rattle.handler_word.specs.declared.mark.Mark.{Mark}
 use Rattle.handler_word.specs.declared.mark.Mark.TheVariants.{Skipped, NoHandler, NotLogging, Recorded, RecordedArg}
-use Rattle.patch_script.specs.declared.command.Command.{Command}
+use Rattle.patch_script.specs.declared.command.PatchCommand.{PatchCommand}
 use Rattle.patch_script.specs.Bounds.{bound_of}
 use Rattle.patch_script.specs.CodeAt.{code_at}
 use Rattle.patch_script.specs.Micros.{hold_of, start_of}
 use Rattle.machine_step.specs.Loads.{is_held_at, sled_logs_args}
-use Rattle.audit_check.specs.Places.{Search, found_by, handler_searches, has_arg_handler, head_searches, load_places, passing_searches, places_from}
+use Rattle.audit_check.specs.Places.{Search, found_by, handler_searches, has_arg_handler, head_searches, load_places, passing_searches, load_places_from}
 use Rattle.audit_check.proofs.SearchResults.{found_none, found_on}
 use Rattle.run_order.specs.FreeScripts.{free_place}
 use Rattle.run_order.specs.Places.{free_places}
@@ -70,7 +70,7 @@ module _ (program : Program) (threads : ℕ) (code : ℕ → ℕ → ℕ) where
   passing_few thread false sled mark = let rest = head_few sled mark in (rest.0, omega (arith, rest.1))
 
   passings_few : (bound : ℕ → ℕ) (thread : ℕ) (hold : Option ℕ) (number from : ℕ) (sleds : List ℕ) (marks : List Mark) (places : List ℕ)
-      → places_from program threads code bound thread hold number from sleds marks ≡ Some places → length places ≤ 20 * length sleds
+      → load_places_from program threads code bound thread hold number from sleds marks ≡ Some places → length places ≤ 20 * length sleds
   passings_few bound thread hold number from [] [] places e =
       let none : [] ≡ places = cc in
       omega (arith, ap length none)
@@ -86,7 +86,7 @@ module _ (program : Program) (threads : ℕ) (code : ℕ → ℕ → ℕ) where
 
 -- there is a mark for each sled
 as_many : (program : Program) (threads : ℕ) (code : ℕ → ℕ → ℕ) (bound : ℕ → ℕ) (thread : ℕ) (hold : Option ℕ) (number from : ℕ) (sleds : List ℕ) (marks : List Mark)
-    (places : List ℕ) → places_from program threads code bound thread hold number from sleds marks ≡ Some places → length marks ≡ length sleds
+    (places : List ℕ) → load_places_from program threads code bound thread hold number from sleds marks ≡ Some places → length marks ≡ length sleds
 as_many program threads code bound thread hold number from [] [] places e = refl
 as_many program threads code bound thread hold number from [] (mark ∷ marks) places e = absurd cc
 as_many program threads code bound thread hold number from (sled ∷ sleds) [] places e = absurd cc
@@ -96,14 +96,14 @@ as_many program threads code bound thread hold number from (sled ∷ sleds) (mar
     omega (arith, rest)
 
 -- by the sleds that the thread passes
-pub loads_few : (program : Program) (threads : ℕ) (script : List Command) (thread : ℕ) (sleds : List ℕ) (marks : List Mark) (places : List ℕ)
+pub loads_few : (program : Program) (threads : ℕ) (script : List PatchCommand) (thread : ℕ) (sleds : List ℕ) (marks : List Mark) (places : List ℕ)
     → load_places program threads script thread sleds marks ≡ Some places → length places ≤ 20 * length sleds
 loads_few program threads script thread sleds marks places e =
     passings_few program threads (code_at program threads script) (bound_of program threads script thread) thread (hold_of thread script) 0
     (start_of program threads script) sleds marks places e
 
 -- so in the script without waits
-pub free_few : (program : Program) (threads : ℕ) (script : List Command) (thread : ℕ) (sleds : List ℕ) (marks : List Mark) (places : List ℕ)
+pub free_few : (program : Program) (threads : ℕ) (script : List PatchCommand) (thread : ℕ) (sleds : List ℕ) (marks : List Mark) (places : List ℕ)
     → free_places program threads script thread sleds marks ≡ Some places → length places ≤ 20 * length marks
 free_few program threads script thread sleds marks places e = by_places (load_places program threads script thread sleds marks) refl e
   where

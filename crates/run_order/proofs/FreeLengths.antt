@@ -5,7 +5,7 @@ use Rattle.std.specs.List.{flat_map, join_with_byte, slice_split}
 use Rattle.std.proofs.lemmas.Bool.Decides.{nat_tests}
 use Rattle.std.proofs.lemmas.List.Splits.{join_with_byte-slice_split}
 use Rattle.text_lines.specs.Words.{words_of}
-use Rattle.run_order.specs.FreeScripts.{begins_wait, free_text, line_in, whole_lines, whole_of_parts}
+use Rattle.run_order.specs.FreeScripts.{begins_wait, free_text, line_in, lines_with_ends, whole_of_parts}
 
 -- the bytes of lines
 abbrev all_of : List (List ℕ) → List ℕ
@@ -43,13 +43,13 @@ parts_short (part ∷ next ∷ later) =
       length-append part (10 ∷ join_with_byte 10 (next ∷ later)),
     )
 
-lines_short : (text : List ℕ) → length (all_of (whole_lines text)) ≤ length text
+lines_short : (text : List ℕ) → length (all_of (lines_with_ends text)) ≤ length text
 lines_short text =
-    subst (λ (bytes : List ℕ). length (all_of (whole_lines text)) ≤ length bytes) (join_with_byte-slice_split 10 text)
+    subst (λ (bytes : List ℕ). length (all_of (lines_with_ends text)) ≤ length bytes) (join_with_byte-slice_split 10 text)
     (parts_short (slice_split (λ byte. byte == 10) text))
 
 pub free_short : (text : List ℕ) → length (free_text text) ≤ length text
 free_short text =
-    let some = some_short (λ line. not (begins_wait (words_of (line_in line)))) (whole_lines text) in
+    let some = some_short (λ line. not (begins_wait (words_of (line_in line)))) (lines_with_ends text) in
     let all = lines_short text in
     omega (arith, some, all)

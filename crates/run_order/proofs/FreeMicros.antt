@@ -12,8 +12,8 @@ use Rattle.sled_words.specs.declared.part.Part.{Part}
 use Rattle.sled_words.specs.declared.part.Part.TheVariants.{Head, Id, Opcode, Offset}
 use Rattle.sled_words.specs.Parts.{patched}
 use Rattle.sled_words.specs.Words.{arg_handler_word, handler_word, release_word, state_word, word_of}
-use Rattle.patch_script.specs.declared.command.Command.{Command}
-use Rattle.patch_script.specs.declared.command.Command.TheVariants as commands
+use Rattle.patch_script.specs.declared.command.PatchCommand.{PatchCommand}
+use Rattle.patch_script.specs.declared.command.PatchCommand.TheVariants as commands
 use Rattle.patch_script.specs.declared.micro.Micro.{Micro}
 use Rattle.patch_script.specs.declared.micro.Micro.TheVariants.{Store, Await, End}
 use Rattle.patch_script.specs.CodeAt.{code_at, initial_value, stored_in}
@@ -24,11 +24,11 @@ use Rattle.run_order.specs.FreeScripts.{free_commands, free_place, is_free, is_r
 
 -- ---- a script's releases are of its threads
 
-abbrev pub Releases : ℕ → Command → Type 0
+abbrev pub Releases : ℕ → PatchCommand → Type 0
 Releases threads (commands.Release thread) = (0 < thread) × (thread ≤ threads)
 Releases threads _ = Unit {0}
 
-abbrev pub AllRelease : ℕ → List Command → Type 0
+abbrev pub AllRelease : ℕ → List PatchCommand → Type 0
 AllRelease threads [] = Unit {0}
 AllRelease threads (command ∷ script) = Releases threads command × AllRelease threads script
 
@@ -102,7 +102,7 @@ module _ (program : Program) (threads : ℕ) where
   -- ---- commands
 
   -- the steps of a command that stays, before those of others
-  command_stays : (earlier : List ℕ) (command : Command) (free rest : List Command) → AllStay (steps_of program threads earlier command)
+  command_stays : (earlier : List ℕ) (command : PatchCommand) (free rest : List PatchCommand) → AllStay (steps_of program threads earlier command)
       → micros_after program threads (earlier ++ numbers (patches program command)) free
       ≡ filter (is_free program threads) (micros_after program threads (earlier ++ numbers (patches program command)) rest)
       → micros_after program threads earlier (command ∷ free)
@@ -114,7 +114,7 @@ module _ (program : Program) (threads : ℕ) where
       (micros_after program threads (earlier ++ numbers (patches program command)) rest))
 
   -- those of a command that waits
-  command_goes : (earlier : List ℕ) (command : Command) (free rest : List Command) → patches program command ≡ []
+  command_goes : (earlier : List ℕ) (command : PatchCommand) (free rest : List PatchCommand) → patches program command ≡ []
       → filter (is_free program threads) (steps_of program threads earlier command) ≡ []
       → micros_after program threads earlier free ≡ filter (is_free program threads) (micros_after program threads earlier rest)
       → micros_after program threads earlier free ≡ filter (is_free program threads) (micros_after program threads earlier (command ∷ rest))
@@ -127,7 +127,7 @@ module _ (program : Program) (threads : ℕ) where
       ∙ ap (λ (ss : List Micro). ss ++ filter (is_free program threads) later) (sym none)
       ∙ sym (filter-append (is_free program threads) (steps_of program threads earlier command) later)
 
-  free_after : (earlier : List ℕ) (script : List Command) → AllRelease threads script
+  free_after : (earlier : List ℕ) (script : List PatchCommand) → AllRelease threads script
       → micros_after program threads earlier (free_commands script) ≡ filter (is_free program threads) (micros_after program threads earlier script)
   free_after earlier [] are = refl
   free_after earlier (commands.Patch ∷ script) are =
@@ -179,13 +179,13 @@ module _ (program : Program) (threads : ℕ) where
       command_goes earlier (commands.Release thread) (free_commands script) script refl gone (free_after earlier script are.1)
 
   -- the micro steps of the script without waits
-  pub free_micros : (script : List Command) → AllRelease threads script
+  pub free_micros : (script : List PatchCommand) → AllRelease threads script
       → micros program threads (free_commands script) ≡ filter (is_free program threads) (micros program threads script)
   free_micros script are = free_after [] script are
 
   -- ---- places
 
-  pub free_total : (script : List Command) → AllRelease threads script
+  pub free_total : (script : List PatchCommand) → AllRelease threads script
       → total_of program threads (free_commands script) ≡ free_place program threads script (total_of program threads script)
   free_total script are = ap length (free_micros script are) ∙ ap (λ (ss : List Micro). length (filter (is_free program threads) ss)) (sym (all_taken (micros program threads script)))
     where
@@ -204,7 +204,7 @@ module _ (program : Program) (threads : ℕ) where
       ap (filter (is_free program threads)) (sym (take-append-drop place steps)) ∙ filter-append (is_free program threads) (take place steps) (drop place steps) in
       ap (take (length front)) whole ∙ take-append_seam front rest
 
-  pub places_rise : (script : List Command) (place next : ℕ) → place ≤ next
+  pub places_rise : (script : List PatchCommand) (place next : ℕ) → place ≤ next
       → free_place program threads script place ≤ free_place program threads script next
   places_rise script place next low = rise (micros program threads script) place next low
     where
@@ -253,7 +253,7 @@ module _ (program : Program) (threads : ℕ) where
           ∙ rest ∙ ap (λ (o : Option ℕ). cons_option o (filter_map (stored_in word) steps)) (sym (goes_unstored word step apart e))
 
   -- a word that isn't a release word has the same value at the place that a place of the script is
-  pub free_code : (script : List Command) (place word : ℕ) → AllRelease threads script → is_release_word program threads word ≡ false
+  pub free_code : (script : List PatchCommand) (place word : ℕ) → AllRelease threads script → is_release_word program threads word ≡ false
       → code_at program threads (free_commands script) (free_place program threads script place) word ≡ code_at program threads script place word
   free_code script place word are apart =
       let steps = micros program threads script in
@@ -293,7 +293,7 @@ front_kept {X = X} keeps passes gone (x ∷ xs) = by_tests (keeps x) (passes x) 
         absurd cc
 
 -- `go` is no command that waits
-pub go_stays : (command : Command) → is_waiting command ≡ true → is_go command ≡ false
+pub go_stays : (command : PatchCommand) → is_waiting command ≡ true → is_go command ≡ false
 go_stays commands.Go e = absurd cc
 go_stays commands.Patch e = refl
 go_stays commands.Unpatch e = refl
@@ -309,11 +309,11 @@ go_stays (commands.Hold thread passing) e = refl
 go_stays (commands.Release thread) e = refl
 go_stays (commands.Await thread count) e = refl
 
-others_go_on : (command : Command) → not (is_waiting command) ≡ false → not (is_go command) ≡ true
+others_go_on : (command : PatchCommand) → not (is_waiting command) ≡ false → not (is_go command) ≡ true
 others_go_on command e = ap not (go_stays command (not_false (is_waiting command) e))
 
 -- the micro steps of the first commands come first
-front_micros : (program : Program) (threads : ℕ) (earlier : List ℕ) (n : ℕ) (script : List Command)
+front_micros : (program : Program) (threads : ℕ) (earlier : List ℕ) (n : ℕ) (script : List PatchCommand)
     → take (length (micros_after program threads earlier (take n script))) (micros_after program threads earlier script)
     ≡ micros_after program threads earlier (take n script)
 front_micros program threads earlier zero script = refl
@@ -332,16 +332,16 @@ front_micros program threads earlier (suc n) (command ∷ script) =
         ap (λ k. take k (x ∷ (xs ++ ys))) (let e : length (x ∷ xs) + n ≡ suc (length xs + n) = omega arith in e)
         ∙ ap (λ (zs : List X). x ∷ zs) (take_past xs n ys)
 
-all_release_front : (threads n : ℕ) (script : List Command) → AllRelease threads script → AllRelease threads (take n script)
+all_release_front : (threads n : ℕ) (script : List PatchCommand) → AllRelease threads script → AllRelease threads (take n script)
 all_release_front threads zero script are = tt
 all_release_front threads (suc n) [] are = tt
 all_release_front threads (suc n) (command ∷ script) are = (are.0, all_release_front threads n script are.1)
 
-pub free_start : (program : Program) (threads : ℕ) (script : List Command) → AllRelease threads script
+pub free_start : (program : Program) (threads : ℕ) (script : List PatchCommand) → AllRelease threads script
     → start_of program threads (free_commands script) ≡ free_place program threads script (start_of program threads script)
 free_start program threads script are =
-    let passes : Command → Bool = λ c. not (is_go c) in
+    let passes : PatchCommand → Bool = λ c. not (is_go c) in
     let n : ℕ = prefix_len passes script in
-    ap (λ (cs : List Command). length (micros program threads cs)) (front_kept (λ c. not (is_waiting c)) passes others_go_on script)
+    ap (λ (cs : List PatchCommand). length (micros program threads cs)) (front_kept (λ c. not (is_waiting c)) passes others_go_on script)
     ∙ ap length (free_micros program threads (take n script) (all_release_front threads n script are))
     ∙ ap (λ (ss : List Micro). length (filter (is_free program threads) ss)) (sym (front_micros program threads [] n script))

@@ -12,8 +12,8 @@ use Rattle.xray_io.specs.Rows.{◌>>=◌}
 use Rattle.text_lines.specs.Lines.{numbered_lines}
 use Rattle.text_lines.specs.Words.{is_clean, words_of}
 use Rattle.xray_image.specs.Program.{Program}
-use Rattle.patch_script.specs.declared.command.Command.{Command}
-use Rattle.patch_script.specs.declared.command.Command.TheVariants as commands
+use Rattle.patch_script.specs.declared.command.PatchCommand.{PatchCommand}
+use Rattle.patch_script.specs.declared.command.PatchCommand.TheVariants as commands
 use Rattle.patch_script.specs.declared.fault.ScriptFault.{ScriptFault}
 use Rattle.patch_script.specs.declared.fault.ScriptFault.TheVariants as faults
 use Rattle.patch_script.specs.Language.{command_of}
@@ -37,7 +37,7 @@ bind_ok (Err fault) f y e = absurd cc
 -- ---- commands that stay
 
 -- a test that no command which waits passes
-any_stays : (test : Command → Bool) → ((command : Command) → is_waiting command ≡ true → test command ≡ false) → (script : List Command)
+any_stays : (test : PatchCommand → Bool) → ((command : PatchCommand) → is_waiting command ≡ true → test command ≡ false) → (script : List PatchCommand)
     → list_any test (free_commands script) ≡ list_any test script
 any_stays test none [] = refl
 any_stays test none (command ∷ script) = by_waiting (is_waiting command) refl (any_stays test none script)
@@ -51,7 +51,7 @@ any_stays test none (command ∷ script) = by_waiting (is_waiting command) refl 
         ap (λ b. list_any test (cond (not b) (command ∷ free_commands script) (free_commands script))) is
         ∙ ap (λ b. test command || b) rest
 
-init_stays : (command : Command) → is_waiting command ≡ true → is_init command ≡ false
+init_stays : (command : PatchCommand) → is_waiting command ≡ true → is_init command ≡ false
 init_stays commands.Init e = absurd cc
 init_stays commands.Patch e = refl
 init_stays commands.Unpatch e = refl
@@ -67,7 +67,7 @@ init_stays (commands.Hold thread passing) e = refl
 init_stays (commands.Release thread) e = refl
 init_stays (commands.Await thread count) e = refl
 
-finalize_stays : (command : Command) → is_waiting command ≡ true → is_finalize command ≡ false
+finalize_stays : (command : PatchCommand) → is_waiting command ≡ true → is_finalize command ≡ false
 finalize_stays commands.Finalize e = absurd cc
 finalize_stays commands.Patch e = refl
 finalize_stays commands.Unpatch e = refl
@@ -84,7 +84,7 @@ finalize_stays (commands.Release thread) e = refl
 finalize_stays (commands.Await thread count) e = refl
 
 -- none of them holds a thread
-none_held : (script all : List Command) → list_any (holds_for_good all) (free_commands script) ≡ false
+none_held : (script all : List PatchCommand) → list_any (holds_for_good all) (free_commands script) ≡ false
 none_held [] all = refl
 none_held (commands.Patch ∷ script) all = none_held script all
 none_held (commands.Unpatch ∷ script) all = none_held script all
@@ -102,7 +102,7 @@ none_held (commands.Release thread ∷ script) all = none_held script all
 none_held (commands.Await thread count ∷ script) all = none_held script all
 
 -- one more command
-free_more : (script : List Command) (command : Command) (b : Bool) → is_waiting command ≡ b
+free_more : (script : List PatchCommand) (command : PatchCommand) (b : Bool) → is_waiting command ≡ b
     → free_commands (script ++ command ∷ []) ≡ free_commands script ++ cond b [] (command ∷ [])
 free_more script command true is =
     filter-append (λ c. not (is_waiting c)) script (command ∷ [])
@@ -111,13 +111,13 @@ free_more script command false is =
     filter-append (λ c. not (is_waiting c)) script (command ∷ [])
     ∙ ap (λ b. free_commands script ++ cond (not b) (command ∷ []) []) is
 
-free_few : (script : List Command) → length (free_commands script) ≤ length script
+free_few : (script : List PatchCommand) → length (free_commands script) ≤ length script
 free_few script = omega (arith, length-filter (λ c. not (is_waiting c)) script, count_by-le-length (λ c. not (is_waiting c)) script)
 
 -- ---- a command that stays may follow those that stay
 
 -- it is refused by what waits as little as before
-may_follow : (program : Program) (threads : ℕ) (before : List Command) (command : Command) → is_waiting command ≡ false
+may_follow : (program : Program) (threads : ℕ) (before : List PatchCommand) (command : PatchCommand) → is_waiting command ≡ false
     → IsAdmitted program threads before command → IsAdmitted program threads (free_commands before) command
 may_follow program threads before commands.Patch is a = record { function = refl; thread = refl; place = refl; hold = refl; log = refl; wait = refl }
 may_follow program threads before commands.Unpatch is a = record { function = refl; thread = refl; place = refl; hold = refl; log = refl; wait = refl }
@@ -167,14 +167,14 @@ six_false a b c d e f p q r s t u y ha hb hc hd he hf = rw (ha, hb, hc, hd, he, 
 
 module _ (program : Program) (threads : ℕ) where
   -- a line says nothing, or a command that no row refuses
-  pub record Says (before : Lines) (number : ℕ) (line : List ℕ) (after : Lines) (command : Command) : Type 0 where
+  pub record Says (before : Lines) (number : ℕ) (line : List ℕ) (after : Lines) (command : PatchCommand) : Type 0 where
     pub blank : (length (words_of line) == 0) ≡ false
     pub room : length before < 1024
     pub said : command_in line ≡ Some command
     pub admitted : IsAdmitted program threads (commands_of before) command
     pub adds : before ++ (number, command) ∷ [] ≡ after
 
-  judged_says : (before : Lines) (number : ℕ) (line : List ℕ) (after : Lines) (command : Command) → (length (words_of line) == 0) ≡ false → length before < 1024
+  judged_says : (before : Lines) (number : ℕ) (line : List ℕ) (after : Lines) (command : PatchCommand) → (length (words_of line) == 0) ≡ false → length before < 1024
       → command_in line ≡ Some command → judged program threads before number command ≡ Ok after → Says before number line after command
   judged_says before number line after command blank room said e =
       let all = six (names_no_function program command) (names_no_thread threads command) (is_misplaced (commands_of before) command)
@@ -190,13 +190,13 @@ module _ (program : Program) (threads : ℕ) where
       }
 
   pub line_says : (before : Lines) (number : ℕ) (line : List ℕ) (after : Lines) → with_line program threads before (number, line) ≡ Ok after
-      → (((length (words_of line) == 0) ≡ true) × (before ≡ after)) ⊎ ((command : Command) × Says before number line after command)
+      → (((length (words_of line) == 0) ≡ true) × (before ≡ after)) ⊎ ((command : PatchCommand) × Says before number line after command)
   line_says before number line after e = chosen (length (words_of line) == 0) refl (nat_le 1024 (length before)) refl (command_in line) refl e
     where
       chosen : (blank : Bool) → (length (words_of line) == 0) ≡ blank → (full : Bool) → nat_le 1024 (length before) ≡ full
-          → (said : Option Command) → command_in line ≡ said
+          → (said : Option PatchCommand) → command_in line ≡ said
           → cond blank (Ok before) (cond full (Err (faults.Limit number)) (spoken program threads before number said)) ≡ Ok after
-          → (((length (words_of line) == 0) ≡ true) × (before ≡ after)) ⊎ ((command : Command) × Says before number line after command)
+          → (((length (words_of line) == 0) ≡ true) × (before ≡ after)) ⊎ ((command : PatchCommand) × Says before number line after command)
       chosen true blank full is said words e = inl (blank, same_Ok before after e)
       chosen false blank true is said words e = absurd cc
       chosen false blank false is None words e = absurd cc
@@ -204,7 +204,7 @@ module _ (program : Program) (threads : ℕ) where
           inr (command, judged_says before number line after command blank (let more = leb-false 1024 (length before) is in omega arith) words e)
 
   -- a line that says a command is read so, whatever its number is
-  line_read : (before : Lines) (number : ℕ) (line : List ℕ) (command : Command) → (length (words_of line) == 0) ≡ false → length before < 1024
+  line_read : (before : Lines) (number : ℕ) (line : List ℕ) (command : PatchCommand) → (length (words_of line) == 0) ≡ false → length before < 1024
       → command_in line ≡ Some command → IsAdmitted program threads (commands_of before) command
       → with_line program threads before (number, line) ≡ Ok (before ++ (number, command) ∷ [])
   line_read before number line command blank room said h =
@@ -220,7 +220,7 @@ module _ (program : Program) (threads : ℕ) where
   -- ---- what a line says begins with its words
 
   -- a line with a command waits exactly if its first word does
-  stays_by : (line : List ℕ) (command : Command) → command_in line ≡ Some command → stays_line line ≡ not (is_waiting command)
+  stays_by : (line : List ℕ) (command : PatchCommand) → command_in line ≡ Some command → stays_line line ≡ not (is_waiting command)
   stays_by line command e = by_clean (is_clean line) e
     where
       by_clean : (b : Bool) → cond b (command_of (words_of line)) None ≡ Some command → stays_line line ≡ not (is_waiting command)
@@ -246,11 +246,11 @@ module _ (program : Program) (threads : ℕ) where
     are : commands_of said ≡ free_commands (commands_of all)
     releases : AllRelease threads (commands_of all)
 
-  releases_more : (script : List Command) (command : Command) → AllRelease threads script → Releases threads command → AllRelease threads (script ++ command ∷ [])
+  releases_more : (script : List PatchCommand) (command : PatchCommand) → AllRelease threads script → Releases threads command → AllRelease threads (script ++ command ∷ [])
   releases_more [] command all last = (last, tt)
   releases_more (first ∷ script) command all last = (all.0, releases_more script command all.1 last)
 
-  admitted_releases : (before : List Command) (command : Command) → IsAdmitted program threads before command → Releases threads command
+  admitted_releases : (before : List PatchCommand) (command : PatchCommand) → IsAdmitted program threads before command → Releases threads command
   admitted_releases before (commands.Release thread) a = within (a.thread)
     where
       within : is_beyond threads thread ≡ false → (0 < thread) × (thread ≤ threads)
@@ -273,7 +273,7 @@ module _ (program : Program) (threads : ℕ) where
   admitted_releases before (commands.Await thread count) a = tt
 
   -- a command more, and the lines after it
-  command_more : (line : List ℕ) (lines : List (List ℕ)) (number other : ℕ) (before free mid all : Lines) (command : Command)
+  command_more : (line : List ℕ) (lines : List (List ℕ)) (number other : ℕ) (before free mid all : Lines) (command : PatchCommand)
       → commands_of free ≡ free_commands (commands_of before) → AllRelease threads (commands_of before) → Says before number line mid command
       → ((next : ℕ) (mine : Lines) → commands_of mine ≡ free_commands (commands_of mid) → AllRelease threads (commands_of mid)
       → FreelyRead mine (enumerate_from next (filter stays_line lines)) all)
@@ -282,11 +282,11 @@ module _ (program : Program) (threads : ℕ) where
       by_waiting b is
     where
       mid_commands : commands_of mid ≡ commands_of before ++ command ∷ []
-      mid_commands = ap commands_of (sym says.adds) ∙ map-append (λ (l : ℕ × Command). l.1) before ((number, command) ∷ [])
+      mid_commands = ap commands_of (sym says.adds) ∙ map-append (λ (l : ℕ × PatchCommand). l.1) before ((number, command) ∷ [])
 
       more : AllRelease threads (commands_of mid)
       more =
-          subst (λ (cs : List Command). AllRelease threads cs) (sym mid_commands)
+          subst (λ (cs : List PatchCommand). AllRelease threads cs) (sym mid_commands)
           (releases_more (commands_of before) command releases (admitted_releases (commands_of before) command says.admitted))
 
       stay : stays_line line ≡ not (is_waiting command)
@@ -306,8 +306,8 @@ module _ (program : Program) (threads : ℕ) where
       by_waiting false is =
           let own : Lines = free ++ (other, command) ∷ [] in
           let own_commands : commands_of own ≡ free_commands (commands_of mid) =
-          map-append (λ (l : ℕ × Command). l.1) free ((other, command) ∷ [])
-          ∙ ap (λ (cs : List Command). cs ++ command ∷ []) same
+          map-append (λ (l : ℕ × PatchCommand). l.1) free ((other, command) ∷ [])
+          ∙ ap (λ (cs : List PatchCommand). cs ++ command ∷ []) same
           ∙ sym (ap free_commands mid_commands ∙ free_more (commands_of before) command false is) in
           let rest = later (other + 1) own own_commands more in
           let few : length free < 1024 =
@@ -316,11 +316,11 @@ module _ (program : Program) (threads : ℕ) where
             says.room,
             ap length same,
             free_few (commands_of before),
-            length-map free (λ (l : ℕ × Command). l.1),
-            length-map before (λ (l : ℕ × Command). l.1),
+            length-map free (λ (l : ℕ × PatchCommand). l.1),
+            length-map before (λ (l : ℕ × PatchCommand). l.1),
           ) in
           let admitted : IsAdmitted program threads (commands_of free) command =
-          subst (λ (cs : List Command). IsAdmitted program threads cs command) (sym same)
+          subst (λ (cs : List PatchCommand). IsAdmitted program threads cs command) (sym same)
           (may_follow program threads (commands_of before) command is says.admitted) in
           record {
             said = rest.said;
@@ -395,7 +395,7 @@ free_plan program threads text plan e =
     let last : ℕ = length (lines (free_text text)) + 1 in
     let goes : has_go (commands_of read.said) ≡ true = ap has_go read.are ∙ any_stays is_go go_stays (commands_of all) ∙ end.0 in
     let held : list_any (holds_for_good (commands_of read.said)) (commands_of read.said) ≡ false =
-    ap (λ (cs : List Command). list_any (holds_for_good (commands_of read.said)) cs) read.are ∙ none_held (commands_of all) (commands_of read.said) in
+    ap (λ (cs : List PatchCommand). list_any (holds_for_good (commands_of read.said)) cs) read.are ∙ none_held (commands_of all) (commands_of read.said) in
     let ends : ended last read.said ≡ Ok read.said = rw (goes, held) refl in
     let reads : read_lines program threads [] (numbered_lines (free_text text)) ≡ Ok read.said =
     ap (λ (ls : List (List ℕ)). read_lines program threads [] (enumerate_from 1 ls)) (free_lines text) ∙ read.read in
@@ -412,10 +412,10 @@ free_plan program threads text plan e =
 
 -- ---- nothing waits in it
 
-no_waits : (lines : Lines) (script : List Command) → commands_of lines ≡ free_commands script → waiting_line lines ≡ None
+no_waits : (lines : Lines) (script : List PatchCommand) → commands_of lines ≡ free_commands script → waiting_line lines ≡ None
 no_waits lines script same = none_waiting lines (ap (list_any is_waiting) same ∙ none_free script)
   where
-    none_free : (script : List Command) → list_any is_waiting (free_commands script) ≡ false
+    none_free : (script : List PatchCommand) → list_any is_waiting (free_commands script) ≡ false
     none_free [] = refl
     none_free (command ∷ script) = by_waiting (is_waiting command) refl (none_free script)
       where
@@ -432,10 +432,10 @@ no_waits lines script same = none_waiting lines (ap (list_any is_waiting) same �
       where
         by_waiting : (b : Bool) → is_waiting command ≡ b → (is_waiting command || list_any is_waiting (commands_of lines)) ≡ false
             → (list_any is_waiting (commands_of lines) ≡ false → waiting_line lines ≡ None)
-            → option_map (λ (line : ℕ × Command). line.0) (cond (is_waiting command) (Some (number, command)) (find (λ (line : ℕ × Command). is_waiting line.1) lines)) ≡ None
+            → option_map (λ (line : ℕ × PatchCommand). line.0) (cond (is_waiting command) (Some (number, command)) (find (λ (line : ℕ × PatchCommand). is_waiting line.1) lines)) ≡ None
         by_waiting true is none rest = absurd cc
         by_waiting false is none rest =
-            ap (λ b. option_map (λ (line : ℕ × Command). line.0) (cond b (Some (number, command)) (find (λ (line : ℕ × Command). is_waiting line.1) lines))) is
+            ap (λ b. option_map (λ (line : ℕ × PatchCommand). line.0) (cond b (Some (number, command)) (find (λ (line : ℕ × PatchCommand). is_waiting line.1) lines))) is
             ∙ rest (ap (λ b. b || list_any is_waiting (commands_of lines)) (sym is) ∙ none)
 
 pub free_waits : (program : Program) (threads : ℕ) (text : List ℕ) (plan : Plan) → (f : FreePlan program threads text plan) → waiting_line f.free.lines ≡ None

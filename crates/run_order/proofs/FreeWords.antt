@@ -4,8 +4,8 @@ use Rattle.std.specs.Prelude.{codes, find, is_some, option_and_then, option_map,
 use Rattle.std.proofs.lemmas.Slice.Eq.{bytes_eq-Decides}
 use Rattle.text_lines.specs.Keywords.{in_table, is_word}
 use Rattle.text_lines.specs.Numbers.{number_of}
-use Rattle.patch_script.specs.declared.command.Command.{Command}
-use Rattle.patch_script.specs.declared.command.Command.TheVariants as commands
+use Rattle.patch_script.specs.declared.command.PatchCommand.{PatchCommand}
+use Rattle.patch_script.specs.declared.command.PatchCommand.TheVariants as commands
 use Rattle.patch_script.specs.Language.{command_of, keyword_of, keywords}
 use Rattle.patch_script.specs.Plans.{is_waiting}
 use Rattle.run_order.specs.FreeScripts.{begins_wait}
@@ -36,16 +36,16 @@ some_given (Some value) next result e = refl
 
 -- what the words say waits exactly if the first word does
 abbrev Tells : List ℕ → Type 0
-Tells word = (following : List (List ℕ)) (command : Command) → command_of (word ∷ following) ≡ Some command
+Tells word = (following : List (List ℕ)) (command : PatchCommand) → command_of (word ∷ following) ≡ Some command
     → begins_wait (word ∷ following) ≡ is_waiting command
 
-made_one : (make : ℕ → Command) (waits : Bool) → ((n : ℕ) → is_waiting (make n) ≡ waits) → (word : List ℕ) (command : Command)
+made_one : (make : ℕ → PatchCommand) (waits : Bool) → ((n : ℕ) → is_waiting (make n) ≡ waits) → (word : List ℕ) (command : PatchCommand)
     → option_map make (number_of word) ≡ Some command → waits ≡ is_waiting command
 made_one make waits each word command e =
     let made = was_made make (number_of word) command e in
     sym (each made.value) ∙ ap is_waiting made.makes
 
-made_two : (make : ℕ → ℕ → Command) (waits : Bool) → ((n m : ℕ) → is_waiting (make n m) ≡ waits) → (first second : List ℕ) (command : Command)
+made_two : (make : ℕ → ℕ → PatchCommand) (waits : Bool) → ((n m : ℕ) → is_waiting (make n m) ≡ waits) → (first second : List ℕ) (command : PatchCommand)
     → option_and_then (λ (n : ℕ). option_map (make n) (number_of second)) (number_of first) ≡ Some command → waits ≡ is_waiting command
 made_two make waits each first second command e =
     let went = went_on (λ (n : ℕ). option_map (make n) (number_of second)) (number_of first) command e in
@@ -156,7 +156,7 @@ tells_at (suc (suc (suc (suc (suc (suc (suc (suc (suc (suc (suc (suc (suc zero))
 tells_at (suc (suc (suc (suc (suc (suc (suc (suc (suc (suc (suc (suc (suc (suc i)))))))))))))) word e = absurd cc
 
 -- The first word of a command says whether it waits.
-pub first_word_tells : (words : List (List ℕ)) (command : Command) → command_of words ≡ Some command → begins_wait words ≡ is_waiting command
+pub first_word_tells : (words : List (List ℕ)) (command : PatchCommand) → command_of words ≡ Some command → begins_wait words ≡ is_waiting command
 first_word_tells [] command e = absurd cc
 first_word_tells (word ∷ following) command e =
     let known = known_word keywords word (some_given (keyword_of word) _ command e) in

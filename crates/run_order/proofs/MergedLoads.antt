@@ -10,7 +10,7 @@ use Rattle.std.proofs.lemmas.List.Sums.{sum_by-cons}
 use Rattle.step_sim.specs.declared.turns.Turns.{Turns}
 use Rattle.step_sim.specs.declared.turns.Turns.TheVariants.{Thread, Patcher}
 use Rattle.run_order.specs.Merges.{AreWholeRuns, ComeByPlace, IsMerge, MayPrecede, ThreadLoad, loads_from, patcher_steps, turner, turn_count}
-use Rattle.run_order.specs.Orders.{joined, joined_to, ordered, thread_line, turns_at, turns_from}
+use Rattle.run_order.specs.Orders.{joined, joined_to, ordered, load_line, turns_at, turns_from}
 use Rattle.machine_step.specs.Follows.{Rise}
 
 -- ---- lists
@@ -64,10 +64,10 @@ from_place places place (suc steps) = at_place place 1 places ++ from_place plac
 
 -- the lines of the threads at a place, from a number on
 abbrev lines_at : ℕ → ℕ → List (List ℕ) → List Turns
-lines_at place number places = flat_map (λ own. thread_line own.0 (count_by (λ other. other == place) own.1)) (enumerate_from number places)
+lines_at place number places = flat_map (λ own. load_line own.0 (count_by (λ other. other == place) own.1)) (enumerate_from number places)
 
 line_loads : (place number n : ℕ) (lines : List Turns) (loads : List ThreadLoad) → loads_from place lines ≡ loads
-    → loads_from place (thread_line number n ++ lines) ≡ replicate n (load_by place number) ++ loads
+    → loads_from place (load_line number n ++ lines) ≡ replicate n (load_by place number) ++ loads
 line_loads place number zero lines loads e = e
 line_loads place number (suc n) lines loads e = ap (λ (ls : List ThreadLoad). replicate (suc n) (load_by place number) ++ ls) e
 
@@ -76,7 +76,7 @@ loads_at_place : (place number : ℕ) (places : List (List ℕ)) (later : List T
 loads_at_place place number [] later = refl
 loads_at_place place number (own ∷ places) later =
     let n = many place own in
-    ap (loads_from place) (append_assoc (thread_line number n) (lines_at place (number + 1) places) later)
+    ap (loads_from place) (append_assoc (load_line number n) (lines_at place (number + 1) places) later)
     ∙ line_loads place number n (lines_at place (number + 1) places ++ later) (at_place place (number + 1) places ++ loads_from place later)
     (loads_at_place place (number + 1) places later)
     ∙ sym (append_assoc (replicate n (load_by place number)) (at_place place (number + 1) places) (loads_from place later))
@@ -114,14 +114,14 @@ joined_steps [] = refl
 joined_steps (Thread thread loads ∷ lines) = joined_steps lines
 joined_steps (Patcher steps ∷ lines) = joined_to_steps (Patcher steps) (joined lines) ∙ ap (λ n. steps + n) (joined_steps lines)
 
-line_steps : (number n : ℕ) (lines : List Turns) → patcher_steps (thread_line number n ++ lines) ≡ patcher_steps lines
+line_steps : (number n : ℕ) (lines : List Turns) → patcher_steps (load_line number n ++ lines) ≡ patcher_steps lines
 line_steps number zero lines = refl
 line_steps number (suc n) lines = refl
 
 steps_at_place : (place number : ℕ) (places : List (List ℕ)) (later : List Turns) → patcher_steps (lines_at place number places ++ later) ≡ patcher_steps later
 steps_at_place place number [] later = refl
 steps_at_place place number (own ∷ places) later =
-    ap patcher_steps (append_assoc (thread_line number (many place own)) (lines_at place (number + 1) places) later)
+    ap patcher_steps (append_assoc (load_line number (many place own)) (lines_at place (number + 1) places) later)
     ∙ line_steps number (many place own) (lines_at place (number + 1) places ++ later) ∙ steps_at_place place (number + 1) places later
 
 steps_of_turns : (places : List (List ℕ)) (place steps : ℕ) → patcher_steps (turns_from places place steps) ≡ steps
@@ -391,7 +391,7 @@ begins_lower number (Thread thread loads ∷ lines) begins = omega (arith, begin
 begins_lower number (Patcher steps ∷ lines) begins = tt
 
 -- lines of threads stay as they are
-join_line : (number n : ℕ) (lines : List Turns) → joined (thread_line number n ++ lines) ≡ thread_line number n ++ joined lines
+join_line : (number n : ℕ) (lines : List Turns) → joined (load_line number n ++ lines) ≡ load_line number n ++ joined lines
 join_line number zero lines = refl
 join_line number (suc n) lines = refl
 
@@ -399,7 +399,7 @@ record RunsFrom (number : ℕ) (lines : List Turns) : Type 0 where
   runs : AreWholeRuns lines
   begins : BeginsFrom number lines
 
-line_runs : (number n : ℕ) (lines : List Turns) → 0 < number → RunsFrom (number + 1) lines → RunsFrom number (thread_line number n ++ lines)
+line_runs : (number n : ℕ) (lines : List Turns) → 0 < number → RunsFrom (number + 1) lines → RunsFrom number (load_line number n ++ lines)
 line_runs number zero lines some its = record { runs = its.runs; begins = begins_lower number lines its.begins }
 line_runs number (suc n) lines some its =
     let more : 0 < suc n = omega arith in
@@ -411,8 +411,8 @@ runs_at : (place number : ℕ) (places : List (List ℕ)) (later : List Turns) �
 runs_at place number [] later some runs begins = record { runs = runs; begins = steps_begin number (joined later) begins }
 runs_at place number (own ∷ places) later some runs begins =
     let n = many place own in
-    let same : joined (lines_at place number (own ∷ places) ++ later) ≡ thread_line number n ++ joined (lines_at place (number + 1) places ++ later) =
-    ap joined (append_assoc (thread_line number n) (lines_at place (number + 1) places) later)
+    let same : joined (lines_at place number (own ∷ places) ++ later) ≡ load_line number n ++ joined (lines_at place (number + 1) places ++ later) =
+    ap joined (append_assoc (load_line number n) (lines_at place (number + 1) places) later)
     ∙ join_line number n (lines_at place (number + 1) places ++ later) in
     subst (RunsFrom number) (sym same)
     (line_runs number n (joined (lines_at place (number + 1) places ++ later)) some (runs_at place (number + 1) places later (omega arith) runs begins))

@@ -11,7 +11,7 @@ use Rattle.step_sim.proofs.AllThreads.{set_cases}
 use Rattle.step_sim.specs.declared.turns.Turns.{Turns}
 use Rattle.run_order.specs.declared.lines.ScheduleLines.{ScheduleLines}
 use Rattle.audit_check.specs.declared.stop.Stop.{Stop}
-use Rattle.run_order.specs.Orders.{thread_line, turns_at}
+use Rattle.run_order.specs.Orders.{load_line, turns_at}
 use Rattle.run_order.specs.private.Lines.{HasJoined}
 use Rattle.audit_check.specs.Stops.{places_of}
 use Rattle.run_order.specs.private.Stops.{AllFrom, ArePassed, AreStops, HaveAdded, Passes, loads_at, places_in}
@@ -19,7 +19,7 @@ use Rattle.run_order.proofs.ReplayAlongPlaces.{take_next}
 
 -- the line of a thread at a place, by its number and the places of its loads
 abbrev pub line_at : ℕ → ℕ × List ℕ → List Turns
-line_at place own = thread_line own.0 (count_by (λ other. other == place) own.1)
+line_at place own = load_line own.0 (count_by (λ other. other == place) own.1)
 
 -- ---- lists
 
@@ -57,7 +57,7 @@ passed_more place i old new was later are found passes = record {
 
 pub added_more : (place i : ℕ) (old : List (Bor (List Stop))) (was : Bor (List Stop)) (first mid last : ScheduleLines)
     → HaveAdded place i old first mid → slice_get old i ≡ Some was
-    → ((turns : List Turns) → HasJoined turns mid → HasJoined (turns ++ thread_line (i + 1) (loads_at place was.now)) last)
+    → ((turns : List Turns) → HasJoined turns mid → HasJoined (turns ++ load_line (i + 1) (loads_at place was.now)) last)
     → HaveAdded place (i + 1) old first last
 added_more place i old was first mid last added found more turns joined =
     let all = enumerate_from 1 (places_in old) in
@@ -65,9 +65,9 @@ added_more place i old was first mid last added found more turns joined =
     let next : slice_get all i ≡ Some (1 + i, places_of was.now) = numbered_at 1 i (places_in old) (places_of was.now) there in
     let number : 1 + i ≡ i + 1 = omega arith in
     let front : List Turns = flat_map (line_at place) (take i all) in
-    let line : List Turns = thread_line (i + 1) (loads_at place was.now) in
+    let line : List Turns = load_line (i + 1) (loads_at place was.now) in
     let one : flat_map (line_at place) ((1 + i, places_of was.now) ∷ []) ≡ line =
-    append-nil (thread_line (1 + i) (loads_at place was.now)) ∙ ap (λ n. thread_line n (loads_at place was.now)) number in
+    append-nil (load_line (1 + i) (loads_at place was.now)) ∙ ap (λ n. load_line n (loads_at place was.now)) number in
     let whole : flat_map (line_at place) (take (i + 1) all) ≡ front ++ line =
     ap (flat_map (line_at place)) (take_next all i (1 + i, places_of was.now) next)
     ∙ flat_map-append (line_at place) (take i all) ((1 + i, places_of was.now) ∷ [])
@@ -110,8 +110,8 @@ same_turns place other number (was ∷ old) (is ∷ new) are stops after =
     let passes : Passes place was.now is.now = are.passed 0 was is (omega arith) refl refl in
     let same : loads_at other is.now ≡ loads_at other was.now = passes.same other (stops 0 was (omega arith)) after in
     let rest = same_turns place other (number + 1) old new (passed_tail place (length old) was is old new are) (λ k d low. stops (suc k) d (omega (arith, low))) after in
-    ap (λ n. thread_line number n ++ flat_map (line_at other) (enumerate_from (number + 1) (places_in new))) same
-    ∙ ap (λ (ls : List Turns). thread_line number (loads_at other was.now) ++ ls) rest
+    ap (λ n. load_line number n ++ flat_map (line_at other) (enumerate_from (number + 1) (places_in new))) same
+    ∙ ap (λ (ls : List Turns). load_line number (loads_at other was.now) ++ ls) rest
 
 pub stops_left : (place : ℕ) (old new : List (Bor (List Stop))) → ArePassed place (length old) old new → AllFrom place old → AllFrom (place + 1) new
 stops_left place old new are stops k d low =

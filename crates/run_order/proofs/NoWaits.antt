@@ -2,8 +2,8 @@
 use Rattle.std.proofs.Common.{◌≡◌, ℕ, ◌+◌, Bool, true, false, cond, List, [], ◌∷◌, Option, None, Some, refl, sym, ap, ◌∙◌, arith, length}
 use Rattle.std.specs.Prelude.{filter, find, not, option_map}
 use Rattle.xray_image.specs.Program.{Program}
-use Rattle.patch_script.specs.declared.command.Command.{Command}
-use Rattle.patch_script.specs.declared.command.Command.TheVariants as commands
+use Rattle.patch_script.specs.declared.command.PatchCommand.{PatchCommand}
+use Rattle.patch_script.specs.declared.command.PatchCommand.TheVariants as commands
 use Rattle.patch_script.specs.declared.micro.Micro.{Micro}
 use Rattle.patch_script.specs.Micros.{micros}
 use Rattle.patch_script.specs.Plans.{is_waiting, waiting_line}
@@ -13,12 +13,12 @@ use Rattle.run_order.specs.private.Waits.{waits_from, waits_of}
 use Rattle.run_order.proofs.FreeMicros.{AllRelease, Releases, free_micros}
 
 -- the first line isn't one at which something waits, and neither is a later one
-none_first : (number : ℕ) (command : Command) (lines : Lines) → waiting_line ((number, command) ∷ lines) ≡ None
+none_first : (number : ℕ) (command : PatchCommand) (lines : Lines) → waiting_line ((number, command) ∷ lines) ≡ None
     → (is_waiting command ≡ false) × (waiting_line lines ≡ None)
 none_first number command lines none = by_waiting (is_waiting command) refl none
   where
     line_of : Bool → Option ℕ
-    line_of b = option_map (λ (line : ℕ × Command). line.0) (cond b (Some (number, command)) (find (λ (line : ℕ × Command). is_waiting line.1) lines))
+    line_of b = option_map (λ (line : ℕ × PatchCommand). line.0) (cond b (Some (number, command)) (find (λ (line : ℕ × PatchCommand). is_waiting line.1) lines))
 
     by_waiting : (b : Bool) → is_waiting command ≡ b → line_of (is_waiting command) ≡ None → (b ≡ false) × (waiting_line lines ≡ None)
     by_waiting true is none =
@@ -31,7 +31,7 @@ all_stay [] none = refl
 all_stay ((number, command) ∷ lines) none =
     let first = none_first number command lines none in
     ap (λ b. cond (not b) (command ∷ free_commands (commands_of lines)) (free_commands (commands_of lines))) first.0
-    ∙ ap (λ (cs : List Command). command ∷ cs) (all_stay lines first.1)
+    ∙ ap (λ (cs : List PatchCommand). command ∷ cs) (all_stay lines first.1)
 
 no_releases : (threads : ℕ) (lines : Lines) → waiting_line lines ≡ None → AllRelease threads (commands_of lines)
 no_releases threads [] none = tt
@@ -39,7 +39,7 @@ no_releases threads ((number, command) ∷ lines) none =
     let first = none_first number command lines none in
     (no_release command first.0, no_releases threads lines first.1)
   where
-    no_release : (command : Command) → is_waiting command ≡ false → Releases threads command
+    no_release : (command : PatchCommand) → is_waiting command ≡ false → Releases threads command
     no_release (commands.Release thread) free = absurd cc
     no_release _ free = tt
 

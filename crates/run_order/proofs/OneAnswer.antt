@@ -4,7 +4,7 @@ use Rattle.std.specs.Prelude.{Result, Ok, Err, option_map, slice_get}
 use Rattle.std.proofs.lemmas.Option.{slice_get-map, slice_get_within}
 use Rattle.xray_image.specs.Program.{Program}
 use Rattle.handler_word.specs.declared.mark.Mark.{Mark}
-use Rattle.patch_script.specs.declared.command.Command.{Command}
+use Rattle.patch_script.specs.declared.command.PatchCommand.{PatchCommand}
 use Rattle.machine_step.specs.Buffers.{spare_of}
 use Rattle.machine_step.specs.declared.setup.Setup.{Setup}
 use Rattle.machine_step.specs.Traced.{sleds_passed}
@@ -16,13 +16,13 @@ use Rattle.step_sim.specs.declared.turns.Turns.{Turns}
 use Rattle.audit_check.specs.declared.verdict.Verdict.{Verdict}
 use Rattle.audit_check.specs.declared.verdict.Verdict.TheVariants as verdicts
 use Rattle.audit_check.specs.Rows.{AreRunsOf}
-use Rattle.audit_check.specs.Statements.{NamesThreads, Statement, run_statement}
+use Rattle.audit_check.specs.Statements.{NamesThreads, AuditStatement, run_statement}
 use Rattle.audit_check.specs.Verdicts.{IsJudged}
 use Rattle.audit_check.proofs.LawfulRuns.{ends_stated, marks_stated, runs_stated}
 use Rattle.audit_check.proofs.OneVerdict.{OneEnd, first_same, not_first, runs_same}
 use Rattle.run_order.specs.declared.fault.OrderFault.{OrderFault}
 use Rattle.run_order.specs.declared.fault.OrderFault.TheVariants.{Ends, Marks, Long, NoMemory}
-use Rattle.run_order.specs.Answers.{EndsAgree, IsAnswer, IsOrderOrLong, IsOrdered, MarksAgree}
+use Rattle.run_order.specs.Answers.{AllEndsAgree, AnswersOrder, IsOrderOrLong, IsOrdered, AllMarksAgree}
 use Rattle.run_order.specs.Orders.{is_long}
 use Rattle.run_order.specs.RunOrders.{IsOrderOf}
 use Rattle.run_order.proofs.OrderLeavesRun.{one_order, some_order}
@@ -32,7 +32,7 @@ use Rattle.run_order.proofs.OrderLeavesRun.{one_order, some_order}
 abbrev Answer : Type 0
 Answer = Result (List Turns) OrderFault
 
-module _ (program : Program) (script : List Command) (s : Statement) (runs : List ThreadRun) where
+module _ (program : Program) (script : List PatchCommand) (s : AuditStatement) (runs : List ThreadRun) where
   same_length : (one other : List Turns) → IsOrderOf program s.setup.threads script runs one → IsOrderOf program s.setup.threads script runs other
       → is_long one ≡ true → is_long other ≡ false → ⊥
   same_length one other a b long short =
@@ -40,7 +40,7 @@ module _ (program : Program) (script : List Command) (s : Statement) (runs : Lis
       let e : true ≡ false = sym long ∙ ap is_long same ∙ short in
       absurd cc
 
-  answers_same : (v w : Answer) → IsAnswer program script s runs v → IsAnswer program script s runs w → v ≡ w
+  answers_same : (v w : Answer) → AnswersOrder program script s runs v → AnswersOrder program script s runs w → v ≡ w
   answers_same (Err (Ends t)) (Err (Ends u)) a b = ap (λ n. let x : Answer = Err (Ends n) in x) (first_same _ _ t u a b)
   answers_same (Err (Ends t)) (Err (Marks u)) a b = absurd (not_first _ _ t b.0 a)
   answers_same (Err (Ends t)) (Err Long) a b = absurd (not_first _ _ t b.0 a)
@@ -63,17 +63,17 @@ module _ (program : Program) (script : List Command) (s : Statement) (runs : Lis
   answers_same (Ok one) (Err NoMemory) a b = absurd b
   answers_same (Ok one) (Ok other) a b = ap (λ (o : List Turns). let x : Answer = Ok o in x) (one_order program s.setup.threads script runs one other a.2 b.2)
 
-pub ordered_same : (program : Program) → OneEnd program → (script : List Command) (s : Statement) (v w : Answer)
+pub ordered_same : (program : Program) → OneEnd program → (script : List PatchCommand) (s : AuditStatement) (v w : Answer)
     → IsOrdered program script s v → IsOrdered program script s w → v ≡ w
 ordered_same program one script s v w a b =
     let same = runs_same program one s a.runs b.runs a.are b.are in
-    answers_same program script s b.runs v w (subst (λ (rs : List ThreadRun). IsAnswer program script s rs v) same a.answer_is) b.answer_is
+    answers_same program script s b.runs v w (subst (λ (rs : List ThreadRun). AnswersOrder program script s rs v) same a.answer_is) b.answer_is
 
 -- ---- some answer
 
 -- marks that agree follow the script
-marks_follow : (program : Program) (script : List Command) (s : Statement) (runs : List ThreadRun) → NamesThreads s → AreRunsOf program s runs
-    → MarksAgree program script s runs → AllMarksFollow program s.setup.threads script runs
+marks_follow : (program : Program) (script : List PatchCommand) (s : AuditStatement) (runs : List ThreadRun) → NamesThreads s → AreRunsOf program s runs
+    → AllMarksAgree program script s runs → AllMarksFollow program s.setup.threads script runs
 marks_follow program script s runs names are agree i run e = by_said (slice_get s.threads i) refl
   where
     by_said : (said : Option ThreadAudit) → slice_get s.threads i ≡ said
@@ -97,8 +97,8 @@ marks_follow program script s runs names are agree i run e = by_said (slice_get 
         let marks : run.marks ≡ said.marks = cc in
         subst (λ (ms : List Mark). MarksFollowScript program s.setup.threads script (i + 1) (sleds_passed run.passed) ms) (sym marks) row.follow
 
-some_long : (program : Program) (script : List Command) (s : Statement) (runs : List ThreadRun) (are : AreRunsOf program s runs) → NamesThreads s
-    → EndsAgree program script s runs → MarksAgree program script s runs → (answer : Answer) × IsOrdered program script s answer
+some_long : (program : Program) (script : List PatchCommand) (s : AuditStatement) (runs : List ThreadRun) (are : AreRunsOf program s runs) → NamesThreads s
+    → AllEndsAgree program script s runs → AllMarksAgree program script s runs → (answer : Answer) × IsOrdered program script s answer
 some_long program script s runs are names ends marks =
     let order = some_order program s.setup script runs are.run (marks_follow program script s runs names are marks) in
     by_length order.0 order.1 (is_long order.0) refl
@@ -111,7 +111,7 @@ some_long program script s runs are names ends marks =
         (Ok schedule, record { runs = runs; are = are; answer_is = (ends, marks, order, short) })
 
 -- the audit of a lawful run has an order, or one that is too long
-pub lawful_answer : (program : Program) (script : List Command) (setup : Setup) (runs : List ThreadRun) → IsRun program setup runs
+pub lawful_answer : (program : Program) (script : List PatchCommand) (setup : Setup) (runs : List ThreadRun) → IsRun program setup runs
     → AllMarksFollow program setup.threads script runs → AreLost setup.size (spare_of setup) runs
     → (answer : Answer) × IsOrdered program script (run_statement setup runs) answer × IsOrderOrLong answer
 lawful_answer program script setup runs is follow lost =
@@ -140,7 +140,7 @@ lawful_answer program script setup runs is follow lost =
     )
 
 -- what is judged has an answer
-pub some_answer : (program : Program) (script : List Command) (s : Statement) (verdict : Verdict) → NamesThreads s → IsJudged program script s [] verdict
+pub some_answer : (program : Program) (script : List PatchCommand) (s : AuditStatement) (verdict : Verdict) → NamesThreads s → IsJudged program script s [] verdict
     → (answer : Answer) × IsOrdered program script s answer
 some_answer program script s (verdicts.Ends t) names judged = (Err (Ends t), record { runs = judged.runs; are = judged.are; answer_is = judged.verdict_is })
 some_answer program script s (verdicts.Marks t) names judged = (Err (Marks t), record { runs = judged.runs; are = judged.are; answer_is = judged.verdict_is })

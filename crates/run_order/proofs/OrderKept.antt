@@ -3,7 +3,7 @@ use Rattle.std.proofs.Common.{◌≡◌, ℕ, ◌+◌, ◌-◌, ◌<◌, ◌≤�
 use Rattle.std.specs.Prelude.{slice_get}
 use Rattle.std.proofs.lemmas.Option.{slice_get_within}
 use Rattle.xray_image.specs.Program.{Program}
-use Rattle.patch_script.specs.declared.command.Command.{Command}
+use Rattle.patch_script.specs.declared.command.PatchCommand.{PatchCommand}
 use Rattle.patch_script.specs.Bounds.{bound_of}
 use Rattle.patch_script.specs.CodeAt.{code_at}
 use Rattle.patch_script.specs.Micros.{total_of}
@@ -20,7 +20,7 @@ use Rattle.run_order.proofs.OrderLeavesRun.{run_exists, sleds_all, sleds_exist}
 use Rattle.run_order.proofs.OrderOfRun.{none_there}
 use Rattle.run_order.proofs.PlacesKept.{places_kept}
 
-pub order_kept : (program : Program) (script : List Command) (setup : Setup) (runs : List ThreadRun) (schedule : List Turns)
+pub order_kept : (program : Program) (script : List PatchCommand) (setup : Setup) (runs : List ThreadRun) (schedule : List Turns)
     → ((thread passing : ℕ) → bound_of program setup.threads script thread passing ≤ total_of program setup.threads script) → IsRun program setup runs
     → (order : IsOrderOf program setup.threads script runs schedule) → KeepScriptOf program setup.threads script runs order.places
 order_kept program script setup runs schedule bounds is order i run e = by_own (slice_get order.places (i + 1 - 1)) refl

@@ -7,7 +7,7 @@ use Rattle.std.proofs.lemmas.List.Elements.{All-cons, All-head, All-nil, All-tai
 use Rattle.std.proofs.lemmas.Option.{slice_get_within}
 use Rattle.xray_image.specs.Program.{Program}
 use Rattle.handler_word.specs.declared.mark.Mark.{Mark}
-use Rattle.patch_script.specs.declared.command.Command.{Command}
+use Rattle.patch_script.specs.declared.command.PatchCommand.{PatchCommand}
 use Rattle.patch_script.specs.Bounds.{bound_of}
 use Rattle.patch_script.specs.CodeAt.{code_at}
 use Rattle.patch_script.specs.Micros.{hold_of, is_go, start_of, total_of}
@@ -99,7 +99,7 @@ run_exists program setup runs is i run e =
     let plain = is.plain i run e in
     run_sleds program setup.limits (i + 1) plain.0 (opening program (i + 1)) run.passed run.end run.last plain.1
 
-have_of : (program : Program) (setup : Setup) (script : List Command) (runs : List ThreadRun) (places : List (List ℕ)) → IsRun program setup runs
+have_of : (program : Program) (setup : Setup) (script : List PatchCommand) (runs : List ThreadRun) (places : List (List ℕ)) → IsRun program setup runs
     → AreRunPlaces program (length (passings_of runs)) script runs places → HavePlaces program script runs places
 have_of program setup script runs places is are = record {
   count = are.count;
@@ -110,7 +110,7 @@ have_of program setup script runs places is are = record {
       are.each i run e ∙ ap (slice_get places) back ∙ f;
 }
 
-pub starts_within : (program : Program) (threads : ℕ) (script : List Command) → start_of program threads script ≤ total_of program threads script
+pub starts_within : (program : Program) (threads : ℕ) (script : List PatchCommand) → start_of program threads script ≤ total_of program threads script
 starts_within program threads script = front_steps program threads [] (prefix_len (λ c. not (is_go c)) script) script
 
 -- ---- what the order of a run leaves
@@ -122,10 +122,10 @@ HasBuffers = (cast : Cast) (pooling : Pooling) (schedule : List Turns) (marks : 
 
 -- no bound is after the script's end
 abbrev pub BoundsWithin : Type 0
-BoundsWithin = (program : Program) (threads : ℕ) (script : List Command) (thread passing : ℕ)
+BoundsWithin = (program : Program) (threads : ℕ) (script : List PatchCommand) (thread passing : ℕ)
     → bound_of program threads script thread passing ≤ total_of program threads script
 
-pub order_leaves : HasBuffers → BoundsWithin → (program : Program) (setup : Setup) (script : List Command) (runs : List ThreadRun) (schedule : List Turns)
+pub order_leaves : HasBuffers → BoundsWithin → (program : Program) (setup : Setup) (script : List PatchCommand) (runs : List ThreadRun) (schedule : List Turns)
     → IsRun program setup runs → AllRelease setup.threads script → IsOrderOf program setup.threads script runs schedule
     → (replayed : List ThreadRun) × IsReplayOf program (free_commands script) schedule setup replayed × (without_losses replayed ≡ without_losses runs)
 order_leaves buffers bounds program setup script runs schedule is releases order =
@@ -143,7 +143,7 @@ order_leaves buffers bounds program setup script runs schedule is releases order
     leaves : IsRun program setup runs → Replay (cast_with program (free_commands script) runs) schedule (map (λ (run : ThreadRun). run.marks) runs)
         → (replayed : List ThreadRun) × IsReplayOf program (free_commands script) schedule setup replayed × (without_losses replayed ≡ without_losses runs)
     leaves is replay =
-        let free : List Command = free_commands script in
+        let free : List PatchCommand = free_commands script in
         let pooling_by : List (List Passing) → Pooling = λ ps. pooling_of (cast_of program free (map sleds_passed ps)) ps setup.size (spare_of setup) in
         let pooled = buffers (cast_with program free runs) (pooling_by (passed_of runs)) schedule (map (λ (run : ThreadRun). run.marks) runs) replay in
         let last : Pooled = pooled.0 in
@@ -199,7 +199,7 @@ collect (first ∷ runs) Own each =
         (own, refl, subst (λ (r : ThreadRun). Own 0 r own) same holds)
     at own holds others each (suc i) run e = each i run e
 
-pub some_order : (program : Program) (setup : Setup) (script : List Command) (runs : List ThreadRun) → IsRun program setup runs
+pub some_order : (program : Program) (setup : Setup) (script : List PatchCommand) (runs : List ThreadRun) → IsRun program setup runs
     → AllMarksFollow program setup.threads script runs → (schedule : List Turns) × IsOrderOf program setup.threads script runs schedule
 some_order program setup script runs is follow =
     let threads : ℕ = setup.threads in
@@ -232,7 +232,7 @@ same_lists {X = X} (x ∷ xs) (y ∷ ys) count each =
     let rest = same_lists xs ys (omega (arith, count)) (λ i low. each (suc i) (omega (arith, low))) in
     ap (λ (z : X). z ∷ xs) same ∙ ap (λ (zs : List X). y ∷ zs) rest
 
-pub one_order : (program : Program) (threads : ℕ) (script : List Command) (runs : List ThreadRun) (schedule other : List Turns)
+pub one_order : (program : Program) (threads : ℕ) (script : List PatchCommand) (runs : List ThreadRun) (schedule other : List Turns)
     → IsOrderOf program threads script runs schedule → IsOrderOf program threads script runs other → schedule ≡ other
 one_order program threads script runs schedule other a b =
     let same : a.places ≡ b.places =

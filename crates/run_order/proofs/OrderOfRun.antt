@@ -4,7 +4,7 @@ use Rattle.std.specs.Prelude.{option_map, slice_get}
 use Rattle.std.proofs.lemmas.List.{length-map}
 use Rattle.std.proofs.lemmas.Option.{slice_get-map}
 use Rattle.xray_image.specs.Program.{Program}
-use Rattle.patch_script.specs.declared.command.Command.{Command}
+use Rattle.patch_script.specs.declared.command.PatchCommand.{PatchCommand}
 use Rattle.patch_script.specs.Bounds.{bound_of}
 use Rattle.patch_script.specs.CodeAt.{code_at}
 use Rattle.patch_script.specs.Micros.{hold_of, start_of, total_of}
@@ -46,14 +46,14 @@ passings_at runs i run e =
     ∙ ap (option_map sleds_passed) (slice_get-map (λ (run : ThreadRun). run.passed) runs i ∙ ap (option_map (λ (run : ThreadRun). run.passed)) e)
 
 -- each thread passes sleds that exist, and its loads have these places in the script without waits
-pub record HavePlaces (program : Program) (script : List Command) (runs : List ThreadRun) (places : List (List ℕ)) : Type 0 where
+pub record HavePlaces (program : Program) (script : List PatchCommand) (runs : List ThreadRun) (places : List (List ℕ)) : Type 0 where
   pub count : length places ≡ length runs
   pub exist : (i : ℕ) (run : ThreadRun) → slice_get runs i ≡ Some run
       → Exist program (length (passings_of runs)) (code_at program (length (passings_of runs)) script) (i + 1) (sleds_passed run.passed)
   pub places_are : (i : ℕ) (run : ThreadRun) (own : List ℕ) → slice_get runs i ≡ Some run → slice_get places i ≡ Some own
       → free_places program (length (passings_of runs)) script (i + 1) (sleds_passed run.passed) run.marks ≡ Some own
 
-module _ (program : Program) (script : List Command) (runs : List ThreadRun) (releases : AllRelease (length (passings_of runs)) script)
+module _ (program : Program) (script : List PatchCommand) (runs : List ThreadRun) (releases : AllRelease (length (passings_of runs)) script)
     (bounds : (thread passing : ℕ) → bound_of program (length (passings_of runs)) script thread passing ≤ total_of program (length (passings_of runs)) script)
     (starts : start_of program (length (passings_of runs)) script ≤ total_of program (length (passings_of runs)) script)
     (places : List (List ℕ)) (have : HavePlaces program script runs places)

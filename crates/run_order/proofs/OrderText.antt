@@ -12,7 +12,7 @@ use Rattle.step_sim.specs.WrittenSchedules.{HasWords}
 use Rattle.trace_flush.specs.Audit.{ThreadAudit}
 use Rattle.traced_run.specs.Runs.{ThreadRun}
 use Rattle.xray_image.specs.Program.{IsAccepted, Program}
-use Rattle.audit_check.specs.Statements.{HasCounts, MayState, Statement}
+use Rattle.audit_check.specs.Statements.{HasCounts, MayState, AuditStatement}
 use Rattle.run_order.specs.Answers.{IsOrdered}
 use Rattle.run_order.specs.Orders.{is_long}
 use Rattle.run_order.proofs.FewLoads.{free_few}
@@ -50,7 +50,7 @@ pub record MayBeWritten (threads : ℕ) (schedule : List Turns) : Type 0 where
   pub words : All HasWords schedule
   pub short : is_long schedule ≡ false
 
-pub order_written : (bytes : List ℕ) (program : Program) (text : List ℕ) (plan : Plan) (statement : Statement) (schedule : List Turns)
+pub order_written : (bytes : List ℕ) (program : Program) (text : List ℕ) (plan : Plan) (statement : AuditStatement) (schedule : List Turns)
     → IsAccepted bytes program → MayState statement → plan_of program statement.setup.threads text ≡ Ok plan
     → IsOrdered program (commands_of plan.lines) statement (Ok schedule) → MayBeWritten statement.setup.threads schedule
 order_written bytes program text plan statement schedule accepted may e ordered =

@@ -7,7 +7,7 @@ use Rattle.std.proofs.lemmas.List.Sums.{count_by-le-length}
 use Rattle.step_sim.specs.declared.turns.Turns.{Turns}
 use Rattle.step_sim.specs.declared.turns.Turns.TheVariants.{Thread, Patcher}
 use Rattle.step_sim.specs.WrittenSchedules.{HasWords}
-use Rattle.run_order.specs.Orders.{joined, joined_to, ordered, thread_line, turns_at, turns_from}
+use Rattle.run_order.specs.Orders.{joined, joined_to, ordered, load_line, turns_at, turns_from}
 
 -- ---- lines
 
@@ -37,24 +37,24 @@ later_steps (Patcher count) later = omega arith
 
 -- ---- before they are joined
 
-line_loads : (thread loads : ℕ) → loads ≤ 4294967295 → All HasLoads (thread_line thread loads)
+line_loads : (thread loads : ℕ) → loads ≤ 4294967295 → All HasLoads (load_line thread loads)
 line_loads thread zero fits = All-nil HasLoads
 line_loads thread (suc loads) fits = All-cons HasLoads (Thread thread (suc loads)) [] fits (All-nil HasLoads)
 
-line_steps : (thread loads : ℕ) → steps_in (thread_line thread loads) ≡ 0
+line_steps : (thread loads : ℕ) → steps_in (load_line thread loads) ≡ 0
 line_steps thread zero = refl
 line_steps thread (suc loads) = refl
 
 -- the lines of threads from a number on, at a place
 abbrev lines_at : (place number : ℕ) → List (List ℕ) → List Turns
-lines_at place number places = flat_map (λ own. thread_line own.0 (count_by (λ other. other == place) own.1)) (enumerate_from number places)
+lines_at place number places = flat_map (λ own. load_line own.0 (count_by (λ other. other == place) own.1)) (enumerate_from number places)
 
 at_loads : (place number : ℕ) (places : List (List ℕ)) → All HasFew places → All HasLoads (lines_at place number places)
 at_loads place number [] few = All-nil HasLoads
 at_loads place number (own ∷ places) few =
     let count = count_by-le-length (λ other. other == place) own in
     let all = All-head HasFew own places few in
-    All-append HasLoads (thread_line number (count_by (λ other. other == place) own)) (lines_at place (number + 1) places)
+    All-append HasLoads (load_line number (count_by (λ other. other == place) own)) (lines_at place (number + 1) places)
     (line_loads number (count_by (λ other. other == place) own) (omega (arith, count, all)))
     (at_loads place (number + 1) places (All-tail HasFew own places few))
 
@@ -64,7 +64,7 @@ at_steps place number (own ∷ places) =
     let count : ℕ = count_by (λ other. other == place) own in
     omega (
       arith,
-      steps-append (thread_line number count) (lines_at place (number + 1) places),
+      steps-append (load_line number count) (lines_at place (number + 1) places),
       line_steps number count,
       at_steps place (number + 1) places,
     )

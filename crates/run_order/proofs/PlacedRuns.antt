@@ -4,7 +4,7 @@ use Rattle.std.specs.Prelude.{◌⊎◌, All, Ok, Err, Result, option_map, repli
 use Rattle.std.proofs.lemmas.List.{length-map}
 use Rattle.std.proofs.lemmas.Option.{slice_get-get_or, slice_get-map, slice_get_within}
 use Rattle.xray_image.specs.Program.{Program}
-use Rattle.patch_script.specs.declared.command.Command.{Command}
+use Rattle.patch_script.specs.declared.command.PatchCommand.{PatchCommand}
 use Rattle.patch_script.specs.Bounds.{bound_of}
 use Rattle.patch_script.specs.CodeAt.{code_at}
 use Rattle.patch_script.specs.Micros.{hold_of, start_of, total_of}
@@ -20,11 +20,11 @@ use Rattle.audit_check.specs.declared.stop.Stop.{Stop}
 use Rattle.audit_check.specs.Places.{load_places}
 use Rattle.audit_check.specs.Placings.{AreLoadPlaces, ArePlaced, all_places, placed_by}
 use Rattle.audit_check.specs.Rows.{AreRunsOf}
-use Rattle.audit_check.specs.Statements.{NamesThreads, Statement}
+use Rattle.audit_check.specs.Statements.{NamesThreads, AuditStatement}
 use Rattle.audit_check.specs.Stops.{AreJoined, places_of}
 use Rattle.run_order.specs.declared.fault.OrderFault.{OrderFault}
 use Rattle.run_order.specs.declared.fault.OrderFault.TheVariants.{Long, NoMemory}
-use Rattle.run_order.specs.Answers.{EndsAgree, IsOrdered, MarksAgree}
+use Rattle.run_order.specs.Answers.{AllEndsAgree, IsOrdered, AllMarksAgree}
 use Rattle.run_order.specs.FreeScripts.{free_commands, free_place}
 use Rattle.run_order.specs.Orders.{is_long, ordered}
 use Rattle.machine_step.specs.Follows.{Rise}
@@ -73,7 +73,7 @@ map_within f g from last (place ∷ places) same rise =
 
 -- ---- the order
 
-module _ (bounds : BoundsWithin) (program : Program) (script : List Command) (statement : Statement) (runs : List ThreadRun) (are : AreRunsOf program statement runs)
+module _ (bounds : BoundsWithin) (program : Program) (script : List PatchCommand) (statement : AuditStatement) (runs : List ThreadRun) (are : AreRunsOf program statement runs)
     (all : List (List ℕ)) (load : AreLoadPlaces program statement.setup.threads script runs all) where
   abbrev threads : ℕ
   threads = statement.setup.threads
@@ -213,7 +213,7 @@ module _ (bounds : BoundsWithin) (program : Program) (script : List Command) (st
           let same : places_of (items (get_or others k d)) ≡ map (freed waits) (places_of (items (get_or owns k d))) = cc in
           stops_rise waits waits_are k (places_of (items (get_or owns k d))) (items (get_or others k d)) (own_at k d within) same (joined k d low)
 
-  pub answer_is : EndsAgree program script statement runs → MarksAgree program script statement runs → (schedule : List Turns)
+  pub answer_is : AllEndsAgree program script statement runs → AllMarksAgree program script statement runs → (schedule : List Turns)
       → IsOrderOf program threads script runs schedule → IsOrdered program script statement (cut schedule)
   answer_is ends marks schedule order = by_length (is_long schedule) refl
     where
@@ -227,7 +227,7 @@ module _ (bounds : BoundsWithin) (program : Program) (script : List Command) (st
 
 -- ---- faults
 
-pub fault_is : (program : Program) (script : List Command) (statement : Statement) (fault : PlaceFault)
+pub fault_is : (program : Program) (script : List PatchCommand) (statement : AuditStatement) (fault : PlaceFault)
     → ArePlaced program script statement (Err fault) → IsOrdered program script statement (Err (fault_of fault))
 fault_is program script statement (places.Ends thread) placed = record { runs = placed.runs; are = placed.are; answer_is = placed.placing }
 fault_is program script statement (places.Marks thread) placed = record { runs = placed.runs; are = placed.are; answer_is = placed.placing }
@@ -237,10 +237,10 @@ fault_is program script statement places.NoMemory placed = absurd placed.placing
 abbrev pub Placing : Type 0
 Placing = Result (Vec (Vec Stop Global) Global) PlaceFault
 
-abbrev pub ArePlacedOr : Program → List Command → Statement → Placing → Type 0
+abbrev pub ArePlacedOr : Program → List PatchCommand → AuditStatement → Placing → Type 0
 ArePlacedOr program script statement answer = (answer ≡ Err places.NoMemory) ⊎ ArePlaced program script statement (placed_by answer)
 
-pub fault_answer : (program : Program) (script : List Command) (statement : Statement) (answer : Placing) (fault : PlaceFault) (given : OrderFault)
+pub fault_answer : (program : Program) (script : List PatchCommand) (statement : AuditStatement) (answer : Placing) (fault : PlaceFault) (given : OrderFault)
     → given ≡ fault_of fault → answer ≡ Err fault → ArePlacedOr program script statement answer
     → (given ≡ NoMemory) ⊎ IsOrdered program script statement (Err given)
 fault_answer program script statement answer fault given is same placed = by_case (subst (ArePlacedOr program script statement) same placed)
@@ -251,7 +251,7 @@ fault_answer program script statement answer fault given is same placed = by_cas
         inl (is ∙ ap fault_of out)
     by_case (inr are) = inr (subst (λ (f : OrderFault). IsOrdered program script statement (Err f)) (sym is) (fault_is program script statement fault are))
 
-pub all_are_placed : (program : Program) (script : List Command) (statement : Statement) (answer : Placing) (threads : Vec (Vec Stop Global) Global)
+pub all_are_placed : (program : Program) (script : List PatchCommand) (statement : AuditStatement) (answer : Placing) (threads : Vec (Vec Stop Global) Global)
     → answer ≡ Ok threads → ArePlacedOr program script statement answer → ArePlaced program script statement (Ok (all_places threads))
 all_are_placed program script statement answer threads same placed = by_case (subst (ArePlacedOr program script statement) same placed)
   where

@@ -8,13 +8,13 @@ use Rattle.xray_image.specs.Program.{Program}
 use Rattle.handler_word.specs.declared.mark.Mark.{Mark}
 use Rattle.handler_word.specs.declared.mark.Mark.TheVariants.{Recorded}
 use Rattle.sled_words.specs.Words.{release_word, state_word}
-use Rattle.patch_script.specs.declared.command.Command.{Command}
+use Rattle.patch_script.specs.declared.command.PatchCommand.{PatchCommand}
 use Rattle.patch_script.specs.Bounds.{bound_of}
 use Rattle.patch_script.specs.CodeAt.{code_at}
 use Rattle.patch_script.specs.Micros.{hold_of, start_of, total_of}
 use Rattle.machine_step.specs.Follows.{MarksFollow, Rise}
 use Rattle.machine_step.specs.Loads.{Load, Marked, Reading, Wants, from_head, from_start, is_held_at, marks_from, next_from}
-use Rattle.audit_check.specs.Places.{found_by, head_searches, is_set, load_places, passing_searches, places_from}
+use Rattle.audit_check.specs.Places.{found_by, head_searches, is_set, load_places, passing_searches, load_places_from}
 use Rattle.audit_check.specs.private.Ways.{Held, Leaf, Node, Passes, Reaches, Tree, passing_tree, trees_of}
 use Rattle.audit_check.proofs.FollowWays.{marks_pass}
 use Rattle.audit_check.proofs.LeastPlaces.{passing_least}
@@ -338,7 +338,7 @@ module _ (program : Program) (threads : ℕ) (code : ℕ → ℕ → ℕ) (threa
       }
 
     passings_kept : (number from : ℕ) (sleds : List ℕ) (marks : List Mark) (places : List ℕ) → Exist program threads code thread sleds
-        → places_from program threads code bound thread hold number from sleds marks ≡ Some places → Kept number from sleds marks places
+        → load_places_from program threads code bound thread hold number from sleds marks ≡ Some places → Kept number from sleds marks places
     passings_kept number from [] [] places exist e =
         let none : [] ≡ places = cc in
         subst (λ (ps : List ℕ). Kept number from [] [] ps) none
@@ -365,7 +365,7 @@ module _ (program : Program) (threads : ℕ) (code : ℕ → ℕ → ℕ) (threa
 
 -- ---- beside a script
 
-pub places_kept : (program : Program) (threads : ℕ) (script : List Command) (thread : ℕ) (sleds : List ℕ) (marks : List Mark) (places : List ℕ)
+pub places_kept : (program : Program) (threads : ℕ) (script : List PatchCommand) (thread : ℕ) (sleds : List ℕ) (marks : List Mark) (places : List ℕ)
     → 0 < thread → thread ≤ threads → ((n : ℕ) → bound_of program threads script thread n ≤ total_of program threads script)
     → Exist program threads (code_at program threads script) thread sleds → All (λ sled. sled < length program.sleds) sleds
     → load_places program threads script thread sleds marks ≡ Some places → KeepScript program threads script thread sleds marks places

@@ -5,7 +5,7 @@ use Rattle.std.specs.Borrow.{Bor}
 use Rattle.std.specs.List.{enumerate_from, flat_map}
 use Rattle.std.proofs.lemmas.List.Elements.{All-append, All-cons, All-head, All-nil, All-tail}
 use Rattle.audit_check.specs.declared.stop.Stop.{Stop}
-use Rattle.run_order.specs.Orders.{thread_line}
+use Rattle.run_order.specs.Orders.{load_line}
 use Rattle.run_order.specs.private.Stops.{AllFrom, AreStops, loads_at, places_in}
 use Rattle.run_order.proofs.MergedTurns.{line_at}
 use Rattle.run_order.proofs.StopLemmas.{loads_none}
@@ -24,7 +24,7 @@ pub no_turns_from : (place next number : ℕ) (left : List (Bor (List Stop))) �
 no_turns_from place next number [] all low = refl
 no_turns_from place next number (stops ∷ left) all low =
     let none : loads_at place stops.now ≡ 0 = loads_none place next stops.now (all 0 stops (omega arith)) low in
-    ap (λ n. thread_line number n ++ flat_map (line_at place) (enumerate_from (number + 1) (places_in left))) none
+    ap (λ n. load_line number n ++ flat_map (line_at place) (enumerate_from (number + 1) (places_in left))) none
     ∙ no_turns_from place next (number + 1) left (tail_from next stops left all) low
 
 -- ---- the first place at which loads are left

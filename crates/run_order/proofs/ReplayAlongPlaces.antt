@@ -15,7 +15,7 @@ use Rattle.step_sim.specs.Plays.{Plays, ThreadsRunOut, line_played, lines_played
 use Rattle.step_sim.specs.Replay.{Cast, Moment, first_moment, moment_rules, of_thread, patcher_turn, thread_count, thread_turn, wanted_by}
 use Rattle.step_sim.proofs.PlayLemmas.{turns_add}
 use Rattle.step_sim.proofs.TurnLemmas.{turn_own, turns_length, turns_other, turns_place}
-use Rattle.run_order.specs.Orders.{joined, joined_to, ordered, thread_line, turns_at, turns_from}
+use Rattle.run_order.specs.Orders.{joined, joined_to, ordered, load_line, turns_at, turns_from}
 use Rattle.run_order.specs.Placed.{ArePlaced}
 use Rattle.run_order.proofs.Counts.{at, at_places, before, before_all, before_next, before_none}
 
@@ -54,7 +54,7 @@ joined_plays cast (line ∷ lines) m =
 
 -- the line of a thread's loads, also if there are none
 line_turns : (cast : Cast) (m : Moment) (thread loads : ℕ)
-    → lines_played (moment_rules cast) m (thread_line thread loads) ≡ turns loads (thread_turn cast thread) m
+    → lines_played (moment_rules cast) m (load_line thread loads) ≡ turns loads (thread_turn cast thread) m
 line_turns cast m thread zero = refl
 line_turns cast m thread (suc loads) = refl
 
@@ -159,7 +159,7 @@ module _ (cast : Cast) (places : List (List ℕ)) (loads : List (List Load))
     threads_go : (place : ℕ) (owns : List (List ℕ)) (thread : ℕ) (m : Moment) → 0 < thread → thread + length owns ≡ thread_count cast + 1
         → ((j : ℕ) (own : List ℕ) → slice_get owns j ≡ Some own → of_thread places (thread + j) ≡ own) → IsAt place thread m
         → IsAt place (thread_count cast + 1)
-        (lines_played (moment_rules cast) m (flat_map (λ own. thread_line own.0 (at place own.1)) (enumerate_from thread owns)))
+        (lines_played (moment_rules cast) m (flat_map (λ own. load_line own.0 (at place own.1)) (enumerate_from thread owns)))
     threads_go place [] thread m some all are here =
         let e : thread ≡ thread_count cast + 1 = omega (arith, all) in
         subst (λ (t : ℕ). IsAt place t m) e here
@@ -169,9 +169,9 @@ module _ (cast : Cast) (places : List (List ℕ)) (loads : List (List Load))
         let goes : IsAt place (thread + 1) mid =
         subst (λ (ps : List ℕ). IsAt place (thread + 1) (turns (at place ps) (thread_turn cast thread) m)) first
         (thread_goes place thread m some (omega (arith, all)) here) in
-        let rest : List Turns = flat_map (λ own. thread_line own.0 (at place own.1)) (enumerate_from (thread + 1) owns) in
-        let played : lines_played (moment_rules cast) m (thread_line thread (at place own) ++ rest) ≡ lines_played (moment_rules cast) mid rest =
-        fold-append (line_played (moment_rules cast)) m (thread_line thread (at place own)) rest
+        let rest : List Turns = flat_map (λ own. load_line own.0 (at place own.1)) (enumerate_from (thread + 1) owns) in
+        let played : lines_played (moment_rules cast) m (load_line thread (at place own) ++ rest) ≡ lines_played (moment_rules cast) mid rest =
+        fold-append (line_played (moment_rules cast)) m (load_line thread (at place own)) rest
         ∙ ap (λ (n : Moment). lines_played (moment_rules cast) n rest) (line_turns cast m thread (at place own)) in
         subst (IsAt place (thread_count cast + 1)) (sym played)
         (threads_go place owns (thread + 1) mid (omega arith) (omega (arith, all))

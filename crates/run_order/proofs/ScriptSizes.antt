@@ -13,8 +13,8 @@ use Rattle.xray_io.specs.Rows.{◌>>=◌}
 use Rattle.xray_image.specs.Container.{Function, MapFields, Parts, base_address, code_length, entries_from, entry_count, function_count, function_entry_at, map_distance, map_fields_at, parts_of, several}
 use Rattle.xray_image.specs.Program.{IsAccepted, Program, sled_of}
 use Rattle.xray_image.specs.Units.{places_from}
-use Rattle.patch_script.specs.declared.command.Command.{Command}
-use Rattle.patch_script.specs.declared.command.Command.TheVariants as commands
+use Rattle.patch_script.specs.declared.command.PatchCommand.{PatchCommand}
+use Rattle.patch_script.specs.declared.command.PatchCommand.TheVariants as commands
 use Rattle.patch_script.specs.Micros.{Numbered, all_sleds, micros_after, numbers, patch_sled, patches, sleds_of, steps_of, total_of, unpatch_sled}
 use Rattle.patch_script.specs.Plans.{Plan, is_waiting, plan_of}
 use Rattle.patch_script.specs.Refusals.{Lines, commands_of, ended, read_lines, with_line}
@@ -51,7 +51,7 @@ few_commands program threads text plan e =
     let same : made ≡ plan = same_Ok made plan whole.2 in
     let lines_are : parts.0 ≡ plan.lines = end.1 ∙ ap (λ (p : Plan). p.lines) same in
     let few = few_read program threads (lines text) 1 [] parts.0 (omega arith) parts.1 in
-    omega (arith, few, ap length lines_are, length-map plan.lines (λ (line : ℕ × Command). line.1))
+    omega (arith, few, ap length lines_are, length-map plan.lines (λ (line : ℕ × PatchCommand). line.1))
 
 -- ---- sleds
 
@@ -145,7 +145,7 @@ own_sleds program id =
       length-enumerate_from 0 program.sleds,
     )
 
-steps_few : (program : Program) (threads : ℕ) (earlier : List ℕ) (command : Command) → length program.sleds ≤ 4096
+steps_few : (program : Program) (threads : ℕ) (earlier : List ℕ) (command : PatchCommand) → length program.sleds ≤ 4096
     → length (steps_of program threads earlier command) ≤ 16384
 steps_few program threads earlier commands.Patch few =
     omega (arith, patched_steps program (all_sleds program), length-enumerate_from 0 program.sleds, few)
@@ -166,7 +166,7 @@ steps_few program threads earlier commands.Go few = omega arith
 steps_few program threads earlier (commands.Release thread) few = omega arith
 steps_few program threads earlier (commands.Await thread count) few = omega arith
 
-micros_few : (program : Program) (threads : ℕ) (earlier : List ℕ) (script : List Command) → length program.sleds ≤ 4096
+micros_few : (program : Program) (threads : ℕ) (earlier : List ℕ) (script : List PatchCommand) → length program.sleds ≤ 4096
     → length (micros_after program threads earlier script) ≤ 16384 * length script
 micros_few program threads earlier [] few = omega arith
 micros_few program threads earlier (command ∷ script) few =

@@ -9,8 +9,8 @@ use Rattle.xray_image.specs.Program.{Program}
 use Rattle.sled_words.specs.declared.part.Part.TheVariants.{Head, Id, Opcode, Offset}
 use Rattle.sled_words.specs.Parts.{patched}
 use Rattle.sled_words.specs.Words.{arg_handler_word, handler_word, release_word, state_word, word_of}
-use Rattle.patch_script.specs.declared.command.Command.{Command}
-use Rattle.patch_script.specs.declared.command.Command.TheVariants as commands
+use Rattle.patch_script.specs.declared.command.PatchCommand.{PatchCommand}
+use Rattle.patch_script.specs.declared.command.PatchCommand.TheVariants as commands
 use Rattle.patch_script.specs.declared.micro.Micro.{Micro}
 use Rattle.patch_script.specs.declared.micro.Micro.TheVariants.{Store, Await, End}
 use Rattle.patch_script.specs.Micros.{Numbered, all_sleds, head_left, micro_at, micros, micros_after, numbers, patch_sled, patches, sleds_of, steps_of, total_of, unpatch_sled}
@@ -70,7 +70,7 @@ module _ (program : Program) (threads : ℕ) where
     all_unpatched earlier sleds,
   )
 
-  steps_patched : (earlier : List ℕ) (command : Command) → ArePatched (steps_of program threads earlier command)
+  steps_patched : (earlier : List ℕ) (command : PatchCommand) → ArePatched (steps_of program threads earlier command)
   steps_patched earlier commands.Patch = all_patched (all_sleds program) (all_below program threads)
   steps_patched earlier commands.Unpatch = all_unpatched earlier (all_sleds program)
   steps_patched earlier (commands.PatchFunction id) =
@@ -90,7 +90,7 @@ module _ (program : Program) (threads : ℕ) where
   steps_patched earlier (commands.Await thread count) =
       ((λ begins. let is : Await thread count ≡ Store (word_of begins.sled Id) begins.value = begins.is in absurd cc), tt)
 
-  micros_patched : (earlier : List ℕ) (script : List Command) → ArePatched (micros_after program threads earlier script)
+  micros_patched : (earlier : List ℕ) (script : List PatchCommand) → ArePatched (micros_after program threads earlier script)
   micros_patched earlier [] = tt
   micros_patched earlier (command ∷ script) =
       more_patched (steps_of program threads earlier command) (micros_after program threads (earlier ++ numbers (patches program command)) script)
@@ -123,7 +123,7 @@ module _ (program : Program) (threads : ℕ) where
       apart false waits others = refl
 
   -- where a patching begins, the next four micro steps have none
-  pub patch_next : (script : List Command) (n : ℕ) (micro : Micro) → n < total_of program threads script → micro ≡ micro_at program threads script n
+  pub patch_next : (script : List PatchCommand) (n : ℕ) (micro : Micro) → n < total_of program threads script → micro ≡ micro_at program threads script n
       → BeginsPatch program micro
       → (n + 4 ≤ total_of program threads script)
       × (waits_from program threads 0 (take (n + 4) (micros program threads script)) ≡ waits_from program threads 0 (take n (micros program threads script)))

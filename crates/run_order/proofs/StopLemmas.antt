@@ -8,7 +8,7 @@ use Rattle.step_sim.specs.declared.turns.Turns.{Turns}
 use Rattle.step_sim.specs.declared.turns.Turns.TheVariants.{Thread}
 use Rattle.run_order.specs.declared.lines.ScheduleLines.{ScheduleLines}
 use Rattle.audit_check.specs.declared.stop.Stop.{Stop}
-use Rattle.run_order.specs.Orders.{thread_line}
+use Rattle.run_order.specs.Orders.{load_line}
 use Rattle.run_order.specs.private.Lines.{HasJoined}
 use Rattle.audit_check.specs.Stops.{places_of}
 use Rattle.run_order.specs.private.Stops.{AreStops, Passes, loads_at}
@@ -78,18 +78,18 @@ none_passes place = record { stops = λ are. tt; same = λ other are after. refl
 
 -- ---- lines
 
-some_line : (thread loads : ℕ) → 0 < loads → thread_line thread loads ≡ Thread thread loads ∷ []
+some_line : (thread loads : ℕ) → 0 < loads → load_line thread loads ≡ Thread thread loads ∷ []
 some_line thread zero some = absurd (omega (arith, some))
 some_line thread (suc loads) some = refl
 
 pub first_line : (place thread : ℕ) (stop : Stop) (later : List Stop) → AreStops place (stop ∷ later) → stop.place ≡ place
-    → thread_line thread (loads_at place (stop ∷ later)) ≡ Thread thread stop.loads ∷ []
+    → load_line thread (loads_at place (stop ∷ later)) ≡ Thread thread stop.loads ∷ []
 first_line place thread stop later are here =
-    ap (thread_line thread) (first_loads place stop later are here) ∙ some_line thread stop.loads are.1
+    ap (load_line thread) (first_loads place stop later are here) ∙ some_line thread stop.loads are.1
 
 pub other_line : (place thread : ℕ) (stop : Stop) (later : List Stop) → AreStops place (stop ∷ later) → (stop.place ≡ place → ⊥)
-    → thread_line thread (loads_at place (stop ∷ later)) ≡ []
-other_line place thread stop later are apart = ap (thread_line thread) (other_loads place stop later are apart)
+    → load_line thread (loads_at place (stop ∷ later)) ≡ []
+other_line place thread stop later are apart = ap (load_line thread) (other_loads place stop later are apart)
 
 -- lines to which nothing is added
 pub none_added : (turns none : List Turns) (lines : ScheduleLines) → none ≡ [] → HasJoined turns lines → HasJoined (turns ++ none) lines

@@ -5,8 +5,8 @@ use Rattle.std.proofs.lemmas.List.{length-map}
 use Rattle.xray_image.specs.Program.{Program}
 use Rattle.handler_word.specs.declared.mark.Mark.{Mark}
 use Rattle.handler_word.specs.declared.mark.Mark.TheVariants.{Skipped, NoHandler, NotLogging, Recorded, RecordedArg}
-use Rattle.patch_script.specs.declared.command.Command.{Command}
-use Rattle.patch_script.specs.declared.command.Command.TheVariants as commands
+use Rattle.patch_script.specs.declared.command.PatchCommand.{PatchCommand}
+use Rattle.patch_script.specs.declared.command.PatchCommand.TheVariants as commands
 use Rattle.patch_script.specs.Bounds.{bound_of}
 use Rattle.patch_script.specs.CodeAt.{code_at}
 use Rattle.patch_script.specs.Micros.{hold_of, start_of, total_of}
@@ -15,7 +15,7 @@ use Rattle.step_sim.specs.Replay.{Cast, of_thread, thread_count}
 use Rattle.run_order.specs.FreeScripts.{free_commands, free_place}
 use Rattle.machine_step.specs.Follows.{Rise}
 use Rattle.run_order.specs.Placed.{ArePlaced}
-use Rattle.audit_check.specs.Places.{Search, found_by, load_places, passing_searches, places_from}
+use Rattle.audit_check.specs.Places.{Search, found_by, load_places, passing_searches, load_places_from}
 use Rattle.run_order.proofs.FreeMicros.{AllRelease, free_code, free_start, free_total, places_rise}
 use Rattle.run_order.proofs.FirstPassing.{go_on}
 use Rattle.run_order.proofs.PassingLoads.{IsLoadAt, Leads, passing_led}
@@ -209,7 +209,7 @@ module _ (program : Program) (threads : ℕ) (code : ℕ → ℕ → ℕ) where
     passing_rises held sled mark last from found e = some_rises (passing_searches program threads code thread held sled mark) (has_search held sled mark) last from found e
 
     pub passings_placed : (bound : ℕ → ℕ) (hold : Option ℕ) (last : ℕ) → ((n : ℕ) → bound n ≤ last) → (number from : ℕ) (sleds : List ℕ) (marks : List Mark)
-        (places : List ℕ) → Exist sleds → places_from program threads code bound thread hold number from sleds marks ≡ Some places
+        (places : List ℕ) → Exist sleds → load_places_from program threads code bound thread hold number from sleds marks ≡ Some places
         → Placed bound number from last sleds marks places
     passings_placed bound hold last within number from [] [] places exist e =
         let none : [] ≡ places = cc in
@@ -232,7 +232,7 @@ module _ (program : Program) (threads : ℕ) (code : ℕ → ℕ → ℕ) where
 
 -- ---- a script without waits
 
-pub no_hold : (thread : ℕ) (script : List Command) → hold_of thread (free_commands script) ≡ None
+pub no_hold : (thread : ℕ) (script : List PatchCommand) → hold_of thread (free_commands script) ≡ None
 no_hold thread [] = refl
 no_hold thread (commands.Patch ∷ script) = no_hold thread script
 no_hold thread (commands.Unpatch ∷ script) = no_hold thread script
@@ -262,7 +262,7 @@ pub record PlacedIn (cast : Cast) (thread : ℕ) (marks : List Mark) (places : L
   pub placed : ArePlaced cast thread places loads
   pub marks_are : marks_of cast.program (thread_count cast) thread (hold_of thread cast.script) (of_thread cast.passings thread) loads ≡ marks
 
-module _ (program : Program) (script : List Command) (passings : List (List ℕ)) (releases : AllRelease (length passings) script)
+module _ (program : Program) (script : List PatchCommand) (passings : List (List ℕ)) (releases : AllRelease (length passings) script)
     (bounds : (thread passing : ℕ) → bound_of program (length passings) script thread passing ≤ total_of program (length passings) script)
   where
     pub thread_placed : (thread : ℕ) (sleds : List ℕ) (marks : List Mark) (places : List ℕ) → of_thread passings thread ≡ sleds

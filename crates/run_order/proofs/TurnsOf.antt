@@ -6,23 +6,23 @@ use Rattle.std.proofs.lemmas.List.Elements.{All-append, All-cons, All-head, All-
 use Rattle.step_sim.specs.declared.turns.Turns.{Turns}
 use Rattle.step_sim.specs.declared.turns.Turns.TheVariants.{Thread, Patcher}
 use Rattle.step_sim.specs.Schedules.{AreTurnsOf}
-use Rattle.run_order.specs.Orders.{joined, joined_to, ordered, thread_line, turns_at, turns_from}
+use Rattle.run_order.specs.Orders.{joined, joined_to, ordered, load_line, turns_at, turns_from}
 
 module _ (threads : ℕ) where
   abbrev AllTurns : List Turns → Type 0
   AllTurns lines = All (AreTurnsOf threads) lines
 
-  line_turns : (thread loads : ℕ) → 1 ≤ thread → thread ≤ threads → AllTurns (thread_line thread loads)
+  line_turns : (thread loads : ℕ) → 1 ≤ thread → thread ≤ threads → AllTurns (load_line thread loads)
   line_turns thread zero some within = All-nil (AreTurnsOf threads)
   line_turns thread (suc loads) some within =
       All-cons (AreTurnsOf threads) (Thread thread (suc loads)) [] (some, within, omega arith) (All-nil (AreTurnsOf threads))
 
   at_turns : (place number : ℕ) (places : List (List ℕ)) → 1 ≤ number → number + length places ≤ threads + 1
-      → AllTurns (flat_map (λ own. thread_line own.0 (count_by (λ other. other == place) own.1)) (enumerate_from number places))
+      → AllTurns (flat_map (λ own. load_line own.0 (count_by (λ other. other == place) own.1)) (enumerate_from number places))
   at_turns place number [] some within = All-nil (AreTurnsOf threads)
   at_turns place number (own ∷ places) some within =
-      All-append (AreTurnsOf threads) (thread_line number (count_by (λ other. other == place) own))
-      (flat_map (λ own. thread_line own.0 (count_by (λ other. other == place) own.1)) (enumerate_from (number + 1) places))
+      All-append (AreTurnsOf threads) (load_line number (count_by (λ other. other == place) own))
+      (flat_map (λ own. load_line own.0 (count_by (λ other. other == place) own.1)) (enumerate_from (number + 1) places))
       (line_turns number (count_by (λ other. other == place) own) some (omega (arith, within)))
       (at_turns place (number + 1) places (omega arith) (omega (arith, within)))
 

@@ -9,7 +9,7 @@ use Rattle.std.proofs.lemmas.List.Sorted.{IsPartitionedBy-ltb}
 use Rattle.std.proofs.lemmas.List.Sums.{count_by-le-length, sum_by-cons}
 use Rattle.std.proofs.lemmas.Option.{slice_get-get_or}
 use Rattle.xray_image.specs.Program.{Program}
-use Rattle.patch_script.specs.declared.command.Command.{Command}
+use Rattle.patch_script.specs.declared.command.PatchCommand.{PatchCommand}
 use Rattle.patch_script.specs.declared.micro.Micro.{Micro}
 use Rattle.patch_script.specs.declared.micro.Micro.TheVariants.{End}
 use Rattle.patch_script.specs.Micros.{micro_at, micros, total_of}
@@ -110,12 +110,12 @@ module _ (program : Program) (threads : ℕ) where
       by true waits few = omega (arith, few)
       by false waits few = omega (arith, few)
 
-  pub freed_is : (script : List Command) (place : ℕ) → place ≤ total_of program threads script
+  pub freed_is : (script : List PatchCommand) (place : ℕ) → place ≤ total_of program threads script
       → freed (waits_of program threads script) place ≡ free_place program threads script place
   freed_is script place low = omega (arith, counted 0 place place (micros program threads script) (omega arith) low)
 
   -- there are no more than the place says
-  few_before : (script : List Command) (place : ℕ) → before place (waits_of program threads script) ≤ place
+  few_before : (script : List PatchCommand) (place : ℕ) → before place (waits_of program threads script) ≤ place
   few_before script place = elim (cases_lt (total_of program threads script) place) [
     | inl past ↦
         omega (
@@ -144,7 +144,7 @@ module _ (program : Program) (threads : ℕ) where
       ∙ more_at place (length (first ∷ front)) (waits_from program threads (place + 1) front) (is_free program threads first) (is_free program threads step)
       (place + 1 + length front) (omega arith)
 
-  pub waits_next : (script : List Command) (n : ℕ) (micro : Micro) (free : Bool) → n < total_of program threads script → micro ≡ micro_at program threads script n
+  pub waits_next : (script : List PatchCommand) (n : ℕ) (micro : Micro) (free : Bool) → n < total_of program threads script → micro ≡ micro_at program threads script n
       → is_free program threads micro ≡ free
       → waits_from program threads 0 (take (n + 1) (micros program threads script))
       ≡ waits_from program threads 0 (take n (micros program threads script)) ++ cond free [] (n ∷ [])

@@ -9,7 +9,7 @@ use Rattle.std.proofs.lemmas.List.Splits.{length-slice_split, slice_split_first,
 use Rattle.std.proofs.lemmas.List.Sums.{fails_before_first}
 use Rattle.text_lines.proofs.Places.{None-position, Some-position}
 use Rattle.text_lines.specs.Words.{words_of}
-use Rattle.run_order.specs.FreeScripts.{begins_wait, free_text, line_in, whole_lines, whole_of_parts}
+use Rattle.run_order.specs.FreeScripts.{begins_wait, free_text, line_in, lines_with_ends, whole_of_parts}
 use Rattle.run_order.specs.private.Texts.{kept_text}
 
 abbrev ends : ℕ → Bool
@@ -41,17 +41,17 @@ more_whole part [] some = absurd (omega (arith, some))
 more_whole part (next ∷ later) some = refl
 
 pub first_whole : (text : List ℕ) (end : ℕ) → Some end ≡ position ends text
-    → whole_lines text ≡ take (end + 1) text ∷ whole_lines (drop (end + 1) text)
+    → lines_with_ends text ≡ take (end + 1) text ∷ lines_with_ends (drop (end + 1) text)
 first_whole text end h =
     let at = Some-position ends text end h in
     let within : position_or_len ends text < length text = omega (arith, at.0, at.1) in
     let following = drop (position_or_len ends text + 1) text in
     let some : 0 < length (slice_split ends following) = omega (arith, length-slice_split ends following) in
-    let first : whole_lines text ≡ (take (position_or_len ends text) text ++ 10 ∷ []) ∷ whole_lines following =
+    let first : lines_with_ends text ≡ (take (position_or_len ends text) text ++ 10 ∷ []) ∷ lines_with_ends following =
     ap whole_of_parts (slice_split_first ends text 0 within)
     ∙ more_whole (take (position_or_len ends text) text) (slice_split ends following) some in
-    let P : ℕ → Type 0 = λ i. whole_lines text ≡ take (i + 1) text ∷ whole_lines (drop (i + 1) text) in
-    subst P at.0 (first ∙ ap (λ (line : List ℕ). line ∷ whole_lines following) (sym (taken_end text within)))
+    let P : ℕ → Type 0 = λ i. lines_with_ends text ≡ take (i + 1) text ∷ lines_with_ends (drop (i + 1) text) in
+    subst P at.0 (first ∙ ap (λ (line : List ℕ). line ∷ lines_with_ends following) (sym (taken_end text within)))
 
 last_whole : (text : List ℕ) → 0 < length text → whole_of_parts (text ∷ []) ≡ text ∷ []
 last_whole text some =
@@ -59,7 +59,7 @@ last_whole text some =
     ap (λ b. cond b [] (text ∷ [])) e
 
 -- a text without an end is one line
-pub only_whole : (text : List ℕ) → None ≡ position ends text → 0 < length text → whole_lines text ≡ text ∷ []
+pub only_whole : (text : List ℕ) → None ≡ position ends text → 0 < length text → lines_with_ends text ≡ text ∷ []
 only_whole text h some =
     let no = None-position ends text h in
     let all : All (λ x. ends x ≡ false) text =
@@ -69,8 +69,8 @@ only_whole text h some =
 -- ---- the lines that stay
 
 -- the text without waits is what is kept of each line
-pub kept_texts : (text : List ℕ) → free_text text ≡ flat_map kept_text (whole_lines text)
-kept_texts text = all_kept (whole_lines text)
+pub kept_texts : (text : List ℕ) → free_text text ≡ flat_map kept_text (lines_with_ends text)
+kept_texts text = all_kept (lines_with_ends text)
   where
     all_kept : (lines : List (List ℕ)) → flat_map (λ line. line) (filter (λ line. not (begins_wait (words_of (line_in line)))) lines) ≡ flat_map kept_text lines
     all_kept [] = refl
@@ -83,10 +83,10 @@ kept_texts text = all_kept (whole_lines text)
         by_wait false rest = ap (λ (bs : List ℕ). line ++ bs) rest
 
 -- some bytes, what is kept of the first line, and what is kept of the others
-pub kept_more : (done left line later : List ℕ) → whole_lines left ≡ line ∷ whole_lines later
-    → (done ++ kept_text line) ++ flat_map kept_text (whole_lines later) ≡ done ++ flat_map kept_text (whole_lines left)
+pub kept_more : (done left line later : List ℕ) → lines_with_ends left ≡ line ∷ lines_with_ends later
+    → (done ++ kept_text line) ++ flat_map kept_text (lines_with_ends later) ≡ done ++ flat_map kept_text (lines_with_ends left)
 kept_more done left line later is =
-    append_assoc done (kept_text line) (flat_map kept_text (whole_lines later))
+    append_assoc done (kept_text line) (flat_map kept_text (lines_with_ends later))
     ∙ ap (λ (ls : List (List ℕ)). done ++ flat_map kept_text ls) (sym is)
 
 -- ---- the line that bytes have

@@ -6,7 +6,7 @@ use Rattle.text_lines.specs.Keywords.{in_table}
 use Rattle.text_lines.specs.Words.{words_of}
 use Rattle.xray_image.specs.Program.{Program}
 use Rattle.sled_words.specs.Words.{state_word}
-use Rattle.patch_script.specs.declared.command.Command.{Command}
+use Rattle.patch_script.specs.declared.command.PatchCommand.{PatchCommand}
 use Rattle.patch_script.specs.declared.micro.Micro.{Micro}
 use Rattle.patch_script.specs.declared.micro.Micro.TheVariants.{Store, Await, End}
 use Rattle.patch_script.specs.Micros.{micros}
@@ -15,7 +15,7 @@ use Rattle.patch_script.specs.Plans.{is_waiting}
 -- ---- its commands
 
 -- those at which no thread and no patcher waits
-abbrev pub free_commands : List Command → List Command
+abbrev pub free_commands : List PatchCommand → List PatchCommand
 free_commands script = filter (λ command. not (is_waiting command)) script
 
 -- ---- its text
@@ -27,8 +27,8 @@ whole_of_parts (part ∷ []) = if length part == 0 then [] else part ∷ []
 whole_of_parts (part ∷ next ∷ later) = (part ++ 10 ∷ []) ∷ whole_of_parts (next ∷ later)
 
 -- the lines of a text, each with what ends it
-abbrev pub whole_lines : List ℕ → List (List ℕ)
-whole_lines text = whole_of_parts (slice_split (λ byte. byte == 10) text)
+abbrev pub lines_with_ends : List ℕ → List (List ℕ)
+lines_with_ends text = whole_of_parts (slice_split (λ byte. byte == 10) text)
 
 -- the first words of the lines at which a thread or the patcher may wait
 abbrev pub waiting_words : List (List ℕ × Bool)
@@ -45,7 +45,7 @@ line_in bytes = unwrap_or (slice_get (lines bytes) 0) []
 
 -- the text without its lines of `hold`, `release` and `await`; all other lines stay byte for byte
 abbrev pub free_text : List ℕ → List ℕ
-free_text text = flat_map (λ line. line) (filter (λ line. not (begins_wait (words_of (line_in line)))) (whole_lines text))
+free_text text = flat_map (λ line. line) (filter (λ line. not (begins_wait (words_of (line_in line)))) (lines_with_ends text))
 
 -- ---- its places
 
@@ -60,5 +60,5 @@ is_free program threads (Await thread count) = false
 is_free program threads End = false
 
 -- the place of the script without waits that a place of the script is
-abbrev pub free_place : Program → ℕ → List Command → ℕ → ℕ
+abbrev pub free_place : Program → ℕ → List PatchCommand → ℕ → ℕ
 free_place program threads script place = length (filter (is_free program threads) (take place (micros program threads script)))

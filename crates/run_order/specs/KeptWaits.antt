@@ -3,7 +3,7 @@ use Rattle.std.specs.Prelude.{◌≡◌, ◌≢◌, ◌==◌, ◌<◌, ◌≤◌
 use Rattle.handler_word.specs.declared.mark.Mark.{Mark}
 use Rattle.machine_step.specs.Follows.{MarksFollow, Rise}
 use Rattle.machine_step.specs.Loads.{Load, marks_of, next_load}
-use Rattle.patch_script.specs.declared.command.Command.{Command}
+use Rattle.patch_script.specs.declared.command.PatchCommand.{PatchCommand}
 use Rattle.patch_script.specs.Bounds.{bound_of}
 use Rattle.patch_script.specs.CodeAt.{code_at}
 use Rattle.machine_step.specs.Traced.{sleds_passed}
@@ -28,7 +28,7 @@ their_places made = map (λ one. one.place) made
 abbrev pub is_passing_load : Program → (thread : ℕ) → LoadAtPlace → Bool
 is_passing_load program thread one = not (one.load.word == release_word program thread)
 
-module _ (program : Program) (threads : ℕ) (script : List Command) (thread : ℕ) (sleds : List ℕ) where
+module _ (program : Program) (threads : ℕ) (script : List PatchCommand) (thread : ℕ) (sleds : List ℕ) where
   -- A thread that passes these sleds makes a load after those before it: of the word that it wants next, with the word's
   -- value at its place. The place isn't after the first await of the passing. The load doesn't find that the script still
   -- holds the thread.
@@ -61,7 +61,7 @@ module _ (program : Program) (threads : ℕ) (script : List Command) (thread : �
         → length (marks_of program threads thread (hold_of thread script) sleds (their_loads (take i made))) < count → one.place ≤ place
 
 -- the places of the loads of each thread of a run keep the script, and these are the same places in the script without waits
-abbrev pub KeepScriptOf : Program → (threads : ℕ) → List Command → List ThreadRun → List (List ℕ) → Type 0
+abbrev pub KeepScriptOf : Program → (threads : ℕ) → List PatchCommand → List ThreadRun → List (List ℕ) → Type 0
 KeepScriptOf program threads script runs free =
     EachThread runs (λ number run.
     (places : List ℕ) × KeepScript program threads script number (sleds_passed run.passed) run.marks places

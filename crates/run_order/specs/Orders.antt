@@ -6,14 +6,14 @@ use Rattle.step_sim.specs.declared.turns.Turns.TheVariants.{Thread, Patcher}
 use Rattle.step_sim.specs.Schedules.{most_lines}
 
 -- the line of this many loads of a thread; none if it makes none
-abbrev pub thread_line : ℕ → ℕ → List Turns
-thread_line thread zero = []
-thread_line thread (suc loads) = Thread thread (suc loads) ∷ []
+abbrev pub load_line : ℕ → ℕ → List Turns
+load_line thread zero = []
+load_line thread (suc loads) = Thread thread (suc loads) ∷ []
 
 -- The turns at a place: of each thread that loads there, thread 1 first. What is listed of a thread are the places of its
 -- loads.
 abbrev pub turns_at : List (List ℕ) → ℕ → List Turns
-turns_at places place = flat_map (λ own. thread_line own.0 (count_by (λ other. other == place) own.1)) (enumerate_from 1 places)
+turns_at places place = flat_map (λ own. load_line own.0 (count_by (λ other. other == place) own.1)) (enumerate_from 1 places)
 
 -- from a place on, for this many micro steps: the turns at the place, a micro step, the turns at the next place, and so on
 abbrev pub turns_from : List (List ℕ) → ℕ → ℕ → List Turns

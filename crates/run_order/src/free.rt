@@ -3,7 +3,7 @@
 ghost use Rattle.std.specs.Prelude.{◌≡◌, ◌<◌, ◌≤◌, ◌==◌, ◌∷◌, length, position};
 ghost use Rattle.xray_io.specs.Text.{AddsText};
 ghost use Rattle.text_lines.specs.Words.{words_of};
-ghost use Rattle.run_order.specs.FreeScripts.{begins_wait, line_in, whole_lines};
+ghost use Rattle.run_order.specs.FreeScripts.{begins_wait, line_in, lines_with_ends};
 ghost use Rattle.run_order.specs.private.Texts.{kept_text};
 
 use text_lines::{Lines, Words, keyword_in};
@@ -42,7 +42,7 @@ impl Printed for FreeText<'_> {
 /// The first line of a text that isn't empty, with what ends it, and the text after it.
 fn split_line(text: &[u8]) -> (&[u8], &[u8])
     requires { 0 < length text.now }
-    ensures lines { whole_lines text.now ≡ result.0.now ∷ whole_lines result.1.now }
+    ensures lines { lines_with_ends text.now ≡ result.0.now ∷ lines_with_ends result.1.now }
     ensures shorter { length result.1.now < length text.now }
     ensures within { length result.0.now ≤ length text.now }
 {

@@ -2,8 +2,8 @@
 
 ghost use Rattle.std.specs.Prelude.{◌≡◌, ◌≤◌, ℕ, All, List, None, Ok, Result, length};
 ghost use Rattle.xray_image.specs.Program.{IsAccepted, Program};
-ghost use Rattle.audit_check.specs.Statements.{MayState, Statement, run_statement};
-ghost use Rattle.patch_script.specs.declared.command.Command.{Command};
+ghost use Rattle.audit_check.specs.Statements.{MayState, AuditStatement, run_statement};
+ghost use Rattle.patch_script.specs.declared.command.PatchCommand.{PatchCommand};
 ghost use Rattle.patch_script.specs.{Micros.{start_of, total_of}, Plans.{Plan, plan_of, waiting_line}, Refusals.{commands_of}};
 ghost use Rattle.machine_step.specs.Buffers.{spare_of};
 ghost use Rattle.machine_step.specs.declared.setup.Setup.{Setup};
@@ -55,7 +55,7 @@ pub fn an_order_leaves_its_run()
 /// holds it, or after the first await of the passing. Each load is at the least place at which its passing
 /// may end with its mark, or before it.
 pub fn an_order_keeps_the_waits()
-    ensures { (program : Program) (script : List Command) (setup : Setup) (runs : List ThreadRun)
+    ensures { (program : Program) (script : List PatchCommand) (setup : Setup) (runs : List ThreadRun)
         (schedule : List Line) → IsRun program setup runs
         → (order : IsOrderOf program setup.threads script runs schedule)
         → KeepScriptOf program setup.threads script runs order.places }
@@ -94,10 +94,10 @@ pub fn each_lawful_run_has_one_order()
 /// There is one answer to what an audit states (`one`), and always some answer (`some`), for an accepted
 /// image and any script.
 pub fn one_order_of_an_audit()
-    ensures one { (bytes : List ℕ) (program : Program) (script : List Command) (statement : Statement)
+    ensures one { (bytes : List ℕ) (program : Program) (script : List PatchCommand) (statement : AuditStatement)
         (answer other : Result (List Line) OrderFault) → IsAccepted bytes program
         → IsOrdered program script statement answer → IsOrdered program script statement other → answer ≡ other }
-    ensures some { (bytes : List ℕ) (program : Program) (script : List Command) (statement : Statement)
+    ensures some { (bytes : List ℕ) (program : Program) (script : List PatchCommand) (statement : AuditStatement)
         → IsAccepted bytes program → MayState statement
         → (answer : Result (List Line) OrderFault) × IsOrdered program script statement answer }
 {
@@ -107,7 +107,7 @@ pub fn one_order_of_an_audit()
 
 /// What comes of the audit of a lawful run is its order, unless this has too many lines for a schedule.
 pub fn a_lawful_run_is_ordered()
-    ensures { (program : Program) (script : List Command) (setup : Setup) (runs : List ThreadRun)
+    ensures { (program : Program) (script : List PatchCommand) (setup : Setup) (runs : List ThreadRun)
         → IsRun program setup runs → AllMarksFollow program setup.threads script runs
         → AreLost setup.size (spare_of setup) runs
         → (answer : Result (List Line) OrderFault)
@@ -117,12 +117,12 @@ pub fn a_lawful_run_is_ordered()
 /// If an order comes of an audit, for an accepted image and a script that is read, the text of the order
 /// reads as the order (`reads`). The text has at most as many bytes as a schedule may have (`short`).
 pub fn an_order_is_a_schedule()
-    ensures reads { (bytes : List ℕ) (program : Program) (text : List ℕ) (plan : Plan) (statement : Statement)
+    ensures reads { (bytes : List ℕ) (program : Program) (text : List ℕ) (plan : Plan) (statement : AuditStatement)
         (schedule : List Line) → IsAccepted bytes program → MayState statement
         → plan_of program statement.setup.threads text ≡ Ok plan
         → IsOrdered program (commands_of plan.lines) statement (Ok schedule)
         → schedule_of statement.setup.threads (schedule_text schedule) ≡ Ok schedule }
-    ensures short { (bytes : List ℕ) (program : Program) (text : List ℕ) (plan : Plan) (statement : Statement)
+    ensures short { (bytes : List ℕ) (program : Program) (text : List ℕ) (plan : Plan) (statement : AuditStatement)
         (schedule : List Line) → IsAccepted bytes program → MayState statement
         → plan_of program statement.setup.threads text ≡ Ok plan
         → IsOrdered program (commands_of plan.lines) statement (Ok schedule)

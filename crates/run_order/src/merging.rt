@@ -3,7 +3,7 @@
 ghost use Rattle.std.specs.Prelude.{◌≡◌, ◌<◌, ◌≤◌, ◌+◌, ◌^◌, ◌∷◌, ◌++◌, [], ℕ, All, List, IfOk, OnOk, length, map};
 ghost use Rattle.step_sim.specs.declared.turns.Turns.{Turns as Line};
 ghost use Rattle.patch_script.specs.Limits.{most_micros};
-ghost use Rattle.run_order.specs.Orders.{ordered, thread_line, turns_at};
+ghost use Rattle.run_order.specs.Orders.{ordered, load_line, turns_at};
 ghost use Rattle.run_order.specs.private.Lines.{HasJoined};
 ghost use Rattle.audit_check.specs.Stops.{places_of};
 ghost use Rattle.run_order.specs.private.Stops.{AllFrom, ArePassed, AreStops, Passes, loads_at, places_in};
@@ -96,7 +96,7 @@ fn add_loads<'a>(
     requires { AreStops place left.now }
     ensures passed { IfOk result (λ later. Passes place left.now later.now) }
     ensures added { OnOk result ((turns : List Line) → HasJoined turns lines.old
-        → HasJoined (turns ++ thread_line thread (loads_at place left.now)) lines.new) }
+        → HasJoined (turns ++ load_line thread (loads_at place left.now)) lines.new) }
     ensures steps { OnOk result (lines.new.steps ≤ lines.old.steps) }
 {
     let Some((stop, later)) = left.split_first() else {

@@ -15,8 +15,8 @@ use Rattle.runtime_log.specs.declared.version.LogVersion.{LogVersion}
 use Rattle.runtime_log.specs.BasicLogs.{basic_records, recorded_events}
 use Rattle.runtime_log.specs.Facts.{facts_of}
 use Rattle.runtime_log.specs.Imports.{IsImport, trace_file, trace_taken}
-use Rattle.runtime_log.specs.Logs.{LogBlock, as_log, basic_header, recorder_blocks, recorder_header}
-use Rattle.runtime_log.specs.Taken.{AreTaken, chosen, first_ones, has_events, is_among, undoubled}
+use Rattle.runtime_log.specs.Logs.{LogBlock, as_log, imported_header, recorder_blocks, recorder_header}
+use Rattle.runtime_log.specs.Taken.{AreTaken, chosen, first_ones, has_events, is_among_contents, undoubled}
 use Rattle.runtime_log.specs.Threads.{AreByThread}
 use Rattle.runtime_log.specs.private.Headers.{mode_of}
 use Rattle.runtime_log.specs.private.Packings.{HasPacked}
@@ -91,7 +91,7 @@ filter_few (b ∷ blocks) = by_test (filter_few blocks) (has_events b)
 
 first_few : (before : List (List ℕ)) (blocks : List LogBlock) → length (first_ones before blocks) ≤ length blocks
 first_few before [] = omega arith
-first_few before (b ∷ blocks) = by_test (first_few (b.content ∷ before) blocks) (is_among before b.content)
+first_few before (b ∷ blocks) = by_test (first_few (b.content ∷ before) blocks) (is_among_contents before b.content)
   where
     by_test : length (first_ones (b.content ∷ before) blocks) ≤ length blocks → (doubled : Bool)
         → length (cond doubled (first_ones (b.content ∷ before) blocks) (b ∷ first_ones (b.content ∷ before) blocks)) ≤ length (b ∷ blocks)
@@ -122,9 +122,9 @@ recorder_imported bytes version said taken header file facts headed says are sam
 
 -- so is what is made of the events of a basic log
 pub basic_imported : (bytes : List ℕ) (records : List BasicRec) (threads : List Block) (header : Header) (file : List ℕ) (facts : Facts) → mode_of bytes ≡ Ok Basic → basic_records bytes ≡ Ok records
-    → AreByThread (recorded_events records) threads → header ≡ basic_header bytes → file ≡ trace_file (trace_taken header threads) → facts ≡ facts_of [] threads → IsImport bytes file facts
+    → AreByThread (recorded_events records) threads → header ≡ imported_header bytes → file ≡ trace_file (trace_taken header threads) → facts ≡ facts_of [] threads → IsImport bytes file facts
 basic_imported bytes records threads header file facts headed says are same file_is facts_are = record {
-  log = record { header = basic_header bytes; blocks = []; events = recorded_events records };
+  log = record { header = imported_header bytes; blocks = []; events = recorded_events records };
   says = basic_read bytes records headed says;
   taken = threads;
   takes = record { pool = []; chosen = record { all = IsPermutation-refl []; sorted = λ k d low high. absurd (omega (arith, high)) }; threads = threads; by_thread = are; parts = refl };

@@ -36,7 +36,7 @@ use Rattle.runtime_log.specs.declared.version.LogVersion.TheVariants.{Three}
 use Rattle.runtime_log.specs.Imports.{AreTakenOf, buffer_for, pieces_of, trace_file, trace_taken}
 use Rattle.runtime_log.specs.Laws.{AreInOrder, ImportsItself, MayStandBefore, buffer_key}
 use Rattle.runtime_log.specs.Logs.{Log, LogBlock, log_block_in, log_block_rows}
-use Rattle.runtime_log.specs.Taken.{AreTaken, chosen, first_counter, first_ones, has_events, is_among, order_key, undoubled}
+use Rattle.runtime_log.specs.Taken.{AreTaken, chosen, first_counter, first_ones, has_events, is_among_contents, order_key, undoubled}
 use Rattle.runtime_log.specs.Threads.{AreByThread}
 use Rattle.runtime_log.specs.private.Choices.{AreInFileOrder}
 use Rattle.runtime_log.proofs.ByThread.{none_by_thread}
@@ -174,7 +174,7 @@ same_told reads header fits one other fit fit_too same =
 
 -- the bytes of these buffers are not among others
 abbrev AreFresh : List (List ℕ) → List Filled → Type 0
-AreFresh contents buffers = All (λ (b : Filled). is_among contents (used_bytes b) ≡ false) buffers
+AreFresh contents buffers = All (λ (b : Filled). is_among_contents contents (used_bytes b) ≡ false) buffers
 
 -- an earlier buffer has other bytes
 other_bytes : Reads → (header : Header) → HeaderFits header → (one later : Filled) → BlockFits one → BlockFits later → IsEarlier one later → bytes_eq (used_bytes later) (used_bytes one) ≡ false
@@ -194,14 +194,14 @@ other_bytes reads header fits one later fit fit_later earlier =
 
 fresh_more : Reads → (header : Header) → HeaderFits header → (contents : List (List ℕ)) (content : List ℕ) (one : Filled) (buffers : List Filled) → content ≡ used_bytes one → BlockFits one
     → All BlockFits buffers → All (IsEarlier one) buffers → AreFresh contents buffers → AreFresh (content ∷ contents) buffers
-fresh_more reads header fits contents content one [] is fit all earlier fresh = All-nil (λ (b : Filled). is_among (content ∷ contents) (used_bytes b) ≡ false)
+fresh_more reads header fits contents content one [] is fit all earlier fresh = All-nil (λ (b : Filled). is_among_contents (content ∷ contents) (used_bytes b) ≡ false)
 fresh_more reads header fits contents content one (b ∷ buffers) is fit all earlier fresh =
-    All-cons (λ (x : Filled). is_among (content ∷ contents) (used_bytes x) ≡ false) b buffers
-    (ap (λ (xs : List ℕ). bytes_eq (used_bytes b) xs || is_among contents (used_bytes b)) is
-    ∙ ap (λ (x : Bool). x || is_among contents (used_bytes b)) (other_bytes reads header fits one b fit (All-head BlockFits b buffers all) (All-head (IsEarlier one) b buffers earlier))
-    ∙ All-head (λ (x : Filled). is_among contents (used_bytes x) ≡ false) b buffers fresh)
+    All-cons (λ (x : Filled). is_among_contents (content ∷ contents) (used_bytes x) ≡ false) b buffers
+    (ap (λ (xs : List ℕ). bytes_eq (used_bytes b) xs || is_among_contents contents (used_bytes b)) is
+    ∙ ap (λ (x : Bool). x || is_among_contents contents (used_bytes b)) (other_bytes reads header fits one b fit (All-head BlockFits b buffers all) (All-head (IsEarlier one) b buffers earlier))
+    ∙ All-head (λ (x : Filled). is_among_contents contents (used_bytes x) ≡ false) b buffers fresh)
     (fresh_more reads header fits contents content one buffers is fit (All-tail BlockFits b buffers all) (All-tail (IsEarlier one) b buffers earlier)
-    (All-tail (λ (x : Filled). is_among contents (used_bytes x) ≡ false) b buffers fresh))
+    (All-tail (λ (x : Filled). is_among_contents contents (used_bytes x) ≡ false) b buffers fresh))
 
 all_first : Reads → (header : Header) → HeaderFits header → (contents : List (List ℕ)) (blocks : List LogBlock) (buffers : List Filled) → AllZip IsOf blocks buffers → All BlockFits buffers
     → AreInOrder buffers → AreFresh contents buffers → first_ones contents blocks ≡ blocks
@@ -209,17 +209,17 @@ all_first reads header fits contents [] [] are all rising fresh = refl
 all_first reads header fits contents [] (b ∷ buffers) are all rising fresh = absurd are
 all_first reads header fits contents (x ∷ blocks) [] are all rising fresh = absurd are
 all_first reads header fits contents (x ∷ blocks) (b ∷ buffers) are all rising fresh =
-    let own : is_among contents x.content ≡ false =
-    ap (is_among contents) are.0.0 ∙ All-head (λ (y : Filled). is_among contents (used_bytes y) ≡ false) b buffers fresh in
+    let own : is_among_contents contents x.content ≡ false =
+    ap (is_among_contents contents) are.0.0 ∙ All-head (λ (y : Filled). is_among_contents contents (used_bytes y) ≡ false) b buffers fresh in
     let later = fresh_more reads header fits contents x.content b buffers are.0.0 (All-head BlockFits b buffers all) (All-tail BlockFits b buffers all) (rising_first b buffers rising)
-    (All-tail (λ (y : Filled). is_among contents (used_bytes y) ≡ false) b buffers fresh) in
+    (All-tail (λ (y : Filled). is_among_contents contents (used_bytes y) ≡ false) b buffers fresh) in
     let others = first_ones (x.content ∷ contents) blocks in
     ap (λ (t : Bool). cond t others (x ∷ others)) own
     ∙ ap (λ (bs : List LogBlock). x ∷ bs) (all_first reads header fits (x.content ∷ contents) blocks buffers are.1 (All-tail BlockFits b buffers all) (rising_later b buffers rising) later)
 
 none_among : (buffers : List Filled) → AreFresh [] buffers
-none_among [] = All-nil (λ (b : Filled). is_among [] (used_bytes b) ≡ false)
-none_among (b ∷ buffers) = All-cons (λ (x : Filled). is_among [] (used_bytes x) ≡ false) b buffers refl (none_among buffers)
+none_among [] = All-nil (λ (b : Filled). is_among_contents [] (used_bytes b) ≡ false)
+none_among (b ∷ buffers) = All-cons (λ (x : Filled). is_among_contents [] (used_bytes x) ≡ false) b buffers refl (none_among buffers)
 
 all_have_events : (blocks : List LogBlock) (buffers : List Filled) → AllZip IsOf blocks buffers → All (λ (b : Filled). IsTrue (has_event b)) buffers → filter has_events blocks ≡ blocks
 all_have_events [] [] are some = refl

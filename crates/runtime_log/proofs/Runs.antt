@@ -16,7 +16,7 @@ use Rattle.fdr_file.specs.Traces.{logs_arg}
 use Rattle.fdr_file.specs.declared.fault.TraceFault.TheVariants as traces
 use Rattle.runtime_log.specs.declared.basic.BasicRec.{BasicRec}
 use Rattle.runtime_log.specs.declared.basic.BasicRec.TheVariants.{Passed, Argument}
-use Rattle.runtime_log.specs.declared.basic.Owner.{Owner}
+use Rattle.runtime_log.specs.declared.basic.RecordOwner.{RecordOwner}
 use Rattle.runtime_log.specs.declared.basic.Passing.{Passing}
 use Rattle.runtime_log.specs.declared.fault.LogFault.{LogFault}
 use Rattle.runtime_log.specs.declared.fault.LogFault.TheVariants as faults
@@ -27,7 +27,7 @@ use Rattle.runtime_log.proofs.RecordableLogs.{fit_recordable}
 
 -- ---- events that a trace can have
 
-abbrev pub OwnerFits : Owner → Type 0
+abbrev pub OwnerFits : RecordOwner → Type 0
 OwnerFits owner = (owner.thread < 2 ^ 32) × (owner.pid < 2 ^ 32)
 
 abbrev pub RecordFits : BasicRec → Type 0

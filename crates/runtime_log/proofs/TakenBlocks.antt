@@ -18,7 +18,7 @@ use Rattle.fdr_file.specs.declared.fault.TraceFault.{TraceFault}
 use Rattle.runtime_log.specs.declared.blocks.LogBlock.{LogBlock as Placed}
 use Rattle.runtime_log.specs.declared.version.LogVersion.{LogVersion}
 use Rattle.runtime_log.specs.Logs.{LogBlock, log_block_in}
-use Rattle.runtime_log.specs.Taken.{comes_before, first_counter, first_ones, has_events, is_among, order_key}
+use Rattle.runtime_log.specs.Taken.{comes_before, first_counter, first_ones, has_events, is_among_contents, order_key}
 use Rattle.runtime_log.specs.private.Choices.{AreAt, IsAt, KeepsFirst, LiesWithin, content_at, counter_first, time_key}
 use Rattle.runtime_log.proofs.BlockLists.{at_more}
 
@@ -93,12 +93,12 @@ at_index bytes version (p ∷ places) (s ∷ said) (suc i) d are within =
 
 -- a block whose bytes were there before
 pub keeps_doubled : (bytes : List ℕ) (version : LogVersion) (said : List LogBlock) (i : ℕ) (kept : List Placed) (seen more : List (List ℕ)) (placed : Placed)
-    → KeepsFirst bytes version said i kept seen → Stands bytes version placed said i → is_among seen (content_at bytes placed) ≡ true
-    → ((q : List ℕ) → is_among more q ≡ (bytes_eq q (content_at bytes placed) || is_among seen q)) → KeepsFirst bytes version said (i + 1) kept more
+    → KeepsFirst bytes version said i kept seen → Stands bytes version placed said i → is_among_contents seen (content_at bytes placed) ≡ true
+    → ((q : List ℕ) → is_among_contents more q ≡ (bytes_eq q (content_at bytes placed) || is_among_contents seen q)) → KeepsFirst bytes version said (i + 1) kept more
 keeps_doubled bytes version said i kept seen more placed k there among adds =
     let content = there.b.content in
     let later = drop (i + 1) said in
-    let doubled : is_among k.before content ≡ true = ap (is_among k.before) (sym there.is.content) ∙ sym (k.among (content_at bytes placed)) ∙ among in
+    let doubled : is_among_contents k.before content ≡ true = ap (is_among_contents k.before) (sym there.is.content) ∙ sym (k.among (content_at bytes placed)) ∙ among in
     record {
       done = k.done;
       before = content ∷ k.before;
@@ -106,17 +106,17 @@ keeps_doubled bytes version said i kept seen more placed k there among adds =
       parts =
           k.parts ∙ ap (λ (bs : List LogBlock). k.done ++ first_ones k.before bs) there.rest
           ∙ ap (λ (b : Bool). k.done ++ cond b (first_ones (content ∷ k.before) later) (there.b ∷ first_ones (content ∷ k.before) later)) doubled;
-      among = λ q. adds q ∙ ap (λ (xs : List ℕ). bytes_eq q xs || is_among seen q) there.is.content ∙ ap (λ (b : Bool). bytes_eq q content || b) (k.among q);
+      among = λ q. adds q ∙ ap (λ (xs : List ℕ). bytes_eq q xs || is_among_contents seen q) there.is.content ∙ ap (λ (b : Bool). bytes_eq q content || b) (k.among q);
     }
 
 -- one with bytes of its own
 pub keeps_own : (bytes : List ℕ) (version : LogVersion) (said : List LogBlock) (i : ℕ) (kept : List Placed) (seen more : List (List ℕ)) (placed : Placed)
-    → KeepsFirst bytes version said i kept seen → Stands bytes version placed said i → is_among seen (content_at bytes placed) ≡ false
-    → ((q : List ℕ) → is_among more q ≡ (bytes_eq q (content_at bytes placed) || is_among seen q)) → KeepsFirst bytes version said (i + 1) (kept ++ placed ∷ []) more
+    → KeepsFirst bytes version said i kept seen → Stands bytes version placed said i → is_among_contents seen (content_at bytes placed) ≡ false
+    → ((q : List ℕ) → is_among_contents more q ≡ (bytes_eq q (content_at bytes placed) || is_among_contents seen q)) → KeepsFirst bytes version said (i + 1) (kept ++ placed ∷ []) more
 keeps_own bytes version said i kept seen more placed k there among adds =
     let content = there.b.content in
     let later = drop (i + 1) said in
-    let own : is_among k.before content ≡ false = ap (is_among k.before) (sym there.is.content) ∙ sym (k.among (content_at bytes placed)) ∙ among in
+    let own : is_among_contents k.before content ≡ false = ap (is_among_contents k.before) (sym there.is.content) ∙ sym (k.among (content_at bytes placed)) ∙ among in
     record {
       done = k.done ++ there.b ∷ [];
       before = content ∷ k.before;
@@ -125,7 +125,7 @@ keeps_own bytes version said i kept seen more placed k there among adds =
           k.parts ∙ ap (λ (bs : List LogBlock). k.done ++ first_ones k.before bs) there.rest
           ∙ ap (λ (b : Bool). k.done ++ cond b (first_ones (content ∷ k.before) later) (there.b ∷ first_ones (content ∷ k.before) later)) own
           ∙ sym (append_assoc k.done (there.b ∷ []) (first_ones (content ∷ k.before) later));
-      among = λ q. adds q ∙ ap (λ (xs : List ℕ). bytes_eq q xs || is_among seen q) there.is.content ∙ ap (λ (b : Bool). bytes_eq q content || b) (k.among q);
+      among = λ q. adds q ∙ ap (λ (xs : List ℕ). bytes_eq q xs || is_among_contents seen q) there.is.content ∙ ap (λ (b : Bool). bytes_eq q content || b) (k.among q);
     }
 
 -- ---- those with events

@@ -15,7 +15,7 @@ use Rattle.runtime_log.specs.declared.version.LogVersion.{LogVersion}
 use Rattle.runtime_log.specs.Grammar.{AreLogBlocks, AreLogRecords, IsLogBlock}
 use Rattle.runtime_log.specs.LogLaws.{BlocksAreTaken, LoggedIsLog, SomeBlock}
 use Rattle.runtime_log.specs.Logs.{LogBlock}
-use Rattle.runtime_log.specs.Taken.{chosen, first_ones, has_events, is_among, undoubled}
+use Rattle.runtime_log.specs.Taken.{chosen, first_ones, has_events, is_among_contents, undoubled}
 use Rattle.runtime_log.proofs.LogAgain.{block_again}
 use Rattle.runtime_log.proofs.OneImport.{IsOneOf, each_is_one, first_ones_hold}
 
@@ -84,37 +84,37 @@ or_cases false b e = inr e
 
 -- the bytes of a block stood before, or a block with them is kept
 abbrev IsKept : List (List ℕ) → List LogBlock → LogBlock → Type 0
-IsKept before kept b = (is_among before b.content ≡ true) ⊎ SomeBlock (λ x. x.content ≡ b.content) kept
+IsKept before kept b = (is_among_contents before b.content ≡ true) ⊎ SomeBlock (λ x. x.content ≡ b.content) kept
 
 all_kept : (before : List (List ℕ)) (blocks : List LogBlock) → All (IsKept before (first_ones before blocks)) blocks
 all_kept before [] = All-nil (IsKept before [])
-all_kept before (b ∷ blocks) = by_test (all_kept (b.content ∷ before) blocks) (is_among before b.content) refl
+all_kept before (b ∷ blocks) = by_test (all_kept (b.content ∷ before) blocks) (is_among_contents before b.content) refl
   where
     others : List LogBlock
     others = first_ones (b.content ∷ before) blocks
 
-    by_test : All (IsKept (b.content ∷ before) others) blocks → (doubled : Bool) → is_among before b.content ≡ doubled → All (IsKept before (cond doubled others (b ∷ others))) (b ∷ blocks)
+    by_test : All (IsKept (b.content ∷ before) others) blocks → (doubled : Bool) → is_among_contents before b.content ≡ doubled → All (IsKept before (cond doubled others (b ∷ others))) (b ∷ blocks)
     by_test again true e =
         All-cons (IsKept before others) b blocks (inl e) (All-weaker (IsKept (b.content ∷ before) others) (IsKept before others) weaker blocks again)
       where
-        by_or : (c : LogBlock) → (bytes_eq c.content b.content ≡ true) ⊎ (is_among before c.content ≡ true) → IsKept before others c
+        by_or : (c : LogBlock) → (bytes_eq c.content b.content ≡ true) ⊎ (is_among_contents before c.content ≡ true) → IsKept before others c
         by_or c (inl same) =
             let is : c.content ≡ b.content = (bytes_eq-Decides c.content b.content).0 same in
-            inl (ap (is_among before) is ∙ e)
+            inl (ap (is_among_contents before) is ∙ e)
         by_or c (inr stood) = inl stood
 
         weaker : (c : LogBlock) → IsKept (b.content ∷ before) others c → IsKept before others c
-        weaker c (inl stood) = by_or c (or_cases (bytes_eq c.content b.content) (is_among before c.content) stood)
+        weaker c (inl stood) = by_or c (or_cases (bytes_eq c.content b.content) (is_among_contents before c.content) stood)
         weaker c (inr some) = inr some
     by_test again false e =
         All-cons (IsKept before (b ∷ others)) b blocks (inr (inl refl)) (All-weaker (IsKept (b.content ∷ before) others) (IsKept before (b ∷ others)) weaker blocks again)
       where
-        by_or : (c : LogBlock) → (bytes_eq c.content b.content ≡ true) ⊎ (is_among before c.content ≡ true) → IsKept before (b ∷ others) c
+        by_or : (c : LogBlock) → (bytes_eq c.content b.content ≡ true) ⊎ (is_among_contents before c.content ≡ true) → IsKept before (b ∷ others) c
         by_or c (inl same) = inr (inl (sym ((bytes_eq-Decides c.content b.content).0 same)))
         by_or c (inr stood) = inl stood
 
         weaker : (c : LogBlock) → IsKept (b.content ∷ before) others c → IsKept before (b ∷ others) c
-        weaker c (inl stood) = by_or c (or_cases (bytes_eq c.content b.content) (is_among before c.content) stood)
+        weaker c (inl stood) = by_or c (or_cases (bytes_eq c.content b.content) (is_among_contents before c.content) stood)
         weaker c (inr some) = inr (inr some)
 
 -- one with the same bytes has events too
@@ -181,13 +181,13 @@ all_full blocks (b ∷ kept) all = by_test (all_full blocks kept (All-tail (IsOn
 
 -- ---- each once
 
-first_once : (content : List ℕ) (before : List (List ℕ)) (blocks : List LogBlock) → count_by (has_bytes content) (first_ones before blocks) ≤ cond (is_among before content) 0 1
-first_once content before [] = by_test (is_among before content)
+first_once : (content : List ℕ) (before : List (List ℕ)) (blocks : List LogBlock) → count_by (has_bytes content) (first_ones before blocks) ≤ cond (is_among_contents before content) 0 1
+first_once content before [] = by_test (is_among_contents before content)
   where
     by_test : (b : Bool) → 0 ≤ cond b 0 1
     by_test true = omega arith
     by_test false = omega arith
-first_once content before (b ∷ blocks) = by_test (first_once content (b.content ∷ before) blocks) (is_among before b.content) refl
+first_once content before (b ∷ blocks) = by_test (first_once content (b.content ∷ before) blocks) (is_among_contents before b.content) refl
   where
     others : List LogBlock
     others = first_ones (b.content ∷ before) blocks
@@ -207,20 +207,20 @@ first_once content before (b ∷ blocks) = by_test (first_once content (b.conten
         let back : bytes_eq content b.content ≡ true = (bytes_eq-Decides content b.content).1 (sym ((bytes_eq-Decides b.content content).0 e)) in
         absurd cc
 
-    here : (x : Bool) → bytes_eq content b.content ≡ x → is_among before b.content ≡ false → count_by (has_bytes content) others ≤ cond (x || is_among before content) 0 1
-        → cond (has_bytes content b) 1 0 + count_by (has_bytes content) others ≤ cond (is_among before content) 0 1
+    here : (x : Bool) → bytes_eq content b.content ≡ x → is_among_contents before b.content ≡ false → count_by (has_bytes content) others ≤ cond (x || is_among_contents before content) 0 1
+        → cond (has_bytes content b) 1 0 + count_by (has_bytes content) others ≤ cond (is_among_contents before content) 0 1
     here true e fresh few =
         let same : content ≡ b.content = (bytes_eq-Decides content b.content).0 e in
-        let new : is_among before content ≡ false = ap (is_among before) same ∙ fresh in
+        let new : is_among_contents before content ≡ false = ap (is_among_contents before) same ∙ fresh in
         let mine : cond (has_bytes content b) 1 0 ≤ 1 = at_most_one (has_bytes content b) in
         rw new (omega (arith, few, mine))
     here false e fresh few =
         let other : has_bytes content b ≡ false = not_same (has_bytes content b) refl e in
         rw other (omega (arith, few))
 
-    by_test : count_by (has_bytes content) others ≤ cond (bytes_eq content b.content || is_among before content) 0 1 → (doubled : Bool) → is_among before b.content ≡ doubled
-        → count_by (has_bytes content) (cond doubled others (b ∷ others)) ≤ cond (is_among before content) 0 1
-    by_test few true e = lower (bytes_eq content b.content) (is_among before content) (count_by (has_bytes content) others) few
+    by_test : count_by (has_bytes content) others ≤ cond (bytes_eq content b.content || is_among_contents before content) 0 1 → (doubled : Bool) → is_among_contents before b.content ≡ doubled
+        → count_by (has_bytes content) (cond doubled others (b ∷ others)) ≤ cond (is_among_contents before content) 0 1
+    by_test few true e = lower (bytes_eq content b.content) (is_among_contents before content) (count_by (has_bytes content) others) few
     by_test few false e = rw (sum_by-cons (λ (x : LogBlock). cond (has_bytes content x) 1 0) b others) (here (bytes_eq content b.content) refl e few)
 
 filter_fewer : (p q : LogBlock → Bool) (xs : List LogBlock) → count_by p (filter q xs) ≤ count_by p xs

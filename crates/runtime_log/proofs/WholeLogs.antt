@@ -12,7 +12,7 @@ use Rattle.runtime_log.specs.declared.blocks.Mode.TheVariants.{Recorder, Basic}
 use Rattle.runtime_log.specs.declared.fault.LogFault.{LogFault}
 use Rattle.runtime_log.specs.declared.fault.LogFault.TheVariants as faults
 use Rattle.runtime_log.specs.declared.version.LogVersion.{LogVersion}
-use Rattle.runtime_log.specs.Logs.{BlockSoFar, Log, LogBlock, as_log, basic_header, basic_log, block_content, block_said, block_size_rows, content_rows, log_block_in, logged, recorder_blocks, recorder_header, recorder_log, typed_rows}
+use Rattle.runtime_log.specs.Logs.{BlockSoFar, Log, LogBlock, as_log, imported_header, basic_log, block_content, block_said, block_size_rows, content_rows, log_block_in, logged, recorder_blocks, recorder_header, recorder_log, typed_rows}
 use Rattle.runtime_log.specs.BasicLogs.{basic_records, recorded_events}
 use Rattle.runtime_log.specs.Versions.{log_version_of}
 use Rattle.runtime_log.specs.private.Headers.{header_for, mode_of}
@@ -79,16 +79,16 @@ pub recorder_read : (bytes : List ℕ) (version : LogVersion) (said : List LogBl
 recorder_read bytes version said e f = recorder_is bytes version (Ok said) e f
 
 basic_is : (bytes : List ℕ) (said : Result (List BasicRec) LogFault) → mode_of bytes ≡ Ok Basic → basic_records bytes ≡ said
-    → logged bytes ≡ (said >>= λ records. Ok (record { header = basic_header bytes; blocks = []; events = recorded_events records }))
+    → logged bytes ≡ (said >>= λ records. Ok (record { header = imported_header bytes; blocks = []; events = recorded_events records }))
 basic_is bytes said e f =
     logged_is bytes ∙ ap (log_by bytes) e
-    ∙ ap (λ (x : Result (List BasicRec) LogFault). x >>= λ records. Ok (record { header = basic_header bytes; blocks = []; events = recorded_events records })) f
+    ∙ ap (λ (x : Result (List BasicRec) LogFault). x >>= λ records. Ok (record { header = imported_header bytes; blocks = []; events = recorded_events records })) f
 
 pub basic_refused : (bytes : List ℕ) (fault : LogFault) → mode_of bytes ≡ Ok Basic → basic_records bytes ≡ Err fault → logged bytes ≡ Err fault
 basic_refused bytes fault e f = basic_is bytes (Err fault) e f
 
 pub basic_read : (bytes : List ℕ) (records : List BasicRec) → mode_of bytes ≡ Ok Basic → basic_records bytes ≡ Ok records
-    → logged bytes ≡ Ok (record { header = basic_header bytes; blocks = []; events = recorded_events records })
+    → logged bytes ≡ Ok (record { header = imported_header bytes; blocks = []; events = recorded_events records })
 basic_read bytes records e f = basic_is bytes (Ok records) e f
 
 -- a log has a whole header
@@ -127,9 +127,9 @@ log_parts bytes log is = by_mode (mode_of bytes) refl (sym (logged_is bytes) ∙
     by_blocks version e (Err fault) f h = absurd cc
 
     by_records : mode_of bytes ≡ Ok Basic → (said : Result (List BasicRec) LogFault) → basic_records bytes ≡ said
-        → (said >>= λ records. Ok (record { header = basic_header bytes; blocks = []; events = recorded_events records })) ≡ Ok log → LogParts bytes log
+        → (said >>= λ records. Ok (record { header = imported_header bytes; blocks = []; events = recorded_events records })) ≡ Ok log → LogParts bytes log
     by_records e (Ok records) f h =
-        let same : record { header = basic_header bytes; blocks = []; events = recorded_events records } ≡ log = cc in record {
+        let same : record { header = imported_header bytes; blocks = []; events = recorded_events records } ≡ log = cc in record {
           mode = Basic;
           headed = e;
           header = ap (λ (l : Log). l.header) (sym same);

@@ -13,7 +13,7 @@ use Rattle.fdr_file.specs.Traces.{logs_arg}
 use Rattle.fdr_file.specs.declared.fault.TraceFault.TheVariants as traces
 use Rattle.runtime_log.specs.declared.basic.BasicRec.{BasicRec}
 use Rattle.runtime_log.specs.declared.basic.BasicRec.TheVariants.{Passed, Argument}
-use Rattle.runtime_log.specs.declared.basic.Owner.{Owner}
+use Rattle.runtime_log.specs.declared.basic.RecordOwner.{RecordOwner}
 use Rattle.runtime_log.specs.declared.fault.LogFault.{LogFault}
 use Rattle.runtime_log.specs.declared.fault.LogFault.TheVariants as faults
 
@@ -22,12 +22,12 @@ use Rattle.runtime_log.specs.declared.fault.LogFault.TheVariants as faults
 -- the passing that a record of this kind says
 abbrev pub passing_in : Kind → List ℕ → BasicRec
 passing_in kind bytes =
-    let owner : Owner = record { thread = thread_in bytes; pid = pid_in bytes } in Passed owner (event_in kind bytes)
+    let owner : RecordOwner = record { thread = thread_in bytes; pid = pid_in bytes } in Passed owner (event_in kind bytes)
 
 -- the argument that a record says
 abbrev pub argument_in : List ℕ → BasicRec
 argument_in bytes =
-    let owner : Owner = record { thread = little_number 4 (drop 8 bytes); pid = little_number 4 (drop 12 bytes) } in
+    let owner : RecordOwner = record { thread = little_number 4 (drop 8 bytes); pid = little_number 4 (drop 12 bytes) } in
     Argument owner (func_in bytes) (little_number 8 (drop 16 bytes))
 
 -- the passing at a place
@@ -48,16 +48,16 @@ tagged_rows at bytes =
 -- ---- what may stand behind what
 
 -- the thread and the process of a record
-abbrev pub owner_of : BasicRec → Owner
+abbrev pub owner_of : BasicRec → RecordOwner
 owner_of (Passed owner event) = owner
 owner_of (Argument owner func value) = owner
 
-abbrev pub same_owner : Owner → Owner → Bool
+abbrev pub same_owner : RecordOwner → RecordOwner → Bool
 same_owner one other = (one.thread == other.thread) && (one.pid == other.pid)
 
 -- An argument of this owner's call of a function may stand behind the record: behind the entry that it is of, or behind
 -- another argument of it.
-abbrev pub takes_argument : BasicRec → Owner → (function : ℕ) → Bool
+abbrev pub takes_argument : BasicRec → RecordOwner → (function : ℕ) → Bool
 takes_argument (Passed owner event) of function = logs_arg event.kind && (event.func == function) && same_owner owner of
 takes_argument (Argument owner func value) of function = (func == function) && same_owner owner of
 

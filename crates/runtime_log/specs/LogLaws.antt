@@ -11,7 +11,7 @@ use Rattle.runtime_log.specs.declared.facts.Facts.{Facts}
 use Rattle.runtime_log.specs.Grammar.{IsLog}
 use Rattle.runtime_log.specs.Imports.{IsImport}
 use Rattle.runtime_log.specs.Logs.{Log, LogBlock, logged}
-use Rattle.runtime_log.specs.Taken.{comes_before, is_among}
+use Rattle.runtime_log.specs.Taken.{comes_before, is_among_contents}
 use Rattle.runtime_log.specs.Threads.{recorded_by}
 
 -- what bytes are read as, if they say that they are a log of this mode, is a log by the grammar
@@ -68,7 +68,7 @@ IsGreatest numbers (Some n) = Contains numbers n × All (λ m. m ≤ n) numbers
 
 -- block i has the bytes of a block before it
 abbrev pub is_double : List LogBlock → (i : ℕ) → Bool
-is_double blocks i = let contents = map (λ b. b.content) blocks in is_among (take i contents) (slice_index_or contents i [])
+is_double blocks i = let contents = map (λ b. b.content) blocks in is_among_contents (take i contents) (slice_index_or contents i [])
 
 -- block i has no events
 abbrev pub is_empty_block : List LogBlock → (i : ℕ) → Bool

@@ -154,8 +154,8 @@ as_log (Err fault) = Err (faults.Trace fault)
 abbrev pub recorder_header : List ℕ → Header
 recorder_header bytes = record (header_in bytes) { version = 3 }
 
-abbrev pub basic_header : List ℕ → Header
-basic_header bytes = record (header_in bytes) { version = 3; size = 0 }
+abbrev pub imported_header : List ℕ → Header
+imported_header bytes = record (header_in bytes) { version = 3; size = 0 }
 
 -- a log of each mode
 abbrev pub recorder_log : LogVersion → List ℕ → Result Log LogFault
@@ -164,7 +164,7 @@ recorder_log version bytes =
 
 abbrev pub basic_log : List ℕ → Result Log LogFault
 basic_log bytes =
-    basic_records bytes >>= λ records. Ok (record { header = basic_header bytes; blocks = []; events = recorded_events records })
+    basic_records bytes >>= λ records. Ok (record { header = imported_header bytes; blocks = []; events = recorded_events records })
 
 -- A log of the type 1 is one of the Flight Data Recorder mode, of version 2 to 5. One of the type 0 is a basic log, of
 -- version 3. A header is refused for its version first, if no log has that version.

@@ -11,14 +11,14 @@ use Rattle.runtime_log.specs.Logs.{LogBlock}
 -- ---- which
 
 -- these bytes are among others
-abbrev pub is_among : List (List ℕ) → List ℕ → Bool
-is_among contents content = list_any (bytes_eq content) contents
+abbrev pub is_among_contents : List (List ℕ) → List ℕ → Bool
+is_among_contents contents content = list_any (bytes_eq content) contents
 
 -- the blocks whose bytes aren't those of a block before them, and not these either
 abbrev pub first_ones : (before : List (List ℕ)) → List LogBlock → List LogBlock
 first_ones before [] = []
 first_ones before (b ∷ blocks) =
-    let others = first_ones (b.content ∷ before) blocks in if is_among before b.content then others else b ∷ others
+    let others = first_ones (b.content ∷ before) blocks in if is_among_contents before b.content then others else b ∷ others
 
 -- a log that is flushed while threads run may have one block twice; only the first of them is looked at
 abbrev pub undoubled : List LogBlock → List LogBlock

@@ -32,7 +32,7 @@ const VALUE_AT: usize = 16;
 
 /// Whose record it is.
 #[derive(Clone, Copy)]
-pub struct Owner {
+pub struct RecordOwner {
     /// The thread's id.
     pub thread: u32,
     /// The process.
@@ -45,14 +45,14 @@ pub enum BasicRec {
     /// A passing.
     Passed {
         /// Whose.
-        owner: Owner,
+        owner: RecordOwner,
         /// The event.
         event: Event,
     },
     /// The argument of an entry.
     Argument {
         /// Whose.
-        owner: Owner,
+        owner: RecordOwner,
         /// The function that was entered.
         func: u32,
         /// The argument.
@@ -61,7 +61,7 @@ pub enum BasicRec {
 }
 
 /// Whether a thread and a process are those of another owner.
-fn same_owner(one: Owner, other: Owner) -> bool
+fn same_owner(one: RecordOwner, other: RecordOwner) -> bool
     ensures { result ≡ same_owner one other }
 {
     one.thread == other.thread && one.pid == other.pid
@@ -90,7 +90,7 @@ fn passing_in(place: u64, bytes: &[u8]) -> Result<BasicRec, LogFault>
     if func >= FUNCTIONS {
         return Err(LogFault::Function(place, func));
     }
-    let owner = Owner {
+    let owner = RecordOwner {
         thread: thread_in(bytes),
         pid: pid_in(bytes),
     };
@@ -104,7 +104,7 @@ fn argument_in(bytes: &[u8]) -> BasicRec
     ensures { result ≡ argument_in bytes.now }
 {
     BasicRec::Argument {
-        owner: Owner {
+        owner: RecordOwner {
             thread: u32_at(bytes, ARGUMENT_THREAD_AT),
             pid: u32_at(bytes, ARGUMENT_PROCESS_AT),
         },
@@ -129,7 +129,7 @@ fn record_in(place: u64, bytes: &[u8]) -> Result<BasicRec, LogFault>
 }
 
 /// Whether an argument of this owner's call of a function may stand behind a record.
-fn takes_argument(before: BasicRec, of: Owner, function: u32) -> bool
+fn takes_argument(before: BasicRec, of: RecordOwner, function: u32) -> bool
     ensures { result ≡ takes_argument before of function }
 {
     match before {

@@ -4,7 +4,7 @@ ghost use Rattle.std.specs.Prelude.{◌≡◌, ◌≤◌, ◌||◌, ℕ, All, If
 ghost use Rattle.std.specs.{Option.{unwrap_or}, Str.{bytes_eq}};
 ghost use Rattle.runtime_log.specs.declared.version.LogVersion.{LogVersion};
 ghost use Rattle.runtime_log.specs.Logs.{LogBlock as SaidBlock};
-ghost use Rattle.runtime_log.specs.Taken.{AreTaken, is_among, undoubled};
+ghost use Rattle.runtime_log.specs.Taken.{AreTaken, is_among_contents, undoubled};
 ghost use Rattle.runtime_log.specs.private.Choices.{AreAt, AreLeftOut, LiesWithin, content_at, time_key};
 
 use crate::blocks::LogBlock;
@@ -35,9 +35,9 @@ fn content<'a>(bytes: &'a [u8], block: &LogBlock) -> &'a [u8]
 /// Adds the bytes of a block to those of the blocks before it. Returns whether they are none of
 /// these.
 fn add_content<'a>(seen: &mut BTreeSet<&'a [u8]>, content: &'a [u8]) -> Result<bool, NoMemory>
-    ensures own { IfOk result (λ own. own ≡ not (is_among (map (λ k. k.now) seen.old.keys) content.now)) }
-    ensures seen { OnOk result ((other : List ℕ) → is_among (map (λ k. k.now) seen.new.keys) other
-        ≡ (bytes_eq other content.now || is_among (map (λ k. k.now) seen.old.keys) other)) }
+    ensures own { IfOk result (λ own. own ≡ not (is_among_contents (map (λ k. k.now) seen.old.keys) content.now)) }
+    ensures seen { OnOk result ((other : List ℕ) → is_among_contents (map (λ k. k.now) seen.new.keys) other
+        ≡ (bytes_eq other content.now || is_among_contents (map (λ k. k.now) seen.old.keys) other)) }
 {
     Ok(seen.insert(content)?)
 }

@@ -4,7 +4,7 @@ use Rattle.std.specs.Prelude.{◌↔◌, ◌⊎◌, slice_get, slice_index}
 use Rattle.xray_image.specs.Program.{Program}
 use Rattle.sled_words.specs.Parts.{initial_words}
 use Rattle.patch_script.specs.Limits.{most_micros}
-use Rattle.patch_script.specs.declared.command.Command.{Command}
+use Rattle.patch_script.specs.declared.command.PatchCommand.{PatchCommand}
 use Rattle.patch_script.specs.declared.micro.Micro.{Micro}
 use Rattle.patch_script.specs.declared.micro.Micro.TheVariants.{Store, Await, End}
 use Rattle.patch_script.specs.Bounds.{bound_of}
@@ -19,14 +19,14 @@ use Rattle.sled_rule.specs.Plans.{code_in, bound_in, start_in, total_in, micro_i
 abbrev pub CodeNext : Plan → Type 0
 CodeNext plan = (place word : ℕ) → code_in plan (place + 1) word ≡ unwrap_or (stored_in word (micro_in plan place)) (code_in plan place word)
 
-pub code_next : ((program : Program) (threads : ℕ) (script : List Command) (place word : ℕ)
+pub code_next : ((program : Program) (threads : ℕ) (script : List PatchCommand) (place word : ℕ)
     → code_at program threads script (place + 1) word ≡ unwrap_or (stored_in word (micro_at program threads script place)) (code_at program threads script place word))
     → (plan : Plan) → CodeNext plan
 unfolding code_in micro_in
 code_next said plan place word = said plan.program plan.threads (commands_of plan.lines) place word
 
 -- the code before any micro step
-pub code_first : ((program : Program) (threads : ℕ) (script : List Command) → AreCodeAt program threads script 0 (initial_words program threads))
+pub code_first : ((program : Program) (threads : ℕ) (script : List PatchCommand) → AreCodeAt program threads script 0 (initial_words program threads))
     → (plan : Plan) (word : ℕ) → word < length (initial_words plan.program plan.threads)
     → slice_index (initial_words plan.program plan.threads) word ≡ code_in plan 0 word
 unfolding code_in
@@ -37,7 +37,7 @@ abbrev pub BoundReached : Plan → Type 0
 BoundReached plan = (thread passing place : ℕ) → place ≤ total_in plan
     → ((i count : ℕ) → i < place → micro_in plan i ≡ Await thread count → count ≤ passing) → place ≤ bound_in plan thread passing
 
-pub bound_reached : ((program : Program) (threads : ℕ) (script : List Command) (thread passing place : ℕ) → place ≤ total_of program threads script
+pub bound_reached : ((program : Program) (threads : ℕ) (script : List PatchCommand) (thread passing place : ℕ) → place ≤ total_of program threads script
     → ((i count : ℕ) → i < place → micro_at program threads script i ≡ Await thread count → count ≤ passing) → place ≤ bound_of program threads script thread passing)
     → (plan : Plan) → BoundReached plan
 unfolding bound_in total_in micro_in

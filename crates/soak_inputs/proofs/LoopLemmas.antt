@@ -1,11 +1,11 @@
 -- The script and the schedule, line after line.
 use Rattle.std.proofs.Common.{◌≡◌, ℕ, suc, ◌+◌, ◌-◌, ◌<◌, List, [], ◌∷◌, ◌++◌, refl, sym, ap, ◌∙◌, append_assoc, append-nil, arith}
 use Rattle.text_lines.specs.Written.{written_line}
-use Rattle.patch_script.specs.declared.command.Command.{Command}
+use Rattle.patch_script.specs.declared.command.PatchCommand.{PatchCommand}
 use Rattle.patch_script.specs.WrittenScripts.{command_words, script_text}
 use Rattle.step_sim.specs.declared.turns.Turns.{Turns}
 use Rattle.step_sim.specs.WrittenSchedules.{schedule_text, turn_words}
-use Rattle.patch_script.specs.declared.command.Command.TheVariants as commands
+use Rattle.patch_script.specs.declared.command.PatchCommand.TheVariants as commands
 use Rattle.soak_inputs.specs.Draws.{drawn, next}
 use Rattle.soak_inputs.specs.Scripts.{after_change, after_changes, change, change_of, changes}
 use Rattle.soak_inputs.specs.Schedules.{after_turns, all_turns, turns_drawn}
@@ -42,7 +42,7 @@ changes_first : (n x : ℕ) → changes (suc n) x ≡ change x ∷ changes n (af
 unfolding changes
 changes_first n x = refl
 
-script_first : (command : Command) (script : List Command) → script_text (command ∷ script) ≡ script_text (command ∷ []) ++ script_text script
+script_first : (command : PatchCommand) (script : List PatchCommand) → script_text (command ∷ script) ≡ script_text (command ∷ []) ++ script_text script
 script_first command script = ap (λ t. t ++ script_text script) (sym (append-nil (written_line (command_words command) ++ 10 ∷ [])))
 
 pub change_more : (n k x : ℕ) (text more whole : List ℕ) → k < n → text ++ script_text (changes (n - k) x) ≡ whole

@@ -1,6 +1,6 @@
 -- The three inputs of a number. The draws of the text come first, then those of the script, and then those of the schedule.
 use Rattle.std.specs.Prelude.{ℕ, List}
-use Rattle.patch_script.specs.declared.command.Command.{Command}
+use Rattle.patch_script.specs.declared.command.PatchCommand.{PatchCommand}
 use Rattle.patch_script.specs.WrittenScripts.{script_text}
 use Rattle.step_sim.specs.declared.turns.Turns.{Turns}
 use Rattle.step_sim.specs.WrittenSchedules.{schedule_text}
@@ -13,7 +13,7 @@ abbrev pub soak_text : (number : ℕ) → List ℕ
 soak_text number = assembler_text number
 
 -- the script's commands, and its text
-abbrev pub soak_commands : (number : ℕ) → List Command
+abbrev pub soak_commands : (number : ℕ) → List PatchCommand
 soak_commands number = script (after_text number)
 
 abbrev pub soak_script : (number : ℕ) → List ℕ

@@ -30,10 +30,10 @@ abbrev pub path_row_text : StackForm → Naming → PathRow → List ℕ
 path_row_text form names row = columns_text form row ++ path_text names row.path ++ weight_text form row
 
 -- the head line, which flame graphs don't have
-abbrev pub head_text : StackForm → List ℕ
-head_text Human = codes "     count        sum       self stack\n"
-head_text Flame = []
+abbrev pub stack_head : StackForm → List ℕ
+stack_head Human = codes "     count        sum       self stack\n"
+stack_head Flame = []
 
 -- the head line, and a line for each row
 abbrev pub stack_text : StackForm → Naming → List PathRow → List ℕ
-stack_text form names rows = head_text form ++ flat_map (path_row_text form names) rows
+stack_text form names rows = stack_head form ++ flat_map (path_row_text form names) rows

@@ -5,7 +5,7 @@ ghost use Rattle.std.specs.Option.{option_map};
 ghost use Rattle.function_names.specs.Name.{image_names, naming};
 ghost use Rattle.xray_io.specs.{Piece.{piece_text, right_aligned}, Text.{AddsText}, Writes.{WritesText}};
 ghost use Rattle.stack_rebuild.specs.Stacks.{told};
-ghost use Rattle.stack_rebuild.specs.StackText.{columns_text, head_text, path_text, path_row_text, stack_text, weight_text};
+ghost use Rattle.stack_rebuild.specs.StackText.{columns_text, stack_head, path_text, path_row_text, stack_text, weight_text};
 
 use crate::stack_row::StackRow;
 use function_names::{NameForm, Names, add_callee_names, add_name};
@@ -74,7 +74,7 @@ pub fn write_stack<S: Sink>(
 
 /// The head line.
 fn head_line(form: StackForm) -> &'static [u8]
-    ensures { result.now ≡ head_text form }
+    ensures { result.now ≡ stack_head form }
 {
     match form {
         StackForm::Human => b"     count        sum       self stack\n",

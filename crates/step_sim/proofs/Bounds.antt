@@ -9,8 +9,8 @@ use Rattle.xray_image.specs.Program.{Program, IsAccepted}
 use Rattle.xray_image.specs.declared.sled.Sled.{Sled}
 use Rattle.sled_words.specs.Parts.{all_sled_words, initial_words, sled_words}
 use Rattle.sled_words.specs.Words.{word_count}
-use Rattle.patch_script.specs.declared.command.Command.{Command}
-use Rattle.patch_script.specs.declared.command.Command.TheVariants as commands
+use Rattle.patch_script.specs.declared.command.PatchCommand.{PatchCommand}
+use Rattle.patch_script.specs.declared.command.PatchCommand.TheVariants as commands
 use Rattle.patch_script.specs.Micros.{hold_of, start_of}
 use Rattle.patch_script.specs.Plans.{waiting_line}
 use Rattle.patch_script.specs.Refusals.{Lines, commands_of}
@@ -93,7 +93,7 @@ item_of lists i number e =
     ap (λ (k : ℕ). unwrap_or (slice_get lists k) []) back
 
 -- all threads and the patcher are at the first moment
-pub begins : (program : Program) (script : List Command) (threads : ℕ) (limits : Limits) (p : Patcher) (ts : List Traced)
+pub begins : (program : Program) (script : List PatchCommand) (threads : ℕ) (limits : Limits) (p : Patcher) (ts : List Traced)
     → length ts ≡ threads → AllHaveBegun program script threads limits ts → ((number : ℕ) → hold_of number script ≡ None)
     → IsPatcherAt program threads script (start_of program threads script) p → vec_len p.words ≡ word_count program threads → (its : Gathered ts)
     → AllStandAt (cast_of program script (map sleds_passed its.all)) threads limits (first_moment (cast_of program script (map sleds_passed its.all))) p ts
@@ -162,13 +162,13 @@ marks_alike program program' threads threads' thread thread' hold hold' sleds sl
 
 -- ---- threads that begin, one after the other
 
-pub none_begun : (program : Program) (script : List Command) (threads : ℕ) (limits : Limits) (ts : List Traced) → ts ≡ []
+pub none_begun : (program : Program) (script : List PatchCommand) (threads : ℕ) (limits : Limits) (ts : List Traced) → ts ≡ []
     → (length ts ≡ 0) × AllHaveBegun program script threads limits ts
 none_begun program script threads limits ts e =
     subst (λ (us : List Traced). (length us ≡ 0) × AllHaveBegun program script threads limits us) (sym e)
     (refl, λ i t found. absurd (nothing_there t found))
 
-pub one_begun : (program : Program) (script : List Command) (threads : ℕ) (limits : Limits) (n : ℕ) (ts us : List Traced) (t : Traced)
+pub one_begun : (program : Program) (script : List PatchCommand) (threads : ℕ) (limits : Limits) (n : ℕ) (ts us : List Traced) (t : Traced)
     → length ts ≡ n → AllHaveBegun program script threads limits ts → HasBegun program script threads limits (n + 1) t → us ≡ ts ++ t ∷ []
     → (length us ≡ n + 1) × AllHaveBegun program script threads limits us
 one_begun program script threads limits n ts us t count begun one e =
@@ -202,7 +202,7 @@ length-initial_words program threads =
 
 -- ---- one thread that begins
 
-pub begun_if : {E : Type 0} (program : Program) (script : List Command) (threads : ℕ) (limits : Limits) (number : ℕ) (hold : Option ℕ)
+pub begun_if : {E : Type 0} (program : Program) (script : List PatchCommand) (threads : ℕ) (limits : Limits) (number : ℕ) (hold : Option ℕ)
     (made : Result Traced E) → hold ≡ hold_of number script
     → (passed : List Passing) × (end : End) × (last : State) × PlainRun program limits number passed end last
     → IfOk made (IsThreadOf program number threads hold limits)

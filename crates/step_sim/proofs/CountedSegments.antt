@@ -5,7 +5,7 @@ use Rattle.std.specs.List.{AllByRecursion}
 use Rattle.std.proofs.lemmas.Bool.{cases_eq}
 use Rattle.std.proofs.lemmas.List.Sums.{sum_by-cons}
 use Rattle.traced_run.specs.Runs.{ThreadRun}
-use Rattle.step_sim.specs.Pool.{Fresh, Item, Segment, segments_among, serials_of}
+use Rattle.step_sim.specs.Pool.{Fresh, QueueItem, Segment, segments_among, serials_of}
 use Rattle.step_sim.proofs.PoolLemmas.{eqb_is, eqb_not}
 
 -- ---- sums over threads
@@ -72,22 +72,22 @@ summed_one owner F first (suc n) low high = elim (cases_eq owner first) [
 -- ---- segments among items
 
 -- the item is a segment of one of the threads from 1 on
-abbrev pub IsSegmentOf : ℕ → Item → Type 0
+abbrev pub IsSegmentOf : ℕ → QueueItem → Type 0
 IsSegmentOf threads Fresh = ⊥
 IsSegmentOf threads (Segment thread serial) = (1 ≤ thread) × (thread ≤ threads)
 
 -- the item isn't begun, or is such a segment
-abbrev pub IsItemOf : ℕ → Item → Type 0
+abbrev pub IsItemOf : ℕ → QueueItem → Type 0
 IsItemOf threads Fresh = Unit {0}
 IsItemOf threads (Segment thread serial) = (1 ≤ thread) × (thread ≤ threads)
 
 -- how many items are segments
-abbrev pub segment_items : List Item → ℕ
+abbrev pub segment_items : List QueueItem → ℕ
 segment_items [] = 0
 segment_items (Fresh ∷ items) = segment_items items
 segment_items (Segment thread serial ∷ items) = suc (segment_items items)
 
-among_cons : (owner serial t : ℕ) (items : List Item)
+among_cons : (owner serial t : ℕ) (items : List QueueItem)
     → segments_among t (Segment owner serial ∷ items) ≡ with_one owner (λ k. segments_among k items) t
 among_cons owner serial t items = elim (cases_eq owner t) [
   | inl same ↦ rw (eqb_is owner t same) refl
@@ -95,7 +95,7 @@ among_cons owner serial t items = elim (cases_eq owner t) [
 ]
 
 -- the segments of all threads are all segments
-pub summed_among : (threads : ℕ) (items : List Item) → AllByRecursion (IsItemOf threads) items
+pub summed_among : (threads : ℕ) (items : List QueueItem) → AllByRecursion (IsItemOf threads) items
     → summed (λ t. segments_among t items) 1 threads ≡ segment_items items
 summed_among threads [] own = summed_none (λ t. segments_among t []) 1 threads (λ t. refl)
 summed_among threads (Fresh ∷ items) (here, own) = summed_among threads items own
@@ -107,13 +107,13 @@ summed_among threads (Segment owner serial ∷ items) ((low, high), own) =
 
 -- ---- a queue of buffers that aren't begun, and of segments
 
-pub all_segments : (threads : ℕ) (items : List Item) → AllByRecursion (IsSegmentOf threads) items → segment_items items ≡ length items
+pub all_segments : (threads : ℕ) (items : List QueueItem) → AllByRecursion (IsSegmentOf threads) items → segment_items items ≡ length items
 all_segments threads [] own = refl
 all_segments threads (Fresh ∷ items) (here, own) = absurd here
 all_segments threads (Segment thread serial ∷ items) (here, own) = ap suc (all_segments threads items own)
 
 -- the segments among the first items: as many as come after the ones that aren't begun
-pub first_segments : (threads spare n : ℕ) (pushed : List Item) → AllByRecursion (IsSegmentOf threads) pushed → n ≤ spare + length pushed
+pub first_segments : (threads spare n : ℕ) (pushed : List QueueItem) → AllByRecursion (IsSegmentOf threads) pushed → n ≤ spare + length pushed
     → segment_items (take n (replicate spare Fresh ++ pushed)) ≡ n - spare
 first_segments threads zero zero pushed own few = refl
 first_segments threads zero (suc n) [] own few = absurd (omega (arith, few))
@@ -128,29 +128,29 @@ first_segments threads (suc spare) (suc n) pushed own few =
     less : (a b : ℕ) → a - b ≡ suc a - suc b
     less a b = omega arith
 
-items_of : (threads : ℕ) (items : List Item) → AllByRecursion (IsSegmentOf threads) items → AllByRecursion (IsItemOf threads) items
+items_of : (threads : ℕ) (items : List QueueItem) → AllByRecursion (IsSegmentOf threads) items → AllByRecursion (IsItemOf threads) items
 items_of threads [] own = tt
 items_of threads (Fresh ∷ items) (here, own) = absurd here
 items_of threads (Segment thread serial ∷ items) (here, own) = (here, items_of threads items own)
 
-fresh_items : (threads spare : ℕ) (pushed : List Item) → AllByRecursion (IsSegmentOf threads) pushed
+fresh_items : (threads spare : ℕ) (pushed : List QueueItem) → AllByRecursion (IsSegmentOf threads) pushed
     → AllByRecursion (IsItemOf threads) (replicate spare Fresh ++ pushed)
 fresh_items threads zero pushed own = items_of threads pushed own
 fresh_items threads (suc spare) pushed own = (tt, fresh_items threads spare pushed own)
 
-take_items : (threads n : ℕ) (items : List Item) → AllByRecursion (IsItemOf threads) items → AllByRecursion (IsItemOf threads) (take n items)
+take_items : (threads n : ℕ) (items : List QueueItem) → AllByRecursion (IsItemOf threads) items → AllByRecursion (IsItemOf threads) (take n items)
 take_items threads zero items own = tt
 take_items threads (suc n) [] own = tt
 take_items threads (suc n) (item ∷ items) (here, own) = (here, take_items threads n items own)
 
-pub pushed_items : (threads : ℕ) (pushed : List Item) → AllByRecursion (IsSegmentOf threads) pushed → AllByRecursion (IsItemOf threads) pushed
+pub pushed_items : (threads : ℕ) (pushed : List QueueItem) → AllByRecursion (IsSegmentOf threads) pushed → AllByRecursion (IsItemOf threads) pushed
 pushed_items = items_of
 
-pub front_items : (threads spare n : ℕ) (pushed : List Item) → AllByRecursion (IsSegmentOf threads) pushed
+pub front_items : (threads spare n : ℕ) (pushed : List QueueItem) → AllByRecursion (IsSegmentOf threads) pushed
     → AllByRecursion (IsItemOf threads) (take n (replicate spare Fresh ++ pushed))
 front_items threads spare n pushed own = take_items threads n (replicate spare Fresh ++ pushed) (fresh_items threads spare pushed own)
 
 -- items that aren't begun belong to no thread
-pub fresh_serials : (spare thread : ℕ) (pushed : List Item) → serials_of thread (replicate spare Fresh ++ pushed) ≡ serials_of thread pushed
+pub fresh_serials : (spare thread : ℕ) (pushed : List QueueItem) → serials_of thread (replicate spare Fresh ++ pushed) ≡ serials_of thread pushed
 fresh_serials zero thread pushed = refl
 fresh_serials (suc spare) thread pushed = fresh_serials spare thread pushed

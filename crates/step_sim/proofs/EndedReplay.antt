@@ -6,7 +6,7 @@ use Rattle.std.proofs.lemmas.List.{length-map}
 use Rattle.std.proofs.lemmas.List.Elements.{All-from_get_or}
 use Rattle.std.proofs.lemmas.Option.{get_or_from_slice_get, slice_get_within}
 use Rattle.xray_image.specs.Program.{IsAccepted, Program}
-use Rattle.patch_script.specs.declared.command.Command.{Command}
+use Rattle.patch_script.specs.declared.command.PatchCommand.{PatchCommand}
 use Rattle.patch_script.specs.Micros.{hold_of}
 use Rattle.fdr_record.specs.declared.event.Event.{Event}
 use Rattle.fdr_buffer.specs.Filled.{Filled}
@@ -99,7 +99,7 @@ pub record Collected (pool : Pool) (threads : ℕ) (sealed segments first : List
   pub first_are : first ≡ pool.first.items
   pub buffers_are : buffers ≡ flat_map (λ t. filter (is_of t) pool.queue ++ filter (is_of t) pool.hands.items) (numbers_from 1 threads)
 
-pub is_simulated : (program : Program) (script : List Command) (schedule lines : List Turns) (setup : Setup) (passed : List (List Passing))
+pub is_simulated : (program : Program) (script : List PatchCommand) (schedule lines : List Turns) (setup : Setup) (passed : List (List Passing))
     (count : ℕ) (p : Patcher) (ts : List Traced) (pool : Pool) (sealed segments first : List ℕ) (buffers : List Filled) → EndsSo
     → (bytes : List ℕ) × IsAccepted bytes program → length passed ≡ setup.threads → Ended (recording program script setup passed) lines count p ts pool
     → count ≡ setup.threads → lines ≡ schedule → All (AreTurnsOf setup.threads) schedule → All Rests ts

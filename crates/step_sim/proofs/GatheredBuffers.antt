@@ -12,7 +12,7 @@ use Rattle.std.proofs.lemmas.Option.{slice_get-get_or, slice_get_read, unwrap_or
 use Rattle.fdr_record.specs.declared.event.Event.{Event}
 use Rattle.fdr_buffer.specs.Filled.{Filled, empty_buffer}
 use Rattle.step_sim.specs.declared.pool.Pool.{Pool}
-use Rattle.step_sim.specs.Pool.{Fresh, Item, Segment, Stock, segments_among, serials_of}
+use Rattle.step_sim.specs.Pool.{Fresh, QueueItem, Segment, Stock, segments_among, serials_of}
 use Rattle.traced_run.specs.Kept.{Stamp, buffer_of, buffers_after}
 use Rattle.step_sim.specs.Recorded.{numbers_from}
 use Rattle.step_sim.specs.private.Counts.{is_of}
@@ -103,7 +103,7 @@ items_are {X = X} (x ∷ xs) F first (suc n) count is =
 abbrev nth : List (List Event) → ℕ → List Event
 nth segs i = unwrap_or (slice_get segs i) []
 
-queue_of : (stamp : Stamp) (events : Histories) (thread : ℕ) (items : List Item)
+queue_of : (stamp : Stamp) (events : Histories) (thread : ℕ) (items : List QueueItem)
     → filter (is_of thread) (map (held stamp events) items)
     ≡ map (λ i. buffer_of stamp thread (i, nth (segments_in stamp events thread) i)) (serials_of thread items)
 queue_of stamp events thread [] = refl

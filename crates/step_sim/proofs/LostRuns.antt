@@ -7,7 +7,7 @@ use Rattle.std.proofs.lemmas.Bool.Decides.{nat_tests}
 use Rattle.std.proofs.lemmas.List.{append-nil, length-map}
 use Rattle.std.proofs.lemmas.List.Elements.{All-head, All-tail, recursion_from_All}
 use Rattle.xray_image.specs.Program.{Program}
-use Rattle.patch_script.specs.declared.command.Command.{Command}
+use Rattle.patch_script.specs.declared.command.PatchCommand.{PatchCommand}
 use Rattle.patch_script.specs.Micros.{hold_of}
 use Rattle.handler_word.specs.declared.mark.Mark.{Mark}
 use Rattle.fdr_buffer.specs.Segments.{segments}
@@ -189,7 +189,7 @@ passed_at (r ∷ runs) (suc j) run found = passed_at runs j run found
 -- ---- the whole
 
 -- the marks of each run are those of the loads at the last moment
-pub marks_of_run : (program : Program) (script : List Command) (schedule : List Turns) (setup : Setup) (runs : List ThreadRun)
+pub marks_of_run : (program : Program) (script : List PatchCommand) (schedule : List Turns) (setup : Setup) (runs : List ThreadRun)
     (is : IsReplayOf program script schedule setup runs) (j : ℕ) (run : ThreadRun) → slice_get runs j ≡ Some run
     → run.marks ≡ marks_of program (thread_count (cast_with program script runs)) (1 + j) (hold_of (1 + j) script) (of_thread (cast_with program script runs).passings (1 + j))
     (of_thread is.last.moment.loads (1 + j))
@@ -211,14 +211,14 @@ marks_of_run program script schedule setup runs is j run found = run_at (λ r. r
         (sym (of_thread_at cast.passings j sleds found)))
 
 -- what a replay keeps of each run
-record IsKept (program : Program) (script : List Command) (schedule : List Turns) (setup : Setup) (runs : List ThreadRun)
+record IsKept (program : Program) (script : List PatchCommand) (schedule : List Turns) (setup : Setup) (runs : List ThreadRun)
     (is : IsReplayOf program script schedule setup runs) : Type 0 where
   lost_is : (j : ℕ) (run : ThreadRun) → slice_get runs j ≡ Some run → run.lost ≡ segments_among (1 + j) is.last.stock.taken
   count_is : (j : ℕ) (run : ThreadRun) → slice_get runs j ≡ Some run
       → segment_count setup.size run ≡ length (segments_at (cast_with program script runs) (passed_of runs) setup.size (1 + j) is.last.moment)
   order : AreInOrder (pooling_with program script setup runs) is.last
 
-kept_of_replay : (program : Program) (script : List Command) (schedule : List Turns) (setup : Setup) (runs : List ThreadRun)
+kept_of_replay : (program : Program) (script : List PatchCommand) (schedule : List Turns) (setup : Setup) (runs : List ThreadRun)
     → All (AreTurnsOf setup.threads) schedule → (is : IsReplayOf program script schedule setup runs)
     → IsKept program script schedule setup runs is
 kept_of_replay program script schedule setup runs of is = record { lost_is = lost_is; count_is = count_is; order = order }
@@ -250,7 +250,7 @@ kept_of_replay program script schedule setup runs of is = record { lost_is = los
         (lines_ordered cast passed setup.size (spare_of setup) setup.threads schedule (first_pooled cast pooling) of
         (first_ordered cast passed setup.size (spare_of setup)))
 
-pub replay_loses : (program : Program) (script : List Command) (schedule : List Turns) (setup : Setup) (runs : List ThreadRun)
+pub replay_loses : (program : Program) (script : List PatchCommand) (schedule : List Turns) (setup : Setup) (runs : List ThreadRun)
     → All (AreTurnsOf setup.threads) schedule → IsReplayOf program script schedule setup runs → AreLost setup.size (spare_of setup) runs
 replay_loses program script schedule setup runs of is =
     let kept = kept_of_replay program script schedule setup runs of is in
@@ -309,7 +309,7 @@ parts_follow (x ∷ xs) ys first (suc n) is =
       rest.1 ∙ ap (λ (k : ℕ). numbers_from k (n - length xs)) start ∙ ap (numbers_from (first + suc (length xs))) count,
     )
 
-pub replay_loses_oldest : (program : Program) (script : List Command) (schedule : List Turns) (setup : Setup) (runs : List ThreadRun)
+pub replay_loses_oldest : (program : Program) (script : List PatchCommand) (schedule : List Turns) (setup : Setup) (runs : List ThreadRun)
     → All (AreTurnsOf setup.threads) schedule → (is : IsReplayOf program script schedule setup runs) → LoseOldest setup.size runs is.last.stock
 replay_loses_oldest program script schedule setup runs of is = record {
   taken = λ j run found.

@@ -2,7 +2,7 @@
 use Rattle.std.proofs.Common.{◌≡◌, ℕ, zero, suc, ◌+◌, List, [], ◌∷◌, Some, refl, sym, subst, ap, ◌∙◌, arith, length, map}
 use Rattle.std.specs.Prelude.{slice_get}
 use Rattle.xray_image.specs.Program.{IsAccepted, Program}
-use Rattle.patch_script.specs.declared.command.Command.{Command}
+use Rattle.patch_script.specs.declared.command.PatchCommand.{PatchCommand}
 use Rattle.handler_word.specs.declared.mark.Mark.{Mark}
 use Rattle.machine_step.specs.declared.end.End.{End}
 use Rattle.machine_step.specs.declared.limits.Limits.{Limits}
@@ -85,7 +85,7 @@ runs_same one bytes program limits k (run ∷ runs) (other ∷ others) accepted 
     (runs_same one bytes program limits (k + 1) runs others accepted (omega (arith, same))
     (rest_plain program limits k run runs plain) (rest_plain program limits k other others plain') later_marks later_lost)
 
-pub one_run_of : OneEnd → (bytes : List ℕ) (program : Program) (script : List Command) (schedule : List Turns) (setup : Setup)
+pub one_run_of : OneEnd → (bytes : List ℕ) (program : Program) (script : List PatchCommand) (schedule : List Turns) (setup : Setup)
     (runs others : List ThreadRun) → IsAccepted bytes program → IsReplayOf program script schedule setup runs
     → IsReplayOf program script schedule setup others → runs ≡ others
 one_run_of one bytes program script schedule setup runs others accepted is other =

@@ -13,7 +13,7 @@ use Rattle.fdr_buffer.specs.declared.buffer.TheConstants.{LEAST_SIZE}
 use Rattle.fdr_buffer.specs.Filled.{Filled, empty_buffer}
 use Rattle.fdr_buffer.specs.Segments.{has_room, segments}
 use Rattle.step_sim.specs.declared.pool.Pool.{Pool}
-use Rattle.step_sim.specs.Pool.{Fresh, Item, Segment, Stock, first_stock, queued, segments_among, serials_of, stock_after}
+use Rattle.step_sim.specs.Pool.{Fresh, QueueItem, Segment, Stock, first_stock, queued, segments_among, serials_of, stock_after}
 use Rattle.traced_run.specs.Kept.{Stamp, buffer_of}
 use Rattle.step_sim.specs.private.Counts.{CanLose, lost_after}
 use Rattle.step_sim.specs.private.Holding.{CanNote, Histories, IsClosed, IsFull, IsHand, NotesEvent, PoolHolds, below, held, opened, segments_in, unbegun}
@@ -34,7 +34,7 @@ serial_own thread serial = rw (eqb_is thread thread refl) refl
 pub serial_other : (owner thread serial : ℕ) → owner ≢ thread → serials_of thread (Segment owner serial ∷ []) ≡ []
 serial_other owner thread serial apart = rw (eqb_not owner thread apart) refl
 
-pub serials_of-append : (thread : ℕ) (items others : List Item)
+pub serials_of-append : (thread : ℕ) (items others : List QueueItem)
     → serials_of thread (items ++ others) ≡ serials_of thread items ++ serials_of thread others
 serials_of-append thread [] others = refl
 serials_of-append thread (Fresh ∷ items) others = serials_of-append thread items others
@@ -62,11 +62,11 @@ front_of [] item = record { front = item; is = refl }
 front_of (x ∷ queue) item = record { front = x; is = refl }
 
 -- the same items, in the same order
-pub same_items : (taken queue : List Item) (item : Item)
+pub same_items : (taken queue : List QueueItem) (item : QueueItem)
     → (taken ++ take 1 (queue ++ item ∷ [])) ++ drop 1 (queue ++ item ∷ []) ≡ (taken ++ queue) ++ item ∷ []
 same_items taken queue item =
     append_assoc taken (take 1 (queue ++ item ∷ [])) (drop 1 (queue ++ item ∷ []))
-    ∙ ap (λ (q : List Item). taken ++ q) (take-append-drop 1 (queue ++ item ∷ []))
+    ∙ ap (λ (q : List QueueItem). taken ++ q) (take-append-drop 1 (queue ++ item ∷ []))
     ∙ sym (append_assoc taken queue (item ∷ []))
 
 -- ---- segments that stay
@@ -90,26 +90,26 @@ grows_all stamp events later thread k on = elim (cases_eq k thread) [
       record { longer = omega (arith, ap length e); same = λ i within. ap (λ (segs : List (List Event)). slice_get segs i) e }
 ]
 
-closed_more : (stamp : Stamp) (events later : Histories) (thread threads : ℕ) (item : Item) → GoesOn stamp events later thread
+closed_more : (stamp : Stamp) (events later : Histories) (thread threads : ℕ) (item : QueueItem) → GoesOn stamp events later thread
     → IsClosed stamp events threads item → IsClosed stamp later threads item
 closed_more stamp events later thread threads Fresh on is = tt
 closed_more stamp events later thread threads (Segment owner serial) on is =
     (is.0, is.1, omega (arith, is.2, (grows_all stamp events later thread owner on).longer))
 
-pub all_closed_more : (stamp : Stamp) (events later : Histories) (thread threads : ℕ) (items : List Item) → GoesOn stamp events later thread
+pub all_closed_more : (stamp : Stamp) (events later : Histories) (thread threads : ℕ) (items : List QueueItem) → GoesOn stamp events later thread
     → All (IsClosed stamp events threads) items → All (IsClosed stamp later threads) items
 all_closed_more stamp events later thread threads items on is =
     λ k d within. closed_more stamp events later thread threads _ on (is k d within)
 
 -- a closed item has the same buffer
-held_same : (stamp : Stamp) (events later : Histories) (thread threads : ℕ) (item : Item) → GoesOn stamp events later thread
+held_same : (stamp : Stamp) (events later : Histories) (thread threads : ℕ) (item : QueueItem) → GoesOn stamp events later thread
     → IsClosed stamp later threads item → held stamp later item ≡ held stamp events item
 held_same stamp events later thread threads Fresh on is = refl
 held_same stamp events later thread threads (Segment owner serial) on is =
     ap (λ (o : Option (List Event)). buffer_of stamp owner (serial, unwrap_or o []))
     ((grows_all stamp events later thread owner on).same serial is.2)
 
-pub all_held_same : (stamp : Stamp) (events later : Histories) (thread threads : ℕ) (items : List Item) → GoesOn stamp events later thread
+pub all_held_same : (stamp : Stamp) (events later : Histories) (thread threads : ℕ) (items : List QueueItem) → GoesOn stamp events later thread
     → All (IsClosed stamp later threads) items → map (held stamp later) items ≡ map (held stamp events) items
 all_held_same stamp events later thread threads [] on is = refl
 all_held_same stamp events later thread threads (item ∷ items) on is =
@@ -264,7 +264,7 @@ can_seal stamp threads events stock pool thread n some few holds begun room all 
     (omega (arith, is, at, begun), omega (arith, is, at, begun, bound))
 
 -- the item of the hand that goes to the queue
-abbrev sealing : ℕ → List (List Event) → Item
+abbrev sealing : ℕ → List (List Event) → QueueItem
 sealing thread whole = Segment thread (length whole)
 
 slice_get-seam : {X : Type 0} (xs : List X) (x : X) (ys : List X) → slice_get (xs ++ x ∷ ys) (length xs) ≡ Some x
@@ -299,21 +299,21 @@ taken_held : (stamp : Stamp) (threads : ℕ) (events : Histories) (stock : Stock
     → taken ∷ [] ≡ take 1 (pool.queue ++ hand ∷ [])
     → taken ≡ held stamp events (front_of stock.queue (sealing thread was.whole)).front
 taken_held stamp threads events stock pool thread hand taken was holds e =
-    let item : Item = sealing thread was.whole in
+    let item : QueueItem = sealing thread was.whole in
     let all : taken ∷ [] ≡ held stamp events (front_of stock.queue item).front ∷ [] =
     e ∙ ap (take 1) (queue_held stamp threads events stock pool thread hand was holds)
     ∙ take-map (held stamp events) 1 (stock.queue ++ item ∷ []) ∙ ap (map (held stamp events)) (front_of stock.queue item).is in
     cc
 
 -- whatever an item holds, its buffer has the size of all buffers
-pub held_size : (stamp : Stamp) (events : Histories) (item : Item) → (held stamp events item).size ≡ stamp.size
+pub held_size : (stamp : Stamp) (events : Histories) (item : QueueItem) → (held stamp events item).size ≡ stamp.size
 held_size stamp events Fresh = refl
 held_size stamp events (Segment owner serial) = refl
 
 -- ---- what is lost
 
 -- the first item is closed, or it is the one that was put into an empty queue
-front_within : (stamp : Stamp) (events : Histories) (threads thread serial : ℕ) (queue : List Item) → 0 < thread → thread ≤ threads
+front_within : (stamp : Stamp) (events : Histories) (threads thread serial : ℕ) (queue : List QueueItem) → 0 < thread → thread ≤ threads
     → All (IsClosed stamp events threads) queue → (owner number : ℕ) → (front_of queue (Segment thread serial)).front ≡ Segment owner number
     → (0 < owner) × (owner ≤ threads)
 front_within stamp events threads thread serial [] some few closed owner number e =
@@ -326,7 +326,7 @@ front_within stamp events threads thread serial (item ∷ queue) some few closed
     (is.0, is.1)
 
 -- the numbers of a thread's segments after an item was put into the queue
-serials_after : (stamp : Stamp) (threads : ℕ) (events : Histories) (stock : Stock) (pool : Pool) (k : ℕ) (item : Item)
+serials_after : (stamp : Stamp) (threads : ℕ) (events : Histories) (stock : Stock) (pool : Pool) (k : ℕ) (item : QueueItem)
     → PoolHolds stamp threads events stock pool
     → serials_of k ((stock.taken ++ take 1 (stock.queue ++ item ∷ [])) ++ drop 1 (stock.queue ++ item ∷ []))
     ≡ below (length (segments_in stamp events k) - 1) ++ serials_of k (item ∷ [])
@@ -340,10 +340,10 @@ fewer_lost : (stamp : Stamp) (threads : ℕ) (events : Histories) (stock : Stock
     → PoolHolds stamp threads events stock pool → (front_of stock.queue (Segment thread serial)).front ≡ Segment owner number
     → segments_among owner stock.taken < (length (segments_in stamp events owner) - 1) + length (serials_of owner (Segment thread serial ∷ []))
 fewer_lost stamp threads events stock pool thread serial owner number holds e =
-    let item : Item = Segment thread serial in
-    let rest : List Item = drop 1 (stock.queue ++ item ∷ []) in
+    let item : QueueItem = Segment thread serial in
+    let rest : List QueueItem = drop 1 (stock.queue ++ item ∷ []) in
     let front : take 1 (stock.queue ++ item ∷ []) ≡ Segment owner number ∷ [] =
-    (front_of stock.queue item).is ∙ ap (λ (x : Item). x ∷ []) e in
+    (front_of stock.queue item).is ∙ ap (λ (x : QueueItem). x ∷ []) e in
     let all = serials_after stamp threads events stock pool owner item holds in
     let split : serials_of owner ((stock.taken ++ Segment owner number ∷ []) ++ rest)
     ≡ (serials_of owner stock.taken ++ number ∷ []) ++ serials_of owner rest =
@@ -352,7 +352,7 @@ fewer_lost stamp threads events stock pool thread serial owner number holds e =
     (serials_of-append owner stock.taken (Segment owner number ∷ []) ∙ ap (λ (ns : List ℕ). serials_of owner stock.taken ++ ns) (serial_own owner number)) in
     let same : (serials_of owner stock.taken ++ number ∷ []) ++ serials_of owner rest
     ≡ below (length (segments_in stamp events owner) - 1) ++ serials_of owner (item ∷ []) =
-    sym split ∙ ap (λ (xs : List Item). serials_of owner ((stock.taken ++ xs) ++ rest)) (sym front) ∙ all in
+    sym split ∙ ap (λ (xs : List QueueItem). serials_of owner ((stock.taken ++ xs) ++ rest)) (sym front) ∙ all in
     omega (
       arith,
       ap length same,
@@ -383,7 +383,7 @@ can_lose stamp threads events stock pool thread n hand taken sealed some few hol
     is : taken ≡ held stamp events (front_of stock.queue (sealing thread was.whole)).front
     is = taken_held stamp threads events stock pool thread hand taken was holds e
 
-    by_front : (x : Item) → (front_of stock.queue (sealing thread was.whole)).front ≡ x → CanLose pool.first.items sealed taken.thread
+    by_front : (x : QueueItem) → (front_of stock.queue (sealing thread was.whole)).front ≡ x → CanLose pool.first.items sealed taken.thread
     by_front Fresh front = absurd (not_begun stamp.size taken (is ∙ ap (held stamp events) front) begun)
     by_front (Segment owner number) front =
         let its : taken.thread ≡ owner = ap (λ (b : Filled). b.thread) (is ∙ ap (held stamp events) front) in
@@ -416,7 +416,7 @@ can_lose stamp threads events stock pool thread n hand taken sealed some few hol
         subst (CanLose pool.first.items sealed) (sym its) all
 
 -- the counts of lost segments after a buffer was taken
-lost_is : (stamp : Stamp) (threads : ℕ) (events : Histories) (stock : Stock) (pool : Pool) (front : Item) (i k : ℕ)
+lost_is : (stamp : Stamp) (threads : ℕ) (events : Histories) (stock : Stock) (pool : Pool) (front : QueueItem) (i k : ℕ)
     → PoolHolds stamp threads events stock pool
     → ((owner number : ℕ) → front ≡ Segment owner number → (0 < owner) × (owner ≤ threads))
     → slice_get (lost_after (held stamp events front) pool.first.items) i ≡ Some k
@@ -536,7 +536,7 @@ pub turn_holds : (stamp : Stamp) (threads : ℕ) (events later : Histories) (sto
 turn_holds stamp threads events later stock thread n old new hand taken next_hand next was some few holds cuts count front next_is hands queue sealed first wall pid =
     subst (λ (s : Stock). PoolHolds stamp threads later s new) (sym turned) there
   where
-    item : Item
+    item : QueueItem
     item = sealing thread was.whole
 
     on : GoesOn stamp events later thread
@@ -584,7 +584,7 @@ turn_holds stamp threads events later stock thread n old new hand taken next_han
           lost_is stamp threads events stock old (front_of stock.queue item).front i k holds
           (front_within stamp events threads thread (length was.whole) stock.queue some few holds.closed)
           (ap (λ (ns : List ℕ). slice_get ns i) (ap (λ (b : Filled). lost_after b old.first.items) (sym taken_is) ∙ sym first) ∙ found)
-          ∙ ap (λ (xs : List Item). segments_among (i + 1) (stock.taken ++ xs)) (sym (front_of stock.queue item).is);
+          ∙ ap (λ (xs : List QueueItem). segments_among (i + 1) (stock.taken ++ xs)) (sym (front_of stock.queue item).is);
       queue = queue ∙ ap (drop 1) (queue_held stamp threads events stock old thread hand was holds)
           ∙ drop-map (held stamp events) 1 (stock.queue ++ item ∷ [])
           ∙ sym (all_held_same stamp events later thread threads (drop 1 (stock.queue ++ item ∷ [])) on

@@ -4,7 +4,7 @@ use Rattle.std.specs.Prelude.{slice_get, nat_lt, ◌&&◌, ◌==◌, if◌then�
 use Rattle.std.specs.List.{All}
 use Rattle.std.proofs.lemmas.List.{length-drop, length-map, length-replicate}
 use Rattle.xray_image.specs.Program.{IsAccepted, Program}
-use Rattle.patch_script.specs.declared.command.Command.{Command}
+use Rattle.patch_script.specs.declared.command.PatchCommand.{PatchCommand}
 use Rattle.patch_script.specs.Micros.{hold_of, start_of}
 use Rattle.sled_words.specs.Words.{word_count}
 use Rattle.machine_step.specs.declared.end.End.{End}
@@ -21,7 +21,7 @@ use Rattle.step_sim.specs.declared.turns.Turns.TheVariants.{Thread, Patcher as P
 use Rattle.step_sim.specs.Plays.{turns}
 use Rattle.step_sim.specs.Replay.{Cast, first_moment, of_thread, thread_count, thread_turn}
 use Rattle.step_sim.specs.Replayed.{cast_of}
-use Rattle.step_sim.specs.Pool.{Fresh, Item, Pooled, Pooling, Segment, Stock, first_pooled, first_stock, pooled_step, pooled_turn, queued, stock_after}
+use Rattle.step_sim.specs.Pool.{Fresh, QueueItem, Pooled, Pooling, Segment, Stock, first_pooled, first_stock, pooled_step, pooled_turn, queued, stock_after}
 use Rattle.step_sim.specs.private.Turns.{AllPooledRunOut, pooled_line}
 use Rattle.traced_run.specs.Kept.{stamp_of}
 use Rattle.step_sim.specs.private.Standing.{AllHaveBegun, IsPatcherAt}
@@ -33,7 +33,7 @@ use Rattle.step_sim.proofs.ReplayAlong.{no_loads, of_thread_is}
 
 -- ---- the length of the queue
 
-queued_length : (item : Item) (stock : Stock) → length (queued item stock).queue ≡ length stock.queue
+queued_length : (item : QueueItem) (stock : Stock) → length (queued item stock).queue ≡ length stock.queue
 queued_length item stock =
     omega (arith, length-drop 1 (stock.queue ++ item ∷ []), length-append stock.queue (item ∷ []))
 
@@ -99,7 +99,7 @@ no_events r (suc n) =
     ∙ recorded_none (of_thread r.passed (suc n))
 
 -- what a setup's replay is played with
-abbrev pub recording : Program → List Command → Setup → List (List Passing) → Recording
+abbrev pub recording : Program → List PatchCommand → Setup → List (List Passing) → Recording
 recording program script setup passed = record {
   cast = cast_of program script (map sleds_passed passed);
   limits = setup.limits;
@@ -118,12 +118,12 @@ SmallIds =
     (bytes : List ℕ) (program : Program) (limits : Limits) (thread : ℕ) (passed : List Passing) (end : End) (last : State)
     → IsAccepted bytes program → PlainRun program limits thread passed end last → All (λ p. p.id < 2 ^ 28) passed
 
-pub record Begun (program : Program) (script : List Command) (setup : Setup) (p : Patcher) (ts : List Traced) (pool : Pool) : Type 0 where
+pub record Begun (program : Program) (script : List PatchCommand) (setup : Setup) (p : Patcher) (ts : List Traced) (pool : Pool) : Type 0 where
   pub passed : List (List Passing)
   pub count : length passed ≡ setup.threads
   pub at : AllRecordAt (recording program script setup passed) (first_of (recording program script setup passed)) p ts pool
 
-pub begins_recording : (program : Program) (script : List Command) (setup : Setup) (p : Patcher) (ts : List Traced) (pool : Pool)
+pub begins_recording : (program : Program) (script : List PatchCommand) (setup : Setup) (p : Patcher) (ts : List Traced) (pool : Pool)
     → length ts ≡ setup.threads → AllHaveBegun program script setup.threads setup.limits ts → ((number : ℕ) → hold_of number script ≡ None)
     → IsPatcherAt program setup.threads script (start_of program setup.threads script) p → vec_len p.words ≡ word_count program setup.threads
     → (bytes : List ℕ) × IsAccepted bytes program → SmallIds

@@ -7,7 +7,7 @@ use Rattle.std.proofs.lemmas.List.{get_or-set_same, get_or-set_other, set_past}
 use Rattle.std.proofs.lemmas.List.Elements.{All-head, All-tail}
 use Rattle.std.proofs.lemmas.Option.{unwrap_or-slice_get}
 use Rattle.xray_image.specs.Program.{Program}
-use Rattle.patch_script.specs.declared.command.Command.{Command}
+use Rattle.patch_script.specs.declared.command.PatchCommand.{PatchCommand}
 use Rattle.patch_script.specs.declared.micro.Micro.{Micro}
 use Rattle.patch_script.specs.Micros.{hold_of, micros_after, numbers, patches, start_of, steps_of, total_of}
 use Rattle.patch_script.specs.CodeAt.{code_at}
@@ -92,7 +92,7 @@ patcher_along cast m within along thread some =
 -- ---- moments
 
 -- the first commands have at most as many micro steps as all commands
-pub front_steps : (program : Program) (threads : ℕ) (earlier : List ℕ) (n : ℕ) (script : List Command)
+pub front_steps : (program : Program) (threads : ℕ) (earlier : List ℕ) (n : ℕ) (script : List PatchCommand)
     → length (micros_after program threads earlier (take n script)) ≤ length (micros_after program threads earlier script)
 front_steps program threads earlier zero script = omega arith
 front_steps program threads earlier (suc n) [] = omega arith

@@ -1,7 +1,7 @@
 -- A replay before its first turn.
 use Rattle.std.proofs.Common.{◌≡◌, ℕ, List, sym, ap, subst, ◌∙◌, length, fold}
 use Rattle.xray_image.specs.Program.{Program}
-use Rattle.patch_script.specs.declared.command.Command.{Command}
+use Rattle.patch_script.specs.declared.command.PatchCommand.{PatchCommand}
 use Rattle.patch_script.specs.Micros.{start_of}
 use Rattle.patch_script.specs.Refusals.{commands_of}
 use Rattle.machine_step.specs.declared.setup.Setup.{Setup}
@@ -20,16 +20,16 @@ use Rattle.step_sim.specs.private.Turns.{AllPooledRunOut}
 use Rattle.step_sim.proofs.RecordedReplay.{Begun, Ended, SmallIds, begins_recording, ended, first_of, recording}
 
 -- what is started
-abbrev pub start_of_all : Program → List Command → Setup → Start
+abbrev pub start_of_all : Program → List PatchCommand → Setup → Start
 start_of_all program script setup = record { program = program; script = script; setup = setup }
 
-pub start_is : (program : Program) (threads : ℕ) (script : List Command) (place : ℕ) (s : Inside) → IsPatcherAt program threads script place s.patcher
+pub start_is : (program : Program) (threads : ℕ) (script : List PatchCommand) (place : ℕ) (s : Inside) → IsPatcherAt program threads script place s.patcher
     → start_in s ≡ start_of_all program script s.setup
 start_is program threads script place s at =
     ap (λ (x : Program). start_of_all x (commands_of s.patcher.script.now.lines) s.setup) at.program_is
-    ∙ ap (λ (x : List Command). start_of_all program x s.setup) at.script_is
+    ∙ ap (λ (x : List PatchCommand). start_of_all program x s.setup) at.script_is
 
-pub at_start : (program : Program) (script : List Command) (s : Inside) → HoldsStart (start_of_all program script s.setup) s → IsAtStart s
+pub at_start : (program : Program) (script : List PatchCommand) (s : Inside) → HoldsStart (start_of_all program script s.setup) s → IsAtStart s
 at_start program script s holds =
     subst (λ (x : Start). HoldsStart x s) (sym (start_is program s.setup.threads script (start_of program s.setup.threads script) s holds.patcher)) holds
 

@@ -5,8 +5,8 @@ use Rattle.subset_decode.specs.declared.instr.Instr.TheVariants.{Mov, Out}
 use Rattle.xray_image.specs.declared.sled.SledKind.TheVariants.{Entry, Exit}
 use Rattle.xray_image.specs.declared.unit.What.TheVariants.{Plain, Sled}
 use Rattle.xray_image.specs.Program.{Program}
-use Rattle.patch_script.specs.declared.command.Command.{Command}
-use Rattle.patch_script.specs.declared.command.Command.TheVariants as commands
+use Rattle.patch_script.specs.declared.command.PatchCommand.{PatchCommand}
+use Rattle.patch_script.specs.declared.command.PatchCommand.TheVariants as commands
 use Rattle.patch_script.specs.declared.micro.Micro.TheVariants.{Store}
 use Rattle.patch_script.specs.Micros.{micros, start_of}
 use Rattle.handler_word.specs.declared.mark.Mark.TheVariants.{Skipped, NoHandler}
@@ -30,7 +30,7 @@ example = record {
   trampolines = record { entry = 0x201000; exit = 0x201010; tail = 0x201020; args = 0x201030 };
 }
 
-script : List Command
+script : List PatchCommand
 script = commands.Patch ∷ commands.Go ∷ commands.Unpatch ∷ []
 
 -- the id, opcode and offset of each sled are stored before its head; unpatching stores only heads

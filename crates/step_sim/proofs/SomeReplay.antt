@@ -4,7 +4,7 @@ use Rattle.std.specs.Prelude.{◌==◌, if◌then◌else◌}
 use Rattle.std.proofs.lemmas.List.{length-map}
 use Rattle.xray_image.specs.Program.{Program}
 use Rattle.sled_words.specs.Parts.{patched_head}
-use Rattle.patch_script.specs.declared.command.Command.{Command}
+use Rattle.patch_script.specs.declared.command.PatchCommand.{PatchCommand}
 use Rattle.patch_script.specs.Micros.{hold_of}
 use Rattle.patch_script.specs.Plans.{waiting_line}
 use Rattle.patch_script.specs.Refusals.{Lines, commands_of}
@@ -261,4 +261,4 @@ pub still_marks : (cast : Cast) (schedule : List Turns) (lines : Lines) → cast
     → (marks : List (List Mark)) × Replay cast schedule marks
 still_marks cast schedule lines said still =
     some_marks cast schedule
-    (λ thread. subst (λ (script : List Command). hold_of thread script ≡ None) (sym said) (no_holds lines still thread))
+    (λ thread. subst (λ (script : List PatchCommand). hold_of thread script ≡ None) (sym said) (no_holds lines still thread))

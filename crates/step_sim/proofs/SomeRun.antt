@@ -4,7 +4,7 @@ use Rattle.std.specs.Prelude.{slice_get}
 use Rattle.std.proofs.lemmas.List.{length-map}
 use Rattle.std.proofs.lemmas.List.FromFn.{length-enumerate_from}
 use Rattle.xray_image.specs.Program.{IsAccepted, Program}
-use Rattle.patch_script.specs.declared.command.Command.{Command}
+use Rattle.patch_script.specs.declared.command.PatchCommand.{PatchCommand}
 use Rattle.patch_script.specs.Micros.{hold_of}
 use Rattle.handler_word.specs.declared.mark.Mark.{Mark}
 use Rattle.machine_step.specs.declared.end.End.{End}
@@ -130,7 +130,7 @@ length-numbers_from : (first n : ℕ) → length (numbers_from first n) ≡ n
 length-numbers_from first zero = refl
 length-numbers_from first (suc n) = ap suc (length-numbers_from (first + 1) n)
 
-pub some_run_of : SomeEnd → SomeMarks → (bytes : List ℕ) (program : Program) (script : List Command) (schedule : List Turns) (setup : Setup)
+pub some_run_of : SomeEnd → SomeMarks → (bytes : List ℕ) (program : Program) (script : List PatchCommand) (schedule : List Turns) (setup : Setup)
     → IsAccepted bytes program → ((thread : ℕ) → hold_of thread script ≡ None) → (runs : List ThreadRun) × IsReplayOf program script schedule setup runs
 some_run_of ends some bytes program script schedule setup accepted free = (
   made.all,

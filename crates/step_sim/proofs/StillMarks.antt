@@ -7,8 +7,8 @@ use Rattle.std.proofs.lemmas.List.Elements.{All-append, All-cons, All-nil}
 use Rattle.std.proofs.lemmas.Option.{slice_get_within}
 use Rattle.xray_image.specs.Program.{Program}
 use Rattle.sled_words.specs.Words.{release_word}
-use Rattle.patch_script.specs.declared.command.Command.{Command}
-use Rattle.patch_script.specs.declared.command.Command.TheVariants as commands
+use Rattle.patch_script.specs.declared.command.PatchCommand.{PatchCommand}
+use Rattle.patch_script.specs.declared.command.PatchCommand.TheVariants as commands
 use Rattle.patch_script.specs.declared.micro.Micro.{Micro}
 use Rattle.patch_script.specs.declared.micro.Micro.TheVariants.{Store, Await, End}
 use Rattle.patch_script.specs.Bounds.{awaits_passing, bound_of}
@@ -62,7 +62,7 @@ unpatches_store earlier [] = tt
 unpatches_store earlier ((k, sled) ∷ sleds) = unpatches_store earlier sleds
 
 -- a command whose own steps are stores, before commands whose steps are
-goes_on : (program : Program) (threads : ℕ) (earlier : List ℕ) (command : Command) (rest : List Command)
+goes_on : (program : Program) (threads : ℕ) (earlier : List ℕ) (command : PatchCommand) (rest : List PatchCommand)
     → AreStores (steps_of program threads earlier command) → AreStores (micros_after program threads (earlier ++ numbers (patches program command)) rest)
     → AreStores (micros_after program threads earlier (command ∷ rest))
 goes_on program threads earlier command rest here there =
@@ -177,7 +177,7 @@ marks_follow wanted whole program lines schedule setup runs names still is j run
   each = decodes.each ∙ sym (length-map run.passed (λ (p : Passing). p.sled));
 }
   where
-    script : List Command
+    script : List PatchCommand
     script = commands_of lines
 
     cast : Cast

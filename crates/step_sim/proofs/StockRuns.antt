@@ -16,7 +16,7 @@ use Rattle.traced_run.specs.Losses.{AreLost, recycled_of}
 use Rattle.traced_run.specs.Runs.{ThreadRun}
 use Rattle.step_sim.specs.declared.turns.Turns.{Turns}
 use Rattle.step_sim.specs.declared.turns.Turns.TheVariants.{Thread, Patcher}
-use Rattle.step_sim.specs.Pool.{Fresh, Item, Pooled, Pooling, Segment, Stock, first_stock, pooled_step, pooled_turn, queued, segments_among, serials_of, stock_after}
+use Rattle.step_sim.specs.Pool.{Fresh, QueueItem, Pooled, Pooling, Segment, Stock, first_stock, pooled_step, pooled_turn, queued, segments_among, serials_of, stock_after}
 use Rattle.step_sim.specs.private.Turns.{AllPooledRunOut, pooled_line}
 use Rattle.step_sim.specs.private.Holding.{below, segments_in}
 use Rattle.step_sim.specs.private.Recording.{Recording, histories}
@@ -33,7 +33,7 @@ use Rattle.step_sim.proofs.PoolLemmas.{length-below, serials_of-append}
 -- The queue was given `spare` buffers that aren't begun, and then these segments. As many items were taken away from
 -- its start as segments were given to it.
 pub record StockIs (threads spare : ℕ) (stock : Stock) : Type 0 where
-  pub pushed : List Item
+  pub pushed : List QueueItem
   pub own : AllByRecursion (IsSegmentOf threads) pushed
   pub all : stock.taken ++ stock.queue ≡ replicate spare Fresh ++ pushed
   pub count : length stock.taken ≡ length pushed
@@ -41,7 +41,7 @@ pub record StockIs (threads spare : ℕ) (stock : Stock) : Type 0 where
 pub first_is : (threads spare : ℕ) → StockIs threads spare (first_stock spare)
 first_is threads spare = record { pushed = []; own = tt; all = sym (append-nil (replicate spare Fresh)); count = refl }
 
-own_push : (threads : ℕ) (pushed : List Item) (thread serial : ℕ) → AllByRecursion (IsSegmentOf threads) pushed → 1 ≤ thread → thread ≤ threads
+own_push : (threads : ℕ) (pushed : List QueueItem) (thread serial : ℕ) → AllByRecursion (IsSegmentOf threads) pushed → 1 ≤ thread → thread ≤ threads
     → AllByRecursion (IsSegmentOf threads) (pushed ++ Segment thread serial ∷ [])
 own_push threads [] thread serial own low high = ((low, high), tt)
 own_push threads (item ∷ pushed) thread serial (here, own) low high = (here, own_push threads pushed thread serial own low high)
@@ -49,13 +49,13 @@ own_push threads (item ∷ pushed) thread serial (here, own) low high = (here, o
 queued_is : (threads spare thread serial : ℕ) (stock : Stock) → 1 ≤ thread → thread ≤ threads → StockIs threads spare stock
     → StockIs threads spare (queued (Segment thread serial) stock)
 queued_is threads spare thread serial stock low high is =
-    let item : Item = Segment thread serial in
-    let xs : List Item = stock.queue ++ item ∷ [] in
+    let item : QueueItem = Segment thread serial in
+    let xs : List QueueItem = stock.queue ++ item ∷ [] in
     record {
       pushed = is.pushed ++ item ∷ [];
       own = own_push threads is.pushed thread serial is.own low high;
-      all = append_assoc stock.taken (take 1 xs) (drop 1 xs) ∙ ap (λ (ys : List Item). stock.taken ++ ys) (take-append-drop 1 xs)
-          ∙ sym (append_assoc stock.taken stock.queue (item ∷ [])) ∙ ap (λ (ys : List Item). ys ++ item ∷ []) is.all
+      all = append_assoc stock.taken (take 1 xs) (drop 1 xs) ∙ ap (λ (ys : List QueueItem). stock.taken ++ ys) (take-append-drop 1 xs)
+          ∙ sym (append_assoc stock.taken stock.queue (item ∷ [])) ∙ ap (λ (ys : List QueueItem). ys ++ item ∷ []) is.all
           ∙ append_assoc (replicate spare Fresh) is.pushed (item ∷ []);
       count = omega (
         arith,
@@ -173,7 +173,7 @@ losses_of size spare threads runs stock segs count lost_is count_is order is = r
 
     put_of : (t : ℕ) → 0 < t → segs t - 1 ≡ segments_among t is.pushed
     put_of t some =
-        sym (length-below (segs t - 1)) ∙ ap length (sym (order t some)) ∙ ap (λ (items : List Item). length (serials_of t items)) is.all
+        sym (length-below (segs t - 1)) ∙ ap length (sym (order t some)) ∙ ap (λ (items : List QueueItem). length (serials_of t items)) is.all
         ∙ ap length (fresh_serials spare t is.pushed)
 
     put_sum : sum_by (λ run. segment_count size run - 1) runs ≡ summed (λ t. segments_among t is.pushed) 1 threads

@@ -6,7 +6,7 @@ use Rattle.std.proofs.lemmas.Bool.{cases_eq}
 use Rattle.std.proofs.lemmas.List.{length-map}
 use Rattle.std.proofs.lemmas.Option.{slice_get_within}
 use Rattle.xray_image.specs.Program.{Program}
-use Rattle.patch_script.specs.declared.command.Command.{Command}
+use Rattle.patch_script.specs.declared.command.PatchCommand.{PatchCommand}
 use Rattle.patch_script.specs.Micros.{hold_of}
 use Rattle.handler_word.specs.declared.mark.Mark.{Mark}
 use Rattle.machine_step.specs.declared.setup.Setup.{Setup}
@@ -101,7 +101,7 @@ NoneUnwanted = (cast : Cast) (moment : Moment) → IsAlong cast moment → Loads
 abbrev pub NoneTorn : Type 0
 NoneTorn = (cast : Cast) (moment : Moment) → IsAlong cast moment → TearsNoSled cast moment
 
-pub decodes_whole : NoneUnwanted → NoneTorn → (program : Program) (script : List Command) (schedule : List Turns) (setup : Setup) (runs : List ThreadRun)
+pub decodes_whole : NoneUnwanted → NoneTorn → (program : Program) (script : List PatchCommand) (schedule : List Turns) (setup : Setup) (runs : List ThreadRun)
     → All NamesThread schedule → (is : IsReplayOf program script schedule setup runs) → (j : ℕ) (run : ThreadRun) → slice_get runs j ≡ Some run
     → DecodesWhole program setup.threads (j + 1) (hold_of (j + 1) script) run (of_thread is.last.moment.loads (j + 1))
 decodes_whole wanted none program script schedule setup runs names is j run found =

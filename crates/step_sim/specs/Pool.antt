@@ -6,9 +6,9 @@ use Rattle.step_sim.specs.Plays.{Plays, Rules}
 use Rattle.step_sim.specs.Replay.{Cast, Moment, first_moment, patcher_turn, thread_turn, wanted_by}
 
 -- what a queued buffer holds: nothing yet, or a segment of a thread, by the segment's number from 0
-pub data Item : Type 0 where
-  Fresh : Item
-  Segment : (thread : ℕ) → (serial : ℕ) → Item
+pub data QueueItem : Type 0 where
+  Fresh : QueueItem
+  Segment : (thread : ℕ) → (serial : ℕ) → QueueItem
 
 -- what a replay knows of its buffers: how many segments the events of a thread have at a moment, and how many buffers
 -- are in the queue at first
@@ -19,11 +19,11 @@ pub record Pooling : Type 0 where
 -- the buffers that no thread holds, by what they hold: those in the queue, and all that were taken away from it, each
 -- in order
 pub record Stock : Type 0 where
-  pub queue : List Item
-  pub taken : List Item
+  pub queue : List QueueItem
+  pub taken : List QueueItem
 
 -- an item goes to the end of the queue, and the first one is taken away; that is the same item if the queue was empty
-abbrev pub queued : Item → Stock → Stock
+abbrev pub queued : QueueItem → Stock → Stock
 queued item stock = record { queue = drop 1 (stock.queue ++ item ∷ []); taken = stock.taken ++ take 1 (stock.queue ++ item ∷ []) }
 
 -- The stock after a turn of a thread. If the events of the thread have one more segment than before, and had at least
@@ -72,12 +72,12 @@ PooledReplay cast pooling schedule last =
     Plays (pooled_rules cast pooling) (length cast.passings) (first_pooled cast pooling) schedule last
 
 -- the numbers of the segments of a thread among items, in order
-abbrev pub serials_of : ℕ → List Item → List ℕ
+abbrev pub serials_of : ℕ → List QueueItem → List ℕ
 serials_of thread [] = []
 serials_of thread (Fresh ∷ items) = serials_of thread items
 serials_of thread (Segment owner serial ∷ items) =
     if owner == thread then serial ∷ serials_of thread items else serials_of thread items
 
 -- how many segments of a thread are among items
-abbrev pub segments_among : ℕ → List Item → ℕ
+abbrev pub segments_among : ℕ → List QueueItem → ℕ
 segments_among thread items = length (serials_of thread items)

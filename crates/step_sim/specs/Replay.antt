@@ -2,7 +2,7 @@
 use Rattle.std.specs.Prelude.{◌≡◌, ℕ, ◌+◌, ◌-◌, min, List, [], ◌∷◌, ◌++◌, length, Option, Some, None, map, unwrap_or, slice_get, slice_set}
 use Rattle.std.specs.List.{enumerate_from}
 use Rattle.xray_image.specs.Program.{Program}
-use Rattle.patch_script.specs.declared.command.Command.{Command}
+use Rattle.patch_script.specs.declared.command.PatchCommand.{PatchCommand}
 use Rattle.patch_script.specs.Micros.{start_of, total_of, hold_of}
 use Rattle.patch_script.specs.CodeAt.{code_at}
 use Rattle.handler_word.specs.declared.mark.Mark.{Mark}
@@ -13,7 +13,7 @@ use Rattle.step_sim.specs.Plays.{Plays, Rules}
 -- what a replay knows of the threads and the script: the sleds that each thread passes, in the order of the threads
 pub record Cast : Type 0 where
   pub program : Program
-  pub script : List Command
+  pub script : List PatchCommand
   pub passings : List (List ℕ)
 
 -- how many threads there are

@@ -1,7 +1,7 @@
 -- The runs that a schedule leaves, and what a replay leaves of them.
 use Rattle.std.specs.Prelude.{◌≡◌, ◌-◌, ℕ, List, map}
 use Rattle.xray_image.specs.Program.{Program}
-use Rattle.patch_script.specs.declared.command.Command.{Command}
+use Rattle.patch_script.specs.declared.command.PatchCommand.{PatchCommand}
 use Rattle.fdr_buffer.specs.Filled.{Filled}
 use Rattle.machine_step.specs.declared.setup.Setup.{Setup}
 use Rattle.machine_step.specs.Buffers.{spare_of}
@@ -17,7 +17,7 @@ use Rattle.step_sim.specs.Recorded.{numbers_from, pooling_of}
 use Rattle.step_sim.specs.Replay.{Cast, marks_at}
 
 -- the program, the script, and the sleds that each thread passes
-abbrev pub cast_of : Program → List Command → List (List ℕ) → Cast
+abbrev pub cast_of : Program → List PatchCommand → List (List ℕ) → Cast
 cast_of program script passings = record { program = program; script = script; passings = passings }
 
 -- the passings of each of these runs
@@ -25,16 +25,16 @@ abbrev pub passed_of : List ThreadRun → List (List Passing)
 passed_of runs = map (λ run. run.passed) runs
 
 -- what is replayed if the threads run in this way
-abbrev pub cast_with : Program → List Command → List ThreadRun → Cast
+abbrev pub cast_with : Program → List PatchCommand → List ThreadRun → Cast
 cast_with program script runs = cast_of program script (map sleds_passed (passed_of runs))
 
-abbrev pub pooling_with : Program → List Command → Setup → List ThreadRun → Pooling
+abbrev pub pooling_with : Program → List PatchCommand → Setup → List ThreadRun → Pooling
 pooling_with program script setup runs =
     pooling_of (cast_with program script runs) (passed_of runs) setup.size (spare_of setup)
 
 -- The runs that a schedule leaves, thread 1 first. When its turns are over, each thread has these marks, and this many
 -- of its segments were taken away from the queue.
-pub record IsReplayOf (program : Program) (script : List Command) (schedule : List Turns) (setup : Setup) (runs : List ThreadRun) : Type 0 where
+pub record IsReplayOf (program : Program) (script : List PatchCommand) (schedule : List Turns) (setup : Setup) (runs : List ThreadRun) : Type 0 where
   pub run : IsRun program setup runs
   pub last : Pooled
   pub replay : PooledReplay (cast_with program script runs) (pooling_with program script setup runs) schedule last
@@ -52,7 +52,7 @@ pub record LoseOldest (size : ℕ) (runs : List ThreadRun) (stock : Stock) : Typ
 -- A replay leaves what the runs of its schedule leave: the threads of the setup; how many buffers each has put into the queue, how
 -- many segments it has, and how many of them are lost; and the buffers of those that are left. As many are lost as the
 -- queue had no buffers for.
-pub record IsSimulated (program : Program) (script : List Command) (schedule : List Turns) (setup : Setup) (cpus : List Traced)
+pub record IsSimulated (program : Program) (script : List PatchCommand) (schedule : List Turns) (setup : Setup) (cpus : List Traced)
     (sealed segments first : List ℕ) (buffers : List Filled) : Type 0 where
   pub runs : List ThreadRun
   pub replay : IsReplayOf program script schedule setup runs

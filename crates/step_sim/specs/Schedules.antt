@@ -68,8 +68,8 @@ names_threads threads (Steps count) = true
 names_threads threads Unknown = true
 
 -- the turns so far, with those of a line that says this
-abbrev pub said_rows : ℕ → List Turns → ℕ → Said → Result (List Turns) ScheduleFault
-said_rows threads before number said =
+abbrev pub turn_rows : ℕ → List Turns → ℕ → Said → Result (List Turns) ScheduleFault
+turn_rows threads before number said =
     First (not (is_well_formed said)) (Err (faults.Syntax number))
     (First (not (names_threads threads said)) (Err (faults.Thread number))
     (Ok (before ++ turns_said said)))
@@ -77,7 +77,7 @@ said_rows threads before number said =
 -- the turns so far, with those of a line, which has to be clean
 abbrev pub line_rows : ℕ → List Turns → ℕ × List ℕ → Result (List Turns) ScheduleFault
 line_rows threads before (number, line) =
-    First (not (is_clean line)) (Err (faults.Syntax number)) (said_rows threads before number (said_by (words_of line)))
+    First (not (is_clean line)) (Err (faults.Syntax number)) (turn_rows threads before number (said_by (words_of line)))
 
 -- ---- a text
 

@@ -3,7 +3,7 @@
 ghost use Rattle.std.specs.Prelude.{◌≡◌, ◌<◌, ℕ, List, None, Some, Ok, All, length};
 ghost use Rattle.xray_image.specs.Program.{Program};
 ghost use Rattle.sled_words.specs.Allowed.{IsAllowed};
-ghost use Rattle.patch_script.specs.declared.command.Command.{Command};
+ghost use Rattle.patch_script.specs.declared.command.PatchCommand.{PatchCommand};
 ghost use Rattle.patch_script.specs.{CodeAt.{code_at}, Micros.{hold_of}, Plans.{waiting_line}};
 ghost use Rattle.patch_script.specs.Refusals.{Lines, commands_of};
 ghost use Rattle.machine_step.specs.declared.setup.Setup.{Setup};
@@ -46,7 +46,7 @@ pub fn no_replay_tears_a_sled()
         → TearsNoSled cast last }
     // The same holds for the runs that a schedule's text leaves, since it names only threads from 1
     // on. The loads are those of the moment at which the replay leaves these runs.
-    ensures runs { (program : Program) (script : List Command) (text : List ℕ) (schedule : List Line)
+    ensures runs { (program : Program) (script : List PatchCommand) (text : List ℕ) (schedule : List Line)
         (setup : Setup) (runs : List ThreadRun) → schedule_of setup.threads text ≡ Ok schedule
         → (replay : IsReplayOf program script schedule setup runs) → EachThread runs (λ number run.
         DecodesWhole program setup.threads number (hold_of number script) run

@@ -1,7 +1,7 @@
 //! Laws of replays. Each law is the contract of a function that does nothing.
 ghost use Rattle.std.specs.Prelude.{◌≡◌, ℕ, All, List, None, Ok, length};
 ghost use Rattle.xray_image.specs.Program.{IsAccepted, Program};
-ghost use Rattle.patch_script.specs.declared.command.Command.{Command};
+ghost use Rattle.patch_script.specs.declared.command.PatchCommand.{PatchCommand};
 ghost use Rattle.patch_script.specs.{Micros.{hold_of}, Plans.{waiting_line}};
 ghost use Rattle.patch_script.specs.Refusals.{Lines, commands_of};
 ghost use Rattle.handler_word.specs.declared.mark.Mark.{Mark};
@@ -61,7 +61,7 @@ pub fn one_pooled_replay()
 /// A schedule leaves only one list of runs. What is printed and written of them depends only on the
 /// program, the script, the schedule and the setup.
 pub fn one_run()
-    ensures { (bytes : List ℕ) (program : Program) (script : List Command) (schedule : List Line)
+    ensures { (bytes : List ℕ) (program : Program) (script : List PatchCommand) (schedule : List Line)
         (setup : Setup) (runs others : List ThreadRun) → IsAccepted bytes program
         → IsReplayOf program script schedule setup runs
         → IsReplayOf program script schedule setup others → runs ≡ others }
@@ -72,11 +72,11 @@ pub fn one_run()
 /// If the script holds no thread, a schedule leaves runs, whatever the program, the schedule and
 /// the setup are. With `one_run`, there is exactly one list of them.
 pub fn some_run()
-    ensures free { (bytes : List ℕ) (program : Program) (script : List Command) (schedule : List Line)
+    ensures free { (bytes : List ℕ) (program : Program) (script : List PatchCommand) (schedule : List Line)
         (setup : Setup) → IsAccepted bytes program → ((thread : ℕ) → hold_of thread script ≡ None)
         → (runs : List ThreadRun) × IsReplayOf program script schedule setup runs }
     // A script holds no thread if it has no line at which a thread or the patcher may wait.
-    ensures still { (bytes : List ℕ) (program : Program) (script : List Command) (schedule : List Line)
+    ensures still { (bytes : List ℕ) (program : Program) (script : List PatchCommand) (schedule : List Line)
         (setup : Setup) (lines : Lines) → IsAccepted bytes program → script ≡ commands_of lines
         → waiting_line lines ≡ None
         → (runs : List ThreadRun) × IsReplayOf program script schedule setup runs }
@@ -88,11 +88,11 @@ pub fn some_run()
 /// each thread that has segments. This holds for any program, script and setup, if the schedule
 /// gives turns only to the setup's threads.
 pub fn a_replay_loses_few()
-    ensures named { (program : Program) (script : List Command) (schedule : List Line) (setup : Setup)
+    ensures named { (program : Program) (script : List PatchCommand) (schedule : List Line) (setup : Setup)
         (runs : List ThreadRun) → All (AreTurnsOf setup.threads) schedule
         → IsReplayOf program script schedule setup runs → AreLost setup.size (spare_of setup) runs }
     // A text that is a schedule for this many threads gives turns only to them.
-    ensures read { (program : Program) (script : List Command) (text : List ℕ) (schedule : List Line)
+    ensures read { (program : Program) (script : List PatchCommand) (text : List ℕ) (schedule : List Line)
         (setup : Setup) (runs : List ThreadRun) → schedule_of setup.threads text ≡ Ok schedule
         → IsReplayOf program script schedule setup runs → AreLost setup.size (spare_of setup) runs }
 {}
@@ -101,11 +101,11 @@ pub fn a_replay_loses_few()
 /// the front of the queue, and those of a thread stand in it in the order of its segments. So what
 /// is left of a thread is its last segments: those in the queue, and the one that it holds.
 pub fn lost_segments_are_the_oldest()
-    ensures named { (program : Program) (script : List Command) (schedule : List Line) (setup : Setup)
+    ensures named { (program : Program) (script : List PatchCommand) (schedule : List Line) (setup : Setup)
         (runs : List ThreadRun) → All (AreTurnsOf setup.threads) schedule
         → (replay : IsReplayOf program script schedule setup runs)
         → LoseOldest setup.size runs replay.last.stock }
-    ensures read { (program : Program) (script : List Command) (text : List ℕ) (schedule : List Line)
+    ensures read { (program : Program) (script : List PatchCommand) (text : List ℕ) (schedule : List Line)
         (setup : Setup) (runs : List ThreadRun) → schedule_of setup.threads text ≡ Ok schedule
         → (replay : IsReplayOf program script schedule setup runs)
         → LoseOldest setup.size runs replay.last.stock }

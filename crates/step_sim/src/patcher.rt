@@ -3,7 +3,7 @@
 ghost use Rattle.std.specs.Prelude.{◌≡◌, ◌≤◌, ◌<◌, ◌+◌, ℕ, List, IfOk, min, vec_len, slice_set};
 ghost use Rattle.std.specs.Bool.{OnFalse};
 ghost use Rattle.xray_image.specs.Program.{Program};
-ghost use Rattle.patch_script.specs.declared.command.Command.{Command};
+ghost use Rattle.patch_script.specs.declared.command.PatchCommand.{PatchCommand};
 ghost use Rattle.patch_script.specs.{Micros.{start_of, total_of}, Refusals.{commands_of}};
 ghost use Rattle.patch_script.specs.StoredWords.{stored};
 
@@ -60,7 +60,7 @@ impl<'a> Patcher<'a> {
     #[inline(always)]
     pub(crate) fn load(&self, word: u32) -> u64
         requires { word < vec_len self.now.words }
-        ensures { (program : Program) (threads : ℕ) (script : List Command) (place : ℕ)
+        ensures { (program : Program) (threads : ℕ) (script : List PatchCommand) (place : ℕ)
             → IsPatcherAt program threads script place self.now
             → result ≡ code_at program threads script place word }
     {
@@ -69,7 +69,7 @@ impl<'a> Patcher<'a> {
 
     /// Makes this many micro steps, or all that are left if there are fewer.
     pub(crate) fn make_steps(&mut self, count: u64)
-        ensures at { (program : Program) (threads : ℕ) (script : List Command) (place : ℕ)
+        ensures at { (program : Program) (threads : ℕ) (script : List PatchCommand) (place : ℕ)
             → IsPatcherAt program threads script place self.old
             → IsPatcherAt program threads script (min (place + count) (total_of program threads script)) self.new }
         ensures words { vec_len self.new.words ≡ vec_len self.old.words }
@@ -83,11 +83,11 @@ impl<'a> Patcher<'a> {
 
     /// Makes the next micro step. Returns whether there was one.
     fn make_step(&mut self) -> bool
-        ensures at { (program : Program) (threads : ℕ) (script : List Command) (place : ℕ)
+        ensures at { (program : Program) (threads : ℕ) (script : List PatchCommand) (place : ℕ)
             → IsPatcherAt program threads script place self.old
             → IsPatcherAt program threads script (min (place + 1) (total_of program threads script)) self.new }
         ensures words { vec_len self.new.words ≡ vec_len self.old.words }
-        ensures left { OnFalse result ((program : Program) (threads : ℕ) (script : List Command) (place : ℕ)
+        ensures left { OnFalse result ((program : Program) (threads : ℕ) (script : List PatchCommand) (place : ℕ)
             → IsPatcherAt program threads script place self.old → place ≡ total_of program threads script) }
     {
         stores_give_the_code();

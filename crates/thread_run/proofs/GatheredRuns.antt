@@ -6,7 +6,7 @@ use Rattle.std.proofs.Math.Seq.{get_or-append_seam}
 use Rattle.std.proofs.lemmas.List.{length-map}
 use Rattle.std.proofs.lemmas.Option.{get_or_from_slice_get, slice_get-map, slice_get_within}
 use mathlib.Core.List.{map-map}
-use Rattle.patch_script.specs.declared.command.Command.{Command}
+use Rattle.patch_script.specs.declared.command.PatchCommand.{PatchCommand}
 use Rattle.patch_script.specs.Plans.{Plan}
 use Rattle.patch_script.specs.Refusals.{commands_of}
 use Rattle.fdr_buffer.specs.Filled.{Filled}
@@ -110,7 +110,7 @@ pub run_leaves : HoldEvents → (plan : Plan) (pool : PoolIs) (setup : Setup) (p
     → IsLeft setup (sealed_of gathered.parts.passes.items) left → buffers ≡ left ++ gathered.parts.hands.items
     → HaveRunBeside program (commands_of plan.lines) setup cpus (map (λ s. work_view s) seats) segments first buffers
 run_leaves hold plan pool setup program gathered cpus seats segments first buffers left same_setup same_program same_threads have a e b c is d =
-    let Script : List Command = commands_of plan.lines in
+    let Script : List PatchCommand = commands_of plan.lines in
     let workers : List (Worker Recording) = have.workers in
     let rs : List Recording = map (λ w. recorder_of w) workers in
     let rows : List (List Filled) = map (λ (r : Recording). r.pass.sealed) rs in

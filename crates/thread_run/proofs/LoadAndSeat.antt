@@ -9,7 +9,7 @@ use Rattle.xray_io.specs.declared.faults.NoMemory.{NoMemory}
 use Rattle.xray_image.specs.Program.{IsAccepted, Program}
 use Rattle.sled_words.specs.Allowed.{IsAllowed}
 use Rattle.sled_words.specs.Words.{IsCodeWord, release_word}
-use Rattle.patch_script.specs.declared.command.Command.{Command}
+use Rattle.patch_script.specs.declared.command.PatchCommand.{PatchCommand}
 use Rattle.patch_script.specs.Bounds.{bound_of}
 use Rattle.patch_script.specs.CodeAt.{code_at}
 use Rattle.patch_script.specs.Micros.{hold_of, start_of, total_of}
@@ -107,7 +107,7 @@ next_is t passed loads word has wants =
     subst (IsWant t passed (wanted_after t passed loads) has.end) wants has.wants
 
 module _ (plan : Plan) where
-  abbrev Script : List Command
+  abbrev Script : List PatchCommand
   Script = commands_of plan.lines
 
   abbrev Along : Traced → List Passing → ℕ → List Load → Type 0
@@ -336,7 +336,7 @@ marks_follow plan t v passed end last loads is along within ends = record {
 
 pub fresh_along : (plan : Plan) (t : Traced) (v : WorkView) (is : IsFreshIn plan t v) → IsAlong plan t v is.fresh.passed
 fresh_along plan t v is =
-    let Script : List Command = commands_of plan.lines in
+    let Script : List PatchCommand = commands_of plan.lines in
     let Has : ℕ → List Load → Type 0 = λ seen loads. HasFollowed plan.program plan.threads Script t is.fresh.passed seen loads in
     let first : Has (start_of plan.program plan.threads Script) [] = record { loaded = is.fresh.loaded; follow = none } in
     let here : Has v.seen [] = subst (λ (n : ℕ). Has n []) (sym is.seen) first in

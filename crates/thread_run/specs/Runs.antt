@@ -1,7 +1,7 @@
 -- Whole runs of threads beside a script.
 use Rattle.std.specs.Prelude.{◌≡◌, ◌+◌, ℕ, List, [], Some, length, slice_get}
 use Rattle.xray_image.specs.Program.{Program}
-use Rattle.patch_script.specs.declared.command.Command.{Command}
+use Rattle.patch_script.specs.declared.command.PatchCommand.{PatchCommand}
 use Rattle.patch_script.specs.Micros.{total_of}
 use Rattle.patch_script.specs.Plans.{Plan}
 use Rattle.machine_step.specs.Buffers.{spare_of}
@@ -28,7 +28,7 @@ pub record HasPatched (plan : Plan) (p : PatchView) : Type 0 where
 -- A thread, of this many, has run beside a script, with this seat. The seat says that the thread has ended. Its loads
 -- follow the whole script. By exactly these loads the thread has ended as its plain run does, and has decoded no torn
 -- sled.
-pub record HasRunAlong (program : Program) (threads : ℕ) (script : List Command) (number : ℕ) (run : ThreadRun) (t : Traced) (seat : WorkView)
+pub record HasRunAlong (program : Program) (threads : ℕ) (script : List PatchCommand) (number : ℕ) (run : ThreadRun) (t : Traced) (seat : WorkView)
     : Type 0 where
   pub owner : seat.thread ≡ number
   pub ended : seat.count ≡ ended_count
@@ -39,7 +39,7 @@ pub record HasRunAlong (program : Program) (threads : ℕ) (script : List Comman
 -- each, by whose loads it has run; and their segments and buffers. The marks of each thread follow the script. As
 -- many segments are lost as the pool of all threads had no spare buffers for. Whose they are isn't fixed, but each thread
 -- keeps its last one. The buffers that hold events are those of the segments that are left, in any order.
-pub record HaveRunBeside (program : Program) (script : List Command) (setup : Setup) (cpus : List Traced) (seats : List WorkView)
+pub record HaveRunBeside (program : Program) (script : List PatchCommand) (setup : Setup) (cpus : List Traced) (seats : List WorkView)
     (segments first : List ℕ) (buffers : List Filled) : Type 0 where
   pub runs : List ThreadRun
   pub run : IsRun program setup runs

@@ -10,7 +10,7 @@ use Rattle.fdr_record.specs.Recordable.{ArgFits}
 use Rattle.fdr_record.specs.Records.{action_of}
 use Rattle.fdr_file.specs.ThreadEvents.{ThreadEvent, event_given}
 use Rattle.basic_record.specs.BasicRecords.{arg_logged, kind_numbered}
-use Rattle.trace_forms.specs.BasicLogs.{EventFits, event_bytes, passing_in, record_rows}
+use Rattle.trace_forms.specs.BasicLogs.{EventFits, event_bytes, basic_passing, basic_record_rows}
 
 -- the number in the first bytes of more
 back : (n x : ℕ) (rest : List ℕ) → x < 256 ^ n → little_number n (little_bytes n x ++ rest) ≡ x
@@ -43,7 +43,7 @@ made kind thread pid cpu func tsc arg =
     record { thread = thread; pid = pid; event = record { tsc = tsc; arg = arg; func = func; cpu = cpu; kind = kind } }
 
 -- the event that is read from a record is the one that was written
-pub event_again : (e : ThreadEvent) (rest : List ℕ) → EventFits e → event_given (passing_in e.event.kind (event_bytes e ++ rest)) ≡ e
+pub event_again : (e : ThreadEvent) (rest : List ℕ) → EventFits e → event_given (basic_passing e.event.kind (event_bytes e ++ rest)) ≡ e
 event_again e rest fits =
     let kind = e.event.kind in
     let bytes = event_bytes e ++ rest in
@@ -57,7 +57,7 @@ event_again e rest fits =
 
 -- a record with bytes behind it
 pub record_reads : (at : ℕ) (e : ThreadEvent) (rest : List ℕ)
-    → record_rows at (event_bytes e ++ rest) ≡ Ok (passing_in e.event.kind (event_bytes e ++ rest))
+    → basic_record_rows at (event_bytes e ++ rest) ≡ Ok (basic_passing e.event.kind (event_bytes e ++ rest))
 record_reads at e rest =
     let whole : nat_lt (length (event_bytes e ++ rest)) 32 ≡ false = le-ltb (length (event_bytes e ++ rest)) 32 (omega arith) in
     rw (whole, kind_again e.event.kind) refl

@@ -16,7 +16,7 @@ use Rattle.fdr_file.specs.Traces.{type_in, version_in}
 use Rattle.trace_forms.specs.declared.basic.BasicFault.{BasicFault}
 use Rattle.trace_forms.specs.declared.basic.BasicFault.TheVariants as faults
 use Rattle.basic_record.specs.BasicRecords.{basic_length}
-use Rattle.trace_forms.specs.BasicLogs.{EventFits, LogReadsAs, TraceFits, basic_bytes, basic_header, basic_header_rows, basic_of, event_bytes, events_rows, log_bytes, passing_in, record_rows, record_starts}
+use Rattle.trace_forms.specs.BasicLogs.{EventFits, LogReadsAs, TraceFits, basic_bytes, basic_header, basic_header_rows, basic_of, event_bytes, events_rows, log_bytes, basic_passing, basic_record_rows, record_starts}
 use Rattle.trace_forms.specs.Runs.{runs}
 use Rattle.fdr_file.proofs.NextParts.{starts_first}
 use Rattle.trace_forms.proofs.Places.{starts_none}
@@ -39,12 +39,12 @@ pub read_first : (events : List ThreadEvent) (at : ℕ) (bytes : List ℕ) → 0
 read_first events at bytes some = ap (InTurn events_rows events) (starts_first (λ _. basic_length) at bytes some (lit< tt))
 
 -- one more record
-pub read_more : (events : List ThreadEvent) (at : ℕ) (bytes : List ℕ) (x : ℕ × ℕ × Event) → 0 < length bytes → record_rows at bytes ≡ Ok x
+pub read_more : (events : List ThreadEvent) (at : ℕ) (bytes : List ℕ) (x : ℕ × ℕ × Event) → 0 < length bytes → basic_record_rows at bytes ≡ Ok x
     → read_on events at bytes ≡ read_on (events ++ event_given x ∷ []) (at + 32) (drop 32 bytes)
 read_more events at bytes x some is = read_first events at bytes some ∙ rw is refl
 
 -- a record that is refused
-pub read_refused : (events : List ThreadEvent) (at : ℕ) (bytes : List ℕ) (fault : BasicFault) → 0 < length bytes → record_rows at bytes ≡ Err fault
+pub read_refused : (events : List ThreadEvent) (at : ℕ) (bytes : List ℕ) (fault : BasicFault) → 0 < length bytes → basic_record_rows at bytes ≡ Err fault
     → read_on events at bytes ≡ Err fault
 read_refused events at bytes fault some is = read_first events at bytes some ∙ rw is refl
 
@@ -99,18 +99,18 @@ pub log_refused : (bytes : List ℕ) (fault : BasicFault) → basic_header_rows 
 log_refused bytes fault is = header_refused bytes (basic_header bytes) (log_read (basic_header bytes) (read_on [] 32 (drop 32 bytes))) fault is
 
 -- a log whose next record is read
-pub log_more : (header : Header) (events : List ThreadEvent) (at : ℕ) (bytes rest : List ℕ) (x : ℕ × ℕ × Event) → at < length bytes → rest ≡ drop at bytes → record_rows at rest ≡ Ok x
+pub log_more : (header : Header) (events : List ThreadEvent) (at : ℕ) (bytes rest : List ℕ) (x : ℕ × ℕ × Event) → at < length bytes → rest ≡ drop at bytes → basic_record_rows at rest ≡ Ok x
     → log_read header (read_on events at (drop at bytes)) ≡ log_read header (read_on (events ++ event_given x ∷ []) (at + 32) (drop (at + 32) bytes))
 log_more header events at bytes rest x some is read =
     ap (log_read header)
-    (read_more events at (drop at bytes) x (omega (arith, length-drop at bytes)) (ap (record_rows at) (sym is) ∙ read)
+    (read_more events at (drop at bytes) x (omega (arith, length-drop at bytes)) (ap (basic_record_rows at) (sym is) ∙ read)
     ∙ ap (read_on (events ++ event_given x ∷ []) (at + 32)) (drop-drop 32 at bytes))
 
 -- a log whose next record is refused
-pub log_stops : (header : Header) (events : List ThreadEvent) (at : ℕ) (bytes rest : List ℕ) (fault : BasicFault) → at < length bytes → rest ≡ drop at bytes → record_rows at rest ≡ Err fault
+pub log_stops : (header : Header) (events : List ThreadEvent) (at : ℕ) (bytes rest : List ℕ) (fault : BasicFault) → at < length bytes → rest ≡ drop at bytes → basic_record_rows at rest ≡ Err fault
     → log_read header (read_on events at (drop at bytes)) ≡ Err fault
 log_stops header events at bytes rest fault some is refused =
-    ap (log_read header) (read_refused events at (drop at bytes) fault (omega (arith, length-drop at bytes)) (ap (record_rows at) (sym is) ∙ refused))
+    ap (log_read header) (read_refused events at (drop at bytes) fault (omega (arith, length-drop at bytes)) (ap (basic_record_rows at) (sym is) ∙ refused))
 
 -- a log that ends here
 pub log_ends : (header : Header) (events : List ThreadEvent) (at : ℕ) (bytes : List ℕ) → length bytes ≤ at
@@ -126,7 +126,7 @@ records_again (e ∷ events) before at fits =
     let rest = flat_map event_bytes events in
     let bytes = event_bytes e ++ rest in
     let same = event_again e rest (All-head EventFits e events fits) in
-    read_more before at bytes (passing_in e.event.kind bytes) (omega arith) (record_reads at e rest)
+    read_more before at bytes (basic_passing e.event.kind bytes) (omega arith) (record_reads at e rest)
     ∙ (ap (λ (x : ThreadEvent). read_on (before ++ x ∷ []) (at + 32) rest) same
     ∙ (records_again events (before ++ e ∷ []) (at + 32) (All-tail EventFits e events fits)
     ∙ ap (λ (es : List ThreadEvent). Ok es) (append_assoc before (e ∷ []) events)))

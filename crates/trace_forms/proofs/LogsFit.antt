@@ -18,7 +18,7 @@ use Rattle.fdr_file.specs.Traces.{type_in, version_in}
 use Rattle.fdr_file.proofs.FewEvents.{ok_same, then_ok}
 use Rattle.trace_forms.specs.declared.basic.BasicFault.{BasicFault}
 use Rattle.trace_forms.specs.declared.basic.BasicFault.TheVariants as faults
-use Rattle.trace_forms.specs.BasicLogs.{EventFits, TraceFits, basic_header, basic_of, events_rows, passing_in, record_rows, record_starts}
+use Rattle.trace_forms.specs.BasicLogs.{EventFits, TraceFits, basic_header, basic_of, events_rows, basic_passing, basic_record_rows, record_starts}
 use Rattle.trace_forms.specs.Runs.{runs}
 use Rattle.trace_forms.proofs.LogRecords.{arg_low}
 use Rattle.trace_forms.proofs.RunLaws.{runs_are}
@@ -40,7 +40,7 @@ logged_fits TailExit arg = refl
 logged_fits EntryArgs arg = tt
 
 -- what a whole record says
-passing_fits : (kind : Kind) (bytes : List ℕ) → 32 ≤ length bytes → AreBytes bytes → EventFits (event_given (passing_in kind bytes))
+passing_fits : (kind : Kind) (bytes : List ℕ) → 32 ≤ length bytes → AreBytes bytes → EventFits (event_given (basic_passing kind bytes))
 passing_fits kind bytes long all = record {
   thread = (at_4 16 bytes (omega arith) all).fits;
   pid = (at_4 20 bytes (omega arith) all).fits;
@@ -51,17 +51,17 @@ passing_fits kind bytes long all = record {
   logged = logged_fits kind _;
 }
 
-record_fits : (at : ℕ) (bytes : List ℕ) (x : ℕ × ℕ × Event) → AreBytes bytes → record_rows at bytes ≡ Ok x → EventFits (event_given x)
+record_fits : (at : ℕ) (bytes : List ℕ) (x : ℕ × ℕ × Event) → AreBytes bytes → basic_record_rows at bytes ≡ Ok x → EventFits (event_given x)
 record_fits at bytes x all is = by_tests (nat_lt (length bytes) 32) (not (tag_in bytes == 0)) (kind_numbered (kind_byte bytes)) refl is
   where
     by_tests : (short tagged : Bool) (kind : Option Kind) → nat_lt (length bytes) 32 ≡ short
-        → First short (Err (faults.Short at)) (First tagged (Err (faults.Tag at (tag_in bytes))) (NeedsPart kind (Err (faults.Kind at (kind_byte bytes))) λ kind. Ok (passing_in kind bytes))) ≡ Ok x
+        → First short (Err (faults.Short at)) (First tagged (Err (faults.Tag at (tag_in bytes))) (NeedsPart kind (Err (faults.Kind at (kind_byte bytes))) λ kind. Ok (basic_passing kind bytes))) ≡ Ok x
         → EventFits (event_given x)
     by_tests true tagged kind e h = absurd cc
     by_tests false true kind e h = absurd cc
     by_tests false false None e h = absurd cc
     by_tests false false (Some kind) e h =
-        let same : passing_in kind bytes ≡ x = ok_same {F = BasicFault} (passing_in kind bytes) x h in
+        let same : basic_passing kind bytes ≡ x = ok_same {F = BasicFault} (basic_passing kind bytes) x h in
         subst (λ (y : ℕ × ℕ × Event). EventFits (event_given y)) same (passing_fits kind bytes (ltb-false (length bytes) 32 e) all)
 
 -- what the records from a place on say, after events that fit
@@ -78,7 +78,7 @@ events_fit zero at (byte ∷ bytes) before events all fits is =
     let following : List ThreadEvent → Result (List ThreadEvent) BasicFault = λ after. InTurn events_rows after (starts (λ _. basic_length) 31 (at + 1) bytes) in
     let longer : ℕ × ℕ × Event → Result (List ThreadEvent) BasicFault = λ x. Ok (before ++ event_given x ∷ []) in
     let read = then_ok (events_rows before (at, more)) following events is in
-    let first = then_ok (record_rows at more) longer read.0 read.1 in
+    let first = then_ok (basic_record_rows at more) longer read.0 read.1 in
     let one : List ThreadEvent = event_given first.0 ∷ [] in
     let same : before ++ one ≡ read.0 = ok_same {F = BasicFault} (before ++ one) read.0 first.2 in
     let here : All EventFits one = All-cons EventFits (event_given first.0) [] (record_fits at more first.0 all first.1) (All-nil EventFits) in

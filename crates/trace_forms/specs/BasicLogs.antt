@@ -71,19 +71,19 @@ abbrev pub basic_header : List ℕ → Header
 basic_header bytes = record (header_in bytes) { size = 0 }
 
 -- the thread, the process and the event that the bytes of a record of this kind say
-abbrev pub passing_in : Kind → List ℕ → ℕ × ℕ × Event
-passing_in kind bytes = (thread_in bytes, pid_in bytes, event_in kind bytes)
+abbrev pub basic_passing : Kind → List ℕ → ℕ × ℕ × Event
+basic_passing kind bytes = (thread_in bytes, pid_in bytes, event_in kind bytes)
 
 -- the record that bytes begin with, at this place of the file
-abbrev pub record_rows : ℕ → List ℕ → Result (ℕ × ℕ × Event) BasicFault
-record_rows at bytes =
+abbrev pub basic_record_rows : ℕ → List ℕ → Result (ℕ × ℕ × Event) BasicFault
+basic_record_rows at bytes =
     First (nat_lt (length bytes) basic_length) (Err (faults.Short at))
     (First (not (tag_in bytes == 0)) (Err (faults.Tag at (tag_in bytes)))
-    (NeedsPart (kind_numbered (kind_byte bytes)) (Err (faults.Kind at (kind_byte bytes))) λ kind. Ok (passing_in kind bytes)))
+    (NeedsPart (kind_numbered (kind_byte bytes)) (Err (faults.Kind at (kind_byte bytes))) λ kind. Ok (basic_passing kind bytes)))
 
 -- the same, after these events
 abbrev pub events_rows : List ThreadEvent → ℕ × List ℕ → Result (List ThreadEvent) BasicFault
-events_rows before (at, bytes) = record_rows at bytes >>= λ x. Ok (before ++ event_given x ∷ [])
+events_rows before (at, bytes) = basic_record_rows at bytes >>= λ x. Ok (before ++ event_given x ∷ [])
 
 -- each place of bytes where a record begins, with the bytes from there on; the first of them is at the place `at`
 abbrev pub record_starts : ℕ → List ℕ → List (ℕ × List ℕ)

@@ -3,7 +3,7 @@
 ghost use Rattle.std.specs.Prelude.{◌≡◌, ◌⊎◌, ◌<◌, ◌≤◌, Err, IfOk, None, Ok, OnOk, length};
 ghost use Rattle.trace_forms.specs.declared.basic.BasicFault.TheVariants.{NoMemory};
 ghost use Rattle.fdr_file.specs.ThreadEvents.{thread_events};
-ghost use Rattle.trace_forms.specs.BasicLogs.{basic_header, basic_header_rows, basic_of, record_rows, wide_cpu};
+ghost use Rattle.trace_forms.specs.BasicLogs.{basic_header, basic_header_rows, basic_of, basic_record_rows, wide_cpu};
 
 use crate::basic::{BasicFault, CONSTANT, HEADER_BYTES, NONSTOP};
 use crate::runs::RunBlocks;
@@ -75,7 +75,7 @@ fn read_header(bytes: &[u8]) -> Result<Header, BasicFault>
 /// The thread, the process and the event of the record that bytes begin with. `place` is its place
 /// in the file.
 fn read_record(place: u64, bytes: &[u8]) -> Result<(u32, u32, Event), BasicFault>
-    ensures reads { result ≡ record_rows place bytes.now }
+    ensures reads { result ≡ basic_record_rows place bytes.now }
     ensures whole { OnOk result (32 ≤ length bytes.now) }
     ensures narrow { IfOk result (λ x. x.2.cpu < 256) }
 {

@@ -9,7 +9,7 @@ use Rattle.xray_image.specs.Program.{IsAccepted, Program}
 use Rattle.sled_words.specs.declared.part.Part.TheVariants.{Head}
 use Rattle.sled_words.specs.Parts.{patched_head}
 use Rattle.sled_words.specs.Words.{arg_handler_word, handler_word, state_word, word_of}
-use Rattle.patch_script.specs.declared.command.Command.{Command}
+use Rattle.patch_script.specs.declared.command.PatchCommand.{PatchCommand}
 use Rattle.patch_script.specs.CodeAt.{code_at}
 use Rattle.patch_script.specs.Micros.{hold_of, start_of, total_of}
 use Rattle.handler_word.specs.declared.mark.Mark.{Mark}
@@ -190,7 +190,7 @@ module _ (program : Program) (threads arguments thread : ℕ) (hold : Option ℕ
   as_many (mark ∷ marks) [] count are = absurd are
   as_many (mark ∷ marks) (p ∷ passed) count (same, are) = λ i. same i ∷ as_many marks passed (omega (arith, count)) are i
 
-pub marks_are : (program : Program) (limits : Limits) (threads thread : ℕ) (script : List Command) (arguments : ℕ)
+pub marks_are : (program : Program) (limits : Limits) (threads thread : ℕ) (script : List PatchCommand) (arguments : ℕ)
     (passed : List Passing) (end : End) (last : State) (marks : List Mark) → PlainRun program limits thread passed end last
     → RecordsAll program threads script arguments → MarksFollowScript program threads script thread (sleds_passed passed) marks
     → marks ≡ map (λ p. recorded_mark program arguments p.sled) passed
@@ -217,7 +217,7 @@ same_items (x ∷ xs) [] count each = absurd (omega (arith, count))
 same_items (x ∷ xs) (y ∷ ys) count each = λ i.
     each 0 x y refl refl i ∷ same_items xs ys (omega (arith, count)) (λ k a b at at'. each (suc k) a b at at') i
 
-pub one_run : (bytes : List ℕ) (program : Program) (setup : Setup) (script : List Command) (arguments : ℕ) (runs others : List ThreadRun)
+pub one_run : (bytes : List ℕ) (program : Program) (setup : Setup) (script : List PatchCommand) (arguments : ℕ) (runs others : List ThreadRun)
     → IsAccepted bytes program → RecordsAll program setup.threads script arguments → IsRun program setup runs → IsRun program setup others
     → AllMarksFollow program setup.threads script runs → AllMarksFollow program setup.threads script others
     → recycled_of runs ≡ 0 → recycled_of others ≡ 0 → runs ≡ others

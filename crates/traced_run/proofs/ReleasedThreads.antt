@@ -4,7 +4,7 @@ use Rattle.std.specs.Prelude.{slice_get}
 use Rattle.std.proofs.lemmas.Option.{same_Some, slice_get-get_or, slice_get_within}
 use Rattle.xray_image.specs.Program.{Program}
 use Rattle.sled_words.specs.Words.{release_word}
-use Rattle.patch_script.specs.declared.command.Command.{Command}
+use Rattle.patch_script.specs.declared.command.PatchCommand.{PatchCommand}
 use Rattle.patch_script.specs.CodeAt.{code_at}
 use Rattle.machine_step.specs.Follows.{Rise}
 use Rattle.machine_step.specs.Loads.{Load}
@@ -29,7 +29,7 @@ rises from last (number ∷ later) (suc i) zero early late rise before found the
 rises from last (number ∷ later) (suc i) (suc j) early late (low, high, rise) before found there =
     rises number last later i j early late rise (omega arith) found there
 
-pub loads_after_release : (program : Program) (threads : ℕ) (script : List Command) (thread : ℕ) (sleds : List ℕ) (loads : List Load) (place i j : ℕ)
+pub loads_after_release : (program : Program) (threads : ℕ) (script : List PatchCommand) (thread : ℕ) (sleds : List ℕ) (loads : List Load) (place i j : ℕ)
     (release load : Load) → LoadsFollow program threads script thread sleds loads place
     → slice_get loads i ≡ Some release → release.word ≡ release_word program thread → release.value ≢ 0
     → i ≤ j → slice_get loads j ≡ Some load

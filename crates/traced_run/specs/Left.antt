@@ -1,7 +1,7 @@
 -- What a run leaves.
 use Rattle.std.specs.Prelude.{◌≡◌, ◌+◌, ℕ, List, IsPermutation, filter, length, map, slice_get, Some}
 use Rattle.xray_image.specs.Program.{Program}
-use Rattle.patch_script.specs.declared.command.Command.{Command}
+use Rattle.patch_script.specs.declared.command.PatchCommand.{PatchCommand}
 use Rattle.patch_script.specs.Micros.{hold_of}
 use Rattle.fdr_buffer.specs.Filled.{Filled, has_event}
 use Rattle.machine_step.specs.declared.setup.Setup.{Setup}
@@ -13,7 +13,7 @@ use Rattle.traced_run.specs.Kept.{kept_buffers, segment_count}
 
 -- The threads of a run beside a script, thread 1 first. Each runs the program as one of the setup's threads, and the
 -- script holds it where its commands say.
-abbrev pub AreThreadsOf : Program → List Command → Setup → List Traced → Type 0
+abbrev pub AreThreadsOf : Program → List PatchCommand → Setup → List Traced → Type 0
 AreThreadsOf program script setup cpus =
     (i : ℕ) (t : Traced) → slice_get cpus i ≡ Some t
     → IsThreadOf program (i + 1) setup.threads (hold_of (i + 1) script) setup.limits t

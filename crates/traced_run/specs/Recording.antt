@@ -4,7 +4,7 @@ use Rattle.xray_image.specs.Program.{Program}
 use Rattle.sled_words.specs.declared.part.Part.TheVariants.{Head}
 use Rattle.sled_words.specs.Parts.{patched_head}
 use Rattle.sled_words.specs.Words.{arg_handler_word, handler_word, state_word, word_of}
-use Rattle.patch_script.specs.declared.command.Command.{Command}
+use Rattle.patch_script.specs.declared.command.PatchCommand.{PatchCommand}
 use Rattle.patch_script.specs.CodeAt.{code_at}
 use Rattle.patch_script.specs.Micros.{start_of, total_of}
 use Rattle.handler_word.specs.declared.mark.Mark.{Mark}
@@ -20,7 +20,7 @@ pub record RecordsAt (program : Program) (threads : ℕ) (arguments : ℕ) (code
   pub arguments_are : code (arg_handler_word program threads) ≡ arguments
 
 -- from the start of the threads to the end of a script that is so, with one value of the argument handler word
-abbrev pub RecordsAll : Program → ℕ → List Command → ℕ → Type 0
+abbrev pub RecordsAll : Program → ℕ → List PatchCommand → ℕ → Type 0
 RecordsAll program threads script arguments =
     (place : ℕ) → start_of program threads script ≤ place → place ≤ total_of program threads script
     → RecordsAt program threads arguments (code_at program threads script place)

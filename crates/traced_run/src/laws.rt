@@ -24,7 +24,7 @@ ghost use Rattle.subset_decode.specs.declared.instr.Instr.TheVariants.{Call, Jmp
 ghost use Rattle.xray_image.specs.Program.{IsAccepted, Program};
 ghost use Rattle.xray_image.specs.declared.sled.Sled.{Sled};
 ghost use Rattle.sled_words.specs.Words.{release_word};
-ghost use Rattle.patch_script.specs.declared.command.Command.{Command};
+ghost use Rattle.patch_script.specs.declared.command.PatchCommand.{PatchCommand};
 ghost use Rattle.patch_script.specs.CodeAt.{code_at};
 ghost use Rattle.handler_word.specs.declared.mark.Mark.{Mark};
 ghost use Rattle.fdr_buffer.specs.{Filled.{Filled, has_event}, Fits.{BufferFits}};
@@ -164,12 +164,12 @@ pub fn a_whole_run_executes_to_its_end()
 /// this changes later, every passing is recorded (`marks`). So two runs of the image beside this script
 /// that lose no segment are the same run, with one trace and one audit (`runs`).
 pub fn a_script_that_records_all_leaves_one_run()
-    ensures marks { (program : Program) (limits : Limits) (threads thread : ℕ) (script : List Command) (arguments : ℕ)
+    ensures marks { (program : Program) (limits : Limits) (threads thread : ℕ) (script : List PatchCommand) (arguments : ℕ)
         (passed : List Passing) (end : End) (last : State) (marks : List Mark)
         → PlainRun program limits thread passed end last → RecordsAll program threads script arguments
         → MarksFollowScript program threads script thread (sleds_passed passed) marks
         → marks ≡ map (λ p. recorded_mark program arguments p.sled) passed }
-    ensures runs { (bytes : List ℕ) (program : Program) (setup : Setup) (script : List Command) (arguments : ℕ)
+    ensures runs { (bytes : List ℕ) (program : Program) (setup : Setup) (script : List PatchCommand) (arguments : ℕ)
         (runs others : List ThreadRun) → IsAccepted bytes program
         → RecordsAll program setup.threads script arguments
         → IsRun program setup runs → IsRun program setup others
@@ -180,7 +180,7 @@ pub fn a_script_that_records_all_leaves_one_run()
 /// Once a held thread has loaded that it is released, each of its loads sees all stores that come
 /// before the release: it is made at a place after every place up to which the release word is 0.
 pub fn a_released_thread_sees_all_earlier_stores()
-    ensures { (program : Program) (threads : ℕ) (script : List Command) (thread : ℕ) (sleds : List ℕ)
+    ensures { (program : Program) (threads : ℕ) (script : List PatchCommand) (thread : ℕ) (sleds : List ℕ)
         (loads : List Load) (place i j : ℕ) (release load : Load)
         → LoadsFollow program threads script thread sleds loads place
         → slice_get loads i ≡ Some release → release.word ≡ release_word program thread → release.value ≢ 0

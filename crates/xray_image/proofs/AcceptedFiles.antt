@@ -9,7 +9,7 @@ use Rattle.xray_image.specs.declared.unit.Unit.{Unit}
 use Rattle.xray_image.specs.Units.{Piece, SledPlace, places_from}
 use Rattle.xray_image.specs.Container.{MapEntry, Parts, base_address, function_count, parts_of}
 use Rattle.xray_image.specs.Program.{Program, AreFunctions, IsEntryOf, EachSled, Reaches, BranchesReach, program_of, IsAccepted}
-use Rattle.xray_image.specs.Table.{Verdict, NeedsUnits, StandUpTo, ReadsProgram, ReadsParts, ReadsAs, BranchesRightly}
+use Rattle.xray_image.specs.Table.{ImageReading, NeedsUnits, StandUpTo, ReadsProgram, ReadsParts, ReadsAs, BranchesRightly}
 use Rattle.xray_image.proofs.Pieces.{OneInstruction}
 use Rattle.xray_image.proofs.UnitPlaces.{stand_are, units_stand}
 use Rattle.xray_image.proofs.TableRows.{OneAnswer, needs_units_one}
@@ -33,7 +33,7 @@ reads_one first answer bytes =
     (parts_one first answer bytes))))))))
 
 -- no file has two verdicts
-pub one_verdict : OneInstruction → OneAnswer → (bytes : List ℕ) (v w : Verdict) → ReadsAs bytes v → ReadsAs bytes w → v ≡ w
+pub one_verdict : OneInstruction → OneAnswer → (bytes : List ℕ) (v w : ImageReading) → ReadsAs bytes v → ReadsAs bytes w → v ≡ w
 one_verdict first answer bytes v w = (reads_one first answer bytes).same v w
 
 -- ---- lists
@@ -86,7 +86,7 @@ module _ (bytes : List ℕ) (program : Program) (a : IsAccepted bytes program) w
       from_some (parts_of bytes) _ _ (Ok program) a.parts a.reaches
       (inr (a.nothing_after, inr (a.pieces, units_stand (base_address bytes) a.parts.code a.pieces a.units a.even_sleds, rows_of_program)))
     where
-      from_some : {X : Type 0} (o : Option X) (decides : Verdict → Type 0) (there : X → Verdict → Type 0) (v : Verdict) (x : X) → o ≡ Some x → there x v → NeedsPart o decides there v
+      from_some : {X : Type 0} (o : Option X) (decides : ImageReading → Type 0) (there : X → ImageReading → Type 0) (v : ImageReading) (x : X) → o ≡ Some x → there x v → NeedsPart o decides there v
       from_some {X = X} o decides there v x e q = subst (λ (r : Option X). NeedsPart r decides there v) (sym e) q
 
   rows_of_file : ReadsAs bytes (Ok program)
@@ -110,28 +110,28 @@ module _ (bytes : List ℕ) (program : Program) (a : IsAccepted bytes program) w
 
 -- ---- from the rows to the record
 
-ok_is_no_fault : (p : Program) (fault : ImageFault) → ◌≡◌ {A = Verdict} (Ok p) (Err fault) → ⊥
+ok_is_no_fault : (p : Program) (fault : ImageFault) → ◌≡◌ {A = ImageReading} (Ok p) (Err fault) → ⊥
 ok_is_no_fault p fault e = cc
 
-same_Ok : (p q : Program) → ◌≡◌ {A = Verdict} (Ok p) (Ok q) → p ≡ q
+same_Ok : (p q : Program) → ◌≡◌ {A = ImageReading} (Ok p) (Ok q) → p ≡ q
 same_Ok p q e = cc
 
 -- if the file reads as a program, each condition holds, and what follows it reads as the program
-needs_ok : (condition : Type 0) (fault : ImageFault) (Follows : Type 0) (p : Program) → ((condition → ⊥) × ◌≡◌ {A = Verdict} (Ok p) (Err fault)) ⊎ (condition × Follows) → condition × Follows
+needs_ok : (condition : Type 0) (fault : ImageFault) (Follows : Type 0) (p : Program) → ((condition → ⊥) × ◌≡◌ {A = ImageReading} (Ok p) (Err fault)) ⊎ (condition × Follows) → condition × Follows
 needs_ok condition fault Follows p (inl a) = absurd (ok_is_no_fault p fault a.1)
 needs_ok condition fault Follows p (inr a) = a
 
 each_ok : (condition : ℕ → Type 0) (fault : ℕ → ImageFault) (Follows : Type 0) (p : Program)
-    → ((i : ℕ) × (condition i → ⊥) × ((j : ℕ) → j < i → condition j) × ◌≡◌ {A = Verdict} (Ok p) (Err (fault i))) ⊎ (((i : ℕ) → condition i) × Follows) → ((i : ℕ) → condition i) × Follows
+    → ((i : ℕ) × (condition i → ⊥) × ((j : ℕ) → j < i → condition j) × ◌≡◌ {A = ImageReading} (Ok p) (Err (fault i))) ⊎ (((i : ℕ) → condition i) × Follows) → ((i : ℕ) → condition i) × Follows
 each_ok condition fault Follows p (inl a) = absurd (ok_is_no_fault p (fault a.0) a.3)
 each_ok condition fault Follows p (inr a) = a
 
-units_ok : (base : ℕ) (code : List ℕ) (follows : List Piece → Verdict → Type 0) (p : Program) → NeedsUnits base code follows (Ok p)
+units_ok : (base : ℕ) (code : List ℕ) (follows : List Piece → ImageReading → Type 0) (p : Program) → NeedsUnits base code follows (Ok p)
     → (pieces : List Piece) × StandUpTo base code pieces (base + length code) [] × follows pieces (Ok p)
 units_ok base code follows p (inl a) = absurd (ok_is_no_fault p a.0 a.2)
 units_ok base code follows p (inr a) = a
 
-option_ok : {X : Type 0} (o : Option X) (fault : ImageFault) (there : X → Verdict → Type 0) (p : Program) → NeedsPart o (Is (Err fault)) there (Ok p)
+option_ok : {X : Type 0} (o : Option X) (fault : ImageFault) (there : X → ImageReading → Type 0) (p : Program) → NeedsPart o (Is (Err fault)) there (Ok p)
     → (x : X) × (o ≡ Some x) × there x (Ok p)
 option_ok None fault there p m = absurd (ok_is_no_fault p fault m)
 option_ok (Some x) fault there p m = (x, refl, m)
@@ -162,11 +162,11 @@ program_rows entries places made p r =
     }
 
 -- what the pieces of the code read as
-abbrev ReadsPieces : List ℕ → Parts → List Piece → Verdict → Type 0
+abbrev ReadsPieces : List ℕ → Parts → List Piece → ImageReading → Type 0
 ReadsPieces bytes parts pieces = ReadsProgram parts.entries (places_from (base_address bytes) pieces) (program_of bytes parts pieces)
 
 -- what the parts read as
-abbrev ReadsUnits : List ℕ → Parts → Verdict → Type 0
+abbrev ReadsUnits : List ℕ → Parts → ImageReading → Type 0
 ReadsUnits bytes parts = Needs (parts.rest ≡ []) (Is (Err faults.Trailing)) (NeedsUnits (base_address bytes) parts.code (ReadsPieces bytes parts))
 
 -- what is true of one program is true of an equal one

@@ -10,7 +10,7 @@ use Rattle.xray_image.specs.declared.fault.ImageFault.TheVariants as faults
 use Rattle.xray_image.specs.Units.{places_from}
 use Rattle.xray_image.specs.Container.{Function, MapEntry, MapFields, Parts, base_address, code_length, function_count, entry_count, entries_from, function_entry_at, map_distance, map_fields_at, several, parts_of}
 use Rattle.xray_image.specs.Program.{program_of}
-use Rattle.xray_image.specs.Table.{Verdict, NeedsUnits, ReadsProgram, ReadsParts}
+use Rattle.xray_image.specs.Table.{ImageReading, NeedsUnits, ReadsProgram, ReadsParts}
 
 -- the parts with these functions, and with the entries after them
 abbrev with_entries : List ℕ → List Function → Option (List MapFields × List ℕ) → Option Parts
@@ -20,7 +20,7 @@ abbrev with_functions : List ℕ → Option (List Function × List ℕ) → Opti
 with_functions bytes o = option_and_then (λ functions. with_entries bytes functions.0 (several map_fields_at (entry_count bytes) functions.1)) o
 
 -- the table from the parts on
-abbrev pub Rows : List ℕ → Option Parts → Verdict → Type 0
+abbrev pub Rows : List ℕ → Option Parts → ImageReading → Type 0
 Rows bytes o =
     NeedsPart o (Is (Err faults.Short))
     (λ parts. Needs (parts.rest ≡ []) (Is (Err faults.Trailing))

@@ -19,7 +19,7 @@ use Rattle.xray_image.specs.private.Index.{AreWithin}
 use Rattle.xray_image.specs.private.Judging.{IsJudged}
 use Rattle.xray_image.specs.Program.{Program, Trampolines, addresses, sled_of, program_of, IsAccepted}
 use Rattle.xray_image.specs.private.Reading.{HasUnits}
-use Rattle.xray_image.specs.Table.{Verdict, StandUpTo, UnitsStop, NeedsUnits, ReadsProgram, ReadsParts, ReadsAs}
+use Rattle.xray_image.specs.Table.{ImageReading, StandUpTo, UnitsStop, NeedsUnits, ReadsProgram, ReadsParts, ReadsAs}
 use Rattle.xray_image.specs.private.UnitTable.{units_in}
 use Rattle.xray_image.specs.private.Views.{entry_of, function_of, place_of, places_in, parts_of_view, program_read, trampolines_of, IsHeaderOf}
 use Rattle.xray_image.proofs.Acceptance.{parts_count, code_short}
@@ -73,7 +73,7 @@ module _ (bytes : List ℕ) (h : Header) (head : HasHeader bytes) (is : IsHeader
   pub entry_there : h.entry_index < length p.functions.items
   entry_there = omega (arith, is.entry_index, (parts_count bytes (parts_of_view p) there).0, length-map p.functions.items function_of, head.entry_exists)
 
-  parts_row : (v : Verdict) → NeedsUnits (base_address bytes) p.code.now (λ pieces. ReadsProgram (map entry_of p.entries.items) (places_from (base_address bytes) pieces) (program_of bytes (parts_of_view p) pieces)) v → ReadsAs bytes v
+  parts_row : (v : ImageReading) → NeedsUnits (base_address bytes) p.code.now (λ pieces. ReadsProgram (map entry_of p.entries.items) (places_from (base_address bytes) pieces) (program_of bytes (parts_of_view p) pieces)) v → ReadsAs bytes v
   parts_row v units = past_header bytes v head (subst (λ (o : Option Parts). Rows bytes o v) (sym there) (inr (refl, units)))
 
   -- the units stop here
@@ -123,7 +123,7 @@ module _ (bytes : List ℕ) (h : Header) (head : HasHeader bytes) (is : IsHeader
             ∙ ap (four (number8_at bytes 32) (number8_at bytes 40) (number8_at bytes 48)) is.args
 
     -- what the program reads as, the file reads as
-    program_row : (v : Verdict) → ReadsProgram (map entry_of p.entries.items) (places_in u) (program_read h p u) v → ReadsAs bytes v
+    program_row : (v : ImageReading) → ReadsProgram (map entry_of p.entries.items) (places_in u) (program_read h p u) v → ReadsAs bytes v
     program_row v reads =
         parts_row v (inr (
           units.pieces,
@@ -145,7 +145,7 @@ module _ (bytes : List ℕ) (h : Header) (head : HasHeader bytes) (is : IsHeader
       program_accepted = (bytes, (accepted bytes (program_read h p u)).1 program_reads)
 
 -- a fault is out of memory, or the file's
-pub told_fault : (bytes : List ℕ) (fault : ImageFault) → (fault ≡ faults.NoMemory) ⊎ ReadsAs bytes (Err fault) → ◌⊎◌ (◌≡◌ {A = Verdict} (Err fault) (Err faults.NoMemory)) (ReadsAs bytes (Err fault))
+pub told_fault : (bytes : List ℕ) (fault : ImageFault) → (fault ≡ faults.NoMemory) ⊎ ReadsAs bytes (Err fault) → ◌⊎◌ (◌≡◌ {A = ImageReading} (Err fault) (Err faults.NoMemory)) (ReadsAs bytes (Err fault))
 told_fault bytes fault (inl full) = inl (ap (λ (f : ImageFault). Err f) full)
 told_fault bytes fault (inr reads) = inr reads
 

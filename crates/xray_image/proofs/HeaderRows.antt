@@ -8,7 +8,7 @@ use Rattle.xray_image.specs.declared.fault.Which.TheVariants as limits
 use Rattle.xray_image.specs.declared.header.Header.{Header}
 use Rattle.xray_image.specs.Container.{magic, version, code_length, function_count, entry_count, entry_index}
 use Rattle.xray_image.specs.Header.{HasHeader}
-use Rattle.xray_image.specs.Table.{Verdict, ReadsAs, ReadsParts}
+use Rattle.xray_image.specs.Table.{ImageReading, ReadsAs, ReadsParts}
 use Rattle.xray_image.specs.private.Views.{IsHeaderOf}
 
 -- the first four bytes of bytes that start with the magic are the magic
@@ -16,7 +16,7 @@ pub magic_is : (bytes : List ℕ) → true ≡ starts_with nat_eq bytes (0x58 �
 magic_is bytes e = grind (arith, common_steps)
 
 -- after a header in range the parts decide
-pub past_header : (bytes : List ℕ) (v : Verdict) → HasHeader bytes → ReadsParts bytes v → ReadsAs bytes v
+pub past_header : (bytes : List ℕ) (v : ImageReading) → HasHeader bytes → ReadsParts bytes v → ReadsAs bytes v
 past_header bytes v h parts =
     inr (h.has_header, inr (h.magic_bytes, inr (h.first_version, inr (h.code_limit, inr ((h.some_function, h.functions_limit), inr (h.sleds_limit, inr (h.entry_exists, inr ((h.base_aligned, h.base_limit), parts))))))))
 

@@ -19,7 +19,7 @@ use Rattle.xray_image.specs.Units.{Piece, Instruction, JumpSled, ReturnSled, Ali
 use Rattle.xray_image.specs.private.SledPieces.{IsSled}
 use Rattle.xray_image.specs.Container.{Function, MapEntry, Parts, base_address, code_length, entry_count, entry_index, function_count, magic, parts_of, version}
 use Rattle.xray_image.specs.Program.{BranchReaches, IsEntryOf, IsFunction, Program, Reaches, program_of}
-use Rattle.xray_image.specs.Table.{BeginsAsSled, BranchesRightly, FitsAt, FunctionIsFit, HasOneAddress, NeedsUnits, ReadsAs, ReadsParts, ReadsProgram, StandUpTo, StandsAt, UnitFault, Verdict, place_of_unit}
+use Rattle.xray_image.specs.Table.{BeginsAsSled, BranchesRightly, FitsAt, FunctionIsFit, HasOneAddress, NeedsUnits, ReadsAs, ReadsParts, ReadsProgram, StandUpTo, StandsAt, UnitFault, ImageReading, place_of_unit}
 use Rattle.xray_image.proofs.Acceptance.{code_is}
 use Rattle.xray_image.proofs.KnownConditions.{Known, known_below, known_both, known_branch, known_entry, known_front, known_function, known_item, known_list, known_most, known_option, known_reach}
 use Rattle.xray_image.proofs.Nops.{IsBytes, nop_found}
@@ -212,11 +212,11 @@ some_front some one (suc most) address (x ∷ xs) short all =
 -- ---- rows
 
 -- something of which this holds
-abbrev pub SomeVerdict : (Verdict → Type 0) → Type 0
-SomeVerdict reads = (verdict : Verdict) × reads verdict
+abbrev pub SomeVerdict : (ImageReading → Type 0) → Type 0
+SomeVerdict reads = (verdict : ImageReading) × reads verdict
 
 -- a row decides if its condition is known and what follows decides
-some_needs : (condition : Type 0) (fault : ImageFault) (follows : Verdict → Type 0) → Known condition → (condition → SomeVerdict follows)
+some_needs : (condition : Type 0) (fault : ImageFault) (follows : ImageReading → Type 0) → Known condition → (condition → SomeVerdict follows)
     → SomeVerdict (Needs condition (Is (Err fault)) follows)
 some_needs condition fault follows (inl holds) rest = let r = rest holds in (r.0, inr (holds, r.1))
 some_needs condition fault follows (inr fails) rest = (Err fault, inl (fails, refl))
@@ -237,7 +237,7 @@ first_below C known (suc n) = by_rest (first_below C known n) (known n)
     by_rest (inr below) (inr fails) = inl (n, fails, below)
 
 -- a row over all numbers decides if from some number on nothing is asked
-some_needs_each : (condition : ℕ → Type 0) (fault : ℕ → ImageFault) (follows : Verdict → Type 0) → ((i : ℕ) → Known (condition i)) → (n : ℕ)
+some_needs_each : (condition : ℕ → Type 0) (fault : ℕ → ImageFault) (follows : ImageReading → Type 0) → ((i : ℕ) → Known (condition i)) → (n : ℕ)
     → ((i : ℕ) → n ≤ i → condition i) → SomeVerdict follows → SomeVerdict (NeedsEach condition (λ i. Is (Err (fault i))) follows)
 some_needs_each condition fault follows known n beyond rest = by_first (first_below condition known n)
   where
@@ -246,7 +246,7 @@ some_needs_each condition fault follows known n beyond rest = by_first (first_be
     by_first (inr below) = (rest.0, inr (from_below condition n below beyond, rest.1))
 
 -- the row of the units decides
-some_needs_units : SomeAnswer → OneAnswer → (base : ℕ) (code : List ℕ) → AreBytes code → (follows : List Piece → Verdict → Type 0)
+some_needs_units : SomeAnswer → OneAnswer → (base : ℕ) (code : List ℕ) → AreBytes code → (follows : List Piece → ImageReading → Type 0)
     → ((pieces : List Piece) → SomeVerdict (follows pieces)) → SomeVerdict (NeedsUnits base code follows)
 some_needs_units some one base code all follows rest =
     let f = some_front some one (length code) base code (omega arith) all in
@@ -277,7 +277,7 @@ some_needs_units some one base code all follows rest =
         )
 
 -- a row over a part that may be missing decides
-some_part : {X : Type 0} (o : Option X) (fault : ImageFault) (follows : X → Verdict → Type 0) → ((x : X) → o ≡ Some x → SomeVerdict (follows x))
+some_part : {X : Type 0} (o : Option X) (fault : ImageFault) (follows : X → ImageReading → Type 0) → ((x : X) → o ≡ Some x → SomeVerdict (follows x))
     → SomeVerdict (NeedsPart o (Is (Err fault)) follows)
 some_part None fault follows some = (Err fault, refl)
 some_part (Some x) fault follows some = some x refl

@@ -8,7 +8,7 @@ use Rattle.subset_decode.specs.Refusals.{Answers}
 use Rattle.xray_image.specs.declared.fault.ImageFault.{ImageFault}
 use Rattle.xray_image.specs.declared.fault.ImageFault.TheVariants as faults
 use Rattle.xray_image.specs.Units.{Piece}
-use Rattle.xray_image.specs.Table.{Verdict, NeedsUnits, UnitFault, UnitsStop, StandUpTo}
+use Rattle.xray_image.specs.Table.{ImageReading, NeedsUnits, UnitFault, UnitsStop, StandUpTo}
 use Rattle.xray_image.proofs.Pieces.{OneInstruction}
 use Rattle.xray_image.proofs.UnitPlaces.{IsFront, stuck_at_end, one_front}
 
@@ -46,10 +46,10 @@ module _ (first : OneInstruction) (answer : OneAnswer) (base : ℕ) (code : List
   no_stop fault pieces s whole =
       s.some_left (one_front first base code s.front pieces s.address (base + length code) s.left [] (stop_front fault s) (whole_front pieces whole)).lefts
 
-  pub needs_units_one : (follows : List Piece → Verdict → Type 0) → ((pieces : List Piece) → IsOneWay (follows pieces)) → IsOneWay (NeedsUnits base code follows)
+  pub needs_units_one : (follows : List Piece → ImageReading → Type 0) → ((pieces : List Piece) → IsOneWay (follows pieces)) → IsOneWay (NeedsUnits base code follows)
   needs_units_one follows one = record { same = both }
     where
-      both : (v w : Verdict) → NeedsUnits base code follows v → NeedsUnits base code follows w → v ≡ w
+      both : (v w : ImageReading) → NeedsUnits base code follows v → NeedsUnits base code follows w → v ≡ w
       both v w (inl a) (inl b) = a.2 ∙ ap (λ (f : ImageFault). Err f) (stops_once a.0 b.0 a.1 b.1) ∙ sym b.2
       both v w (inl a) (inr b) = absurd (no_stop a.0 b.0 a.1 b.1)
       both v w (inr a) (inl b) = absurd (no_stop b.0 a.0 b.1 a.1)

@@ -14,8 +14,8 @@ use Rattle.xray_image.specs.Limits.{highest_base, most_code, most_functions, mos
 use Rattle.xray_image.specs.Program.{Program, IsFunction, IsEntryOf, Reaches, BranchReaches, addresses, program_of}
 
 -- what a file reads as: the program that it holds, or the reason why it is refused
-abbrev pub Verdict : Type 0
-Verdict = Result Program ImageFault
+abbrev pub ImageReading : Type 0
+ImageReading = Result Program ImageFault
 
 -- ---- units
 
@@ -60,7 +60,7 @@ pub record UnitsStop (base : ℕ) (code : List ℕ) (fault : ImageFault) : Type 
   pub why : UnitFault (address - base) left fault
 
 -- The units have to be the whole code. The first place where no unit stands decides.
-abbrev pub NeedsUnits : ℕ → List ℕ → (List Piece → Verdict → Type 0) → Verdict → Type 0
+abbrev pub NeedsUnits : ℕ → List ℕ → (List Piece → ImageReading → Type 0) → ImageReading → Type 0
 NeedsUnits base code follows verdict =
     ((fault : ImageFault) × UnitsStop base code fault × (verdict ≡ Err fault))
     ⊎ ((pieces : List Piece) × StandUpTo base code pieces (base + length code) [] × follows pieces verdict)
@@ -94,7 +94,7 @@ place_of_unit base units i = slice_index (addresses units) i - base
 -- ---- the table
 
 -- after the units: the functions, the map's order, its entries, the distances and the branches
-abbrev pub ReadsProgram : List MapEntry → List SledPlace → Program → Verdict → Type 0
+abbrev pub ReadsProgram : List MapEntry → List SledPlace → Program → ImageReading → Type 0
 ReadsProgram entries places program =
     NeedsEach (FunctionIsFit program.base program.units program.functions) (λ i. Is (Err (faults.Names i)))
     (NeedsEach (HasOneAddress places entries) (λ i. Is (Err (faults.MapOrder i)))
@@ -104,7 +104,7 @@ ReadsProgram entries places program =
     (Is (Ok program))))))
 
 -- after the header: the parts, no bytes after them, and the units of the code
-abbrev pub ReadsParts : List ℕ → Verdict → Type 0
+abbrev pub ReadsParts : List ℕ → ImageReading → Type 0
 ReadsParts bytes =
     NeedsPart (parts_of bytes) (Is (Err faults.Short))
     (λ parts. Needs (parts.rest ≡ []) (Is (Err faults.Trailing))
@@ -112,7 +112,7 @@ ReadsParts bytes =
     (λ pieces. ReadsProgram parts.entries (places_from (base_address bytes) pieces) (program_of bytes parts pieces))))
 
 -- What the bytes of a file read as: the program that they hold, or the first refusal of the table.
-abbrev pub ReadsAs : List ℕ → Verdict → Type 0
+abbrev pub ReadsAs : List ℕ → ImageReading → Type 0
 ReadsAs bytes =
     Needs (64 ≤ length bytes) (Is (Err faults.Short))
     (Needs (magic bytes ≡ codes "XRIM") (Is (Err faults.Magic))

@@ -2,7 +2,7 @@
 
 ghost use Rattle.std.specs.Prelude.{◌≡◌, ◌<◌, ◌↔◌, List, ℕ, All, Ok};
 ghost use Rattle.xray_image.specs.{Units.{Piece, IsUnits}, Program.{Program, IsAccepted}};
-ghost use Rattle.xray_image.specs.Table.{Verdict, ReadsAs};
+ghost use Rattle.xray_image.specs.Table.{ImageReading, ReadsAs};
 
 use subset_decode::{one_answer, one_instruction};
 
@@ -23,7 +23,7 @@ pub fn one_reading()
 /// The table of refusals decides each file in at most one way. It accepts exactly the accepted
 /// files, to which none of its rows applies.
 pub fn one_verdict()
-    ensures one { (bytes : List ℕ) (v w : Verdict) → ReadsAs bytes v → ReadsAs bytes w → v ≡ w }
+    ensures one { (bytes : List ℕ) (v w : ImageReading) → ReadsAs bytes v → ReadsAs bytes w → v ≡ w }
     ensures accepted { (bytes : List ℕ) (program : Program)
         → IsAccepted bytes program ↔ ReadsAs bytes (Ok program) }
 {
@@ -34,7 +34,7 @@ pub fn one_verdict()
 /// The table of refusals decides each file, whatever its bytes are. It reads as a program, or it is
 /// refused by the first row that applies. With `one_verdict`, there is exactly one way.
 pub fn some_verdict()
-    ensures { (bytes : List ℕ) → All (λ b. b < 256) bytes → (verdict : Verdict) × ReadsAs bytes verdict }
+    ensures { (bytes : List ℕ) → All (λ b. b < 256) bytes → (verdict : ImageReading) × ReadsAs bytes verdict }
 {
     one_answer();
 }

@@ -6,7 +6,7 @@ use Rattle.xray_io.specs.declared.faults.Failed.{Failed}
 use Rattle.xray_io.specs.declared.faults.ReadError.{ReadError}
 use Rattle.xray_io.specs.declared.faults.ReadError.TheVariants as errors
 use Rattle.xray_io.specs.declared.faults.WriteFault.{WriteFault}
-use Rattle.xray_io.specs.Calls.{Call, Read, Write, Wrote, Went, Composes, went_on}
+use Rattle.xray_io.specs.Calls.{CallMade, Read, Write, Wrote, Went, Composes, went_on}
 use Rattle.xray_io.specs.Faults.{Rose}
 use Rattle.xray_io.specs.Reads.{IsReading, Reads, ReadsUpTo}
 use Rattle.xray_io.specs.Sink.{Adds}
@@ -16,38 +16,38 @@ use Rattle.xray_io.specs.private.Pieces.{IsPiece}
 -- ---- reads
 
 -- reads, and then those that go on
-reads_on : (name : List ℕ) (bound from at to : ℕ) (calls later : List Call) → Reads name bound from at calls → Reads name bound at to later → Reads name bound from to (calls ++ later)
+reads_on : (name : List ℕ) (bound from at to : ℕ) (calls later : List CallMade) → Reads name bound from at calls → Reads name bound at to later → Reads name bound from to (calls ++ later)
 reads_on name bound from at to [] later p q =
     let P : ℕ → Type 0 = λ k. Reads name bound k to later in subst P (sym p) q
 reads_on name bound from at to (Read n start room (Ok got) ∷ calls) later p q =
     (p.0, p.1, p.2, p.3, reads_on name bound (start + got) at to calls later p.4 q)
 reads_on name bound from at to (call ∷ calls) later p q = absurd p
 
-one_read : (name : List ℕ) (bound from room got to : ℕ) (later : List Call) → from + room ≤ bound → 0 < got → to ≡ from + got → later ≡ Read name from room (Ok got) ∷ [] → Reads name bound from to later
+one_read : (name : List ℕ) (bound from room got to : ℕ) (later : List CallMade) → from + room ≤ bound → 0 < got → to ≡ from + got → later ≡ Read name from room (Ok got) ∷ [] → Reads name bound from to later
 one_read name bound from room got to later fits some sum are =
-    let P : List Call → Type 0 = Reads name bound from to in
+    let P : List CallMade → Type 0 = Reads name bound from to in
     subst P (sym are) (refl, refl, fits, some, sym sum)
 
 -- reads up to a byte, and a piece more
-pub reads_more : {S : Type 0} {along : S → S → List Call → Type 0} → Composes along → (first second third : S) (name : List ℕ) (limit from room got to : ℕ)
+pub reads_more : {S : Type 0} {along : S → S → List CallMade → Type 0} → Composes along → (first second third : S) (name : List ℕ) (limit from room got to : ℕ)
     → from + room ≤ limit + 1 → 0 < got → to ≡ from + got
     → Went (along first second) (Reads name (limit + 1) 0 from) → Went (along second third) (IsPiece name limit from room (Ok got)) → Went (along first third) (Reads name (limit + 1) 0 to)
 reads_more {along = along} both first second third name limit from room got to fits some sum went then =
     went_on along both first second third _ _ (Reads name (limit + 1) 0 to) went then
     (λ calls later p q. reads_on name (limit + 1) 0 from to calls later p (one_read name (limit + 1) from room got to later fits some sum q))
 
-up_to : (name : List ℕ) (bound from room : ℕ) (answer : _) (calls later : List Call) → 0 < room → from + room ≤ bound → Reads name bound 0 from calls → later ≡ Read name from room answer ∷ [] → ReadsUpTo name bound from answer (calls ++ later)
+up_to : (name : List ℕ) (bound from room : ℕ) (answer : _) (calls later : List CallMade) → 0 < room → from + room ≤ bound → Reads name bound 0 from calls → later ≡ Read name from room answer ∷ [] → ReadsUpTo name bound from answer (calls ++ later)
 up_to name bound from room answer calls later some fits p is = record {
   earlier = calls;
   room = room;
   reads = p;
   some = some;
   within = fits;
-  last = ap (λ (l : List Call). calls ++ l) is;
+  last = ap (λ (l : List CallMade). calls ++ l) is;
 }
 
 -- reads up to a byte, and then one that gave nothing
-pub reads_end : {S : Type 0} {along : S → S → List Call → Type 0} → Composes along → (first second third : S) (name : List ℕ) (limit from room got : ℕ)
+pub reads_end : {S : Type 0} {along : S → S → List CallMade → Type 0} → Composes along → (first second third : S) (name : List ℕ) (limit from room got : ℕ)
     → 0 < room → from + room ≤ limit + 1 → got ≡ 0
     → Went (along first second) (Reads name (limit + 1) 0 from) → Went (along second third) (IsPiece name limit from room (Ok got))
     → Went (along first third) (ReadsUpTo name (limit + 1) from (Ok 0))
@@ -56,7 +56,7 @@ reads_end {along = along} both first second third name limit from room got some 
     went_on along both first second third _ _ (ReadsUpTo name (limit + 1) from (Ok 0)) went (subst P none then)
     (λ calls later p q. up_to name (limit + 1) from room (Ok 0) calls later some fits p q)
 
-stops : (name : List ℕ) (limit from room : ℕ) (error : ReadError) (calls later : List Call) → 0 < room → from ≤ limit → from + room ≤ limit + 1 → Reads name (limit + 1) 0 from calls → IsPiece name limit from room (Err error) later → IsReading name limit (Err error) (calls ++ later)
+stops : (name : List ℕ) (limit from room : ℕ) (error : ReadError) (calls later : List CallMade) → 0 < room → from ≤ limit → from + room ≤ limit + 1 → Reads name (limit + 1) 0 from calls → IsPiece name limit from room (Err error) later → IsReading name limit (Err error) (calls ++ later)
 stops name limit from room errors.ReadFault calls later some below fits p q = (from, q.0, up_to name (limit + 1) from room (Err q.0) calls later some fits p q.1)
 stops name limit from room errors.TooLong calls later some below fits p (got, up, is) =
     reads_on name (limit + 1) 0 from (limit + 1) calls later p (one_read name (limit + 1) from room got (limit + 1) later fits (omega arith) (sym up) is)
@@ -68,7 +68,7 @@ err_is (Ok value) error is = absurd is
 err_is (Err given) error is = ap Err is
 
 -- reads up to a byte, and then one that failed, or gave too much, or gave more than there is memory for
-pub reads_stop : {S : Type 0} {along : S → S → List Call → Type 0} → Composes along → (first second third : S) (name : List ℕ) (limit from room : ℕ) (error : ReadError)
+pub reads_stop : {S : Type 0} {along : S → S → List CallMade → Type 0} → Composes along → (first second third : S) (name : List ℕ) (limit from room : ℕ) (error : ReadError)
     → 0 < room → from ≤ limit → from + room ≤ limit + 1
     → Went (along first second) (Reads name (limit + 1) 0 from) → Went (along second third) (IsPiece name limit from room (Err error))
     → (answer : Result ℕ ReadError) → IsErrAnd answer (λ e. e ≡ error) → Went (along first third) (IsReading name limit answer)

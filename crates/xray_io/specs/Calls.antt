@@ -4,17 +4,17 @@ use Rattle.xray_io.specs.declared.faults.Failed.{Failed}
 use Rattle.xray_io.specs.declared.faults.ReadFail.{ReadFail}
 
 -- a call of a desk: the name, what was asked of it, and the answer
-pub data Call : Type 0 where
-  Read : (name : List ℕ) → (from room : ℕ) → Result ℕ ReadFail → Call
-  Create : (name : List ℕ) → Result (Unit {0}) Failed → Call
-  Append : (name : List ℕ) → (offered : ℕ) → Result ℕ Failed → Call
+pub data CallMade : Type 0 where
+  Read : (name : List ℕ) → (from room : ℕ) → Result ℕ ReadFail → CallMade
+  Create : (name : List ℕ) → Result (Unit {0}) Failed → CallMade
+  Append : (name : List ℕ) → (offered : ℕ) → Result ℕ Failed → CallMade
 
 -- a write of a sink: how many bytes it was offered, and the answer
 pub data Write : Type 0 where
   Wrote : (offered : ℕ) → Result ℕ Failed → Write
 
 -- a write to a name of a desk
-abbrev pub append_call : List ℕ → Write → Call
+abbrev pub append_call : List ℕ → Write → CallMade
 append_call name (Wrote offered answer) = Append name offered answer
 
 -- Some calls lead from one state to another, and a property holds of these calls.

@@ -2,7 +2,7 @@
 use Rattle.std.specs.Prelude.{◌≡◌, ◌≢◌, ℕ, List, [], map, Option, Some, None, refl}
 use mathlib.Core.Path.{sym, ap, subst, ◌∙◌}
 use mathlib.Core.List.{map-append}
-use Rattle.xray_io.specs.Calls.{Call, Write, append_call, HoldsOfNone, Composes}
+use Rattle.xray_io.specs.Calls.{CallMade, Write, append_call, HoldsOfNone, Composes}
 use Rattle.xray_io.specs.Desk.{Entry, Untold, Absent, Holds}
 use Rattle.xray_io.specs.declared.desk_file.DeskFile.{DeskFile}
 
@@ -55,21 +55,21 @@ writes_both held read_faults first second third p q = record {
 }
 
 -- one name was written to, by these appends
-pub record AppendsAlong {D : Type 0} (held : D → List ℕ → Entry) (read_faults : D → ℕ) (along : D → D → List Call → Type 0)
+pub record AppendsAlong {D : Type 0} (held : D → List ℕ → Entry) (read_faults : D → ℕ) (along : D → D → List CallMade → Type 0)
     (old new : DeskFile D) (writes : List Write) : Type 0 where
   pub on : WritesOn held read_faults old new
   pub calls : along (desk_of old) (desk_of new) (map (append_call (name_of old)) writes)
 
 -- nothing was done
-pub appends_nothing : {D : Type 0} (held : D → List ℕ → Entry) (read_faults : D → ℕ) (along : D → D → List Call → Type 0) → HoldsOfNone along → HoldsOfNone (AppendsAlong held read_faults along)
+pub appends_nothing : {D : Type 0} (held : D → List ℕ → Entry) (read_faults : D → ℕ) (along : D → D → List CallMade → Type 0) → HoldsOfNone along → HoldsOfNone (AppendsAlong held read_faults along)
 appends_nothing held read_faults along none file = record { on = writes_nothing held read_faults file; calls = none (desk_of file) }
 
 -- one name was written to, and then again
-pub appends_both : {D : Type 0} (held : D → List ℕ → Entry) (read_faults : D → ℕ) (along : D → D → List Call → Type 0) → Composes along → Composes (AppendsAlong held read_faults along)
+pub appends_both : {D : Type 0} (held : D → List ℕ → Entry) (read_faults : D → ℕ) (along : D → D → List CallMade → Type 0) → Composes along → Composes (AppendsAlong held read_faults along)
 appends_both held read_faults along both first second third writes later p q = record {
   on = writes_both held read_faults first second third p.on q.on;
   calls =
-      let Way : List Call → Type 0 = along (desk_of first) (desk_of third) in
+      let Way : List CallMade → Type 0 = along (desk_of first) (desk_of third) in
       let To : List ℕ → Type 0 = λ name. along (desk_of second) (desk_of third) (map (append_call name) later) in
       subst Way (sym (map-append (append_call (name_of first)) writes later)) (both _ _ _ _ _ p.calls (subst To p.on.name q.calls));
 }

@@ -5,7 +5,7 @@ use Rattle.std.proofs.Math.Nat.{add-zero, add_assoc, le-add_right, le_trans, lt_
 use Rattle.std.proofs.lemmas.List.{length-append}
 use Rattle.std.specs.BTreeMap.{get_by_text}
 use Rattle.std.specs.declared.alloc.Global.{Global}
-use Rattle.xray_io.specs.Calls.{Call, HoldsOfNone, Composes}
+use Rattle.xray_io.specs.Calls.{CallMade, HoldsOfNone, Composes}
 use Rattle.xray_io.specs.Desk.{Entry, Absent, Holds}
 use Rattle.xray_io.specs.declared.memory.MemDesk.{MemDesk}
 use Rattle.xray_io.specs.declared.memory.MemSink.{MemSink}
@@ -28,7 +28,7 @@ abbrev pub desk_calls : MemDesk → ℕ
 desk_calls desk = desk.calls.made
 
 -- The count of calls went up by one for each of these calls, unless it has come to its last value.
-abbrev pub Counts : MemDesk → MemDesk → List Call → Type 0
+abbrev pub Counts : MemDesk → MemDesk → List CallMade → Type 0
 Counts old new calls = desk_calls new < 2 ^ 64 - 1 → desk_calls new ≡ desk_calls old + length calls
 
 pub counts_none : HoldsOfNone Counts

@@ -3,7 +3,7 @@ use Rattle.std.specs.Prelude.{◌≡◌, ◌≢◌, ◌⊎◌, ℕ, ◌≤◌, L
 use Rattle.std.proofs.Common.{sym, ap, subst, ◌∙◌, inl, inr}
 use Rattle.std.proofs.lemmas.List.{append-nil}
 use Rattle.std.proofs.lemmas.Result.{on_ok_weaker, on_err_weaker}
-use Rattle.xray_io.specs.Calls.{Call, Create, Write, Went, Composes, append_call}
+use Rattle.xray_io.specs.Calls.{CallMade, Create, Write, Went, Composes, append_call}
 use Rattle.xray_io.specs.Desk.{Entry, Untold, Absent, Holds, empty_entry, made_to_hold}
 use Rattle.xray_io.specs.DeskFile.{bytes_held, desk_of, name_of, AppendsAlong}
 use Rattle.xray_io.specs.Sink.{Adds}
@@ -14,19 +14,19 @@ use Rattle.xray_io.specs.declared.faults.Failed.{Failed}
 use Rattle.xray_io.specs.declared.faults.WriteFault.{WriteFault}
 
 -- a name was created, and then this many bytes were put at its end by appends that led to this answer
-pub record Makes (name : List ℕ) (count : ℕ) (answer : Answer) (calls : List Call) : Type 0 where
+pub record Makes (name : List ℕ) (count : ℕ) (answer : Answer) (calls : List CallMade) : Type 0 where
   pub writes : List Write
   pub take : TookWrites count answer writes
   pub are : calls ≡ Create name (Ok tt) ∷ map (append_call name) writes
 
 -- the name couldn't be created, and holds what it held
-pub record CreationFails (name : List ℕ) (old new : Entry) (calls : List Call) : Type 0 where
+pub record CreationFails (name : List ℕ) (old new : Entry) (calls : List CallMade) : Type 0 where
   pub failed : Failed
   pub are : calls ≡ Create name (Err failed) ∷ []
   pub same : new ≡ old
 
 -- the name was created, and then an append failed: it holds a prefix of the bytes
-pub record AppendFails (name bytes : List ℕ) (old new : Entry) (answer : Answer) (calls : List Call) : Type 0 where
+pub record AppendFails (name bytes : List ℕ) (old new : Entry) (answer : Answer) (calls : List CallMade) : Type 0 where
   pub sent : List ℕ
   pub rest : List ℕ
   pub order : bytes ≡ sent ++ rest
@@ -34,13 +34,13 @@ pub record AppendFails (name bytes : List ℕ) (old new : Entry) (answer : Answe
   pub makes : Makes name (length sent) answer calls
 
 -- what the name holds and which calls were made, for each answer
-abbrev pub IsMaking : (name bytes : List ℕ) → (old new : Entry) → Answer → List Call → Type 0
+abbrev pub IsMaking : (name bytes : List ℕ) → (old new : Entry) → Answer → List CallMade → Type 0
 IsMaking name bytes old new (Ok done) calls = (new ≡ made_to_hold old bytes) × Makes name (length bytes) (Ok done) calls
 IsMaking name bytes old new (Err fault) calls = CreationFails name old new calls ⊎ AppendFails name bytes old new (Err fault) calls
 
 -- The name was made to hold these bytes. Nothing else of the desk changed. On Err the last call failed, and was
 -- counted.
-pub record MakesOutput {D : Type 0} (held : D → List ℕ → Entry) (read_faults write_faults : D → ℕ) (along : D → D → List Call → Type 0)
+pub record MakesOutput {D : Type 0} (held : D → List ℕ → Entry) (read_faults write_faults : D → ℕ) (along : D → D → List CallMade → Type 0)
     (old new : D) (name bytes : List ℕ) (answer : Answer) : Type 0 where
   pub went : Went (along old new) (IsMaking name bytes (held old name) (held new name) answer)
   pub others : (other : List ℕ) → other ≢ name → held new other ≡ held old other
@@ -51,7 +51,7 @@ pub record MakesOutput {D : Type 0} (held : D → List ℕ → Entry) (read_faul
 
 -- A text was put at the end of a name, and nothing else of the desk changed. A writer of text does this to the desk of
 -- a `DeskFile`.
-pub record AppendsText {D : Type 0} (held : D → List ℕ → Entry) (read_faults write_faults : D → ℕ) (along : D → D → List Call → Type 0)
+pub record AppendsText {D : Type 0} (held : D → List ℕ → Entry) (read_faults write_faults : D → ℕ) (along : D → D → List CallMade → Type 0)
     (old new : D) (name text : List ℕ) (answer : Answer) : Type 0 where
   pub writes : WritesText (λ desk. bytes_held (held desk name)) write_faults (λ before after writes. along before after (map (append_call name) writes)) old new text answer
   pub there : held old name ≢ Absent → held new name ≢ Absent
@@ -61,7 +61,7 @@ pub record AppendsText {D : Type 0} (held : D → List ℕ → Entry) (read_faul
 -- ---- laws
 
 -- what a writer of text does to a `DeskFile`, as it looks from the desk
-pub appends_text : {D : Type 0} {held : D → List ℕ → Entry} {read_faults write_faults : D → ℕ} {along : D → D → List Call → Type 0}
+pub appends_text : {D : Type 0} {held : D → List ℕ → Entry} {read_faults write_faults : D → ℕ} {along : D → D → List CallMade → Type 0}
     → (old new : DeskFile D) {text : List ℕ} {answer : Answer}
     → WritesText (λ file. bytes_held (held (desk_of file) (name_of file))) (λ file. write_faults (desk_of file)) (AppendsAlong held read_faults along) old new text answer
     → AppendsText held read_faults write_faults along (desk_of old) (desk_of new) (name_of old) text answer
@@ -116,7 +116,7 @@ holds (Holds before) Untold sent there adds = absurd (some_none sent (sym adds.t
 holds (Holds before) Absent sent there adds = absurd (there (held_absent []) refl)
 holds (Holds before) (Holds bytes) sent there adds = ap Holds (same_bytes bytes sent adds.told)
 
-making : {D : Type 0} {held : D → List ℕ → Entry} {read_faults write_faults : D → ℕ} {along : D → D → List Call → Type 0}
+making : {D : Type 0} {held : D → List ℕ → Entry} {read_faults write_faults : D → ℕ} {along : D → D → List CallMade → Type 0}
     → (first second third : D) (name bytes : List ℕ) → held second name ≡ empty_entry (held first name) → (answer : Answer)
     → (text : AppendsText held read_faults write_faults along second third name bytes answer)
     → IsMaking name bytes (held first name) (held third name) answer (Create name (Ok tt) ∷ map (append_call name) text.writes.went.calls)
@@ -139,7 +139,7 @@ making {held = held} first second third name bytes is (Err fault) text =
     })
 
 -- a name was created, and then a text was put at its end
-pub makes_output : {D : Type 0} {held : D → List ℕ → Entry} {read_faults write_faults : D → ℕ} {along : D → D → List Call → Type 0} → Composes along
+pub makes_output : {D : Type 0} {held : D → List ℕ → Entry} {read_faults write_faults : D → ℕ} {along : D → D → List CallMade → Type 0} → Composes along
     → (first second third : D) {name bytes : List ℕ} {answer : Answer} → along first second (Create name (Ok tt) ∷ [])
     → held second name ≡ empty_entry (held first name) → ((other : List ℕ) → other ≢ name → held second other ≡ held first other)
     → read_faults second ≡ read_faults first → write_faults second ≡ write_faults first
@@ -159,7 +159,7 @@ makes_output {held = held} {write_faults = write_faults} both first second third
 }
 
 -- a name couldn't be created
-pub makes_nothing : {D : Type 0} {held : D → List ℕ → Entry} {read_faults write_faults : D → ℕ} {along : D → D → List Call → Type 0}
+pub makes_nothing : {D : Type 0} {held : D → List ℕ → Entry} {read_faults write_faults : D → ℕ} {along : D → D → List CallMade → Type 0}
     → (old new : D) {name bytes : List ℕ} {failed : Failed} {error : WriteFault} → along old new (Create name (Err failed) ∷ [])
     → held new ≡ held old → read_faults new ≡ read_faults old → Rose (write_faults old) (write_faults new) → write_faults old ≤ write_faults new
     → MakesOutput held read_faults write_faults along old new name bytes (Err error)

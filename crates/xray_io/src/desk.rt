@@ -1,6 +1,6 @@
 //! Named inputs and outputs.
 ghost use Rattle.std.specs.Prelude.{◌≡◌, ◌≢◌, ℕ, ◌≤◌, ◌<◌, [], ◌∷◌, List, length, take, drop, IfOk, OnOk, OnErr, IsErrOf};
-ghost use Rattle.xray_io.specs.Calls.{Call, Read, Create, Append, HoldsOfNone, Composes};
+ghost use Rattle.xray_io.specs.Calls.{CallMade, Read, Create, Append, HoldsOfNone, Composes};
 ghost use Rattle.xray_io.specs.Desk.{Entry, Absent, Holds, empty_entry, longer_entry};
 ghost use Rattle.xray_io.specs.Faults.{Rose};
 
@@ -19,7 +19,7 @@ pub trait Desk {
 
     /// These calls, in this order and no others, lead from the first state of the desk to the
     /// second.
-    ghost along: { Self → Self → List Call → Type 0 };
+    ghost along: { Self → Self → List CallMade → Type 0 };
 
     /// Reads bytes of `name` into `buf`, from byte `from` on, counted from 0. Returns how many it
     /// read. They stand at the start of `buf`; the rest of `buf` has no meaning. Fewer bytes than

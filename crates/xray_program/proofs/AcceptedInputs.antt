@@ -1,7 +1,7 @@
 -- If each input of a command is accepted, all is done; and only outcomes of `profile` have status 7.
 use Rattle.std.proofs.Common.{◌≡◌, ◌≢◌, ◌⊎◌, ◌∙◌, ℕ, List, [], length, Option, Some, None, option_map, Result, Ok, Err, ◌∷◌, inl, inr, refl, sym, ap, subst, arith, codes}
 use Rattle.std.specs.Prelude.{⊤}
-use Rattle.audit_check.specs.Statements.{Statement}
+use Rattle.audit_check.specs.Statements.{AuditStatement}
 use Rattle.fdr_file.specs.declared.trace.Trace.{Trace}
 use Rattle.command_words.specs.Limits.{trace_limit}
 use Rattle.command_words.specs.declared.report_options.AccountOptions.{AccountOptions}
@@ -166,21 +166,21 @@ abbrev dump_next : Readable → Outcome → Type 0
 dump_next t outcome = outcome ≡ Done [] (dump_text t.bytes t.len)
 
 -- what is printed is done
-judged_done : (program : Program) (plan : Plan) (statement : Statement) (bytes : List ℕ) → IsDone (Judges program plan statement bytes)
+judged_done : (program : Program) (plan : Plan) (statement : AuditStatement) (bytes : List ℕ) → IsDone (Judges program plan statement bytes)
 judged_done program plan statement bytes outcome judges = ap status_of judges.outcome_is
 
 -- the order of a run is written
-ordered_done : OneOrder → (a f o image : List ℕ) (program : Program) (statement : Statement) (whole : WholeScript) (turns : List Turns)
+ordered_done : OneOrder → (a f o image : List ℕ) (program : Program) (statement : AuditStatement) (whole : WholeScript) (turns : List Turns)
     → IsAccepted image program → IsOrdered program (commands_of whole.plan.lines) statement (Ok turns) → IsDone (Orders a f o program statement whole)
 ordered_done one a f o image program statement whole turns accepted ordered outcome is =
     let same = one image program (commands_of whole.plan.lines) statement is.answer (Ok turns) accepted is.ordered ordered in
     ap status_of (is.outcome_is ∙ ap (order_outcome a f o whole.text) same)
 
 -- what follows the inputs of `check`, one after another
-abbrev check_trace : (List ℕ → Entry) → (t : List ℕ) → Program → Statement → Plan → Outcome → Type 0
+abbrev check_trace : (List ℕ → Entry) → (t : List ℕ) → Program → AuditStatement → Plan → Outcome → Type 0
 check_trace held t program statement plan = Take unread_trace_form Sound held t (λ bytes. Judges program plan statement bytes)
 
-abbrev check_script : (List ℕ → Entry) → (s t : List ℕ) → Program → Statement → Outcome → Type 0
+abbrev check_script : (List ℕ → Entry) → (s t : List ℕ) → Program → AuditStatement → Outcome → Type 0
 check_script held s t program statement =
     Take (script_form program statement.setup.threads) Sound held s (λ plan. check_trace held t program statement plan)
 
@@ -313,7 +313,7 @@ report_not_7 : (form : Form Trace) (held : List ℕ → Entry) (trace : List ℕ
 report_not_7 form held trace names next later =
     take_not_7 form held trace (λ t. TakeNames Sound held names (next t)) (λ t. names_not_7 held names (next t) (later t))
 
-ordered_not_7 : (a f o : List ℕ) (program : Program) (statement : Statement) (whole : WholeScript) → IsNot7 (Orders a f o program statement whole)
+ordered_not_7 : (a f o : List ℕ) (program : Program) (statement : AuditStatement) (whole : WholeScript) → IsNot7 (Orders a f o program statement whole)
 ordered_not_7 a f o program statement whole outcome is = by_answer is.answer is.outcome_is
   where
     by_answer : (answer : Result (List Turns) OrderFault) → outcome ≡ order_outcome a f o whole.text answer → status_of outcome ≢ 7

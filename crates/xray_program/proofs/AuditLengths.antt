@@ -17,7 +17,7 @@ use Rattle.machine_step.specs.Setups.{IsSetup}
 use Rattle.machine_step.specs.Texts.{end_text, line_feed, marks_line}
 use Rattle.trace_flush.specs.Audit.{ThreadAudit, buffers_text, limits_text, recycled_line, setup_lines, stamps_text, thread_line, thread_lines}
 use Rattle.audit_check.specs.private.Marks.{AreRuns, marks_of_runs, marks_part, spaced}
-use Rattle.audit_check.specs.Statements.{HasCounts, MayState, Statement, most_marks, text_of}
+use Rattle.audit_check.specs.Statements.{HasCounts, MayState, AuditStatement, most_marks, text_of}
 use Rattle.audit_check.proofs.RunTexts.{part_of_marks, row_of_part, runs_are, runs_marks}
 use Rattle.xray_program.specs.Inputs.{audit_limit}
 
@@ -177,7 +177,7 @@ threads_short (said ∷ threads) all =
     omega (arith, rest, here, product, length-append (thread_lines said) (flat_map thread_lines threads))
 
 -- an audit is within the limit of `check`
-pub statement_short : (s : Statement) → MayState s → length (text_of s) ≤ audit_limit
+pub statement_short : (s : AuditStatement) → MayState s → length (text_of s) ≤ audit_limit
 statement_short s may =
     let few = may.names.setup_is.few_threads in
     let count = may.names.count in

@@ -1,7 +1,7 @@
 -- The contract of a call, from how it ends.
 use Rattle.std.proofs.Common.{◌≡◌, ◌≢◌, ◌⊎◌, ◌∙◌, ◌++◌, ℕ, List, [], ◌∷◌, Option, Some, None, Result, Ok, Err, inl, inr, refl, sym, ap, subst}
 use Rattle.std.specs.Prelude.{OnOk}
-use Rattle.xray_io.specs.Calls.{Call, Went}
+use Rattle.xray_io.specs.Calls.{CallMade, Went}
 use Rattle.xray_io.specs.Desk.{Entry, Absent}
 use Rattle.xray_io.specs.Faults.{Rose}
 use Rattle.xray_program.specs.Answers.{Answered, IsAnswer, LeavesAll, Says}
@@ -62,7 +62,7 @@ no_turn : (earlier later : List (List ℕ × ℕ)) (input : List ℕ × ℕ) →
 no_turn [] later input e = cc
 no_turn (first ∷ earlier) later input e = cc
 
-none_called : (said : Option Command) (desk desk_now : DeskView) → said ≡ None → (calls : List Call)
+none_called : (said : Option Command) (desk desk_now : DeskView) → said ≡ None → (calls : List CallMade)
     → InOrder said desk desk_now NoMemory calls → IsNoCall calls
 none_called None desk desk_now e calls (inl none) = none
 none_called None desk desk_now e calls (inr (inl (name, at))) = absurd (no_turn at.earlier at.later (name, at.limit) at.turn)
@@ -88,7 +88,7 @@ leaves_all heads said before after outcome outputs text meant is writes = record
 }
 
 -- how the parts of the contract follow, one for each ending
-by_ending : HaveHeadline → (Way : List Call → Type 0) (said : Option Command) (before after : World) (ending : Ending)
+by_ending : HaveHeadline → (Way : List CallMade → Type 0) (said : Option Command) (before after : World) (ending : Ending)
     → (status_at ending ≡ 0 → SaidHasRanges said) → StandsAfter said before.desk after.desk before.out after.out ending → KeepsOthers (outputs_named said) before.desk after.desk
     → Went Way (InOrder said before.desk after.desk ending) → Says before.err after.err (err_line_at ending) → Answered said before after Way (status_at ending)
 by_ending heads Way said before after (With BadLine) ranges (is, nothing) kept order told = record {
@@ -256,7 +256,7 @@ by_ending heads Way said before after NoMemory ranges nothing kept order told = 
 }
 
 -- a call that ended in this way, with its line on err
-pub answered : HaveHeadline → (Way : List Call → Type 0) (said : Option Command) (before after : World) (answer : ℕ) (line : List ℕ)
+pub answered : HaveHeadline → (Way : List CallMade → Type 0) (said : Option Command) (before after : World) (answer : ℕ) (line : List ℕ)
     → (answer ≡ 0 → SaidHasRanges said) → Ends said before.desk after.desk before.out after.out Way answer line → Says before.err after.err line
     → Answered said before after Way answer
 answered heads Way said before after answer line ranges ends says =
@@ -279,7 +279,7 @@ ranges_at (Ok done) ranges none = ranges
 ranges_at (Err stop) ranges none = absurd (stops_above stop none)
 
 -- a call that answers the status of its end, and says its line
-pub answers_its_end : HaveHeadline → {Way : List Call → Type 0} {said : Option Command} {before after : World} {answer : ℕ} (ended : Result (Unit {0}) Stop)
+pub answers_its_end : HaveHeadline → {Way : List CallMade → Type 0} {said : Option Command} {before after : World} {answer : ℕ} (ended : Result (Unit {0}) Stop)
     → Ends said before.desk after.desk before.out after.out Way (answer_of ended) (told_of ended) → OnOk ended (SaidHasRanges said)
     → Says before.err after.err (told_of ended) → answer ≡ answer_of ended → Answered said before after Way answer
 answers_its_end heads {Way = Way} {said = said} {before = before} {after = after} {answer = answer} ended ends ranges says is =

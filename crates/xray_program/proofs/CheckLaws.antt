@@ -1,11 +1,11 @@
 -- `check`: one thing comes of it, and something in any case.
 use Rattle.std.proofs.Common.{◌≡◌, ◌∙◌, ℕ, List, [], refl, sym, ap, codes}
 use Rattle.audit_check.specs.declared.verdict.Verdict.{Verdict}
-use Rattle.audit_check.specs.Statements.{MayState, Statement}
+use Rattle.audit_check.specs.Statements.{MayState, AuditStatement}
 use Rattle.audit_check.specs.Texts.{verdict_text}
 use Rattle.audit_check.specs.Verdicts.{IsJudged}
 use Rattle.command_words.specs.Limits.{trace_limit}
-use Rattle.patch_script.specs.declared.command.Command.{Command}
+use Rattle.patch_script.specs.declared.command.PatchCommand.{PatchCommand}
 use Rattle.patch_script.specs.FaultWords.{script_words}
 use Rattle.patch_script.specs.Plans.{Plan, plan_of}
 use Rattle.patch_script.specs.Refusals.{commands_of}
@@ -22,19 +22,19 @@ use Rattle.xray_program.proofs.InputMeanings.{AnyOutcome, HoldsBytes, IsAlone, I
 -- what the judge of audits says: there is one verdict, for an accepted image
 abbrev pub OneJudgement : Type 0
 OneJudgement =
-    (bytes : List ℕ) (program : Program) (script : List Command) (statement : Statement) (trace : List ℕ) (verdict other : Verdict)
+    (bytes : List ℕ) (program : Program) (script : List PatchCommand) (statement : AuditStatement) (trace : List ℕ) (verdict other : Verdict)
     → IsAccepted bytes program → IsJudged program script statement trace verdict → IsJudged program script statement trace other → verdict ≡ other
 
 abbrev pub SomeJudgement : Type 0
 SomeJudgement =
-    (bytes : List ℕ) (program : Program) (script : List Command) (statement : Statement) (trace : List ℕ)
+    (bytes : List ℕ) (program : Program) (script : List PatchCommand) (statement : AuditStatement) (trace : List ℕ)
     → IsAccepted bytes program → MayState statement → (verdict : Verdict) × IsJudged program script statement trace verdict
 
 -- what comes of a script, of an audit, and of an image
-abbrev pub AfterScript : (List ℕ → Entry) → (t : List ℕ) → Program → Statement → Plan → Outcome → Type 0
+abbrev pub AfterScript : (List ℕ → Entry) → (t : List ℕ) → Program → AuditStatement → Plan → Outcome → Type 0
 AfterScript held t program statement plan = Take unread_trace_form Sound held t (λ bytes. Judges program plan statement bytes)
 
-abbrev pub AfterAudit : (List ℕ → Entry) → (s t : List ℕ) → Program → Statement → Outcome → Type 0
+abbrev pub AfterAudit : (List ℕ → Entry) → (s t : List ℕ) → Program → AuditStatement → Outcome → Type 0
 AfterAudit held s t program statement =
     Take (script_form program statement.setup.threads) Sound held s (λ plan. AfterScript held t program statement plan)
 
@@ -43,7 +43,7 @@ AfterImage held s t a program = Take audit_form Sound held a (λ statement. Afte
 
 -- ---- one thing
 
-one_printed : OneJudgement → (image : List ℕ) (program : Program) (plan : Plan) (statement : Statement) (bytes : List ℕ) → IsAccepted image program
+one_printed : OneJudgement → (image : List ℕ) (program : Program) (plan : Plan) (statement : AuditStatement) (bytes : List ℕ) → IsAccepted image program
     → IsAlone AnyOutcome (Judges program plan statement bytes)
 one_printed one image program plan statement bytes accepted a b sort x y =
     let same = one image program (commands_of plan.lines) statement bytes y.verdict x.verdict accepted y.judged x.judged in
@@ -62,7 +62,7 @@ check_alone is reading one held i s t a told =
 
 -- ---- something in any case
 
-some_printed : SomeJudgement → (image : List ℕ) (program : Program) (plan : Plan) (statement : Statement) (bytes : List ℕ) → IsAccepted image program
+some_printed : SomeJudgement → (image : List ℕ) (program : Program) (plan : Plan) (statement : AuditStatement) (bytes : List ℕ) → IsAccepted image program
     → MayState statement → SomeOutcome (Judges program plan statement bytes)
 some_printed some image program plan statement bytes accepted may =
     let verdict = some image program (commands_of plan.lines) statement bytes accepted may in (

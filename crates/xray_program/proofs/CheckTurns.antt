@@ -1,11 +1,11 @@
 -- `check`: the turns of its four inputs.
 use Rattle.std.proofs.Common.{◌≡◌, ℕ, List, [], ◌∷◌}
-use Rattle.audit_check.specs.Statements.{Statement}
+use Rattle.audit_check.specs.Statements.{AuditStatement}
 use Rattle.command_words.specs.Limits.{trace_limit}
 use Rattle.command_words.specs.Words as words
 use Rattle.patch_script.specs.Plans.{Plan}
 use Rattle.xray_image.specs.Program.{Program}
-use Rattle.xray_io.specs.Calls.{Call, Composes, HoldsOfNone}
+use Rattle.xray_io.specs.Calls.{CallMade, Composes, HoldsOfNone}
 use Rattle.xray_io.specs.Desk.{Entry}
 use Rattle.xray_io.specs.World.{DeskView}
 use Rattle.xray_program.specs.Accepted.{AcceptsInputs}
@@ -25,13 +25,13 @@ Accepts held c = AcceptsInputs held (words.Check c.image.now c.script.now c.trac
 abbrev pub Comes : (List ℕ → Entry) → Check → DeskReads → Outcome → Type 0
 Comes held c reads = CheckComes reads held c.image.now c.script.now c.trace.now c.audit.now
 
-abbrev pub AfterTrace : Program → Statement → Plan → DeskReads → List ℕ → Outcome → Type 0
+abbrev pub AfterTrace : Program → AuditStatement → Plan → DeskReads → List ℕ → Outcome → Type 0
 AfterTrace program statement plan reads bytes = Judges program plan statement bytes
 
-abbrev pub AfterScript : (List ℕ → Entry) → Check → Program → Statement → DeskReads → Plan → Outcome → Type 0
+abbrev pub AfterScript : (List ℕ → Entry) → Check → Program → AuditStatement → DeskReads → Plan → Outcome → Type 0
 AfterScript held c program statement reads plan = Take unread_trace_form reads held c.trace.now (AfterTrace program statement plan reads)
 
-abbrev pub AfterAudit : (List ℕ → Entry) → Check → Program → DeskReads → Statement → Outcome → Type 0
+abbrev pub AfterAudit : (List ℕ → Entry) → Check → Program → DeskReads → AuditStatement → Outcome → Type 0
 AfterAudit held c program reads statement =
     Take (script_form program statement.setup.threads) reads held c.script.now (AfterScript held c program statement reads)
 
@@ -42,7 +42,7 @@ abbrev pub comes_of : CheckInputs → Outcome → Type 0
 comes_of inputs = Judges inputs.image inputs.script inputs.audit inputs.trace
 
 -- what is known before the first input, and after each
-module _ {S : Type 0} {along : S → S → List Call → Type 0} (both : Composes along) (none : HoldsOfNone along) (desk : S → DeskView) (c : Check) (first : S) where
+module _ {S : Type 0} {along : S → S → List CallMade → Type 0} (both : Composes along) (none : HoldsOfNone along) (desk : S → DeskView) (c : Check) (first : S) where
   pub at_first : HasTaken along desk (Comes (desk first).held c) (Comes (desk first).held c) (Accepts (desk first).held c) [] first first
   at_first = no_input desk none (Comes (desk first).held c) (Accepts (desk first).held c) tt first
 
@@ -51,7 +51,7 @@ module _ {S : Type 0} {along : S → S → List Call → Type 0} (both : Compose
       ((c.image.now, image_limit) ∷ []) first now
   after_image program image = one_more both image_form c.image.now (AfterImage (desk first).held c) program at_first image (λ given. (program, given, tt))
 
-  pub after_audit : {mid now : S} (program : Program) (statement : Statement) → Gives along desk image_form c.image.now first mid program
+  pub after_audit : {mid now : S} (program : Program) (statement : AuditStatement) → Gives along desk image_form c.image.now first mid program
       → Gives along desk audit_form c.audit.now mid now statement
       → HasTaken along desk (Comes (desk first).held c) (λ reads. AfterAudit (desk first).held c program reads statement) (Accepts (desk first).held c)
       ((c.image.now, image_limit) ∷ (c.audit.now, audit_limit) ∷ []) first now
@@ -60,7 +60,7 @@ module _ {S : Type 0} {along : S → S → List Call → Type 0} (both : Compose
       (λ given. (program, image.taken, (statement, given, tt)))
 
   -- the script is read for a number of threads that is the audit's
-  pub after_script : {mid late now : S} (program : Program) (statement : Statement) (plan : Plan) {threads : ℕ} → threads ≡ statement.setup.threads
+  pub after_script : {mid late now : S} (program : Program) (statement : AuditStatement) (plan : Plan) {threads : ℕ} → threads ≡ statement.setup.threads
       → Gives along desk image_form c.image.now first mid program → Gives along desk audit_form c.audit.now mid late statement
       → Gives along desk (script_form program threads) c.script.now late now plan
       → HasTaken along desk (Comes (desk first).held c) (λ reads. AfterScript (desk first).held c program statement reads plan) (Accepts (desk first).held c)
@@ -70,7 +70,7 @@ module _ {S : Type 0} {along : S → S → List Call → Type 0} (both : Compose
       one_more both (script_form program statement.setup.threads) c.script.now (AfterScript (desk first).held c program statement) plan (after_audit program statement image audit)
       (turn_of (script_form program) c.script.now same script) (λ given. (program, image.taken, (statement, stated, (plan, given, tt))))
 
-  pub after_trace : {mid late last now : S} (program : Program) (statement : Statement) (plan : Plan) (bytes : List ℕ) {threads : ℕ}
+  pub after_trace : {mid late last now : S} (program : Program) (statement : AuditStatement) (plan : Plan) (bytes : List ℕ) {threads : ℕ}
       → threads ≡ statement.setup.threads → Gives along desk image_form c.image.now first mid program
       → Gives along desk audit_form c.audit.now mid late statement → Gives along desk (script_form program threads) c.script.now late last plan
       → Gives along desk unread_trace_form c.trace.now last now bytes

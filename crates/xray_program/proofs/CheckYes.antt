@@ -1,14 +1,14 @@
 -- What `sim` and `run` leave is accepted by `check`.
 use Rattle.std.proofs.Common.{◌≡◌, ◌≤◌, ◌∙◌, ℕ, List, [], ◌∷◌, length, Option, Some, None, Ok, option_map, inl, inr, refl, sym, ap, subst, codes}
 use Rattle.audit_check.specs.declared.verdict.Verdict.TheVariants.{Yes}
-use Rattle.audit_check.specs.Statements.{MayState, Statement, run_statement, text_of}
+use Rattle.audit_check.specs.Statements.{MayState, AuditStatement, run_statement, text_of}
 use Rattle.audit_check.specs.Texts.{verdict_text}
 use Rattle.audit_check.specs.Verdicts.{IsJudged}
 use Rattle.command_words.specs.Limits.{trace_limit}
 use Rattle.machine_step.specs.Buffers.{spare_of}
 use Rattle.machine_step.specs.declared.setup.Setup.{Setup}
 use Rattle.machine_step.specs.Setups.{IsSetup}
-use Rattle.patch_script.specs.declared.command.Command.{Command}
+use Rattle.patch_script.specs.declared.command.PatchCommand.{PatchCommand}
 use Rattle.patch_script.specs.Plans.{Plan, waiting_line}
 use Rattle.patch_script.specs.Refusals.{Lines, commands_of}
 use Rattle.step_sim.specs.declared.turns.Turns.{Turns}
@@ -37,10 +37,10 @@ use Rattle.xray_program.proofs.LawfulRuns.{is_run, marks_follow}
 pub record YesLaws : Type 0 where
   pub short : (bytes : List ℕ) (program : Program) (setup : Setup) (runs : List ThreadRun) → IsAccepted bytes program → IsSetup setup
       → IsRun program setup runs → AreLost setup.size (spare_of setup) runs → length (trace_bytes setup runs) ≤ trace_limit
-  pub read : (program : Program) (script : List Command) (setup : Setup) (runs : List ThreadRun) → IsSetup setup → IsRun program setup runs
+  pub read : (program : Program) (script : List PatchCommand) (setup : Setup) (runs : List ThreadRun) → IsSetup setup → IsRun program setup runs
       → AllMarksFollow program setup.threads script runs → AreLost setup.size (spare_of setup) runs
       → MayState (run_statement setup runs) × (audit_of_run setup runs ≡ text_of (run_statement setup runs))
-  pub yes : (program : Program) (script : List Command) (setup : Setup) (runs : List ThreadRun) → IsRun program setup runs
+  pub yes : (program : Program) (script : List PatchCommand) (setup : Setup) (runs : List ThreadRun) → IsRun program setup runs
       → AllMarksFollow program setup.threads script runs → AreLost setup.size (spare_of setup) runs
       → IsJudged program script (run_statement setup runs) (trace_bytes setup runs) Yes
 
@@ -118,7 +118,7 @@ module _ (laws : YesLaws) (held : List ℕ → Entry) (i s t a : List ℕ) (setu
       let judges : Judges program plan (run_statement setup runs) (trace_bytes setup runs) (Done [] (verdict_text Yes)) =
       record { verdict = Yes; judged = laws.yes program (commands_of plan.lines) setup runs run follow lost; outcome_is = refl } in
       let yes : Outcome = Done [] (verdict_text Yes) in
-      let statement : Statement = run_statement setup runs in
+      let statement : AuditStatement = run_statement setup runs in
       again image_form held i (AfterImage held s t a) program yes image
       (again audit_form held a (AfterAudit held s t program) statement yes (holding audit_form (held a) (audit_of_run setup runs) statement audit few read)
       (again (script_form program setup.threads) held s (AfterScript held t program statement) plan yes script

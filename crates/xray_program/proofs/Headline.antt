@@ -2,7 +2,7 @@
 use Rattle.std.proofs.Common.{◌≡◌, ◌∙◌, ℕ, List, Option, Some, None, option_map, inl, inr, sym, ap, subst, codes}
 use Rattle.machine_step.specs.declared.setup.Setup.{Setup}
 use Rattle.command_words.specs.declared.profile_options.ProfileOptions.{ProfileOptions}
-use Rattle.patch_script.specs.declared.command.Command.{Command as PatchCommand}
+use Rattle.patch_script.specs.declared.command.PatchCommand.{PatchCommand}
 use Rattle.patch_script.specs.Plans.{Plan, waiting_line}
 use Rattle.patch_script.specs.Refusals.{commands_of}
 use Rattle.step_sim.specs.FaultWords.{waits_words}

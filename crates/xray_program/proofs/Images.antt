@@ -2,16 +2,16 @@
 use Rattle.std.proofs.Common.{◌≡◌, ◌⊎◌, ◌∙◌, ◌↔◌, ℕ, List, Ok, Err, inl, inr, refl, sym, ap}
 use Rattle.xray_image.specs.FaultWords.{image_words}
 use Rattle.xray_image.specs.Program.{Program, IsAccepted}
-use Rattle.xray_image.specs.Table.{Verdict, ReadsAs}
+use Rattle.xray_image.specs.Table.{ImageReading, ReadsAs}
 use Rattle.xray_program.specs.Inputs.{image_form, refused_for}
 use Rattle.xray_program.proofs.InputMeanings.{AreBytes, IsDecided, IsJudged}
 
 -- what the reader of images says: each file has only one verdict, and is accepted exactly when that is a program
 abbrev pub OneVerdict : Type 0
-OneVerdict = (bytes : List ℕ) (v w : Verdict) → ReadsAs bytes v → ReadsAs bytes w → v ≡ w
+OneVerdict = (bytes : List ℕ) (v w : ImageReading) → ReadsAs bytes v → ReadsAs bytes w → v ≡ w
 
 abbrev pub SomeVerdict : Type 0
-SomeVerdict = (bytes : List ℕ) → AreBytes bytes → (verdict : Verdict) × ReadsAs bytes verdict
+SomeVerdict = (bytes : List ℕ) → AreBytes bytes → (verdict : ImageReading) × ReadsAs bytes verdict
 
 abbrev pub Accepts : Type 0
 Accepts = (bytes : List ℕ) (program : Program) → IsAccepted bytes program ↔ ReadsAs bytes (Ok program)
@@ -23,20 +23,20 @@ image_decided one accepts = record {
   not_both = λ bytes a r x y. never a y.0 (one bytes (Ok a) (Err y.0) ((accepts bytes a).0 x) y.1);
 }
   where
-    same_program : (a b : Program) → (let v : Verdict = Ok a in let w : Verdict = Ok b in v ≡ w) → a ≡ b
+    same_program : (a b : Program) → (let v : ImageReading = Ok a in let w : ImageReading = Ok b in v ≡ w) → a ≡ b
     same_program a b e = cc
 
-    never : (a : Program) (f : _) → (let v : Verdict = Ok a in let w : Verdict = Err f in v ≡ w) → ⊥
+    never : (a : Program) (f : _) → (let v : ImageReading = Ok a in let w : ImageReading = Err f in v ≡ w) → ⊥
     never a f e = cc
 
-    same_reason : (r s : List ℕ) (f g : _) → (let v : Verdict = Err f in let w : Verdict = Err g in v ≡ w) → r ≡ refused_for (image_words f)
+    same_reason : (r s : List ℕ) (f g : _) → (let v : ImageReading = Err f in let w : ImageReading = Err g in v ≡ w) → r ≡ refused_for (image_words f)
         → s ≡ refused_for (image_words g) → r ≡ s
     same_reason r s f g e x y = let same : f ≡ g = cc in x ∙ ap (λ h. refused_for (image_words h)) same ∙ sym y
 
 pub image_judged : SomeVerdict → Accepts → IsJudged image_form
 image_judged some accepts bytes all = by_verdict (some bytes all).0 (some bytes all).1
   where
-    by_verdict : (verdict : Verdict) → ReadsAs bytes verdict
+    by_verdict : (verdict : ImageReading) → ReadsAs bytes verdict
         → ((program : Program) × IsAccepted bytes program) ⊎ ((refusal : List ℕ) × image_form.Refuses bytes refusal)
     by_verdict (Ok program) reads = inl (program, (accepts bytes program).1 reads)
     by_verdict (Err fault) reads = inr (refused_for (image_words fault), (fault, reads, refl))

@@ -13,7 +13,7 @@ use Rattle.map_names.specs.declared.fault.MapFault.{MapFault}
 use Rattle.map_names.specs.declared.fault.MapFault.TheVariants as maps
 use Rattle.map_names.specs.declared.naming.MapNames.{MapNames}
 use Rattle.xray_image.specs.FaultWords.{image_words}
-use Rattle.xray_image.specs.Table.{Verdict, ReadsAs}
+use Rattle.xray_image.specs.Table.{ImageReading, ReadsAs}
 use Rattle.xray_image.specs.declared.fault.ImageFault.{ImageFault}
 use Rattle.xray_image.specs.declared.fault.ImageFault.TheVariants as faults
 use Rattle.xray_program.specs.Inputs.{image_form, refused_for}
@@ -36,12 +36,12 @@ few_lines text within =
     omega arith
 
 -- a file that isn't an image is refused for its fault
-pub image_refuses : (bytes : List ℕ) (result : Verdict) → (result ≡ Err faults.NoMemory) ⊎ ReadsAs bytes result
+pub image_refuses : (bytes : List ℕ) (result : ImageReading) → (result ≡ Err faults.NoMemory) ⊎ ReadsAs bytes result
     → IfErr result (λ fault. (refusal : List ℕ) → image_words fault ≡ Some refusal → image_form.Refuses bytes refusal)
 image_refuses bytes (Ok program) reads = tt
 image_refuses bytes (Err fault) (inl wanting) = λ refusal is. absurd (none refusal fault (same fault wanting) is)
   where
-    same : (f : ImageFault) → (let v : Verdict = Err f in let w : Verdict = Err faults.NoMemory in v ≡ w) → f ≡ faults.NoMemory
+    same : (f : ImageFault) → (let v : ImageReading = Err f in let w : ImageReading = Err faults.NoMemory in v ≡ w) → f ≡ faults.NoMemory
     same f e = cc
 
     never : (refusal : List ℕ) → image_words faults.NoMemory ≡ Some refusal → ⊥

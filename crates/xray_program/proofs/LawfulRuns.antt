@@ -6,7 +6,7 @@ use Rattle.machine_step.specs.declared.limits.Limits.{Limits}
 use Rattle.machine_step.specs.declared.setup.Setup.{Setup}
 use Rattle.machine_step.specs.PlainStep.{Passing, PlainRun}
 use Rattle.patch_script.specs.Micros.{hold_of}
-use Rattle.patch_script.specs.declared.command.Command.{Command}
+use Rattle.patch_script.specs.declared.command.PatchCommand.{PatchCommand}
 use Rattle.patch_script.specs.Plans.{Plan}
 use Rattle.patch_script.specs.Refusals.{commands_of}
 use Rattle.step_sim.specs.Replay.{of_thread}
@@ -23,12 +23,12 @@ use Rattle.xray_program.specs.private.CallLaws.{CallLaws}
 use Rattle.xray_program.proofs.RunLoads.{leave_all}
 
 -- the threads that a setup says are a run
-pub is_run : (Lawful : List ThreadRun → (ℕ → List Load) → Type 0) (program : Program) (script : List Command) (setup : Setup) (runs : List ThreadRun)
+pub is_run : (Lawful : List ThreadRun → (ℕ → List Load) → Type 0) (program : Program) (script : List PatchCommand) (setup : Setup) (runs : List ThreadRun)
     → RanLawfully Lawful program script setup.threads setup.limits runs → IsRun program setup runs
 is_run Lawful program script setup runs ran = record { count = ran.count; plain = ran.plain }
 
 -- by loads that tear no sled, threads that have run as their plain runs do execute to their ends
-ran_by : CallLaws → (Lawful : List ThreadRun → (ℕ → List Load) → Type 0) (image : List ℕ) (program : Program) (script : List Command) (threads : ℕ)
+ran_by : CallLaws → (Lawful : List ThreadRun → (ℕ → List Load) → Type 0) (image : List ℕ) (program : Program) (script : List PatchCommand) (threads : ℕ)
     (limits : Limits) (runs : List ThreadRun) → IsAccepted image program → length runs ≡ threads
     → EachThread runs (λ number run. PlainRun program limits number run.passed run.end run.last) → (loads : ℕ → List Load) → Lawful runs loads
     → EachThread runs (λ number run. DecodesWhole program threads number (hold_of number script) run (loads number))
@@ -54,7 +54,7 @@ ran_replayed laws image program plan text turns setup runs accepted reads replay
     (laws.tears program (commands_of plan.lines) text turns setup runs reads replay)
 
 -- threads whose marks follow a script
-pub ran_beside : CallLaws → (image : List ℕ) (program : Program) (script : List Command) (threads : ℕ) (limits : Limits) (runs : List ThreadRun)
+pub ran_beside : CallLaws → (image : List ℕ) (program : Program) (script : List PatchCommand) (threads : ℕ) (limits : Limits) (runs : List ThreadRun)
     → IsAccepted image program → length runs ≡ threads → EachThread runs (λ number run. PlainRun program limits number run.passed run.end run.last)
     → AllMarksFollow program threads script runs → RanBeside program script threads limits runs
 ran_beside laws image program script threads limits runs accepted count plain follow =
@@ -72,7 +72,7 @@ ran_beside laws image program script threads limits runs accepted count plain fo
     })
 
 -- their marks follow it
-pub marks_follow : (program : Program) (script : List Command) (threads : ℕ) (limits : Limits) (runs : List ThreadRun)
+pub marks_follow : (program : Program) (script : List PatchCommand) (threads : ℕ) (limits : Limits) (runs : List ThreadRun)
     → RanBeside program script threads limits runs → AllMarksFollow program threads script runs
 marks_follow program script threads limits runs ran i run found = record {
   loads = ran.loads (i + 1);

@@ -2,7 +2,7 @@
 use Rattle.std.proofs.Common.{◌≡◌, ◌≢◌, ◌∙◌, ℕ, List, [], ◌∷◌, Ok, Err, inl, inr, refl, sym, arith, subst}
 use Rattle.std.proofs.lemmas.List.{append-nil}
 use Rattle.std.proofs.lemmas.List.Elements.{All-from_recursion, All-nil}
-use Rattle.xray_io.specs.Calls.{Call, Composes, Went, went_on}
+use Rattle.xray_io.specs.Calls.{CallMade, Composes, Went, went_on}
 use Rattle.xray_io.specs.Desk.{Entry, made_to_hold}
 use Rattle.xray_io.specs.Faults.{Rose}
 use Rattle.xray_io.specs.Outputs.{IsMaking, MakesOutput}
@@ -19,17 +19,17 @@ none_touched : (old new : List ℕ → Entry) → AreUntouched [] old new
 none_touched old new = All-nil (λ output. new output.0 ≡ old output.0)
 
 -- the only output was made
-pub whole_one : (name bytes : List ℕ) (old new : List ℕ → Entry) (calls : List Call) → IsMaking name bytes (old name) (new name) (Ok tt) calls
+pub whole_one : (name bytes : List ℕ) (old new : List ℕ → Entry) (calls : List CallMade) → IsMaking name bytes (old name) (new name) (Ok tt) calls
     → OutputsAreWhole ((name, bytes) ∷ []) old new
 whole_one name bytes old new calls making =
     All-from_recursion (λ output. new output.0 ≡ made_to_hold (old output.0) output.1) ((name, bytes) ∷ []) (making.0, tt)
 
 -- it failed
-prefix : (name bytes : List ℕ) (old new : Entry) (fault : WriteFault) (calls : List Call) → IsMaking name bytes old new (Err fault) calls → HoldsPrefix old new bytes
+prefix : (name bytes : List ℕ) (old new : Entry) (fault : WriteFault) (calls : List CallMade) → IsMaking name bytes old new (Err fault) calls → HoldsPrefix old new bytes
 prefix name bytes old new fault calls (inl fails) = inl fails.same
 prefix name bytes old new fault calls (inr fails) = inr (fails.sent, fails.rest, fails.order, fails.holds)
 
-pub fails_one : (name bytes : List ℕ) (old new : DeskView) (fault : WriteFault) (calls : List Call)
+pub fails_one : (name bytes : List ℕ) (old new : DeskView) (fault : WriteFault) (calls : List CallMade)
     → IsMaking name bytes (old.held name) (new.held name) (Err fault) calls → Rose old.write_faults new.write_faults
     → FailsAt ((name, bytes) ∷ []) old new name
 fails_one name bytes old new fault calls making rose = record {
@@ -49,12 +49,12 @@ pub keeps_others : (name : List ℕ) (old new : DeskView) → ((other : List ℕ
 keeps_others name old new others other not = others other (λ same. not (0, omega arith, sym same))
 
 -- the calls that made the only output, or that failed to
-pub makes_one : (name bytes : List ℕ) (old new : Entry) (Way : List Call → Type 0) → Went Way (IsMaking name bytes old new (Ok tt))
+pub makes_one : (name bytes : List ℕ) (old new : Entry) (Way : List CallMade → Type 0) → Went Way (IsMaking name bytes old new (Ok tt))
     → Went Way (MakesAll ((name, bytes) ∷ []))
 makes_one name bytes old new Way went =
     record { calls = went.calls; way = went.way; are = (went.calls, [], sym (append-nil went.calls), went.are.1, refl) }
 
-pub unmade_one : (name bytes : List ℕ) (old new : DeskView) (fault : WriteFault) (Way : List Call → Type 0)
+pub unmade_one : (name bytes : List ℕ) (old new : DeskView) (fault : WriteFault) (Way : List CallMade → Type 0)
     → Went Way (IsMaking name bytes (old.held name) (new.held name) (Err fault)) → Went Way (FailsAtOutput ((name, bytes) ∷ []) old new name)
 unmade_one name bytes old new fault Way went = record {
   calls = went.calls;
@@ -76,7 +76,7 @@ unmade_one name bytes old new fault Way went = record {
 -- ---- two outputs, of different names
 
 -- the first failed
-pub fails_first : {D : Type 0} {held : D → List ℕ → Entry} {read_faults write_faults : D → ℕ} {along : D → D → List Call → Type 0}
+pub fails_first : {D : Type 0} {held : D → List ℕ → Entry} {read_faults write_faults : D → ℕ} {along : D → D → List CallMade → Type 0}
     → (old new : D) (name bytes next more : List ℕ) (fault : WriteFault) → name ≢ next
     → MakesOutput held read_faults write_faults along old new name bytes (Err fault)
     → FailsAt ((name, bytes) ∷ (next, more) ∷ []) (desk_view held read_faults write_faults old) (desk_view held read_faults write_faults new) name
@@ -93,7 +93,7 @@ fails_first {held = held} old new name bytes next more fault differ made = recor
 }
 
 -- the second failed
-pub fails_second : {D : Type 0} {held : D → List ℕ → Entry} {read_faults write_faults : D → ℕ} {along : D → D → List Call → Type 0}
+pub fails_second : {D : Type 0} {held : D → List ℕ → Entry} {read_faults write_faults : D → ℕ} {along : D → D → List CallMade → Type 0}
     → (first second third : D) (name bytes next more : List ℕ) (fault : WriteFault) → name ≢ next
     → MakesOutput held read_faults write_faults along first second name bytes (Ok tt)
     → MakesOutput held read_faults write_faults along second third next more (Err fault)
@@ -114,7 +114,7 @@ fails_second {held = held} {write_faults = write_faults} first second third name
 }
 
 -- the calls
-pub makes_two : {D : Type 0} {held : D → List ℕ → Entry} {read_faults write_faults : D → ℕ} {along : D → D → List Call → Type 0} → Composes along
+pub makes_two : {D : Type 0} {held : D → List ℕ → Entry} {read_faults write_faults : D → ℕ} {along : D → D → List CallMade → Type 0} → Composes along
     → (first second third : D) (name bytes next more : List ℕ)
     → MakesOutput held read_faults write_faults along first second name bytes (Ok tt)
     → MakesOutput held read_faults write_faults along second third next more (Ok tt)
@@ -123,7 +123,7 @@ makes_two {along = along} both first second third name bytes next more one other
     went_on along both first second third _ _ (MakesAll ((name, bytes) ∷ (next, more) ∷ [])) one.went other.went
     (λ calls later p q. (calls, later, refl, p.1, (later, [], sym (append-nil later), q.1, refl)))
 
-pub unmade_first : {D : Type 0} {held : D → List ℕ → Entry} {read_faults write_faults : D → ℕ} {along : D → D → List Call → Type 0}
+pub unmade_first : {D : Type 0} {held : D → List ℕ → Entry} {read_faults write_faults : D → ℕ} {along : D → D → List CallMade → Type 0}
     → (old new : D) (name bytes next more : List ℕ) (fault : WriteFault)
     → MakesOutput held read_faults write_faults along old new name bytes (Err fault)
     → Went (along old new) (FailsAtOutput ((name, bytes) ∷ (next, more) ∷ []) (desk_view held read_faults write_faults old)
@@ -145,7 +145,7 @@ unmade_first old new name bytes next more fault made = record {
   };
 }
 
-pub unmade_second : {D : Type 0} {held : D → List ℕ → Entry} {read_faults write_faults : D → ℕ} {along : D → D → List Call → Type 0} → Composes along
+pub unmade_second : {D : Type 0} {held : D → List ℕ → Entry} {read_faults write_faults : D → ℕ} {along : D → D → List CallMade → Type 0} → Composes along
     → (first second third : D) (name bytes next more : List ℕ) (fault : WriteFault) → name ≢ next
     → MakesOutput held read_faults write_faults along first second name bytes (Ok tt)
     → MakesOutput held read_faults write_faults along second third next more (Err fault)

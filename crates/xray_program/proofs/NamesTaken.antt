@@ -8,7 +8,7 @@ use Rattle.map_names.specs.MapNames.{named}
 use Rattle.map_names.specs.Maps.{map_naming}
 use Rattle.map_names.specs.Naming.{Naming, no_names}
 use Rattle.map_names.specs.declared.naming.MapNames.{MapNames}
-use Rattle.xray_io.specs.Calls.{Call, Composes, Went, went_on}
+use Rattle.xray_io.specs.Calls.{CallMade, Composes, Went, went_on}
 use Rattle.xray_io.specs.Desk.{Entry, Untold}
 use Rattle.xray_io.specs.World.{DeskView}
 use Rattle.xray_program.specs.Inputs.{image_form, image_limit, map_form, map_limit}
@@ -74,7 +74,7 @@ names_stop_at comes before mid after (ByMap name) next stop leads same up taken 
 -- ---- the calls
 
 -- the file was read whole, or there is none
-pub names_read : {S : Type 0} (along : S → S → List Call → Type 0) → Composes along → (first second third : S) (earlier : List (List ℕ × ℕ))
+pub names_read : {S : Type 0} (along : S → S → List CallMade → Type 0) → Composes along → (first second third : S) (earlier : List (List ℕ × ℕ))
     (names : NameSource) (taken : TakenNames) → Went (along first second) (ReadsAll earlier)
     → (let result : Result TakenNames Stop = Ok taken in Went (along second third) (AreNamesTaking names result))
     → Went (along first third) (ReadsAll (earlier ++ names_inputs names))
@@ -85,7 +85,7 @@ names_read along both first second third earlier (ByImage name) taken went then 
 names_read along both first second third earlier (ByMap name) taken went then = read_on along both first second third earlier name map_limit went then
 
 -- the stop that a `?` passes on
-pub names_handed : {S Y : Type 0} (along : S → S → List Call → Type 0) → Composes along → (first second third : S) (before after : DeskView)
+pub names_handed : {S Y : Type 0} (along : S → S → List CallMade → Type 0) → Composes along → (first second third : S) (before after : DeskView)
     (earlier : List (List ℕ × ℕ)) (names : NameSource) (result : Result Y Stop) (stop : Stop) (Accepts : ℕ → Type 0)
     → Accepts (length earlier) → IsErrAnd result (λ s. s ≡ stop) → AreNamesTaken names before after (Err stop)
     → Went (along first second) (ReadsAll earlier)

@@ -1,7 +1,7 @@
 -- `order`: one thing comes of it, and something in any case.
 use Rattle.std.proofs.Common.{◌≡◌, ◌⊎◌, ◌∙◌, ℕ, List, Result, inl, inr, refl, sym, ap, ap₂, codes}
-use Rattle.audit_check.specs.Statements.{MayState, Statement}
-use Rattle.patch_script.specs.declared.command.Command.{Command}
+use Rattle.audit_check.specs.Statements.{MayState, AuditStatement}
+use Rattle.patch_script.specs.declared.command.PatchCommand.{PatchCommand}
 use Rattle.patch_script.specs.FaultWords.{script_words}
 use Rattle.patch_script.specs.Plans.{Plan, plan_of}
 use Rattle.patch_script.specs.Refusals.{commands_of}
@@ -21,12 +21,12 @@ use Rattle.xray_program.proofs.InputMeanings.{AnyOutcome, HoldsBytes, IsAlone, I
 -- what orders say: there is one answer to an audit, for an accepted image
 abbrev pub OneOrder : Type 0
 OneOrder =
-    (bytes : List ℕ) (program : Program) (script : List Command) (statement : Statement) (answer other : Result (List Turns) OrderFault)
+    (bytes : List ℕ) (program : Program) (script : List PatchCommand) (statement : AuditStatement) (answer other : Result (List Turns) OrderFault)
     → IsAccepted bytes program → IsOrdered program script statement answer → IsOrdered program script statement other → answer ≡ other
 
 abbrev pub SomeOrder : Type 0
 SomeOrder =
-    (bytes : List ℕ) (program : Program) (script : List Command) (statement : Statement)
+    (bytes : List ℕ) (program : Program) (script : List PatchCommand) (statement : AuditStatement)
     → IsAccepted bytes program → MayState statement → (answer : Result (List Turns) OrderFault) × IsOrdered program script statement answer
 
 -- ---- scripts whose text is kept
@@ -56,7 +56,7 @@ whole_judged program threads bytes all = by_plan (judged_by (codes "script") scr
     by_plan (inr refused) = inr refused
 
 -- what comes of an audit, and of an image
-abbrev pub AfterAudit : (List ℕ → Entry) → (s a f o : List ℕ) → Program → Statement → Outcome → Type 0
+abbrev pub AfterAudit : (List ℕ → Entry) → (s a f o : List ℕ) → Program → AuditStatement → Outcome → Type 0
 AfterAudit held s a f o program statement =
     Take (whole_script_form program statement.setup.threads) Sound held s (λ whole. Orders a f o program statement whole)
 
@@ -65,7 +65,7 @@ AfterImage held s a f o program = Take audit_form Sound held a (λ statement. Af
 
 -- ---- one thing
 
-one_ordered : OneOrder → (a f o image : List ℕ) (program : Program) (statement : Statement) (whole : WholeScript) → IsAccepted image program
+one_ordered : OneOrder → (a f o image : List ℕ) (program : Program) (statement : AuditStatement) (whole : WholeScript) → IsAccepted image program
     → IsAlone AnyOutcome (Orders a f o program statement whole)
 one_ordered one a f o image program statement whole accepted b c sort x y =
     let same = one image program (commands_of whole.plan.lines) statement y.answer x.answer accepted y.ordered x.ordered in
@@ -81,7 +81,7 @@ order_alone is reading one held i s a f o told =
 
 -- ---- something in any case
 
-some_ordered : SomeOrder → (a f o image : List ℕ) (program : Program) (statement : Statement) (whole : WholeScript) → IsAccepted image program
+some_ordered : SomeOrder → (a f o image : List ℕ) (program : Program) (statement : AuditStatement) (whole : WholeScript) → IsAccepted image program
     → MayState statement → SomeOutcome (Orders a f o program statement whole)
 some_ordered some a f o image program statement whole accepted may =
     let answer = some image program (commands_of whole.plan.lines) statement accepted may in

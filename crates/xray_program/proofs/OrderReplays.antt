@@ -3,16 +3,16 @@ use Rattle.std.proofs.Common.{◌≡◌, ◌<◌, ◌≤◌, ◌+◌, ◌-◌, �
 use Rattle.std.specs.Prelude.{slice_get}
 use Rattle.std.proofs.lemmas.Option.{slice_get_within}
 use Rattle.audit_check.specs.declared.fault.AuditFault.{AuditFault}
-use Rattle.audit_check.specs.Reading.{ReadsAs}
-use Rattle.audit_check.specs.Statements.{MayState, Statement}
+use Rattle.audit_check.specs.Reading.{ReadsAsAudit}
+use Rattle.audit_check.specs.Statements.{MayState, AuditStatement}
 use Rattle.machine_step.specs.Buffers.{spare_of}
 use Rattle.machine_step.specs.declared.limits.Limits.{Limits}
 use Rattle.machine_step.specs.declared.setup.Setup.{Setup}
 use Rattle.machine_step.specs.PlainStep.{PlainRun}
-use Rattle.patch_script.specs.declared.command.Command.{Command}
+use Rattle.patch_script.specs.declared.command.PatchCommand.{PatchCommand}
 use Rattle.patch_script.specs.Plans.{Plan, plan_of, waiting_line}
 use Rattle.patch_script.specs.Refusals.{commands_of}
-use Rattle.run_order.specs.Answers.{EndsAgree, IsOrdered, MarksAgree}
+use Rattle.run_order.specs.Answers.{AllEndsAgree, IsOrdered, AllMarksAgree}
 use Rattle.run_order.specs.declared.fault.OrderFault.{OrderFault}
 use Rattle.run_order.specs.FreeScripts.{free_commands, free_text}
 use Rattle.run_order.specs.RunOrders.{IsOrderOf}
@@ -53,11 +53,11 @@ pub record ReplayedOrders : Type 0 where
       → IsOrderOf program setup.threads (commands_of plan.lines) runs schedule
       → (replayed : List ThreadRun) × IsReplayOf program (free_commands (commands_of plan.lines)) schedule setup replayed
       × (without_losses replayed ≡ without_losses runs)
-  pub reads : (bytes : List ℕ) (program : Program) (text : List ℕ) (plan : Plan) (statement : Statement) (schedule : List Turns)
+  pub reads : (bytes : List ℕ) (program : Program) (text : List ℕ) (plan : Plan) (statement : AuditStatement) (schedule : List Turns)
       → IsAccepted bytes program → MayState statement → plan_of program statement.setup.threads text ≡ Ok plan
       → IsOrdered program (commands_of plan.lines) statement (Ok schedule)
       → schedule_of statement.setup.threads (schedule_text schedule) ≡ Ok schedule
-  pub few : (bytes : List ℕ) (program : Program) (text : List ℕ) (plan : Plan) (statement : Statement) (schedule : List Turns)
+  pub few : (bytes : List ℕ) (program : Program) (text : List ℕ) (plan : Plan) (statement : AuditStatement) (schedule : List Turns)
       → IsAccepted bytes program → MayState statement → plan_of program statement.setup.threads text ≡ Ok plan
       → IsOrdered program (commands_of plan.lines) statement (Ok schedule) → length (schedule_text schedule) ≤ 16777216
 
@@ -83,8 +83,8 @@ goes_on None name next outcome e is = is
 goes_on (Some line) name next outcome e is = absurd cc
 
 -- what is stated of a thread whose ends and marks agree
-said_at : (program : Program) (script : List Command) (statement : Statement) (runs : List ThreadRun) → length statement.threads ≡ statement.setup.threads
-    → EndsAgree program script statement runs → MarksAgree program script statement runs → (i : ℕ) (said : ThreadAudit) (run : ThreadRun)
+said_at : (program : Program) (script : List PatchCommand) (statement : AuditStatement) (runs : List ThreadRun) → length statement.threads ≡ statement.setup.threads
+    → AllEndsAgree program script statement runs → AllMarksAgree program script statement runs → (i : ℕ) (said : ThreadAudit) (run : ThreadRun)
     → slice_get statement.threads i ≡ Some said → slice_get runs i ≡ Some run → (said.end ≡ run.end) × (length said.marks ≡ said.passings)
 said_at program script statement runs count ends marks i said run at at' =
     let within = slice_get_within statement.threads i said at in
@@ -97,7 +97,7 @@ said_at program script statement runs count ends marks i said run at at' =
 
 module _ (laws : ReplayedOrders) (after : List ℕ → Entry) (i f o t b : List ℕ) (setup : Setup) where
   -- the script without waits and the schedule are taken again
-  sim_again : (image : List ℕ) (program : Program) (statement : Statement) (text : List ℕ) (plan : Plan) (turns : List Turns)
+  sim_again : (image : List ℕ) (program : Program) (statement : AuditStatement) (text : List ℕ) (plan : Plan) (turns : List Turns)
       → HaveSameThreads setup statement.setup → after i ≡ Holds image → length image ≤ image_limit → IsAccepted image program
       → MayState statement → length text ≤ 1048576
       → plan_of program statement.setup.threads text ≡ Ok plan → IsOrdered program (commands_of plan.lines) statement (Ok turns)
@@ -118,7 +118,7 @@ module _ (laws : ReplayedOrders) (after : List ℕ → Entry) (i f o t b : List 
       let replay = laws.leaves program text plan setup runs turns reads run order in
       let replayed : List ThreadRun = replay.0 in
       let lawful : Replayed program free.0 turns setup replayed =
-      subst (λ (script : List Command). IsReplayOf program script turns setup replayed) (sym free.2) replay.1 in
+      subst (λ (script : List PatchCommand). IsReplayOf program script turns setup replayed) (sym free.2) replay.1 in
       let Are = IsTraced (RanReplayed program free.0 turns setup) setup t b in
       let turns_read : schedule_of setup.threads (schedule_text turns) ≡ Ok turns =
       subst (λ n. schedule_of n (schedule_text turns) ≡ Ok turns) (sym alike.threads) (laws.reads image program text plan statement turns accepted may e ordered) in
@@ -159,8 +159,8 @@ module _ (laws : ReplayedOrders) (after : List ℕ → Entry) (i f o t b : List 
             nothing_lost setup.size (spare_of setup) runs replayed lost losses replay.2 none;
       }
 
-  pub order_replays : (held : List ℕ → Entry) (s a image audit free schedule : List ℕ) (statement : Statement) → held i ≡ Holds image → held a ≡ Holds audit
-      → ReadsAs audit (Ok statement) → HaveSameThreads setup statement.setup → OrderComes Sound held i s a f o (Done ((f, free) ∷ (o, schedule) ∷ []) [])
+  pub order_replays : (held : List ℕ → Entry) (s a image audit free schedule : List ℕ) (statement : AuditStatement) → held i ≡ Holds image → held a ≡ Holds audit
+      → ReadsAsAudit audit (Ok statement) → HaveSameThreads setup statement.setup → OrderComes Sound held i s a f o (Done ((f, free) ∷ (o, schedule) ∷ []) [])
       → after i ≡ held i → after f ≡ Holds free → after o ≡ Holds schedule
       → LeavesRunsOf (SimComes Sound after i f o t b setup) image t b setup statement
   order_replays held s a image audit free schedule statement image_is audit_held audit_reads alike comes image_held free_held schedule_held =
@@ -171,7 +171,7 @@ module _ (laws : ReplayedOrders) (after : List ℕ → Entry) (i f o t b : List 
       let three = taken (whole_script_form program two.0.setup.threads) held s (λ whole. Orders a f o program two.0 whole) left [] two.2 in
       by_statement program one.1 two.0 two.1 three.0 three.1 three.2
     where
-      by_statement : (program : Program) → IsAcceptedAs image_form (held i) program → (said : Statement) → IsAcceptedAs audit_form (held a) said
+      by_statement : (program : Program) → IsAcceptedAs image_form (held i) program → (said : AuditStatement) → IsAcceptedAs audit_form (held a) said
           → (whole : WholeScript) → IsAcceptedAs (whole_script_form program said.setup.threads) (held s) whole
           → Orders a f o program said whole (Done ((f, free) ∷ (o, schedule) ∷ []) [])
           → LeavesRunsOf (SimComes Sound after i f o t b setup) image t b setup statement
@@ -180,7 +180,7 @@ module _ (laws : ReplayedOrders) (after : List ℕ → Entry) (i f o t b : List 
           let accepted : IsAccepted image program = subst (λ (bytes : List ℕ). IsAccepted bytes program) same_image of_image.reads in
           let image_short : length image ≤ image_limit = subst (λ (bytes : List ℕ). length bytes ≤ image_limit) same_image of_image.within in
           let same_bytes : of_audit.bytes ≡ audit = subst (λ (entry : Entry). MayHold entry of_audit.bytes) audit_held of_audit.held in
-          let read : ReadsAs audit (Ok said) = subst (λ (bytes : List ℕ). ReadsAs bytes (Ok said)) same_bytes of_audit.reads in
+          let read : ReadsAsAudit audit (Ok said) = subst (λ (bytes : List ℕ). ReadsAsAudit bytes (Ok said)) same_bytes of_audit.reads in
           let same : said ≡ statement = same_statement said statement (laws.reading audit (Ok said) (Ok statement) read audit_reads) in
           let written = is_written a f o free schedule whole.text orders.answer orders.outcome_is in
           let ordered : IsOrdered program (commands_of whole.plan.lines) said (Ok written.turns) =
@@ -188,10 +188,10 @@ module _ (laws : ReplayedOrders) (after : List ℕ → Entry) (i f o t b : List 
           let reads : plan_of program said.setup.threads whole.text ≡ Ok whole.plan =
           subst (λ (bytes : List ℕ). plan_of program said.setup.threads bytes ≡ Ok whole.plan) (sym of_script.reads.0) of_script.reads.1 in
           let within : length whole.text ≤ 1048576 = subst (λ (bytes : List ℕ). length bytes ≤ 1048576) (sym of_script.reads.0) of_script.within in
-          let alike_said : HaveSameThreads setup said.setup = subst (λ (st : Statement). HaveSameThreads setup st.setup) (sym same) alike in
+          let alike_said : HaveSameThreads setup said.setup = subst (λ (st : AuditStatement). HaveSameThreads setup st.setup) (sym same) alike in
           let leaves = sim_again image program said whole.text whole.plan written.turns alike_said (image_held ∙ image_is) image_short accepted of_audit.reads.0
           within reads ordered (free_held ∙ ap Holds written.free_is) (schedule_held ∙ ap Holds written.schedule_is) in
-          subst (λ (st : Statement). LeavesRunsOf (SimComes Sound after i f o t b setup) image t b setup st) same leaves
+          subst (λ (st : AuditStatement). LeavesRunsOf (SimComes Sound after i f o t b setup) image t b setup st) same leaves
         where
-          same_statement : (x y : Statement) → (let v : Result Statement AuditFault = Ok x in let w : Result Statement AuditFault = Ok y in v ≡ w) → x ≡ y
+          same_statement : (x y : AuditStatement) → (let v : Result AuditStatement AuditFault = Ok x in let w : Result AuditStatement AuditFault = Ok y in v ≡ w) → x ≡ y
           same_statement x y e = cc

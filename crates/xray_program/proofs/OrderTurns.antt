@@ -1,6 +1,6 @@
 -- `order`: the turns of its three inputs, and an audit that has no order.
 use Rattle.std.proofs.Common.{◌≡◌, ◌⊎◌, ◌∙◌, ℕ, List, [], ◌∷◌, Some, None, Result, Ok, Err, inl, inr, ap, refl, subst, sym, codes}
-use Rattle.audit_check.specs.Statements.{Statement}
+use Rattle.audit_check.specs.Statements.{AuditStatement}
 use Rattle.command_words.specs.Words as words
 use Rattle.fault_words.specs.Words.{words_text}
 use Rattle.patch_script.specs.Plans.{Plan}
@@ -11,7 +11,7 @@ use Rattle.run_order.specs.declared.fault.OrderFault.{OrderFault}
 use Rattle.run_order.specs.declared.fault.OrderFault.TheVariants as ordering
 use Rattle.step_sim.specs.declared.turns.Turns.{Turns}
 use Rattle.xray_image.specs.Program.{Program}
-use Rattle.xray_io.specs.Calls.{Call, Composes, HoldsOfNone, Went}
+use Rattle.xray_io.specs.Calls.{CallMade, Composes, HoldsOfNone, Went}
 use Rattle.xray_io.specs.Desk.{Entry}
 use Rattle.xray_io.specs.World.{DeskView, SinkView}
 use Rattle.xray_program.specs.Accepted.{AcceptsInputs}
@@ -36,10 +36,10 @@ Accepts held o = AcceptsInputs held (words.Order o.image.now o.script.now o.audi
 abbrev pub Comes : (List ℕ → Entry) → LoadOrder → DeskReads → Outcome → Type 0
 Comes held o reads = OrderComes reads held o.image.now o.script.now o.audit.now o.free.now o.schedule.now
 
-abbrev pub AfterScript : LoadOrder → Program → Statement → DeskReads → WholeScript → Outcome → Type 0
+abbrev pub AfterScript : LoadOrder → Program → AuditStatement → DeskReads → WholeScript → Outcome → Type 0
 AfterScript o program statement reads whole = Orders o.audit.now o.free.now o.schedule.now program statement whole
 
-abbrev pub AfterAudit : (List ℕ → Entry) → LoadOrder → Program → DeskReads → Statement → Outcome → Type 0
+abbrev pub AfterAudit : (List ℕ → Entry) → LoadOrder → Program → DeskReads → AuditStatement → Outcome → Type 0
 AfterAudit held o program reads statement =
     Take (whole_script_form program statement.setup.threads) reads held o.script.now (AfterScript o program statement reads)
 
@@ -50,7 +50,7 @@ abbrev pub comes_of : LoadOrder → OrderInputs → Outcome → Type 0
 comes_of o inputs = Orders o.audit.now o.free.now o.schedule.now inputs.image inputs.audit inputs.script
 
 -- what is known before the first input, and after each
-module _ {S : Type 0} {along : S → S → List Call → Type 0} (both : Composes along) (none : HoldsOfNone along) (desk : S → DeskView) (c : LoadOrder) (first : S) where
+module _ {S : Type 0} {along : S → S → List CallMade → Type 0} (both : Composes along) (none : HoldsOfNone along) (desk : S → DeskView) (c : LoadOrder) (first : S) where
   pub at_first : HasTaken along desk (Comes (desk first).held c) (Comes (desk first).held c) (Accepts (desk first).held c) [] first first
   at_first = no_input desk none (Comes (desk first).held c) (Accepts (desk first).held c) tt first
 
@@ -59,7 +59,7 @@ module _ {S : Type 0} {along : S → S → List Call → Type 0} (both : Compose
       ((c.image.now, image_limit) ∷ []) first now
   after_image program image = one_more both image_form c.image.now (AfterImage (desk first).held c) program at_first image (λ given. (program, given, tt))
 
-  pub after_audit : {mid now : S} (program : Program) (statement : Statement) → Gives along desk image_form c.image.now first mid program
+  pub after_audit : {mid now : S} (program : Program) (statement : AuditStatement) → Gives along desk image_form c.image.now first mid program
       → Gives along desk audit_form c.audit.now mid now statement
       → HasTaken along desk (Comes (desk first).held c) (λ reads. AfterAudit (desk first).held c program reads statement) (Accepts (desk first).held c)
       ((c.image.now, image_limit) ∷ (c.audit.now, audit_limit) ∷ []) first now
@@ -68,7 +68,7 @@ module _ {S : Type 0} {along : S → S → List Call → Type 0} (both : Compose
       (λ given. (program, image.taken, (statement, given, tt)))
 
   -- the script is read for a number of threads that is the audit's
-  pub after_script : {mid late now : S} (program : Program) (statement : Statement) (whole : WholeScript) {threads : ℕ} → threads ≡ statement.setup.threads
+  pub after_script : {mid late now : S} (program : Program) (statement : AuditStatement) (whole : WholeScript) {threads : ℕ} → threads ≡ statement.setup.threads
       → Gives along desk image_form c.image.now first mid program → Gives along desk audit_form c.audit.now mid late statement
       → Gives along desk (whole_script_form program threads) c.script.now late now whole
       → HasTaken along desk (Comes (desk first).held c) (λ reads. AfterScript c program statement reads whole) (Accepts (desk first).held c)
@@ -90,7 +90,7 @@ is_answer answer turns Is e (inl memory) = absurd (never (sym e ∙ memory))
     never e = cc
 is_answer answer turns Is e (inr is) = subst Is e is
 
-pub is_refused : (program : Program) (plan given : Plan) (statement said : Statement) (answer : Result (List Turns) OrderFault) (fault : OrderFault)
+pub is_refused : (program : Program) (plan given : Plan) (statement said : AuditStatement) (answer : Result (List Turns) OrderFault) (fault : OrderFault)
     → given ≡ plan → said ≡ statement → answer ≡ Err fault → Answers (IsOrdered program (commands_of given.lines) said) answer
     → (fault ≡ ordering.NoMemory) ⊎ IsOrdered program (commands_of plan.lines) statement (Err fault)
 is_refused program plan given statement said answer fault of_plan of_statement e (inl memory) = inl (same (sym e ∙ memory))
@@ -101,8 +101,8 @@ is_refused program plan given statement said answer fault of_plan of_statement e
     inr (rw (sym of_plan, sym of_statement, sym e) is)
 
 -- an audit that has no order is refused, and if memory runs out nothing is written
-pub order_refuses : (a f o : List ℕ) (program : Program) (statement : Statement) (whole : WholeScript) (desk : DeskView) (out : SinkView)
-    (Way : List Call → Type 0) → Went Way IsNoCall → (fault : OrderFault) (stop : Stop)
+pub order_refuses : (a f o : List ℕ) (program : Program) (statement : AuditStatement) (whole : WholeScript) (desk : DeskView) (out : SinkView)
+    (Way : List CallMade → Type 0) → Went Way IsNoCall → (fault : OrderFault) (stop : Stop)
     → (fault ≡ ordering.NoMemory) ⊎ IsOrdered program (commands_of whole.plan.lines) statement (Err fault)
     → IsFaultStop a (codes "audit") (order_words fault) stop → Finishes (Orders a f o program statement whole) desk desk out out Way (Err stop)
 order_refuses a f o program statement whole desk out Way none fault stops.BadLine why is = is

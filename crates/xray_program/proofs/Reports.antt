@@ -7,7 +7,7 @@ use Rattle.fdr_file.specs.Traces.{trace_of}
 use Rattle.map_names.specs.Naming.{Naming}
 use Rattle.trace_words.specs.TraceWords.{trace_words}
 use Rattle.xray_image.specs.Program.{Program}
-use Rattle.xray_io.specs.Calls.{Call, Composes, Went}
+use Rattle.xray_io.specs.Calls.{CallMade, Composes, Went}
 use Rattle.xray_io.specs.Desk.{Entry}
 use Rattle.xray_io.specs.World.{DeskView}
 use Rattle.command_words.specs.Limits.{trace_limit}
@@ -96,7 +96,7 @@ abbrev before_names : List ℕ → ℕ → List (List ℕ × ℕ)
 before_names log limit = (log, limit) ∷ []
 
 -- both gave values
-pub both_read : {X : Type 0} (form : Form X) {S : Type 0} (along : S → S → List Call → Type 0) → Composes along → (first second third : S) (before mid after : DeskView)
+pub both_read : {X : Type 0} (form : Form X) {S : Type 0} (along : S → S → List CallMade → Type 0) → Composes along → (first second third : S) (before mid after : DeskView)
     (log : List ℕ) (names : NameSource) (t : X) (taken : TakenNames) → mid.held ≡ before.held
     → IsAcceptedAs form (before.held log) t → AreNamesTaken names mid after (Ok taken) → Went (along first second) (ReadsAll (before_names log form.limit))
     → (let result : Result TakenNames Stop = Ok taken in Went (along second third) (AreNamesTaking names result))
@@ -108,7 +108,7 @@ both_read form along both first second third before mid after log names t taken 
     (names_read along both first second third (before_names log form.limit) names taken went then)
 
 -- what names functions was a stop
-pub names_stopped : {X : Type 0} (form : Form X) {S Y : Type 0} (along : S → S → List Call → Type 0) → Composes along → (first second third : S) (before after : DeskView)
+pub names_stopped : {X : Type 0} (form : Form X) {S Y : Type 0} (along : S → S → List CallMade → Type 0) → Composes along → (first second third : S) (before after : DeskView)
     (held : List ℕ → Entry) (log : List ℕ) (names : NameSource) (t : X) → IsAcceptedAs form (held log) t
     → (result : Result Y Stop) (stop : Stop) → IsErrAnd result (λ s. s ≡ stop)
     → AreNamesTaken names before after (Err stop) → Went (along first second) (ReadsAll (before_names log form.limit))

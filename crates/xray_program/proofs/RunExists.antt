@@ -5,7 +5,7 @@ use Rattle.std.proofs.lemmas.List.{length-map}
 use Rattle.std.proofs.lemmas.Option.{slice_get-map}
 use Rattle.xray_image.specs.Program.{IsAccepted, Program}
 use Rattle.sled_words.specs.ChangingCode.{LetsEnd}
-use Rattle.patch_script.specs.declared.command.Command.{Command}
+use Rattle.patch_script.specs.declared.command.PatchCommand.{PatchCommand}
 use Rattle.patch_script.specs.Bounds.{bound_of}
 use Rattle.patch_script.specs.CodeAt.{code_at}
 use Rattle.patch_script.specs.Micros.{hold_of, start_of, total_of}
@@ -52,7 +52,7 @@ SomeRuns = (bytes text : List ℕ) (program : Program) (plan : Plan) (setup : Se
 
 -- ---- one thread
 
-record IsBeside (program : Program) (script : List Command) (setup : Setup) (thread : ℕ) (run : ThreadRun) : Type 0 where
+record IsBeside (program : Program) (script : List PatchCommand) (setup : Setup) (thread : ℕ) (run : ThreadRun) : Type 0 where
   plain : PlainRun program setup.limits thread run.passed run.end run.last
   follow : MarksFollowScript program setup.threads script thread (sleds_passed run.passed) run.marks
 
@@ -72,7 +72,7 @@ one_beside ends lets marks bytes text program plan setup thread accepted reads s
 -- ---- all threads
 
 -- the threads from a number on
-abbrev AreBeside : Program → List Command → Setup → ℕ → List ThreadRun → Type 0
+abbrev AreBeside : Program → List PatchCommand → Setup → ℕ → List ThreadRun → Type 0
 AreBeside program script setup number runs =
     (i : ℕ) (run : ThreadRun) → slice_get runs i ≡ Some run → IsBeside program script setup (number + i) run
 
@@ -83,7 +83,7 @@ no_run (suc i) run found = cc
 same_run : (one other : ThreadRun) → ◌≡◌ {A = Option ThreadRun} (Some one) (Some other) → one ≡ other
 same_run one other same = cc
 
-one_before : (program : Program) (script : List Command) (setup : Setup) (number : ℕ) (first : ThreadRun) (runs : List ThreadRun)
+one_before : (program : Program) (script : List PatchCommand) (setup : Setup) (number : ℕ) (first : ThreadRun) (runs : List ThreadRun)
     → IsBeside program script setup number first → AreBeside program script setup (number + 1) runs
     → AreBeside program script setup number (first ∷ runs)
 one_before program script setup number first runs is are zero run found =
@@ -93,7 +93,7 @@ one_before program script setup number first runs is are (suc i) run found =
     let there : number + 1 + i ≡ number + suc i = omega arith in
     subst (λ (t : ℕ). IsBeside program script setup t run) there (are i run found)
 
-all_beside : (program : Program) (script : List Command) (setup : Setup) (number n : ℕ) → 0 < number → number + n ≤ setup.threads + 1
+all_beside : (program : Program) (script : List PatchCommand) (setup : Setup) (number n : ℕ) → 0 < number → number + n ≤ setup.threads + 1
     → ((thread : ℕ) → 0 < thread → thread ≤ setup.threads → (run : ThreadRun) × IsBeside program script setup thread run)
     → (runs : List ThreadRun) × (length runs ≡ n) × AreBeside program script setup number runs
 all_beside program script setup number zero some known one = ([], refl, λ i run found. absurd (no_run i run found))
@@ -105,7 +105,7 @@ all_beside program script setup number (suc n) some known one =
 -- ---- losses
 
 -- whatever the threads lose, they run so
-but_for_losses : (program : Program) (script : List Command) (setup : Setup) (runs others : List ThreadRun)
+but_for_losses : (program : Program) (script : List PatchCommand) (setup : Setup) (runs others : List ThreadRun)
     → without_losses others ≡ without_losses runs → AreBeside program script setup 1 runs → AreBeside program script setup 1 others
 but_for_losses program script setup runs others same are i other found =
     by_run (slice_get runs i) refl
@@ -139,7 +139,7 @@ some_runs ends lets marks losses bytes text program plan setup accepted reads =
       lost.2,
     )
   where
-    at : (script : List Command) (runs : List ThreadRun) → AreBeside program script setup 1 runs → (i : ℕ) (run : ThreadRun)
+    at : (script : List PatchCommand) (runs : List ThreadRun) → AreBeside program script setup 1 runs → (i : ℕ) (run : ThreadRun)
         → slice_get runs i ≡ Some run → IsBeside program script setup (i + 1) run
     at script runs are i run found =
         let next : 1 + i ≡ i + 1 = omega arith in

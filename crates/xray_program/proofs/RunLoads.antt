@@ -3,7 +3,7 @@ use Rattle.std.proofs.Common.{◌≡◌, ◌≢◌, ◌+◌, ◌-◌, ℕ, zero,
 use Rattle.std.specs.Prelude.{All, slice_get}
 use Rattle.xray_image.specs.Program.{Program}
 use Rattle.sled_words.specs.Words.{release_word}
-use Rattle.patch_script.specs.declared.command.Command.{Command}
+use Rattle.patch_script.specs.declared.command.PatchCommand.{PatchCommand}
 use Rattle.patch_script.specs.Micros.{hold_of, total_of}
 use Rattle.machine_step.specs.Loads.{Load, marks_of}
 use Rattle.machine_step.specs.Traced.{sleds_passed}
@@ -47,18 +47,18 @@ chosen P (first ∷ runs) each =
 
 -- the loads of the thread of a run follow a script to its end, leave a mark for each of its passings, and no release word
 -- among them held it
-pub record LeavesMarks (program : Program) (threads : ℕ) (script : List Command) (i : ℕ) (run : ThreadRun) (loads : List Load) : Type 0 where
+pub record LeavesMarks (program : Program) (threads : ℕ) (script : List PatchCommand) (i : ℕ) (run : ThreadRun) (loads : List Load) : Type 0 where
   pub follow : LoadsFollow program threads script (i + 1) (sleds_passed run.passed) loads (total_of program threads script)
   pub each : length run.marks ≡ length (sleds_passed run.passed)
   pub leave : run.marks ≡ marks_of program threads (i + 1) (hold_of (i + 1) script) (sleds_passed run.passed) loads
   pub released : All (λ load. load.word ≡ release_word program (i + 1) → load.value ≢ 0) loads
 
 -- the loads of all threads, by their numbers
-pub record LeaveAll (program : Program) (threads : ℕ) (script : List Command) (runs : List ThreadRun) : Type 0 where
+pub record LeaveAll (program : Program) (threads : ℕ) (script : List PatchCommand) (runs : List ThreadRun) : Type 0 where
   pub loads : ℕ → List Load
   pub are : (i : ℕ) (run : ThreadRun) → slice_get runs i ≡ Some run → LeavesMarks program threads script i run (loads (i + 1))
 
-pub leave_all : (program : Program) (threads : ℕ) (script : List Command) (runs : List ThreadRun)
+pub leave_all : (program : Program) (threads : ℕ) (script : List PatchCommand) (runs : List ThreadRun)
     → ((i : ℕ) (run : ThreadRun) → slice_get runs i ≡ Some run → MarksFollowScript program threads script (i + 1) (sleds_passed run.passed) run.marks)
     → LeaveAll program threads script runs
 leave_all program threads script runs follow = record {

@@ -1,16 +1,16 @@
 -- A run can be replayed: `order` takes its audit, and the replay of the order prints the same text.
 use Rattle.std.proofs.Common.{◌≡◌, ◌≤◌, ◌∙◌, ℕ, List, [], ◌∷◌, length, Result, Ok, Err, inl, inr, refl, sym, ap, subst}
 use Rattle.audit_check.specs.declared.fault.AuditFault.{AuditFault}
-use Rattle.audit_check.specs.Reading.{ReadsAs}
+use Rattle.audit_check.specs.Reading.{ReadsAsAudit}
 use Rattle.audit_check.specs.Rows.{AreRunsOf}
-use Rattle.audit_check.specs.Statements.{MayState, Statement, run_statement, text_of}
+use Rattle.audit_check.specs.Statements.{MayState, AuditStatement, run_statement, text_of}
 use Rattle.audit_check.proofs.LawfulRuns.{runs_stated}
 use Rattle.audit_check.proofs.OneVerdict.{OneEnd, runs_same}
 use Rattle.command_words.specs.declared.run_options.RunOptions.{RunOptions}
 use Rattle.machine_step.specs.Buffers.{spare_of}
 use Rattle.machine_step.specs.declared.setup.Setup.{Setup}
 use Rattle.machine_step.specs.Setups.{IsSetup}
-use Rattle.patch_script.specs.declared.command.Command.{Command}
+use Rattle.patch_script.specs.declared.command.PatchCommand.{PatchCommand}
 use Rattle.patch_script.specs.Plans.{Plan}
 use Rattle.patch_script.specs.Refusals.{commands_of}
 use Rattle.run_order.specs.Answers.{IsOrderOrLong, IsOrdered}
@@ -45,10 +45,10 @@ use Rattle.xray_program.proofs.RunSetups.{options_make_a_setup}
 -- what the crates below say
 pub record RunReplays : Type 0 where
   pub orders : ReplayedOrders
-  pub read : (program : Program) (script : List Command) (setup : Setup) (runs : List ThreadRun) → IsSetup setup → IsRun program setup runs
+  pub read : (program : Program) (script : List PatchCommand) (setup : Setup) (runs : List ThreadRun) → IsSetup setup → IsRun program setup runs
       → AllMarksFollow program setup.threads script runs → AreLost setup.size (spare_of setup) runs
       → MayState (run_statement setup runs) × (audit_of_run setup runs ≡ text_of (run_statement setup runs))
-  pub ordered : (program : Program) (script : List Command) (setup : Setup) (runs : List ThreadRun) → IsRun program setup runs
+  pub ordered : (program : Program) (script : List PatchCommand) (setup : Setup) (runs : List ThreadRun) → IsRun program setup runs
       → AllMarksFollow program setup.threads script runs → AreLost setup.size (spare_of setup) runs
       → (answer : Result (List Turns) OrderFault) × IsOrdered program script (run_statement setup runs) answer × IsOrderOrLong answer
   pub image : (bytes : List ℕ) (one other : Program) → IsAccepted bytes one → IsAccepted bytes other → one ≡ other
@@ -79,7 +79,7 @@ run_of held i s t a setup image trace audit text image_is comes =
     let of_image = one.1 in
     let two = taken (script_form program setup.threads) held s (λ plan. RunsBeside t a setup program plan) left text one.2 in
     let plan : Plan = two.0 in
-    let script : List Command = commands_of plan.lines in
+    let script : List PatchCommand = commands_of plan.lines in
     let traces : IsTraced (RanBeside program script setup.threads setup.limits) setup t a two.2.0 two.2.1 = two.2.2 in
     let same_image : of_image.bytes ≡ image = subst (λ (entry : Entry). MayHold entry of_image.bytes) image_is of_image.held in
     let both = done_same left two.2.0 text two.2.1 two.2.3 in
@@ -132,7 +132,7 @@ module _ (laws : RunReplays) (held after : List ℕ → Entry) (i s t a : List �
   pub ordered_or_long : (f o : List ℕ) → IsOrderedOrLong (OrderComes Sound after i s a f o) a f o
   ordered_or_long f o =
       let program : Program = its.program in
-      let statement : Statement = run_statement setup its.runs in
+      let statement : AuditStatement = run_statement setup its.runs in
       let whole : WholeScript = record { text = its.script.bytes; plan = its.plan } in
       let answer = laws.ordered program (commands_of its.plan.lines) setup its.runs its.run its.follow its.losses in
       let outcome : Outcome = order_outcome a f o whole.text answer.0 in
@@ -176,7 +176,7 @@ module _ (laws : RunReplays) (held after : List ℕ → Entry) (i s t a : List �
         let outputs : List (List ℕ × List ℕ) = written_of u b other made.replayed in
         (outputs, subst (λ (x : List ℕ). SimComes Sound last i f o u b other (Done outputs x)) same made.left)
 
-    pub whole_again : other ≡ setup → (statement : Statement) → ReadsAs audit (Ok statement) → statement.recycled ≡ 0
+    pub whole_again : other ≡ setup → (statement : AuditStatement) → ReadsAsAudit audit (Ok statement) → statement.recycled ≡ 0
         → SimComes Sound last i f o u b other (Done ((u, trace) ∷ (b, audit) ∷ []) text)
     whole_again equal statement reads none =
         let alike : HaveSameThreads other setup = record { threads = ap (λ (x : Setup). x.threads) equal; limits = ap (λ (x : Setup). x.limits) equal } in
@@ -187,7 +187,7 @@ module _ (laws : RunReplays) (held after : List ℕ → Entry) (i s t a : List �
         let lost : AreLost other.size (spare_of other) made.runs =
         subst (λ (rs : List ThreadRun). AreLost other.size (spare_of other) rs) (sym same)
         (subst (λ (x : Setup). AreLost x.size (spare_of x) its.runs) (sym equal) its.losses) in
-        let recycled = ap (λ (st : Statement). st.recycled) (sym read) ∙ none in
+        let recycled = ap (λ (st : AuditStatement). st.recycled) (sym read) ∙ none in
         let replayed : made.replayed ≡ its.runs =
         made.whole equal lost (subst (λ (rs : List ThreadRun). recycled_of rs ≡ 0) (sym same) recycled) ∙ same in
         let outputs : written_of u b other made.replayed ≡ (u, trace) ∷ (b, audit) ∷ [] =
@@ -198,5 +198,5 @@ module _ (laws : RunReplays) (held after : List ℕ → Entry) (i s t a : List �
         subst (λ (x : List ℕ). SimComes Sound last i f o u b other (Done ((u, trace) ∷ (b, audit) ∷ []) x)) same_text
         (subst (λ (os : List (List ℕ × List ℕ)). SimComes Sound last i f o u b other (Done os (state_texts 1 made.runs))) outputs made.left)
       where
-        same_statement : (x y : Statement) → (let v : Result Statement AuditFault = Ok x in let w : Result Statement AuditFault = Ok y in v ≡ w) → x ≡ y
+        same_statement : (x y : AuditStatement) → (let v : Result AuditStatement AuditFault = Ok x in let w : Result AuditStatement AuditFault = Ok y in v ≡ w) → x ≡ y
         same_statement x y e = cc

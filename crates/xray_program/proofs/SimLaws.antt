@@ -1,7 +1,7 @@
 -- `sim`: one thing comes of it, and something in any case.
 use Rattle.std.proofs.Common.{◌≡◌, ◌∙◌, ℕ, List, Option, Some, None, Ok, option_map, refl, sym, ap, codes}
 use Rattle.machine_step.specs.declared.setup.Setup.{Setup}
-use Rattle.patch_script.specs.declared.command.Command.{Command}
+use Rattle.patch_script.specs.declared.command.PatchCommand.{PatchCommand}
 use Rattle.patch_script.specs.FaultWords.{script_words}
 use Rattle.patch_script.specs.Plans.{Plan, plan_of, waiting_line}
 use Rattle.patch_script.specs.Refusals.{Lines, commands_of}
@@ -24,11 +24,11 @@ use Rattle.xray_program.proofs.LawfulRuns.{ran_replayed}
 
 -- what replays say: a schedule leaves only one list of runs, and it leaves runs if nothing waits
 abbrev pub OneRun : Type 0
-OneRun = (bytes : List ℕ) (program : Program) (script : List Command) (schedule : List Turns) (setup : Setup) (runs others : List ThreadRun)
+OneRun = (bytes : List ℕ) (program : Program) (script : List PatchCommand) (schedule : List Turns) (setup : Setup) (runs others : List ThreadRun)
     → IsAccepted bytes program → IsReplayOf program script schedule setup runs → IsReplayOf program script schedule setup others → runs ≡ others
 
 abbrev pub StillRun : Type 0
-StillRun = (bytes : List ℕ) (program : Program) (script : List Command) (schedule : List Turns) (setup : Setup) (lines : Lines)
+StillRun = (bytes : List ℕ) (program : Program) (script : List PatchCommand) (schedule : List Turns) (setup : Setup) (lines : Lines)
     → IsAccepted bytes program → script ≡ commands_of lines → waiting_line lines ≡ None
     → (runs : List ThreadRun) × IsReplayOf program script schedule setup runs
 

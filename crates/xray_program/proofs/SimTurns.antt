@@ -8,7 +8,7 @@ use Rattle.step_sim.specs.declared.sim_fault.SimFault.{SimFault}
 use Rattle.step_sim.specs.declared.sim_fault.SimFault.TheVariants as replaying
 use Rattle.step_sim.specs.declared.turns.Turns.{Turns}
 use Rattle.xray_image.specs.Program.{Program}
-use Rattle.xray_io.specs.Calls.{Call, Composes, HoldsOfNone, Went}
+use Rattle.xray_io.specs.Calls.{CallMade, Composes, HoldsOfNone, Went}
 use Rattle.xray_io.specs.Desk.{Entry}
 use Rattle.xray_io.specs.World.{DeskView, SinkView}
 use Rattle.command_words.specs.Words as words
@@ -53,7 +53,7 @@ abbrev pub comes_of : Sim → SimInputs → Outcome → Type 0
 comes_of sim inputs = AfterSchedule sim inputs.image inputs.script Sound inputs.schedule
 
 -- what is known before the first input, and after each
-module _ {S : Type 0} {along : S → S → List Call → Type 0} (both : Composes along) (none : HoldsOfNone along) (desk : S → DeskView) (c : Sim) (first : S) where
+module _ {S : Type 0} {along : S → S → List CallMade → Type 0} (both : Composes along) (none : HoldsOfNone along) (desk : S → DeskView) (c : Sim) (first : S) where
   pub at_first : HasTaken along desk (Comes (desk first).held c) (Comes (desk first).held c) (Accepts (desk first).held c) [] first first
   at_first = no_input desk none (Comes (desk first).held c) (Accepts (desk first).held c) tt first
 
@@ -82,7 +82,7 @@ module _ {S : Type 0} {along : S → S → List Call → Type 0} (both : Compose
 
 -- a script that waits is refused, and if memory runs out nothing is written
 pub sim_refuses : (s t a : List ℕ) (setup : Setup) (program : Program) (plan : Plan) (turns : List Turns) (desk : DeskView) (out : SinkView)
-    (Way : List Call → Type 0) → Went Way IsNoCall → (fault : SimFault) (stop : Stop) → ((line : ℕ) → fault ≡ replaying.Waits line → waiting_line plan.lines ≡ Some line)
+    (Way : List CallMade → Type 0) → Went Way IsNoCall → (fault : SimFault) (stop : Stop) → ((line : ℕ) → fault ≡ replaying.Waits line → waiting_line plan.lines ≡ Some line)
     → IsFaultStop s (codes "script") (sim_words fault) stop → Finishes (Replays s t a setup program plan turns) desk desk out out Way (Err stop)
 sim_refuses s t a setup program plan turns desk out Way none fault stops.BadLine waits is = is
 sim_refuses s t a setup program plan turns desk out Way none fault (stops.Unread n) waits is = is

@@ -9,7 +9,7 @@ use Rattle.xray_io.specs.Rows.{◌>>=◌, First, InTurn}
 use Rattle.text_lines.specs.Lines.{numbered_lines}
 use Rattle.text_lines.specs.Words.{is_clean, words_of}
 use Rattle.xray_image.specs.Program.{Program}
-use Rattle.patch_script.specs.declared.command.Command.{Command}
+use Rattle.patch_script.specs.declared.command.PatchCommand.{PatchCommand}
 use Rattle.patch_script.specs.declared.fault.ScriptFault.{ScriptFault}
 use Rattle.patch_script.specs.declared.fault.ScriptFault.TheVariants as faults
 use Rattle.patch_script.specs.Language.{command_of}
@@ -48,7 +48,7 @@ no_words : {X : Type 0} (x : X) (xs : List X) → (length (x ∷ xs) == 0) ≡ t
 no_words x xs is = let none : length (x ∷ xs) ≡ 0 = eqb-true (length (x ∷ xs)) 0 is in absurd (omega (arith, none))
 
 module _ (program : Program) (threads : ℕ) where
-  judged_adds : (before : Lines) (number : ℕ) (command : Command) (after : Lines) → judged program threads before number command ≡ Ok after
+  judged_adds : (before : Lines) (number : ℕ) (command : PatchCommand) (after : Lines) → judged program threads before number command ≡ Ok after
       → before ++ (number, command) ∷ [] ≡ after
   judged_adds before number command after is =
       six (names_no_function program command) (names_no_thread threads command) (is_misplaced (commands_of before) command)
@@ -56,18 +56,18 @@ module _ (program : Program) (threads : ℕ) where
       (faults.Function number) (faults.Thread number) (faults.Go number) (faults.Hold number) (faults.Log number) (faults.SelfWait number)
       (before ++ (number, command) ∷ []) after is
 
-  spoken_adds : (before : Lines) (number : ℕ) (said : Option Command) (after : Lines) → spoken program threads before number said ≡ Ok after
-      → (later : List Command) → commands_of after ++ later ≡ commands_of before ++ cons_option said later
+  spoken_adds : (before : Lines) (number : ℕ) (said : Option PatchCommand) (after : Lines) → spoken program threads before number said ≡ Ok after
+      → (later : List PatchCommand) → commands_of after ++ later ≡ commands_of before ++ cons_option said later
   spoken_adds before number None after is later = absurd cc
   spoken_adds before number (Some command) after is later =
       let same = judged_adds before number command after is in
       ap (λ (ls : Lines). commands_of ls ++ later) (sym same)
-      ∙ ap (λ (cs : List Command). cs ++ later) (map-append (λ (l : ℕ × Command). l.1) before ((number, command) ∷ []))
+      ∙ ap (λ (cs : List PatchCommand). cs ++ later) (map-append (λ (l : ℕ × PatchCommand). l.1) before ((number, command) ∷ []))
       ∙ append_assoc (commands_of before) (command ∷ []) later
 
   words_add : (before : Lines) (number : ℕ) (words : List (List ℕ)) (blank full clean : Bool) (after : Lines) → blank ≡ (length words == 0)
       → First blank (Ok before) (First full (Err (faults.Limit number)) (spoken program threads before number (if clean then command_of words else None))) ≡ Ok after
-      → (later : List Command) → commands_of after ++ later ≡ commands_of before ++ cons_option (command_of words) later
+      → (later : List PatchCommand) → commands_of after ++ later ≡ commands_of before ++ cons_option (command_of words) later
   words_add before number [] true full clean after blank is later = ap (λ (ls : Lines). commands_of ls ++ later) (sym (same_Ok before after is))
   words_add before number (word ∷ words) true full clean after blank is later = absurd (no_words word words (sym blank))
   words_add before number words false true clean after blank is later = absurd cc
@@ -75,7 +75,7 @@ module _ (program : Program) (threads : ℕ) where
   words_add before number words false false false after blank is later = absurd cc
 
   line_adds : (before : Lines) (number : ℕ) (line : List ℕ) (after : Lines) → with_line program threads before (number, line) ≡ Ok after
-      → (later : List Command) → commands_of after ++ later ≡ commands_of before ++ cons_option (command_of (words_of line)) later
+      → (later : List PatchCommand) → commands_of after ++ later ≡ commands_of before ++ cons_option (command_of (words_of line)) later
   line_adds before number line after is later =
       words_add before number (words_of line) (length (words_of line) == 0) (nat_le most_commands (length before)) (is_clean line) after refl is later
 

@@ -5,7 +5,7 @@ use Rattle.std.specs.Prelude.{Bool}
 use Rattle.command_words.specs.Words.{Command, Profile, Run}
 use Rattle.command_words.specs.declared.profile_options.ProfileOptions.{ProfileOptions}
 use Rattle.command_words.specs.declared.run_options.RunOptions.{RunOptions}
-use Rattle.xray_io.specs.Calls.{Call}
+use Rattle.xray_io.specs.Calls.{CallMade}
 use Rattle.xray_io.specs.World.{DeskView, SinkView}
 use Rattle.xray_program.specs.Answers.{IsUnwriting}
 use Rattle.xray_program.specs.Started.{StartsLate}
@@ -23,7 +23,7 @@ writes_something n a b c d e (inr (inr (inr (inr x)))) = e x
 
 -- what is delivered is written
 pub delivers_something : (outputs : List (List ℕ × List ℕ)) (text : List ℕ) (trouble : Option (List ℕ)) (desk desk_now : DeskView) (out out_now : SinkView)
-    (Way : List Call → Type 0) (result : Result (Unit {0}) Stop) → Delivers outputs text trouble desk desk_now out out_now Way result
+    (Way : List CallMade → Type 0) (result : Result (Unit {0}) Stop) → Delivers outputs text trouble desk desk_now out out_now Way result
     → IsUnwriting (answer_of result) → ⊥
 delivers_something outputs text trouble desk desk_now out out_now Way (Ok done) does =
     writes_something 0 (λ x. cc) (λ x. cc) (λ x. cc) (λ x. cc) (λ x. cc)

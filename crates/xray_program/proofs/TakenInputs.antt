@@ -1,7 +1,7 @@
 -- Inputs that are taken one after another.
 use Rattle.std.specs.Prelude.{IsErrAnd, OnOk, ⊤}
 use Rattle.std.proofs.Common.{◌≡◌, ◌++◌, ◌∙◌, ◌≤◌, ℕ, List, [], ◌∷◌, length, Result, Ok, Err, refl, sym, subst, le_refl}
-use Rattle.xray_io.specs.Calls.{Call, Composes, HoldsOfNone, Went}
+use Rattle.xray_io.specs.Calls.{CallMade, Composes, HoldsOfNone, Went}
 use Rattle.xray_io.specs.Desk.{Entry}
 use Rattle.xray_io.specs.World.{DeskView}
 use Rattle.xray_program.specs.Accepted.{AcceptsInput}
@@ -14,7 +14,7 @@ use Rattle.xray_program.proofs.CallOrder.{all_taken, no_reads, only_taking, read
 use Rattle.xray_program.proofs.Turns.{Leads, later_stop, leads, leads_on, only_taken}
 
 -- Some inputs gave values between two states of a desk. What follows from these values comes of the command.
-pub record HasTaken {S : Type 0} (along : S → S → List Call → Type 0) (desk : S → DeskView) (comes next : DeskReads → Outcome → Type 0)
+pub record HasTaken {S : Type 0} (along : S → S → List CallMade → Type 0) (desk : S → DeskView) (comes next : DeskReads → Outcome → Type 0)
     (Accepts : (count : ℕ) → Type 0) (inputs : List (List ℕ × ℕ)) (first now : S) : Type 0 where
   pub leads : Leads comes next
   pub accepted : Accepts (length inputs)
@@ -24,12 +24,12 @@ pub record HasTaken {S : Type 0} (along : S → S → List Call → Type 0) (des
   pub calm : (desk now).read_faults ≡ (desk first).read_faults
 
 -- the turn of an input gave a value
-abbrev pub Gives : {S X : Type 0} → (S → S → List Call → Type 0) → (desk : S → DeskView) → Form X → (name : List ℕ) → (now after : S) → X → Type 0
+abbrev pub Gives : {S X : Type 0} → (S → S → List CallMade → Type 0) → (desk : S → DeskView) → Form X → (name : List ℕ) → (now after : S) → X → Type 0
 Gives {X = X} along desk form name now after value =
     (let turn : Result X Stop = Ok value in TakesInput form name (desk now) (desk after) (along now after) turn)
 
 -- none yet
-pub no_input : {S : Type 0} {along : S → S → List Call → Type 0} (desk : S → DeskView) → HoldsOfNone along → (comes : DeskReads → Outcome → Type 0)
+pub no_input : {S : Type 0} {along : S → S → List CallMade → Type 0} (desk : S → DeskView) → HoldsOfNone along → (comes : DeskReads → Outcome → Type 0)
     (Accepts : ℕ → Type 0) → Accepts 0 → (first : S) → HasTaken along desk comes comes Accepts [] first first
 no_input {along = along} desk none comes Accepts accepted first =
     record { leads = leads comes; accepted = accepted; went = no_reads along none first; held = refl; writes = refl; calm = refl }
@@ -39,14 +39,14 @@ pub accepted_first : {X : Type 0} (form : Form X) (name : List ℕ) {held mid : 
     → IsAcceptedAs form (mid name) value → IsAcceptedAs form (held name) value
 accepted_first form name {value = value} = subst (λ (h : List ℕ → Entry). IsAcceptedAs form (h name) value)
 
-pub given_first : {S X : Type 0} {along : S → S → List Call → Type 0} {desk : S → DeskView} {comes next : DeskReads → Outcome → Type 0}
+pub given_first : {S X : Type 0} {along : S → S → List CallMade → Type 0} {desk : S → DeskView} {comes next : DeskReads → Outcome → Type 0}
     {Accepts : ℕ → Type 0} {inputs : List (List ℕ × ℕ)} {first now : S} (form : Form X) (name : List ℕ) (value : X)
     → HasTaken along desk comes next Accepts inputs first now → IsAcceptedAs form ((desk now).held name) value
     → IsAcceptedAs form ((desk first).held name) value
 given_first form name value so_far = accepted_first form name so_far.held
 
 -- one more
-pub one_more : {S X : Type 0} {along : S → S → List Call → Type 0} {desk : S → DeskView} {comes : DeskReads → Outcome → Type 0}
+pub one_more : {S X : Type 0} {along : S → S → List CallMade → Type 0} {desk : S → DeskView} {comes : DeskReads → Outcome → Type 0}
     {Accepts : ℕ → Type 0} {inputs : List (List ℕ × ℕ)} {first now after : S} → Composes along → (form : Form X) (name : List ℕ)
     (next : DeskReads → X → Outcome → Type 0) (value : X)
     → HasTaken along desk comes (λ reads. Take form reads (desk first).held name (next reads)) Accepts inputs first now
@@ -65,7 +65,7 @@ one_more {along = along} {desk = desk} {comes = comes} {inputs = inputs} {first 
     }
 
 -- one was a stop, which a `?` passes on
-pub one_stopped : {S X Y : Type 0} {along : S → S → List Call → Type 0} {desk : S → DeskView} {comes : DeskReads → Outcome → Type 0}
+pub one_stopped : {S X Y : Type 0} {along : S → S → List CallMade → Type 0} {desk : S → DeskView} {comes : DeskReads → Outcome → Type 0}
     {Accepts : ℕ → Type 0} {earlier : List (List ℕ × ℕ)} {first now after : S} → Composes along → (form : Form X) (name : List ℕ)
     (next : DeskReads → X → Outcome → Type 0) (yields : Y → Outcome → Type 0) (inputs later : List (List ℕ × ℕ)) (result : Result Y Stop)
     (stop : Stop) → IsErrAnd result (λ s. s ≡ stop)
@@ -89,7 +89,7 @@ one_stopped {Y = Y} {along = along} {desk = desk} {comes = comes} {Accepts = Acc
     since = subst (λ (n : ℕ). (desk first).read_faults ≤ n) (sym so_far.calm) (le_refl _)
 
 -- all gave values
-pub all_given : {S Y : Type 0} {along : S → S → List Call → Type 0} {desk : S → DeskView} {comes next : DeskReads → Outcome → Type 0}
+pub all_given : {S Y : Type 0} {along : S → S → List CallMade → Type 0} {desk : S → DeskView} {comes next : DeskReads → Outcome → Type 0}
     {Accepts : ℕ → Type 0} {inputs : List (List ℕ × ℕ)} {first now : S} (yields : Y → Outcome → Type 0) (values : Y)
     → HasTaken along desk comes next Accepts inputs first now → ((reads : DeskReads) (outcome : Outcome) → yields values outcome → next reads outcome)
     → (let result : Result Y Stop = Ok values in TakesAll comes yields Accepts inputs (desk first) (desk now) (along first now) result)
@@ -103,7 +103,7 @@ all_given {desk = desk} {first = first} yields values so_far follows = record {
 }
 
 -- the turn of an input whose form is of a number that equals another
-pub turn_of : {X : Type 0} (form : ℕ → Form X) (name : List ℕ) {n m : ℕ} {before after : DeskView} {Way : List Call → Type 0} {result : Result X Stop}
+pub turn_of : {X : Type 0} (form : ℕ → Form X) (name : List ℕ) {n m : ℕ} {before after : DeskView} {Way : List CallMade → Type 0} {result : Result X Stop}
     → n ≡ m → TakesInput (form n) name before after Way result → TakesInput (form m) name before after Way result
 turn_of form name {before = before} {after = after} {Way = Way} {result = result} =
     subst (λ (k : ℕ). TakesInput (form k) name before after Way result)
@@ -114,7 +114,7 @@ no_value Calm (Ok values) stop is = absurd is
 no_value Calm (Err s) stop is = tt
 
 -- what the turns say of the inputs says something else of them
-pub turns_as : {X Taken As : Type 0} {Calls Way : List Call → Type 0} {before after : DeskView} {result : Result X Stop}
+pub turns_as : {X Taken As : Type 0} {Calls Way : List CallMade → Type 0} {before after : DeskView} {result : Result X Stop}
     → TakesInputs Taken Calls before after Way result → (Taken → As) → TakesInputs As Calls before after Way result
 turns_as turns says = record {
   taken = says turns.taken;
@@ -126,7 +126,7 @@ turns_as turns says = record {
 }
 
 -- the only input of a command
-pub only_input : {X : Type 0} {Way : List Call → Type 0} (form : Form X) (name : List ℕ) (next : X → Outcome → Type 0) (before after : DeskView)
+pub only_input : {X : Type 0} {Way : List CallMade → Type 0} (form : Form X) (name : List ℕ) (next : X → Outcome → Type 0) (before after : DeskView)
     (result : Result X Stop) → TakesInput form name before after Way result
     → TakesAll (λ reads. Take form reads before.held name next) next (AcceptsInput form before.held name (λ value later. ⊤)) ((name, form.limit) ∷ [])
     before after Way result

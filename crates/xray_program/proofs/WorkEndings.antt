@@ -3,7 +3,7 @@ use Rattle.std.specs.Prelude.{IsErrAnd}
 use Rattle.std.proofs.Common.{◌≡◌, ◌+◌, ◌++◌, ◌∙◌, ℕ, List, length, Option, Some, None, Result, Ok, Err, inl, inr, refl, sym, ap, subst}
 use Rattle.std.proofs.lemmas.List.{append-nil}
 use Rattle.fault_words.specs.Words.{words_text}
-use Rattle.xray_io.specs.Calls.{Call, Composes, Went, went_on}
+use Rattle.xray_io.specs.Calls.{CallMade, Composes, Went, went_on}
 use Rattle.xray_io.specs.Desk.{Entry}
 use Rattle.xray_io.specs.Faults.{Rose}
 use Rattle.xray_program.specs.Commands.{Comes, inputs_of}
@@ -27,7 +27,7 @@ use Rattle.xray_program.specs.declared.stop.Stop.TheVariants as stops
 
 -- an output was a stop
 pub output_stops : (outputs : List (List ℕ × List ℕ)) (text : List ℕ) (trouble : Option (List ℕ)) (desk desk_now : DeskView) (out : SinkView)
-    (Way : List Call → Type 0) (result : Result (Unit {0}) Stop) (stop : Stop) → IsErrAnd result (λ s. s ≡ stop) → StopsOutputs outputs desk desk_now stop
+    (Way : List CallMade → Type 0) (result : Result (Unit {0}) Stop) (stop : Stop) → IsErrAnd result (λ s. s ≡ stop) → StopsOutputs outputs desk desk_now stop
     → Went Way (AreMakings outputs desk desk_now (Err stop)) → Delivers outputs text trouble desk desk_now out out Way result
 output_stops outputs text trouble desk desk_now out Way (Ok done) stop is stands made = absurd is
 output_stops outputs text trouble desk desk_now out Way (Err s) stop is stands made = rw is (following stop stands made)
@@ -50,7 +50,7 @@ ended_writes outputs text (Some words) = refl
 
 -- the work ends as its outputs and its text are delivered
 pub finishes : (comes : Outcome → Type 0) (outputs : List (List ℕ × List ℕ)) (text : List ℕ) (trouble : Option (List ℕ)) (desk desk_now : DeskView)
-    (out out_now : SinkView) (Way : List Call → Type 0) (result : Result (Unit {0}) Stop) → comes (ended_by outputs text trouble)
+    (out out_now : SinkView) (Way : List CallMade → Type 0) (result : Result (Unit {0}) Stop) → comes (ended_by outputs text trouble)
     → Delivers outputs text trouble desk desk_now out out_now Way result → Finishes comes desk desk_now out out_now Way result
 finishes comes outputs text trouble desk desk_now out out_now Way (Ok done) is (none, writes, made) =
     record { outputs = outputs; text = text; comes = subst (λ t. comes (ended_by outputs text t)) none is; writes = writes; then_so = made }
@@ -65,7 +65,7 @@ finishes comes outputs text trouble desk desk_now out out_now Way (Err (stops.Un
 finishes comes outputs text trouble desk desk_now out out_now Way (Err stops.NoMemory) is delivers = absurd delivers
 
 -- inputs that are refused once all of them were judged, or memory ran out: nothing was written
-pub refuses : (comes : Outcome → Type 0) (desk : DeskView) (out : SinkView) (Way : List Call → Type 0) (stop : Stop) (result : Result (Unit {0}) Stop)
+pub refuses : (comes : Outcome → Type 0) (desk : DeskView) (out : SinkView) (Way : List CallMade → Type 0) (stop : Stop) (result : Result (Unit {0}) Stop)
     → IsErrAnd result (λ s. s ≡ stop) → Finishes comes desk desk out out Way (Err stop) → Finishes comes desk desk out out Way result
 refuses comes desk out Way stop (Ok done) is stands = absurd is
 refuses comes desk out Way stop (Err s) is stands = rw is stands
@@ -109,7 +109,7 @@ writes_over outputs text desk mid desk_now out out_now same calm counted writes 
   calm = writes.calm;
 }
 
-unmade_over : (outputs : List (List ℕ × List ℕ)) (desk mid desk_now : DeskView) (name : List ℕ) (calls : List Call) → mid.held ≡ desk.held
+unmade_over : (outputs : List (List ℕ × List ℕ)) (desk mid desk_now : DeskView) (name : List ℕ) (calls : List CallMade) → mid.held ≡ desk.held
     → IsUnmade outputs mid desk_now name calls → IsUnmade outputs desk desk_now name calls
 unmade_over outputs desk mid desk_now name calls same (inl fails) = inl at
   where
@@ -129,11 +129,11 @@ unmade_over outputs desk mid desk_now name calls same (inl fails) = inl at
 unmade_over outputs desk mid desk_now name calls same (inr made) = inr made
 
 -- all inputs were read, and then nothing was called
-read_only : (inputs : List (List ℕ × ℕ)) (calls later : List Call) → ReadsAll inputs calls → IsNoCall later → ReadsAll inputs (calls ++ later)
-read_only inputs calls later reads none = subst (ReadsAll inputs) (sym (ap (λ (l : List Call). calls ++ l) none ∙ append-nil calls)) reads
+read_only : (inputs : List (List ℕ × ℕ)) (calls later : List CallMade) → ReadsAll inputs calls → IsNoCall later → ReadsAll inputs (calls ++ later)
+read_only inputs calls later reads none = subst (ReadsAll inputs) (sym (ap (λ (l : List CallMade). calls ++ l) none ∙ append-nil calls)) reads
 
 -- a call that ended at an input
-pub ends_at_input : (command : Command) (desk desk_now : DeskView) (out : SinkView) (Way : List Call → Type 0) (result : Result (Unit {0}) Stop) (stop : Stop)
+pub ends_at_input : (command : Command) (desk desk_now : DeskView) (out : SinkView) (Way : List CallMade → Type 0) (result : Result (Unit {0}) Stop) (stop : Stop)
     → IsErrAnd result (λ s. s ≡ stop) → IsStopAtInput (λ reads. Comes reads desk.held command) desk desk_now stop → desk_now.held ≡ desk.held
     → Went Way (StopsTakings (AcceptsInputs desk.held command) (inputs_of command) stop) → Ends (Some command) desk desk_now out out Way (answer_of result) (told_of result)
 ends_at_input command desk desk_now out Way (Ok done) stop is stands same went = absurd is
@@ -171,7 +171,7 @@ ends_at_input command desk desk_now out Way (Err s) stop is stands same went = r
         (went_as Way _ (InOrder (Some command) desk desk_now NoMemory) went (λ calls p. inr (inl (p.0, p.2))))
 
 -- a call that ended with its work
-pub ends_with_work : {S : Type 0} (along : S → S → List Call → Type 0) → Composes along → (first second third : S) (command : Command) (yields : Outcome → Type 0) (desk mid desk_now : DeskView) (out out_now : SinkView)
+pub ends_with_work : {S : Type 0} (along : S → S → List CallMade → Type 0) → Composes along → (first second third : S) (command : Command) (yields : Outcome → Type 0) (desk mid desk_now : DeskView) (out out_now : SinkView)
     (result : Result (Unit {0}) Stop) → ((reads : DeskReads) (outcome : Outcome) → yields outcome → Comes reads desk.held command outcome)
     → mid.held ≡ desk.held → mid.read_faults ≡ desk.read_faults → mid.write_faults ≡ desk.write_faults → Finishes yields mid desk_now out out_now (along second third) result
     → KeepsOthers (outputs_of command) mid desk_now
@@ -188,7 +188,7 @@ ends_with_work along both first second third command yields desk mid desk_now ou
     nothing : WritesNothing mid desk_now out out_now → WritesNothing desk desk_now out out_now
     nothing (held, written) = (held ∙ same, written)
 
-    then_made : (outputs : List (List ℕ × List ℕ)) (ending : Ending) → ((calls later : List Call) → ReadsAll (inputs_of command) calls → MakesAll outputs later
+    then_made : (outputs : List (List ℕ × List ℕ)) (ending : Ending) → ((calls later : List CallMade) → ReadsAll (inputs_of command) calls → MakesAll outputs later
         → InOrder (Some command) desk desk_now ending (calls ++ later)) → Went (along second third) (MakesAll outputs)
         → Went (along first third) (InOrder (Some command) desk desk_now ending)
     then_made outputs ending joined made =
@@ -256,7 +256,7 @@ ends_with_work along both first second third command yields desk mid desk_now ou
     }
 
 -- a command that took its inputs, or stopped at one of them
-pub ends_at_turns : {X : Type 0} (command : Command) (yields : X → Outcome → Type 0) (desk desk_now : DeskView) (out : SinkView) (Way : List Call → Type 0)
+pub ends_at_turns : {X : Type 0} (command : Command) (yields : X → Outcome → Type 0) (desk desk_now : DeskView) (out : SinkView) (Way : List CallMade → Type 0)
     (result : Result (Unit {0}) Stop) (stop : Stop) → IsErrAnd result (λ s. s ≡ stop)
     → (let turns : Result X Stop = Err stop in TakesAll (λ reads. Comes reads desk.held command) yields (AcceptsInputs desk.held command) (inputs_of command)
     desk desk_now Way turns)
@@ -264,7 +264,7 @@ pub ends_at_turns : {X : Type 0} (command : Command) (yields : X → Outcome →
 ends_at_turns command yields desk desk_now out Way result stop is turns =
     ends_at_input command desk desk_now out Way result stop is turns.taken turns.held turns.calls
 
-pub ends_after_turns : {S X : Type 0} (along : S → S → List Call → Type 0) → Composes along → (desk : S → DeskView) (command : Command)
+pub ends_after_turns : {S X : Type 0} (along : S → S → List CallMade → Type 0) → Composes along → (desk : S → DeskView) (command : Command)
     (yields : X → Outcome → Type 0) (inputs : X) (first second third : S) (out out_now : SinkView) (result : Result (Unit {0}) Stop)
     → TakesAll (λ reads. Comes reads (desk first).held command) yields (AcceptsInputs (desk first).held command) (inputs_of command) (desk first) (desk second)
     (along first second) (Ok inputs)
@@ -275,13 +275,13 @@ ends_after_turns along both desk command yields inputs first second third out ou
     turns.calm turns.writes done others turns.calls
 
 -- words that say no command
-bad_line : (said : Option Command) (desk : DeskView) (out : SinkView) (Way : List Call → Type 0) → said ≡ None → Went Way IsNoCall
+bad_line : (said : Option Command) (desk : DeskView) (out : SinkView) (Way : List CallMade → Type 0) → said ≡ None → Went Way IsNoCall
     → Ends said desk desk out out Way (stop_status stops.BadLine) (stop_line stops.BadLine)
 bad_line said desk out Way is none =
     record { ending = With BadLine; status = refl; told = refl; stands = (is, (refl, refl)); names = λ name not. refl; order = none }
 
 -- memory ran out while the words were read
-unread_words : (said : Option Command) (desk : DeskView) (out : SinkView) (Way : List Call → Type 0)
+unread_words : (said : Option Command) (desk : DeskView) (out : SinkView) (Way : List CallMade → Type 0)
     → Went Way IsNoCall → Ends said desk desk out out Way (stop_status stops.NoMemory) (stop_line stops.NoMemory)
 unread_words said desk out Way none = record {
   ending = NoMemory;
@@ -293,7 +293,7 @@ unread_words said desk out Way none = record {
 }
 
 -- words that say no command, for this reason
-pub unsaid : (said : Option Command) (desk : DeskView) (out : SinkView) {Way : List Call → Type 0} (stop : Stop) → IsUnsaid said stop
+pub unsaid : (said : Option Command) (desk : DeskView) (out : SinkView) {Way : List CallMade → Type 0} (stop : Stop) → IsUnsaid said stop
     → Went Way IsNoCall → Ends said desk desk out out Way (stop_status stop) (stop_line stop)
 unsaid said desk out {Way = Way} stops.BadLine is none = bad_line said desk out Way is none
 unsaid said desk out {Way = Way} stops.NoMemory is none = unread_words said desk out Way none
@@ -304,7 +304,7 @@ unsaid said desk out (stops.Fell words) is none = absurd is
 unsaid said desk out (stops.Unwritten name) is none = absurd is
 
 -- so the stop that a `?` passes on
-pub unsaid_on : {X : Type 0} (said : Option Command) (desk : DeskView) (out : SinkView) {Way : List Call → Type 0} (result : Result X Stop) (stop : Stop)
+pub unsaid_on : {X : Type 0} (said : Option Command) (desk : DeskView) (out : SinkView) {Way : List CallMade → Type 0} (result : Result X Stop) (stop : Stop)
     → IsErrAnd result (λ s. s ≡ stop) → IsUnsaid said stop → Went Way IsNoCall → Ends said desk desk out out Way (answer_of result) (told_of result)
 unsaid_on said desk out {Way = Way} (Ok value) stop is why none = absurd is
 unsaid_on said desk out {Way = Way} (Err s) stop is why none = unsaid said desk out s (rw is why) none

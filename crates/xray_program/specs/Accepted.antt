@@ -1,6 +1,6 @@
 -- When the inputs of a command are accepted, and nothing else is wrong with them.
 use Rattle.std.specs.Prelude.{◌≡◌, ◌≤◌, ℕ, zero, suc, List, length, None, Ok, ⊤}
-use Rattle.audit_check.specs.Statements.{Statement}
+use Rattle.audit_check.specs.Statements.{AuditStatement}
 use Rattle.command_words.specs.Reports.{NameSource, ByIds, ByImage, ByMap}
 use Rattle.fdr_file.specs.declared.trace.Trace.{Trace}
 use Rattle.map_names.specs.Naming.{Naming}
@@ -59,11 +59,11 @@ AreAccepted held (Convert trace names options) =
     HoldsReport (log_form options.input) held trace names (λ t. no_text_for options.format t ≡ None)
 AreAccepted held (Dump trace) = (t : Readable) × HoldsInput readable_form (held trace) t
 AreAccepted held (Check image script trace audit) =
-    (program : Program) × (statement : Statement) × (plan : Plan) × (bytes : List ℕ) × HoldsInput image_form (held image) program
+    (program : Program) × (statement : AuditStatement) × (plan : Plan) × (bytes : List ℕ) × HoldsInput image_form (held image) program
     × HoldsInput audit_form (held audit) statement × HoldsInput (script_form program statement.setup.threads) (held script) plan
     × HoldsInput unread_trace_form (held trace) bytes
 AreAccepted held (Order image script audit free schedule) =
-    (program : Program) × (statement : Statement) × (whole : WholeScript) × (turns : List Turns) × HoldsInput image_form (held image) program
+    (program : Program) × (statement : AuditStatement) × (whole : WholeScript) × (turns : List Turns) × HoldsInput image_form (held image) program
     × HoldsInput audit_form (held audit) statement × HoldsInput (whole_script_form program statement.setup.threads) (held script) whole
     × IsOrdered program (commands_of whole.plan.lines) statement (Ok turns)
 AreAccepted held (Profile image script options) = HoldsScript held image script options.bounds.threads

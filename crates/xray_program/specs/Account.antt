@@ -5,8 +5,8 @@ use Rattle.account_report.specs.AccountText.{account_text, latencies_of}
 use Rattle.account_report.specs.Ordered.{arranged}
 use Rattle.account_report.specs.declared.row.SortKey.{SortKey}
 use Rattle.account_report.specs.declared.row.SortKey.TheVariants as keys
-use Rattle.account_report.specs.declared.text.AccountFormat.{AccountFormat}
-use Rattle.account_report.specs.declared.text.AccountFormat.TheVariants as formats
+use Rattle.account_report.specs.declared.text.AccountLayout.{AccountLayout}
+use Rattle.account_report.specs.declared.text.AccountLayout.TheVariants as formats
 use Rattle.command_words.specs.declared.report_options.AccountFormat.{AccountFormat as FormatWord}
 use Rattle.command_words.specs.declared.report_options.AccountFormat.TheVariants.{Text, Csv}
 use Rattle.command_words.specs.declared.report_options.AccountOptions.{AccountOptions}
@@ -39,7 +39,7 @@ abbrev pub is_descending : SortOrder → Bool
 is_descending Ascending = false
 is_descending Descending = true
 
-abbrev pub format_of : FormatWord → AccountFormat
+abbrev pub format_of : FormatWord → AccountLayout
 format_of Text = formats.Text
 format_of Csv = formats.Csv
 

@@ -1,6 +1,6 @@
 -- The contract of the top call: what was said, the world before the call and after it, and the status.
 use Rattle.std.specs.Prelude.{◌≡◌, ◌≢◌, ◌⊎◌, ◌↔◌, ℕ, List, Contains, Option, Some, None}
-use Rattle.xray_io.specs.Calls.{Call, Went}
+use Rattle.xray_io.specs.Calls.{CallMade, Went}
 use Rattle.xray_io.specs.Desk.{Absent}
 use Rattle.xray_io.specs.Faults.{Rose}
 use Rattle.xray_io.specs.Sink.{Adds, AddsPrefix}
@@ -80,7 +80,7 @@ MakesSetup said =
     → (said ≡ Some (Sim i s c t a options)) ⊎ (said ≡ Some (Run i s t a options)) → IsSetup (setup_of options)
 
 -- The whole contract of a call. Its status and its line on err are those of one ending.
-pub record Answered (said : Option Command) (before after : World) (Way : List Call → Type 0) (answer : ℕ) : Type 0 where
+pub record Answered (said : Option Command) (before after : World) (Way : List CallMade → Type 0) (answer : ℕ) : Type 0 where
   pub ending : Ending
   pub status : status_at ending ≡ answer
   pub told : Says before.err after.err (err_line_at ending)

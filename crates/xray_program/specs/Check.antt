@@ -1,7 +1,7 @@
 -- `check`: whether an audit and a trace are those of a lawful run of an image beside a script.
 use Rattle.std.specs.Prelude.{◌≡◌, ℕ, List, []}
 use Rattle.audit_check.specs.declared.verdict.Verdict.{Verdict}
-use Rattle.audit_check.specs.Statements.{Statement}
+use Rattle.audit_check.specs.Statements.{AuditStatement}
 use Rattle.audit_check.specs.Texts.{verdict_text}
 use Rattle.audit_check.specs.Verdicts.{IsJudged}
 use Rattle.patch_script.specs.Plans.{Plan}
@@ -13,7 +13,7 @@ use Rattle.xray_program.specs.Outcomes.{Outcome, Done}
 use Rattle.xray_program.specs.Taking.{DeskReads, Take}
 
 -- what comes of the judged inputs: the verdict on the audit and the trace, for this image and this script, is printed
-pub record Judges (program : Program) (plan : Plan) (statement : Statement) (trace : List ℕ) (outcome : Outcome) : Type 0 where
+pub record Judges (program : Program) (plan : Plan) (statement : AuditStatement) (trace : List ℕ) (outcome : Outcome) : Type 0 where
   pub verdict : Verdict
   pub judged : IsJudged program (commands_of plan.lines) statement trace verdict
   pub outcome_is : outcome ≡ Done [] (verdict_text verdict)

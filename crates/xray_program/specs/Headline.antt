@@ -6,7 +6,7 @@ use Rattle.command_words.specs.declared.profile_options.ProfileOptions.{ProfileO
 use Rattle.command_words.specs.declared.run_options.RunOptions.{RunOptions}
 use Rattle.machine_step.specs.Loads.{Load}
 use Rattle.machine_step.specs.declared.setup.Setup.{Setup}
-use Rattle.patch_script.specs.declared.command.Command.{Command as PatchCommand}
+use Rattle.patch_script.specs.declared.command.PatchCommand.{PatchCommand}
 use Rattle.step_sim.specs.declared.turns.Turns.{Turns}
 use Rattle.step_sim.specs.Plays.{Plays}
 use Rattle.step_sim.specs.Replay.{Cast, Moment, first_moment, moment_rules, of_thread, thread_count}

@@ -28,8 +28,8 @@ use Rattle.runtime_log.specs.Logs.{logged}
 use Rattle.trace_forms.specs.BasicLogs.{basic_of}
 use Rattle.trace_forms.specs.FaultWords.{basic_words}
 use Rattle.audit_check.specs.declared.fault.AuditFault.{AuditFault}
-use Rattle.audit_check.specs.Reading.{ReadsAs}
-use Rattle.audit_check.specs.Statements.{Statement}
+use Rattle.audit_check.specs.Reading.{ReadsAsAudit}
+use Rattle.audit_check.specs.Statements.{AuditStatement}
 use Rattle.audit_check.specs.Texts.{audit_words}
 use Rattle.xray_program.specs.Taking.{Form, any_bytes}
 
@@ -148,10 +148,10 @@ readable_form = record {
 }
 
 -- the audit of a run
-abbrev pub audit_form : Form Statement
+abbrev pub audit_form : Form AuditStatement
 audit_form = record {
   kind = codes "audit";
   limit = audit_limit;
-  Reads = λ bytes statement. ReadsAs bytes (Ok statement);
-  Refuses = λ bytes refusal. (fault : AuditFault) × ReadsAs bytes (Err fault) × (refusal ≡ refused_for (audit_words fault));
+  Reads = λ bytes statement. ReadsAsAudit bytes (Ok statement);
+  Refuses = λ bytes refusal. (fault : AuditFault) × ReadsAsAudit bytes (Err fault) × (refusal ≡ refused_for (audit_words fault));
 }

@@ -1,7 +1,7 @@
 -- `order`: the order of a finished run's loads and stores, as a schedule that replays it.
 use Rattle.std.specs.Prelude.{◌≡◌, ℕ, List, [], ◌∷◌, Result, Ok, Err, codes}
 use Rattle.patch_script.specs.Refusals.{commands_of}
-use Rattle.audit_check.specs.Statements.{Statement}
+use Rattle.audit_check.specs.Statements.{AuditStatement}
 use Rattle.run_order.specs.declared.fault.OrderFault.{OrderFault}
 use Rattle.run_order.specs.Answers.{IsOrdered}
 use Rattle.run_order.specs.FaultWords.{order_words}
@@ -21,7 +21,7 @@ order_outcome audit free schedule text (Ok turns) = Done ((free, free_text text)
 order_outcome audit free schedule text (Err fault) = Refused audit (codes "audit") (refused_for (order_words fault))
 
 -- what comes of the judged inputs: the order of the run that the audit states, beside this image and this script
-pub record Orders (audit free schedule : List ℕ) (program : Program) (statement : Statement) (script : WholeScript) (outcome : Outcome) : Type 0 where
+pub record Orders (audit free schedule : List ℕ) (program : Program) (statement : AuditStatement) (script : WholeScript) (outcome : Outcome) : Type 0 where
   pub answer : Result (List Turns) OrderFault
   pub ordered : IsOrdered program (commands_of script.plan.lines) statement answer
   pub outcome_is : outcome ≡ order_outcome audit free schedule script.text answer

@@ -1,7 +1,7 @@
 -- What the replay of an order means to leave, and that a run can be replayed.
 use Rattle.std.specs.Prelude.{◌≡◌, ◌⊎◌, ◌∷◌, ℕ, List, [], Some, codes, map}
 use Rattle.audit_check.specs.Rows.{AreRunsOf}
-use Rattle.audit_check.specs.Statements.{Statement}
+use Rattle.audit_check.specs.Statements.{AuditStatement}
 use Rattle.command_words.specs.Ranges.{AreRunOptions}
 use Rattle.command_words.specs.Words.{Order, Run}
 use Rattle.command_words.specs.declared.run_options.RunOptions.{RunOptions}
@@ -33,7 +33,7 @@ stated_of said = (said.end, said.passings, said.marks)
 -- state texts, and its audit states the same end, passings and marks of each thread. Only which segments are lost may
 -- differ. If the setup is that of the statement, and the runs have the losses of some order of their threads, which are
 -- none, then the very runs are left, with their trace.
-pub record LeavesRunsOf (Means : Outcome → Type 0) (image trace audit : List ℕ) (setup : Setup) (statement : Statement) : Type 0 where
+pub record LeavesRunsOf (Means : Outcome → Type 0) (image trace audit : List ℕ) (setup : Setup) (statement : AuditStatement) : Type 0 where
   pub program : Program
   pub accepted : IsAccepted image program
   pub runs : List ThreadRun

@@ -8,7 +8,7 @@ use Rattle.command_words.specs.declared.report_options.StackFormat.{StackFormat}
 use Rattle.command_words.specs.declared.report_options.StackFormat.TheVariants.{Human, Flame, Svg}
 use Rattle.function_names.specs.Name.{program_names}
 use Rattle.fdr_record.specs.declared.event.Event.{Event}
-use Rattle.patch_script.specs.declared.command.Command.{Command}
+use Rattle.patch_script.specs.declared.command.PatchCommand.{PatchCommand}
 use Rattle.patch_script.specs.Plans.{Plan}
 use Rattle.patch_script.specs.Refusals.{commands_of}
 use Rattle.stack_rebuild.specs.Stacks.{stack_of_threads}
@@ -62,7 +62,7 @@ profile_of options program runs =
     ended_by [] (printed_of trouble options.format program (state_texts 1 runs) threads) trouble
 
 -- the threads have run beside a script, by the law of `run`
-abbrev pub AreProfiled : ProfileOptions → Program → List Command → List ThreadRun → Type 0
+abbrev pub AreProfiled : ProfileOptions → Program → List PatchCommand → List ThreadRun → Type 0
 AreProfiled options program script = RanBeside program script options.bounds.threads (limits_of options.bounds options.stamps)
 
 -- what comes of the judged inputs: what comes of some such runs

@@ -6,7 +6,7 @@ use Rattle.fdr_file.specs.declared.trace.Trace.{Trace}
 use Rattle.machine_step.specs.Buffers.{spare_of}
 use Rattle.machine_step.specs.Setups.{IsSetup}
 use Rattle.machine_step.specs.declared.setup.Setup.{Setup}
-use Rattle.patch_script.specs.declared.command.Command.{Command}
+use Rattle.patch_script.specs.declared.command.PatchCommand.{PatchCommand}
 use Rattle.trace_flush.specs.Flush.{trace_bytes}
 use Rattle.traced_run.specs.Losses.{AreLost, recycled_of}
 use Rattle.traced_run.specs.Runs.{IsRun, ThreadRun}
@@ -26,7 +26,7 @@ pub record MakeMarksOf (program : Program) (setup : Setup) (runs : List ThreadRu
   pub losses : AreLost setup.size (spare_of setup) runs
   pub none_lost : recycled_of runs ≡ 0
   pub reads : trace_of (trace_bytes setup runs) ≡ Ok trace
-  pub script : List Command
+  pub script : List PatchCommand
   pub were_profiled : AreProfiled options program script profiled
   pub threads : options.bounds.threads ≡ setup.threads
   pub limits : limits_of options.bounds options.stamps ≡ setup.limits

@@ -4,7 +4,7 @@ use Rattle.xray_io.specs.Desk.{Entry}
 use Rattle.xray_image.specs.Program.{Program}
 use Rattle.sled_words.specs.Words.{release_word}
 use Rattle.patch_script.specs.Micros.{total_of}
-use Rattle.patch_script.specs.declared.command.Command.{Command}
+use Rattle.patch_script.specs.declared.command.PatchCommand.{PatchCommand}
 use Rattle.patch_script.specs.Plans.{Plan}
 use Rattle.patch_script.specs.Refusals.{commands_of}
 use Rattle.machine_step.specs.declared.limits.Limits.{Limits}
@@ -20,13 +20,13 @@ use Rattle.xray_program.specs.Traced.{IsTraced, RanLawfully}
 
 -- The law of threads that run beside a script. The loads of each thread follow the script to its end, and none of them is
 -- of a release word that still held the thread.
-pub record LoadsFollowPlan (program : Program) (threads : ℕ) (script : List Command) (runs : List ThreadRun) (loads : ℕ → List Load) : Type 0 where
+pub record LoadsFollowPlan (program : Program) (threads : ℕ) (script : List PatchCommand) (runs : List ThreadRun) (loads : ℕ → List Load) : Type 0 where
   pub follow : EachThread runs (λ number run.
       LoadsFollow program threads script number (sleds_passed run.passed) (loads number) (total_of program threads script))
   pub released : EachThread runs (λ number run. All (λ load. load.word ≡ release_word program number → load.value ≢ 0) (loads number))
 
 -- so many threads with these limits have run by this law
-abbrev pub RanBeside : Program → List Command → (threads : ℕ) → Limits → List ThreadRun → Type 0
+abbrev pub RanBeside : Program → List PatchCommand → (threads : ℕ) → Limits → List ThreadRun → Type 0
 RanBeside program script threads limits = RanLawfully (LoadsFollowPlan program threads script) program script threads limits
 
 -- What comes of the judged inputs: what is left of some runs of these threads. Whose segments are lost isn't fixed.

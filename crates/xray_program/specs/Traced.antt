@@ -4,7 +4,7 @@ use Rattle.command_words.specs.Limits.{trace_limit}
 use Rattle.fdr_file.specs.Traces.{trace_of}
 use Rattle.xray_image.specs.Program.{Program}
 use Rattle.patch_script.specs.Micros.{hold_of}
-use Rattle.patch_script.specs.declared.command.Command.{Command}
+use Rattle.patch_script.specs.declared.command.PatchCommand.{PatchCommand}
 use Rattle.machine_step.specs.Buffers.{spare_of}
 use Rattle.machine_step.specs.declared.limits.Limits.{Limits}
 use Rattle.machine_step.specs.declared.setup.Setup.{Setup}
@@ -35,7 +35,7 @@ written_of trace audit setup runs = (trace, trace_bytes setup runs) ∷ (audit, 
 --   are those of its loads;
 -- - a thread that executes the code, each sled with the bytes that it loaded there, always comes to the same end as the
 --   plain run, with the same registers except r10, zero flag, stack, output and counts.
-pub record RanLawfully (Lawful : List ThreadRun → (ℕ → List Load) → Type 0) (program : Program) (script : List Command) (threads : ℕ)
+pub record RanLawfully (Lawful : List ThreadRun → (ℕ → List Load) → Type 0) (program : Program) (script : List PatchCommand) (threads : ℕ)
     (limits : Limits) (runs : List ThreadRun) : Type 0 where
   pub count : length runs ≡ threads
   pub plain : EachThread runs (λ number run. PlainRun program limits number run.passed run.end run.last)

@@ -2,7 +2,7 @@
 ghost use Rattle.std.specs.Prelude.{◌≡◌};
 ghost use Rattle.xray_program.specs.Account.{format_of, is_descending, key_of};
 
-use account_report::{AccountFormat, SortKey};
+use account_report::{AccountLayout, SortKey};
 use command_words::{AccountFormat as FormatWord, SortColumn, SortOrder};
 
 /// The column that the rows are ordered by.
@@ -32,11 +32,11 @@ pub(crate) fn is_descending(order: SortOrder) -> bool
 }
 
 /// How the account is printed.
-pub(crate) fn format_of(format: FormatWord) -> AccountFormat
+pub(crate) fn format_of(format: FormatWord) -> AccountLayout
     ensures { result ≡ format_of format }
 {
     match format {
-        FormatWord::Text => AccountFormat::Text,
-        FormatWord::Csv => AccountFormat::Csv,
+        FormatWord::Text => AccountLayout::Text,
+        FormatWord::Csv => AccountLayout::Csv,
     }
 }

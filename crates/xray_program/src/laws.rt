@@ -1,12 +1,12 @@
 //! Laws of what the program means. Each law is the contract of a function that does nothing.
 ghost use Rattle.std.specs.Prelude.{◌≡◌, ◌≢◌, ◌<◌, ◌⊎◌, ◌∷◌, ◌++◌, [], ℕ, List, Option, None, Some, Ok, All, IsPermutation, map};
-ghost use Rattle.audit_check.specs.{Reading.{ReadsAs}, Statements.{Statement}};
+ghost use Rattle.audit_check.specs.{Reading.{ReadsAsAudit}, Statements.{AuditStatement}};
 ghost use Rattle.audit_check.specs.Texts.{verdict_text};
 ghost use Rattle.audit_check.specs.declared.verdict.Verdict.TheVariants.{Yes};
 ghost use Rattle.command_words.specs.Files.{inputs_in, names_given, names_of, row_of};
 ghost use Rattle.machine_step.specs.Buffers.{spare_of};
 ghost use Rattle.machine_step.specs.declared.setup.Setup.{Setup};
-ghost use Rattle.patch_script.specs.declared.command.Command.{Command as PatchCommand};
+ghost use Rattle.patch_script.specs.declared.command.PatchCommand.{PatchCommand};
 ghost use Rattle.trace_flush.specs.Telling.{HasRunNumbers};
 ghost use Rattle.traced_run.specs.{Following.{AllMarksFollow}, Losses.{AreLost}, Runs.{IsRun, ThreadRun, events_of}};
 ghost use Rattle.xray_image.specs.Program.{IsAccepted, Program};
@@ -238,8 +238,8 @@ pub fn what_is_left_is_accepted()
 /// same, the losses are those of a run (`AreLost`) and no segment is lost, it leaves the very trace.
 pub fn what_is_ordered_is_replayed()
     ensures { (held after : List ℕ → Entry) (i s a f o t b : List ℕ) (options : RunOptions)
-        (image audit free schedule : List ℕ) (statement : Statement)
-        → held i ≡ Holds image → held a ≡ Holds audit → ReadsAs audit (Ok statement)
+        (image audit free schedule : List ℕ) (statement : AuditStatement)
+        → held i ≡ Holds image → held a ≡ Holds audit → ReadsAsAudit audit (Ok statement)
         → HaveSameThreads (setup_of options) statement.setup
         → IsLeftByOrder held after i s a f o free schedule
         → LeavesRunsOf (Means (Some (Sim i f o t b options)) after) image t b (setup_of options) statement }
@@ -267,10 +267,10 @@ pub fn a_run_is_replayed()
         → HaveSameThreads (setup_of other) (setup_of options)
         → (outputs : List (List ℕ × List ℕ)) × Means (Some (Sim i f o u b other)) last (Done outputs text) }
     ensures whole { (held after last : List ℕ → Entry) (i s t a f o u b : List ℕ) (options other : RunOptions)
-        (image trace audit text free schedule : List ℕ) (statement : Statement)
+        (image trace audit text free schedule : List ℕ) (statement : AuditStatement)
         → IsLeftByRun held after i s t a options image trace audit text
         → IsLeftByOrder after last i s a f o free schedule → setup_of other ≡ setup_of options
-        → ReadsAs audit (Ok statement) → statement.recycled ≡ 0
+        → ReadsAsAudit audit (Ok statement) → statement.recycled ≡ 0
         → Means (Some (Sim i f o u b other)) last (Done ((u, trace) ∷ (b, audit) ∷ []) text) }
 {
     what_runs_leave();

@@ -12,9 +12,9 @@ pub(crate) struct StatedAudit {
 }
 
 impl Model for StatedAudit {
-    ghost use Rattle.audit_check.specs.Statements.{Statement, statement_of};
+    ghost use Rattle.audit_check.specs.Statements.{AuditStatement, statement_of};
 
-    ghost Value = { Statement };
+    ghost Value = { AuditStatement };
 
     ghost view = { λ s. statement_of s.audit };
 }

@@ -14,7 +14,8 @@ use Rattle.fdr_file.specs.ThreadEvents.{ThreadEvent, block_events, thread_events
 use Rattle.fdr_file.specs.Traces.{trace_of}
 use Rattle.map_names.specs.Naming.{Naming}
 use Rattle.yaml_convert.specs.private.Stamps.{happened_text, stamp_text}
-use Rattle.yaml_convert.specs.Yaml.{arg_text, event_counter, event_end, event_line, event_start, header_text, kind_text, records_start, records_text, truth_text, yaml_of_bytes, yaml_read, yaml_text}
+use Rattle.xray_image.specs.Extract.{truth_text}
+use Rattle.yaml_convert.specs.Yaml.{arg_text, event_counter, event_end, event_line, event_start, header_text, event_kind_text, records_start, records_text, yaml_of_bytes, yaml_read, yaml_text}
 
 -- ---- pieces
 
@@ -39,14 +40,14 @@ stamp_row cpu thread pid c t p r r1 r2 r3 r4 r5 r6 r7 same_cpu same_thread same_
     rw (e7, e6, e5, e4, e3, e2, e1, e, same_cpu, same_thread, same_pid) (simp append_assoc)
 
 pub happened_row : (event : Event) (r r1 r2 r3 r4 r5 : List ℕ) → r ≡ [] → r1 ≡ codes " }\n" ++ r → r2 ≡ decimal event.tsc ++ r1 → r3 ≡ codes ", tsc: " ++ r2
-    → r4 ≡ arg_text event.kind event.arg ++ r3 → r5 ≡ kind_text event.kind ++ r4 → r5 ≡ happened_text event
+    → r4 ≡ arg_text event.kind event.arg ++ r3 → r5 ≡ event_kind_text event.kind ++ r4 → r5 ≡ happened_text event
 happened_row event r r1 r2 r3 r4 r5 e e1 e2 e3 e4 e5 = rw (e5, e4, e3, e2, e1, e) (simp append_assoc)
 
 -- the text after a name is put together of the stamp and what happened
 pub end_whole : (e : ThreadEvent) → stamp_text e.event.cpu e.thread e.pid ++ happened_text e.event ≡ event_end e
 end_whole e =
     let stamp = stamp_text e.event.cpu e.thread e.pid in
-    let kind = kind_text e.event.kind in
+    let kind = event_kind_text e.event.kind in
     let arg = arg_text e.event.kind e.event.arg in
     let counter = event_counter e.event in
     sym (ap (λ (t : List ℕ). t ++ counter) (append_assoc stamp kind arg) ∙ append_assoc stamp (kind ++ arg) counter)

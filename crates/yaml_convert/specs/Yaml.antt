@@ -9,13 +9,10 @@ use Rattle.fdr_file.specs.declared.header.Header.{Header}
 use Rattle.fdr_file.specs.declared.trace.Trace.{Trace}
 use Rattle.fdr_file.specs.ThreadEvents.{ThreadEvent, thread_events}
 use Rattle.fdr_file.specs.Traces.{trace_of}
+use Rattle.xray_image.specs.Extract.{truth_text}
 use Rattle.map_names.specs.Naming.{Naming}
 use Rattle.function_names.specs.Name.{name_text}
 use Rattle.function_names.specs.declared.form.NameForm.TheVariants.{Quoted}
-
-abbrev pub truth_text : Bool → List ℕ
-truth_text true = codes "true"
-truth_text false = codes "false"
 
 -- the header, whose type is that of the Flight Data Recorder mode
 abbrev pub header_text : Header → List ℕ
@@ -24,11 +21,11 @@ header_text header =
     ++ codes "\n  nonstop-tsc: " ++ truth_text header.nonstop ++ codes "\n  cycle-frequency: " ++ decimal header.frequency ++ codes "\n"
 
 -- the names that llvm-xray's convert has for the kinds
-abbrev pub kind_text : Kind → List ℕ
-kind_text Entry = codes "function-enter"
-kind_text Exit = codes "function-exit"
-kind_text TailExit = codes "function-tail-exit"
-kind_text EntryArgs = codes "function-enter-arg"
+abbrev pub event_kind_text : Kind → List ℕ
+event_kind_text Entry = codes "function-enter"
+event_kind_text Exit = codes "function-exit"
+event_kind_text TailExit = codes "function-tail-exit"
+event_kind_text EntryArgs = codes "function-enter-arg"
 
 -- the argument of an event of this kind, if it logs one
 abbrev pub arg_text : Kind → ℕ → List ℕ
@@ -44,7 +41,7 @@ event_start event = codes "  - { type: 0, func-id: " ++ decimal event.func ++ co
 abbrev pub event_stamp : ThreadEvent → List ℕ
 event_stamp e =
     codes "', cpu: " ++ decimal e.event.cpu ++ codes ", thread: " ++ decimal e.thread ++ codes ", process: " ++ decimal e.pid
-    ++ codes ", kind: " ++ kind_text e.event.kind
+    ++ codes ", kind: " ++ event_kind_text e.event.kind
 
 abbrev pub event_counter : Event → List ℕ
 event_counter event = codes ", tsc: " ++ decimal event.tsc ++ codes " }\n"

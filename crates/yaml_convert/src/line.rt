@@ -2,7 +2,7 @@
 ghost use Rattle.std.specs.Prelude.{◌≡◌, ◌+◌, ◌≤◌, [], ◌++◌, length};
 ghost use Rattle.function_names.specs.Name.{naming};
 ghost use Rattle.xray_io.specs.Text.{AddsText};
-ghost use Rattle.yaml_convert.specs.Yaml.{arg_text, event_end, event_line, event_start, kind_text};
+ghost use Rattle.yaml_convert.specs.Yaml.{arg_text, event_end, event_line, event_start, event_kind_text};
 ghost use Rattle.yaml_convert.specs.private.Stamps.{happened_text};
 
 use crate::row::{ROOM, Row};
@@ -100,7 +100,7 @@ fn put_arg(row: &mut Row, event: &Event)
 #[inline]
 fn put_kind(row: &mut Row, kind: Kind)
     requires { MOST_OF_KIND + length row.old ≤ ROOM }
-    ensures { row.new ≡ kind_text kind ++ row.old }
+    ensures { row.new ≡ event_kind_text kind ++ row.old }
 {
     match kind {
         Kind::Entry => row.put(b"function-enter"),

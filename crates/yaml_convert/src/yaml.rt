@@ -4,7 +4,8 @@ ghost use Rattle.std.specs.{Prelude.{◌≡◌, ⊤, length, nat_lt}, List.{flat
 ghost use Rattle.fdr_file.specs.ThreadEvents.{block_events, thread_events};
 ghost use Rattle.function_names.specs.Name.{image_names, naming};
 ghost use Rattle.xray_io.specs.{Piece.{piece_text}, Text.{AddsText}, Writes.{WritesText}};
-ghost use Rattle.yaml_convert.specs.Yaml.{event_line, header_text, records_start, records_text, truth_text, yaml_text};
+ghost use Rattle.yaml_convert.specs.Yaml.{event_line, header_text, records_start, records_text, yaml_text};
+ghost use Rattle.xray_image.specs.Extract.{truth_text};
 
 use crate::line::add_event;
 use crate::stamp::Stamp;

@@ -6,11 +6,11 @@ use Rattle.xray_image.specs.Limits.{most_code}
 use Rattle.asm_text.specs.declared.layout.Owner.{Owner as CodeOwner}
 use Rattle.asm_text.specs.declared.layout.Laid.{Laid}
 use Rattle.asm_text.specs.declared.name_table.NameTable.{NameTable}
-use Rattle.asm_text.specs.Layout.{StatementLines, Owner, Placed, Part, piece_of, next_place, place_of}
+use Rattle.asm_text.specs.Layout.{StatementLines, LineOwner, Placed, UnitDraft, piece_of, next_place, place_of}
 use Rattle.asm_text.specs.private.FirstPass.{IsNames}
 use Rattle.asm_text.specs.private.Views.{statement_said}
 
-abbrev pub owner_in : CodeOwner → Owner
+abbrev pub owner_in : CodeOwner → LineOwner
 owner_in owner = record { traced = owner.traced; always = owner.always; start = owner.start }
 
 abbrev pub line_placed : Laid → Placed
@@ -40,7 +40,7 @@ pub record ArePlaces (all : List Placed) (table : NameTable) (next : List (Optio
   pub within : (name : List ℕ) (place : ℕ) → place_of name all ≡ Some place → place ≤ most_code
 
 -- the bytes of parts; branches count from the place after them
-abbrev pub parts_bytes : List Placed → ℕ → List Part → List ℕ
+abbrev pub parts_bytes : List Placed → ℕ → List UnitDraft → List ℕ
 parts_bytes all following parts = flat_map piece_bytes (map (piece_of all following) parts)
 
 -- each line begins within the code

@@ -2,7 +2,7 @@
 use Rattle.std.specs.Prelude.{◌≡◌, ◌<◌, ◌≤◌, ◌==◌, ◌&&◌, ℕ, Bool, true, false, List, length, All, Option, Some, None, IfSome, min, nat_lt, slice_get}
 use Rattle.xray_image.specs.Program.{Program}
 use Rattle.handler_word.specs.declared.mark.Mark.{Mark}
-use Rattle.patch_script.specs.declared.command.Command.{Command}
+use Rattle.patch_script.specs.declared.command.PatchCommand.{PatchCommand}
 use Rattle.patch_script.specs.Bounds.{bound_of}
 use Rattle.patch_script.specs.CodeAt.{code_at}
 use Rattle.patch_script.specs.Micros.{hold_of, start_of, total_of}
@@ -20,7 +20,7 @@ pub record IsReady (f : Follower) : Type 0 where
   pub within : f.thread ≤ length f.course.now.switches.releases.items
 
 -- it judges a thread beside this script
-pub record Judges (program : Program) (threads : ℕ) (script : List Command) (f : Follower) : Type 0 where
+pub record Judges (program : Program) (threads : ℕ) (script : List PatchCommand) (f : Follower) : Type 0 where
   pub ready : IsReady f
   pub image : f.image.now ≡ program
   pub course : IsCourseOf program threads script f.course.now
@@ -36,7 +36,7 @@ pub record SameButGuesses (old new : Follower) : Type 0 where
 -- the answer is the least place, within a bound, at which a word's value passes a test, or doesn't
 abbrev pub FindsPlace : Follower → (Program → ℕ → ℕ) → (ℕ → Bool) → Bool → ℕ → ℕ → Option ℕ → Type 0
 FindsPlace f word test wants from bound answer =
-    (program : Program) (threads : ℕ) (script : List Command) → Judges program threads script f → bound ≤ total_of program threads script
+    (program : Program) (threads : ℕ) (script : List PatchCommand) → Judges program threads script f → bound ≤ total_of program threads script
     → IsLeast (IsMet (λ place. test (code_at program threads script place (word program threads))) wants from bound) answer
 
 -- ---- bounds
@@ -59,14 +59,14 @@ StopsAt f passing count =
 -- the answer is the bound of a passing
 abbrev pub FindsBound : Follower → ℕ → ℕ → Type 0
 FindsBound f passing answer =
-    (program : Program) (threads : ℕ) (script : List Command) → Judges program threads script f
+    (program : Program) (threads : ℕ) (script : List PatchCommand) → Judges program threads script f
     → answer ≡ bound_of program threads script f.thread passing
 
 -- ---- what was judged
 
 -- It has judged these marks of passings at these sleds: it has the least place at which they may have ended with these
 -- marks, up to which the marks follow the script.
-pub record HasJudged (program : Program) (threads : ℕ) (script : List Command) (f : Follower) (sleds : List ℕ) (marks : List Mark) : Type 0 where
+pub record HasJudged (program : Program) (threads : ℕ) (script : List PatchCommand) (f : Follower) (sleds : List ℕ) (marks : List Mark) : Type 0 where
   pub judges : Judges program threads script f
   pub count : f.passing ≡ length sleds
   pub same : length marks ≡ length sleds

@@ -11,7 +11,7 @@ use Rattle.audit_check.specs.declared.reading.Rows.{Rows}
 use Rattle.audit_check.specs.declared.thread_rows.Counts.{Counts}
 use Rattle.audit_check.specs.private.Parts.{format_row, setup_row}
 use Rattle.audit_check.specs.Reading.{IsRefused, whole_lines}
-use Rattle.audit_check.specs.Statements.{HasCounts, Statement}
+use Rattle.audit_check.specs.Statements.{HasCounts, AuditStatement}
 
 -- ---- rows
 
@@ -35,7 +35,7 @@ abbrev pub first_rows : Setup → List ThreadAudit → List (List ℕ)
 first_rows setup threads = format_row ∷ setup_row setup ∷ flat_map rows_of threads
 
 -- all rows
-abbrev pub all_rows : Statement → List (List ℕ)
+abbrev pub all_rows : AuditStatement → List (List ℕ)
 all_rows statement = first_rows statement.setup statement.threads ++ recycled_line statement.recycled ∷ []
 
 -- ---- a reader

@@ -2,7 +2,7 @@
 use Rattle.std.specs.Prelude.{◌≡◌, ◌↔◌, ℕ, List, Option, Some, None, IsTrue, take}
 use Rattle.xray_image.specs.Program.{Program}
 use Rattle.handler_word.specs.declared.mark.Mark.{Mark}
-use Rattle.patch_script.specs.declared.command.Command.{Command}
+use Rattle.patch_script.specs.declared.command.PatchCommand.{PatchCommand}
 use Rattle.machine_step.specs.PlainStep.{Passing}
 use Rattle.machine_step.specs.Traced.{sleds_passed}
 use Rattle.traced_run.specs.Runs.{ThreadRun}
@@ -20,13 +20,13 @@ use Rattle.audit_check.specs.private.Walks.{first_marks}
 
 -- the first passings of a plain run, as many as `made` says, were made: their marks were judged, and their loads have
 -- these places
-pub record HasStopped (program : Program) (threads : ℕ) (script : List Command) (marks : List Mark) (passed : List Passing) (made : ℕ) (follower : Follower)
+pub record HasStopped (program : Program) (threads : ℕ) (script : List PatchCommand) (marks : List Mark) (passed : List Passing) (made : ℕ) (follower : Follower)
     (places : List ℕ) : Type 0 where
   pub judged : HasJudged program threads script follower (sleds_passed (take made passed)) (first_marks made marks)
   pub placed : HasPlaced program threads script follower (sleds_passed (take made passed)) (first_marks made marks) places
 
 -- what was found of a thread: the places of its loads, if its end and its marks agree
-pub record IsThreadPlaced (program : Program) (threads : ℕ) (script : List Command) (thread : ℕ) (said : ThreadAudit) (run : ThreadRun) (placed : PlacedThread)
+pub record IsThreadPlaced (program : Program) (threads : ℕ) (script : List PatchCommand) (thread : ℕ) (said : ThreadAudit) (run : ThreadRun) (placed : PlacedThread)
     : Type 0 where
   pub ends : IsTrue placed.agreement.ends ↔ EndsAgree said run
   pub marks : EndsAgree said run → IsTrue placed.agreement.marks ↔ MarksAgree program threads script thread said run

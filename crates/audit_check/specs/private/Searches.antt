@@ -3,7 +3,7 @@ use Rattle.std.specs.Prelude.{◌≡◌, ◌≤◌, ◌++◌, ◌∷◌, ℕ, Bo
 use Rattle.xray_image.specs.Program.{Program}
 use Rattle.handler_word.specs.declared.mark.Mark.{Mark}
 use Rattle.handler_word.specs.declared.mark.Mark.TheVariants.{Skipped}
-use Rattle.patch_script.specs.declared.command.Command.{Command}
+use Rattle.patch_script.specs.declared.command.PatchCommand.{PatchCommand}
 use Rattle.patch_script.specs.Bounds.{bound_of}
 use Rattle.patch_script.specs.CodeAt.{code_at}
 use Rattle.patch_script.specs.Micros.{hold_of, start_of, total_of}
@@ -14,7 +14,7 @@ use Rattle.audit_check.specs.declared.searches.Sought.{Sought}
 use Rattle.audit_check.specs.declared.searches.Sought.TheVariants.{ArgHandler, EitherHandler, Handler, Log, Nothing, Patched, Unpatched}
 use Rattle.audit_check.specs.declared.stop.LoadStops.{LoadStops}
 use Rattle.audit_check.specs.declared.stop.Stop.{Stop}
-use Rattle.audit_check.specs.Places.{Search, either_handler, first_place, found_by, handler_searches, has_arg_handler, has_handler, is_patched, log_records, one_load, passing_searches, patched_search, places_from}
+use Rattle.audit_check.specs.Places.{Search, either_handler, first_place, found_by, handler_searches, has_arg_handler, has_handler, is_patched, log_records, one_load, passing_searches, patched_search, load_places_from}
 use Rattle.audit_check.specs.private.Judging.{Judges}
 use Rattle.audit_check.specs.private.LoadStops.{places_in}
 
@@ -55,27 +55,27 @@ end_of found = option_map (λ found. found.place) found
 -- the answer is the first place at which a search finds something, with the loads there
 abbrev pub Finds : Follower → Sought → (sled from bound : ℕ) → Option Stop → Type 0
 Finds f sought sled from bound answer =
-    (program : Program) (threads : ℕ) (script : List Command) → Judges program threads script f → bound ≤ total_of program threads script
+    (program : Program) (threads : ℕ) (script : List PatchCommand) → Judges program threads script f → bound ≤ total_of program threads script
     → answer ≡ option_map (λ place. stop_of ((search_of program threads (code_at program threads script) sled sought).loads place) place)
     (first_place (search_of program threads (code_at program threads script) sled sought).test from bound)
 
 -- the answer is what the searches find, one after the other
 abbrev pub FindsAll : Follower → List Sought → (sled from bound : ℕ) → Option Found → Type 0
 FindsAll f sought sled from bound answer =
-    (program : Program) (threads : ℕ) (script : List Command) → Judges program threads script f → bound ≤ total_of program threads script
+    (program : Program) (threads : ℕ) (script : List PatchCommand) → Judges program threads script f → bound ≤ total_of program threads script
     → answer ≡ counted (found_by bound from (map (search_of program threads (code_at program threads script) sled) sought))
 
 -- the loads that they find are added
 abbrev pub AddsAll : Follower → List Sought → (sled from bound : ℕ) → (old new : LoadStops) → Type 0
 AddsAll f sought sled from bound old new =
-    (program : Program) (threads : ℕ) (script : List Command) → Judges program threads script f → bound ≤ total_of program threads script
+    (program : Program) (threads : ℕ) (script : List PatchCommand) → Judges program threads script f → bound ≤ total_of program threads script
     → (found : ℕ × List ℕ) → found_by bound from (map (search_of program threads (code_at program threads script) sled) sought) ≡ Some found
     → places_in new ≡ places_in old ++ found.1
 
 -- so they find it for the next passing, if those before it have places
 abbrev pub FindsNext : Follower → (sled : ℕ) → Mark → (bound : ℕ) → Option Found → Type 0
 FindsNext f sled mark bound answer =
-    (program : Program) (threads : ℕ) (script : List Command) → Judges program threads script f → bound ≤ total_of program threads script
+    (program : Program) (threads : ℕ) (script : List PatchCommand) → Judges program threads script f → bound ≤ total_of program threads script
     → MatchOption f.place (answer ≡ None)
     (λ from. answer
     ≡ counted (found_by bound from (passing_searches program threads (code_at program threads script) f.thread (is_held_at f.hold f.passing) sled mark)))
@@ -83,18 +83,18 @@ FindsNext f sled mark bound answer =
 -- and its loads are added
 abbrev pub AddsNext : Follower → (sled : ℕ) → Mark → (bound : ℕ) → (old new : LoadStops) → Type 0
 AddsNext f sled mark bound old new =
-    (program : Program) (threads : ℕ) (script : List Command) → Judges program threads script f → bound ≤ total_of program threads script
+    (program : Program) (threads : ℕ) (script : List PatchCommand) → Judges program threads script f → bound ≤ total_of program threads script
     → (from : ℕ) (found : ℕ × List ℕ) → f.place ≡ Some from
     → found_by bound from (passing_searches program threads (code_at program threads script) f.thread (is_held_at f.hold f.passing) sled mark) ≡ Some found
     → places_in new ≡ places_in old ++ found.1
 
 -- the loads of the passings at these sleds, with these marks, have these places, and the others go on from there; if the
 -- follower has no place, there are no places
-pub record HasPlaced (program : Program) (threads : ℕ) (script : List Command) (f : Follower) (sleds : List ℕ) (marks : List Mark) (places : List ℕ)
+pub record HasPlaced (program : Program) (threads : ℕ) (script : List PatchCommand) (f : Follower) (sleds : List ℕ) (marks : List Mark) (places : List ℕ)
     : Type 0 where
   pub goes_on : (more : List ℕ) (more_marks : List Mark)
-      → places_from program threads (code_at program threads script) (bound_of program threads script f.thread) f.thread (hold_of f.thread script) 0
+      → load_places_from program threads (code_at program threads script) (bound_of program threads script f.thread) f.thread (hold_of f.thread script) 0
       (start_of program threads script) (sleds ++ more) (marks ++ more_marks)
       ≡ option_and_then (λ from. option_map (λ later. places ++ later)
-      (places_from program threads (code_at program threads script) (bound_of program threads script f.thread) f.thread (hold_of f.thread script)
+      (load_places_from program threads (code_at program threads script) (bound_of program threads script f.thread) f.thread (hold_of f.thread script)
       (length sleds) from more more_marks)) f.place

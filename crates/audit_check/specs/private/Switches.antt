@@ -4,7 +4,7 @@ use Rattle.xray_image.specs.Program.{Program}
 use Rattle.sled_words.specs.declared.part.Part.TheVariants.{Head}
 use Rattle.sled_words.specs.Parts.{patched_head}
 use Rattle.sled_words.specs.Words.{IsCodeWord, arg_handler_word, handler_word, release_word, state_word, word_of}
-use Rattle.patch_script.specs.declared.command.Command.{Command}
+use Rattle.patch_script.specs.declared.command.PatchCommand.{PatchCommand}
 use Rattle.patch_script.specs.declared.micro.Micro.{Micro}
 use Rattle.patch_script.specs.declared.micro.Micro.TheVariants.{Store, Await, End}
 use Rattle.patch_script.specs.CodeAt.{code_at}
@@ -77,7 +77,7 @@ awaits_from place (End ∷ steps) = awaits_from (place + 1) steps
 -- ---- the course of a script
 
 -- what the first `last` micro steps of a script do
-pub record IsCourseUpTo (program : Program) (threads : ℕ) (script : List Command) (last : ℕ) (course : Course) : Type 0 where
+pub record IsCourseUpTo (program : Program) (threads : ℕ) (script : List PatchCommand) (last : ℕ) (course : Course) : Type 0 where
   pub words : IsOfWords program threads course.switches
   pub switches : AreSwitches program threads (code_at program threads script) last course.switches
   pub awaits : course.awaits.items ≡ awaits_from 0 (take last (micros program threads script))
@@ -86,7 +86,7 @@ pub record IsCourseUpTo (program : Program) (threads : ℕ) (script : List Comma
   pub few : total_of program threads script ≤ most_micros
 
 -- what all of them do
-abbrev pub IsCourseOf : Program → ℕ → List Command → Course → Type 0
+abbrev pub IsCourseOf : Program → ℕ → List PatchCommand → Course → Type 0
 IsCourseOf program threads script course = IsCourseUpTo program threads script (total_of program threads script) course
 
 -- ---- steps
@@ -100,6 +100,6 @@ pub record TakesStep (course : Course) (micro : Micro) : Type 0 where
 -- a course takes the micro step at a place
 abbrev pub TakesOne : Course → Micro → ℕ → Course → Type 0
 TakesOne old micro place new =
-    (program : Program) (threads : ℕ) (script : List Command) → IsCourseUpTo program threads script place old
+    (program : Program) (threads : ℕ) (script : List PatchCommand) → IsCourseUpTo program threads script place old
     → place < total_of program threads script → micro_at program threads script place ≡ micro
     → IsCourseUpTo program threads script (place + 1) new

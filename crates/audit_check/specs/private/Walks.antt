@@ -4,7 +4,7 @@ use Rattle.xray_image.specs.Program.{Program}
 use Rattle.handler_word.specs.declared.mark.Mark.{Mark}
 use Rattle.handler_word.specs.declared.mark.Mark.TheVariants.{Skipped}
 use Rattle.handler_word.specs.MarkList.{recorded_count}
-use Rattle.patch_script.specs.declared.command.Command.{Command}
+use Rattle.patch_script.specs.declared.command.PatchCommand.{PatchCommand}
 use Rattle.machine_step.specs.declared.setup.Setup.{Setup}
 use Rattle.machine_step.specs.Events.{recorded}
 use Rattle.machine_step.specs.PlainStep.{Passing}
@@ -36,7 +36,7 @@ mark_or_skipped marks passing = unwrap_or (slice_get marks passing) Skipped
 -- what a thread is judged and noted with
 pub record Way : Type 0 where
   pub program : Program
-  pub script : List Command
+  pub script : List PatchCommand
   pub setup : Setup
   pub thread : ℕ
   pub lost : ℕ

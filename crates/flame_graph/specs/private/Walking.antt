@@ -1,7 +1,7 @@
 -- One walk through the rows, in which a frame is open from its first row to its last.
 use Rattle.std.specs.Prelude.{◌≡◌, ◌<◌, ◌==◌, not, ℕ, zero, suc, List, [], ◌∷◌, drop, length, take, count_by, slice_index_or, if◌then◌else◌}
 use Rattle.stack_rebuild.specs.Stacks.{PathRow}
-use Rattle.flame_graph.specs.Frames.{prefixes, calls_in, calls_of, capped, no_calls, own_sum, total_of}
+use Rattle.flame_graph.specs.Frames.{prefixes, calls_in, calls_of, capped, no_calls, own_sum, frames_total}
 use Rattle.flame_graph.specs.Picture.{is_drawn, left_of, most_levels, thousandths_at}
 use Rattle.flame_graph.specs.declared.frame.Calls.{Calls}
 use Rattle.flame_graph.specs.declared.frame.Openings.{Openings}
@@ -35,7 +35,7 @@ opening_at openings n = record { left = slice_index_or openings.lefts n 0; first
 
 -- what is kept of a frame that opens at a row
 abbrev pub opened : List PathRow → ℕ → Opening
-opened rows at = record { left = thousandths_at (total_of rows) (capped (own_sum (take at rows))); first = at }
+opened rows at = record { left = thousandths_at (frames_total rows) (capped (own_sum (take at rows))); first = at }
 
 -- the calls of a frame with this many functions, whose first row is this one
 abbrev pub calls_by : PathRow → ℕ → Calls

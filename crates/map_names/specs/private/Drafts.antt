@@ -5,22 +5,22 @@ use Rattle.text_lines.specs.Lines.{numbered_lines}
 use Rattle.map_names.specs.declared.fault.MapFault.{MapFault}
 use Rattle.map_names.specs.declared.fault.MapFault.TheVariants.{NoMemory}
 use Rattle.map_names.specs.declared.reading.Draft.{Draft}
-use Rattle.map_names.specs.Entries.{Entry}
+use Rattle.map_names.specs.Entries.{NamedFunction}
 use Rattle.map_names.specs.MapNames.{named}
-use Rattle.map_names.specs.Maps.{Before, Start, Listed, Whole, line_rows, map_of, naming_of}
+use Rattle.map_names.specs.Maps.{Before, Start, Listed, Whole, map_line_rows, map_of, naming_of}
 
 -- what came before the next line, if these entries did, and the map has ended or not
-abbrev pub before_in : Bool → List Entry → Before
+abbrev pub before_in : Bool → List NamedFunction → Before
 before_in false entries = Listed entries
 before_in true entries = Whole entries
 
 -- the draft has the names of these entries
-pub record IsDraftOf (entries : List Entry) (draft : Draft) : Type 0 where
+pub record IsDraftOf (entries : List NamedFunction) (draft : Draft) : Type 0 where
   pub names : named draft.names ≡ naming_of entries
 
 -- the draft is what came before the next line
 abbrev pub Stands : Draft → Before → Type 0
-Stands draft before = (entries : List Entry) × IsDraftOf entries draft × (before_in draft.ended entries ≡ before)
+Stands draft before = (entries : List NamedFunction) × IsDraftOf entries draft × (before_in draft.ended entries ≡ before)
 
 -- A line was taken: the draft is what came before the next one. Or the line is refused so, or memory ran out.
 abbrev pub Takes : {X : Type 0} → Result X MapFault → Result Before MapFault → Draft → Type 0
@@ -30,5 +30,5 @@ Takes (Err fault) rows draft = (fault ≡ NoMemory) ⊎ (rows ≡ Err fault)
 
 -- All lines were taken: the draft is what came before the end of the text. Or the text is refused so, or memory ran out.
 abbrev pub Reads : List ℕ → Result Draft MapFault → Type 0
-Reads text (Ok draft) = (before : Before) × Stands draft before × (InTurn line_rows Start (numbered_lines text) ≡ Ok before)
+Reads text (Ok draft) = (before : Before) × Stands draft before × (InTurn map_line_rows Start (numbered_lines text) ≡ Ok before)
 Reads text (Err fault) = (fault ≡ NoMemory) ⊎ (map_of text ≡ Err fault)

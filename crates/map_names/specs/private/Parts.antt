@@ -3,7 +3,7 @@ use Rattle.std.specs.Prelude.{ℕ, Bool, true, false, List, [], ◌∷◌, Optio
 use Rattle.map_names.specs.declared.entry.IdName.{IdName}
 use Rattle.map_names.specs.declared.quote.Added.{Added}
 use Rattle.map_names.specs.declared.quote.Added.TheVariants.{Nothing, Byte, Escape}
-use Rattle.map_names.specs.Entries.{Entry, id_in, written_name}
+use Rattle.map_names.specs.Entries.{NamedFunction, id_in, written_name}
 
 -- what is added to a name, and whether the next byte belongs to the one that added it
 abbrev pub added_by : Added → List ℕ × Bool
@@ -16,5 +16,5 @@ abbrev pub written_in : List ℕ → Option (ℕ × List ℕ)
 written_in line = option_and_then (λ start. option_map (λ name. (start.0, name)) (written_name start.1)) (id_in line)
 
 -- an entry that was read
-abbrev pub entry_read : IdName → Entry
+abbrev pub entry_read : IdName → NamedFunction
 entry_read read = record { id = read.id; name = read.name.items }

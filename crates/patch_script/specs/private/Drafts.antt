@@ -2,7 +2,7 @@
 use Rattle.std.specs.Prelude.{◌≡◌, ◌≤◌, ◌⊎◌, ℕ, Result, Ok, Err}
 use Rattle.xray_image.specs.Program.{Program}
 use Rattle.xray_image.specs.Ids.{id_count}
-use Rattle.patch_script.specs.declared.command.Command.{Command}
+use Rattle.patch_script.specs.declared.command.PatchCommand.{PatchCommand}
 use Rattle.patch_script.specs.declared.fault.ScriptFault.{ScriptFault}
 use Rattle.patch_script.specs.declared.fault.ScriptFault.TheVariants as faults
 use Rattle.patch_script.specs.declared.reading.Draft.{Draft}
@@ -25,11 +25,11 @@ pub record IsDraft (draft : Draft) : Type 0 where
   pub standing : IsStanding (commands_of (lines_of draft)) draft.standing
 
 -- no row refuses the command
-abbrev pub MayFollow : Draft → Command → Type 0
+abbrev pub MayFollow : Draft → PatchCommand → Type 0
 MayFollow draft command = IsAdmitted (program_of draft) draft.placed.threads (commands_of (lines_of draft)) command
 
 -- the command is admitted, or this is its first refusal
-abbrev pub Judges : {X : Type 0} → Draft → ℕ → Command → Result X ScriptFault → Type 0
+abbrev pub Judges : {X : Type 0} → Draft → ℕ → PatchCommand → Result X ScriptFault → Type 0
 Judges draft number command (Ok x) = MayFollow draft command
 Judges draft number command (Err fault) = judged (program_of draft) draft.placed.threads (lines_of draft) number command ≡ Err fault
 

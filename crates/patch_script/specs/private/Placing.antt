@@ -6,8 +6,8 @@ use Rattle.xray_image.specs.Program.{Program}
 use Rattle.xray_image.specs.Limits.{most_sleds}
 use Rattle.xray_image.specs.Ids.{id_count}
 use Rattle.sled_words.specs.Words.{handler_word, state_word, arg_handler_word}
-use Rattle.patch_script.specs.declared.command.Command.{Command}
-use Rattle.patch_script.specs.declared.command.Command.TheVariants as commands
+use Rattle.patch_script.specs.declared.command.PatchCommand.{PatchCommand}
+use Rattle.patch_script.specs.declared.command.PatchCommand.TheVariants as commands
 use Rattle.patch_script.specs.declared.placed.Placed.{Placed}
 use Rattle.patch_script.specs.declared.placed.PlacedCommands.{PlacedCommands}
 use Rattle.patch_script.specs.private.FirstPatches.{AreFirst}
@@ -18,7 +18,7 @@ use Rattle.patch_script.specs.Limits.{most_commands}
 use Rattle.patch_script.specs.private.Sleds.{values_of, HasSleds}
 
 -- how many micro steps a command has, by the number of sleds that it patches or unpatches
-abbrev pub step_count : Command → ℕ → ℕ
+abbrev pub step_count : PatchCommand → ℕ → ℕ
 step_count commands.Patch sleds = 4 * sleds
 step_count commands.Unpatch sleds = sleds
 step_count (commands.PatchFunction id) sleds = 4 * sleds
@@ -34,14 +34,14 @@ step_count commands.Go sleds = 0
 step_count (commands.Release thread) sleds = 1
 step_count (commands.Await thread count) sleds = 1
 
-abbrev pub line_in : Placed → ℕ × Command
+abbrev pub line_in : Placed → ℕ × PatchCommand
 line_in placed = (placed.line, placed.command)
 
 abbrev pub lines_in : PlacedCommands → Lines
 lines_in placed = map line_in placed.commands.items
 
 -- the threads that the command names have release words
-abbrev pub NamesFewThreads : Command → Type 0
+abbrev pub NamesFewThreads : PatchCommand → Type 0
 NamesFewThreads (commands.Release thread) = thread ≤ 16
 NamesFewThreads commands.Patch = Unit {0}
 NamesFewThreads commands.Unpatch = Unit {0}
@@ -58,14 +58,14 @@ NamesFewThreads commands.Go = Unit {0}
 NamesFewThreads (commands.Await thread count) = Unit {0}
 
 -- a command is in its place
-pub record IsPlaced (program : Program) (threads : ℕ) (earlier : List Command) (placed : Placed) : Type 0 where
+pub record IsPlaced (program : Program) (threads : ℕ) (earlier : List PatchCommand) (placed : Placed) : Type 0 where
   pub before : placed.before ≡ total_of program threads earlier
   pub after : placed.after ≡ placed.before + step_count placed.command (placed.sleds.end - placed.sleds.start)
   pub sleds : HasSleds program placed.command placed.sleds
   pub thread : NamesFewThreads placed.command
 
 -- the numbers of the sleds that the commands so far patch
-abbrev pub patched_by : Program → List Command → List ℕ
+abbrev pub patched_by : Program → List PatchCommand → List ℕ
 patched_by program script = flat_map (λ command. numbers (patches program command)) script
 
 abbrev pub patched_before : PlacedCommands → ℕ → List ℕ
@@ -93,7 +93,7 @@ pub record ArePlaced (placed : PlacedCommands) : Type 0 where
   pub room : length (lines_in placed) ≤ most_commands
 
 -- A command that may be added. Its function and its thread exist, and there are fewer than 1,024 commands so far.
-pub record MayBePlaced (placed : PlacedCommands) (command : Command) : Type 0 where
+pub record MayBePlaced (placed : PlacedCommands) (command : PatchCommand) : Type 0 where
   pub function : names_no_function placed.image.value command ≡ false
   pub thread : names_no_thread 16 command ≡ false
   pub room : length (lines_in placed) < most_commands

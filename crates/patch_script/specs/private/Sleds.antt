@@ -5,8 +5,8 @@ use Rattle.xray_image.specs.Program.{Program, Trampolines}
 use Rattle.sled_words.specs.declared.part.Part.{Part}
 use Rattle.sled_words.specs.declared.part.Part.TheVariants.{Head, Id, Opcode, Offset}
 use Rattle.sled_words.specs.Parts.{patched, patched_head}
-use Rattle.patch_script.specs.declared.command.Command.{Command}
-use Rattle.patch_script.specs.declared.command.Command.TheVariants as commands
+use Rattle.patch_script.specs.declared.command.PatchCommand.{PatchCommand}
+use Rattle.patch_script.specs.declared.command.PatchCommand.TheVariants as commands
 use Rattle.patch_script.specs.declared.sleds.SledRange.{SledRange}
 use Rattle.patch_script.specs.declared.sleds.SledValues.{SledValues}
 use Rattle.patch_script.specs.Micros.{Numbered, all_sleds, sleds_of}
@@ -39,7 +39,7 @@ pub record HasId (sleds : List SledValues) (id : ℕ) (range : SledRange) : Type
   pub following : (k : ℕ) (d : SledValues) → range.end ≤ k → k < length sleds → id < (slice_index_or sleds k d).id
 
 -- the sleds that a command patches or unpatches
-abbrev pub sleds_named : Program → Command → List Numbered
+abbrev pub sleds_named : Program → PatchCommand → List Numbered
 sleds_named program commands.Patch = all_sleds program
 sleds_named program commands.Unpatch = all_sleds program
 sleds_named program (commands.PatchFunction id) = sleds_of program id
@@ -60,7 +60,7 @@ abbrev pub in_range : SledRange → List Numbered → List Numbered
 in_range range sleds = take (range.end - range.start) (drop range.start sleds)
 
 -- the range has the sleds of the command
-pub record HasSleds (program : Program) (command : Command) (range : SledRange) : Type 0 where
+pub record HasSleds (program : Program) (command : PatchCommand) (range : SledRange) : Type 0 where
   pub ordered : range.start ≤ range.end
   pub within : range.end ≤ length program.sleds
   pub sleds : sleds_named program command ≡ in_range range (all_sleds program)

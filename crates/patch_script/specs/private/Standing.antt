@@ -1,8 +1,8 @@
 -- What the commands so far have done, as it is stored.
 use Rattle.std.specs.Prelude.{◌≡◌, ℕ, zero, suc, Bool, true, false, ◌==◌, ◌||◌, List, slice_index_or, Option, Some, None, if◌then◌else◌}
 use Rattle.std.specs.List.{list_any}
-use Rattle.patch_script.specs.declared.command.Command.{Command}
-use Rattle.patch_script.specs.declared.command.Command.TheVariants as commands
+use Rattle.patch_script.specs.declared.command.PatchCommand.{PatchCommand}
+use Rattle.patch_script.specs.declared.command.PatchCommand.TheVariants as commands
 use Rattle.patch_script.specs.declared.standing.Hold.{Hold}
 use Rattle.patch_script.specs.declared.standing.Hold.TheVariants.{Free, Held, Released}
 use Rattle.patch_script.specs.declared.standing.Holds.{Holds}
@@ -58,7 +58,7 @@ released_of (Held passing) = Released passing
 released_of (Released passing) = Released passing
 
 -- the hold of a thread after a command
-abbrev pub hold_after : ℕ → Command → Hold → Hold
+abbrev pub hold_after : ℕ → PatchCommand → Hold → Hold
 hold_after thread (commands.Hold held passing) hold = if held == thread then Held passing else hold
 hold_after thread (commands.Release released) hold = if released == thread then released_of hold else hold
 hold_after thread commands.Patch hold = hold
@@ -75,7 +75,7 @@ hold_after thread commands.Go hold = hold
 hold_after thread (commands.Await named count) hold = hold
 
 -- the log after a command
-abbrev pub log_after : Command → Log → Log
+abbrev pub log_after : PatchCommand → Log → Log
 log_after commands.Init log = Initialized
 log_after commands.Finalize log = Finalized
 log_after commands.Patch log = log
@@ -92,17 +92,17 @@ log_after (commands.Release thread) log = log
 log_after (commands.Await thread count) log = log
 
 -- the new standing is the old one after a command
-pub record Follows (old : Standing) (command : Command) (new : Standing) : Type 0 where
+pub record Follows (old : Standing) (command : PatchCommand) (new : Standing) : Type 0 where
   pub going : new.going ≡ (old.going || is_go command)
   pub log : new.log ≡ log_after command old.log
   pub holds : (thread : ℕ) → hold_in new.holds thread ≡ hold_after thread command (hold_in old.holds thread)
 
 -- the holds are those of the commands
-pub record AreHolds (script : List Command) (holds : Holds) : Type 0 where
+pub record AreHolds (script : List PatchCommand) (holds : Holds) : Type 0 where
   pub passings : (thread : ℕ) → passing_of (hold_in holds thread) ≡ hold_of thread script
   pub released : (thread : ℕ) → was_released (hold_in holds thread) ≡ is_released thread script
 
-pub record IsStanding (script : List Command) (standing : Standing) : Type 0 where
+pub record IsStanding (script : List PatchCommand) (standing : Standing) : Type 0 where
   pub going : standing.going ≡ has_go script
   pub initialized : was_initialized standing.log ≡ list_any is_init script
   pub finalized : was_finalized standing.log ≡ list_any is_finalize script

@@ -6,7 +6,7 @@ use Rattle.step_sim.specs.declared.turns.Turns.{Turns}
 use Rattle.run_order.specs.declared.lines.ScheduleLines.{ScheduleLines}
 use Rattle.audit_check.specs.declared.stop.Stop.{Stop}
 use Rattle.audit_check.specs.Stops.{places_of}
-use Rattle.run_order.specs.Orders.{thread_line, turns_from}
+use Rattle.run_order.specs.Orders.{load_line, turns_from}
 use Rattle.run_order.specs.private.Lines.{HasJoined}
 
 -- their places rise from one on, and there is a load at each
@@ -43,7 +43,7 @@ pub record ArePassed (place : ℕ) (threads : ℕ) (old new : List (Bor (List St
 abbrev pub HaveAdded : ℕ → ℕ → List (Bor (List Stop)) → ScheduleLines → ScheduleLines → Type 0
 HaveAdded place threads left old new =
     (turns : List Turns) → HasJoined turns old
-    → HasJoined (turns ++ flat_map (λ own. thread_line own.0 (count_by (λ other. other == place) own.1))
+    → HasJoined (turns ++ flat_map (λ own. load_line own.0 (count_by (λ other. other == place) own.1))
     (take threads (enumerate_from 1 (places_in left)))) new
 
 -- ---- all places

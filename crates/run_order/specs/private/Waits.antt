@@ -3,7 +3,7 @@ use Rattle.std.specs.Prelude.{◌≡◌, ◌<◌, ◌+◌, ◌-◌, ◌∷◌, �
 use Rattle.xray_image.specs.Program.{Program}
 use Rattle.sled_words.specs.declared.part.Part.TheVariants.{Id}
 use Rattle.sled_words.specs.Words.{word_of}
-use Rattle.patch_script.specs.declared.command.Command.{Command}
+use Rattle.patch_script.specs.declared.command.PatchCommand.{PatchCommand}
 use Rattle.patch_script.specs.declared.micro.Micro.{Micro}
 use Rattle.patch_script.specs.declared.micro.Micro.TheVariants.{Store}
 use Rattle.patch_script.specs.Micros.{micros}
@@ -15,14 +15,14 @@ waits_from program threads place [] = []
 waits_from program threads place (step ∷ steps) =
     if is_free program threads step then waits_from program threads (place + 1) steps else place ∷ waits_from program threads (place + 1) steps
 
-abbrev pub waits_of : Program → (threads : ℕ) → List Command → List ℕ
+abbrev pub waits_of : Program → (threads : ℕ) → List PatchCommand → List ℕ
 waits_of program threads script = waits_from program threads 0 (micros program threads script)
 
 -- they are those of some script
 pub record AreWaits (waits : List ℕ) : Type 0 where
   pub program : Program
   pub threads : ℕ
-  pub script : List Command
+  pub script : List PatchCommand
   pub are : waits ≡ waits_of program threads script
 
 -- a place, counted without the waits before it

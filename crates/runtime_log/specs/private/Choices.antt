@@ -7,7 +7,7 @@ use Rattle.runtime_log.specs.declared.blocks.LogBlock.{LogBlock as Placed}
 use Rattle.runtime_log.specs.declared.taken.LeftOut.{LeftOut}
 use Rattle.runtime_log.specs.declared.version.LogVersion.{LogVersion}
 use Rattle.runtime_log.specs.Logs.{LogBlock, log_block_in}
-use Rattle.runtime_log.specs.Taken.{first_ones, is_among, undoubled}
+use Rattle.runtime_log.specs.Taken.{first_ones, is_among_contents, undoubled}
 
 -- the bytes of a block, without the record of 16 bytes that stands before them
 abbrev pub content_at : List ℕ → Placed → List ℕ
@@ -67,4 +67,4 @@ pub record KeepsFirst (bytes : List ℕ) (version : LogVersion) (said : List Log
   pub before : List (List ℕ)
   pub at : AreAt bytes version kept done
   pub parts : undoubled said ≡ done ++ first_ones before (drop count said)
-  pub among : (content : List ℕ) → is_among seen content ≡ is_among before content
+  pub among : (content : List ℕ) → is_among_contents seen content ≡ is_among_contents before content

@@ -7,7 +7,7 @@ use Rattle.fdr_file.specs.declared.header.Header.{Header}
 use Rattle.fdr_file.specs.Traces.{type_in, version_in}
 use Rattle.runtime_log.specs.declared.blocks.Mode.{Mode}
 use Rattle.runtime_log.specs.declared.blocks.Mode.TheVariants.{Recorder, Basic}
-use Rattle.runtime_log.specs.Logs.{basic_header, recorder_header}
+use Rattle.runtime_log.specs.Logs.{imported_header, recorder_header}
 use Rattle.runtime_log.specs.Versions.{log_version_of}
 
 -- the mode of a log, or the refusal of its header
@@ -23,4 +23,4 @@ mode_of bytes =
 -- the header of its trace
 abbrev pub header_for : Mode → List ℕ → Header
 header_for (Recorder version) bytes = recorder_header bytes
-header_for Basic bytes = basic_header bytes
+header_for Basic bytes = imported_header bytes

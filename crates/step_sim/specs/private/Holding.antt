@@ -5,7 +5,7 @@ use Rattle.fdr_buffer.specs.declared.buffer.TheConstants.{LEAST_SIZE}
 use Rattle.fdr_buffer.specs.Filled.{Filled, empty_buffer}
 use Rattle.fdr_buffer.specs.Segments.{has_room, segments}
 use Rattle.step_sim.specs.declared.pool.Pool.{Pool}
-use Rattle.step_sim.specs.Pool.{Fresh, Item, Segment, Stock, segments_among, serials_of, stock_after}
+use Rattle.step_sim.specs.Pool.{Fresh, QueueItem, Segment, Stock, segments_among, serials_of, stock_after}
 use Rattle.traced_run.specs.Kept.{Stamp, buffer_of}
 
 -- the events of each thread, by its number
@@ -17,13 +17,13 @@ abbrev pub segments_in : Stamp → Histories → ℕ → List (List Event)
 segments_in stamp events thread = segments stamp.size (events thread)
 
 -- the buffer of a queued item
-abbrev pub held : Stamp → Histories → Item → Filled
+abbrev pub held : Stamp → Histories → QueueItem → Filled
 held stamp events Fresh = empty_buffer stamp.size
 held stamp events (Segment thread serial) =
     buffer_of stamp thread (serial, unwrap_or (slice_get (segments_in stamp events thread) serial) [])
 
 -- an item isn't begun, or is a segment of one of the threads that isn't its last
-abbrev pub IsClosed : Stamp → Histories → ℕ → Item → Type 0
+abbrev pub IsClosed : Stamp → Histories → ℕ → QueueItem → Type 0
 IsClosed stamp events threads Fresh = ⊤
 IsClosed stamp events threads (Segment thread serial) =
     (0 < thread) × (thread ≤ threads) × (serial + 1 < length (segments_in stamp events thread))

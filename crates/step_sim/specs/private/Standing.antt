@@ -2,7 +2,7 @@
 use Rattle.std.specs.Prelude.{◌≡◌, ◌<◌, ◌≤◌, ◌+◌, ◌^◌, ℕ, List, [], length, slice_get, vec_len, Some, None}
 use Rattle.xray_image.specs.Program.{Program}
 use Rattle.sled_words.specs.Words.{word_count}
-use Rattle.patch_script.specs.declared.command.Command.{Command}
+use Rattle.patch_script.specs.declared.command.PatchCommand.{PatchCommand}
 use Rattle.patch_script.specs.Micros.{hold_of, total_of}
 use Rattle.patch_script.specs.Refusals.{commands_of}
 use Rattle.patch_script.specs.StoredWords.{AreCodeAt}
@@ -18,7 +18,7 @@ use Rattle.step_sim.specs.Replay.{Cast, Moment, of_thread, thread_count}
 -- ---- one patcher, one thread
 
 -- the patcher has made the first micro steps of a script for this many threads, up to a place, and no others
-pub record IsPatcherAt (program : Program) (threads : ℕ) (script : List Command) (place : ℕ) (p : Patcher) : Type 0 where
+pub record IsPatcherAt (program : Program) (threads : ℕ) (script : List PatchCommand) (place : ℕ) (p : Patcher) : Type 0 where
   pub program_is : p.script.now.program ≡ program
   pub threads_are : p.script.now.threads ≡ threads
   pub script_is : commands_of p.script.now.lines ≡ script
@@ -76,11 +76,11 @@ abbrev pub AllPlay : Patcher → List Traced → Type 0
 AllPlay p ts = (cast : Cast) × (threads : ℕ) × (limits : Limits) × (moment : Moment) × AllStandAt cast threads limits moment p ts
 
 -- a thread that has loaded nothing yet
-pub record HasBegun (program : Program) (script : List Command) (threads : ℕ) (limits : Limits) (number : ℕ) (t : Traced) : Type 0 where
+pub record HasBegun (program : Program) (script : List PatchCommand) (threads : ℕ) (limits : Limits) (number : ℕ) (t : Traced) : Type 0 where
   pub thread_is : IsThreadOf program number threads (hold_of number script) limits t
   pub passed : List Passing
   pub loaded : HasLoaded t passed []
 
 -- all threads, in order, have loaded nothing yet
-abbrev pub AllHaveBegun : Program → List Command → ℕ → Limits → List Traced → Type 0
+abbrev pub AllHaveBegun : Program → List PatchCommand → ℕ → Limits → List Traced → Type 0
 AllHaveBegun program script threads limits ts = (i : ℕ) (t : Traced) → slice_get ts i ≡ Some t → HasBegun program script threads limits (i + 1) t

@@ -5,7 +5,7 @@ ghost use Rattle.std.specs.List.Sorted.{IsNonDecreasingBy};
 ghost use Rattle.xray_image.specs.private.ImageView.{named_function};
 ghost use Rattle.xray_image.specs.private.{Index.{AreWithin, IsIndexOf}, Judging.{IsJudged}};
 ghost use Rattle.xray_image.specs.Program.{Program, IsAccepted, addresses, is_name_byte};
-ghost use Rattle.xray_image.specs.Table.{Verdict, ReadsAs, ReadsProgram};
+ghost use Rattle.xray_image.specs.Table.{ImageReading, ReadsAs, ReadsProgram};
 ghost use Rattle.xray_image.specs.private.UnitTable.{units_in, IsSoundTable};
 ghost use Rattle.xray_image.specs.private.Views.{entry_of, function_of, places_in, program_read};
 
@@ -122,7 +122,7 @@ fn read_program(alloc: Global, bytes: &[u8]) -> Result<Image, ImageFault>
 pub fn read_image(alloc: Global, bytes: &[u8]) -> Result<Image, ImageFault>
     // The answer is what the file reads as, unless memory runs out.
     ensures reads { (result ≡ Err ImageFault.NoMemory) ⊎ ReadsAs bytes.now result }
-    ensures exact { (verdict : Verdict) → ReadsAs bytes.now verdict
+    ensures exact { (verdict : ImageReading) → ReadsAs bytes.now verdict
         → (result ≡ verdict) ⊎ (result ≡ Err ImageFault.NoMemory) }
     // A file is read as an image exactly when it is accepted, unless memory runs out.
     ensures found { IfOk result (IsAccepted bytes.now) }

@@ -4,7 +4,7 @@ use Rattle.xray_image.specs.Program.{IsAccepted, Program}
 use Rattle.sled_words.specs.ChangingCode.{KeepsSleds}
 use Rattle.patch_script.specs.CodeAt.{code_at}
 use Rattle.patch_script.specs.Micros.{hold_of}
-use Rattle.patch_script.specs.declared.command.Command.{Command as PatchCommand}
+use Rattle.patch_script.specs.declared.command.PatchCommand.{PatchCommand as PatchCommand}
 use Rattle.machine_step.specs.declared.setup.Setup.{Setup}
 use Rattle.machine_step.specs.Buffers.{spare_of}
 use Rattle.machine_step.specs.Follows.{Follows}

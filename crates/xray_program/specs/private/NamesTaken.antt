@@ -6,7 +6,7 @@ use Rattle.map_names.specs.MapNames.{named}
 use Rattle.map_names.specs.Maps.{map_naming}
 use Rattle.map_names.specs.Naming.{Naming, no_names}
 use Rattle.map_names.specs.declared.naming.MapNames.{MapNames}
-use Rattle.xray_io.specs.Calls.{Call}
+use Rattle.xray_io.specs.Calls.{CallMade}
 use Rattle.xray_io.specs.World.{DeskView}
 use Rattle.xray_program.specs.Inputs.{image_form, image_limit, map_form, map_limit}
 use Rattle.xray_program.specs.Taking.{Form}
@@ -38,7 +38,7 @@ AreNamesTaken (ByImage name) before after result = IsTakenAs image_form (λ take
 AreNamesTaken (ByMap name) before after result = IsTakenAs map_form (λ taken naming. named_by taken ≡ naming) name before after result
 
 -- the calls of the turn; there are none if nothing names functions
-abbrev pub AreNamesTaking : {X : Type 0} → NameSource → Result X Stop → List Call → Type 0
+abbrev pub AreNamesTaking : {X : Type 0} → NameSource → Result X Stop → List CallMade → Type 0
 AreNamesTaking ByIds result calls = calls ≡ []
 AreNamesTaking (ByImage name) result calls = IsTaking name image_limit result calls
 AreNamesTaking (ByMap name) result calls = IsTaking name map_limit result calls

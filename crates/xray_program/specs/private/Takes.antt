@@ -1,6 +1,6 @@
 -- How the turns of inputs end: with values, or with a stop.
 use Rattle.std.specs.Prelude.{◌≡◌, ◌⊎◌, ◌<◌, ◌≤◌, ◌+◌, ℕ, List, [], length, Option, Some, None, OnOk, Result, Ok, Err, ⊤}
-use Rattle.xray_io.specs.Calls.{Call, Went}
+use Rattle.xray_io.specs.Calls.{CallMade, Went}
 use Rattle.xray_io.specs.Desk.{Entry, Absent}
 use Rattle.xray_io.specs.Reads.{Reads, ReadsSome, ReadsUpToFault}
 use Rattle.xray_io.specs.Faults.{Rose}
@@ -80,7 +80,7 @@ IsFaultStop name kind told stop = ⊥
 -- ---- the calls of the desk
 
 -- the calls of an input's turn that ended with a stop
-abbrev pub StopsTaking : List ℕ → (limit : ℕ) → Stop → List Call → Type 0
+abbrev pub StopsTaking : List ℕ → (limit : ℕ) → Stop → List CallMade → Type 0
 StopsTaking name limit (stops.Unread n) calls = ReadsUpToFault name (limit + 1) calls
 StopsTaking name limit (stops.TooLong n) calls = Reads name (limit + 1) 0 (limit + 1) calls
 StopsTaking name limit (stops.Refused n kind words) calls = ReadsWhole name limit calls
@@ -88,7 +88,7 @@ StopsTaking name limit stops.NoMemory calls = ReadsSome name (limit + 1) calls �
 StopsTaking name limit stop calls = ⊥
 
 -- the calls of an input's turn
-abbrev pub IsTaking : {X : Type 0} → List ℕ → (limit : ℕ) → Result X Stop → List Call → Type 0
+abbrev pub IsTaking : {X : Type 0} → List ℕ → (limit : ℕ) → Result X Stop → List CallMade → Type 0
 IsTaking name limit (Ok value) calls = ReadsWhole name limit calls
 IsTaking name limit (Err stop) calls = StopsTaking name limit stop calls
 
@@ -101,12 +101,12 @@ IsNamed name stop = ⊤
 
 -- The calls of the turns of inputs, the last of which was a stop. Those before it were accepted, as `Accepts` says of
 -- their number, and no other input was asked for after it.
-abbrev pub StopsTakings : (Accepts : (count : ℕ) → Type 0) → List (List ℕ × ℕ) → Stop → List Call → Type 0
+abbrev pub StopsTakings : (Accepts : (count : ℕ) → Type 0) → List (List ℕ × ℕ) → Stop → List CallMade → Type 0
 StopsTakings Accepts inputs stop calls =
     (name : List ℕ) × IsNamed name stop × StopsAtInput Accepts inputs name (λ limit. StopsTaking name limit stop) calls
 
 -- the calls of the turns of inputs; if each gave a value, each was accepted
-abbrev pub AreTakings : {X : Type 0} → (Accepts : (count : ℕ) → Type 0) → List (List ℕ × ℕ) → Result X Stop → List Call → Type 0
+abbrev pub AreTakings : {X : Type 0} → (Accepts : (count : ℕ) → Type 0) → List (List ℕ × ℕ) → Result X Stop → List CallMade → Type 0
 AreTakings Accepts inputs (Ok value) calls = Accepts (length inputs) × ReadsAll inputs calls
 AreTakings Accepts inputs (Err stop) calls = StopsTakings Accepts inputs stop calls
 
@@ -114,7 +114,7 @@ AreTakings Accepts inputs (Err stop) calls = StopsTakings Accepts inputs stop ca
 
 -- The turns ended in this way, and these were their calls. The desk holds what it held. Only faults of reading were added,
 -- and none if the turns gave a value.
-pub record TakesInputs {X : Type 0} (Taken : Type 0) (Calls : List Call → Type 0) (before after : DeskView) (Way : List Call → Type 0)
+pub record TakesInputs {X : Type 0} (Taken : Type 0) (Calls : List CallMade → Type 0) (before after : DeskView) (Way : List CallMade → Type 0)
     (result : Result X Stop) : Type 0 where
   pub taken : Taken
   pub calls : Went Way Calls
@@ -124,12 +124,12 @@ pub record TakesInputs {X : Type 0} (Taken : Type 0) (Calls : List Call → Type
   pub calm : OnOk result (after.read_faults ≡ before.read_faults)
 
 -- so an input of this name and this form
-abbrev pub TakesInput : {X : Type 0} → Form X → List ℕ → (before after : DeskView) → (Way : List Call → Type 0) → Result X Stop → Type 0
+abbrev pub TakesInput : {X : Type 0} → Form X → List ℕ → (before after : DeskView) → (Way : List CallMade → Type 0) → Result X Stop → Type 0
 TakesInput form name before after Way result =
     TakesInputs (IsTaken form name before after result) (IsTaking name form.limit result) before after Way result
 
 -- so all inputs of a command, of which this comes
 abbrev pub TakesAll : {X : Type 0} → (comes : DeskReads → Outcome → Type 0) → (yields : X → Outcome → Type 0) → (Accepts : (count : ℕ) → Type 0)
-    → List (List ℕ × ℕ) → (before after : DeskView) → (Way : List Call → Type 0) → Result X Stop → Type 0
+    → List (List ℕ × ℕ) → (before after : DeskView) → (Way : List CallMade → Type 0) → Result X Stop → Type 0
 TakesAll comes yields Accepts inputs before after Way result =
     TakesInputs (AreTaken comes yields before after result) (AreTakings Accepts inputs result) before after Way result

@@ -1,6 +1,6 @@
 -- How the work of a command ends, once its inputs were taken, and how a whole call ends, before the line on err.
 use Rattle.std.specs.Prelude.{◌≡◌, ◌⊎◌, ℕ, List, Contains, Option, Some, None, Result, Ok, Err, map}
-use Rattle.xray_io.specs.Calls.{Call, Went}
+use Rattle.xray_io.specs.Calls.{CallMade, Went}
 use Rattle.xray_io.specs.Desk.{Absent}
 use Rattle.xray_io.specs.Faults.{Rose}
 use Rattle.fault_words.specs.Words.{words_text}
@@ -31,7 +31,7 @@ StopsOutputs outputs desk desk_now (stops.Unwritten n) = FailsAt outputs desk de
 StopsOutputs outputs desk desk_now stop = ⊥
 
 -- the calls that made the outputs, or those up to the one that failed
-abbrev pub AreMakings : List (List ℕ × List ℕ) → (desk desk_now : DeskView) → Result (Unit {0}) Stop → List Call → Type 0
+abbrev pub AreMakings : List (List ℕ × List ℕ) → (desk desk_now : DeskView) → Result (Unit {0}) Stop → List CallMade → Type 0
 AreMakings outputs desk desk_now (Ok done) calls = MakesAll outputs calls
 AreMakings outputs desk desk_now (Err (stops.Unwritten n)) calls = FailsAtOutput outputs desk desk_now n.now calls
 AreMakings outputs desk desk_now (Err stop) calls = ⊥
@@ -45,7 +45,7 @@ pub record Writes (outputs : List (List ℕ × List ℕ)) (text : List ℕ) (des
 
 -- outputs and a text were written, and all is well unless something is wrong all the same; or one of them failed
 abbrev pub Delivers : List (List ℕ × List ℕ) → (text : List ℕ) → (trouble : Option (List ℕ)) → (desk desk_now : DeskView)
-    → (out out_now : SinkView) → (Way : List Call → Type 0) → Result (Unit {0}) Stop → Type 0
+    → (out out_now : SinkView) → (Way : List CallMade → Type 0) → Result (Unit {0}) Stop → Type 0
 Delivers outputs text trouble desk desk_now out out_now Way (Ok done) =
     (trouble ≡ None) × Writes outputs text desk desk_now out out_now × Went Way (MakesAll outputs)
 Delivers outputs text trouble desk desk_now out out_now Way (Err (stops.Fell words)) =
@@ -78,7 +78,7 @@ pub record FailsToLeave (Comes : Outcome → Type 0) (desk desk_now : DeskView) 
 
 -- The work is done over inputs of which this comes. What comes was written, or it couldn't be. Or the inputs are
 -- refused, or memory ran out, and nothing was written.
-abbrev pub Finishes : (comes : Outcome → Type 0) → (desk desk_now : DeskView) → (out out_now : SinkView) → (Way : List Call → Type 0)
+abbrev pub Finishes : (comes : Outcome → Type 0) → (desk desk_now : DeskView) → (out out_now : SinkView) → (Way : List CallMade → Type 0)
     → Result (Unit {0}) Stop → Type 0
 Finishes comes desk desk_now out out_now Way (Ok done) =
     IsLeft comes desk desk_now out out_now Done (λ outputs. Went Way (MakesAll outputs))
@@ -138,7 +138,7 @@ SaidHasRanges None = Unit {0}
 SaidHasRanges (Some command) = HasRanges command
 
 -- how a call ends, before the line on err: with this status and this line
-pub record Ends (said : Option Command) (desk desk_now : DeskView) (out out_now : SinkView) (Way : List Call → Type 0) (answer : ℕ)
+pub record Ends (said : Option Command) (desk desk_now : DeskView) (out out_now : SinkView) (Way : List CallMade → Type 0) (answer : ℕ)
     (line : List ℕ) : Type 0 where
   pub ending : Ending
   pub status : status_at ending ≡ answer

@@ -3,7 +3,7 @@ use Rattle.std.specs.Prelude.{Err, Ok, Result, slice_get}
 use Rattle.std.specs.Result.{IsErrAnd}
 use Rattle.std.proofs.lemmas.List.{map-append}
 use Rattle.xray_image.specs.Program.{Program}
-use Rattle.patch_script.specs.declared.command.Command.{Command}
+use Rattle.patch_script.specs.declared.command.PatchCommand.{PatchCommand}
 use Rattle.patch_script.specs.Refusals.{commands_of}
 use Rattle.machine_step.specs.PlainStep.{PlainRun}
 use Rattle.traced_run.specs.Runs.{ThreadRun}
@@ -13,7 +13,7 @@ use Rattle.audit_check.specs.declared.audit.AuditEntry.{AuditEntry}
 use Rattle.audit_check.specs.declared.placing.PlacedThread.{PlacedThread}
 use Rattle.audit_check.specs.declared.stop.Stop.{Stop}
 use Rattle.audit_check.specs.Placings.{all_places}
-use Rattle.audit_check.specs.Statements.{Statement, said_by, statement_of}
+use Rattle.audit_check.specs.Statements.{AuditStatement, said_by, statement_of}
 use Rattle.audit_check.specs.Stops.{places_of}
 use Rattle.audit_check.specs.private.Placed.{IsThreadPlaced}
 use Rattle.audit_check.specs.private.Walks.{first_of}
@@ -43,9 +43,9 @@ returns-in_err-push c = inl (search rules)
 pub loop-entry-preserved : goal.loop-entry-preserved
 loop-entry-preserved c = λ runs are.
     let program : Program = c.args.image.now in
-    let script : List Command = commands_of c.args.script.now.lines in
+    let script : List PatchCommand = commands_of c.args.script.now.lines in
     let audit : Audit = c.args.audit.now in
-    let statement : Statement = statement_of audit in
+    let statement : AuditStatement = statement_of audit in
     let i : ℕ = c.loop-entry.entry-index in
     let entry : AuditEntry = c.entry-item.result in
     let at = entry_here audit c.deref-entry-items.result.now i entry c.deref-entry-items.ensures.value c.loop-entry-test.true c.entry-item.is in
@@ -75,7 +75,7 @@ loop-entry-preserved c = λ runs are.
 pub returns-in-Some : goal.returns-in-Some
 returns-in-Some c =
     let program : Program = c.args.image.now in
-    let script : List Command = commands_of c.args.script.now.lines in
+    let script : List PatchCommand = commands_of c.args.script.now.lines in
     let audit : Audit = c.args.audit.now in
     let first = c.loop-entry.first in
     let places : List (List ℕ) = all_places c.loop-entry.threads in
@@ -92,8 +92,8 @@ returns-in-Some c =
 pub returns : goal.returns
 returns c =
     let program : Program = c.args.image.now in
-    let script : List Command = commands_of c.args.script.now.lines in
-    let statement : Statement = statement_of c.args.audit.now in
+    let script : List PatchCommand = commands_of c.args.script.now.lines in
+    let statement : AuditStatement = statement_of c.args.audit.now in
     let first = c.loop-entry.first in
     let places : List (List ℕ) = all_places c.loop-entry.threads in
     let accepted = c.each_was_accepted.ensures in

@@ -1,5 +1,5 @@
 use Rattle.std.proofs.Common.{◌≡◌, ◌≤◌, ℕ, List, [], length}
-use Rattle.patch_script.specs.declared.command.Command.{Command}
+use Rattle.patch_script.specs.declared.command.PatchCommand.{PatchCommand}
 use Rattle.machine_step.specs.declared.end.End.{End}
 use Rattle.machine_step.specs.PlainStep.{Passing, PlainRun, State}
 use Rattle.machine_step.specs.Traced.{IsLoad, IsSameThread, loads_left}
@@ -20,7 +20,7 @@ invariant-gates l = record {
   passing : l.follower.passing ≡ length l.cpu.marks;
   few : length l.cpu.marks ≤ most_marks;
   thread : l.follower.thread ≡ l.initial.follower.thread;
-  walked : (threads : ℕ) (script : List Command) (passed : List Passing) (end : End) (last : State)
+  walked : (threads : ℕ) (script : List PatchCommand) (passed : List Passing) (end : End) (last : State)
       → PlainRun l.initial.cpu.program l.initial.cpu.limits l.initial.cpu.thread passed end last → l.initial.cpu.marks ≡ []
       → HasStopped l.initial.cpu.program threads script l.marks.items passed 0 l.initial.follower (places_in l.initial.loads)
       → (l.cpu.marks ≡ first_marks (length l.cpu.marks) l.marks.items)

@@ -2,7 +2,7 @@ use Rattle.std.proofs.Common.{◌≡◌, ◌∙◌, ◌<◌, ℕ, List, add-one,
 use Rattle.std.proofs.lemmas.List.{length-map}
 use Rattle.stack_rebuild.specs.declared.stack_row.StackRow.{StackRow}
 use Rattle.stack_rebuild.specs.Stacks.{told}
-use Rattle.flame_graph.specs.Frames.{own_sum, total_of}
+use Rattle.flame_graph.specs.Frames.{own_sum, frames_total}
 use Rattle.flame_graph.specs.Picture.{thousandths_at}
 use Rattle.flame_graph.specs.private.Walking.{Opening}
 use Rattle.flame_graph.proofs.OpenFrames.{begins_within, row_opens}
@@ -28,9 +28,9 @@ returns c =
     let size = ap (λ (p : List ℕ). length p) path in
     let own = ap (λ (r : StackRow). r.own) c.index-picture-at.is in
     let long = ap (λ (r : StackRow). length r.path.items) c.index-picture-at.is in
-    let total : c.args.picture.now.total ≡ total_of rows = omega arith in
+    let total : c.args.picture.now.total ≡ frames_total rows = omega arith in
     let left = c.thousandths_at-left.ensures.at
-    ∙ (ap (λ (whole : ℕ). thousandths_at whole c.args.walk.now.place) total ∙ ap (λ (place : ℕ). thousandths_at (total_of rows) place) c.requires.stands.place) in
+    ∙ (ap (λ (whole : ℕ). thousandths_at whole c.args.walk.now.place) total ∙ ap (λ (place : ℕ). thousandths_at (frames_total rows) place) c.requires.stands.place) in
     record {
       place = omega (arith, step, seam, own, c.requires.stands.place, c.saturating_add-walk.ensures);
       kept = row_opens rows at c.args.walk.now c.open_frames.new.openings (ascends rows c.requires.ascending) within c.requires.stands c.open_frames.ensures.stay

@@ -1,7 +1,7 @@
 use Rattle.std.proofs.Common.{◌≡◌}
 use Rattle.xray_io.specs.Rows.{InTurn}
 use Rattle.text_lines.specs.Lines.{numbered_lines}
-use Rattle.map_names.specs.Maps.{Before, Start, line_rows}
+use Rattle.map_names.specs.Maps.{Before, Start, map_line_rows}
 use Rattle.map_names.specs.private.Drafts.{Stands}
 use Rattle.map_names.proofs.reading.read_lines.Given as goal
 
@@ -9,4 +9,4 @@ use Rattle.map_names.proofs.reading.read_lines.Given as goal
 abbrev pub invariant-lines : goal.invariant-lines
 invariant-lines l =
     (before : Before) × Stands l.draft before
-    × (InTurn line_rows Start (numbered_lines l.text) ≡ InTurn line_rows before l.line-iterator)
+    × (InTurn map_line_rows Start (numbered_lines l.text) ≡ InTurn map_line_rows before l.line-iterator)

@@ -1,13 +1,13 @@
 use Rattle.std.proofs.Common.{◌≡◌, ◌<◌, inl, inr, ℕ, List, Vec, Global, refl, sym, ap, subst, ◌∙◌, arith, length, map}
 use Rattle.std.specs.Prelude.{All, Err}
 use Rattle.xray_image.specs.Program.{Program}
-use Rattle.patch_script.specs.declared.command.Command.{Command}
+use Rattle.patch_script.specs.declared.command.PatchCommand.{PatchCommand}
 use Rattle.patch_script.specs.Micros.{start_of, total_of}
 use Rattle.patch_script.specs.Refusals.{commands_of}
 use Rattle.step_sim.specs.declared.turns.Turns.{Turns}
 use Rattle.audit_check.specs.declared.stop.Stop.{Stop}
 use Rattle.audit_check.specs.Placings.{all_places}
-use Rattle.audit_check.specs.Statements.{Statement, statement_of}
+use Rattle.audit_check.specs.Statements.{AuditStatement, statement_of}
 use Rattle.audit_check.specs.Stops.{places_of}
 use Rattle.audit_check.proofs.OwnScript.{own_place}
 use Rattle.run_order.specs.Answers.{IsOrdered}
@@ -31,8 +31,8 @@ returns-in-Err c =
 pub free_threads-requires-clause-few : goal.free_threads-requires-clause-few
 free_threads-requires-clause-few c =
     let program : Program = c.args.image.now in
-    let script : List Command = commands_of c.args.script.now.lines in
-    let statement : Statement = statement_of c.args.audit.now in
+    let script : List PatchCommand = commands_of c.args.script.now.lines in
+    let statement : AuditStatement = statement_of c.args.audit.now in
     let threads : Vec (Vec Stop Global) Global = c.in-Ok.threads in
     let placed = all_are_placed program script statement c.place_loads.result threads c.in-Ok.is c.place_loads.ensures in
     let bounds : BoundsWithin = λ p n s thread passing. c.awaits_bound_passings.ensures.within p n s thread passing in
@@ -44,8 +44,8 @@ free_threads-requires-clause-few c =
 pub of_stops-requires-clause-start : goal.of_stops-requires-clause-start
 of_stops-requires-clause-start c =
     let program : Program = c.args.image.now in
-    let script : List Command = commands_of c.args.script.now.lines in
-    let statement : Statement = statement_of c.args.audit.now in
+    let script : List PatchCommand = commands_of c.args.script.now.lines in
+    let statement : AuditStatement = statement_of c.args.audit.now in
     let threads : Vec (Vec Stop Global) Global = c.in-Ok.threads in
     let placed = all_are_placed program script statement c.place_loads.result threads c.in-Ok.is c.place_loads.ensures in
     let bounds : BoundsWithin = λ p n s thread passing. c.awaits_bound_passings.ensures.within p n s thread passing in
@@ -63,8 +63,8 @@ of_stops-requires-clause-start c =
 pub of_stops-requires-clause-stops : goal.of_stops-requires-clause-stops
 of_stops-requires-clause-stops c =
     let program : Program = c.args.image.now in
-    let script : List Command = commands_of c.args.script.now.lines in
-    let statement : Statement = statement_of c.args.audit.now in
+    let script : List PatchCommand = commands_of c.args.script.now.lines in
+    let statement : AuditStatement = statement_of c.args.audit.now in
     let threads : Vec (Vec Stop Global) Global = c.in-Ok.threads in
     let placed = all_are_placed program script statement c.place_loads.result threads c.in-Ok.is c.place_loads.ensures in
     let bounds : BoundsWithin = λ p n s thread passing. c.awaits_bound_passings.ensures.within p n s thread passing in
@@ -85,8 +85,8 @@ of_stops-requires-clause-stops c =
 pub returns : goal.returns
 returns c =
     let program : Program = c.args.image.now in
-    let script : List Command = commands_of c.args.script.now.lines in
-    let statement : Statement = statement_of c.args.audit.now in
+    let script : List PatchCommand = commands_of c.args.script.now.lines in
+    let statement : AuditStatement = statement_of c.args.audit.now in
     let threads : Vec (Vec Stop Global) Global = c.in-Ok.threads in
     let placed = all_are_placed program script statement c.place_loads.result threads c.in-Ok.is c.place_loads.ensures in
     let bounds : BoundsWithin = λ p n s thread passing. c.awaits_bound_passings.ensures.within p n s thread passing in

@@ -5,7 +5,7 @@ use Rattle.std.proofs.lemmas.Bool.{not-true, not-false}
 use Rattle.std.proofs.lemmas.List.{drop_all, length_push}
 use Rattle.runtime_log.specs.declared.blocks.LogBlock.{LogBlock as Placed}
 use Rattle.runtime_log.specs.Logs.{LogBlock}
-use Rattle.runtime_log.specs.Taken.{first_ones, is_among}
+use Rattle.runtime_log.specs.Taken.{first_ones, is_among_contents}
 use Rattle.runtime_log.specs.private.Choices.{AreAt, KeepsFirst}
 use Rattle.runtime_log.proofs.TakenBlocks.{at_index, at_length, keeps_doubled, keeps_own}
 use Rattle.runtime_log.proofs.taken.first_ones.Goals.{then-branch+in_ok-push, else-branch}
@@ -19,7 +19,7 @@ keeping-init c = record {
     before = [];
     at = subst (λ (ps : List Placed). AreAt c.args.bytes.now version ps []) (sym c.new-kept.ensures.items) tt;
     parts = refl;
-    among = λ q. ap (λ (keys : List (Bor (List ℕ))). is_among (map (λ k. k.now) keys) q) c.new-seen.ensures.empty;
+    among = λ q. ap (λ (keys : List (Bor (List ℕ))). is_among_contents (map (λ k. k.now) keys) q) c.new-seen.ensures.empty;
   };
 }
 
@@ -31,8 +31,8 @@ keeping-preserved c =
     let seen = map (λ (k : Bor (List ℕ)). k.now) c.keeping.seen.keys in
     let kept = c.keeping.kept.items in
     let same = c.content.ensures in
-    let own = c.in_ok-add_content.ensures.own ∙ ap (λ (xs : List ℕ). not (is_among seen xs)) same in
-    let adds = λ (q : List ℕ). c.in_ok-add_content.ensures.seen q ∙ ap (λ (xs : List ℕ). bytes_eq q xs || is_among seen q) same in
+    let own = c.in_ok-add_content.ensures.own ∙ ap (λ (xs : List ℕ). not (is_among_contents seen xs)) same in
+    let adds = λ (q : List ℕ). c.in_ok-add_content.ensures.seen q ∙ ap (λ (xs : List ℕ). bytes_eq q xs || is_among_contents seen q) same in
     record {
       few = elim c.if-branch.branch [
         | then-branch+in_ok-push w ↦ omega (arith, i.few, ap (λ (v : Vec Placed Global). length v.items) w.kept-is, ap length w.in_ok-push.ensures.items, length_push {X = Placed})

@@ -1,5 +1,5 @@
 use Rattle.std.proofs.Common.{◌≡◌, List, None, subst, sym}
-use Rattle.patch_script.specs.declared.command.Command.{Command}
+use Rattle.patch_script.specs.declared.command.PatchCommand.{PatchCommand}
 use Rattle.patch_script.specs.Micros.{hold_of}
 use Rattle.step_sim.proofs.Bounds.{no_holds}
 use Rattle.step_sim.proofs.SomeReplay.{some_marks}
@@ -12,4 +12,4 @@ returns-clause-free c = some_run_of c.some_end.ensures some_marks
 pub returns-clause-still : goal.returns-clause-still
 returns-clause-still c = λ bytes program script schedule setup lines accepted is still.
     some_run_of c.some_end.ensures some_marks bytes program script schedule setup accepted
-    (λ thread. subst (λ (s : List Command). hold_of thread s ≡ None) (sym is) (no_holds lines still thread))
+    (λ thread. subst (λ (s : List PatchCommand). hold_of thread s ≡ None) (sym is) (no_holds lines still thread))

@@ -1,6 +1,6 @@
 use Rattle.std.proofs.Common.{ℕ, List, [], length, refl, subst, sym, ◌∙◌}
 use Rattle.xray_image.specs.Program.{IsAccepted, Program}
-use Rattle.patch_script.specs.declared.command.Command.{Command}
+use Rattle.patch_script.specs.declared.command.PatchCommand.{PatchCommand}
 use Rattle.patch_script.specs.Refusals.{commands_of}
 use Rattle.machine_step.specs.declared.limits.Limits.{Limits}
 use Rattle.machine_step.specs.PlainStep.{PlainRun}
@@ -17,7 +17,7 @@ returns c = λ run plain marks.
     let entry = c.args.entry.now in
     let program : Program = judge.steps.now in
     let threads : ℕ = judge.setup.now.threads in
-    let script : List Command = commands_of judge.script.now.lines in
+    let script : List PatchCommand = commands_of judge.script.now.lines in
     let cpu = c.in_ok-cpu.cpu in
     let follower = c.in_ok-follower.follower in
     let walked = c.walk_places.new.follower in

@@ -1,7 +1,7 @@
 use Rattle.std.proofs.Common.{◌≡◌, ◌<◌, ◌++◌, ◌∷◌, [], Option, None, Some, true, false, List, ℕ, append-nil, ap, arith, refl, subst, sym, take, ◌∙◌}
 use Rattle.std.specs.Prelude.{is_some, not}
 use Rattle.xray_image.specs.Program.{Program}
-use Rattle.patch_script.specs.declared.command.Command.{Command}
+use Rattle.patch_script.specs.declared.command.PatchCommand.{PatchCommand}
 use Rattle.patch_script.specs.Micros.{micros, total_of}
 use Rattle.patch_script.specs.Plans.{waiting_line}
 use Rattle.patch_script.specs.Refusals.{commands_of}
@@ -27,7 +27,7 @@ pub steps-preserved-then-begins_patch : goal.steps-preserved-then-begins_patch
 steps-preserved-then-begins_patch c =
     let program : Program = c.args.image.now in
     let threads : ℕ = c.args.threads in
-    let script : List Command = commands_of c.args.script.now.lines in
+    let script : List PatchCommand = commands_of c.args.script.now.lines in
     let own = c.args.script.now in
     let place : ℕ = c.steps.place in
     let total = own_place program own.program threads own.threads script c.requires.program c.requires.threads total_of c.total-total.result c.total-total.ensures.total in
@@ -45,7 +45,7 @@ pub steps-preserved : goal.steps-preserved
 steps-preserved c =
     let program : Program = c.args.image.now in
     let threads : ℕ = c.args.threads in
-    let script : List Command = commands_of c.args.script.now.lines in
+    let script : List PatchCommand = commands_of c.args.script.now.lines in
     let own = c.args.script.now in
     let place : ℕ = c.steps.place in
     let micro = own_micro program own.program threads own.threads script c.requires.program c.requires.threads place c.micro_near-micro.result

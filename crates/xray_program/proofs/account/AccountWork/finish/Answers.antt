@@ -3,7 +3,7 @@ use Rattle.account_report.specs.Account.{account_of}
 use Rattle.account_report.specs.AccountText.{account_text}
 use Rattle.account_report.specs.Ordered.{arranged}
 use Rattle.account_report.specs.declared.row.AccountRow.{AccountRow}
-use Rattle.account_report.specs.declared.text.AccountFormat.{AccountFormat}
+use Rattle.account_report.specs.declared.text.AccountLayout.{AccountLayout}
 use Rattle.fdr_file.specs.declared.trace.Trace.{Trace}
 use Rattle.function_names.specs.Name.{naming}
 use Rattle.map_names.specs.Naming.{Naming}
@@ -28,7 +28,7 @@ returns-clause-finishes g c =
     let text = account_text c.format_of.result number shown c.deref.result.now in
     let same : (trace : Trace) → AccountMeans options inputs.log trace → text ≡ account_report options trace names =
     λ trace means.
-    ap (λ (format : AccountFormat). account_text format number shown c.deref.result.now) c.format_of.ensures
+    ap (λ (format : AccountLayout). account_text format number shown c.deref.result.now) c.format_of.ensures
     ∙ (ap (λ (given : Naming). account_text (format_of options.format) number given c.deref.result.now) c.as_names.ensures
     ∙ (ap (λ (rows : List AccountRow). account_text (format_of options.format) number names rows) (c.deref.ensures.value ∙ means.rows)
     ∙ ap (λ (n : ℕ). account_text (format_of options.format) n names (arranged (key_of options.sort) (is_descending options.order) options.top (account_of trace.blocks))) means.latencies)) in

@@ -1,5 +1,5 @@
 use Rattle.std.proofs.Common.{ℕ, List, [], None, refl, subst}
-use Rattle.audit_check.specs.Statements.{Statement}
+use Rattle.audit_check.specs.Statements.{AuditStatement}
 use Rattle.audit_check.specs.Texts.{verdict_text}
 use Rattle.audit_check.specs.Verdicts.{IsJudged}
 use Rattle.patch_script.specs.Refusals.{commands_of}
@@ -14,7 +14,7 @@ returns-clause-finishes g c =
     let got = sink_view g.O.Sink.written g.O.Sink.faults in
     let inputs = c.args.inputs.now in
     let verdict = c.in_ok-verdict.verdict in
-    let stated = subst (λ (s : Statement). IsJudged inputs.image (commands_of inputs.script.lines) s c.bytes-trace.result.now verdict)
+    let stated = subst (λ (s : AuditStatement). IsJudged inputs.image (commands_of inputs.script.lines) s c.bytes-trace.result.now verdict)
     c.audit-audit.ensures c.in_ok-verdict.ensures in
     let judged : IsJudged inputs.image (commands_of inputs.script.lines) inputs.audit inputs.trace verdict =
     subst (λ (t : List ℕ). IsJudged inputs.image (commands_of inputs.script.lines) inputs.audit t verdict) c.bytes-trace.ensures stated in

@@ -1,5 +1,5 @@
 use Rattle.std.proofs.Common.{◌≡◌, ℕ, List, [], ◌∷◌, None, Ok, refl, ap, subst}
-use Rattle.audit_check.specs.Statements.{Statement, statement_of}
+use Rattle.audit_check.specs.Statements.{AuditStatement, statement_of}
 use Rattle.patch_script.specs.Plans.{Plan}
 use Rattle.patch_script.specs.Refusals.{commands_of}
 use Rattle.run_order.specs.Answers.{IsOrdered}
@@ -21,7 +21,7 @@ returns-in-Ok-clause-finishes g c =
     let order = c.in-Ok.order in
     let text = c.text.result.now in
     let given = is_answer c.order_run.result order (IsOrdered inputs.image (commands_of c.script.result.now.lines) (statement_of c.audit-audit.result.now)) c.in-Ok.is c.order_run.ensures in
-    let stated = subst (λ (st : Statement). IsOrdered inputs.image (commands_of c.script.result.now.lines) st (Ok order)) c.audit-audit.ensures given in
+    let stated = subst (λ (st : AuditStatement). IsOrdered inputs.image (commands_of c.script.result.now.lines) st (Ok order)) c.audit-audit.ensures given in
     let ordered = subst (λ (plan : Plan). IsOrdered inputs.image (commands_of plan.lines) inputs.audit (Ok order)) c.script.ensures stated in
     finishes (Orders s.audit.now s.free.now s.schedule.now inputs.image inputs.audit inputs.script)
     ((s.free.now, free_text text) ∷ (s.schedule.now, schedule_text order) ∷ []) [] None (seen c.args.desk.now) (seen c.deliver.new.desk)
