@@ -133,11 +133,6 @@ left_none cursor end none =
     none_pending cursor none
     ∙ ap (λ (x : List ℕ). events_among cursor.thread cursor.pid (told_over cursor.version cursor.stage (starts record_length 0 cursor.at x))) (drop_of_length-le cursor.bytes.now end)
 
--- the event that waits comes next
-pub given_pending : (cursor : EventCursor) (event : Event) → cursor.pending ≡ Some event
-    → events_left cursor ≡ event_given (cursor.thread, cursor.pid, event) ∷ events_left (record cursor { pending = None })
-given_pending cursor event is = ap (λ (e : Option Event). event_of cursor.thread cursor.pid e ++ events_on cursor) is
-
 -- the header stays
 pub pass_header : (cursor new : EventCursor) → new ≡ (cursor_passed cursor (drop cursor.at cursor.bytes.now)).0 → cursor_header new ≡ cursor_header cursor
 pass_header cursor new moved =

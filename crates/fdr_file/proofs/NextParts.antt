@@ -1,7 +1,6 @@
 -- From one part to the next.
-use Rattle.std.proofs.Common.{◌≡◌, ℕ, zero, suc, ◌+◌, ◌-◌, ◌<◌, ◌≤◌, List, [], ◌∷◌, ◌++◌, length, drop, map, Option, Some, Result, Ok, Err, eqb, slice_index, ◌%◌, lit<, inl, inr, refl, sym, ap, ◌∙◌, append_assoc, arith}
+use Rattle.std.proofs.Common.{◌≡◌, ℕ, zero, suc, ◌+◌, ◌-◌, ◌<◌, List, [], ◌∷◌, ◌++◌, length, drop, map, Option, Some, Result, Ok, Err, eqb, slice_index, ◌%◌, lit<, inl, inr, refl, sym, ap, ◌∙◌, append_assoc, arith}
 use Rattle.std.specs.Prelude.{option_to_list}
-use Rattle.std.proofs.lemmas.List.{append-nil, length-drop}
 use Rattle.std.proofs.lemmas.Bool.{cases_Bool, eq-eqb, ne_eqb}
 use Rattle.std.proofs.lemmas.Bool.Decides.{eqb_tells}
 use Rattle.xray_io.specs.Rows.{◌>>=◌}
@@ -90,11 +89,6 @@ pub same_test : (a b c d : ℕ) → (a ≡ b → c ≡ d) → (c ≡ d → a ≡
 same_test a b c d to from =
     elim (eqb_tells a b) [ inl e ↦ e.0 ∙ sym (eq-eqb c d (to e.1)) | inr n ↦ n.0 ∙ sym (ne_eqb c d (λ e. n.1 (from e))) ]
 
--- a place is the end of bytes if no byte is left from there on
-pub end_at : (next : ℕ) (bytes : List ℕ) → next ≤ length bytes → eqb (length (drop next bytes)) 0 ≡ eqb next (length bytes)
-end_at next bytes within =
-    same_test (length (drop next bytes)) 0 next (length bytes) (λ e. omega (arith, e, length-drop next bytes, within)) (λ e. omega (arith, e, length-drop next bytes, within))
-
 -- no record begins only where no byte is left
 pub standings_end : (at : ℕ) (bytes : List ℕ) → is_end (standings at bytes) ≡ eqb (length bytes) 0
 unfolding starts
@@ -126,8 +120,3 @@ pub events_refuse : (front : List Event) (base : Option Base) (at : ℕ) (bytes 
 unfolding events_on
 events_refuse front base at bytes r left e total some taken stepped so_far =
     sym so_far ∙ rw (stands_taken at bytes r left some taken, standings_end left.0 left.1, stepped) refl
-
--- no bytes
-pub events_done : (front : List Event) (base : Option Base) (at : ℕ) (total : Result (List Event) TraceFault) → with_front front (events_on base (standings at [])) ≡ total → total ≡ Ok front
-unfolding events_on starts
-events_done front base at total so_far = sym so_far ∙ ap (λ (x : List Event). Ok x) (append-nil front)

@@ -13,7 +13,6 @@ use Rattle.fdr_file.specs.declared.version.Version.TheVariants.{Two, Three}
 use Rattle.fdr_file.specs.Places.{starts}
 use Rattle.std.specs.List.{flat_map}
 use Rattle.std.proofs.lemmas.List.Concat.{flat_map-cons}
-use Rattle.fdr_file.proofs.TraceRows.{header_first}
 use Rattle.fdr_file.proofs.NextParts.{stands_none, stands_taken, starts_first}
 use Rattle.std.proofs.lemmas.Grind.{common_steps}
 use Rattle.std.proofs.lemmas.List.{append-nil, drop-drop, drop-take, length-drop, length-take}
@@ -31,17 +30,12 @@ use Rattle.fdr_file.specs.declared.events.Base.{Base}
 use Rattle.fdr_file.specs.declared.fault.TraceFault.{TraceFault}
 use Rattle.fdr_file.specs.declared.fault.TraceFault.TheVariants as faults
 use Rattle.fdr_file.specs.Events.{arg_of, arg_said, counter_at, cpu_of, deltas_since, events_after, whole_counter}
-use Rattle.fdr_file.specs.Traces.{PreambleItem, block_starts, extents_in, first_or, first_takes_arg, header_in, is_arg, logs_arg, may_be, names_cpu, needs_cpu, preamble_bytes, preamble_of, record_in, records_among, Standing, block_in, block_of, block_standings, pid_named, block_length, record_length, standings, thread_named, wall_named}
-use Rattle.fdr_file.specs.Scanning.{entry_due, entry_with, header_on, step_on, version_read}
-use Rattle.fdr_file.specs.private.Faults.{by_places, blocks_faults, decided, record_faults, standing_faults, block_faults, told_by, unless}
+use Rattle.fdr_file.specs.Traces.{PreambleItem, extents_in, first_or, first_takes_arg, header_in, is_arg, logs_arg, may_be, names_cpu, needs_cpu, preamble_bytes, preamble_of, record_in, records_among, Standing, block_in, block_of, block_standings, pid_named, block_length, record_length, standings, thread_named, wall_named}
+use Rattle.fdr_file.specs.Scanning.{entry_due, entry_with, step_on}
+use Rattle.fdr_file.specs.private.Faults.{decided, record_faults, standing_faults, block_faults, unless}
 use Rattle.fdr_file.specs.private.Reading.{Left, blocks_read, body_on, end_named, end_on, events_on, is_end, left_at, named_on, pid_on, preamble_on, read_first, record_on}
 
 -- ---- the extents
-
--- what a value is, if a test decides it
-chosen : {A : Type 0} (b : Bool) (x y z : A) → cond b x y ≡ z → ((b ≡ true) × (x ≡ z)) ⊎ ((b ≡ false) × (y ≡ z))
-chosen true x y z e = inl (refl, e)
-chosen false x y z e = inr (refl, e)
 
 pub extents_is : (bytes : List ℕ) (size : ℕ) → record_in bytes ≡ Ok (Extents size) → extents_in bytes ≡ size
 unfolding record_in function_record_at metadata_record_at
@@ -404,10 +398,6 @@ ends_so version at bytes end e = by_length (ltb (length bytes) 16) refl e
     by_length true long h = absurd cc
     by_length false long h = by_answer (record_in bytes) long refl h
 
-pub no_end : (version : Version) (at : ℕ) (bytes : List ℕ) (e : TraceFault) → end_on version (at, bytes) ≡ Err e → decided (block_faults version (at, bytes)) (block_in (at, bytes)) ≡ Err e
-unfolding end_on
-no_end version at bytes e h = grind (arith, common_steps)
-
 pub block_decided : (version : Version) (bytes : List ℕ) (at end : ℕ) → end_on version (left_at bytes at) ≡ Ok end → body_on version (left_at (take end bytes) (at + 16)) ≡ decided (block_faults version (left_at bytes at)) (block_in (left_at bytes at))
 block_decided version bytes at end e =
     let rest = drop at bytes in
@@ -429,28 +419,6 @@ block_fails version bytes at end e ended (inr is) = inr (sym (block_decided vers
 -- the version of a file and its header
 abbrev pub versioned : List ℕ → Version → Result (Version × Header) TraceFault
 versioned bytes version = Ok (version, header_in bytes)
-
--- what follows a header
-pub file_opens : (bytes : List ℕ) (version : Version) (header : Header) → header_on bytes ≡ Ok (version, header) → by_places bytes ≡ blocks_read version header [] (block_starts bytes)
-file_opens bytes version header is =
-    header_first bytes (λ v. decided (blocks_faults v bytes) (told_by bytes)) ∙ by_version (version_read bytes) (sym (header_first bytes (versioned bytes)) ∙ is)
-  where
-    by_version : (o : Result Version TraceFault) → (o >>= versioned bytes) ≡ Ok (version, header) → (o >>= λ v. decided (blocks_faults v bytes) (told_by bytes)) ≡ blocks_read version header [] (block_starts bytes)
-    by_version (Ok v) e =
-        let found : Version × Header = (v, header_in bytes) in
-        let wanted : Version × Header = (version, header) in
-        let both : found ≡ wanted = cc in
-        ap (λ (x : Version × Header). blocks_read x.0 x.1 [] (block_starts bytes)) both
-    by_version (Err f) e = absurd cc
-
--- a header that has a fault
-pub file_unopened : (bytes : List ℕ) (e : TraceFault) → header_on bytes ≡ Err e → by_places bytes ≡ Err e
-file_unopened bytes e is =
-    header_first bytes (λ v. decided (blocks_faults v bytes) (told_by bytes)) ∙ by_version (version_read bytes) (sym (header_first bytes (versioned bytes)) ∙ is)
-  where
-    by_version : (o : Result Version TraceFault) → (o >>= versioned bytes) ≡ Err e → (o >>= λ v. decided (blocks_faults v bytes) (told_by bytes)) ≡ Err e
-    by_version (Ok v) h = absurd cc
-    by_version (Err f) h = cc
 
 some_wrong : {A B : Type 0} (wrong more : List TraceFault) (x : A) (y : B) (e : TraceFault) → decided wrong x ≡ Err e → decided (wrong ++ more) y ≡ Err e
 some_wrong [] more x y e is = absurd cc
@@ -486,25 +454,3 @@ file_goes_on version header blocks at bytes block some is =
 pub file_ends : (version : Version) (header : Header) (blocks : List Block) (at : ℕ) → blocks_read version header blocks (starts block_length 0 at []) ≡ Ok (record { header = header; blocks = blocks })
 unfolding starts
 file_ends version header blocks at = ap (λ (all : List Block). let made : Result Trace TraceFault = Ok (record { header = header; blocks = all }) in made) (append-nil blocks)
-
--- one more block, at a place of a file
-pub file_more : (version : Version) (trace : Result Trace TraceFault) (header : Header) (blocks more : List Block) (all : List ℕ) (at next : ℕ) (block : Block) → trace ≡ blocks_read version header blocks (starts block_length 0 at (drop at all))
-    → at < length all → decided (block_faults version (at, drop at all)) (block_in (at, drop at all)) ≡ Ok block → next ≡ at + block_length (drop at all) → more ≡ blocks ++ block ∷ []
-    → trace ≡ blocks_read version header more (starts block_length 0 next (drop next all))
-file_more version trace header blocks more all at next block so_far within is on pushed =
-    let rest = drop at all in
-    let some : 0 < length rest = omega (arith, length-drop at all) in
-    so_far
-    ∙ file_goes_on version header blocks at rest block some is
-    ∙ ap (λ (x : List ℕ). blocks_read version header (blocks ++ block ∷ []) (starts block_length 0 (at + block_length rest) x)) (drop-drop (block_length rest) at all)
-    ∙ ap (λ (n : ℕ). blocks_read version header (blocks ++ block ∷ []) (starts block_length 0 n (drop n all))) (sym on)
-    ∙ ap (λ (x : List Block). blocks_read version header x (starts block_length 0 next (drop next all))) (sym pushed)
-
-abbrev pub fails : TraceFault → Result Trace TraceFault
-fails e = Err e
-
--- a block that couldn't be read
-pub file_refused : (version : Version) (trace : Result Trace TraceFault) (header : Header) (blocks : List Block) (at : ℕ) (bytes : List ℕ) (e : TraceFault) → trace ≡ blocks_read version header blocks (starts block_length 0 at bytes)
-    → 0 < length bytes → (e ≡ faults.NoMemory) ⊎ (decided (block_faults version (at, bytes)) (block_in (at, bytes)) ≡ Err e) → (fails e ≡ fails faults.NoMemory) ⊎ (fails e ≡ trace)
-file_refused version trace header blocks at bytes e so_far some (inl none) = inl (ap (λ (f : TraceFault). Err f) none)
-file_refused version trace header blocks at bytes e so_far some (inr is) = inr (sym (so_far ∙ file_fails version header blocks at bytes e some is))

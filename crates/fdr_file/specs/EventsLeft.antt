@@ -1,5 +1,5 @@
 -- A cursor: the events of a trace that it has still to give.
-use Rattle.std.specs.Prelude.{ℕ, ◌+◌, List, [], ◌∷◌, ◌++◌, drop, Option, Some, None}
+use Rattle.std.specs.Prelude.{ℕ, List, [], ◌∷◌, ◌++◌, drop, Option, Some, None}
 use Rattle.fdr_record.specs.declared.event.Event.{Event}
 use Rattle.fdr_file.specs.declared.cursor.EventCursor.{EventCursor}
 use Rattle.fdr_file.specs.declared.header.Header.{Header}

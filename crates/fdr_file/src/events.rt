@@ -5,7 +5,7 @@ ghost use Rattle.fdr_file.specs.private.Reading.{Gives, events_on};
 ghost use Rattle.fdr_file.specs.Scanning.{argument_on, counted_on, entry_with, event_on, function_on, step_on};
 ghost use Rattle.fdr_file.specs.Traces.{logs_arg, record_length, standings};
 
-use crate::records::{record_at, taken_at};
+use crate::records::taken_at;
 use crate::{Events, TraceFault};
 use fdr_record::{Event, Kind, Rec};
 use std::alloc::Global;
@@ -163,32 +163,4 @@ pub fn take_step(
         return None;
     };
     Some((step, next))
-}
-
-/// Adds an event to others, if there is one.
-fn add(events: &mut Vec<Event>, event: Option<Event>) -> Result<(), NoMemory>
-    ensures { OnOk result (events.new.items ≡ events.old.items ++ option_to_list event) }
-{
-    if let Some(event) = event {
-        events.push(event)?;
-    }
-    Ok(())
-}
-
-/// The events of the records from this place on, to the end of the block's bytes.
-pub(crate) fn read_events(alloc: Global, block: &[u8], mut at: usize) -> Result<Events, TraceFault>
-    requires { at ≤ length block.now }
-    ensures { Gives (λ events. events) result (events_on None (standings at (drop at block.now))) }
-{
-    let mut events = Vec::new(alloc);
-    let mut base = None;
-    'reading: while at < block.len() {
-        let (rec, next) = record_at(block, at)?;
-        let (known, entry, event) = step(next == block.len(), at as u64, rec, base)?;
-        add(&mut events, entry)?;
-        add(&mut events, event)?;
-        base = Some(known);
-        at = next;
-    }
-    Ok(Events::new(events))
 }

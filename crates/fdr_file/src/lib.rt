@@ -3,14 +3,13 @@
 //! layout is that of "XRay Flight Data Recorder Trace Format" in LLVM's documentation.
 #![tactic(auto)]
 
-mod block;
 mod cursor;
 mod events;
 mod fault;
 mod header;
+mod keep;
 mod laws;
 mod longest;
-mod preamble;
 mod prefix;
 mod reading;
 mod records;

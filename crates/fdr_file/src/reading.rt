@@ -4,9 +4,8 @@ ghost use Rattle.std.specs.Prelude.{◌≡◌, ◌⊎◌, Err};
 ghost use Rattle.fdr_file.specs.declared.fault.TraceFault.TheVariants.{NoMemory};
 ghost use Rattle.fdr_file.specs.Traces.{trace_of};
 
-use crate::block::read_block;
-use crate::header::{HEADER_BYTES, read_header};
-use crate::{Blocks, Trace, TraceFault};
+use crate::keep::KeepAll;
+use crate::{Trace, TraceFault, TraceScan};
 use std::alloc::Global;
 
 /// Reads a trace file of version 3, as LLVM's `FDRTraceWriter.cpp` writes it: a header of 32 bytes,
@@ -22,17 +21,13 @@ use std::alloc::Global;
 pub fn read_trace(alloc: Global, bytes: &[u8]) -> Result<Trace, TraceFault>
     ensures reads { (result ≡ Err NoMemory) ⊎ (result ≡ trace_of bytes.now) }
 {
-    let (version, header) = read_header(bytes)?;
-    let mut blocks = Vec::new(alloc);
-    let mut at = HEADER_BYTES;
-    'reading: while at < bytes.len() {
-        let (block, next) = read_block(alloc, version, bytes, at)?;
-        blocks.push(block)?;
-        at = next;
-    }
+    let mut scan = TraceScan::new();
+    let mut keep = KeepAll::new(alloc);
+    scan.feed(bytes, &mut keep)?;
+    let header = scan.finish()?;
     Ok(Trace {
         header,
-        blocks: Blocks::new(blocks),
+        blocks: keep.into_blocks(),
     })
 }
 

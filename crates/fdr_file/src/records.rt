@@ -44,20 +44,3 @@ pub fn record_of(bytes: &[u8]) -> Result<Rec, RecFault>
         Err(fault) => Err(fault),
     }
 }
-
-/// The record at a place of a block's bytes, and the place after it. Places count from the file's
-/// start, and `block` is the file up to the block's end.
-#[tactic(auto, unfolding(crate::specs::private::Reading::record_on))]
-pub(crate) fn record_at(block: &[u8], at: usize) -> Result<(Rec, usize), TraceFault>
-    requires { at ≤ length block.now }
-    ensures reads { Reads (λ x. (x.0, left_at block.now x.1)) result (record_on (left_at block.now at)) }
-    ensures next { IfOk result (λ x. (at < x.1) × (x.1 ≤ length block.now)) }
-{
-    match taken_at(block, at) {
-        Ok(found) => Ok(found),
-        Err(RecFault::Short) => Err(TraceFault::Extents(at as u64)),
-        Err(fault @ (RecFault::Action(_) | RecFault::Kind(_))) => {
-            Err(TraceFault::Bad(at as u64, fault))
-        }
-    }
-}

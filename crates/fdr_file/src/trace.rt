@@ -1,11 +1,11 @@
 //! Traces.
 
-ghost use Rattle.std.specs.Prelude.{◌≡◌};
+ghost use Rattle.std.specs.Prelude.{◌≡◌, ◌++◌, ◌∷◌, [], OnOk};
 
 use crate::Header;
 use fdr_record::Event;
 use std::marker::Model;
-use xray_io::Wall;
+use xray_io::{NoMemory, Wall};
 
 /// Items in order. In contracts they are a list.
 #[derive(Drop)]
@@ -41,6 +41,16 @@ impl<X> Items<X> {
         ensures { result.items ≡ self }
     {
         self.list
+    }
+}
+
+impl<X: Drop> Items<X> {
+    /// Adds an item behind the others.
+    pub(crate) fn push(&mut self, item: X) -> Result<(), NoMemory>
+        ensures { OnOk result (self.new ≡ self.old ++ item ∷ []) }
+    {
+        self.list.push(item)?;
+        Ok(())
     }
 }
 

@@ -1,7 +1,5 @@
 -- A scan, from one call to the next: what each function does to its fields.
-use Rattle.std.specs.Prelude.{◌≡◌, ⊤, ℕ, ◌+◌, ◌==◌, ◌&&◌, Bool, List, [], ◌∷◌, ◌++◌, length, slice_index, Option, Some, Result, Ok, Err, nat_lt, nat_le, if◌then◌else◌}
-use Rattle.xray_io.specs.Rows.{◌>>=◌}
-use Rattle.fdr_record.specs.declared.event.Event.{Event}
+use Rattle.std.specs.Prelude.{◌≡◌, ⊤, ℕ, ◌+◌, ◌==◌, ◌&&◌, List, [], ◌∷◌, ◌++◌, length, slice_index, Some, Result, Ok, Err, nat_lt, nat_le, if◌then◌else◌}
 use Rattle.fdr_file.specs.declared.events.Base.{Base}
 use Rattle.fdr_file.specs.declared.fault.TraceFault.{TraceFault}
 use Rattle.fdr_file.specs.declared.fault.TraceFault.TheVariants as faults
@@ -18,7 +16,7 @@ use Rattle.fdr_file.specs.declared.stage.Told.TheVariants.{Nothing, Begun, Noted
 use Rattle.fdr_file.specs.declared.trace.Block.{Block}
 use Rattle.fdr_file.specs.declared.version.Version.{Version}
 use Rattle.fdr_file.specs.Traces.{record_in, record_length}
-use Rattle.fdr_file.specs.Scanning.{blocks_given, header_on, record_or, stage_after, stage_judged, step_on, with_told}
+use Rattle.fdr_file.specs.Scanning.{blocks_given, header_on, stage_after, stage_judged, with_told}
 use Rattle.fdr_file.specs.Streams.{HasLast, Scans}
 
 -- an event is told only after a block

@@ -1,30 +1,31 @@
-use Rattle.std.proofs.Common.{List, Result, Ok, ◌<◌, length, drop, sym, ap, ◌∙◌, arith, inr}
-use Rattle.std.proofs.Math.ListN.{drop_of_length-le}
-use Rattle.std.proofs.lemmas.List.{length-drop}
+use Rattle.std.proofs.Common.{List, [], ◌<◌, ◌^◌, length, Result, Ok, sym, ap, ◌∙◌, arith, inr, rules}
 use Rattle.std.proofs.lemmas.Result.{err_from_is_err_and}
 use Rattle.fdr_file.specs.declared.fault.TraceFault.{TraceFault}
 use Rattle.fdr_file.specs.declared.trace.Block.{Block}
 use Rattle.fdr_file.specs.declared.trace.Trace.{Trace}
-use Rattle.fdr_file.proofs.PlacesDecide.{file_ends, file_more, file_refused}
-use Rattle.fdr_file.proofs.TraceRows.{rows_decide}
+use Rattle.fdr_file.specs.Scanning.{blocks_given}
+use Rattle.fdr_file.proofs.ReadingAndRecords.{given_none}
 use Rattle.fdr_file.proofs.reading.read_trace.Goals as goal
 
-pub returns-in_err-block : goal.returns-in_err-block
-returns-in_err-block c =
-    let bytes = drop c.reading.at c.args.bytes.now in
-    let some : 0 < length bytes = omega (arith, length-drop c.reading.at c.args.bytes.now) in
-    let p = err_from_is_err_and c.from_residual-in_err-block.result c.from_residual-in_err-block.ensures.1 in
-    record {
-      reads = rw (p.1, p.2) (file_refused c.in_ok-version.version _ c.in_ok-version.header c.reading.blocks.items c.reading.at bytes _ (rows_decide c.args.bytes.now ∙ c.reading.invariant.left) some c.in_err-block.ensures.reads);
-    }
+pub feed-requires : goal.feed-requires
+feed-requires c =
+    let few : length c.args.bytes.now < 2 ^ 64 = search rules in
+    record { stands = ([], c.new-scan.ensures, c.new-keep.ensures ∙ sym given_none, omega (arith, few)) }
 
-pub reading-preserved : goal.reading-preserved
-reading-preserved c = record {
-  within = c.in_ok-block.ensures.next.1;
-  left = file_more c.in_ok-version.version _ c.in_ok-version.header c.reading.blocks.items c.push.new.self.items c.args.bytes.now c.reading.at c.in_ok-block.next c.in_ok-block.block c.reading.invariant.left c.reading-test.true c.in_ok-block.ensures.reads c.in_ok-block.ensures.next.0 c.in_ok-push.ensures.items;
-}
+pub returns-in_err-header : goal.returns-in_err-header
+returns-in_err-header c =
+    let p = err_from_is_err_and c.from_residual-in_err-header.result c.from_residual-in_err-header.ensures.1 in
+    let scans = c.in_ok-feed.ensures.scans [] c.new-scan.ensures (c.new-keep.ensures ∙ sym given_none) in
+    let read = c.in_err-header.ensures.reads c.args.bytes.now scans in
+    record { reads = rw (p.1, p.2) (inr read) }
 
 pub returns : goal.returns
 returns c =
-    let end = drop_of_length-le c.args.bytes.now c.reading-test.false in
-    record { reads = inr (sym (rows_decide c.args.bytes.now ∙ rw end at c.reading.invariant.left ∙ file_ends c.in_ok-version.version c.in_ok-version.header c.reading.blocks.items c.reading.at ∙ ap (λ (all : List Block). let made : Result Trace TraceFault = Ok (record { header = c.in_ok-version.header; blocks = all }) in made) (sym c.new.ensures))) }
+    let start = c.new-keep.ensures ∙ sym given_none in
+    let scans = c.in_ok-feed.ensures.scans [] c.new-scan.ensures start in
+    let took = c.in_ok-feed.ensures.took [] c.new-scan.ensures start in
+    let read = c.in_ok-header.ensures.reads c.args.bytes.now scans in
+    let blocks = c.into_blocks.ensures (blocks_given c.args.bytes.now) took in
+    record {
+      reads = inr (ap (λ (bs : List Block). let made : Result Trace TraceFault = Ok (record { header = c.in_ok-header.header; blocks = bs }) in made) blocks ∙ read);
+    }

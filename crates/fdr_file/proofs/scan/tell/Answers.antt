@@ -1,6 +1,4 @@
-use Rattle.std.proofs.Common.{List}
 use Rattle.std.proofs.lemmas.Result.{on_ok_weaker}
-use Rattle.fdr_file.specs.declared.trace.Block.{Block}
 use Rattle.fdr_file.specs.Scanning.{with_event}
 use Rattle.fdr_file.specs.Streams.{HasLast}
 use Rattle.fdr_file.proofs.ScanSteps.{one_has}
