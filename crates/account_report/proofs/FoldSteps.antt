@@ -55,10 +55,6 @@ thread_of_last : (blocks : List Block) (last : Block) (thread : ℕ) → last.th
     → (first : List Block) (block : Block) → blocks ++ last ∷ [] ≡ first ++ block ∷ [] → block.thread ≡ thread
 thread_of_last blocks last thread is first block same = ap (λ (b : Block). b.thread) (sym (same_last blocks first last block same)) ∙ is
 
-pub none_last : (first : List Block) (block : Block) → [] ≡ first ++ block ∷ [] → ⊥
-none_last [] block same = cc
-none_last (x ∷ first) block same = cc
-
 -- ---- one more block
 
 -- all threads, once that at hand is put among the others

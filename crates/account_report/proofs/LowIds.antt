@@ -1,5 +1,5 @@
 -- Functions with low ids and the others: what one more event changes, and which functions had an event.
-use Rattle.std.proofs.Common.{◌≡◌, ◌+◌, ◌<◌, ◌≤◌, ◌++◌, ◌∙◌, ◌&&◌, ◌||◌, ℕ, zero, suc, Bool, true, false, cond, List, [], ◌∷◌, length, map, get_or, refl, ap, sym, subst, arith, nat_eq, nat_le, nat_lt, Some, None, inl, inr}
+use Rattle.std.proofs.Common.{◌≡◌, ◌+◌, ◌<◌, ◌≤◌, ◌++◌, ◌∙◌, ℕ, zero, suc, Bool, true, false, cond, List, [], ◌∷◌, length, map, get_or, refl, ap, sym, subst, arith, nat_eq, Some, None, inl, inr}
 use Rattle.std.specs.Prelude.{IsPermutation}
 use Rattle.std.proofs.Math.ListN.{set}
 use Rattle.std.proofs.lemmas.Bool.{eq-eqb, eqb-true}
@@ -13,53 +13,9 @@ use Rattle.std.specs.List.{AllByRecursion, IsDistinct}
 use Rattle.std.proofs.lemmas.Bool.Decides.{nat_tests}
 use Rattle.std.proofs.lemmas.Map.Keys.{IsDistinct-cons}
 use Rattle.stack_rebuild.proofs.Items.{IsIn}
-use Rattle.fdr_record.specs.declared.event.Event.{Event}
-use Rattle.account_report.specs.declared.tallies.TheConstants.{FEW}
 use Rattle.account_report.specs.private.Tallies.{Tallied, first_entries, has_events, no_tally, row_of_entry, with_event}
 
 -- ---- one more event
-
-abbrev with_one : Event → List ℕ → ℕ → Tallied → Tallied
-with_one e ds func t = cond (nat_eq e.func func) (with_event e.kind ds t) t
-
-not_that : (e : Event) (ds : List ℕ) (func : ℕ) (t : Tallied) → nat_eq e.func func ≡ false → t ≡ with_one e ds func t
-not_that e ds func t other = sym (ap (λ (b : Bool). cond b (with_event e.kind ds t) t) other)
-
-pub change_first : (e : Event) (ds : List ℕ) (first changed others : ℕ → Tallied) → e.func < FEW
-    → ((func : ℕ) → changed func ≡ with_one e ds func (first func))
-    → (func : ℕ) → cond (nat_lt func FEW) (changed func) (others func) ≡ with_one e ds func (cond (nat_lt func FEW) (first func) (others func))
-change_first e ds first changed others low each func = by_place (nat_lt func FEW) refl
-  where
-    by_place : (b : Bool) → nat_lt func FEW ≡ b → cond b (changed func) (others func) ≡ with_one e ds func (cond b (first func) (others func))
-    by_place true is = each func
-    by_place false is = let other : nat_eq e.func func ≡ false = grind (arith, nat_tests) in not_that e ds func (others func) other
-
-pub change_other : (e : Event) (ds : List ℕ) (first others changed : ℕ → Tallied) → FEW ≤ e.func
-    → ((func : ℕ) → changed func ≡ with_one e ds func (others func))
-    → (func : ℕ) → cond (nat_lt func FEW) (first func) (changed func) ≡ with_one e ds func (cond (nat_lt func FEW) (first func) (others func))
-change_other e ds first others changed high each func = by_place (nat_lt func FEW) refl
-  where
-    by_place : (b : Bool) → nat_lt func FEW ≡ b → cond b (first func) (changed func) ≡ with_one e ds func (cond b (first func) (others func))
-    by_place true is = let other : nat_eq e.func func ≡ false = grind (arith, nat_tests) in not_that e ds func (first func) other
-    by_place false is = each func
-
-pub present_first : (e : Event) (func : ℕ) (x : Bool) → e.func < FEW → x ≡ ((nat_le FEW func && nat_eq e.func func) || x)
-present_first e func x low = by_place (nat_le FEW func) refl
-  where
-    by_place : (b : Bool) → nat_le FEW func ≡ b → x ≡ ((b && nat_eq e.func func) || x)
-    by_place true is = let other : nat_eq e.func func ≡ false = grind (arith, nat_tests) in sym (ap (λ (b : Bool). b || x) other)
-    by_place false is = refl
-
-pub present_other : (e : Event) (func : ℕ) (x : Bool) → FEW ≤ e.func → (nat_eq e.func func || x) ≡ ((nat_le FEW func && nat_eq e.func func) || x)
-present_other e func x high = by_func (nat_eq e.func func) refl
-  where
-    none : (a : Bool) → x ≡ ((a && false) || x)
-    none true = refl
-    none false = refl
-
-    by_func : (b : Bool) → nat_eq e.func func ≡ b → (b || x) ≡ ((nat_le FEW func && b) || x)
-    by_func true is = let there : nat_le FEW func ≡ true = grind (arith, nat_tests) in sym (ap (λ (a : Bool). (a && true) || x) there)
-    by_func false is = none (nat_le FEW func)
 
 -- ---- a list by ids
 

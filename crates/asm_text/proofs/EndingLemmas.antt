@@ -19,11 +19,6 @@ use Rattle.asm_text.specs.private.Laying.{line_placed, placed_in, lines_of, next
 use Rattle.asm_text.proofs.TargetLemmas.{next_place-cons}
 use Rattle.asm_text.proofs.NameTableLemmas.{is_defined-at}
 
--- a test of the statements
-pub any_laid : (p : Statement → Bool) (laid : List Laid) → list_any (λ line. p line.1) (lines_of (placed_in laid)) ≡ list_any (λ line. p (statement_said line.statement)) laid
-any_laid p [] = refl
-any_laid p (line ∷ following) = ap (λ t. p (statement_said line.statement) || t) (any_laid p following)
-
 -- whether an instruction line or a function follows
 abbrev pub has_place : ℕ × Statement → Bool
 has_place line = is_function line.1 || is_instruction line.1

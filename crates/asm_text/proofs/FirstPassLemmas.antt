@@ -24,9 +24,6 @@ taken_ok lines number statement t free is few =
     let under : exceeds_limits (lines ++ (number, statement) ∷ []) ≡ false = sym (totals_exceed-is (lines ++ (number, statement) ∷ []) t is) ∙ few in
     rw (free, under) refl
 
-pub taken_repeat : (lines : StatementLines) (number : ℕ) (statement : Statement) → repeats lines statement ≡ true → taken lines number statement ≡ Err (faults.Repeat number)
-taken_repeat lines number statement again = rw again refl
-
 or_parts : (a b : Bool) → (a || b) ≡ false → (a ≡ false) × (b ≡ false)
 or_parts true b h = cc
 or_parts false b h = (refl, h)

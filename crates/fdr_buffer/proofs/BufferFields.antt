@@ -24,10 +24,6 @@ use Rattle.fdr_buffer.specs.private.Buffer.{filled_with, events_told, filled_in,
 use Rattle.fdr_buffer.proofs.Records.{last_after-append, last_after-push, segment_bytes-push}
 use Rattle.fdr_buffer.proofs.SegmentBytes.{segment_told, nothing_told}
 
--- the bytes after the preamble
-after_preamble : (thread : ℕ) (wall : Wall) (pid : ℕ) (events : List Event) → drop 48 (body thread wall pid events) ≡ segment_bytes events
-after_preamble thread wall pid events = refl
-
 -- the events that a buffer says are those that it holds
 pub told_is : (a : Inside) (events : List Event) → Holds a events → events_told a ≡ events
 told_is a events h =

@@ -22,9 +22,6 @@ pub last_after-push : (before : Option Event) (events : List Event) (event : Eve
 last_after-push before [] event = refl
 last_after-push before (next ∷ events) event = last_after-push (Some next) events event
 
-pub last_of-push : (events : List Event) (event : Event) → last_of (events ++ event ∷ []) ≡ Some event
-last_of-push events event = last_after-push None events event
-
 -- the records of some events, with one more
 records_after-push : (before : Option Event) (events : List Event) (event : Event) → records_after before (events ++ event ∷ []) ≡ records_after before events ++ records_of (last_after before events) event
 records_after-push before [] event = append-nil (records_of before event)

@@ -1,5 +1,5 @@
 -- Bytes part by part: flags, records that are whole, and the next record
-mod Flags
+pub mod Flags
 pub mod NextParts
 pub mod WholeRecords
 pub mod RecordSteps

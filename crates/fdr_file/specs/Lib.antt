@@ -7,6 +7,7 @@ pub mod Grammar
 pub mod Scanning
 pub mod Streams
 pub mod EventsLeft
+pub mod Sources
 pub mod Prefixes
 pub mod FieldRanges
 pub mod private

@@ -30,10 +30,10 @@ const FREQUENCY_AT: usize = 8;
 const SIZE_AT: usize = 16;
 
 /// The flag that the counter runs at a constant frequency. Flags are bits of their number.
-pub(crate) const CONSTANT: u32 = 1;
+pub const CONSTANT: u32 = 1;
 
 /// The flag that the counter goes on while the processor sleeps.
-pub(crate) const NONSTOP: u32 = 2;
+pub const NONSTOP: u32 = 2;
 
 /// The reserved bytes, as they are written.
 pub(crate) const RESERVED: [u8; 8] = [0; 8];

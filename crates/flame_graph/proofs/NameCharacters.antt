@@ -1,36 +1,11 @@
 -- How a name is taken apart into its characters, one after the other.
-use Rattle.std.proofs.Common.{◌≡◌, ◌≤◌, ◌<◌, ◌+◌, ◌-◌, ◌++◌, ◌∙◌, ℕ, zero, suc, List, [], ◌∷◌, length, take, drop, refl, sym, ap, append_assoc, arith}
+use Rattle.std.proofs.Common.{◌≡◌, ◌≤◌, ◌<◌, ◌+◌, ◌-◌, ◌++◌, ◌∙◌, ℕ, zero, suc, List, [], ◌∷◌, length, take, sym, ap, append_assoc, arith}
 use Rattle.std.specs.List.{flat_map}
-use Rattle.std.proofs.lemmas.List.{append-nil, take_all, take_at}
+use Rattle.std.proofs.lemmas.List.{append-nil, take_all}
 use Rattle.std.proofs.lemmas.List.Concat.{flat_map-append}
 use Rattle.flame_graph.specs.Characters.{characters, characters_after, first_size}
 
 -- ---- the first character
-
--- bytes that are passed over are dropped
-passed_over : (n : ℕ) (bytes : List ℕ) → characters_after n bytes ≡ characters (drop n bytes)
-passed_over zero bytes = refl
-passed_over (suc n) [] = refl
-passed_over (suc n) (b ∷ bytes) = passed_over n bytes
-
--- of a size that isn't 0
-of_size : (b : ℕ) (bytes : List ℕ) (n : ℕ) → 0 < n
-    → take n (b ∷ bytes) ∷ characters_after (n - 1) bytes ≡ take n (b ∷ bytes) ∷ characters (drop n (b ∷ bytes))
-of_size b bytes zero some = absurd (omega arith)
-of_size b bytes (suc n) some =
-    let less : suc n - 1 ≡ n = omega arith in
-    ap (λ (rest : List (List ℕ)). take (suc n) (b ∷ bytes) ∷ rest) (ap (λ (k : ℕ). characters_after k bytes) less ∙ passed_over n bytes)
-
--- the first character, and the others
-pub first_taken : (bytes : List ℕ) (n : ℕ) → 0 < length bytes → 0 < n → n ≡ first_size bytes → characters bytes ≡ take n bytes ∷ characters (drop n bytes)
-first_taken [] n there some is = absurd (omega arith)
-first_taken (b ∷ bytes) n there some is =
-    ap (λ (k : ℕ). take k (b ∷ bytes) ∷ characters_after (k - 1) bytes) (sym is) ∙ of_size b bytes n some
-
--- no byte is in no character
-pub none_of : (bytes : List ℕ) → length bytes ≡ 0 → characters bytes ≡ []
-none_of [] none = refl
-none_of (b ∷ bytes) none = absurd (omega arith)
 
 -- ---- how many there are
 
@@ -75,13 +50,3 @@ first_texts f all given left later x n before is few =
     ∙ ap (flat_map f) (sym (one_of_first given later x m)
     ∙ (ap (λ (k : ℕ). take k (given ++ x ∷ later)) size
     ∙ ap (take n) (sym (before ∙ ap (λ (xs : List (List ℕ)). given ++ xs) is)))))
-
--- as many as there may be are given
-pub enough_given : (all given left : List (List ℕ)) (n : ℕ) → all ≡ given ++ left → length given ≡ n → given ≡ take n all
-enough_given all given left n before size = sym (ap (take n) before ∙ take_at given left n size)
-
--- no more of them are left
-pub none_left : (all given left : List (List ℕ)) (n : ℕ) → all ≡ given ++ left → left ≡ [] → length given ≤ n → given ≡ take n all
-none_left all given left n before none few =
-    let same : all ≡ given = before ∙ (ap (λ (xs : List (List ℕ)). given ++ xs) none ∙ append-nil given) in
-    sym (ap (take n) same ∙ take_all n given few)

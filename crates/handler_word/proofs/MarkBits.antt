@@ -1,5 +1,5 @@
 -- Marks as bits: what is read from them, and what one more mark changes.
-use Rattle.std.proofs.Common.{◌≡◌, ◌≢◌, ◌<◌, ◌+◌, ◌*◌, ◌/◌, ◌%◌, ◌^◌, ℕ, zero, suc, List, [], ◌∷◌, ◌++◌, length, get_or, set, refl, sym, ap, ◌∙◌, inl, inr, arith, add-one, length-append, get_or-set_other, get_or-set_same}
+use Rattle.std.proofs.Common.{◌≡◌, ◌≢◌, ◌<◌, ◌+◌, ◌*◌, ◌/◌, ◌%◌, ◌^◌, ℕ, zero, suc, List, [], ◌∷◌, ◌++◌, length, get_or, set, refl, sym, ap, ◌∙◌, inl, inr, arith, add-one, get_or-set_other, get_or-set_same}
 use Rattle.std.specs.Prelude.{slice_get, bit_or, Some}
 use Rattle.std.proofs.lemmas.Grind.{get_or_default_zero}
 use Rattle.std.proofs.lemmas.List.{get_or_append_left, length-set}
@@ -136,13 +136,3 @@ filled_in_place bytes n bits byte filled begun small is =
           let next : (n + 1) % 2 ≡ n % 2 + 1 = omega arith in
           rw (same, next, read) (bits_below (get_or bytes (n / 2) 0) bits (n % 2) (filled.free begun) small (omega arith));
     }
-
--- and so they do with one in a byte of its own
-pub filled_in_byte : (bytes : List ℕ) (n bits : ℕ) → IsFilledTo bytes n → n % 2 ≡ 0 → bits < 16 → IsFilledTo (bytes ++ bits ∷ []) (n + 1)
-filled_in_byte bytes n bits filled full small = record {
-  count = length-append bytes (bits ∷ []) ∙ omega (arith, filled.count);
-  free = λ goes.
-      let here : (n + 1) / 2 ≡ length bytes = omega (arith, filled.count) in
-      let next : (n + 1) % 2 ≡ 1 = omega arith in
-      rw (here, next, get_or-append_seam bytes bits [] 0) small;
-}

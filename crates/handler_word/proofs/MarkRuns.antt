@@ -1,10 +1,9 @@
 -- Runs of marks: the first run of a list, and how the text of runs is put together.
-use Rattle.std.proofs.Common.{◌≡◌, ◌≢◌, ◌<◌, ◌≤◌, ◌+◌, ◌-◌, ℕ, zero, suc, List, [], ◌∷◌, ◌++◌, length, drop, replicate, Bool, refl, sym, ap, ◌∙◌, arith, append_assoc, add-one, eq-eqb}
+use Rattle.std.proofs.Common.{◌≡◌, ◌≢◌, ◌<◌, ◌≤◌, ◌+◌, ◌-◌, ℕ, zero, suc, List, [], ◌∷◌, ◌++◌, length, drop, replicate, Bool, refl, sym, ap, ◌∙◌, arith, add-one, eq-eqb}
 use Rattle.std.specs.Prelude.{◌==◌, if◌then◌else◌, true, false, map, slice_get, Some, Option, Ok}
 use Rattle.std.specs.List.{flat_map, join_with_byte}
 use Rattle.std.proofs.Math.Seq.{drop-cons}
 use Rattle.std.proofs.lemmas.Bool.{eqb-true, ne_eqb}
-use Rattle.std.proofs.lemmas.Grind.{replicate_next}
 use Rattle.std.proofs.lemmas.List.{drop_all, append-nil}
 use Rattle.std.proofs.lemmas.Option.{slice_get_within, get_or_from_slice_get}
 use Rattle.handler_word.specs.declared.mark.Mark.{Mark}
@@ -62,10 +61,6 @@ run_in_front mark (suc more) rest ends =
 pub mark_in_front : (marks : List Mark) (n : ℕ) (mark : Mark) → slice_get marks n ≡ Some mark → drop n marks ≡ mark ∷ drop (n + 1) marks
 mark_in_front marks n mark there =
     rw add-one (drop-cons marks n mark (slice_get_within marks n mark there) ∙ ap (λ first. first ∷ drop (suc n) marks) (get_or_from_slice_get marks n mark mark there))
-
--- one more mark before others
-pub one_more : (mark : Mark) (count : ℕ) (rest : List Mark) → replicate count mark ++ mark ∷ rest ≡ replicate (count + 1) mark ++ rest
-one_more mark count rest = sym (ap (λ front. front ++ rest) (replicate_next count mark) ∙ append_assoc (replicate count mark) (mark ∷ []) rest)
 
 -- a run ends before another mark
 pub ends_before_other : (marks : List Mark) (n : ℕ) (mark next : Mark) → slice_get marks n ≡ Some next → mark ≢ next → EndsRun mark (drop n marks)

@@ -176,9 +176,6 @@ are_in_order bytes program accepted =
 pub record HoldsSteps (program : Program) (all : List Step) : Type 0 where
   pub each : (place : ℕ) (step : Step) → slice_get all place ≡ Some step → IsStepAt program place step
 
-pub no_steps : (program : Program) → HoldsSteps program []
-no_steps program = record { each = λ place step found. absurd cc }
-
 -- what is found in a list with one more item
 found_more : (all : List Step) (last : Step) (i : ℕ) (step : Step) → slice_get (all ++ last ∷ []) i ≡ Some step
     → (slice_get all i ≡ Some step) ⊎ ((i ≡ length all) × (last ≡ step))

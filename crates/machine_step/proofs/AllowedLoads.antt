@@ -1,6 +1,6 @@
 -- What a thread loads from code that keeps sleds whole is allowed.
-use Rattle.std.proofs.Common.{zero, suc, ◌≡◌, ℕ, ◌+◌, ◌≤◌, List, [], ◌∷◌, ◌++◌, Bool, true, false, Option, Some, refl, sym, ap, subst, ◌∙◌, arith}
-use Rattle.std.specs.Prelude.{◌==◌, if◌then◌else◌, slice_get, take}
+use Rattle.std.proofs.Common.{◌≡◌, ℕ, ◌+◌, ◌≤◌, List, [], ◌∷◌, ◌++◌, Bool, true, false, Option, Some, refl, sym, ap, subst, ◌∙◌, arith}
+use Rattle.std.specs.Prelude.{◌==◌, if◌then◌else◌}
 use Rattle.std.specs.List.{All}
 use Rattle.std.proofs.lemmas.Bool.{eqb-true}
 use Rattle.std.proofs.lemmas.Option.{same_Some}
@@ -26,12 +26,6 @@ Fits program code next low [] high = low ≤ high
 Fits program code next low (load ∷ loads) high =
     (place : ℕ) × (low ≤ place) × (next [] ≡ Some load.word) × (load.value ≡ code place load.word)
     × Fits program code (λ more. next (load ∷ more)) place loads high
-
-fits_up : (program : Program) (code : ℕ → ℕ → ℕ) (next : List Load → Option ℕ) (low : ℕ) (loads : List Load) (high : ℕ)
-    → Fits program code next low loads high → low ≤ high
-fits_up program code next low [] high fits = fits
-fits_up program code next low (load ∷ loads) high (place, le, wanted, value, rest) =
-    let up = fits_up program code (λ more. next (load ∷ more)) place loads high rest in omega arith
 
 fits_later : (program : Program) (code : ℕ → ℕ → ℕ) (next : List Load → Option ℕ) (low : ℕ) (loads : List Load) (high higher : ℕ)
     → high ≤ higher → Fits program code next low loads high → Fits program code next low loads higher

@@ -30,13 +30,6 @@ found_address [] i a found = absurd cc
 found_address (first ∷ units) zero a found = let same : first.address ≡ a = cc in (first, refl, same)
 found_address (first ∷ units) (suc i) a found = found_address units i a found
 
--- and the other way round
-pub address_found : (units : List Unit) (i : ℕ) (u : Unit) → slice_get units i ≡ Some u → slice_get (addresses units) i ≡ Some u.address
-address_found [] i u found = absurd cc
-address_found (first ∷ units) zero u found =
-    let same : first ≡ u = cc in ap (λ (v : Unit). Some v.address) same
-address_found (first ∷ units) (suc i) u found = address_found units i u found
-
 -- after a first unit that begins elsewhere, each place is one more
 pub place_more : (first : Unit) (units : List Unit) (a i : ℕ) → first.address ≢ a → IsPlaceOf units a i → IsPlaceOf (first ∷ units) a (suc i)
 place_more first units a i other (inl found) = inl found

@@ -72,10 +72,6 @@ unpatched_before program earlier ((k, sled) ∷ sleds) rest listed later =
     (unpatching k sled (list_any (λ j. j == k) earlier) (All-head (IsListed program) (k, sled) sleds listed))
     (unpatched_before program earlier sleds rest (All-tail (IsListed program) (k, sled) sleds listed) later)
 
-one_before : (program : Program) (step : Micro) (rest : List Micro) → IsLone program step → ArePatches program rest
-    → ArePatches program (step ∷ rest)
-one_before program step rest is later = lone step rest is later
-
 command_before : (program : Program) (threads : ℕ) (earlier : List ℕ) (command : PatchCommand) (rest : List Micro) → ArePatches program rest
     → ArePatches program (steps_of program threads earlier command ++ rest)
 command_before program threads earlier commands.Patch rest later = patched_before program (all_sleds program) rest (all_listed program) later

@@ -3,7 +3,7 @@ use Rattle.std.proofs.Common.{◌≡◌, ℕ, ◌+◌, ◌≤◌, zero, suc, Lis
 use Rattle.std.specs.Prelude.{slice_get, take_while, find, option_map}
 use Rattle.std.specs.Option.{option_or}
 use Rattle.std.proofs.lemmas.Bool.{cases_Bool}
-use Rattle.std.proofs.lemmas.List.{append-nil, length-append, length-map, take-append-drop}
+use Rattle.std.proofs.lemmas.List.{append-nil, length-append, length-map}
 use Rattle.std.proofs.lemmas.List.Sums.{take_while-cons}
 use Rattle.std.proofs.lemmas.Option.{slice_get_within}
 use Rattle.xray_image.specs.Program.{Program}
@@ -61,9 +61,6 @@ pub total_in_order : (program : Program) (threads : ℕ) (script : List PatchCom
 total_in_order program threads script i j le =
     let more = take_front script i j le in
     omega (arith, ap (total_of program threads) more.1, total_grows program threads (take i script) more.0)
-
-pub total_part : (program : Program) (threads : ℕ) (script : List PatchCommand) (i : ℕ) → total_of program threads (take i script) ≤ total_of program threads script
-total_part program threads script i = omega (arith, ap (total_of program threads) (take-append-drop i script), total_grows program threads (take i script) (drop i script))
 
 -- ---- a step of a command
 

@@ -5,7 +5,6 @@ use Rattle.std.specs.declared.cmp.Ordering.TheVariants.{Less, Equal, Greater}
 use Rattle.std.specs.Ordering.{match_ordering, ordering_index, ordering_reverse}
 use Rattle.std.specs.Cmp.{IsTotalOrder}
 use Rattle.std.specs.List.{AllByRecursion}
-use Rattle.std.specs.List.Sorted.{IsStrictlySortedBy}
 use Rattle.stack_rebuild.specs.Ascending.{each_once, put_once}
 use Rattle.stack_rebuild.proofs.Items.{IsIn, Pairwise, in_either, in_longer, same_pairwise}
 
@@ -93,8 +92,3 @@ pub each_in : {X : Type 0} (P : X → Type 0) (xs : List X) → AllByRecursion P
 each_in P [] all z is = absurd is
 each_in P (x ∷ xs) all z (inl is) = subst P (sym is) all.0
 each_in P (x ∷ xs) all z (inr is) = each_in P xs all.1 z is
-
-pub strict_from_sorted : {X : Type 0} (compare : X → X → Ordering) (xs : List X) → IsStrictlySortedBy compare xs → Strict compare xs
-unfolding IsStrictlySortedBy
-strict_from_sorted compare [] sorted = tt
-strict_from_sorted {X} compare (x ∷ xs) sorted = (each_in (λ (y : X). compare x y ≡ Less) xs sorted.0, strict_from_sorted compare xs sorted.1)

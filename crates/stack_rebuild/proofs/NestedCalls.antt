@@ -152,16 +152,6 @@ ended_open end calls call (pair ∷ pairs) at all = (
   ended_open end calls call pairs at all.2,
 )
 
--- and when calls end
-ended_cut : (end func : ℕ) (calls outer : List Call) (ended : Call) (pairs : List Pair) → from_innermost func calls ≡ ended ∷ outer → AllEnded end calls pairs
-    → AllEnded (end + 1) outer pairs
-ended_cut end func calls outer ended [] is all = tt
-ended_cut end func calls outer ended (pair ∷ pairs) is all = (
-  omega (arith, all.0),
-  (subst (NoneAt pair.entry) is (none_from pair.entry func calls all.1)).1,
-  ended_cut end func calls outer ended pairs is all.2,
-)
-
 pub ended_append : (end : ℕ) (calls : List Call) (pairs : List Pair) (pair : Pair) → AllEnded end calls pairs → pair.entry < end → NoneAt pair.entry calls
     → AllEnded end calls (pairs ++ pair ∷ [])
 ended_append end calls [] pair all low none = (low, none, tt)

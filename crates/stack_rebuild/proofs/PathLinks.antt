@@ -199,11 +199,6 @@ told_else links numbers q none = ap (λ (o : Option ℕ). option_or o (number_in
 
 -- ---- the links of nodes
 
--- the links of nodes, if there is a node
-pub links_some : (nodes : List Node) → 0 < length nodes → all_links nodes ≡ map links_in nodes
-links_some [] some = absurd (omega (arith, some))
-links_some (node ∷ nodes) some = refl
-
 -- a node in place of another that has the same links
 pub links_set : (nodes : List Node) (i : ℕ) (node d : Node) → links_in node ≡ links_in (get_or nodes i d) → all_links (set nodes i node) ≡ all_links nodes
 links_set [] i node d same = refl

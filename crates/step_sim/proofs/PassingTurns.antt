@@ -29,18 +29,8 @@ stand_let_in cast m p old mid at same keeps =
     stand_moved cast m m p old mid at same refl at.along
     (thread_moved cast m m old mid at.thread same refl (keeps at.thread.passed _ at.thread.loaded))
 
-pub less_is : (a b : ℕ) → a < b → a ≤ b
-less_is a b less = omega (arith, less)
-
--- a thread that comes to where its passing is stays the same
-pub come_same : (t : Traced) (u : Underway) → IsSameThread t (in_passing t u)
-come_same t u = record { program = refl; thread = refl; threads = refl; hold = refl; limits = refl }
-
 pub on_same : (t : Traced) (u v : Underway) → IsSameThread (in_passing t u) (in_passing t v)
 on_same t u v = record { program = refl; thread = refl; threads = refl; hold = refl; limits = refl }
-
-pub same_as : (t t' : Traced) (u : Underway) → t' ≡ in_passing t u → IsSameThread t t'
-same_as t t' u is = subst (λ (x : Traced). IsSameThread t x) (sym is) (come_same t u)
 
 -- ---- turns, counted or not
 

@@ -612,10 +612,6 @@ turn_holds stamp threads events later stock thread n old new hand taken next_han
 
 -- ---- an event that is noted
 
--- what the laws of segments say
-abbrev pub FirstSaid : Type 0
-FirstSaid = (size : ℕ) (event : Event) → segments size (event ∷ []) ≡ (event ∷ []) ∷ []
-
 abbrev pub JoinedSaid : Type 0
 JoinedSaid =
     (size : ℕ) (events opened : List Event) (whole : List (List Event)) (event : Event) → segments size events ≡ whole ++ opened ∷ []
@@ -831,17 +827,6 @@ same_hand pool thread one again (stamp, threads, events, stock, holds, some, few
     let found = hand_read stamp threads events stock pool thread one some few holds is in
     let found' = hand_read stamp threads events stock pool thread again some few holds is' in
     let both : ◌≡◌ {A = Option Filled} (Some again) (Some one) = sym found' ∙ found in cc
-
--- the hand that was read is full
-pub is_full : (pool : Pool) (thread : ℕ) (event : Event) (hand : Filled) → CanNote pool thread
-    → hand ≡ get_or pool.hands.items (thread - 1) hand → hand.begun ≡ true → has_room hand.size (hand.events ++ event ∷ []) ≡ false
-    → IsFull pool thread event
-is_full pool thread event hand (stamp, threads, events, stock, holds, some, few, room) is begun full other found =
-    let here = hand_read stamp threads events stock pool thread hand some few holds is in
-    let both : ◌≡◌ {A = Option Filled} (Some hand) (Some other) = sym here ∙ found in
-    let same : hand ≡ other = cc in
-    let HasNoRoom : Filled → Type 0 = λ b. (b.begun ≡ true) × (has_room b.size (b.events ++ event ∷ []) ≡ false) in
-    subst HasNoRoom same (begun, full)
 
 -- ---- the pool at first
 

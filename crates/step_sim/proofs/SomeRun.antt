@@ -75,10 +75,6 @@ bases ends bytes program limits k (suc n) accepted =
 abbrev filled_in : ThreadRun → List Mark → ℕ → ThreadRun
 filled_in run marks lost = record { passed = run.passed; end = run.end; last = run.last; marks = marks; lost = lost }
 
-abbrev fill : List ThreadRun → List (List Mark) → List ℕ → List ThreadRun
-fill (run ∷ runs) (m ∷ marks) (l ∷ lost) = filled_in run m l ∷ fill runs marks lost
-fill runs marks lost = []
-
 -- runs with these marks and losses
 record Filled (program : Program) (limits : Limits) (k : ℕ) (runs : List ThreadRun) (marks : List (List Mark)) (lost : List ℕ) : Type 0 where
   all : List ThreadRun

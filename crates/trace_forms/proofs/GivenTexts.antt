@@ -28,7 +28,3 @@ pub taken : {X Y : Type 0} (of : X → Y) (old new : List Y) (o : Option X) → 
     → MatchBool (is_some o) (length old ≡ length new + 1) (old ≡ [])
 taken of old new None none = none
 taken of old new (Some x) is = omega (arith, ap length is)
-
--- no more of them are given
-pub none_left : {X : Type 0} (all given left : List X) → all ≡ given ++ left → left ≡ [] → given ≡ all
-none_left {X = X} all given left before is = sym (before ∙ (ap (λ (xs : List X). given ++ xs) is ∙ append-nil given))

@@ -1,5 +1,4 @@
 -- Basic logs: how they are written, and what they read as (src/basic_text.rt, src/basic_reading.rt)
-pub mod Flags
 pub mod Places
 pub mod Pieces
 pub mod LogRecords
@@ -13,7 +12,6 @@ pub mod RunLaws
 pub mod Escapes
 pub mod JsonTexts
 pub mod GivenTexts
-pub mod Sources
 -- The lines of a dump (src/dump.rt, src/record_row.rt)
 pub mod Rows
 pub mod Lines

@@ -16,7 +16,7 @@ use Rattle.fdr_file.specs.Traces.{type_in, version_in}
 use Rattle.trace_forms.specs.declared.basic.BasicFault.{BasicFault}
 use Rattle.trace_forms.specs.declared.basic.BasicFault.TheVariants as faults
 use Rattle.basic_record.specs.BasicRecords.{basic_length}
-use Rattle.trace_forms.specs.BasicLogs.{EventFits, LogReadsAs, TraceFits, basic_bytes, basic_header, basic_header_rows, basic_of, event_bytes, events_rows, log_bytes, basic_passing, basic_record_rows, record_starts}
+use Rattle.trace_forms.specs.BasicLogs.{EventFits, LogReadsAs, TraceFits, basic_header, basic_header_rows, basic_of, event_bytes, events_rows, log_bytes, basic_passing, basic_record_rows, record_starts}
 use Rattle.trace_forms.specs.Runs.{runs}
 use Rattle.fdr_file.proofs.NextParts.{starts_first}
 use Rattle.trace_forms.proofs.Places.{starts_none}

@@ -1,6 +1,6 @@
 -- Rows, which are put together from their end to their start.
 use Rattle.std.proofs.Common.{◌≡◌, ℕ, ◌++◌, ◌∙◌, List, [], refl, append_assoc}
-use Rattle.std.specs.Prelude.{codes, decimal, Option, Some}
+use Rattle.std.specs.Prelude.{codes, decimal, Some}
 use Rattle.json.specs.Print.{escape}
 use Rattle.fdr_record.specs.declared.event.Event.{Event}
 use Rattle.fdr_record.specs.declared.event.Kind.{Kind}

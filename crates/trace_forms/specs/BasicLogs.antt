@@ -1,5 +1,5 @@
 -- Basic logs: how the events of a trace are written as a header and a record for each event, and what such bytes read as.
-use Rattle.std.specs.Prelude.{◌≡◌, ◌<◌, ◌^◌, ℕ, List, [], ◌∷◌, ◌++◌, ◌==◌, not, nat_lt, length, drop, replicate, All, Option, Result, Ok, Err, if◌then◌else◌}
+use Rattle.std.specs.Prelude.{◌≡◌, ◌<◌, ◌^◌, ℕ, List, [], ◌∷◌, ◌++◌, ◌==◌, not, nat_lt, length, drop, replicate, All, Option, Result, Ok, Err}
 use Rattle.std.specs.List.{flat_map, position}
 use Rattle.byteorder.specs.Endian.{little_bytes}
 use Rattle.basic_record.specs.BasicRecords.{arg_logged, basic_length, event_in, kind_byte, kind_numbered, pid_in, tag_in, thread_in}

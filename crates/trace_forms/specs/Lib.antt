@@ -3,5 +3,4 @@ pub mod Runs
 pub mod BasicLogs
 pub mod FaultWords
 pub mod Dumps
-pub mod Sources
 pub mod private

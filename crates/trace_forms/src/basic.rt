@@ -2,15 +2,6 @@
 
 use thiserror::Error;
 
-/// The length of a header in bytes.
-pub(crate) const HEADER_BYTES: usize = 32;
-
-/// The flag that the counter runs at a constant frequency. Flags are bits of their number.
-pub(crate) const CONSTANT: u32 = 1;
-
-/// The flag that the counter goes on while the processor sleeps.
-pub(crate) const NONSTOP: u32 = 2;
-
 /// Why `read_basic` gives no trace. The answer is the first of the header's faults: `Short`,
 /// `Version`, `Form`. If the header has none, it is the fault of the first record that has one, and
 /// the first of `Short`, `Tag` and `Kind` if a record has several. A place is the byte offset of a

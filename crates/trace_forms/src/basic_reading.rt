@@ -5,14 +5,14 @@ ghost use Rattle.trace_forms.specs.declared.basic.BasicFault.TheVariants.{NoMemo
 ghost use Rattle.fdr_file.specs.ThreadEvents.{thread_events};
 ghost use Rattle.trace_forms.specs.BasicLogs.{basic_header, basic_header_rows, basic_of, basic_record_rows, wide_cpu};
 
-use crate::basic::{BasicFault, CONSTANT, HEADER_BYTES, NONSTOP};
+use crate::basic::BasicFault;
 use crate::runs::RunBlocks;
 use basic_record::{
     BASIC_TYPE, BASIC_VERSION, RECORD_BYTES, event_in, kind_byte, kind_of, pid_in, tag_in,
     thread_in, u32_at, u64_at,
 };
 use byteorder::{ByteOrder, LittleEndian};
-use fdr_file::{Blocks, Header, Trace};
+use fdr_file::{Blocks, CONSTANT, HEADER_BYTES, Header, NONSTOP, Trace};
 use fdr_record::Event;
 use std::alloc::Global;
 
@@ -47,7 +47,7 @@ pub fn read_basic(alloc: Global, bytes: &[u8]) -> Result<Trace, BasicFault>
 }
 
 /// The header of a log.
-#[tactic(auto, using(crate::proofs::Flags::first_flag, crate::proofs::Flags::second_flag))]
+#[tactic(auto, using(fdr_file::proofs::Flags::first_flag, fdr_file::proofs::Flags::second_flag))]
 fn read_header(bytes: &[u8]) -> Result<Header, BasicFault>
     ensures { result ≡ basic_header_rows bytes.now (Ok (basic_header bytes.now)) }
 {

@@ -6,10 +6,8 @@ ghost use Rattle.fdr_file.specs.ThreadEvents.{event_given, thread_events};
 ghost use Rattle.xray_io.specs.{Text.{AddsText}, Writes.{WritesText}};
 ghost use Rattle.trace_forms.specs.BasicLogs.{basic_bytes, basic_header_bytes, event_bytes, log_bytes, wide_cpu as first_wide};
 
-use crate::basic::{CONSTANT, NONSTOP};
-use crate::source::{EventSource, TraceCursor};
 use basic_record::{BASIC_TYPE, BASIC_VERSION, arg_logged};
-use fdr_file::{Header, Trace};
+use fdr_file::{CONSTANT, EventSource, Header, NONSTOP, Trace, TraceCursor};
 use fdr_record::{Event, Kind};
 use xray_io::{Piece, Printed, Sink, Text, WriteFault, write_text};
 

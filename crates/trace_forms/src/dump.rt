@@ -8,18 +8,15 @@ ghost use Rattle.xray_io.specs.{Text.{AddsText}, Writes.{WritesText}};
 ghost use Rattle.trace_forms.specs.Dumps.{dump_text, fault_in as first_fault, header_line, last_line, record_line, record_lines, standing_line};
 
 use crate::record_row::put_line;
-use crate::records::{record_len, record_of};
 use crate::row::Row;
 use fault_words::Fault;
 use fdr_file::{
-    EventCursor, KeepNothing, TraceFault, TraceScan, a_file_is_read_by_records, readable,
+    EventCursor, HEADER_BYTES, KeepNothing, TraceFault, TraceScan, a_file_is_read_by_records,
+    readable, record_len, record_of,
 };
 use fdr_record::Rec;
 use trace_words::TraceRefusal;
 use xray_io::{Piece, Printed, Sink, Text, WriteFault, write_text};
-
-/// The place of the first record.
-const HEADER_BYTES: usize = 32;
 
 /// The dump of a file: a line for the header, and a line for each record of the longest prefix that
 /// is a trace, each with its place, counted from the file's start. A last line says `end` and the

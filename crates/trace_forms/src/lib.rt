@@ -10,11 +10,9 @@ mod gathered;
 mod laws;
 mod of_bytes;
 mod record_row;
-mod records;
 mod refusal;
 mod row;
 mod runs;
-mod source;
 mod trace_events;
 
 pub use basic::BasicFault;
@@ -23,5 +21,4 @@ pub use basic_text::{BasicText, wide_cpu, write_basic};
 pub use dump::{DumpText, write_dump};
 pub use laws::{a_basic_log_reads_back, runs_are_longest};
 pub use of_bytes::{BasicBytes, EventsBytes, wide_cpu_of_bytes};
-pub use source::{EventSource, TraceCursor};
 pub use trace_events::{EventFault, EventsText, MOST_EVENTS, event_text, has_too_many};

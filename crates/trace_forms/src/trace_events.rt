@@ -10,8 +10,7 @@ ghost use Rattle.trace_forms.specs.private.Texts.{arg_shown, arg_start, event_en
 use crate::escaped::add_escaped_name;
 use crate::gathered::Gathered;
 use crate::row::{ROOM, Row};
-use crate::source::{EventSource, TraceCursor};
-use fdr_file::Trace;
+use fdr_file::{EventSource, Trace, TraceCursor};
 use fdr_record::{Event, Kind};
 use function_names::Names;
 use std::alloc::Global;

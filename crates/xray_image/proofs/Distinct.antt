@@ -28,16 +28,6 @@ front_first seen (x ∷ xs) ys =
 
 -- ---- what is true of all numbers is true of each once
 
-chosen : (P : ℕ → Type 0) (b : Bool) (x y : List ℕ) → All P x → All P y → All P (cond b x y)
-chosen P true x y p q = p
-chosen P false x y p q = q
-
-distinct_all : (P : ℕ → Type 0) (seen xs : List ℕ) → All P xs → All P (distinct seen xs)
-distinct_all P seen [] all = All-nil P
-distinct_all P seen (x ∷ xs) all =
-    let others = All-tail P x xs all in
-    chosen P (among x seen) _ _ (distinct_all P seen xs others) (All-cons P x _ (All-head P x xs all) (distinct_all P (x ∷ seen) xs others))
-
 -- ---- there are no more of them
 
 shorter : (b : Bool) (x y : List ℕ) (n : ℕ) → length x ≤ n → length y ≤ n → length (cond b x y) ≤ n

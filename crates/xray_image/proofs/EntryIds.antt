@@ -4,7 +4,7 @@ use Rattle.std.specs.Prelude.{slice_get, Contains, nat_lt}
 use Rattle.std.specs.List.{position_or_len}
 use Rattle.std.specs.List.Sorted.{IsStrictlyIncreasing, IsNonDecreasing, IsNonDecreasingBy, IsPartitionPoint}
 use Rattle.std.proofs.lemmas.Bool.{cases_eq, cases_lt, ltb-true, ltb-false}
-use Rattle.std.proofs.lemmas.List.{map-append, length-map, get_or-map}
+use Rattle.std.proofs.lemmas.List.{length-map, get_or-map}
 use Rattle.std.proofs.lemmas.Simd.{map-map}
 use Rattle.std.proofs.lemmas.List.Kept.{AllPairs-from_increasing}
 use Rattle.std.proofs.lemmas.Option.{slice_get-get_or, same_Some}
@@ -50,12 +50,6 @@ stands_there n (x ∷ xs) s i up known le point =
     get_or_any [] j d e lt = absurd (omega arith)
     get_or_any (z ∷ zs) zero d e lt = refl
     get_or_any (z ∷ zs) (suc j) d e lt = get_or_any zs j d e (omega arith)
-
--- one number more
-pub number_more : (all some numbers : List ℕ) (x n : ℕ) → AreNumbersOf all some numbers → slice_get all n ≡ Some x → AreNumbersOf all (some ++ x ∷ []) (numbers ++ n ∷ [])
-number_more all some numbers x n are found = record {
-  each = map-append (slice_get all) numbers (n ∷ []) ∙ ap (λ t. t ++ slice_get all n ∷ []) are.each ∙ ap (λ o. map Some some ++ o ∷ []) found ∙ sym (map-append Some some (x ∷ []));
-}
 
 -- there are as many numbers as addresses
 pub as_many : (all some numbers : List ℕ) → AreNumbersOf all some numbers → length numbers ≡ length some

@@ -1,5 +1,5 @@
 -- The index of the units grows by one unit.
-use Rattle.std.proofs.Common.{◌≡◌, ◌≢◌, ℕ, zero, suc, ◌+◌, ◌-◌, ◌*◌, ◌/◌, ◌^◌, ◌<◌, ◌≤◌, List, [], length, get_or, set, sym, ap, subst, ◌∙◌, arith, inl, inr}
+use Rattle.std.proofs.Common.{◌≡◌, ◌≢◌, ℕ, zero, suc, ◌+◌, ◌-◌, ◌*◌, ◌/◌, ◌<◌, ◌≤◌, List, length, get_or, set, sym, ap, subst, ◌∙◌, arith, inl, inr}
 use Rattle.std.specs.Prelude.{Contains, Some, slice_get}
 use Rattle.std.proofs.lemmas.Option.{slice_get_within, get_or_from_slice_get}
 use Rattle.std.specs.List.Sorted.{IsStrictlyIncreasing}
@@ -10,9 +10,8 @@ use Rattle.std.proofs.lemmas.List.{get_or-map, get_or-set_same, get_or-set_other
 use Rattle.std.proofs.Math.Nat.{div-add-mod}
 use Rattle.std.proofs.lemmas.Nat.{mod_below}
 use Rattle.xray_image.specs.declared.unit.Unit.{Unit}
-use Rattle.xray_image.specs.declared.unit_index.UnitIndex.{UnitIndex}
 use Rattle.xray_image.specs.Program.{addresses}
-use Rattle.xray_image.specs.private.Index.{AreWithin, IsNumbered, IsFirstOf, IsIndexOf, HasBegun, HasFirst}
+use Rattle.xray_image.specs.private.Index.{AreWithin, IsNumbered, IsFirstOf, HasBegun, HasFirst}
 
 -- the address of a unit that was read
 pub address_read : (units : List Unit) (i : ℕ) (u : Unit) → slice_get units i ≡ Some u → get_or (addresses units) i 0 ≡ u.address
@@ -118,16 +117,3 @@ module _ (all firsts steps : List ℕ) (base i : ℕ) (below : i < length all) (
 
     pub one_more : HasFirst all firsts' steps' base (i + 1)
     one_more = record { first_of = first_of; stands = stands; numbered = numbered }
-
--- while the index has no unit, no byte has a step
-pub none_yet : (all steps : List ℕ) (base : ℕ) → ((k : ℕ) → k < length steps → get_or steps k 0 ≡ 255) → HasFirst all [] steps base 0
-none_yet all steps base empty = record {
-  first_of = λ b lt. absurd (omega arith);
-  stands = λ k lt differs. absurd (differs (empty k lt));
-  numbered = λ j lt. absurd (omega arith);
-}
-
--- once the index has all units, it is whole
-pub whole_index : (all : List ℕ) (index : UnitIndex) (i : ℕ) → length all < 2 ^ 32 - 1 → AreWithin index.base (length index.steps.items) all → length all ≤ i
-    → HasFirst all index.firsts.items index.steps.items index.base i → IsIndexOf all index
-whole_index all index i few within past so_far = record { few = few; within = within; stands = so_far.stands; numbered = λ j lt. so_far.numbered j (omega arith) }

@@ -182,13 +182,6 @@ pub first_is : OneInstruction → (p first : Piece) (others : List Piece) (bytes
 first_is one p first others bytes following fits e alone u =
     same_piece one p first following (flat_map piece_bytes others) fits u.pieces_fit.0 alone (no_return_sled_at first others u.pieces_fit.0 u.pieces_fit.1) (sym e ∙ u.whole)
 
--- bytes that begin with a sled's jump, with no nop after it, begin with no unit
-pub no_jump_sled : (first : Piece) (others : List Piece) (bytes nop : List ℕ) → bytes ≡ 0xEB ∷ 0x09 ∷ nop → ((shift : ℕ) → Begins (nop_bytes shift) nop → ⊥) → IsUnits bytes (first ∷ others) → ⊥
-no_jump_sled (Instruction i) others bytes nop e none u = other_byte i 0xEB (flat_map piece_bytes others) _ (opens i u.pieces_fit.0) (opens i u.pieces_fit.0).no_jump (sym u.whole ∙ e)
-no_jump_sled (JumpSled shift) others bytes nop e none u = none shift (flat_map piece_bytes others, tail_same 0x09 0x09 _ _ (tail_same 0xEB 0xEB _ _ (sym e ∙ u.whole)))
-no_jump_sled (ReturnSled shift) others bytes nop e none u = apart 0xEB 0xC3 _ _ (λ h. omega arith) (sym e ∙ u.whole)
-no_jump_sled Align others bytes nop e none u = apart 0xEB 0x90 _ _ (λ h. omega arith) (sym e ∙ u.whole)
-
 -- the same for a return
 pub no_return_sled : (first : Piece) (others : List Piece) (bytes nop : List ℕ) → bytes ≡ 0xC3 ∷ 0x2E ∷ nop → ((shift : ℕ) → Begins (nop_bytes shift) nop → ⊥) → IsUnits bytes (first ∷ others) → ⊥
 no_return_sled (Instruction i) others bytes nop e none u = return_alone i others nop u.pieces_fit.0 u.pieces_fit.1 (sym u.whole ∙ e)

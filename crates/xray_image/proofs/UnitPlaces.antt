@@ -1,6 +1,5 @@
 -- Units that stand one after the other: at most one unit stands at a place.
-use Rattle.std.proofs.Common.{◌≡◌, ℕ, ◌+◌, ◌%◌, inl, inr, true, false, List, [], ◌∷◌, ◌++◌, length, All, refl, sym, ap, subst, ◌∙◌, arith}
-use Rattle.std.specs.Prelude.{◌↔◌}
+use Rattle.std.proofs.Common.{◌≡◌, ℕ, ◌+◌, inl, inr, true, false, List, [], ◌∷◌, ◌++◌, length, All, refl, sym, ap, subst, ◌∙◌, arith}
 use Rattle.std.specs.List.{flat_map, AllByRecursion}
 use Rattle.std.proofs.lemmas.List.{append_cancel_left, length-append}
 use Rattle.std.proofs.lemmas.List.Elements.{All-nil, All-cons, All-head, All-tail}
@@ -126,8 +125,3 @@ units_stand address bytes (p ∷ ps) u even =
       record { spelled = u.whole; fits = u.pieces_fit.0; place = may_stand address bytes p ps u.whole u.pieces_fit.0 u.pieces_fit.1 even },
       subst (λ (e : ℕ). StandUpTo next following ps e []) end rest,
     )
-
--- the units stand up to the code's end exactly when they are the code and their sleds have even addresses
-pub stand_whole : (base : ℕ) (code : List ℕ) (pieces : List Piece)
-    → StandUpTo base code pieces (base + length code) [] ↔ (IsUnits code pieces × All (λ place. place.address % 2 ≡ 0) (places_from base pieces))
-stand_whole base code pieces = (λ s. stand_are base code pieces (base + length code) s, λ u. units_stand base code pieces u.0 u.1)

@@ -16,12 +16,11 @@ use crate::stop::Stop;
 use crate::work::Work;
 use command_words::{ConvertFormat, ConvertOptions, NameSource};
 use fault_words::Words;
-use fdr_file::{EventCursor, Trace};
+use fdr_file::{EventCursor, EventSource, Trace, TraceCursor};
 use function_names::Names;
 use std::alloc::Global;
 use trace_forms::{
-    BasicBytes, BasicText, EventSource, EventsBytes, EventsText, TraceCursor, has_too_many,
-    wide_cpu_of_bytes,
+    BasicBytes, BasicText, EventsBytes, EventsText, has_too_many, wide_cpu_of_bytes,
 };
 use xray_io::{Desk, Piece, Printed, Sink, Text, WriteFault};
 use yaml_convert::{YamlBytes, YamlText};

@@ -1,21 +1,18 @@
 -- The lines of a YAML document, as they are put together.
-use Rattle.std.proofs.Common.{◌≡◌, ◌++◌, ◌∙◌, ◌||◌, ◌<◌, arith, ℕ, Bool, true, cond, Option, List, [], ◌∷◌, length, map, nat_lt, refl, sym, ap, append_assoc}
+use Rattle.std.proofs.Common.{◌≡◌, ◌++◌, ◌∙◌, ℕ, List, [], ◌∷◌, refl, sym, ap, append_assoc}
 use Rattle.std.specs.Prelude.{codes, decimal, Ok}
-use Rattle.std.specs.List.{flat_map, list_any}
-use Rattle.std.proofs.lemmas.Bool.Decides.{nat_tests}
+use Rattle.std.specs.List.{flat_map}
 use Rattle.std.proofs.lemmas.List.{append-nil}
 use Rattle.std.proofs.lemmas.List.Concat.{flat_map-append}
-use Rattle.std.proofs.lemmas.List.Folds.{flat_map-map}
 use Rattle.fdr_record.specs.declared.event.Event.{Event}
 use Rattle.fdr_file.specs.declared.header.Header.{Header}
-use Rattle.fdr_file.specs.declared.trace.Block.{Block}
 use Rattle.fdr_file.specs.declared.trace.Trace.{Trace}
-use Rattle.fdr_file.specs.ThreadEvents.{ThreadEvent, block_events, thread_events}
+use Rattle.fdr_file.specs.ThreadEvents.{ThreadEvent, thread_events}
 use Rattle.fdr_file.specs.Traces.{trace_of}
 use Rattle.map_names.specs.Naming.{Naming}
 use Rattle.yaml_convert.specs.private.Stamps.{happened_text, stamp_text}
 use Rattle.xray_image.specs.Extract.{truth_text}
-use Rattle.yaml_convert.specs.Yaml.{arg_text, event_counter, event_end, event_line, event_start, header_text, event_kind_text, records_start, records_text, yaml_of_bytes, yaml_read, yaml_text}
+use Rattle.yaml_convert.specs.Yaml.{arg_text, event_counter, event_end, event_line, event_start, header_text, event_kind_text, records_text, yaml_of_bytes, yaml_read, yaml_text}
 
 -- ---- pieces
 
@@ -54,46 +51,7 @@ end_whole e =
 
 -- ---- whether there is an event
 
-abbrev has_events : Block → Bool
-has_events block = nat_lt 0 (length block.events)
-
--- the records begin by whether a block has an event
-pub records_begin : (blocks : List Block) (b : Bool) → list_any (λ (block : Block). nat_lt 0 (length block.events)) blocks ≡ b
-    → cond b (codes "records:\n") (codes "records: []\n") ≡ records_start (thread_events blocks)
-records_begin [] b is = sym (ap (λ (a : Bool). cond a (codes "records:\n") (codes "records: []\n")) is)
-records_begin (block ∷ later) b is = by_events block.events refl (records_begin later)
-  where
-    rest : (events : List Event) → List ThreadEvent
-    rest events = map (λ event. record { thread = block.thread; pid = block.pid; event = event }) events ++ thread_events later
-
-    by_events : (events : List Event) → block.events ≡ events
-        → ((a : Bool) → list_any has_events later ≡ a → cond a (codes "records:\n") (codes "records: []\n") ≡ records_start (thread_events later))
-        → cond b (codes "records:\n") (codes "records: []\n") ≡ records_start (rest block.events)
-    by_events [] none following =
-        let same : list_any has_events later ≡ b = ap (λ (es : List Event). nat_lt 0 (length es) || list_any has_events later) (sym none) ∙ is in
-        following b same ∙ ap (λ (es : List Event). records_start (rest es)) (sym none)
-    by_events (e ∷ events) some following =
-        let low : nat_lt 0 (length (e ∷ events)) ≡ true = let some_events : 0 < length (e ∷ events) = omega arith in grind (arith, nat_tests) in
-        let holds : b ≡ true =
-        sym is ∙ (ap (λ (es : List Event). nat_lt 0 (length es) || list_any has_events later) some ∙ ap (λ (a : Bool). a || list_any has_events later) low) in
-        ap (λ (a : Bool). cond a (codes "records:\n") (codes "records: []\n")) holds ∙ ap (λ (es : List Event). records_start (rest es)) (sym some)
-
 -- ---- lines of blocks
-
--- the lines of a block are those of its events
-pub of_block : (names : Naming) (block : Block)
-    → flat_map (λ event. event_line names (record { thread = block.thread; pid = block.pid; event = event })) block.events
-    ≡ flat_map (event_line names) (block_events block)
-of_block names block =
-    sym (flat_map-map (event_line names) (λ (event : Event). let e : ThreadEvent = record { thread = block.thread; pid = block.pid; event = event } in e) block.events)
-
--- the lines of blocks are those of all events
-pub of_blocks : (names : Naming) (blocks : List Block)
-    → flat_map (λ block. flat_map (event_line names) (block_events block)) blocks ≡ flat_map (event_line names) (thread_events blocks)
-of_blocks names [] = refl
-of_blocks names (block ∷ later) =
-    ap (λ (t : List ℕ). flat_map (event_line names) (block_events block) ++ t) (of_blocks names later)
-    ∙ sym (flat_map-append (event_line names) (block_events block) (thread_events later))
 
 -- ---- the whole document
 
@@ -125,10 +83,6 @@ all_lines names all given left later e before is =
     ap (λ (t : List ℕ). t ++ flat_map (event_line names) later) (one_line names given e)
     ∙ (sym (flat_map-append (event_line names) (given ++ e ∷ []) later)
     ∙ ap (flat_map (event_line names)) (sym (one_given all given left later e before is)))
-
--- no more of them are given
-pub none_left : (all given left : List ThreadEvent) → all ≡ given ++ left → left ≡ [] → given ≡ all
-none_left all given left before is = sym (before ∙ (ap (λ (es : List ThreadEvent). given ++ es) is ∙ append-nil given))
 
 -- the records, of which the first is given
 pub first_line : (names : Naming) (all later : List ThreadEvent) (e : ThreadEvent) → all ≡ e ∷ later

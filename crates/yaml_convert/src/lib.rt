@@ -2,6 +2,7 @@
 #![tactic(auto)]
 
 mod line;
+mod records;
 mod row;
 mod stamp;
 mod yaml;

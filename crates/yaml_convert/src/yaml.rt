@@ -1,16 +1,13 @@
 //! The YAML text of a trace.
 
-ghost use Rattle.std.specs.{Prelude.{◌≡◌, ⊤, length, nat_lt}, List.{flat_map, list_any}, Option.{option_map}};
-ghost use Rattle.fdr_file.specs.ThreadEvents.{block_events, thread_events};
+ghost use Rattle.std.specs.{Prelude.{◌≡◌, ⊤}, Option.{option_map}};
 ghost use Rattle.function_names.specs.Name.{image_names, naming};
 ghost use Rattle.xray_io.specs.{Piece.{piece_text}, Text.{AddsText}, Writes.{WritesText}};
-ghost use Rattle.yaml_convert.specs.Yaml.{event_line, header_text, records_start, records_text, yaml_text};
+ghost use Rattle.yaml_convert.specs.Yaml.{header_text, yaml_text};
 ghost use Rattle.xray_image.specs.Extract.{truth_text};
 
-use crate::line::add_event;
-use crate::stamp::Stamp;
-use fdr_file::{Block, Header, Trace};
-use fdr_record::Event;
+use crate::records::add_records;
+use fdr_file::{Header, Trace, TraceCursor};
 use function_names::Names;
 use xray_image::Image;
 use xray_io::{Piece, Printed, Sink, Text, WriteFault, write_text};
@@ -37,7 +34,7 @@ impl Printed for YamlText<'_> {
 
     fn add_to<S: Sink>(&self, to: &mut Text<S>) -> Result<(), WriteFault> {
         add_header(to, &self.trace.header)?;
-        add_records(to, self)?;
+        add_records(to, &mut TraceCursor::new(self.trace), self.names)?;
         to.bytes(b"...\n")
     }
 }
@@ -73,99 +70,6 @@ pub(crate) fn add_header<S: Sink>(text: &mut Text<S>, header: &Header) -> Result
         Piece::Number(u128::from(header.frequency)),
         Piece::Bytes(b"\n"),
     ])
-}
-
-/// Adds the records.
-fn add_records<S: Sink>(text: &mut Text<S>, yaml: &YamlText) -> Result<(), WriteFault>
-    ensures { AddsText S.written S.faults S.along text.old text.new
-        (records_text (naming yaml.now.names)
-        (thread_events yaml.now.trace.now.blocks)) result }
-{
-    let blocks = yaml.trace.blocks.as_slice();
-    text.bytes(records_line(blocks))?;
-    add_blocks(text, &mut Stamp::new(0, 0, 0), blocks, yaml.names)
-}
-
-/// The text that the records begin with.
-fn records_line(blocks: &[Block]) -> &'static [u8]
-    ensures { result.now ≡ records_start (thread_events blocks.now) }
-{
-    if have_events(blocks) {
-        b"records:\n"
-    } else {
-        b"records: []\n"
-    }
-}
-
-/// Whether some block has an event.
-fn have_events(blocks: &[Block]) -> bool
-    ensures { result ≡ list_any (λ block. nat_lt 0 (length block.events)) blocks.now }
-{
-    blocks.iter().any(has_event)
-}
-
-/// Whether a block has an event.
-fn has_event(block: &Block) -> bool
-    ensures { result ≡ nat_lt 0 (length block.now.events) }
-{
-    !block.events.as_slice().is_empty()
-}
-
-/// Adds the lines of blocks.
-fn add_blocks<S: Sink>(
-    text: &mut Text<S>,
-    stamp: &mut Stamp,
-    blocks: &[Block],
-    names: Names,
-) -> Result<(), WriteFault>
-    ensures { AddsText S.written S.faults S.along text.old text.new
-        (flat_map (λ block. flat_map (event_line (naming names.entry))
-        (block_events block)) blocks.now) result }
-{
-    'lines: for block in blocks {
-        add_block(text, stamp, block, names)?;
-    }
-    Ok(())
-}
-
-/// Adds a line for each event of a block.
-fn add_block<S: Sink>(
-    text: &mut Text<S>,
-    stamp: &mut Stamp,
-    block: &Block,
-    names: Names,
-) -> Result<(), WriteFault>
-    ensures { AddsText S.written S.faults S.along text.old text.new
-        (flat_map (event_line (naming names.entry))
-        (block_events block.now)) result }
-{
-    add_events(
-        text,
-        stamp,
-        block.thread,
-        block.pid,
-        block.events.as_slice(),
-        names,
-    )
-}
-
-/// Adds the lines of events of a thread.
-fn add_events<S: Sink>(
-    text: &mut Text<S>,
-    stamp: &mut Stamp,
-    thread: u32,
-    pid: u32,
-    events: &[Event],
-    names: Names,
-) -> Result<(), WriteFault>
-    ensures { AddsText S.written S.faults S.along text.old text.new
-        (flat_map (λ event. event_line (naming names.entry)
-        (record { thread = thread; pid = pid; event = event })) events.now) result }
-{
-    'lines: for event in events {
-        add_event(text, stamp, thread, pid, event, names)?;
-    }
-    Ok(())
 }
 
 /// The word for a yes or no.

@@ -1,15 +1,13 @@
 //! The YAML text of a trace, from the bytes of its file.
 
-ghost use Rattle.std.specs.{Prelude.{◌≡◌, List, Ok}, List.{flat_map}, Option.{option_map}};
+ghost use Rattle.std.specs.{Prelude.{◌≡◌, Ok}, Option.{option_map}};
 ghost use Rattle.fdr_file.specs.declared.trace.Trace.{Trace};
 ghost use Rattle.fdr_file.specs.Traces.{trace_of};
-ghost use Rattle.fdr_file.specs.EventsLeft.{events_left};
 ghost use Rattle.function_names.specs.Name.{image_names, naming};
-ghost use Rattle.xray_io.specs.{Text.{AddsText}, Writes.{WritesText}};
-ghost use Rattle.yaml_convert.specs.Yaml.{event_line, records_text, yaml_of_bytes, yaml_text};
+ghost use Rattle.xray_io.specs.Writes.{WritesText};
+ghost use Rattle.yaml_convert.specs.Yaml.{yaml_of_bytes, yaml_text};
 
-use crate::line::add_event;
-use crate::stamp::Stamp;
+use crate::records::add_records;
 use crate::yaml::add_header;
 use fdr_file::EventCursor;
 use function_names::Names;
@@ -36,7 +34,7 @@ impl Printed for YamlBytes<'_> {
     fn add_to<S: Sink>(&self, to: &mut Text<S>) -> Result<(), WriteFault> {
         let mut cursor = EventCursor::new(self.bytes);
         add_header(to, &cursor.header())?;
-        add_given(to, &mut cursor, self.names)?;
+        add_records(to, &mut cursor, self.names)?;
         to.bytes(b"...\n")
     }
 }
@@ -56,42 +54,4 @@ pub fn write_yaml_bytes<S: Sink>(
 {
     let names = Names::of_image(image);
     write_text(&YamlBytes { bytes, names }, sink)
-}
-
-/// Adds the records of the events that a cursor has still to give.
-fn add_given<S: Sink>(
-    text: &mut Text<S>,
-    cursor: &mut EventCursor,
-    names: Names,
-) -> Result<(), WriteFault>
-    ensures { AddsText S.written S.faults S.along text.old text.new
-        (records_text (naming names.entry) (events_left cursor.old))
-        result }
-{
-    match cursor.next() {
-        None => text.bytes(b"records: []\n"),
-        Some((thread, pid, event)) => {
-            text.bytes(b"records:\n")?;
-            let mut stamp = Stamp::new(event.cpu, thread, pid);
-            add_event(text, &mut stamp, thread, pid, &event, names)?;
-            add_lines(text, &mut stamp, cursor, names)
-        }
-    }
-}
-
-/// Adds the lines of these events.
-fn add_lines<S: Sink>(
-    text: &mut Text<S>,
-    stamp: &mut Stamp,
-    cursor: &mut EventCursor,
-    names: Names,
-) -> Result<(), WriteFault>
-    ensures { AddsText S.written S.faults S.along text.old text.new
-        (flat_map (event_line (naming names.entry))
-        (events_left cursor.old)) result }
-{
-    'lines: while let Some((thread, pid, event)) = cursor.next() {
-        add_event(text, stamp, thread, pid, &event, names)?;
-    }
-    Ok(())
 }

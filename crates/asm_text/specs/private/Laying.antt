@@ -1,5 +1,5 @@
 -- What the lines at their places say.
-use Rattle.std.specs.Prelude.{◌≡◌, ℕ, ◌≤◌, List, [], ◌∷◌, map, Option, Some, None, All}
+use Rattle.std.specs.Prelude.{◌≡◌, ℕ, ◌≤◌, List, [], ◌∷◌, map, Option, Some, None}
 use Rattle.std.specs.List.{flat_map}
 use Rattle.xray_image.specs.Units.{piece_bytes}
 use Rattle.xray_image.specs.Limits.{most_code}
@@ -42,7 +42,3 @@ pub record ArePlaces (all : List Placed) (table : NameTable) (next : List (Optio
 -- the bytes of parts; branches count from the place after them
 abbrev pub parts_bytes : List Placed → ℕ → List UnitDraft → List ℕ
 parts_bytes all following parts = flat_map piece_bytes (map (piece_of all following) parts)
-
--- each line begins within the code
-abbrev pub AreWithin : List Placed → Type 0
-AreWithin lines = All (λ p. p.place ≤ most_code) lines

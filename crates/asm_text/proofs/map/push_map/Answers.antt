@@ -1,4 +1,4 @@
-use Rattle.std.proofs.Common.{◌≡◌, ◌+◌, ◌*◌, ◌++◌, ◌∷◌, ℕ, List, drop, length, map, ap, subst, sym, ◌∙◌, rules}
+use Rattle.std.proofs.Common.{◌+◌, ◌*◌, ◌++◌, List, drop, length, map, ap, subst, sym, ◌∙◌, rules}
 use Rattle.std.specs.Option.{option_map}
 use Rattle.std.proofs.lemmas.List.{drop_more}
 use Rattle.asm_text.specs.declared.layout.Laid.{Laid}

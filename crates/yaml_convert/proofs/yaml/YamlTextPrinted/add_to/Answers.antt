@@ -21,7 +21,7 @@ returns-in_err-add_records g c = record {
   adds =
       let names = naming c.args.self.now.names in
       let trace = c.args.self.now.trace.now in
-      adds_failed (adds_within g.met.S.Sink.along_both (codes "...\n") c.in_ok-add_header.ensures c.in_err-add_records.ensures
+      adds_failed (adds_within g.met.S.Sink.along_both (codes "...\n") c.in_ok-add_header.ensures (rw c.new.ensures at c.in_err-add_records.ensures)
       (whole_yaml_left names trace))
       c.from_residual-in_err-add_records.result c.from_residual-in_err-add_records.ensures.1;
 }
@@ -33,5 +33,5 @@ returns g c = record {
       let trace = c.args.self.now.trace.now in
       subst (λ (t : List ℕ). AddsText g.S.Sink.written g.S.Sink.faults g.S.Sink.along c.args.to.now c.bytes.new.self t c.bytes.result)
       (whole_yaml_left names trace)
-      (adds_more g.met.S.Sink.along_both (adds_more g.met.S.Sink.along_both c.in_ok-add_header.ensures c.in_ok-add_records.ensures) c.bytes.ensures.adds);
+      (adds_more g.met.S.Sink.along_both (adds_more g.met.S.Sink.along_both c.in_ok-add_header.ensures (rw c.new.ensures at c.in_ok-add_records.ensures)) c.bytes.ensures.adds);
 }

@@ -1,9 +1,9 @@
-//! Where the events of a text come from.
+//! Where the events of a trace come from: the bytes of a file, or a trace that was read.
 
 ghost use Rattle.std.specs.Prelude.{◌≡◌, [], ◌∷◌, List, MatchOption};
 ghost use Rattle.fdr_file.specs.ThreadEvents.{ThreadEvent, event_given, thread_events};
 
-use fdr_file::{Block, EventCursor, Trace};
+use crate::{Block, EventCursor, Trace};
 use fdr_record::Event;
 
 /// Gives the events of a trace, one after the other, in the order of the file.
@@ -40,7 +40,7 @@ pub struct TraceCursor<'a> {
 }
 
 impl<'a> TraceCursor<'a> {
-    ghost use Rattle.trace_forms.specs.Sources.{cursor_left};
+    ghost use Rattle.fdr_file.specs.Sources.{cursor_left};
 
     /// A cursor before the first event of a trace.
     pub fn new(trace: &'a Trace) -> TraceCursor<'a>
@@ -56,7 +56,7 @@ impl<'a> TraceCursor<'a> {
 }
 
 impl EventSource for TraceCursor<'_> {
-    ghost use Rattle.trace_forms.specs.Sources.{cursor_left};
+    ghost use Rattle.fdr_file.specs.Sources.{cursor_left};
 
     ghost left = { cursor_left };
 

@@ -2,7 +2,7 @@
 use Rattle.std.specs.Prelude.{List, ◌++◌, map}
 use Rattle.fdr_record.specs.declared.event.Event.{Event}
 use Rattle.fdr_file.specs.ThreadEvents.{ThreadEvent, thread_events}
-use Rattle.trace_forms.specs.declared.source.TraceCursor.{TraceCursor}
+use Rattle.fdr_file.specs.declared.source.TraceCursor.{TraceCursor}
 
 -- those of the block that it is in, and those of the blocks after it
 abbrev pub cursor_left : TraceCursor → List ThreadEvent
