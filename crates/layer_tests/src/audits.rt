@@ -2,11 +2,11 @@
 
 use crate::checks::check_same_at;
 use audit_check::{AuditFault, Verdict, check_audit, read_audit};
-use example_images::OUTPUTS_AN_A;
 use patch_script::read_script;
 use std::alloc::Global;
 use std::process::Abort;
 use std::test::Fail;
+use test_helpers::images::OUTPUTS_AN_A;
 use text_lines::count_lines;
 use xray_image::read_image;
 

@@ -9,11 +9,11 @@ ghost use Rattle.sled_rule.specs.Views.{first_patch};
 
 use crate::checks::check_same_list;
 use crate::sled_values::PATCHED;
-use example_images::OUTPUTS_AN_A;
 use patch_script::{Micro, read_script};
 use sled_rule::{CodeTable, PatchSeat, WorkSeat};
 use std::process::Abort;
 use std::test::Fail;
+use test_helpers::images::OUTPUTS_AN_A;
 use text_lines::count_lines;
 use xray_image::{Image, read_image};
 

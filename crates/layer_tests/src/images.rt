@@ -2,11 +2,11 @@
 
 use crate::checks::{check_same, check_same_at};
 use crate::image_files::{add_entry_of, image_file};
-use example_images::OUTPUTS_AN_A;
 use std::alloc::{AllocError, Global};
 use std::process::Abort;
 use std::test::Fail;
 use subset_decode::{DecodeFault, Instr, Reg};
+use test_helpers::images::OUTPUTS_AN_A;
 use xray_image::ImageFault::Limit;
 use xray_image::{
     ImageFault, Sled, SledKind, Unit, What, Which, one_reading, one_unit_list, one_verdict,

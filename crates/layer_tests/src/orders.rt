@@ -2,12 +2,12 @@
 
 use crate::checks::check_same_list;
 use audit_check::read_audit;
-use example_images::OUTPUTS_AN_A;
 use patch_script::read_script;
 use run_order::order_run;
 use std::process::Abort;
 use std::test::Fail;
 use step_sim::Turns;
+use test_helpers::images::OUTPUTS_AN_A;
 use text_lines::count_lines;
 use xray_image::read_image;
 

@@ -1,4 +1,4 @@
-//! Passings of threads of [`OUTPUTS_AN_A`](example_images::OUTPUTS_AN_A), load by load.
+//! Passings of threads of [`OUTPUTS_AN_A`](test_helpers::images::OUTPUTS_AN_A), load by load.
 
 use fdr_record::Event;
 use machine_step::{Cpu, Want};

@@ -3,12 +3,12 @@
 
 use crate::checks::{check_same, check_same_list};
 use crate::code_table::begin;
-use example_images::OUTPUTS_AN_A;
 use sled_patch::{run_prefix, run_script};
 use sled_words::code_bytes;
 use std::process::Abort;
 use std::sync::Wait;
 use std::test::Fail;
+use test_helpers::images::OUTPUTS_AN_A;
 use xray_image::read_image;
 use xray_io::OpenGate;
 

@@ -2,11 +2,11 @@
 
 use crate::checks::{check_same, check_same_list};
 use crate::setups::DEFAULT_SETUP;
-use example_images::OUTPUTS_AN_A;
 use machine_step::{Cpu, End, Steps, Want};
 use patch_script::read_script;
 use std::test::Fail;
 use step_sim::{read_schedule, simulate};
+use test_helpers::images::OUTPUTS_AN_A;
 use text_lines::count_lines;
 use trace_flush::write_audit;
 use xray_image::read_image;

@@ -2,10 +2,10 @@
 //! refusals.
 
 use crate::checks::check_same;
-use example_images::OUTPUTS_AN_A;
 use patch_script::*;
 use std::alloc::Global;
 use std::test::Fail;
+use test_helpers::images::OUTPUTS_AN_A;
 use text_lines::count_lines;
 use xray_image::{Image, read_image};
 

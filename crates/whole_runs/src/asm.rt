@@ -2,8 +2,8 @@
 use crate::cases::{ASSEMBLE, CASE, Case, IMAGE, Left, check_case};
 use crate::states::{CALL_STATE, ODD_EXIT_STATE, STATE, TAIL_JUMP_STATE};
 use crate::texts::{ARGUMENT, CALL, FIBONACCI, ODD_EXIT, STRAIGHT_LINE, TAIL_JUMP};
-use example_images::CALLS;
 use std::test::Fail;
+use test_helpers::images::CALLS;
 
 /// The place of the code in a file.
 const CODE: usize = 64;

@@ -2,12 +2,12 @@
 //! proof nothing.
 use crate::checks::check_same_at;
 use crate::runs::{assert_left, assert_no_fault, run_at, run_line};
-use example_images::OUTPUTS_AN_A;
 use std::alloc::Global;
 use std::process::Abort;
 use std::sync::Wait;
 use std::test::Fail;
 use std::thread::Threads;
+use test_helpers::images::OUTPUTS_AN_A;
 use test_helpers::trace_parts::file;
 use xray_io::{Gate, MemDesk, OpenGate};
 

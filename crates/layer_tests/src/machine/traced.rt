@@ -3,12 +3,12 @@
 use crate::checks::check_same;
 use crate::passings::{ENTRY, EXIT, HAS_ENDED, Load, NO_HANDLER, RECORDS, pass};
 use crate::setups::DEFAULT_LIMITS;
-use example_images::OUTPUTS_AN_A;
 use fdr_record::{Event, Kind};
 use machine_step::{Cpu, End, Limits, Steps, Want};
 use std::alloc::Global;
 use std::process::Abort;
 use std::test::Fail;
+use test_helpers::images::OUTPUTS_AN_A;
 use xray_image::read_image;
 use xray_io::{MemSink, write_text};
 

@@ -1,5 +1,4 @@
-//! Image files that tests read and run. The crate has only constants.
-#![tactic(auto)]
+//! Image files that tests read and run.
 
 /// A function `main` that prints an A: an entry sled, `mov eax, 0x41`, `out 1, al`, an exit sled.
 pub const OUTPUTS_AN_A: [u8; 170] = [
