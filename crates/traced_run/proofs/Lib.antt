@@ -10,6 +10,8 @@ pub mod RecordedEvents
 pub mod FitBuffers
 pub mod FewBuffers
 -- Scripts that record each passing, and threads that were released (src/laws.rt)
+pub mod RecordingCommands
+pub mod RecordingFromGo
 pub mod RecordedMarks
 pub mod ReleasedThreads
 -- Stamps: they change no plain run (src/laws.rt)
@@ -20,5 +22,6 @@ pub mod SledBytes
 pub mod AcceptedCode
 pub mod SledSteps
 pub mod ExecutedRuns
--- Worked examples: the step of a sled
+-- Worked examples: the step of a sled, and scripts that record each passing
 mod ExecutedRows
+mod RecordingRows

@@ -1,6 +1,7 @@
 pub mod Runs
 pub mod Following
 pub mod Recording
+pub mod RecordingScripts
 pub mod Decoded
 pub mod Executed
 pub mod Kept

@@ -10,22 +10,25 @@ ghost use Rattle.std.specs.Prelude.{
   List,
   ℕ,
   All,
+  Ok,
   Option,
   Some,
+  false,
   filter,
   length,
   map,
   slice_get,
   take,
+  true,
 };
-ghost use Rattle.std.specs.List.{flat_map};
+ghost use Rattle.std.specs.List.{flat_map, list_any};
 ghost use Rattle.subset_decode.specs.Encoding.{IsEncodable};
 ghost use Rattle.subset_decode.specs.declared.instr.Instr.TheVariants.{Call, Jmp, Mov};
 ghost use Rattle.xray_image.specs.Program.{IsAccepted, Program};
 ghost use Rattle.xray_image.specs.declared.sled.Sled.{Sled};
 ghost use Rattle.sled_words.specs.Words.{release_word};
 ghost use Rattle.patch_script.specs.declared.command.PatchCommand.{PatchCommand};
-ghost use Rattle.patch_script.specs.CodeAt.{code_at};
+ghost use Rattle.patch_script.specs.{CodeAt.{code_at}, Plans.{Plan, plan_of}, Refusals.{commands_of}};
 ghost use Rattle.handler_word.specs.declared.mark.Mark.{Mark};
 ghost use Rattle.fdr_buffer.specs.{Filled.{Filled, has_event}, Fits.{BufferFits}};
 ghost use Rattle.machine_step.specs.{Buffers.{spare_of}, Setups.{AreLimits, IsSetup}};
@@ -42,10 +45,12 @@ ghost use Rattle.traced_run.specs.Kept.{kept_buffers, kept_of, segments_of, thre
 ghost use Rattle.traced_run.specs.Left.{Leaves, LeavesInAnyOrder};
 ghost use Rattle.traced_run.specs.Losses.{AreLost, recycled_of, without_losses};
 ghost use Rattle.traced_run.specs.Recording.{RecordsAll, recorded_mark};
+ghost use Rattle.traced_run.specs.RecordingScripts.{RecordsFromGo, is_left_done, removes_arg_handler, sets_arg_handler};
 ghost use Rattle.traced_run.specs.Runs.{EachThread, IsRun, ThreadRun, events_of};
 
 use fdr_buffer::{a_body_has_room, segments_hold_all};
 use machine_step::{Cpu, Steps, wanted_loads_have_one_value};
+use patch_script::each_script_lets_threads_end;
 
 /// No event of a thread falls between its segments. The events of as many of the first segments as
 /// are lost, and then those of the segments that are left, are all events that its marks record.
@@ -176,6 +181,26 @@ pub fn a_script_that_records_all_leaves_one_run()
         → AllMarksFollow program setup.threads script runs → AllMarksFollow program setup.threads script others
         → recycled_of runs ≡ 0 → recycled_of others ≡ 0 → runs ≡ others }
 {}
+
+/// The text of a script shows that all is recorded: before `go` it patches all sleds, sets the handler
+/// and initializes the log, and undoes none of this, not even after `go`, where the argument handler
+/// isn't changed either (`some`). If the argument handler is set before `go`, and not removed after that,
+/// its word is 1 (`with_arguments`). If it is never set before `go`, its word is 0 (`without_arguments`).
+pub fn a_script_that_sets_all_before_go_records_all()
+    ensures some { (program : Program) (threads : ℕ) (text : List ℕ) (plan : Plan)
+        → plan_of program threads text ≡ Ok plan → RecordsFromGo (commands_of plan.lines)
+        → (arguments : ℕ) × RecordsAll program threads (commands_of plan.lines) arguments }
+    ensures with_arguments { (program : Program) (threads : ℕ) (text : List ℕ) (plan : Plan)
+        → plan_of program threads text ≡ Ok plan → (sets : RecordsFromGo (commands_of plan.lines))
+        → is_left_done sets_arg_handler removes_arg_handler sets.before ≡ true
+        → RecordsAll program threads (commands_of plan.lines) 1 }
+    ensures without_arguments { (program : Program) (threads : ℕ) (text : List ℕ) (plan : Plan)
+        → plan_of program threads text ≡ Ok plan → (sets : RecordsFromGo (commands_of plan.lines))
+        → list_any sets_arg_handler sets.before ≡ false
+        → RecordsAll program threads (commands_of plan.lines) 0 }
+{
+    each_script_lets_threads_end();
+}
 
 /// Once a held thread has loaded that it is released, each of its loads sees all stores that come
 /// before the release: it is made at a place after every place up to which the release word is 0.

@@ -71,7 +71,7 @@ taken form held name next outputs text (inr (bytes, may, inr (within, inr (value
     (value, record { bytes = bytes; held = may; within = within; reads = reads }, comes)
 
 -- so it was not refused after all inputs
-unrefused : (line : Option ℕ) (name kind : List ℕ) (next : Outcome → Type 0) (outputs : List (List ℕ × List ℕ)) (text : List ℕ)
+pub unrefused : (line : Option ℕ) (name kind : List ℕ) (next : Outcome → Type 0) (outputs : List (List ℕ × List ℕ)) (text : List ℕ)
     → RefuseIf (option_map waits_words line) name kind next (Done outputs text) → (line ≡ None) × next (Done outputs text)
 unrefused None name kind next outputs text comes = (refl, comes)
 unrefused (Some line) name kind next outputs text is = absurd (never is)

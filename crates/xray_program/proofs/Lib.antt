@@ -20,6 +20,8 @@ pub mod ProfiledStacks
 pub mod OtherLosses
 pub mod OrderReplays
 pub mod RunReplays
+-- What stamps and buffers don't change (src/laws.rt)
+pub mod OtherOptions
 -- The trace of a run is imported as itself (src/laws.rt)
 pub mod ImportedRuns
 -- Inputs: in their turn, what comes of each, and of one that is refused (src/input.rt, src/inputs.rt)

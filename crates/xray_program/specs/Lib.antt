@@ -23,6 +23,7 @@ pub mod Check
 pub mod Import
 pub mod LoadOrder
 pub mod OrderReplays
+pub mod OtherOptions
 pub mod Commands
 pub mod Accepted
 pub mod Headline

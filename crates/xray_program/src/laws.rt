@@ -18,6 +18,7 @@ ghost use Rattle.xray_program.specs.{
   Headline.{HaveHeadline},
   Import.{RunsImportThemselves},
   OrderReplays.{HaveSameThreads, IsLeftByOrder, IsLeftByRun, IsOrderedOrLong, LeavesRunsOf},
+  OtherOptions.{LeavesAlike},
   Profile.{profile_of, states_before, trouble_of},
   ProfiledStacks.{MakeMarksOf},
   Setups.{setup_of},
@@ -52,11 +53,12 @@ use runtime_log::{a_trace_in_order_is_imported_as_itself, one_import, some_impor
 use stack_rebuild::stacks_are_of_threads;
 use step_sim::{
     a_replay_loses_few, buffers_change_no_replay, marks_of_a_replay_follow, no_replay_tears_a_sled,
-    one_run, some_run,
+    one_replay, one_run, some_run,
 };
 use trace_flush::{a_run_is_traced, a_trace_is_short};
 use traced_run::{
     a_run_fits_its_buffers, a_whole_run_executes_to_its_end, some_losses_are_of_a_queue,
+    stamps_change_no_run,
 };
 use xray_image::{one_verdict, some_verdict};
 
@@ -315,4 +317,28 @@ pub fn pictures_add_up()
     stacks_can_be_drawn();
     no_frame_sticks_out();
     the_lowest_frames_add_up();
+}
+
+/// Of the options of `sim` and `run`, only those that bound the threads decide what is printed: how many
+/// there are, and how many instructions and passings each makes. All others, from `--buffer-size` on,
+/// change neither the state texts nor what the audit states of ends and marks. Whatever a command may
+/// print and state with some of them, it may print and state with others (`LeavesAlike`). For `sim`, whose
+/// outcome is the only one (`one_meaning`), both texts are the same.
+pub fn stamps_and_buffers_change_no_text()
+    ensures sim { (held : List ℕ → Entry) (i s c t a u b : List ℕ) (options other : RunOptions)
+        (outputs : List (List ℕ × List ℕ)) (text : List ℕ) → options.bounds ≡ other.bounds
+        → Means (Some (Sim i s c t a options)) held (Done outputs text)
+        → LeavesAlike (setup_of options) (setup_of other) t a u b outputs text (Means (Some (Sim i s c u b other)) held) }
+    ensures run { (held : List ℕ → Entry) (i s t a u b : List ℕ) (options other : RunOptions)
+        (outputs : List (List ℕ × List ℕ)) (text : List ℕ) → options.bounds ≡ other.bounds
+        → Means (Some (Run i s t a options)) held (Done outputs text)
+        → LeavesAlike (setup_of options) (setup_of other) t a u b outputs text (Means (Some (Run i s u b other)) held) }
+{
+    what_runs_leave();
+    stamps_change_no_run();
+    buffers_change_no_replay();
+    one_replay();
+    some_run();
+    some_end();
+    some_losses_are_of_a_queue();
 }
