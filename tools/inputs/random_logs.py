@@ -70,6 +70,9 @@ def recorder_log(draw):
         draw.choice([random_traces.other_header, random_traces.other_extents, random_traces.other_records])(draw, draft)
         if draw.random() < 0.3:
             draft.header[0] = draw.choice([1, 6, 5, 4])
+    for _ in range(draw.choice([0, 0, 0, 0, 1, 3])):
+        # A buffer that nothing was written into.
+        draft.blocks.insert(draw.randint(0, len(draft.blocks)), [[], 0])
     return draft.file()
 
 

@@ -153,6 +153,9 @@ def block_at(content, at, version):
         raise Refused("Order", at)
     (used,) = rec.fields
     begin = at + METADATA_LENGTH
+    if used == 0:
+        # The runtime also hands out buffers that nothing was written into.
+        return Block(at, b"", 0, (0, 0), 0, []), begin
     if used < METADATA_LENGTH * len(preamble_of(version)):
         raise Refused("Extents", at)
     if used > len(content) - begin:
@@ -243,7 +246,7 @@ def taken_blocks(log):
     """The blocks that are taken, in the order of the trace, with how many doubled and how many empty ones are left out."""
     seen, taken, doubled, empty = set(), [], 0, 0
     for block in log.blocks:
-        if block.content in seen:
+        if block.content and block.content in seen:
             doubled += 1
         elif not block.events:
             empty += 1

@@ -16,7 +16,7 @@ use Rattle.runtime_log.specs.BasicLogs.{basic_records, recorded_events}
 use Rattle.runtime_log.specs.Facts.{facts_of}
 use Rattle.runtime_log.specs.Imports.{IsImport, trace_file, trace_taken}
 use Rattle.runtime_log.specs.Logs.{LogBlock, as_log, imported_header, recorder_blocks, recorder_header}
-use Rattle.runtime_log.specs.Taken.{AreTaken, chosen, first_ones, has_events, is_among_contents, undoubled}
+use Rattle.runtime_log.specs.Taken.{AreTaken, chosen, first_ones, has_events, is_doubled, undoubled}
 use Rattle.runtime_log.specs.Threads.{AreByThread}
 use Rattle.runtime_log.specs.private.Headers.{mode_of}
 use Rattle.runtime_log.specs.private.Packings.{HasPacked}
@@ -91,7 +91,7 @@ filter_few (b ∷ blocks) = by_test (filter_few blocks) (has_events b)
 
 first_few : (before : List (List ℕ)) (blocks : List LogBlock) → length (first_ones before blocks) ≤ length blocks
 first_few before [] = omega arith
-first_few before (b ∷ blocks) = by_test (first_few (b.content ∷ before) blocks) (is_among_contents before b.content)
+first_few before (b ∷ blocks) = by_test (first_few (b.content ∷ before) blocks) (is_doubled before b.content)
   where
     by_test : length (first_ones (b.content ∷ before) blocks) ≤ length blocks → (doubled : Bool)
         → length (cond doubled (first_ones (b.content ∷ before) blocks) (b ∷ first_ones (b.content ∷ before) blocks)) ≤ length (b ∷ blocks)

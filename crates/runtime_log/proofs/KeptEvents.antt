@@ -24,7 +24,7 @@ use Rattle.runtime_log.specs.Laws.{ImportsRead}
 use Rattle.runtime_log.specs.LogLaws.{IsGreatest, IsLeast, NumbersAreMeant, NumbersAreOf, NumbersAreOfEvents, ThreadsAreKept, blocks_of_thread, pool_events}
 use Rattle.runtime_log.specs.Logs.{Log, LogBlock, logged}
 use Rattle.runtime_log.specs.Threads.{AreByThread, recorded_by}
-use Rattle.runtime_log.specs.Taken.{AreTaken, chosen, comes_before, first_ones, has_events, is_among_contents, order_key, undoubled}
+use Rattle.runtime_log.specs.Taken.{AreTaken, chosen, comes_before, first_ones, has_events, is_doubled, order_key, undoubled}
 use Rattle.runtime_log.proofs.ByThread.{none_by_thread}
 use Rattle.runtime_log.proofs.CountedThreads.{AtMost, DontFall, back_counted, threads_counted, threads_of}
 use Rattle.runtime_log.proofs.LeftOut.{doubled_count, empty_places}
@@ -107,7 +107,7 @@ ones {X} (x ∷ xs) = sum_by-cons (λ (y : X). 1) x xs ∙ ap (λ (n : ℕ). 1 +
 
 first_few : (before : List (List ℕ)) (blocks : List LogBlock) → length (first_ones before blocks) ≤ length blocks
 first_few before [] = omega arith
-first_few before (b ∷ blocks) = by_test (first_few (b.content ∷ before) blocks) (is_among_contents before b.content)
+first_few before (b ∷ blocks) = by_test (first_few (b.content ∷ before) blocks) (is_doubled before b.content)
   where
     others : List LogBlock
     others = first_ones (b.content ∷ before) blocks

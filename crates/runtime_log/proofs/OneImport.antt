@@ -14,7 +14,7 @@ use Rattle.runtime_log.specs.Facts.{facts_of}
 use Rattle.runtime_log.specs.Imports.{AreTakenOf, trace_file, trace_taken}
 use Rattle.runtime_log.specs.Laws.{OneImport, SomeImport}
 use Rattle.runtime_log.specs.Logs.{Log, LogBlock, logged}
-use Rattle.runtime_log.specs.Taken.{AreTaken, chosen, first_ones, has_events, is_among_contents, order_key, undoubled}
+use Rattle.runtime_log.specs.Taken.{AreTaken, chosen, first_ones, has_events, is_doubled, order_key, undoubled}
 use Rattle.runtime_log.specs.private.Choices.{AreInFileOrder}
 use Rattle.runtime_log.specs.private.Passings.{runs_of}
 use Rattle.runtime_log.proofs.ByThread.{only_by_thread}
@@ -54,7 +54,7 @@ one_at_place from to (x ∷ blocks) b other order (inr p) (inr q) same = one_at_
 -- what holds of all blocks holds of those whose bytes come for the first time
 pub first_ones_hold : (P : LogBlock → Type 0) (before : List (List ℕ)) (blocks : List LogBlock) → All P blocks → All P (first_ones before blocks)
 first_ones_hold P before [] all = All-nil P
-first_ones_hold P before (b ∷ blocks) all = by_test (first_ones_hold P (b.content ∷ before) blocks (All-tail P b blocks all)) (is_among_contents before b.content)
+first_ones_hold P before (b ∷ blocks) all = by_test (first_ones_hold P (b.content ∷ before) blocks (All-tail P b blocks all)) (is_doubled before b.content)
   where
     others : List LogBlock
     others = first_ones (b.content ∷ before) blocks

@@ -1,7 +1,7 @@
 -- A trace of version 3 is a log. The reading of a trace, record by record, is that of a log: a block begins where it is
 -- due, its records lead to its end, and no record is an event of the program's own.
 use Rattle.std.proofs.Common.{◌≡◌, ℕ, zero, suc, ◌+◌, ◌-◌, ◌<◌, ◌≤◌, Bool, true, false, cond, eqb, ltb, List, [], ◌∷◌, ◌++◌, length, drop, map, take, Option, Some, None, Result, Ok, Err, refl, sym, ap, subst, ◌∙◌, inl, inr, append_assoc, append-nil, arith}
-use Rattle.std.specs.Prelude.{◌⊎◌, not, option_to_list}
+use Rattle.std.specs.Prelude.{◌⊎◌, ◌&&◌, not, option_to_list}
 use Rattle.std.proofs.lemmas.Bool.{cases_lt, eqb-false, eqb-true, le-ltb, ltb-false}
 use Rattle.std.proofs.lemmas.List.{drop-drop, drop-take, length-drop, length-take}
 use Rattle.xray_io.specs.Rows.{First, InTurn, NeedsPart, ◌>>=◌}
@@ -33,7 +33,7 @@ use Rattle.runtime_log.specs.declared.blocks.Mode.TheVariants.{Recorder, Basic}
 use Rattle.runtime_log.specs.declared.version.LogVersion.{LogVersion}
 use Rattle.runtime_log.specs.declared.version.LogVersion.TheVariants.{Three}
 use Rattle.runtime_log.specs.Laws.{TracesAreLogs, said_of}
-use Rattle.runtime_log.specs.Logs.{BlockSoFar, Log, LogBlock, as_log, block_content, block_opened, block_said, block_size_rows, block_with, content_rows, log_block_in, log_block_rows, log_places, log_record_rows, logged, recorder_blocks, recorder_header, said_rows, sized_rows, unless_faulty}
+use Rattle.runtime_log.specs.Logs.{BlockSoFar, Log, LogBlock, as_log, block_content, block_opened, block_said, block_size_rows, block_with, content_rows, log_block_in, log_block_rows, log_places, log_record_rows, logged, recorder_blocks, recorder_header, said_rows, sized_rows, too_few, unless_faulty}
 use Rattle.runtime_log.specs.OwnEvents.{log_record_in, log_record_length}
 use Rattle.runtime_log.specs.Versions.{log_version_of}
 use Rattle.runtime_log.specs.private.Headers.{mode_of}
@@ -348,6 +348,14 @@ step_due at bytes blocks all some ends = by_found (record_in bytes) refl (ends_f
     by_found (Err fault) e after = absurd (no_fault (extents_span at) (traces.Bad at fault) blocks (at + len) (drop len bytes) all after)
     by_found (Ok r) e after = by_size r e (size_named r) refl after
 
+-- enough bytes for a preamble
+large : (size : ℕ) → 48 ≤ size → too_few Three size ≡ false
+large size enough = and_false (not (eqb size 0)) (ltb size 48) (le-ltb size 48 enough)
+  where
+    and_false : (a b : Bool) → b ≡ false → (a && b) ≡ false
+    and_false true b e = e
+    and_false false b e = refl
+
 -- the size of the block in the log
 size_rows : (at size : ℕ) (bytes : List ℕ) → record_in bytes ≡ Ok (Extents size) → 48 ≤ size → 16 + size ≤ length bytes → block_size_rows Three (at, bytes) ≡ Ok size
 size_rows at size bytes found enough fits =
@@ -355,7 +363,7 @@ size_rows at size bytes found enough fits =
     let own = not_own bytes (Extents size) found in
     ap (λ (b : Bool). First b (Err (traces.Short at)) (sized_rows Three (at, bytes) (log_record_in Three Due bytes))) whole
     ∙ ap (sized_rows Three (at, bytes)) (record_as Due bytes own ∙ found)
-    ∙ ap (λ (b : Bool). First b (Err (traces.Extents at)) (First (ltb (length bytes) (16 + size)) (Err (traces.Short at)) (Ok size))) (le-ltb size 48 enough)
+    ∙ ap (λ (b : Bool). First b (Err (traces.Extents at)) (First (ltb (length bytes) (16 + size)) (Err (traces.Short at)) (Ok size))) (large size enough)
     ∙ ap (λ (b : Bool). let x : Result ℕ TraceFault = First b (Err (traces.Short at)) (Ok size) in x) (le-ltb (length bytes) (16 + size) fits)
 
 -- ---- the blocks

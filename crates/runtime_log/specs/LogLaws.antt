@@ -11,7 +11,7 @@ use Rattle.runtime_log.specs.declared.facts.Facts.{Facts}
 use Rattle.runtime_log.specs.Grammar.{IsLog}
 use Rattle.runtime_log.specs.Imports.{IsImport}
 use Rattle.runtime_log.specs.Logs.{Log, LogBlock, logged}
-use Rattle.runtime_log.specs.Taken.{comes_before, is_among_contents}
+use Rattle.runtime_log.specs.Taken.{comes_before, is_doubled}
 use Rattle.runtime_log.specs.Threads.{recorded_by}
 
 -- what bytes are read as, if they say that they are a log of this mode, is a log by the grammar
@@ -66,9 +66,9 @@ abbrev pub IsGreatest : List ℕ → Option ℕ → Type 0
 IsGreatest numbers None = numbers ≡ []
 IsGreatest numbers (Some n) = Contains numbers n × All (λ m. m ≤ n) numbers
 
--- block i has the bytes of a block before it
+-- block i has bytes, and these are those of a block before it
 abbrev pub is_double : List LogBlock → (i : ℕ) → Bool
-is_double blocks i = let contents = map (λ b. b.content) blocks in is_among_contents (take i contents) (slice_index_or contents i [])
+is_double blocks i = let contents = map (λ b. b.content) blocks in is_doubled (take i contents) (slice_index_or contents i [])
 
 -- block i has no events
 abbrev pub is_empty_block : List LogBlock → (i : ℕ) → Bool
@@ -103,7 +103,7 @@ pub record NumbersAreOfEvents (all : List ThreadEvent) (facts : Facts) : Type 0 
   pub back : facts.back ≡ distinct_threads (filter (λ thread. goes_back (thread_counters thread all)) (map (λ e. e.thread) all))
 
 -- What is printed of a log and of the trace that is made of it. Each block of the log is taken, doubled or empty. A block is
--- doubled if its bytes are those of a block before it. It is empty if it isn't doubled and has no events. The program's own
+-- doubled if it has bytes, and these are those of a block before it. It is empty if it isn't doubled and has no events. The program's own
 -- events are those of all blocks. The other numbers are those of the trace.
 pub record NumbersAreOf (log : Log) (trace : Trace) (facts : Facts) : Type 0 where
   pub blocks : facts.blocks + facts.doubled + facts.empty ≡ length log.blocks

@@ -1,5 +1,5 @@
 -- What the bytes of a log of LLVM's runtime say.
-use Rattle.std.specs.Prelude.{ℕ, ◌+◌, ◌==◌, not, List, [], ◌∷◌, ◌++◌, length, take, drop, nat_lt, option_to_list, Option, Some, None, Result, Ok, Err}
+use Rattle.std.specs.Prelude.{ℕ, ◌+◌, ◌==◌, ◌&&◌, Bool, not, List, [], ◌∷◌, ◌++◌, length, take, drop, nat_lt, option_to_list, Option, Some, None, Result, Ok, Err}
 use Rattle.xray_io.specs.Rows.{First, InTurn, NeedsPart, ◌>>=◌}
 use Rattle.fdr_record.specs.declared.fault.RecFault.{RecFault}
 use Rattle.fdr_record.specs.declared.rec.Rec.{Rec}
@@ -109,11 +109,15 @@ block_content size bytes = take size (drop metadata_length bytes)
 abbrev pub log_places : LogVersion → ℕ → List ℕ → List (ℕ × List ℕ)
 log_places version at bytes = starts (log_record_length version) 0 at bytes
 
+-- Extents name as many bytes as a preamble has, at least, or none: the runtime also hands out empty buffers.
+abbrev pub too_few : LogVersion → ℕ → Bool
+too_few version size = not (size == 0) && nat_lt size (preamble_bytes (trace_version version))
+
 -- how many bytes the block that begins at a place has after its extents, by its first record
 abbrev pub sized_rows : LogVersion → ℕ × List ℕ → Result Rec RecFault → Result ℕ TraceFault
 sized_rows version (at, bytes) (Ok r) =
     NeedsPart (size_named r) (Err (traces.Order at)) λ size.
-    First (nat_lt size (preamble_bytes (trace_version version))) (Err (traces.Extents at))
+    First (too_few version size) (Err (traces.Extents at))
     (First (nat_lt (length bytes) (metadata_length + size)) (Err (traces.Short at)) (Ok size))
 sized_rows version (at, bytes) (Err fault) = Err (traces.Bad at fault)
 
