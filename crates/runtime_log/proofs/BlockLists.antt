@@ -13,14 +13,13 @@ use Rattle.fdr_file.specs.declared.fault.TraceFault.{TraceFault}
 use Rattle.fdr_file.specs.declared.fault.TraceFault.TheVariants as traces
 use Rattle.fdr_file.specs.declared.stage.Stage.TheVariants.{Due}
 use Rattle.fdr_file.specs.Places.{starts}
-use Rattle.fdr_file.specs.Traces.{block_length, extents_in, preamble_bytes, record_in, size_named}
+use Rattle.fdr_file.specs.Traces.{block_length, extents_in, record_in, size_named}
 use Rattle.runtime_log.specs.declared.blocks.LogBlock.{LogBlock as Placed}
 use Rattle.runtime_log.specs.declared.blocks.LogBlocks.{LogBlocks}
 use Rattle.runtime_log.specs.declared.own_event.OwnKind.{OwnKind}
 use Rattle.runtime_log.specs.declared.version.LogVersion.{LogVersion}
 use Rattle.runtime_log.specs.Logs.{LogBlock, block_size_rows, log_block_in, log_block_rows, recorder_blocks, sized_rows, too_few}
 use Rattle.runtime_log.specs.OwnEvents.{log_record_in, own_kind}
-use Rattle.runtime_log.specs.Versions.{trace_version}
 use Rattle.runtime_log.specs.private.Choices.{AreAt, IsAt}
 use Rattle.runtime_log.specs.private.Readings.{BlocksRead}
 use Rattle.runtime_log.proofs.RecordWalk.{starts_first, starts_none}

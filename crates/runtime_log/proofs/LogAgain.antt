@@ -1,12 +1,12 @@
 -- A log by the grammar is read as this log.
-use Rattle.std.proofs.Common.{◌≡◌, ℕ, ◌+◌, ◌%◌, ◌/◌, ◌^◌, ◌<◌, ◌≤◌, Bool, true, false, inl, inr, cond, eqb, lit<, ltb, List, [], ◌∷◌, ◌++◌, length, drop, take, Option, Some, None, Result, Ok, Err, refl, sym, ap, subst, ◌∙◌, append_assoc, append-nil, arith}
+use Rattle.std.proofs.Common.{◌≡◌, ℕ, ◌+◌, ◌%◌, ◌/◌, ◌^◌, ◌<◌, ◌≤◌, Bool, true, false, inl, inr, cond, eqb, lit<, ltb, List, [], ◌∷◌, ◌++◌, length, drop, take, Some, None, Result, Ok, Err, refl, sym, ap, subst, ◌∙◌, append_assoc, append-nil, arith}
 use Rattle.std.specs.Prelude.{◌≢◌, ◌⊎◌, ◌&&◌, count_by, not}
 use Rattle.std.specs.List.{AllByRecursion}
 use Rattle.std.proofs.lemmas.Bool.{le-ltb, ne_eqb}
 use Rattle.std.proofs.lemmas.List.{drop_at, length-append, take_at}
 use Rattle.byteorder.specs.Endian.{little_bytes}
 use Rattle.byteorder.specs.Numbers.{little_number-reads_back}
-use Rattle.xray_io.specs.Rows.{First, InTurn, NeedsPart, ◌>>=◌}
+use Rattle.xray_io.specs.Rows.{First, InTurn, ◌>>=◌}
 use Rattle.xray_io.specs.declared.wall.Wall.{Wall}
 use Rattle.fdr_record.specs.declared.rec.Rec.{Rec}
 use Rattle.fdr_record.specs.declared.rec.Rec.TheVariants.{NewBuffer, TscWrap, WallTime, Pid, Extents}
@@ -28,14 +28,13 @@ use Rattle.fdr_file.specs.Scanning.{block_span, inside_next, stage_after}
 use Rattle.fdr_file.specs.Traces.{block_length, block_of, first_or, preamble_bytes, type_in, version_in}
 use Rattle.fdr_file.proofs.DecodedRecords.{told_again}
 use Rattle.fdr_file.specs.ThreadEvents.{ThreadEvent}
-use Rattle.runtime_log.specs.declared.blocks.Mode.{Mode}
-use Rattle.runtime_log.specs.declared.blocks.Mode.TheVariants.{Recorder, Basic}
+use Rattle.runtime_log.specs.declared.blocks.Mode.TheVariants.{Recorder}
 use Rattle.runtime_log.specs.declared.fault.LogFault.{LogFault}
 use Rattle.runtime_log.specs.declared.version.LogVersion.{LogVersion}
 use Rattle.runtime_log.specs.declared.version.LogVersion.TheVariants.{Two, Three, Four, Five}
 use Rattle.runtime_log.specs.Grammar.{AreLogBlocks, AreLogRecords, IsBare, IsFilled, IsLogBlock, IsLogHeader, LogRecord, OfProgram, OfTrace, is_custom_event, is_typed_event, stand_for, stands_for, version_number}
 use Rattle.runtime_log.specs.LogLaws.{LogIsLogged}
-use Rattle.runtime_log.specs.Logs.{BlockSoFar, Log, LogBlock, as_log, block_content, block_opened, block_size_rows, content_rows, log_block_in, log_block_rows, log_places, logged, recorder_blocks, recorder_header, said_rows, sized_rows, too_few}
+use Rattle.runtime_log.specs.Logs.{BlockSoFar, Log, LogBlock, as_log, block_content, block_opened, block_size_rows, content_rows, log_block_in, log_block_rows, log_of_blocks, log_places, logged, recorder_blocks, recorder_header, said_rows, sized_rows, too_few}
 use Rattle.runtime_log.specs.OwnEvents.{log_record_in}
 use Rattle.runtime_log.specs.Versions.{log_version_of, trace_version}
 use Rattle.runtime_log.specs.private.Headers.{mode_of}
@@ -46,7 +45,7 @@ use Rattle.runtime_log.proofs.LogRecords.{record_by}
 use Rattle.runtime_log.proofs.LogShapes.{no_custom, no_pid, no_typed}
 use Rattle.runtime_log.proofs.RecordWalk.{rows_none, starts_none}
 use Rattle.runtime_log.proofs.RecordsAgain.{never_own, run_step, so_lr}
-use Rattle.runtime_log.proofs.WholeLogs.{recorder_read}
+use Rattle.runtime_log.proofs.WholeLogs.{recorder_headed, recorder_read}
 
 -- ---- the records of a block
 
@@ -377,16 +376,7 @@ header_again version bytes following header is =
 -- ---- a log
 
 mode_again : (bytes : List ℕ) (version : LogVersion) → 32 ≤ length bytes → version_in bytes ≡ version_number version → type_in bytes ≡ 1 → mode_of bytes ≡ Ok (Recorder version)
-mode_again bytes version long number form =
-    ap (λ (b : Bool). First b (Err (traces.Short 0)) (by_version (log_version_of (version_in bytes)))) (le-ltb (length bytes) 32 long)
-    ∙ ap by_version (ap log_version_of number ∙ version_again version)
-    ∙ ap (λ (k : ℕ). First (eqb k 1) (Ok (Recorder version)) others) form
-  where
-    others : Result Mode TraceFault
-    others = First (not (eqb (type_in bytes) 0)) (Err (traces.Form (type_in bytes))) (First (not (eqb (version_in bytes) 3)) (Err (traces.Version (version_in bytes))) (Ok Basic))
-
-    by_version : Option LogVersion → Result Mode TraceFault
-    by_version o = NeedsPart o (Err (traces.Version (version_in bytes))) λ v. First (eqb (type_in bytes) 1) (Ok (Recorder v)) others
+mode_again bytes version long number form = recorder_headed bytes version long (ap log_version_of number ∙ version_again version) form
 
 pub log_is_logged : LogIsLogged
 log_is_logged bytes log is =
@@ -396,5 +386,6 @@ log_is_logged bytes log is =
     ap (λ (xs : List ℕ). InTurn (log_block_rows is.version) [] (starts block_length 0 32 xs)) h.rest ∙ blocks_again is.version 32 log.blocks is.following [] is.blocks in
     ap logged is.parts
     ∙ recorder_read all is.version log.blocks (mode_again all is.version h.long h.number h.form) (ap as_log blocks)
-    ∙ ap (λ (x : Header). let y : Result Log LogFault = Ok (record { header = x; blocks = log.blocks; events = [] }) in y) h.same
-    ∙ ap (λ (es : List ThreadEvent). let y : Result Log LogFault = Ok (record { header = log.header; blocks = log.blocks; events = es }) in y) (sym is.alone)
+    ∙ ap (λ (x : Header). let y : Result Log LogFault = Ok (log_of_blocks x log.blocks) in y) h.same
+    ∙ ap (λ (es : List ThreadEvent). let y : Result Log LogFault = Ok (record { header = log.header; blocks = log.blocks; events = es; lost = 0 }) in y) (sym is.alone)
+    ∙ ap (λ (n : ℕ). let y : Result Log LogFault = Ok (record { header = log.header; blocks = log.blocks; events = log.events; lost = n }) in y) (sym is.none)

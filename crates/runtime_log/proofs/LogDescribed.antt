@@ -35,7 +35,7 @@ use Rattle.runtime_log.proofs.LogRecords.{Decodes}
 use Rattle.runtime_log.proofs.LogShapes.{block_read}
 use Rattle.runtime_log.proofs.RecordFits.{AreBytes}
 use Rattle.runtime_log.proofs.RecordWalk.{rows_none, starts_none}
-use Rattle.runtime_log.proofs.WholeLogs.{HasParts, block_parts, log_parts}
+use Rattle.runtime_log.proofs.WholeLogs.{HasParts, ModeIs, block_parts, log_parts, mode_is}
 
 -- ---- extents
 
@@ -221,26 +221,11 @@ pub record HeaderRead (bytes : List ℕ) (version : LogVersion) : Type 0 where
   pub number : version_in bytes ≡ version_number version
 
 pub header_read : (bytes : List ℕ) (mode : Mode) → type_in bytes ≡ 1 → mode_of bytes ≡ Ok mode → (version : LogVersion) × (mode ≡ Recorder version) × HeaderRead bytes version
-header_read bytes mode form is = by_long (ltb (length bytes) 32) refl is
+header_read bytes mode form is = by_mode mode (mode_is bytes mode is)
   where
-    Goal : Type 0
-    Goal = (version : LogVersion) × (mode ≡ Recorder version) × HeaderRead bytes version
-
-    others : Result Mode TraceFault
-    others = First (not (eqb (type_in bytes) 0)) (Err (traces.Form (type_in bytes))) (First (not (eqb (version_in bytes) 3)) (Err (traces.Version (version_in bytes))) (Ok Basic))
-
-    by_version : 32 ≤ length bytes → (o : Option LogVersion) → log_version_of (version_in bytes) ≡ o
-        → (NeedsPart o (Err (traces.Version (version_in bytes))) λ version. First (eqb (type_in bytes) 1) (Ok (Recorder version)) others) ≡ Ok mode → Goal
-    by_version long None e h = absurd cc
-    by_version long (Some version) e h =
-        let typed : Ok (Recorder version) ≡ Ok mode = sym (ap (λ (k : ℕ). First (eqb k 1) (Ok (Recorder version)) others) form) ∙ h in
-        let same : mode ≡ Recorder version = cc in
-        (version, same, record { long = long; number = version_is (version_in bytes) version e })
-
-    by_long : (b : Bool) → ltb (length bytes) 32 ≡ b
-        → First b (Err (traces.Short 0)) (NeedsPart (log_version_of (version_in bytes)) (Err (traces.Version (version_in bytes))) λ version. First (eqb (type_in bytes) 1) (Ok (Recorder version)) others) ≡ Ok mode → Goal
-    by_long true e h = absurd cc
-    by_long false e h = by_version (ltb-false (length bytes) 32 e) (log_version_of (version_in bytes)) refl h
+    by_mode : (m : Mode) → ModeIs bytes m → (version : LogVersion) × (m ≡ Recorder version) × HeaderRead bytes version
+    by_mode (Recorder version) m = (version, refl, record { long = m.0; number = version_is (version_in bytes) version m.1 })
+    by_mode (Basic version) m = absurd (omega (arith, form, m.2))
 
 cut : (n m k : ℕ) (bytes : List ℕ) → take (n + m) (drop k bytes) ≡ take n (drop k bytes) ++ take m (drop (k + n) bytes)
 cut n m k bytes = take-add n m (drop k bytes) ∙ ap (λ (x : List ℕ). take n (drop k bytes) ++ take m x) (drop-drop n k bytes)
@@ -295,4 +280,5 @@ logged_is_log decodes bytes log all form is =
       header = subst (IsLogHeader version (take 32 bytes)) (sym header) (header_described version bytes all form h.2);
       blocks = subst (λ (bs : List LogBlock). AreLogBlocks version 32 bs (drop 32 bytes)) (sym b.are) b.is;
       alone = has.1;
+      none = has.2;
     }

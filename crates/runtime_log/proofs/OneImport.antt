@@ -108,8 +108,8 @@ import_is_one bytes file other facts others one another =
           ∙ ap (λ (bs : List Block). trace_file (trace_taken one.log.header bs)) (sym taken)
           ∙ sym one.file_is,
       another.facts_are
-          ∙ ap (λ (l : Log). facts_of l.blocks another.taken) (sym log)
-          ∙ ap (λ (bs : List Block). facts_of one.log.blocks bs) (sym taken)
+          ∙ ap (λ (l : Log). facts_of l another.taken) (sym log)
+          ∙ ap (λ (bs : List Block). facts_of one.log bs) (sym taken)
           ∙ sym one.facts_are,
     )
   where
@@ -122,7 +122,7 @@ import_is_some bytes log says =
     let threads = runs_of (in_threads log.events) in
     let taken : List Block = map (λ (b : LogBlock). b.block) pool ++ threads in (
       trace_file (trace_taken log.header taken),
-      facts_of log.blocks taken,
+      facts_of log taken,
       record {
         log = log;
         says = says;

@@ -28,12 +28,10 @@ use Rattle.fdr_file.specs.declared.version.Version.TheVariants as versions
 use Rattle.fdr_file.specs.Places.{starts}
 use Rattle.fdr_file.specs.Scanning.{Scanned, block_span, empty_block, extents_next, extents_span, inside_next, last_longer, longer_block, record_or, scan_start, scanned, scanned_ends, scanned_from, scanned_on, scanned_over, stage_after, stage_ends, stage_judged, stage_within, step_on, version_read, with_event, with_told}
 use Rattle.fdr_file.specs.Traces.{block_length, header_in, pid_named, record_in, record_length, size_named, thread_named, trace_of, type_in, version_in, version_of, wall_named}
-use Rattle.runtime_log.specs.declared.blocks.Mode.{Mode}
-use Rattle.runtime_log.specs.declared.blocks.Mode.TheVariants.{Recorder, Basic}
-use Rattle.runtime_log.specs.declared.version.LogVersion.{LogVersion}
+use Rattle.runtime_log.specs.declared.blocks.Mode.TheVariants.{Recorder}
 use Rattle.runtime_log.specs.declared.version.LogVersion.TheVariants.{Three}
 use Rattle.runtime_log.specs.Laws.{TracesAreLogs, said_of}
-use Rattle.runtime_log.specs.Logs.{BlockSoFar, Log, LogBlock, as_log, block_content, block_opened, block_said, block_size_rows, block_with, content_rows, log_block_in, log_block_rows, log_places, log_record_rows, logged, recorder_blocks, recorder_header, said_rows, sized_rows, too_few, unless_faulty}
+use Rattle.runtime_log.specs.Logs.{BlockSoFar, Log, LogBlock, as_log, block_content, block_opened, block_said, block_size_rows, block_with, content_rows, log_block_in, log_block_rows, log_of_blocks, log_places, log_record_rows, logged, recorder_blocks, recorder_header, said_rows, sized_rows, too_few, unless_faulty}
 use Rattle.runtime_log.specs.OwnEvents.{log_record_in, log_record_length}
 use Rattle.runtime_log.specs.Versions.{log_version_of}
 use Rattle.runtime_log.specs.private.Headers.{mode_of}
@@ -41,7 +39,7 @@ use Rattle.runtime_log.proofs.BlockLists.{Onward, block_first, block_sized, size
 use Rattle.runtime_log.proofs.BlockReading.{block_is}
 use Rattle.runtime_log.proofs.RecordCuts.{extents_long, long_as, not_own, record_as, record_cut, record_short}
 use Rattle.runtime_log.proofs.RecordWalk.{places_first, record_some, rows_none, so_with, starts_first, starts_none}
-use Rattle.runtime_log.proofs.WholeLogs.{recorder_read}
+use Rattle.runtime_log.proofs.WholeLogs.{recorder_headed, recorder_read}
 
 -- ---- the reading of a trace
 
@@ -510,17 +508,7 @@ ends_trace by_records bytes trace reads three = by_version (version_read bytes) 
 
 -- the mode of a trace, as a log
 trace_mode : (bytes : List ℕ) → HasVersion bytes versions.Three → version_in bytes ≡ 3 → mode_of bytes ≡ Ok (Recorder Three)
-trace_mode bytes has number =
-    let named : log_version_of (version_in bytes) ≡ Some Three = ap log_version_of number in
-    ap (λ (b : Bool). First b (Err (traces.Short 0)) (by_version (log_version_of (version_in bytes)))) has.long
-    ∙ ap by_version named
-    ∙ ap (λ (b : Bool). First b (Ok (Recorder Three)) others) has.typed
-  where
-    others : Result Mode TraceFault
-    others = First (not (eqb (type_in bytes) 0)) (Err (traces.Form (type_in bytes))) (First (not (eqb (version_in bytes) 3)) (Err (traces.Version (version_in bytes))) (Ok Basic))
-
-    by_version : Option LogVersion → Result Mode TraceFault
-    by_version o = NeedsPart o (Err (traces.Version (version_in bytes))) λ version. First (eqb (type_in bytes) 1) (Ok (Recorder version)) others
+trace_mode bytes has number = recorder_headed bytes Three (ltb-false (length bytes) 32 has.long) (ap log_version_of number) (eqb-true (type_in bytes) 1 has.typed)
 
 -- the log that a trace is
 pub record LogOfTrace (bytes : List ℕ) (trace : Trace) : Type 0 where
@@ -537,7 +525,7 @@ log_of_trace by_records bytes trace reads three =
     let number : version_in bytes ≡ 3 = ap (λ (h : Header). h.version) (sym t.header) ∙ three in
     let f = blocks_follow (length (drop 32 bytes)) 32 (drop 32 bytes) [] trace.blocks [] (omega arith) t.ends in
     let header : recorder_header bytes ≡ trace.header = ap (λ (n : ℕ). let h : Header = record (header_in bytes) { version = n } in h) (sym number) ∙ sym t.header in record {
-      log = record { header = recorder_header bytes; blocks = f.more; events = [] };
+      log = log_of_blocks (recorder_header bytes) f.more;
       says = recorder_read bytes Three f.more (trace_mode bytes t.version number) (ap as_log f.reads);
       blocks = f.reads;
       said =

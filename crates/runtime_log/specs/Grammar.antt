@@ -167,3 +167,4 @@ pub record IsLog (bytes : List ℕ) (log : Log) : Type 0 where
   pub header : IsLogHeader version front log.header
   pub blocks : AreLogBlocks version 32 log.blocks following
   pub alone : log.events ≡ []
+  pub none : log.lost ≡ 0

@@ -111,6 +111,8 @@ pub record NumbersAreOf (log : Log) (trace : Trace) (facts : Facts) : Type 0 whe
   pub empty : facts.empty ≡ count_by (λ i. is_empty_block log.blocks i && not (is_double log.blocks i)) (block_places log.blocks)
   pub custom : facts.custom ≡ sum (map (λ b. b.custom) log.blocks)
   pub typed : facts.typed ≡ sum (map (λ b. b.typed) log.blocks)
+  pub lost : facts.lost ≡ 0
+  pub frequency : facts.frequency ≡ trace.header.frequency
   pub of_events : NumbersAreOfEvents (thread_events trace.blocks) facts
 
 abbrev pub NumbersAreMeant : Type 0
@@ -126,14 +128,17 @@ run_count [] = 0
 run_count (e ∷ []) = 1
 run_count (e ∷ next ∷ events) = (if (e.thread == next.thread) && (e.pid == next.pid) then 0 else 1) + run_count (next ∷ events)
 
--- What is printed of a basic log and of the trace that is made of it. The blocks are the runs of the trace. A basic log has
--- nothing else, so nothing is left out. The numbers of events are those of the trace, and those of the log.
+-- What is printed of a basic log and of the trace that is made of it. The blocks are the runs of the trace. Of a basic log
+-- only arguments that have lost their entries are left out. The numbers of events are those of the trace, and those of the
+-- log.
 pub record BasicNumbersAreOf (log : Log) (trace : Trace) (facts : Facts) : Type 0 where
   pub blocks : facts.blocks ≡ run_count (thread_events trace.blocks)
   pub doubled : facts.doubled ≡ 0
   pub empty : facts.empty ≡ 0
   pub custom : facts.custom ≡ 0
   pub typed : facts.typed ≡ 0
+  pub lost : facts.lost ≡ log.lost
+  pub frequency : facts.frequency ≡ trace.header.frequency
   pub of_events : NumbersAreOfEvents (thread_events trace.blocks) facts
   pub of_log : NumbersAreOfEvents log.events facts
 
