@@ -70,26 +70,34 @@ def recorder_log(draw):
         draw.choice([random_traces.other_header, random_traces.other_extents, random_traces.other_records])(draw, draft)
         if draw.random() < 0.3:
             draft.header[0] = draw.choice([1, 6, 5, 4])
+    for _ in range(draw.choice([0, 0, 0, 0, 1, 3])):
+        # A buffer that nothing was written into.
+        draft.blocks.insert(draw.randint(0, len(draft.blocks)), [[], 0])
     return draft.file()
 
 
 def passing(draw, owner, counter, sound):
-    """A record of a passing, with the records of its argument behind it. Each field is sound with this probability."""
+    """A record of a passing, with the records of its argument behind it. Each field is sound with this probability.
+
+    Some arguments have lost their entries: there are two of them, or the entry is another one's, or it isn't there.
+    """
     thread, process = owner
     kind = draw.choice([0, 1, 0, 1, 2, 3, 3]) if draw.random() < sound else draw.choice([4, 5, 255])
     function = draw.choice([1, 2, 3, 0, (1 << 28) - 1]) if draw.random() < sound else draw.choice([1 << 28, WORD_32 - 1])
     tag = 0 if draw.random() < sound else draw.choice([2, 65_535])
     content = struct.pack("<HBBIQIIQ", tag, draw.randrange(256), kind, function, counter, thread, process, draw.randrange(WORD_64))
-    for _ in range(draw.choice([1, 1, 0, 2]) if kind == 3 else draw.random() > sound):
-        other = function if draw.random() < sound else function + 1
-        content += struct.pack("<HHIIIQQ", 1, draw.randrange(9), other % WORD_32, thread, process, draw.randrange(WORD_64), 0)
-    return content
+    for _ in range(draw.choice([1, 1, 0, 2]) if kind == 3 else draw.random() < 0.05):
+        other, by, of = function, thread, process
+        if draw.random() < 0.1:
+            other, by, of = draw.choice([(function + 1, thread, process), (function, thread + 1, process), (function, thread, process + 1)])
+        content += struct.pack("<HHIIIQQ", 1, draw.randrange(9), other % WORD_32, by % WORD_32, of % WORD_32, draw.randrange(WORD_64), 0)
+    return content[32:] if kind == 3 and draw.random() < 0.1 else content
 
 
 def basic_log(draw):
     """Threads that alternate at each record, sometimes or seldom; a thread with several processes; counters that rise, fall or
     are anything; and records that stand in the log again."""
-    version = draw.choice([3, 3, 3, 3, 3, 3, 2, 4, 5])
+    version = draw.choice([3, 3, 3, 3, 3, 1, 2, 2, 4, 5])
     content = struct.pack("<HHIQQQ", version, 0, draw.choice([3, draw.randrange(WORD_32)]), draw.randrange(WORD_64), 0, 0)
     owners = draw.choice([[(1, 1), (2, 1), (1, 2)], [(7, 1), (2, 1)], [(WORD_32 - 1, 1), (0, 0), (5, 3), (5, 4), (5, 5)]])
     change, again = draw.choice([0.05, 0.3, 1]), draw.choice([0, 0, 0.2])

@@ -27,9 +27,18 @@ def line(draw):
     function = draw.choice([1, 1, 2, 3, 3, 4, 7, 0, 1_000_000, (1 << 32) - 1])
     version = draw.choice([b"", b", version: 0", b", version: 1", b", version: 2", b", version: 2"])
     truth = draw.choice([b"true", b"false"])
-    return b"- { id: %d, address: %s, function: %s, kind: %s, always-instrument: %s, function-name: %s%s }" % (
-        function, number(draw), number(draw), draw.choice(KINDS).encode(), truth, spelled(draw, draw.choice(NAMES)), version,
+    name = b", function-name: " + spelled(draw, draw.choice(NAMES)) if draw.random() < 0.85 else b""
+    return b"- { id: %d, address: %s, function: %s, kind: %s, always-instrument: %s%s%s%s" % (
+        function, number(draw), number(draw), draw.choice(KINDS).encode(), truth, name, version, draw.choice([b" }", b" }", b" }", b"}"]),
     )  # fmt: skip
+
+
+COMMENTS = [b"# a comment", b"#", b"  # one behind blanks", b"\t#", b"#---", b"# ..."]
+
+
+def with_comments(draw, lines):
+    for _ in range(draw.choice([1, 2, 4])):
+        lines.insert(draw.randint(0, len(lines)), draw.choice(COMMENTS))
 
 
 DAMAGES = [
@@ -46,9 +55,11 @@ def random_map(draw):
             case 0:
                 del lines[at]
             case 1:
-                lines.insert(at, draw.choice([b"", b"---", b"...", b"# x", lines[at]]))
+                lines.insert(at, draw.choice([b"", b" ", b"---", b"...", b"x # x", lines[at]]))
             case 2 | 3:
                 lines[at] = lines[at].replace(*draw.choice(DAMAGES), 1)
+    if draw.random() < 0.3:
+        with_comments(draw, lines)
     end = draw.choice([b"\n", b"\n", b"\r\n"])
     text = end.join(lines) + (b"" if draw.random() < 0.1 else end)
     return text[: draw.randrange(len(text) + 1)] if draw.random() < 0.04 else text

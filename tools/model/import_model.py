@@ -13,8 +13,10 @@ from .image_model import Refused
 from .trace_model import ENTRY_ARGS, FLIGHT_DATA_RECORDER, FUNCTION_LENGTH, HEADER_LENGTH, METADATA_LENGTH, WORD_64, Event, Header
 
 BASIC = 0
-VERSIONS = range(2, 6)
-BASIC_VERSION = 3
+VERSIONS = range(1, 6)
+RECORDER_VERSIONS = range(2, 6)
+BASIC_VERSIONS = range(1, 4)
+FIRST_WITH_PROCESS = 3
 FUNCTIONS = 1 << 28
 MOST_BYTES = 1 << 26
 MOST_OF_A_BLOCK = 1 << 20
@@ -60,6 +62,7 @@ class Log:
     header: Header
     blocks: list
     recorded: list = dataclasses.field(default_factory=list)
+    lost: int = 0  # arguments of a basic log whose entries aren't there
 
 
 # ---- Flight Data Recorder logs
@@ -153,6 +156,9 @@ def block_at(content, at, version):
         raise Refused("Order", at)
     (used,) = rec.fields
     begin = at + METADATA_LENGTH
+    if used == 0:
+        # The runtime also hands out buffers that nothing was written into.
+        return Block(at, b"", 0, (0, 0), 0, []), begin
     if used < METADATA_LENGTH * len(preamble_of(version)):
         raise Refused("Extents", at)
     if used > len(content) - begin:
@@ -178,9 +184,13 @@ class Recorded:
     event: Event
 
 
-def basic_events(content):
-    """The events of a basic log, in its order. The first argument behind an entry is the entry's."""
-    recorded, is_argued = [], False
+def basic_events(content, version):
+    """The events of a basic log, in its order, and how many arguments have lost their entries.
+
+    An argument is that of the record directly before it, if this is an entry with an argument of the same thread, process and
+    function. The runtime drops an entry that is too deep, and writes its argument all the same.
+    """
+    recorded, lost, entry = [], 0, None
     for at in range(HEADER_LENGTH, len(content), 32):
         if len(content) - at < 32:
             raise Refused("Short", at)
@@ -189,21 +199,22 @@ def basic_events(content):
             raise Refused("Tag", at, tag)
         if tag == 0:
             cpu, kind, function, tsc, thread, pid, arg = struct.unpack_from("<BBIQIIQ", content, at + 2)
+            pid = pid if version >= FIRST_WITH_PROCESS else 0
             if kind > ENTRY_ARGS:
                 raise Refused("Kind", at, kind)
             if function >= FUNCTIONS:
                 raise Refused("Function", at, function)
             recorded.append(Recorded(thread, pid, Event(cpu, function, kind, tsc, arg if kind == ENTRY_ARGS else 0)))
-            is_argued = False
+            entry = recorded[-1]
         else:
             function, thread, pid, arg = struct.unpack_from("<IIIQ", content, at + 4)
-            last = recorded[-1] if recorded else None
-            if not last or (last.thread, last.pid, last.event.function, last.event.action) != (thread, pid, function, ENTRY_ARGS):
-                raise Refused("Order", at)
-            if not is_argued:
-                last.event = dataclasses.replace(last.event, arg=arg)
-            is_argued = True
-    return recorded
+            pid = pid if version >= FIRST_WITH_PROCESS else 0
+            if entry and (entry.thread, entry.pid, entry.event.function, entry.event.action) == (thread, pid, function, ENTRY_ARGS):
+                entry.event = dataclasses.replace(entry.event, arg=arg)
+            else:
+                lost += 1
+            entry = None
+    return recorded, lost
 
 
 def thread_blocks(recorded):
@@ -228,10 +239,10 @@ def logged(content):
         raise Refused("Version", version)
     if form not in (FLIGHT_DATA_RECORDER, BASIC):
         raise Refused("Form", form)
-    if form == BASIC and version != BASIC_VERSION:
+    if version not in (BASIC_VERSIONS if form == BASIC else RECORDER_VERSIONS):
         raise Refused("Version", version)
     if form == BASIC:
-        return Log(Header(frequency, 0, flags % 4), [], basic_events(content))
+        return Log(Header(frequency, 0, flags % 4), [], *basic_events(content, version))
     blocks, at = [], HEADER_LENGTH
     while at < len(content):
         block, at = block_at(content, at, version)
@@ -243,7 +254,7 @@ def taken_blocks(log):
     """The blocks that are taken, in the order of the trace, with how many doubled and how many empty ones are left out."""
     seen, taken, doubled, empty = set(), [], 0, 0
     for block in log.blocks:
-        if block.content in seen:
+        if block.content and block.content in seen:
             doubled += 1
         elif not block.events:
             empty += 1
@@ -295,5 +306,7 @@ def facts(log):
         (min(counters, default="-"), "first counter"),
         (max(counters, default="-"), "last counter"),
         (sum(map(goes_back, threads.values())), "threads whose counter goes back"),
+        (log.lost, "arguments without an entry left out"),
+        (log.header.frequency, "cycles a second"),
     ]
     return "".join(f"{number:>20} {what}\n" for number, what in rows)

@@ -11,8 +11,8 @@ KINDS = "function-enter function-exit tail-exit function-enter-arg log-args-ente
 ENTRY = re.compile(
     rb"- \{ id: (\d+), address: 0x([0-9A-Fa-f]+), function: 0x([0-9A-Fa-f]+), kind: ("
     + "|".join(KINDS).encode()
-    + rb"), always-instrument: (?:true|false), function-name: "
-    rb"(?:'((?:[^']|'')*)'|\"((?:[^\"\\]|\\.)*)\"|([A-Za-z0-9_^.,\- \t]+?))(?:, version: [012])? \}",
+    + rb"), always-instrument: (?:true|false)(?:, function-name: "
+    rb"(?:'((?:[^']|'')*)'|\"((?:[^\"\\]|\\.)*)\"|([A-Za-z0-9_^.,\- \t]+?)))?(?:, version: [012])?(?: \}|(?<! )\})",
     re.DOTALL,
 )
 
@@ -36,19 +36,24 @@ def entry_of(line, number):
         return int(function), single.replace(b"''", b"'")
     if double is not None:
         return int(function), re.sub(rb'\\(["\\])', rb"\1", double)
-    return int(function), plain
+    return int(function), plain or b""
+
+
+def is_comment(line):
+    return line.lstrip(b" \t").startswith(b"#")
 
 
 def names_of(text):
-    """The names by ids."""
+    """The names by ids. Comments may stand anywhere."""
     lines = lines_of(text)
-    if not lines or lines[0] != b"---":
-        raise Refused("Syntax", 1)
+    said = [(number, line) for number, line in enumerate(lines, start=1) if not is_comment(line)]
+    if said and said[0][1] != b"---":
+        raise Refused("Syntax", said[0][0])
     names = {}
-    for number, line in enumerate(lines[1:], start=2):
+    for at, (number, line) in enumerate(said[1:], start=2):
         if line == b"...":
-            if number < len(lines):
-                raise Refused("Syntax", number + 1)
+            if at < len(said):
+                raise Refused("Syntax", said[at][0])
             return names
         function, name = entry_of(line, number)
         if name:

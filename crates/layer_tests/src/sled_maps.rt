@@ -40,8 +40,34 @@ fn a_map_names_functions(rt: HostRuntime) -> Result<(), Fail> {
     Ok(())
 }
 
+/// A map with comments, with an entry without a name, and with braces that directly follow the last word.
+const COMMENTED: &[u8] = b"# names
+---
+- { id: 1, address: 0x1, function: 0x1, kind: function-enter, always-instrument: true}
+  # the name of id 1
+- { id: 1, address: 0x2, function: 0x1, kind: function-exit, always-instrument: true, function-name: main}
+- { id: 2, address: 0x3, function: 0x3, kind: function-enter, always-instrument: false, version: 2}
+- { id: 3, address: 0x4, function: 0x4, kind: function-enter, always-instrument: true, function-name: 'f', version: 1}
+...
+#";
+
+#[test]
+fn a_map_with_comments_names_functions(rt: HostRuntime) -> Result<(), Fail> {
+    let names = read_map(rt.alloc(), COMMENTED)?;
+    let main: Option<&[u8]> = Some(b"main");
+    let f: Option<&[u8]> = Some(b"f");
+    check_same_at(&rt, &names.name_of(1), &main, &1);
+    check_same_at(&rt, &names.name_of(2), &None, &2);
+    check_same_at(&rt, &names.name_of(3), &f, &3);
+    Ok(())
+}
+
 /// Texts, and the first line that refuses each, or 0 if it is a map.
-const REFUSED: [(&[u8], u32); 8] = [
+const REFUSED: [(&[u8], u32); 12] = [
+    (b"# x\n---\n\t# y\n...\n", 0),
+    (b"# x\n", 2),
+    (b"# x\n---\n# y\n\n...\n", 4),
+    (b" \n---\n...\n", 1),
     (b"", 1),
     (b"--- \n...\n", 1),
     (b"---\n", 2),

@@ -1,7 +1,7 @@
 -- What a line of a sled map says: the id of a function, and its name.
 --
 -- A line is `- { id: 1, address: 0x1000, function: 0x1000, kind: function-enter, always-instrument: true, function-name: 'main' }`.
--- A version may stand before the brace at its end.
+-- The name may be missing. A version may stand before the brace at the end, and the brace may follow the last word directly.
 use Rattle.std.specs.Prelude.{ℕ, Bool, true, false, ◌&&◌, ◌||◌, ◌+◌, ◌-◌, ◌==◌, not, nat_le, List, [], ◌∷◌, ◌++◌, length, take, drop, position, codes, Option, Some, None, is_some, option_map, option_and_then, if◌then◌else◌}
 use Rattle.std.specs.Option.{option_map_or, option_or}
 use Rattle.std.specs.List.{list_all}
@@ -60,23 +60,34 @@ is_truth word = bytes_eq word (codes "true") || bytes_eq word (codes "false")
 unfoldable pub past_field : (label : List ℕ) → (List ℕ → Bool) → (bytes : List ℕ) → Option (List ℕ)
 past_field label test bytes = option_and_then (λ field. if test field.0 then Some field.1 else None) (field_in label bytes)
 
--- what stands before the end of a line: before the brace, and the version (0 to 2), if there is one
-unfoldable pub before_line_end : List ℕ → Option (List ℕ)
-before_line_end bytes =
-    option_or (before_ending (codes ", version: 2 }") bytes)
-    (option_or (before_ending (codes ", version: 1 }") bytes)
-    (option_or (before_ending (codes ", version: 0 }") bytes)
-    (before_ending (codes " }") bytes)))
+-- what follows the word that says whether the function is always instrumented
+unfoldable pub after_truth : List ℕ → Option (List ℕ)
+after_truth bytes = option_or (after_label (codes "true") bytes) (after_label (codes "false") bytes)
 
--- what is written for the name, if the fields after the id are as they have to be
-unfoldable pub written_name : List ℕ → Option (List ℕ)
-written_name bytes =
-    option_and_then before_line_end
-    (option_and_then (after_label (codes " function-name: "))
-    (option_and_then (past_field (codes " always-instrument: ") is_truth)
+-- what follows the fields between the id and the name, if they are as they have to be
+unfoldable pub past_fields : List ℕ → Option (List ℕ)
+past_fields bytes =
+    option_and_then after_truth
+    (option_and_then (after_label (codes " always-instrument: "))
     (option_and_then (past_field (codes " kind: ") is_kind)
     (option_and_then (past_field (codes " function: ") is_address)
-    (past_field (codes " address: ") is_address bytes)))))
+    (past_field (codes " address: ") is_address bytes))))
+
+-- what stands before the brace at the end of a line, and before the blank that may stand before the brace
+unfoldable pub before_brace : List ℕ → Option (List ℕ)
+before_brace bytes = option_or (before_ending (codes " }") bytes) (before_ending (codes "}") bytes)
+
+-- what stands before the version (0 to 2), if there is one
+unfoldable pub before_version : List ℕ → Option (List ℕ)
+before_version bytes =
+    option_or (before_ending (codes ", version: 2") bytes)
+    (option_or (before_ending (codes ", version: 1") bytes)
+    (option_or (before_ending (codes ", version: 0") bytes)
+    (Some bytes)))
+
+-- what stands before the end of a line: before the brace, and the version, if there is one
+unfoldable pub before_line_end : List ℕ → Option (List ℕ)
+before_line_end bytes = option_and_then before_version (before_brace bytes)
 
 -- ---- names
 
@@ -133,8 +144,18 @@ name_spelled bytes =
 unfoldable pub id_in : List ℕ → Option (ℕ × List ℕ)
 id_in line = option_and_then (λ field. option_map (λ id. (id, field.1)) (number_of field.0)) (field_in (codes "- { id: ") line)
 
+-- no name, where nothing is left of a line before its end
+unfoldable pub no_name : List ℕ → Option (List ℕ)
+no_name bytes = if length bytes == 0 then Some [] else None
+
+-- the name that the rest of a line says, behind the other fields: none, or the one that is written there
+unfoldable pub name_said : List ℕ → Option (List ℕ)
+name_said bytes =
+    option_map_or (λ written. option_and_then name_spelled (before_line_end written)) (after_label (codes ", function-name: ") bytes)
+    (option_and_then no_name (before_line_end bytes))
+
 -- the entry that a line says
 unfoldable pub entry_said : List ℕ → Option NamedFunction
 entry_said line =
-    option_and_then (λ start. option_map (λ name. record { id = start.0; name = name }) (option_and_then name_spelled (written_name start.1)))
+    option_and_then (λ start. option_map (λ name. record { id = start.0; name = name }) (option_and_then name_said (past_fields start.1)))
     (id_in line)

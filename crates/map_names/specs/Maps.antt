@@ -1,5 +1,6 @@
 -- Sled maps as texts: the entries that their lines say, or the first line that refuses the text.
-use Rattle.std.specs.Prelude.{ℕ, ◌+◌, ◌==◌, ◌&&◌, not, Bool, List, [], ◌∷◌, ◌++◌, length, codes, Result, Ok, Err, find, option_map}
+use Rattle.std.specs.Prelude.{ℕ, ◌+◌, ◌==◌, ◌&&◌, ◌||◌, not, Bool, false, List, [], ◌∷◌, ◌++◌, length, codes, Result, Ok, Err, find, position, slice_index_or, option_map}
+use Rattle.std.specs.Option.{option_map_or}
 use Rattle.std.specs.Str.{bytes_eq}
 use Rattle.std.specs.Str.Lines.{lines}
 use Rattle.xray_io.specs.Rows.{First, NeedsPart, InTurn, ◌>>=◌}
@@ -15,17 +16,29 @@ pub data Before : Type 0 where
   Listed : List NamedFunction → Before
   Whole : List NamedFunction → Before
 
+-- a space (32) or a tab (9)
+abbrev pub is_blank : ℕ → Bool
+is_blank b = b == 32 || b == 9
+
+-- the line is a comment: its first byte that is no blank is `#` (35)
+abbrev pub is_comment : List ℕ → Bool
+is_comment line = option_map_or (λ n. slice_index_or line n 0 == 35) (position (λ b. not (is_blank b)) line) false
+
 -- the line is this text
 abbrev pub is_line : (text line : List ℕ) → Bool
 is_line text line = bytes_eq line text
 
--- what came before the line after this one
-abbrev pub map_line_rows : Before → ℕ × List ℕ → Result Before MapFault
-map_line_rows Start (number, line) = First (not (is_line (codes "---") line)) (Err (Syntax number)) (Ok (Listed []))
-map_line_rows (Listed entries) (number, line) =
+-- what came before the line after this one, which is no comment
+abbrev pub said_line_rows : Before → ℕ × List ℕ → Result Before MapFault
+said_line_rows Start (number, line) = First (not (is_line (codes "---") line)) (Err (Syntax number)) (Ok (Listed []))
+said_line_rows (Listed entries) (number, line) =
     First (is_line (codes "...") line) (Ok (Whole entries))
     (NeedsPart (entry_said line) (Err (Syntax number)) λ entry. Ok (Listed (entries ++ entry ∷ [])))
-map_line_rows (Whole entries) (number, line) = Err (Syntax number)
+said_line_rows (Whole entries) (number, line) = Err (Syntax number)
+
+-- what came before the line after this one; a comment says nothing
+abbrev pub map_line_rows : Before → ℕ × List ℕ → Result Before MapFault
+map_line_rows before (number, line) = First (is_comment line) (Ok before) (said_line_rows before (number, line))
 
 -- what is missing at the end of the text is refused with the number after the last line
 abbrev pub map_ended : ℕ → Before → Result (List NamedFunction) MapFault

@@ -1,9 +1,10 @@
 -- How a line of a sled map is spelled: as pieces, one after the other.
-use Rattle.std.specs.Prelude.{◌≡◌, ◌≢◌, ◌<◌, ◌==◌, ◌||◌, ◌⊎◌, All, IsTrue, ℕ, List, [], ◌∷◌, ◌++◌, codes, length, Some, if◌then◌else◌}
+use Rattle.std.specs.Prelude.{◌≡◌, ◌≢◌, ◌<◌, ◌==◌, ◌||◌, ◌⊎◌, not, All, IsTrue, ℕ, List, [], ◌∷◌, ◌++◌, codes, filter, length, Some, None, if◌then◌else◌}
 use Rattle.std.specs.List.{flat_map}
 use Rattle.std.specs.Str.Lines.{lines}
 use Rattle.text_lines.specs.Numbers.{number_of}
-use Rattle.map_names.specs.Entries.{NamedFunction, is_address, is_kind, is_plain_byte, is_truth}
+use Rattle.map_names.specs.Entries.{NamedFunction, before_ending, is_address, is_kind, is_plain_byte, is_truth}
+use Rattle.map_names.specs.Maps.{is_comment}
 
 -- ---- names between single marks
 
@@ -57,10 +58,34 @@ SpellsName written name = (written ≡ single_quoted name) ⊎ IsDoubleQuoted wr
 
 -- ---- lines
 
--- the end of a line: a brace, and perhaps a version before it
-abbrev pub IsEnding : List ℕ → Type 0
-IsEnding ending =
-    (ending ≡ codes " }") ⊎ (ending ≡ codes ", version: 0 }") ⊎ (ending ≡ codes ", version: 1 }") ⊎ (ending ≡ codes ", version: 2 }")
+-- the brace at the end of a line, with a blank before it or without one
+abbrev pub IsBrace : List ℕ → Type 0
+IsBrace brace = (brace ≡ codes " }") ⊎ (brace ≡ codes "}")
+
+-- a version, which may be missing
+abbrev pub IsVersion : List ℕ → Type 0
+IsVersion version =
+    (version ≡ []) ⊎ (version ≡ codes ", version: 0") ⊎ (version ≡ codes ", version: 1") ⊎ (version ≡ codes ", version: 2")
+
+-- the end of a line: perhaps a version, and a brace
+pub record IsEnding (ending : List ℕ) : Type 0 where
+  pub version : List ℕ
+  pub brace : List ℕ
+  pub version_is : IsVersion version
+  pub brace_is : IsBrace brace
+  pub joined : ending ≡ version ++ brace
+
+-- This is the field of a name, before the end of a line. A brace without a blank before it stands directly behind the last
+-- word.
+pub record HasName (named ending name : List ℕ) : Type 0 where
+  pub written : List ℕ
+  pub spelled : SpellsName written name
+  pub labelled : named ≡ codes ", function-name: " ++ written
+  pub direct : ending ≡ codes "}" → before_ending (codes " ") written ≡ None
+
+-- a field is missing, and so is the name
+abbrev pub HasNoName : (named name : List ℕ) → Type 0
+HasNoName named name = (named ≡ []) × (name ≡ [])
 
 -- the line is the pieces of an entry, joined
 pub record SpellsEntry (line : List ℕ) (entry : NamedFunction) : Type 0 where
@@ -69,18 +94,18 @@ pub record SpellsEntry (line : List ℕ) (entry : NamedFunction) : Type 0 where
   pub function : List ℕ
   pub kind : List ℕ
   pub always : List ℕ
-  pub written : List ℕ
+  pub named : List ℕ
   pub ending : List ℕ
   pub id_is : number_of id ≡ Some entry.id
   pub address_is : IsTrue (is_address address)
   pub function_is : IsTrue (is_address function)
   pub kind_is : IsTrue (is_kind kind)
   pub always_is : IsTrue (is_truth always)
-  pub name_is : SpellsName written entry.name
+  pub name_is : HasName named ending entry.name ⊎ HasNoName named entry.name
   pub ending_is : IsEnding ending
   pub joined : line
       ≡ codes "- { id: " ++ id ++ codes ", address: " ++ address ++ codes ", function: " ++ function ++ codes ", kind: " ++ kind
-      ++ codes ", always-instrument: " ++ always ++ codes ", function-name: " ++ written ++ ending
+      ++ codes ", always-instrument: " ++ always ++ named ++ ending
 
 -- ---- texts
 
@@ -91,8 +116,8 @@ SpellEach [] (entry ∷ entries) = ⊥
 SpellEach (line ∷ said) [] = ⊥
 SpellEach (line ∷ said) (entry ∷ entries) = SpellsEntry line entry × SpellEach said entries
 
--- the lines of the text are `---`, a line for each entry, and `...`
+-- the lines of the text that are no comments are `---`, a line for each entry, and `...`
 pub record SpellsMap (text : List ℕ) (entries : List NamedFunction) : Type 0 where
   pub said : List (List ℕ)
   pub each : SpellEach said entries
-  pub whole : lines text ≡ codes "---" ∷ said ++ codes "..." ∷ []
+  pub whole : filter (λ line. not (is_comment line)) (lines text) ≡ codes "---" ∷ said ++ codes "..." ∷ []

@@ -1,9 +1,9 @@
 //! A line of a sled map as the entry that it says.
 
-ghost use Rattle.std.specs.Prelude.{◌≡◌, codes, option_map, IfOk};
+ghost use Rattle.std.specs.Prelude.{◌≡◌, codes, option_and_then, option_map, IfOk, Some};
 ghost use Rattle.std.specs.List.{list_all};
-ghost use Rattle.map_names.specs.Entries.{before_line_end, entry_said, id_in, is_address, is_entry, is_event, is_exit, is_kind, is_plain_byte, is_truth, name_spelled, past_field, unquoted_name, written_name};
-ghost use Rattle.map_names.specs.private.Parts.{entry_read, written_in};
+ghost use Rattle.map_names.specs.Entries.{after_truth, before_brace, before_line_end, before_version, entry_said, id_in, is_address, is_entry, is_event, is_exit, is_kind, is_plain_byte, name_said, name_spelled, no_name, past_field, past_fields, unquoted_name};
+ghost use Rattle.map_names.specs.private.Parts.{entry_read, fields_in};
 
 use crate::parts::{after_label, before_ending, field_in};
 use crate::quote::Quote;
@@ -62,14 +62,6 @@ fn is_kind(word: &[u8]) -> bool
     is_entry(word) || is_exit(word) || is_event(word)
 }
 
-/// Whether a word says yes or no.
-#[tactic(auto, unfolding(crate::specs::Entries::is_truth))]
-fn is_truth(word: &[u8]) -> bool
-    ensures { result ≡ is_truth word.now }
-{
-    word == b"true".as_slice() || word == b"false".as_slice()
-}
-
 /// What follows a field with this label whose value is an address.
 #[tactic(auto, unfolding(crate::specs::Entries::past_field))]
 fn past_address<'a>(label: &[u8], bytes: &'a [u8]) -> Option<&'a [u8]>
@@ -88,42 +80,64 @@ fn past_kind(bytes: &[u8]) -> Option<&[u8]>
     if is_kind(value) { Some(rest) } else { None }
 }
 
-/// What follows the field that says whether the function is always instrumented.
-#[tactic(auto, unfolding(crate::specs::Entries::past_field))]
-fn past_truth(bytes: &[u8]) -> Option<&[u8]>
-    ensures { option_map (λ rest. rest.now) result ≡ past_field (codes " always-instrument: ") is_truth bytes.now }
+/// What follows the word that says whether the function is always instrumented.
+#[tactic(auto, unfolding(crate::specs::Entries::after_truth))]
+fn after_truth(bytes: &[u8]) -> Option<&[u8]>
+    ensures { option_map (λ rest. rest.now) result ≡ after_truth bytes.now }
 {
-    let (value, rest) = field_in(b" always-instrument: ", bytes)?;
-    if is_truth(value) { Some(rest) } else { None }
+    if let Some(rest) = after_label(b"true", bytes) {
+        return Some(rest);
+    }
+    after_label(b"false", bytes)
 }
 
-/// What stands before the brace at the end of a line, and before the version, if there is one.
+/// What stands before the brace at the end of a line, and before the blank that may stand before the
+/// brace.
+#[tactic(auto, unfolding(crate::specs::Entries::before_brace))]
+fn before_brace(bytes: &[u8]) -> Option<&[u8]>
+    ensures { option_map (λ part. part.now) result ≡ before_brace bytes.now }
+{
+    if let Some(part) = before_ending(b" }", bytes) {
+        return Some(part);
+    }
+    before_ending(b"}", bytes)
+}
+
+/// What stands before the version, if there is one.
+#[tactic(auto, unfolding(crate::specs::Entries::before_version))]
+fn before_version(bytes: &[u8]) -> &[u8]
+    ensures { Some result.now ≡ before_version bytes.entry.now }
+{
+    if let Some(part) = before_ending(b", version: 2", bytes) {
+        return part;
+    }
+    if let Some(part) = before_ending(b", version: 1", bytes) {
+        return part;
+    }
+    if let Some(part) = before_ending(b", version: 0", bytes) {
+        return part;
+    }
+    bytes
+}
+
+/// What stands before the end of a line: before the brace, and the version, if there is one.
 #[tactic(auto, unfolding(crate::specs::Entries::before_line_end))]
 fn before_line_end(bytes: &[u8]) -> Option<&[u8]>
     ensures { option_map (λ part. part.now) result ≡ before_line_end bytes.now }
 {
-    if let Some(part) = before_ending(b", version: 2 }", bytes) {
-        return Some(part);
-    }
-    if let Some(part) = before_ending(b", version: 1 }", bytes) {
-        return Some(part);
-    }
-    if let Some(part) = before_ending(b", version: 0 }", bytes) {
-        return Some(part);
-    }
-    before_ending(b" }", bytes)
+    let part = before_brace(bytes)?;
+    Some(before_version(part))
 }
 
-/// What is written for the name, if the fields after the id are as they have to be.
-#[tactic(auto, unfolding(crate::specs::Entries::written_name))]
-fn written_name(bytes: &[u8]) -> Option<&[u8]>
-    ensures { option_map (λ part. part.now) result ≡ written_name bytes.now }
+/// What follows the fields between the id and the name, if they are as they have to be.
+#[tactic(auto, unfolding(crate::specs::Entries::past_fields))]
+fn past_fields(bytes: &[u8]) -> Option<&[u8]>
+    ensures { option_map (λ part. part.now) result ≡ past_fields bytes.now }
 {
     let bytes = past_address(b" address: ", bytes)?;
     let bytes = past_address(b" function: ", bytes)?;
     let bytes = past_kind(bytes)?;
-    let bytes = past_truth(bytes)?;
-    before_line_end(after_label(b" function-name: ", bytes)?)
+    after_truth(after_label(b" always-instrument: ", bytes)?)
 }
 
 /// The id of a line, and what follows its field.
@@ -136,13 +150,13 @@ fn id_in(line: &[u8]) -> Option<(u32, &[u8])>
     Some((id, rest))
 }
 
-/// The id of a line, and what is written for its name.
-fn written_in(line: &[u8]) -> Option<(u32, &[u8])>
-    ensures { option_map (λ said. (said.0, said.1.now)) result ≡ written_in line.now }
+/// The id of a line, and what follows the fields before its name.
+fn fields_in(line: &[u8]) -> Option<(u32, &[u8])>
+    ensures { option_map (λ said. (said.0, said.1.now)) result ≡ fields_in line.now }
 {
     let (id, rest) = id_in(line)?;
-    let name = written_name(rest)?;
-    Some((id, name))
+    let rest = past_fields(rest)?;
+    Some((id, rest))
 }
 
 /// Whether a byte may stand in a name without quotation marks.
@@ -186,15 +200,49 @@ fn name_spelled(alloc: Global, bytes: &[u8]) -> Result<Option<Vec<u8>>, AllocErr
     unquoted_name(alloc, bytes)
 }
 
+/// The name before the end of a line, or `None` if it isn't as it has to be.
+fn name_before_end(alloc: Global, bytes: &[u8]) -> Result<Option<Vec<u8>>, AllocError>
+    ensures { IfOk result (λ name. option_map (λ n. n.items) name
+        ≡ option_and_then name_spelled (before_line_end bytes.now)) }
+{
+    match before_line_end(bytes) {
+        Some(written) => name_spelled(alloc, written),
+        None => Ok(None),
+    }
+}
+
+/// No name, if a line is at its end.
+#[tactic(auto, unfolding(crate::specs::Entries::no_name))]
+fn no_name(alloc: Global, bytes: &[u8]) -> Option<Vec<u8>>
+    ensures { option_map (λ n. n.items) result ≡ option_and_then no_name (before_line_end bytes.now) }
+{
+    match before_line_end(bytes) {
+        Some(part) if part.is_empty() => Some(Vec::new(alloc)),
+        Some(_) | None => None,
+    }
+}
+
+/// The name that the rest of a line says, behind the other fields: none, or the one that is written
+/// there. `None` if the rest isn't as it has to be.
+#[tactic(auto, unfolding(crate::specs::Entries::name_said))]
+fn name_said(alloc: Global, bytes: &[u8]) -> Result<Option<Vec<u8>>, AllocError>
+    ensures { IfOk result (λ name. option_map (λ n. n.items) name ≡ name_said bytes.now) }
+{
+    match after_label(b", function-name: ", bytes) {
+        Some(written) => name_before_end(alloc, written),
+        None => Ok(no_name(alloc, bytes)),
+    }
+}
+
 /// The entry that a line says, or `None` if it says none.
 #[tactic(auto, unfolding(crate::specs::Entries::entry_said))]
 pub(crate) fn read_entry(alloc: Global, line: &[u8]) -> Result<Option<IdName>, AllocError>
     ensures { IfOk result (λ read. option_map entry_read read ≡ entry_said line.now) }
 {
-    let Some((id, written)) = written_in(line) else {
+    let Some((id, rest)) = fields_in(line) else {
         return Ok(None);
     };
-    let Some(name) = name_spelled(alloc, written)? else {
+    let Some(name) = name_said(alloc, rest)? else {
         return Ok(None);
     };
     Ok(Some(IdName { id, name }))

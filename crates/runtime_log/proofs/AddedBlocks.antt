@@ -4,7 +4,6 @@ use Rattle.std.proofs.lemmas.List.{length-append, map-append}
 use Rattle.fdr_record.specs.declared.event.Event.{Event}
 use Rattle.fdr_buffer.specs.declared.buffer.TheConstants.{LARGEST_SIZE}
 use Rattle.fdr_buffer.specs.Segments.{segments}
-use Rattle.fdr_file.specs.declared.header.Header.{Header}
 use Rattle.fdr_file.specs.Files.{block_bytes}
 use Rattle.fdr_file.specs.ThreadEvents.{ThreadEvent, thread_events}
 use Rattle.runtime_log.specs.declared.blocks.BlockEvents.{BlockEvents}
@@ -13,7 +12,7 @@ use Rattle.runtime_log.specs.declared.facts.Facts.{Facts}
 use Rattle.runtime_log.specs.declared.notes.Notes.{Notes}
 use Rattle.runtime_log.specs.declared.packing.Packing.{Packing}
 use Rattle.fdr_file.specs.declared.trace.Block.{Block}
-use Rattle.runtime_log.specs.Logs.{LogBlock}
+use Rattle.runtime_log.specs.Logs.{Log}
 use Rattle.runtime_log.specs.private.Coming.{events_to_come}
 use Rattle.runtime_log.specs.private.Notes.{AreFew, HasNoted, SameLog}
 use Rattle.runtime_log.specs.private.Packings.{Adds, Fills, HasPacked, Heads, SaysOfLog}
@@ -44,12 +43,14 @@ noted_again events old n has = record {
   fallen = has.fallen;
 }
 
-pub said_again : (blocks : List LogBlock) (old new : Facts) → SameLog old new → SaysOfLog blocks old → SaysOfLog blocks new
-said_again blocks old new same says = record {
+pub said_again : (log : Log) (old new : Facts) → SameLog old new → SaysOfLog log old → SaysOfLog log new
+said_again log old new same says = record {
   custom = same.custom ∙ says.custom;
   typed = same.typed ∙ says.typed;
   doubled = same.doubled ∙ says.doubled;
   empty = same.empty ∙ says.empty;
+  lost = same.lost ∙ says.lost;
+  frequency = same.frequency ∙ says.frequency;
 }
 
 -- the first event of a block was added
@@ -62,8 +63,8 @@ adds_first head old new all left event n more parts fills notes same = record {
   fills = fills;
   notes = λ before pid has. notes before (event_of head.thread pid event) (noted_again before old.notes n has) refl refl;
   count = same.blocks ∙ more;
-  log = λ blocks says. said_again blocks (counted old.notes n).facts new.notes.facts same
-      (record { custom = says.custom; typed = says.typed; doubled = says.doubled; empty = says.empty });
+  log = λ log says. said_again log (counted old.notes n).facts new.notes.facts same
+      (record { custom = says.custom; typed = says.typed; doubled = says.doubled; empty = says.empty; lost = says.lost; frequency = says.frequency });
 }
 
 -- an event that was noted changes neither the file nor the buffer
@@ -93,15 +94,15 @@ adds_more head old mid new all left rest event adds next fills notes same =
           append_assoc before (map one done) (one event ∷ []) ∙ ap (λ (es : List ThreadEvent). before ++ es) (sym (map-append one done (event ∷ []))) in
           subst (λ (es : List ThreadEvent). HasNoted es new.notes) split (notes (before ++ map one done) (one event) (adds.notes before pid has) refl refl);
       count = same.blocks ∙ adds.count;
-      log = λ blocks says. said_again blocks mid.notes.facts new.notes.facts same (adds.log blocks says);
+      log = λ log says. said_again log mid.notes.facts new.notes.facts same (adds.log log says);
     }
 
 -- all events were added, and the last segment is written
-pub packed_more : (header : Header) (said : List LogBlock) (taken : List Block) (b : Block) (head : Head) (old mid new : Packing) (all left : BlockEvents)
-    → HasPacked header said taken old → Heads head b → events_to_come all ≡ b.events → Adds head old all left mid → events_to_come left ≡ []
+pub packed_more : (log : Log) (taken : List Block) (b : Block) (head : Head) (old mid new : Packing) (all left : BlockEvents)
+    → HasPacked log taken old → Heads head b → events_to_come all ≡ b.events → Adds head old all left mid → events_to_come left ≡ []
     → AreFew mid.notes.facts → mid.buffer.size ≡ LARGEST_SIZE
-    → new.buffer ≡ mid.buffer → new.notes ≡ mid.notes → new.file.items ≡ mid.file.items ++ block_bytes mid.buffer → HasPacked header said (taken ++ b ∷ []) new
-packed_more header said taken b head old mid new all left packed shows is adds none few size buffer notes file =
+    → new.buffer ≡ mid.buffer → new.notes ≡ mid.notes → new.file.items ≡ mid.file.items ++ block_bytes mid.buffer → HasPacked log (taken ++ b ∷ []) new
+packed_more log taken b head old mid new all left packed shows is adds none few size buffer notes file =
     let done_is : adds.done ≡ b.events = sym (append-nil adds.done) ∙ ap (λ (es : List Event). adds.done ++ es) (sym none) ∙ sym adds.parts ∙ is in
     let written = fills_all head old.file.items adds.done mid new.file.items adds.fills file in
     let noted = adds.notes (thread_events taken) b.pid packed.notes in
@@ -113,10 +114,10 @@ packed_more header said taken b head old mid new all left packed shows is adds n
       file =
           written ∙ ap (λ (es : List Event). old.file.items ++ segments_written head (segments LARGEST_SIZE es)) done_is
           ∙ ap (λ (xs : List ℕ). xs ++ segments_written head (segments LARGEST_SIZE b.events)) packed.file
-          ∙ sym (file_more header taken b head shows);
+          ∙ sym (file_more log.header taken b head shows);
       size = ap (λ x. x.size) buffer ∙ size;
       notes = subst (λ (n : Notes). HasNoted (thread_events (taken ++ b ∷ [])) n) (sym notes) (subst (λ (es : List ThreadEvent). HasNoted es mid.notes) events_are noted);
       few = subst (λ (n : Notes). AreFew n.facts) (sym notes) few;
       count = ap (λ (n : Notes). n.facts.blocks) notes ∙ omega (arith, adds.count, packed.count, length-append taken (b ∷ []));
-      log = subst (λ (n : Notes). SaysOfLog said n.facts) (sym notes) (adds.log said packed.log);
+      says = subst (λ (n : Notes). SaysOfLog log n.facts) (sym notes) (adds.log log packed.says);
     }

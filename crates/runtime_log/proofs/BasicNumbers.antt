@@ -1,12 +1,13 @@
 -- What is printed of a basic log.
-use Rattle.std.proofs.Common.{◌≡◌, ℕ, ◌+◌, ◌≤◌, Bool, true, false, cond, eqb, List, [], ◌∷◌, ◌++◌, All, length, map, Result, Ok, refl, sym, ap, subst, ◌∙◌, zero-add, inl, inr, arith}
-use Rattle.std.specs.Prelude.{◌&&◌, ⊤}
+use Rattle.std.proofs.Common.{◌≡◌, ℕ, ◌+◌, ◌-◌, ◌≤◌, Bool, true, false, cond, eqb, List, [], ◌∷◌, ◌++◌, All, length, map, Result, Ok, refl, sym, ap, subst, ◌∙◌, zero-add, inl, inr, arith}
+use Rattle.std.specs.Prelude.{◌&&◌, ⊤, count_by, sum}
 use Rattle.std.proofs.lemmas.Bool.{ne_eqb}
 use Rattle.std.proofs.lemmas.List.{map-append}
 use Rattle.std.proofs.lemmas.List.Elements.{All-head, All-tail}
 use Rattle.std.proofs.lemmas.List.Sorted.{length_permutation}
 use Rattle.fdr_record.specs.declared.event.Event.{Event}
 use Rattle.fdr_file.specs.declared.fault.TraceFault.{TraceFault}
+use Rattle.fdr_file.specs.declared.header.Header.{Header}
 use Rattle.fdr_file.specs.declared.trace.Block.{Block}
 use Rattle.fdr_file.specs.declared.trace.Trace.{Trace}
 use Rattle.fdr_file.specs.ThreadEvents.{ThreadEvent, block_events, thread_events}
@@ -17,13 +18,13 @@ use Rattle.runtime_log.specs.Imports.{trace_taken}
 use Rattle.runtime_log.specs.Laws.{ImportsRead}
 use Rattle.runtime_log.specs.LogLaws.{BasicNumbersAreMeant, BasicNumbersAreOf, NumbersAreOfEvents, run_count}
 use Rattle.runtime_log.specs.Logs.{Log, LogBlock}
-use Rattle.runtime_log.specs.Taken.{AreTaken}
+use Rattle.runtime_log.specs.Taken.{AreTaken, undoubled}
 use Rattle.runtime_log.specs.Threads.{AreByThread, AscendByThread, StandsBehind}
 use Rattle.runtime_log.specs.private.Headers.{mode_of}
 use Rattle.runtime_log.proofs.AddedBlocks.{event_of}
 use Rattle.runtime_log.proofs.ByThread.{IsSome, ascend_tail, eqb_same, not_lower}
 use Rattle.runtime_log.proofs.CountedThreads.{AtMost, DontFall, threads_of}
-use Rattle.runtime_log.proofs.KeptEvents.{AllHeld, at_most_join, events_printed, own_threads, threads_high}
+use Rattle.runtime_log.proofs.KeptEvents.{AllHeld, at_most_join, events_printed, own_threads, threads_high, trace_header}
 use Rattle.runtime_log.proofs.SameEvents.{numbers_move}
 use Rattle.runtime_log.proofs.ThreadsKept.{not_recorder, pieces_events}
 use Rattle.runtime_log.proofs.WholeLogs.{HasParts, LogParts, log_parts}
@@ -100,15 +101,18 @@ runs_counted (block ∷ blocks) ascend some =
 
 -- ---- what is printed
 
-basic_printed : (log : Log) (trace : Trace) (threads : List Block) → AreByThread log.events threads → thread_events trace.blocks ≡ thread_events threads → BasicNumbersAreOf log trace (facts_of [] threads)
-basic_printed log trace threads are same = record {
+basic_printed : (log : Log) (trace : Trace) (threads : List Block) → log.blocks ≡ [] → trace.header ≡ log.header → AreByThread log.events threads → thread_events trace.blocks ≡ thread_events threads
+    → BasicNumbersAreOf log trace (facts_of log threads)
+basic_printed log trace threads none header are same = record {
   blocks = runs_counted threads are.ascend are.some ∙ ap run_count (sym same);
-  doubled = refl;
-  empty = refl;
-  custom = refl;
-  typed = refl;
-  of_events = subst (λ (es : List ThreadEvent). NumbersAreOfEvents es (facts_of [] threads)) (sym same) (events_printed [] threads (threads_ascend threads are.ascend));
-  of_log = numbers_move (thread_events threads) log.events (facts_of [] threads) are.same (events_printed [] threads (threads_ascend threads are.ascend));
+  doubled = ap (λ (bs : List LogBlock). length bs - length (undoubled bs)) none;
+  empty = ap (λ (bs : List LogBlock). count_by (λ (b : LogBlock). eqb (length b.block.events) 0) (undoubled bs)) none;
+  custom = ap (λ (bs : List LogBlock). sum (map (λ (b : LogBlock). b.custom) bs)) none;
+  typed = ap (λ (bs : List LogBlock). sum (map (λ (b : LogBlock). b.typed) bs)) none;
+  lost = refl;
+  frequency = ap (λ (h : Header). h.frequency) (sym header);
+  of_events = subst (λ (es : List ThreadEvent). NumbersAreOfEvents es (facts_of log threads)) (sym same) (events_printed log threads (threads_ascend threads are.ascend));
+  of_log = numbers_move (thread_events threads) log.events (facts_of log threads) are.same (events_printed log threads (threads_ascend threads are.ascend));
 }
 
 none_taken : (pool : List LogBlock) → AreTaken [] pool → pool ≡ []
@@ -126,7 +130,7 @@ basic_numbers_meant reads held bytes file facts trace all zero_type made is = by
 
     by_mode : (mode : Mode) → mode_of bytes ≡ Ok mode → HasParts mode bytes made.log → BasicNumbersAreOf made.log trace facts
     by_mode (Recorder version) headed has = absurd (not_recorder bytes version zero_type headed)
-    by_mode Basic headed has =
+    by_mode (Basic version) headed has =
         let takes = made.takes in
         let none = none_taken takes.pool (subst (λ (bs : List LogBlock). AreTaken bs takes.pool) has.0 takes.chosen) in
         let alone : made.taken ≡ takes.threads = takes.parts ∙ ap (λ (bs : List LogBlock). map (λ (b : LogBlock). b.block) bs ++ takes.threads) none in
@@ -134,6 +138,5 @@ basic_numbers_meant reads held bytes file facts trace all zero_type made is = by
         let same : trace ≡ trace_taken made.log.header made.taken = cc in
         let events : thread_events trace.blocks ≡ thread_events takes.threads =
         ap (λ (t : Trace). thread_events t.blocks) same ∙ pieces_events held made.taken ∙ ap thread_events alone in
-        let printed : facts ≡ facts_of [] takes.threads =
-        made.facts_are ∙ ap (λ (bs : List LogBlock). facts_of bs made.taken) has.0 ∙ ap (facts_of []) alone in
-        subst (BasicNumbersAreOf made.log trace) (sym printed) (basic_printed made.log trace takes.threads takes.by_thread events)
+        let printed : facts ≡ facts_of made.log takes.threads = made.facts_are ∙ ap (facts_of made.log) alone in
+        subst (BasicNumbersAreOf made.log trace) (sym printed) (basic_printed made.log trace takes.threads has.0 (trace_header reads bytes file facts trace all made is) takes.by_thread events)

@@ -13,14 +13,13 @@ use Rattle.fdr_file.specs.declared.fault.TraceFault.{TraceFault}
 use Rattle.fdr_file.specs.declared.fault.TraceFault.TheVariants as traces
 use Rattle.fdr_file.specs.declared.stage.Stage.TheVariants.{Due}
 use Rattle.fdr_file.specs.Places.{starts}
-use Rattle.fdr_file.specs.Traces.{block_length, extents_in, preamble_bytes, record_in, size_named}
+use Rattle.fdr_file.specs.Traces.{block_length, extents_in, record_in, size_named}
 use Rattle.runtime_log.specs.declared.blocks.LogBlock.{LogBlock as Placed}
 use Rattle.runtime_log.specs.declared.blocks.LogBlocks.{LogBlocks}
 use Rattle.runtime_log.specs.declared.own_event.OwnKind.{OwnKind}
 use Rattle.runtime_log.specs.declared.version.LogVersion.{LogVersion}
-use Rattle.runtime_log.specs.Logs.{LogBlock, block_size_rows, log_block_in, log_block_rows, recorder_blocks, sized_rows}
+use Rattle.runtime_log.specs.Logs.{LogBlock, block_size_rows, log_block_in, log_block_rows, recorder_blocks, sized_rows, too_few}
 use Rattle.runtime_log.specs.OwnEvents.{log_record_in, own_kind}
-use Rattle.runtime_log.specs.Versions.{trace_version}
 use Rattle.runtime_log.specs.private.Choices.{AreAt, IsAt}
 use Rattle.runtime_log.specs.private.Readings.{BlocksRead}
 use Rattle.runtime_log.proofs.RecordWalk.{starts_first, starts_none}
@@ -49,11 +48,11 @@ block_sized version at rest size is = by_short (ltb (length rest) 16) is
         ap (λ (k : ℕ). 16 + k) (extents_is rest n found ∙ same)
 
     by_named : (r : Rec) (named : Option ℕ) → size_named r ≡ named → record_in rest ≡ Ok r
-        → (NeedsPart named (Err (traces.Order at)) λ n. First (ltb n (preamble_bytes (trace_version version))) (Err (traces.Extents at)) (First (ltb (length rest) (16 + n)) (Err (traces.Short at)) (Ok n))) ≡ Ok size
+        → (NeedsPart named (Err (traces.Order at)) λ n. First (too_few version n) (Err (traces.Extents at)) (First (ltb (length rest) (16 + n)) (Err (traces.Short at)) (Ok n))) ≡ Ok size
         → block_length rest ≡ 16 + size
     by_named r None named found e = absurd cc
     by_named r (Some n) named found e =
-        by_tests n (ltb n (preamble_bytes (trace_version version))) (ltb (length rest) (16 + n)) (found ∙ ap (λ (x : Rec). let y : Result Rec RecFault = Ok x in y) (size_is r n named)) e
+        by_tests n (too_few version n) (ltb (length rest) (16 + n)) (found ∙ ap (λ (x : Rec). let y : Result Rec RecFault = Ok x in y) (size_is r n named)) e
 
     by_record : (x : Result Rec RecFault) → record_in rest ≡ x → sized_rows version (at, rest) x ≡ Ok size → block_length rest ≡ 16 + size
     by_record (Ok r) found e = by_named r (size_named r) refl found e

@@ -57,7 +57,7 @@ mode_order (Recorder version) bytes log whole has = by_blocks (recorder_blocks v
         subst (λ (bs : List LogBlock). AreInFileOrder 0 (length bytes) bs) same
         (subst (λ (n : ℕ). AreInFileOrder 0 n blocks) end (recorder_order version 0 32 (drop 32 bytes) [] blocks e (omega arith)))
     by_blocks (Err fault) e h = absurd cc
-mode_order Basic bytes log whole has = subst (λ (bs : List LogBlock). AreInFileOrder 0 (length bytes) bs) (sym has.0) (omega arith)
+mode_order (Basic version) bytes log whole has = subst (λ (bs : List LogBlock). AreInFileOrder 0 (length bytes) bs) (sym has.0) (omega arith)
 
 pub logged_order : (bytes : List ℕ) (log : Log) → logged bytes ≡ Ok log → AreInFileOrder 0 (length bytes) log.blocks
 logged_order bytes log is =

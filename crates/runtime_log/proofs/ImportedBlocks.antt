@@ -11,12 +11,13 @@ use Rattle.runtime_log.specs.declared.basic.BasicRec.{BasicRec}
 use Rattle.runtime_log.specs.declared.blocks.Mode.TheVariants.{Recorder, Basic}
 use Rattle.runtime_log.specs.declared.facts.Facts.{Facts}
 use Rattle.runtime_log.specs.declared.packing.Packing.{Packing}
+use Rattle.runtime_log.specs.declared.version.BasicVersion.{BasicVersion}
 use Rattle.runtime_log.specs.declared.version.LogVersion.{LogVersion}
 use Rattle.runtime_log.specs.BasicLogs.{basic_records, recorded_events}
 use Rattle.runtime_log.specs.Facts.{facts_of}
 use Rattle.runtime_log.specs.Imports.{IsImport, trace_file, trace_taken}
-use Rattle.runtime_log.specs.Logs.{LogBlock, as_log, imported_header, recorder_blocks, recorder_header}
-use Rattle.runtime_log.specs.Taken.{AreTaken, chosen, first_ones, has_events, is_among_contents, undoubled}
+use Rattle.runtime_log.specs.Logs.{Log, LogBlock, as_log, imported_header, log_of_blocks, log_of_records, recorder_blocks, recorder_header}
+use Rattle.runtime_log.specs.Taken.{AreTaken, chosen, first_ones, has_events, is_doubled, undoubled}
 use Rattle.runtime_log.specs.Threads.{AreByThread}
 use Rattle.runtime_log.specs.private.Headers.{mode_of}
 use Rattle.runtime_log.specs.private.Packings.{HasPacked}
@@ -46,29 +47,31 @@ pub has_some : (bytes : List ℕ) (version : LogVersion) (placed : Placed) (take
 has_some bytes version placed taken i there some = all_there (λ b. b.block.events ≢ []) i taken (drop (i + 1) taken) there.b there.rest some
 
 -- one more of them was packed
-pub packed_next : (header : Header) (said taken : List LogBlock) (packing : Packing) (bytes : List ℕ) (version : LogVersion) (placed : Placed) (i : ℕ) (there : Stands bytes version placed taken i)
-    → HasPacked header said (blocks_of (take i taken) ++ there.b.block ∷ []) packing → HasPacked header said (blocks_of (take (i + 1) taken)) packing
-packed_next header said taken packing bytes version placed i there packed =
+pub packed_next : (log : Log) (taken : List LogBlock) (packing : Packing) (bytes : List ℕ) (version : LogVersion) (placed : Placed) (i : ℕ) (there : Stands bytes version placed taken i)
+    → HasPacked log (blocks_of (take i taken) ++ there.b.block ∷ []) packing → HasPacked log (blocks_of (take (i + 1) taken)) packing
+packed_next log taken packing bytes version placed i there packed =
     let next : suc i ≡ i + 1 = omega arith in
     let more : take i taken ++ there.b ∷ [] ≡ take (i + 1) taken = sym (take_there i taken (drop (i + 1) taken) there.b there.rest) ∙ ap (λ (k : ℕ). take k taken) next in
-    subst (λ (bs : List Block). HasPacked header said bs packing) (sym (map-append (λ (b : LogBlock). b.block) (take i taken) (there.b ∷ [])) ∙ ap blocks_of more) packed
+    subst (λ (bs : List Block). HasPacked log bs packing) (sym (map-append (λ (b : LogBlock). b.block) (take i taken) (there.b ∷ [])) ∙ ap blocks_of more) packed
 
 -- ---- all of them
 
 -- the facts of what was packed
-pub facts_packed : (header : Header) (said : List LogBlock) (taken : List Block) (packing : Packing) → HasPacked header said taken packing → packing.notes.facts ≡ facts_of said taken
-facts_packed header said taken packing packed = λ i. record {
+pub facts_packed : (log : Log) (taken : List Block) (packing : Packing) → HasPacked log taken packing → packing.notes.facts ≡ facts_of log taken
+facts_packed log taken packing packed = λ i. record {
   blocks = packed.count i;
   threads = packed.notes.threads i;
   events = packed.notes.count i;
   arguments = packed.notes.arguments i;
-  custom = packed.log.custom i;
-  typed = packed.log.typed i;
-  doubled = packed.log.doubled i;
-  empty = packed.log.empty i;
+  custom = packed.says.custom i;
+  typed = packed.says.typed i;
+  doubled = packed.says.doubled i;
+  empty = packed.says.empty i;
   first = packed.notes.first i;
   last = packed.notes.last i;
   back = packed.notes.back i;
+  lost = packed.says.lost i;
+  frequency = packed.says.frequency i;
 }
 
 -- each has events
@@ -91,7 +94,7 @@ filter_few (b ∷ blocks) = by_test (filter_few blocks) (has_events b)
 
 first_few : (before : List (List ℕ)) (blocks : List LogBlock) → length (first_ones before blocks) ≤ length blocks
 first_few before [] = omega arith
-first_few before (b ∷ blocks) = by_test (first_few (b.content ∷ before) blocks) (is_among_contents before b.content)
+first_few before (b ∷ blocks) = by_test (first_few (b.content ∷ before) blocks) (is_doubled before b.content)
   where
     by_test : length (first_ones (b.content ∷ before) blocks) ≤ length blocks → (doubled : Bool)
         → length (cond doubled (first_ones (b.content ∷ before) blocks) (b ∷ first_ones (b.content ∷ before) blocks)) ≤ length (b ∷ blocks)
@@ -100,7 +103,7 @@ first_few before (b ∷ blocks) = by_test (first_few (b.content ∷ before) bloc
 
 pub taken_few : (bytes : List ℕ) (version : LogVersion) (said taken : List LogBlock) → mode_of bytes ≡ Ok (Recorder version) → recorder_blocks version bytes ≡ Ok said → AreTaken said taken → length taken ≤ length bytes
 taken_few bytes version said taken headed says are =
-    let order = logged_order bytes (record { header = recorder_header bytes; blocks = said; events = [] }) (recorder_read bytes version said headed (ap as_log says)) in
+    let order = logged_order bytes (log_of_blocks (recorder_header bytes) said) (recorder_read bytes version said headed (ap as_log says)) in
     omega (arith, length_permutation (chosen said) taken are.all, filter_few (undoubled said), first_few [] said, order_few 0 (length bytes) said order)
 
 -- no event is in no block
@@ -109,25 +112,25 @@ no_threads = record { same = λ thread. refl; ascend = tt; some = All-nil (λ (b
 
 -- what is made of them is an import of the log
 pub recorder_imported : (bytes : List ℕ) (version : LogVersion) (said taken : List LogBlock) (header : Header) (file : List ℕ) (facts : Facts) → mode_of bytes ≡ Ok (Recorder version)
-    → recorder_blocks version bytes ≡ Ok said → AreTaken said taken → header ≡ recorder_header bytes → file ≡ trace_file (trace_taken header (blocks_of taken)) → facts ≡ facts_of said (blocks_of taken)
+    → recorder_blocks version bytes ≡ Ok said → AreTaken said taken → header ≡ recorder_header bytes → file ≡ trace_file (trace_taken header (blocks_of taken)) → facts ≡ facts_of (log_of_blocks header said) (blocks_of taken)
     → IsImport bytes file facts
 recorder_imported bytes version said taken header file facts headed says are same file_is facts_are = record {
-  log = record { header = recorder_header bytes; blocks = said; events = [] };
+  log = log_of_blocks (recorder_header bytes) said;
   says = recorder_read bytes version said headed (ap as_log says);
   taken = blocks_of taken;
   takes = record { pool = taken; chosen = are; threads = []; by_thread = no_threads; parts = sym (append-nil (blocks_of taken)) };
   file_is = file_is ∙ ap (λ (h : Header). trace_file (trace_taken h (blocks_of taken))) same;
-  facts_are = facts_are;
+  facts_are = facts_are ∙ ap (λ (h : Header). facts_of (log_of_blocks h said) (blocks_of taken)) same;
 }
 
 -- so is what is made of the events of a basic log
-pub basic_imported : (bytes : List ℕ) (records : List BasicRec) (threads : List Block) (header : Header) (file : List ℕ) (facts : Facts) → mode_of bytes ≡ Ok Basic → basic_records bytes ≡ Ok records
-    → AreByThread (recorded_events records) threads → header ≡ imported_header bytes → file ≡ trace_file (trace_taken header threads) → facts ≡ facts_of [] threads → IsImport bytes file facts
-basic_imported bytes records threads header file facts headed says are same file_is facts_are = record {
-  log = record { header = imported_header bytes; blocks = []; events = recorded_events records };
-  says = basic_read bytes records headed says;
+pub basic_imported : (version : BasicVersion) (bytes : List ℕ) (records : List BasicRec) (threads : List Block) (header : Header) (file : List ℕ) (facts : Facts) → mode_of bytes ≡ Ok (Basic version) → basic_records version bytes ≡ Ok records
+    → AreByThread (recorded_events records) threads → header ≡ imported_header bytes → file ≡ trace_file (trace_taken header threads) → facts ≡ facts_of (log_of_records header records) threads → IsImport bytes file facts
+basic_imported version bytes records threads header file facts headed says are same file_is facts_are = record {
+  log = log_of_records (imported_header bytes) records;
+  says = basic_read bytes version records headed says;
   taken = threads;
   takes = record { pool = []; chosen = record { all = IsPermutation-refl []; sorted = λ k d low high. absurd (omega (arith, high)) }; threads = threads; by_thread = are; parts = refl };
   file_is = file_is ∙ ap (λ (h : Header). trace_file (trace_taken h threads)) same;
-  facts_are = facts_are;
+  facts_are = facts_are ∙ ap (λ (h : Header). facts_of (log_of_records h records) threads) same;
 }

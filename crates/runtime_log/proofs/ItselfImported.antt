@@ -1,6 +1,6 @@
 -- A file that is written for buffers with events, in order, is imported as itself.
 use Rattle.std.proofs.Common.{◌≡◌, ℕ, suc, ◌+◌, ◌^◌, ◌/◌, ◌%◌, ◌<◌, ◌≤◌, Bool, true, false, cond, eqb, List, [], ◌∷◌, ◌++◌, length, drop, map, take, Option, Some, None, Result, Ok, Err, refl, sym, ap, subst, ◌∙◌, append_assoc, append-nil, length-append, arith}
-use Rattle.std.specs.Prelude.{◌||◌, All, IsPermutation, IsTrue, filter, nat_lt, replicate}
+use Rattle.std.specs.Prelude.{◌&&◌, ◌||◌, not, All, IsPermutation, IsTrue, filter, nat_lt, replicate}
 use Rattle.std.specs.List.{AllZip, flat_map}
 use Rattle.std.specs.Str.{bytes_eq}
 use Rattle.std.specs.Cmp.Lexicographic.{bytes_decides, slice_cmp}
@@ -36,7 +36,7 @@ use Rattle.runtime_log.specs.declared.version.LogVersion.TheVariants.{Three}
 use Rattle.runtime_log.specs.Imports.{AreTakenOf, buffer_for, pieces_of, trace_file, trace_taken}
 use Rattle.runtime_log.specs.Laws.{AreInOrder, ImportsItself, MayStandBefore, buffer_key}
 use Rattle.runtime_log.specs.Logs.{Log, LogBlock, log_block_in, log_block_rows}
-use Rattle.runtime_log.specs.Taken.{AreTaken, chosen, first_counter, first_ones, has_events, is_among_contents, order_key, undoubled}
+use Rattle.runtime_log.specs.Taken.{AreTaken, chosen, first_counter, first_ones, has_events, is_among_contents, is_doubled, order_key, undoubled}
 use Rattle.runtime_log.specs.Threads.{AreByThread}
 use Rattle.runtime_log.specs.private.Choices.{AreInFileOrder}
 use Rattle.runtime_log.proofs.ByThread.{none_by_thread}
@@ -203,14 +203,19 @@ fresh_more reads header fits contents content one (b ∷ buffers) is fit all ear
     (fresh_more reads header fits contents content one buffers is fit (All-tail BlockFits b buffers all) (All-tail (IsEarlier one) b buffers earlier)
     (All-tail (λ (x : Filled). is_among_contents contents (used_bytes x) ≡ false) b buffers fresh))
 
+and_false : (a b : Bool) → b ≡ false → (a && b) ≡ false
+and_false true b e = e
+and_false false b e = refl
+
 all_first : Reads → (header : Header) → HeaderFits header → (contents : List (List ℕ)) (blocks : List LogBlock) (buffers : List Filled) → AllZip IsOf blocks buffers → All BlockFits buffers
     → AreInOrder buffers → AreFresh contents buffers → first_ones contents blocks ≡ blocks
 all_first reads header fits contents [] [] are all rising fresh = refl
 all_first reads header fits contents [] (b ∷ buffers) are all rising fresh = absurd are
 all_first reads header fits contents (x ∷ blocks) [] are all rising fresh = absurd are
 all_first reads header fits contents (x ∷ blocks) (b ∷ buffers) are all rising fresh =
-    let own : is_among_contents contents x.content ≡ false =
-    ap (is_among_contents contents) are.0.0 ∙ All-head (λ (y : Filled). is_among_contents contents (used_bytes y) ≡ false) b buffers fresh in
+    let own : is_doubled contents x.content ≡ false =
+    and_false (not (eqb (length x.content) 0)) (is_among_contents contents x.content)
+    (ap (is_among_contents contents) are.0.0 ∙ All-head (λ (y : Filled). is_among_contents contents (used_bytes y) ≡ false) b buffers fresh) in
     let later = fresh_more reads header fits contents x.content b buffers are.0.0 (All-head BlockFits b buffers all) (All-tail BlockFits b buffers all) (rising_first b buffers rising)
     (All-tail (λ (y : Filled). is_among_contents contents (used_bytes y) ≡ false) b buffers fresh) in
     let others = first_ones (x.content ∷ contents) blocks in

@@ -13,6 +13,7 @@ use Rattle.fdr_buffer.specs.Segments.{segments}
 use Rattle.fdr_record.specs.declared.event.Event.{Event}
 use Rattle.fdr_file.specs.declared.fault.TraceFault.{TraceFault}
 use Rattle.fdr_file.specs.declared.trace.Block.{Block}
+use Rattle.fdr_file.specs.declared.header.Header.{Header}
 use Rattle.fdr_file.specs.declared.trace.Trace.{Trace}
 use Rattle.fdr_file.specs.ThreadEvents.{ThreadEvent, block_events, thread_events}
 use Rattle.fdr_file.specs.Traces.{trace_of, type_in}
@@ -24,7 +25,7 @@ use Rattle.runtime_log.specs.Laws.{ImportsRead}
 use Rattle.runtime_log.specs.LogLaws.{IsGreatest, IsLeast, NumbersAreMeant, NumbersAreOf, NumbersAreOfEvents, ThreadsAreKept, blocks_of_thread, pool_events}
 use Rattle.runtime_log.specs.Logs.{Log, LogBlock, logged}
 use Rattle.runtime_log.specs.Threads.{AreByThread, recorded_by}
-use Rattle.runtime_log.specs.Taken.{AreTaken, chosen, comes_before, first_ones, has_events, is_among_contents, order_key, undoubled}
+use Rattle.runtime_log.specs.Taken.{AreTaken, chosen, comes_before, first_ones, has_events, is_doubled, order_key, undoubled}
 use Rattle.runtime_log.proofs.ByThread.{none_by_thread}
 use Rattle.runtime_log.proofs.CountedThreads.{AtMost, DontFall, back_counted, threads_counted, threads_of}
 use Rattle.runtime_log.proofs.LeftOut.{doubled_count, empty_places}
@@ -57,6 +58,21 @@ pool_alone bytes log taken form says takes =
     takes.parts
     ∙ ap (λ (bs : List Block). map (λ (b : LogBlock). b.block) takes.pool ++ bs) none
     ∙ append-nil (map (λ (b : LogBlock). b.block) takes.pool)
+
+-- no argument of such a log has lost its entry
+none_lost : (bytes : List ℕ) (log : Log) → type_in bytes ≡ 1 → logged bytes ≡ Ok log → log.lost ≡ 0
+none_lost bytes log form says =
+    let parts = log_parts bytes log says in
+    let h = header_read bytes parts.mode form parts.headed in
+    (subst (λ (m : Mode). HasParts m bytes log) h.1 parts.has).2
+
+-- the header of a trace is that of its log
+pub trace_header : ImportsRead → (bytes file : List ℕ) (facts : Facts) (trace : Trace) → All (λ b. b < 256) bytes → (made : IsImport bytes file facts) → trace_of file ≡ Ok trace
+    → trace.header ≡ made.log.header
+trace_header reads bytes file facts trace all made is =
+    let both : ok trace ≡ ok (trace_taken made.log.header made.taken) = sym is ∙ reads bytes file facts all made in
+    let same : trace ≡ trace_taken made.log.header made.taken = cc in
+    ap (λ (t : Trace). t.header) same
 
 pub trace_events : ImportsRead → AllHeld → (bytes file : List ℕ) (facts : Facts) (trace : Trace) → All (λ b. b < 256) bytes → type_in bytes ≡ 1 → (made : IsImport bytes file facts)
     → trace_of file ≡ Ok trace → thread_events trace.blocks ≡ pool_events made.takes.pool
@@ -107,7 +123,7 @@ ones {X} (x ∷ xs) = sum_by-cons (λ (y : X). 1) x xs ∙ ap (λ (n : ℕ). 1 +
 
 first_few : (before : List (List ℕ)) (blocks : List LogBlock) → length (first_ones before blocks) ≤ length blocks
 first_few before [] = omega arith
-first_few before (b ∷ blocks) = by_test (first_few (b.content ∷ before) blocks) (is_among_contents before b.content)
+first_few before (b ∷ blocks) = by_test (first_few (b.content ∷ before) blocks) (is_doubled before b.content)
   where
     others : List LogBlock
     others = first_ones (b.content ∷ before) blocks
@@ -242,8 +258,8 @@ threads_rise (b ∷ taken) rise =
 -- ---- what is printed
 
 -- what is printed of the events of blocks, thread by thread
-pub events_printed : (blocks : List LogBlock) (taken : List Block) → DontFall (threads_of (thread_events taken)) → NumbersAreOfEvents (thread_events taken) (facts_of blocks taken)
-events_printed blocks taken rise =
+pub events_printed : (log : Log) (taken : List Block) → DontFall (threads_of (thread_events taken)) → NumbersAreOfEvents (thread_events taken) (facts_of log taken)
+events_printed log taken rise =
     let ns = map (λ (e : ThreadEvent). e.event.tsc) (thread_events taken) in record {
       events = refl;
       arguments = refl;
@@ -253,19 +269,21 @@ events_printed blocks taken rise =
       back = back_counted (thread_events taken) rise;
     }
 
-printed : (log : Log) (trace : Trace) (taken : List LogBlock) → AreTaken log.blocks taken → thread_events trace.blocks ≡ pool_events taken → NumbersAreOf log trace (facts_of log.blocks (map (λ (b : LogBlock). b.block) taken))
-printed log trace taken are events =
+printed : (log : Log) (trace : Trace) (taken : List LogBlock) → AreTaken log.blocks taken → log.lost ≡ 0 → trace.header ≡ log.header → thread_events trace.blocks ≡ pool_events taken → NumbersAreOf log trace (facts_of log (map (λ (b : LogBlock). b.block) taken))
+printed log trace taken are none header events =
     let blocks = map (λ (b : LogBlock). b.block) taken in record {
       blocks = ap (λ (n : ℕ). n + (length log.blocks - length (undoubled log.blocks)) + count_by (λ (b : LogBlock). eqb (length b.block.events) 0) (undoubled log.blocks)) (length-map taken (λ (b : LogBlock). b.block)) ∙ each_counted log.blocks taken are;
       doubled = doubled_count log.blocks;
       empty = empty_places log.blocks;
       custom = refl;
       typed = refl;
-      of_events = subst (λ (es : List ThreadEvent). NumbersAreOfEvents es (facts_of log.blocks blocks)) (sym events) (events_printed log.blocks blocks (threads_rise taken (rises_from_sorted order_key taken are.sorted)));
+      lost = none;
+      frequency = ap (λ (h : Header). h.frequency) (sym header);
+      of_events = subst (λ (es : List ThreadEvent). NumbersAreOfEvents es (facts_of log blocks)) (sym events) (events_printed log blocks (threads_rise taken (rises_from_sorted order_key taken are.sorted)));
     }
 
 pub numbers_meant : ImportsRead → AllHeld → NumbersAreMeant
 numbers_meant reads held bytes file facts trace all form made is =
     let alone = pool_alone bytes made.log made.taken form made.says made.takes in
-    subst (NumbersAreOf made.log trace) (sym (made.facts_are ∙ ap (facts_of made.log.blocks) alone))
-    (printed made.log trace made.takes.pool made.takes.chosen (trace_events reads held bytes file facts trace all form made is))
+    subst (NumbersAreOf made.log trace) (sym (made.facts_are ∙ ap (facts_of made.log) alone))
+    (printed made.log trace made.takes.pool made.takes.chosen (none_lost bytes made.log form made.says) (trace_header reads bytes file facts trace all made is) (trace_events reads held bytes file facts trace all form made is))

@@ -9,7 +9,7 @@ use Rattle.std.proofs.lemmas.List.Folds.{list_any-append}
 use Rattle.std.proofs.lemmas.List.Sums.{sum_by-cons}
 use Rattle.runtime_log.specs.LogLaws.{block_places, is_double, is_empty_block}
 use Rattle.runtime_log.specs.Logs.{LogBlock}
-use Rattle.runtime_log.specs.Taken.{first_ones, is_among_contents, undoubled}
+use Rattle.runtime_log.specs.Taken.{first_ones, is_among_contents, is_doubled, undoubled}
 
 -- ---- counts over places
 
@@ -38,16 +38,16 @@ sizes blocks = map (λ (b : LogBlock). length b.block.events) blocks
 
 -- the bytes of a block are those of one of these
 abbrev Doubles : List LogBlock → LogBlock → Bool
-Doubles done b = is_among_contents (contents done) b.content
+Doubles done b = is_doubled (contents done) b.content
 
 double_here : (blocks done : List LogBlock) (b : LogBlock) (rest : List LogBlock) → blocks ≡ done ++ b ∷ rest → is_double blocks (length done) ≡ Doubles done b
 double_here blocks done b rest parts =
     let all = contents done ++ b.content ∷ contents rest in
     ap (λ (bs : List LogBlock). is_double bs (length done)) parts
-    ∙ ap (λ (cs : List (List ℕ)). is_among_contents (take (length done) cs) (get_or cs (length done) [])) (map-append (λ (x : LogBlock). x.content) done (b ∷ rest))
-    ∙ ap (λ (n : ℕ). is_among_contents (take n all) (get_or all n [])) (sym (length-map done (λ (x : LogBlock). x.content)))
-    ∙ ap (λ (cs : List (List ℕ)). is_among_contents cs (get_or all (length (contents done)) [])) (take-append_seam (contents done) (b.content ∷ contents rest))
-    ∙ ap (is_among_contents (contents done)) (get_or-append_seam (contents done) b.content (contents rest) [])
+    ∙ ap (λ (cs : List (List ℕ)). is_doubled (take (length done) cs) (get_or cs (length done) [])) (map-append (λ (x : LogBlock). x.content) done (b ∷ rest))
+    ∙ ap (λ (n : ℕ). is_doubled (take n all) (get_or all n [])) (sym (length-map done (λ (x : LogBlock). x.content)))
+    ∙ ap (λ (cs : List (List ℕ)). is_doubled cs (get_or all (length (contents done)) [])) (take-append_seam (contents done) (b.content ∷ contents rest))
+    ∙ ap (is_doubled (contents done)) (get_or-append_seam (contents done) b.content (contents rest) [])
 
 empty_here : (blocks done : List LogBlock) (b : LogBlock) (rest : List LogBlock) → blocks ≡ done ++ b ∷ rest → is_empty_block blocks (length done) ≡ eqb (length b.block.events) 0
 empty_here blocks done b rest parts =
@@ -78,7 +78,7 @@ among_more before done b same q =
 
 doubles_counted : (before : List (List ℕ)) (done rest : List LogBlock) → SameAmong before done → length (first_ones before rest) + so_many Doubles done rest ≡ length rest
 doubles_counted before done [] same = refl
-doubles_counted before done (b ∷ rest) same = by_test (doubles_counted (b.content ∷ before) (done ++ b ∷ []) rest (among_more before done b same)) (is_among_contents before b.content) (sym (same b.content))
+doubles_counted before done (b ∷ rest) same = by_test (doubles_counted (b.content ∷ before) (done ++ b ∷ []) rest (among_more before done b same)) (is_doubled before b.content) (sym (ap (λ (t : Bool). not (eqb (length b.content) 0) && t) (same b.content)))
   where
     others : List LogBlock
     others = first_ones (b.content ∷ before) rest
@@ -98,7 +98,7 @@ IsLeftEmpty done b = IsEmpty b && not (Doubles done b)
 
 empty_counted : (before : List (List ℕ)) (done rest : List LogBlock) → SameAmong before done → count_by IsEmpty (first_ones before rest) ≡ so_many IsLeftEmpty done rest
 empty_counted before done [] same = refl
-empty_counted before done (b ∷ rest) same = by_test (empty_counted (b.content ∷ before) (done ++ b ∷ []) rest (among_more before done b same)) (is_among_contents before b.content) (sym (same b.content))
+empty_counted before done (b ∷ rest) same = by_test (empty_counted (b.content ∷ before) (done ++ b ∷ []) rest (among_more before done b same)) (is_doubled before b.content) (sym (ap (λ (t : Bool). not (eqb (length b.content) 0) && t) (same b.content)))
   where
     others : List LogBlock
     others = first_ones (b.content ∷ before) rest

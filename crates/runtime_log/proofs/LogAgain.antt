@@ -1,12 +1,12 @@
 -- A log by the grammar is read as this log.
-use Rattle.std.proofs.Common.{◌≡◌, ℕ, ◌+◌, ◌%◌, ◌/◌, ◌^◌, ◌<◌, ◌≤◌, Bool, false, cond, eqb, lit<, ltb, List, [], ◌∷◌, ◌++◌, length, drop, take, Option, Some, None, Result, Ok, Err, refl, sym, ap, subst, ◌∙◌, append_assoc, append-nil, arith}
-use Rattle.std.specs.Prelude.{◌≢◌, count_by, not}
+use Rattle.std.proofs.Common.{◌≡◌, ℕ, ◌+◌, ◌%◌, ◌/◌, ◌^◌, ◌<◌, ◌≤◌, Bool, true, false, inl, inr, cond, eqb, lit<, ltb, List, [], ◌∷◌, ◌++◌, length, drop, take, Some, None, Result, Ok, Err, refl, sym, ap, subst, ◌∙◌, append_assoc, append-nil, arith}
+use Rattle.std.specs.Prelude.{◌≢◌, ◌⊎◌, ◌&&◌, count_by, not}
 use Rattle.std.specs.List.{AllByRecursion}
 use Rattle.std.proofs.lemmas.Bool.{le-ltb, ne_eqb}
 use Rattle.std.proofs.lemmas.List.{drop_at, length-append, take_at}
 use Rattle.byteorder.specs.Endian.{little_bytes}
 use Rattle.byteorder.specs.Numbers.{little_number-reads_back}
-use Rattle.xray_io.specs.Rows.{First, InTurn, NeedsPart, ◌>>=◌}
+use Rattle.xray_io.specs.Rows.{First, InTurn, ◌>>=◌}
 use Rattle.xray_io.specs.declared.wall.Wall.{Wall}
 use Rattle.fdr_record.specs.declared.rec.Rec.{Rec}
 use Rattle.fdr_record.specs.declared.rec.Rec.TheVariants.{NewBuffer, TscWrap, WallTime, Pid, Extents}
@@ -28,14 +28,13 @@ use Rattle.fdr_file.specs.Scanning.{block_span, inside_next, stage_after}
 use Rattle.fdr_file.specs.Traces.{block_length, block_of, first_or, preamble_bytes, type_in, version_in}
 use Rattle.fdr_file.proofs.DecodedRecords.{told_again}
 use Rattle.fdr_file.specs.ThreadEvents.{ThreadEvent}
-use Rattle.runtime_log.specs.declared.blocks.Mode.{Mode}
-use Rattle.runtime_log.specs.declared.blocks.Mode.TheVariants.{Recorder, Basic}
+use Rattle.runtime_log.specs.declared.blocks.Mode.TheVariants.{Recorder}
 use Rattle.runtime_log.specs.declared.fault.LogFault.{LogFault}
 use Rattle.runtime_log.specs.declared.version.LogVersion.{LogVersion}
 use Rattle.runtime_log.specs.declared.version.LogVersion.TheVariants.{Two, Three, Four, Five}
-use Rattle.runtime_log.specs.Grammar.{AreLogBlocks, AreLogRecords, IsLogBlock, IsLogHeader, LogRecord, OfProgram, OfTrace, is_custom_event, is_typed_event, stand_for, stands_for, version_number}
+use Rattle.runtime_log.specs.Grammar.{AreLogBlocks, AreLogRecords, IsBare, IsFilled, IsLogBlock, IsLogHeader, LogRecord, OfProgram, OfTrace, is_custom_event, is_typed_event, stand_for, stands_for, version_number}
 use Rattle.runtime_log.specs.LogLaws.{LogIsLogged}
-use Rattle.runtime_log.specs.Logs.{BlockSoFar, Log, LogBlock, as_log, block_content, block_opened, block_size_rows, content_rows, log_block_in, log_block_rows, log_places, logged, recorder_blocks, recorder_header, said_rows, sized_rows}
+use Rattle.runtime_log.specs.Logs.{BlockSoFar, Log, LogBlock, as_log, block_content, block_opened, block_size_rows, content_rows, log_block_in, log_block_rows, log_of_blocks, log_places, logged, recorder_blocks, recorder_header, said_rows, sized_rows, too_few}
 use Rattle.runtime_log.specs.OwnEvents.{log_record_in}
 use Rattle.runtime_log.specs.Versions.{log_version_of, trace_version}
 use Rattle.runtime_log.specs.private.Headers.{mode_of}
@@ -44,9 +43,9 @@ use Rattle.runtime_log.proofs.BlockReading.{block_is}
 use Rattle.runtime_log.proofs.EventsAgain.{events_again, events_are}
 use Rattle.runtime_log.proofs.LogRecords.{record_by}
 use Rattle.runtime_log.proofs.LogShapes.{no_custom, no_pid, no_typed}
-use Rattle.runtime_log.proofs.RecordWalk.{starts_none}
+use Rattle.runtime_log.proofs.RecordWalk.{rows_none, starts_none}
 use Rattle.runtime_log.proofs.RecordsAgain.{never_own, run_step, so_lr}
-use Rattle.runtime_log.proofs.WholeLogs.{recorder_read}
+use Rattle.runtime_log.proofs.WholeLogs.{recorder_headed, recorder_read}
 
 -- ---- the records of a block
 
@@ -218,14 +217,14 @@ two_again version v at content block (a ∷ c ∷ rest) others k =
     let same : stand_for (WallTime w ∷ NewBuffer t ∷ []) rest ≡ others = cc in
     subst (ReadsAgain version at 32 content block) all_is (two_known version v at t w content block rest others same known)
 
-reads_again : (version : LogVersion) (at : ℕ) (front : List ℕ) (b : LogBlock) (is : IsLogBlock version front b) → ReadsAgain version at (preamble_bytes (trace_version version)) b.content b.block is.records
-reads_again Two at front b is =
+reads_again : (version : LogVersion) (at : ℕ) (b : LogBlock) (is : IsFilled version b) → ReadsAgain version at (preamble_bytes (trace_version version)) b.content b.block is.records
+reads_again Two at b is =
     two_again Two refl at b.content b.block is.records is.others (record { spelled = is.spelled; are = is.are; inner = is.inner; based = is.based; args = is.args; told = is.told })
-reads_again Three at front b is =
+reads_again Three at b is =
     three_again Three refl at b.content b.block is.records is.others (record { spelled = is.spelled; are = is.are; inner = is.inner; based = is.based; args = is.args; told = is.told })
-reads_again Four at front b is =
+reads_again Four at b is =
     three_again Four refl at b.content b.block is.records is.others (record { spelled = is.spelled; are = is.are; inner = is.inner; based = is.based; args = is.args; told = is.told })
-reads_again Five at front b is =
+reads_again Five at b is =
     three_again Five refl at b.content b.block is.records is.others (record { spelled = is.spelled; are = is.are; inner = is.inner; based = is.based; args = is.args; told = is.told })
 
 -- ---- blocks
@@ -237,6 +236,49 @@ block_same b at content x y place is custom typed =
     ∙ ap (λ (xs : List ℕ). let z : Result LogBlock TraceFault = Ok (record { place = b.place; content = xs; block = b.block; custom = x; typed = y }) in z) is
     ∙ ap (λ (n : ℕ). let z : Result LogBlock TraceFault = Ok (record { place = b.place; content = b.content; block = b.block; custom = n; typed = y }) in z) (sym custom)
     ∙ ap (λ (n : ℕ). let z : Result LogBlock TraceFault = Ok (record { place = b.place; content = b.content; block = b.block; custom = b.custom; typed = n }) in z) (sym typed)
+
+-- a block with records has bytes
+pub filled_long : (version : LogVersion) (b : LogBlock) → IsFilled version b → 0 < length b.content
+filled_long version b is = by_version version (reads_again version 0 b is).enough
+  where
+    by_version : (v : LogVersion) → preamble_bytes (trace_version v) ≤ length b.content → 0 < length b.content
+    by_version Two enough = omega (arith, enough)
+    by_version Three enough = omega (arith, enough)
+    by_version Four enough = omega (arith, enough)
+    by_version Five enough = omega (arith, enough)
+
+-- the content of a block is read again, and its size is accepted
+record ContentAgain (version : LogVersion) (at : ℕ) (b : LogBlock) : Type 0 where
+  enough : too_few version (length b.content) ≡ false
+  so : BlockSoFar
+  reads : InTurn (said_rows version) (block_opened at (length b.content)) (log_places version (at + 16) b.content) ≡ Ok so
+  block : b.block ≡ so.block
+  custom : b.custom ≡ so.custom
+  typed : b.typed ≡ so.typed
+
+and_false : (a b : Bool) → b ≡ false → (a && b) ≡ false
+and_false true b e = e
+and_false false b e = refl
+
+content_again : (version : LogVersion) (at : ℕ) (b : LogBlock) → IsFilled version b ⊎ IsBare b → ContentAgain version at b
+content_again version at b (inl is) =
+    let r = reads_again version at b is in record {
+      enough = and_false (not (eqb (length b.content) 0)) (ltb (length b.content) (preamble_bytes (trace_version version))) (le-ltb (length b.content) (preamble_bytes (trace_version version)) r.enough);
+      so = so_said b.block is.records;
+      reads = r.reads;
+      block = refl;
+      custom = is.custom;
+      typed = is.typed;
+    }
+content_again version at b (inr bare) =
+    let none : length b.content ≡ 0 = ap length bare.bytes in record {
+      enough = ap (λ (k : ℕ). not (eqb k 0) && ltb k (preamble_bytes (trace_version version))) none;
+      so = block_opened at (length b.content);
+      reads = rows_none version (block_opened at (length b.content)) (at + 16) b.content none;
+      block = bare.block;
+      custom = bare.custom;
+      typed = bare.typed;
+    }
 
 pub record BlockAgain (version : LogVersion) (at : ℕ) (front : List ℕ) (b : LogBlock) (bytes : List ℕ) : Type 0 where
   pub reads : log_block_in version (at, bytes) ≡ Ok b
@@ -252,17 +294,19 @@ block_again version at front following b place is =
     let begins : BeginsWith (Extents n) bytes = subst (λ (x : List ℕ). Spells x (Extents n)) (sym (take_at is.extents (b.content ++ following) 16 is.named.whole)) is.named in
     let found = told_again (Extents n) bytes is.few begins in
     let own = never_own version bytes (Extents n) found in
-    let r = reads_again version at front b is in
-    let least = preamble_bytes (trace_version version) in
+    let c = content_again version at b is.says in
     let sized : block_size_rows version (at, bytes) ≡ Ok n =
     ap (λ (t : Bool). First t (Err (traces.Short at)) (sized_rows version (at, bytes) (log_record_in version Due bytes))) (le-ltb (length bytes) 16 (omega (arith, long)))
     ∙ ap (sized_rows version (at, bytes)) (ap (record_by version Due bytes) own ∙ found)
-    ∙ ap (λ (t : Bool). First t (Err (traces.Extents at)) (First (ltb (length bytes) (16 + n)) (Err (traces.Short at)) (Ok n))) (le-ltb n least r.enough)
+    ∙ ap (λ (t : Bool). First t (Err (traces.Extents at)) (First (ltb (length bytes) (16 + n)) (Err (traces.Short at)) (Ok n))) c.enough
     ∙ ap (λ (t : Bool). let x : Result ℕ TraceFault = First t (Err (traces.Short at)) (Ok n) in x) (le-ltb (length bytes) (16 + n) (omega (arith, long))) in
     let content : block_content n bytes ≡ b.content = ap (take n) (drop_at is.extents (b.content ++ following) 16 is.named.whole) ∙ take_at b.content following n refl in
-    let rows : content_rows version at n bytes ≡ Ok (so_said b.block is.records) = ap (λ (xs : List ℕ). InTurn (said_rows version) (block_opened at n) (log_places version (at + 16) xs)) content ∙ r.reads in
+    let rows : content_rows version at n bytes ≡ Ok c.so = ap (λ (xs : List ℕ). InTurn (said_rows version) (block_opened at n) (log_places version (at + 16) xs)) content ∙ c.reads in
     subst (BlockAgain version at front b) (sym parts) (record {
-      reads = block_is version at n bytes (so_said b.block is.records) sized rows ∙ block_same b at (block_content n bytes) (count_by is_custom_event is.records) (count_by is_typed_event is.records) place content is.custom is.typed;
+      reads =
+          block_is version at n bytes c.so sized rows
+          ∙ ap (λ (x : Block). let z : Result LogBlock TraceFault = Ok (record { place = at; content = block_content n bytes; block = x; custom = c.so.custom; typed = c.so.typed }) in z) (sym c.block)
+          ∙ block_same b at (block_content n bytes) c.so.custom c.so.typed place content c.custom c.typed;
       long = block_sized version at bytes n sized ∙ omega (arith, ap length is.parts, length-append is.extents b.content, is.named.whole);
       some = omega (arith, long);
     })
@@ -332,16 +376,7 @@ header_again version bytes following header is =
 -- ---- a log
 
 mode_again : (bytes : List ℕ) (version : LogVersion) → 32 ≤ length bytes → version_in bytes ≡ version_number version → type_in bytes ≡ 1 → mode_of bytes ≡ Ok (Recorder version)
-mode_again bytes version long number form =
-    ap (λ (b : Bool). First b (Err (traces.Short 0)) (by_version (log_version_of (version_in bytes)))) (le-ltb (length bytes) 32 long)
-    ∙ ap by_version (ap log_version_of number ∙ version_again version)
-    ∙ ap (λ (k : ℕ). First (eqb k 1) (Ok (Recorder version)) others) form
-  where
-    others : Result Mode TraceFault
-    others = First (not (eqb (type_in bytes) 0)) (Err (traces.Form (type_in bytes))) (First (not (eqb (version_in bytes) 3)) (Err (traces.Version (version_in bytes))) (Ok Basic))
-
-    by_version : Option LogVersion → Result Mode TraceFault
-    by_version o = NeedsPart o (Err (traces.Version (version_in bytes))) λ v. First (eqb (type_in bytes) 1) (Ok (Recorder v)) others
+mode_again bytes version long number form = recorder_headed bytes version long (ap log_version_of number ∙ version_again version) form
 
 pub log_is_logged : LogIsLogged
 log_is_logged bytes log is =
@@ -351,5 +386,6 @@ log_is_logged bytes log is =
     ap (λ (xs : List ℕ). InTurn (log_block_rows is.version) [] (starts block_length 0 32 xs)) h.rest ∙ blocks_again is.version 32 log.blocks is.following [] is.blocks in
     ap logged is.parts
     ∙ recorder_read all is.version log.blocks (mode_again all is.version h.long h.number h.form) (ap as_log blocks)
-    ∙ ap (λ (x : Header). let y : Result Log LogFault = Ok (record { header = x; blocks = log.blocks; events = [] }) in y) h.same
-    ∙ ap (λ (es : List ThreadEvent). let y : Result Log LogFault = Ok (record { header = log.header; blocks = log.blocks; events = es }) in y) (sym is.alone)
+    ∙ ap (λ (x : Header). let y : Result Log LogFault = Ok (log_of_blocks x log.blocks) in y) h.same
+    ∙ ap (λ (es : List ThreadEvent). let y : Result Log LogFault = Ok (record { header = log.header; blocks = log.blocks; events = es; lost = 0 }) in y) (sym is.alone)
+    ∙ ap (λ (n : ℕ). let y : Result Log LogFault = Ok (record { header = log.header; blocks = log.blocks; events = log.events; lost = n }) in y) (sym is.none)

@@ -1,6 +1,6 @@
 -- What is read as a log of the Flight Data Recorder mode is one by the grammar.
 use Rattle.std.proofs.Common.{◌≡◌, ℕ, zero, suc, ◌+◌, ◌<◌, ◌≤◌, Bool, true, false, cond, eqb, ltb, List, [], ◌∷◌, ◌++◌, length, drop, take, Option, Some, None, Result, Ok, Err, inl, inr, refl, sym, ap, subst, ◌∙◌, append_assoc, append-nil, arith}
-use Rattle.std.specs.Prelude.{◌⊎◌, not}
+use Rattle.std.specs.Prelude.{◌⊎◌, ◌&&◌, not}
 use Rattle.std.proofs.lemmas.Bool.{cases_lt, eqb-true, ltb-false}
 use Rattle.std.proofs.lemmas.List.{drop-drop, length-drop, length-take, take-append-drop}
 use Rattle.std.proofs.lemmas.List.Elements.{All-drop, All-take}
@@ -23,9 +23,9 @@ use Rattle.runtime_log.specs.declared.blocks.Mode.TheVariants.{Recorder, Basic}
 use Rattle.runtime_log.specs.declared.own_event.OwnKind.{OwnKind}
 use Rattle.runtime_log.specs.declared.version.LogVersion.{LogVersion}
 use Rattle.runtime_log.specs.declared.version.LogVersion.TheVariants.{Two, Three, Four, Five}
-use Rattle.runtime_log.specs.Grammar.{AreLogBlocks, IsLogBlock, IsLogHeader, version_number}
+use Rattle.runtime_log.specs.Grammar.{AreLogBlocks, IsBare, IsFilled, IsLogBlock, IsLogHeader, version_number}
 use Rattle.runtime_log.specs.LogLaws.{LoggedIsLog}
-use Rattle.runtime_log.specs.Logs.{LogBlock, as_log, block_content, block_size_rows, log_block_in, log_block_rows, recorder_blocks, recorder_header, sized_rows}
+use Rattle.runtime_log.specs.Logs.{BlockSoFar, LogBlock, as_log, block_content, block_opened, block_said, block_size_rows, log_block_in, log_block_rows, log_places, recorder_blocks, recorder_header, said_rows, sized_rows, too_few}
 use Rattle.runtime_log.specs.OwnEvents.{log_record_in, own_kind}
 use Rattle.runtime_log.specs.Versions.{log_version_of, trace_version}
 use Rattle.runtime_log.specs.private.Headers.{header_for, mode_of}
@@ -34,34 +34,41 @@ use Rattle.runtime_log.proofs.LogEvents.{no_bytes}
 use Rattle.runtime_log.proofs.LogRecords.{Decodes}
 use Rattle.runtime_log.proofs.LogShapes.{block_read}
 use Rattle.runtime_log.proofs.RecordFits.{AreBytes}
-use Rattle.runtime_log.proofs.RecordWalk.{starts_none}
-use Rattle.runtime_log.proofs.WholeLogs.{HasParts, block_parts, log_parts}
+use Rattle.runtime_log.proofs.RecordWalk.{rows_none, starts_none}
+use Rattle.runtime_log.proofs.WholeLogs.{HasParts, ModeIs, block_parts, log_parts, mode_is}
 
 -- ---- extents
 
 record Sized (version : LogVersion) (bytes : List ℕ) (size : ℕ) : Type 0 where
   found : record_in bytes ≡ Ok (Extents size)
-  least : preamble_bytes (trace_version version) ≤ size
+  least : (size ≡ 0) ⊎ (preamble_bytes (trace_version version) ≤ size)
   whole : 16 + size ≤ length bytes
+
+enough : (version : LogVersion) (n : ℕ) → too_few version n ≡ false → (n ≡ 0) ⊎ (preamble_bytes (trace_version version) ≤ n)
+enough version n is = by_none (eqb n 0) refl is
+  where
+    by_none : (b : Bool) → eqb n 0 ≡ b → (not b && ltb n (preamble_bytes (trace_version version))) ≡ false → (n ≡ 0) ⊎ (preamble_bytes (trace_version version) ≤ n)
+    by_none true e few = inl (eqb-true n 0 e)
+    by_none false e few = inr (ltb-false n (preamble_bytes (trace_version version)) few)
 
 sized_so : (version : LogVersion) (at : ℕ) (bytes : List ℕ) (size : ℕ) → block_size_rows version (at, bytes) ≡ Ok size → Sized version bytes size
 sized_so version at bytes size is = by_short (ltb (length bytes) 16) is
   where
-    by_tests : (n : ℕ) (small cut : Bool) → ltb n (preamble_bytes (trace_version version)) ≡ small → ltb (length bytes) (16 + n) ≡ cut → record_in bytes ≡ Ok (Extents n)
+    by_tests : (n : ℕ) (small cut : Bool) → too_few version n ≡ small → ltb (length bytes) (16 + n) ≡ cut → record_in bytes ≡ Ok (Extents n)
         → First small (Err (traces.Extents at)) (First cut (Err (traces.Short at)) (Ok n)) ≡ Ok size → Sized version bytes size
     by_tests n true cut s c found e = absurd cc
     by_tests n false true s c found e = absurd cc
     by_tests n false false s c found e =
         let same : n ≡ size = cc in
         subst (Sized version bytes) same
-        (record { found = found; least = ltb-false n (preamble_bytes (trace_version version)) s; whole = ltb-false (length bytes) (16 + n) c })
+        (record { found = found; least = enough version n s; whole = ltb-false (length bytes) (16 + n) c })
 
     by_named : (r : Rec) (named : Option ℕ) → size_named r ≡ named → record_in bytes ≡ Ok r
-        → (NeedsPart named (Err (traces.Order at)) λ n. First (ltb n (preamble_bytes (trace_version version))) (Err (traces.Extents at)) (First (ltb (length bytes) (16 + n)) (Err (traces.Short at)) (Ok n))) ≡ Ok size
+        → (NeedsPart named (Err (traces.Order at)) λ n. First (too_few version n) (Err (traces.Extents at)) (First (ltb (length bytes) (16 + n)) (Err (traces.Short at)) (Ok n))) ≡ Ok size
         → Sized version bytes size
     by_named r None named found e = absurd cc
     by_named r (Some n) named found e =
-        by_tests n (ltb n (preamble_bytes (trace_version version))) (ltb (length bytes) (16 + n)) refl refl (found ∙ ap (λ (x : Rec). let y : Result Rec RecFault = Ok x in y) (size_is r n named)) e
+        by_tests n (too_few version n) (ltb (length bytes) (16 + n)) refl refl (found ∙ ap (λ (x : Rec). let y : Result Rec RecFault = Ok x in y) (size_is r n named)) e
 
     by_record : (x : Result Rec RecFault) → record_in bytes ≡ x → sized_rows version (at, bytes) x ≡ Ok size → Sized version bytes size
     by_record (Ok r) found e = by_named r (size_named r) refl found e
@@ -83,15 +90,33 @@ record BlockDescribed (version : LogVersion) (at : ℕ) (bytes : List ℕ) (b : 
   long : block_length bytes ≡ 16 + length b.content
   whole : 16 + length b.content ≤ length bytes
 
+-- what the content of a block says: its records, or nothing
+content_says : Decodes → (version : LogVersion) (at size : ℕ) (content : List ℕ) (so : BlockSoFar) → AreBytes content → length content ≡ size
+    → (size ≡ 0) ⊎ (preamble_bytes (trace_version version) ≤ size) → InTurn (said_rows version) (block_opened at size) (log_places version (at + 16) content) ≡ Ok so
+    → IsFilled version (block_said at content so) ⊎ IsBare (block_said at content so)
+content_says decodes version at size content so all long (inr least) reads =
+    let r = block_read decodes version at size content so all long least reads in
+    inl (record { records = r.records; spelled = r.spelled; others = r.others; are = r.are; inner = r.inner; based = r.based; args = r.args; told = r.told; custom = r.custom; typed = r.typed })
+content_says decodes version at size content so all long (inl none) reads =
+    let zero_long : length content ≡ 0 = long ∙ none in
+    let both : Ok (block_opened at size) ≡ Ok so = sym (rows_none version (block_opened at size) (at + 16) content zero_long) ∙ reads in
+    let same : block_opened at size ≡ so = cc in
+    inr (record {
+      bytes = no_bytes content zero_long;
+      block = ap (λ (s : BlockSoFar). s.block) (sym same);
+      custom = ap (λ (s : BlockSoFar). s.custom) (sym same);
+      typed = ap (λ (s : BlockSoFar). s.typed) (sym same);
+    })
+
 block_described : Decodes → (version : LogVersion) (at : ℕ) (bytes : List ℕ) (b : LogBlock) → AreBytes bytes → log_block_in version (at, bytes) ≡ Ok b → BlockDescribed version at bytes b
 block_described decodes version at bytes b all is =
     let p = block_parts version at bytes b is in
     let z = sized_so version at bytes p.size p.sized in
     let content : List ℕ = block_content p.size bytes in
     let long : length content ≡ p.size = omega (arith, length-take p.size (drop 16 bytes), length-drop 16 bytes, z.whole) in
-    let r = block_read decodes version at p.size content p.so (All-take (λ b. b < 256) p.size (drop 16 bytes) (All-drop (λ b. b < 256) 16 bytes all)) long z.least p.reads in
     let extents = subst (Answers bytes) z.found (decodes bytes all) in
     let same : p.size ≡ length content = sym long in
+    let whole = All-take (λ b. b < 256) p.size (drop 16 bytes) (All-drop (λ b. b < 256) 16 bytes all) in
     subst (BlockDescribed version at bytes) (sym p.is) (record {
       place = refl;
       is = record {
@@ -99,16 +124,7 @@ block_described decodes version at bytes b all is =
         parts = ap (λ (k : ℕ). take (16 + k) bytes) long ∙ take-add 16 p.size bytes;
         named = subst (λ (k : ℕ). Spells (take 16 bytes) (Extents k)) same extents.1;
         few = omega (arith, extents.0, long);
-        records = r.records;
-        spelled = r.spelled;
-        others = r.others;
-        are = r.are;
-        inner = r.inner;
-        based = r.based;
-        args = r.args;
-        told = r.told;
-        custom = r.custom;
-        typed = r.typed;
+        says = content_says decodes version at p.size content p.so whole long z.least p.reads;
       };
       long = block_sized version at bytes p.size p.sized ∙ ap (λ (k : ℕ). 16 + k) same;
       whole = omega (arith, z.whole, long);
@@ -205,26 +221,11 @@ pub record HeaderRead (bytes : List ℕ) (version : LogVersion) : Type 0 where
   pub number : version_in bytes ≡ version_number version
 
 pub header_read : (bytes : List ℕ) (mode : Mode) → type_in bytes ≡ 1 → mode_of bytes ≡ Ok mode → (version : LogVersion) × (mode ≡ Recorder version) × HeaderRead bytes version
-header_read bytes mode form is = by_long (ltb (length bytes) 32) refl is
+header_read bytes mode form is = by_mode mode (mode_is bytes mode is)
   where
-    Goal : Type 0
-    Goal = (version : LogVersion) × (mode ≡ Recorder version) × HeaderRead bytes version
-
-    others : Result Mode TraceFault
-    others = First (not (eqb (type_in bytes) 0)) (Err (traces.Form (type_in bytes))) (First (not (eqb (version_in bytes) 3)) (Err (traces.Version (version_in bytes))) (Ok Basic))
-
-    by_version : 32 ≤ length bytes → (o : Option LogVersion) → log_version_of (version_in bytes) ≡ o
-        → (NeedsPart o (Err (traces.Version (version_in bytes))) λ version. First (eqb (type_in bytes) 1) (Ok (Recorder version)) others) ≡ Ok mode → Goal
-    by_version long None e h = absurd cc
-    by_version long (Some version) e h =
-        let typed : Ok (Recorder version) ≡ Ok mode = sym (ap (λ (k : ℕ). First (eqb k 1) (Ok (Recorder version)) others) form) ∙ h in
-        let same : mode ≡ Recorder version = cc in
-        (version, same, record { long = long; number = version_is (version_in bytes) version e })
-
-    by_long : (b : Bool) → ltb (length bytes) 32 ≡ b
-        → First b (Err (traces.Short 0)) (NeedsPart (log_version_of (version_in bytes)) (Err (traces.Version (version_in bytes))) λ version. First (eqb (type_in bytes) 1) (Ok (Recorder version)) others) ≡ Ok mode → Goal
-    by_long true e h = absurd cc
-    by_long false e h = by_version (ltb-false (length bytes) 32 e) (log_version_of (version_in bytes)) refl h
+    by_mode : (m : Mode) → ModeIs bytes m → (version : LogVersion) × (m ≡ Recorder version) × HeaderRead bytes version
+    by_mode (Recorder version) m = (version, refl, record { long = m.0; number = version_is (version_in bytes) version m.1 })
+    by_mode (Basic version) m = absurd (omega (arith, form, m.2))
 
 cut : (n m k : ℕ) (bytes : List ℕ) → take (n + m) (drop k bytes) ≡ take n (drop k bytes) ++ take m (drop (k + n) bytes)
 cut n m k bytes = take-add n m (drop k bytes) ∙ ap (λ (x : List ℕ). take n (drop k bytes) ++ take m x) (drop-drop n k bytes)
@@ -279,4 +280,5 @@ logged_is_log decodes bytes log all form is =
       header = subst (IsLogHeader version (take 32 bytes)) (sym header) (header_described version bytes all form h.2);
       blocks = subst (λ (bs : List LogBlock). AreLogBlocks version 32 bs (drop 32 bytes)) (sym b.are) b.is;
       alone = has.1;
+      none = has.2;
     }

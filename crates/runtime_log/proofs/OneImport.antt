@@ -14,7 +14,7 @@ use Rattle.runtime_log.specs.Facts.{facts_of}
 use Rattle.runtime_log.specs.Imports.{AreTakenOf, trace_file, trace_taken}
 use Rattle.runtime_log.specs.Laws.{OneImport, SomeImport}
 use Rattle.runtime_log.specs.Logs.{Log, LogBlock, logged}
-use Rattle.runtime_log.specs.Taken.{AreTaken, chosen, first_ones, has_events, is_among_contents, order_key, undoubled}
+use Rattle.runtime_log.specs.Taken.{AreTaken, chosen, first_ones, has_events, is_doubled, order_key, undoubled}
 use Rattle.runtime_log.specs.private.Choices.{AreInFileOrder}
 use Rattle.runtime_log.specs.private.Passings.{runs_of}
 use Rattle.runtime_log.proofs.ByThread.{only_by_thread}
@@ -54,7 +54,7 @@ one_at_place from to (x ∷ blocks) b other order (inr p) (inr q) same = one_at_
 -- what holds of all blocks holds of those whose bytes come for the first time
 pub first_ones_hold : (P : LogBlock → Type 0) (before : List (List ℕ)) (blocks : List LogBlock) → All P blocks → All P (first_ones before blocks)
 first_ones_hold P before [] all = All-nil P
-first_ones_hold P before (b ∷ blocks) all = by_test (first_ones_hold P (b.content ∷ before) blocks (All-tail P b blocks all)) (is_among_contents before b.content)
+first_ones_hold P before (b ∷ blocks) all = by_test (first_ones_hold P (b.content ∷ before) blocks (All-tail P b blocks all)) (is_doubled before b.content)
   where
     others : List LogBlock
     others = first_ones (b.content ∷ before) blocks
@@ -108,8 +108,8 @@ import_is_one bytes file other facts others one another =
           ∙ ap (λ (bs : List Block). trace_file (trace_taken one.log.header bs)) (sym taken)
           ∙ sym one.file_is,
       another.facts_are
-          ∙ ap (λ (l : Log). facts_of l.blocks another.taken) (sym log)
-          ∙ ap (λ (bs : List Block). facts_of one.log.blocks bs) (sym taken)
+          ∙ ap (λ (l : Log). facts_of l another.taken) (sym log)
+          ∙ ap (λ (bs : List Block). facts_of one.log bs) (sym taken)
           ∙ sym one.facts_are,
     )
   where
@@ -122,7 +122,7 @@ import_is_some bytes log says =
     let threads = runs_of (in_threads log.events) in
     let taken : List Block = map (λ (b : LogBlock). b.block) pool ++ threads in (
       trace_file (trace_taken log.header taken),
-      facts_of log.blocks taken,
+      facts_of log taken,
       record {
         log = log;
         says = says;

@@ -1,16 +1,15 @@
 -- The file of an import reads as the trace that was taken: its header and its blocks fit what is written.
 use Rattle.std.proofs.Common.{◌≡◌, ℕ, ◌+◌, ◌^◌, ◌<◌, ◌≤◌, Bool, true, false, cond, eqb, List, [], ◌∷◌, ◌++◌, length, drop, map, take, Result, Ok, Err, refl, sym, ap, subst, ◌∙◌, arith}
-use Rattle.std.specs.Prelude.{◌≢◌, All, IsTrue, not}
+use Rattle.std.specs.Prelude.{◌≢◌, All, IsTrue}
 use Rattle.std.specs.List.{flat_map}
 use Rattle.std.proofs.lemmas.List.Elements.{All-append, All-cons, All-drop, All-filter, All-head, All-map, All-nil, All-push, All-tail, All-take}
-use Rattle.xray_io.specs.Rows.{First, InTurn, ◌>>=◌}
+use Rattle.xray_io.specs.Rows.{InTurn, ◌>>=◌}
 use Rattle.xray_io.specs.declared.wall.Wall.{Wall}
 use Rattle.fdr_record.specs.declared.event.Event.{Event}
 use Rattle.fdr_buffer.specs.declared.buffer.TheConstants.{LARGEST_SIZE, LEAST_SIZE}
 use Rattle.fdr_buffer.specs.Filled.{Filled}
 use Rattle.fdr_buffer.specs.Segments.{EventFits, body, has_room, segments}
 use Rattle.fdr_file.specs.declared.fault.TraceFault.{TraceFault}
-use Rattle.fdr_file.specs.declared.fault.TraceFault.TheVariants as traces
 use Rattle.fdr_file.specs.declared.header.Header.{Header}
 use Rattle.fdr_file.specs.declared.stage.Stage.{Stage}
 use Rattle.fdr_file.specs.declared.stage.Told.{Told}
@@ -24,9 +23,9 @@ use Rattle.runtime_log.specs.declared.basic.BasicRec.{BasicRec}
 use Rattle.runtime_log.specs.declared.blocks.Mode.{Mode}
 use Rattle.runtime_log.specs.declared.blocks.Mode.TheVariants.{Recorder, Basic}
 use Rattle.runtime_log.specs.declared.fault.LogFault.{LogFault}
-use Rattle.runtime_log.specs.declared.fault.LogFault.TheVariants as faults
+use Rattle.runtime_log.specs.declared.version.BasicVersion.{BasicVersion}
 use Rattle.runtime_log.specs.declared.version.LogVersion.{LogVersion}
-use Rattle.runtime_log.specs.BasicLogs.{basic_places, basic_records, basic_rows, last_record, may_follow, recorded_events, tagged_rows}
+use Rattle.runtime_log.specs.BasicLogs.{basic_places, basic_records, basic_rows, recorded_events, tagged_rows}
 use Rattle.runtime_log.specs.Imports.{buffer_for, pieces_of}
 use Rattle.runtime_log.specs.Laws.{ImportsRead}
 use Rattle.runtime_log.specs.Logs.{BlockSoFar, Log, LogBlock, as_log, block_content, block_opened, block_with, log_block_in, log_block_rows, log_places, log_record_rows, recorder_blocks, said_rows}
@@ -119,26 +118,21 @@ records_push : (records : List BasicRec) (r : BasicRec) → RecordsFit records �
 records_push [] r fits fit = (fit, tt)
 records_push (first ∷ records) r fits fit = (fits.0, records_push records r fits.1 fit)
 
-all_records_fit : (before : List BasicRec) (places : List (ℕ × List ℕ)) (all : List BasicRec) → InTurn basic_rows before places ≡ Ok all → PlacesFit places → RecordsFit before → RecordsFit all
-all_records_fit before [] all is fit fits =
+all_records_fit : (version : BasicVersion) (before : List BasicRec) (places : List (ℕ × List ℕ)) (all : List BasicRec) → InTurn (basic_rows version) before places ≡ Ok all → PlacesFit places → RecordsFit before → RecordsFit all
+all_records_fit version before [] all is fit fits =
     let same : before ≡ all = cc in
     subst RecordsFit same fits
-all_records_fit before ((at, bytes) ∷ later) all is fit fits =
-    by_record (λ next h f. all_records_fit next later all h fit.1 f) (tagged_rows at (take 32 bytes)) (read_fits at (take 32 bytes) (All-take (λ b. b < 256) 32 bytes fit.0)) is
+all_records_fit version before ((at, bytes) ∷ later) all is fit fits =
+    by_record (λ next h f. all_records_fit version next later all h fit.1 f) (tagged_rows version at (take 32 bytes)) (read_fits version at (take 32 bytes) (All-take (λ b. b < 256) 32 bytes fit.0)) is
   where
-    by_follow : ((next : List BasicRec) → InTurn basic_rows next later ≡ Ok all → RecordsFit next → RecordsFit all) → (r : BasicRec) → RecordFits r → (b : Bool)
-        → (First b (Err (faults.Trace (traces.Order at))) (Ok (before ++ r ∷ [])) >>= λ next. InTurn basic_rows next later) ≡ Ok all → RecordsFit all
-    by_follow again r f true h = absurd cc
-    by_follow again r f false h = again (before ++ r ∷ []) h (records_push before r fits f)
-
-    by_record : ((next : List BasicRec) → InTurn basic_rows next later ≡ Ok all → RecordsFit next → RecordsFit all) → (x : Result BasicRec LogFault) → ReadFits x
-        → ((x >>= λ r. First (not (may_follow (last_record before) r)) (Err (faults.Trace (traces.Order at))) (Ok (before ++ r ∷ []))) >>= λ next. InTurn basic_rows next later) ≡ Ok all → RecordsFit all
-    by_record again (Ok r) f h = by_follow again r f (not (may_follow (last_record before) r)) h
+    by_record : ((next : List BasicRec) → InTurn (basic_rows version) next later ≡ Ok all → RecordsFit next → RecordsFit all) → (x : Result BasicRec LogFault) → ReadFits x
+        → ((x >>= λ r. Ok (before ++ r ∷ [])) >>= λ next. InTurn (basic_rows version) next later) ≡ Ok all → RecordsFit all
+    by_record again (Ok r) f h = again (before ++ r ∷ []) h (records_push before r fits f)
     by_record again (Err fault) f h = absurd cc
 
-basic_fits : (bytes : List ℕ) (records : List BasicRec) → AreBytes bytes → basic_records bytes ≡ Ok records → All RecordedFits (recorded_events records)
-basic_fits bytes records all is =
-    recorded_fit records (all_records_fit [] (basic_places 32 (drop 32 bytes)) records is (starts_fit _ 0 32 (drop 32 bytes) (All-drop (λ b. b < 256) 32 bytes all)) tt)
+basic_fits : (version : BasicVersion) (bytes : List ℕ) (records : List BasicRec) → AreBytes bytes → basic_records version bytes ≡ Ok records → All RecordedFits (recorded_events records)
+basic_fits version bytes records all is =
+    recorded_fit records (all_records_fit version [] (basic_places 32 (drop 32 bytes)) records is (starts_fit _ 0 32 (drop 32 bytes) (All-drop (λ b. b < 256) 32 bytes all)) tt)
 
 -- what holds of the events that each thread recorded holds of all events
 all_recorded : (P : ThreadEvent → Type 0) (events : List ThreadEvent) → ((thread : ℕ) → All P (recorded_by thread events)) → All P events
@@ -203,8 +197,8 @@ mode_fits (Recorder version) bytes log all has =
         subst (All BlockCan) same
         (recorder_fits version [] (block_starts bytes) blocks e (starts_fit _ 0 32 (drop 32 bytes) (All-drop (λ b. b < 256) 32 bytes all)) (All-nil BlockCan))
     by_blocks (Err fault) e h = absurd cc
-mode_fits Basic bytes log all has =
-    (subst (All BlockCan) (sym has.0) (All-nil BlockCan), subst (All RecordedFits) (sym has.1.2) (basic_fits bytes has.1.0 all has.1.1))
+mode_fits (Basic version) bytes log all has =
+    (subst (All BlockCan) (sym has.0) (All-nil BlockCan), subst (All RecordedFits) (sym has.1.2) (basic_fits version bytes has.1.0 all has.1.1))
 
 pool_fits : (pool : List LogBlock) → All BlockCan pool → All FitsRecords (map (λ (b : LogBlock). b.block) pool)
 pool_fits [] fits = All-nil FitsRecords
@@ -212,7 +206,7 @@ pool_fits (b ∷ pool) fits = All-cons FitsRecords b.block (map (λ (x : LogBloc
 
 header_fits : (mode : Mode) (bytes : List ℕ) → AreBytes bytes → HeaderFits (header_for mode bytes)
 header_fits (Recorder version) bytes all = record { version = refl; frequency = omega (arith, number_below 8 8 bytes all); size = omega (arith, number_below 16 8 bytes all) }
-header_fits Basic bytes all = record { version = refl; frequency = omega (arith, number_below 8 8 bytes all); size = omega arith }
+header_fits (Basic version) bytes all = record { version = refl; frequency = omega (arith, number_below 8 8 bytes all); size = omega arith }
 
 -- ---- the pieces of a block
 

@@ -306,7 +306,7 @@ rises old thread n t next m first low up =
       ends = refl;
       events = omega arith;
       arguments = omega arith;
-      log = record { blocks = refl; custom = refl; typed = refl; doubled = refl; empty = refl };
+      log = record { blocks = refl; custom = refl; typed = refl; doubled = refl; empty = refl; lost = refl; frequency = refl };
     }
   where
     by_last : (o : Option ℕ) → Some (option_map_or (λ k. max k next) o next) ≡ Some (max (option_map_or (λ k. max k t) o t) next)
@@ -377,8 +377,8 @@ adds_stretch head first mid new all left rest after stretch bytes joins says end
           subst (λ (es : List ThreadEvent). HasNoted es new.notes) split (subst (HasNoted ((before ++ map one done) ++ map one more)) noted
           (stretch_noted stretch.count head.thread pid after.cpu after.tsc bytes (before ++ map one done) mid.notes (adds.notes before pid has) ends));
       count = ap (λ (n : Notes). n.facts.blocks) notes ∙ adds.count;
-      log = λ blocks says_log. said_again blocks mid.notes.facts new.notes.facts (subst (λ (n : Notes). SameLog mid.notes.facts n.facts) (sym notes)
-          (record { blocks = refl; custom = refl; typed = refl; doubled = refl; empty = refl })) (adds.log blocks says_log);
+      log = λ log says_log. said_again log mid.notes.facts new.notes.facts (subst (λ (n : Notes). SameLog mid.notes.facts n.facts) (sym notes)
+          (record { blocks = refl; custom = refl; typed = refl; doubled = refl; empty = refl; lost = refl; frequency = refl })) (adds.log log says_log);
     }
 
 pub all_after : (P : Event → Type 0) (more left events : List Event) → events ≡ more ++ left → All P events → All P left

@@ -1,6 +1,6 @@
 -- Blocks by their places, when some are left out, and when they are put in order.
 use Rattle.std.proofs.Common.{◌≡◌, ℕ, zero, suc, ◌+◌, ◌-◌, ◌<◌, Bool, true, false, cond, eqb, List, [], ◌∷◌, ◌++◌, length, drop, map, get_or, Option, Result, Ok, Err, refl, sym, ap, subst, ◌∙◌, append_assoc, arith}
-use Rattle.std.specs.Prelude.{◌||◌, All, IsPermutation, count_by, filter, is_some, nat_lt, not}
+use Rattle.std.specs.Prelude.{◌&&◌, ◌||◌, All, IsPermutation, count_by, filter, is_some, nat_lt, not}
 use Rattle.std.specs.Option.{unwrap_or}
 use Rattle.std.specs.List.Sorted.{IsSortedBy}
 use Rattle.std.specs.Cmp.Lexicographic.{slice_cmp}
@@ -18,7 +18,7 @@ use Rattle.fdr_file.specs.declared.fault.TraceFault.{TraceFault}
 use Rattle.runtime_log.specs.declared.blocks.LogBlock.{LogBlock as Placed}
 use Rattle.runtime_log.specs.declared.version.LogVersion.{LogVersion}
 use Rattle.runtime_log.specs.Logs.{LogBlock, log_block_in}
-use Rattle.runtime_log.specs.Taken.{comes_before, first_counter, first_ones, has_events, is_among_contents, order_key}
+use Rattle.runtime_log.specs.Taken.{comes_before, first_counter, first_ones, has_events, is_among_contents, is_doubled, order_key}
 use Rattle.runtime_log.specs.private.Choices.{AreAt, IsAt, KeepsFirst, LiesWithin, content_at, counter_first, time_key}
 use Rattle.runtime_log.proofs.BlockLists.{at_more}
 
@@ -93,12 +93,13 @@ at_index bytes version (p ∷ places) (s ∷ said) (suc i) d are within =
 
 -- a block whose bytes were there before
 pub keeps_doubled : (bytes : List ℕ) (version : LogVersion) (said : List LogBlock) (i : ℕ) (kept : List Placed) (seen more : List (List ℕ)) (placed : Placed)
-    → KeepsFirst bytes version said i kept seen → Stands bytes version placed said i → is_among_contents seen (content_at bytes placed) ≡ true
+    → KeepsFirst bytes version said i kept seen → Stands bytes version placed said i → is_doubled seen (content_at bytes placed) ≡ true
     → ((q : List ℕ) → is_among_contents more q ≡ (bytes_eq q (content_at bytes placed) || is_among_contents seen q)) → KeepsFirst bytes version said (i + 1) kept more
 keeps_doubled bytes version said i kept seen more placed k there among adds =
     let content = there.b.content in
     let later = drop (i + 1) said in
-    let doubled : is_among_contents k.before content ≡ true = ap (is_among_contents k.before) (sym there.is.content) ∙ sym (k.among (content_at bytes placed)) ∙ among in
+    let doubled : is_doubled k.before content ≡ true =
+    ap (is_doubled k.before) (sym there.is.content) ∙ ap (λ (t : Bool). not (eqb (length (content_at bytes placed)) 0) && t) (sym (k.among (content_at bytes placed))) ∙ among in
     record {
       done = k.done;
       before = content ∷ k.before;
@@ -111,12 +112,13 @@ keeps_doubled bytes version said i kept seen more placed k there among adds =
 
 -- one with bytes of its own
 pub keeps_own : (bytes : List ℕ) (version : LogVersion) (said : List LogBlock) (i : ℕ) (kept : List Placed) (seen more : List (List ℕ)) (placed : Placed)
-    → KeepsFirst bytes version said i kept seen → Stands bytes version placed said i → is_among_contents seen (content_at bytes placed) ≡ false
+    → KeepsFirst bytes version said i kept seen → Stands bytes version placed said i → is_doubled seen (content_at bytes placed) ≡ false
     → ((q : List ℕ) → is_among_contents more q ≡ (bytes_eq q (content_at bytes placed) || is_among_contents seen q)) → KeepsFirst bytes version said (i + 1) (kept ++ placed ∷ []) more
 keeps_own bytes version said i kept seen more placed k there among adds =
     let content = there.b.content in
     let later = drop (i + 1) said in
-    let own : is_among_contents k.before content ≡ false = ap (is_among_contents k.before) (sym there.is.content) ∙ sym (k.among (content_at bytes placed)) ∙ among in
+    let own : is_doubled k.before content ≡ false =
+    ap (is_doubled k.before) (sym there.is.content) ∙ ap (λ (t : Bool). not (eqb (length (content_at bytes placed)) 0) && t) (sym (k.among (content_at bytes placed))) ∙ among in
     record {
       done = k.done ++ there.b ∷ [];
       before = content ∷ k.before;

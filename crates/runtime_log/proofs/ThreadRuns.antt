@@ -9,6 +9,7 @@ use Rattle.fdr_file.specs.declared.trace.Block.{Block}
 use Rattle.fdr_file.specs.ThreadEvents.{ThreadEvent, thread_events}
 use Rattle.runtime_log.specs.declared.basic.Passing.{Passing}
 use Rattle.runtime_log.specs.Threads.{AreByThread, AscendByThread, StandsBehind, recorded_by}
+use Rattle.runtime_log.specs.declared.version.BasicVersion.{BasicVersion}
 use Rattle.runtime_log.specs.private.Passings.{BeginsOther, IsOfRun, IsRunOf, RiseFrom, event_at, event_of_passing, events_of_passings, is_of, joined_to, run_from, runs_of}
 use Rattle.runtime_log.proofs.AddedBlocks.{event_of}
 use Rattle.runtime_log.proofs.ByThread.{eqb_same}
@@ -175,23 +176,23 @@ run_block first events = record { thread = first.thread; wall = record { secs = 
 pub run_some : (first : Passing) (event : Event) (events : List Event) → (let b : Block = run_block first (event ∷ events) in b.events) ≢ []
 run_some first event events none = absurd cc
 
-abbrev events_at : List ℕ → List Passing → List Event
-events_at bytes run = map (λ p. event_at bytes p.at) run
+abbrev events_at : BasicVersion → List ℕ → List Passing → List Event
+events_at version bytes run = map (λ p. event_at version bytes p.at) run
 
-run_is : (bytes : List ℕ) (first p : Passing) (events : List Event) → IsOfRun first p → run_from (event_of_passing bytes p) events ≡ run_block first (event_at bytes p.at ∷ events)
-run_is bytes first p events own =
-    let made : ℕ → ℕ → Block = λ thread pid. record { thread = thread; wall = record { secs = 0; micros = 0 }; pid = pid; events = event_at bytes p.at ∷ events } in
+run_is : (version : BasicVersion) (bytes : List ℕ) (first p : Passing) (events : List Event) → IsOfRun first p → run_from (event_of_passing version bytes p) events ≡ run_block first (event_at version bytes p.at ∷ events)
+run_is version bytes first p events own =
+    let made : ℕ → ℕ → Block = λ thread pid. record { thread = thread; wall = record { secs = 0; micros = 0 }; pid = pid; events = event_at version bytes p.at ∷ events } in
     ap (λ (t : ℕ). made t p.pid) own.0 ∙ ap (λ (n : ℕ). made first.thread n) own.1
 
 -- an event of the run before the others of it
-run_joined : (bytes : List ℕ) (first p : Passing) (events : List Event) (blocks : List Block) → IsOfRun first p
-    → joined_to (event_of_passing bytes p) (run_block first events ∷ blocks) ≡ run_block first (event_at bytes p.at ∷ events) ∷ blocks
-run_joined bytes first p events blocks own =
-    let e = event_of_passing bytes p in
+run_joined : (version : BasicVersion) (bytes : List ℕ) (first p : Passing) (events : List Event) (blocks : List Block) → IsOfRun first p
+    → joined_to (event_of_passing version bytes p) (run_block first events ∷ blocks) ≡ run_block first (event_at version bytes p.at ∷ events) ∷ blocks
+run_joined version bytes first p events blocks own =
+    let e = event_of_passing version bytes p in
     let is : is_of e (run_block first events) ≡ true =
     ap (λ (b : Bool). b && eqb first.pid p.pid) (eqb_same first.thread p.thread (sym own.0)) ∙ eqb_same first.pid p.pid (sym own.1) in
     ap (λ (b : Bool). cond b (run_from e events ∷ blocks) (run_from e [] ∷ run_block first events ∷ blocks)) is
-    ∙ ap (λ (b : Block). b ∷ blocks) (run_is bytes first p events own)
+    ∙ ap (λ (b : Block). b ∷ blocks) (run_is version bytes first p events own)
 
 -- the last event of the run, before what begins with another thread or process
 other_false : (thread own pid other : ℕ) → (thread ≢ own) ⊎ (pid ≢ other) → (eqb thread own && eqb pid other) ≡ false
@@ -223,28 +224,28 @@ apart_from e next (block ∷ blocks) heads apart =
     ∙ other_false next.thread e.thread next.pid e.pid apart in
     ap (λ (b : Bool). cond b (run_from e block.events ∷ blocks) (run_from e [] ∷ block ∷ blocks)) other
 
-run_ends : (bytes : List ℕ) (first p : Passing) (later : List Passing) → IsOfRun first p → BeginsOther first later
-    → joined_to (event_of_passing bytes p) (runs_of (events_of_passings bytes later)) ≡ run_block first (event_at bytes p.at ∷ []) ∷ runs_of (events_of_passings bytes later)
-run_ends bytes first p [] own other = ap (λ (b : Block). b ∷ []) (run_is bytes first p [] own)
-run_ends bytes first p (q ∷ later) own other =
-    let e = event_of_passing bytes p in
-    let blocks = runs_of (events_of_passings bytes (q ∷ later)) in
-    apart_from e (event_of_passing bytes q) blocks (joined_heads (event_of_passing bytes q) (runs_of (events_of_passings bytes later))) (moved other)
-    ∙ ap (λ (b : Block). b ∷ blocks) (run_is bytes first p [] own)
+run_ends : (version : BasicVersion) (bytes : List ℕ) (first p : Passing) (later : List Passing) → IsOfRun first p → BeginsOther first later
+    → joined_to (event_of_passing version bytes p) (runs_of (events_of_passings version bytes later)) ≡ run_block first (event_at version bytes p.at ∷ []) ∷ runs_of (events_of_passings version bytes later)
+run_ends version bytes first p [] own other = ap (λ (b : Block). b ∷ []) (run_is version bytes first p [] own)
+run_ends version bytes first p (q ∷ later) own other =
+    let e = event_of_passing version bytes p in
+    let blocks = runs_of (events_of_passings version bytes (q ∷ later)) in
+    apart_from e (event_of_passing version bytes q) blocks (joined_heads (event_of_passing version bytes q) (runs_of (events_of_passings version bytes later))) (moved other)
+    ∙ ap (λ (b : Block). b ∷ blocks) (run_is version bytes first p [] own)
   where
     moved : (q.thread ≢ first.thread) ⊎ (q.pid ≢ first.pid) → (q.thread ≢ p.thread) ⊎ (q.pid ≢ p.pid)
     moved (inl apart) = inl (λ s. apart (s ∙ own.0))
     moved (inr apart) = inr (λ s. apart (s ∙ own.1))
 
-run_split : (bytes : List ℕ) (first p : Passing) (run later : List Passing) → IsOfRun first p → All (IsOfRun first) run → BeginsOther first later
-    → runs_of (events_of_passings bytes (p ∷ run ++ later)) ≡ run_block first (events_at bytes (p ∷ run)) ∷ runs_of (events_of_passings bytes later)
-run_split bytes first p [] later own all other = run_ends bytes first p later own other
-run_split bytes first p (q ∷ run) later own all other =
-    ap (joined_to (event_of_passing bytes p)) (run_split bytes first q run later (All-head (IsOfRun first) q run all) (All-tail (IsOfRun first) q run all) other)
-    ∙ run_joined bytes first p (events_at bytes (q ∷ run)) (runs_of (events_of_passings bytes later)) own
+run_split : (version : BasicVersion) (bytes : List ℕ) (first p : Passing) (run later : List Passing) → IsOfRun first p → All (IsOfRun first) run → BeginsOther first later
+    → runs_of (events_of_passings version bytes (p ∷ run ++ later)) ≡ run_block first (events_at version bytes (p ∷ run)) ∷ runs_of (events_of_passings version bytes later)
+run_split version bytes first p [] later own all other = run_ends version bytes first p later own other
+run_split version bytes first p (q ∷ run) later own all other =
+    ap (joined_to (event_of_passing version bytes p)) (run_split version bytes first q run later (All-head (IsOfRun first) q run all) (All-tail (IsOfRun first) q run all) other)
+    ∙ run_joined version bytes first p (events_at version bytes (q ∷ run)) (runs_of (events_of_passings version bytes later)) own
 
-pub run_first : (bytes : List ℕ) (first : Passing) (others : List Passing) (count : ℕ) → IsRunOf first others count
-    → runs_of (events_of_passings bytes (first ∷ others)) ≡ run_block first (events_at bytes (first ∷ take count others)) ∷ runs_of (events_of_passings bytes (drop count others))
-run_first bytes first others count is =
-    ap (λ (ps : List Passing). runs_of (events_of_passings bytes (first ∷ ps))) (sym (take-append-drop count others))
-    ∙ run_split bytes first first (take count others) (drop count others) (refl, refl) is.same is.ends
+pub run_first : (version : BasicVersion) (bytes : List ℕ) (first : Passing) (others : List Passing) (count : ℕ) → IsRunOf first others count
+    → runs_of (events_of_passings version bytes (first ∷ others)) ≡ run_block first (events_at version bytes (first ∷ take count others)) ∷ runs_of (events_of_passings version bytes (drop count others))
+run_first version bytes first others count is =
+    ap (λ (ps : List Passing). runs_of (events_of_passings version bytes (first ∷ ps))) (sym (take-append-drop count others))
+    ∙ run_split version bytes first first (take count others) (drop count others) (refl, refl) is.same is.ends

@@ -1,7 +1,6 @@
 -- Passings that are put in the order of their threads, and what each thread recorded in the trace of a basic log.
-use Rattle.std.proofs.Common.{◌≡◌, ℕ, suc, ◌<◌, ◌≤◌, Bool, true, false, cond, eqb, ltb, List, [], ◌∷◌, ◌++◌, get_or, length, map, Option, Some, None, Result, Ok, Err, refl, sym, ap, subst, ◌∙◌, arith}
+use Rattle.std.proofs.Common.{◌≡◌, ℕ, suc, ◌<◌, ◌≤◌, Bool, true, false, cond, eqb, ltb, List, [], ◌∷◌, ◌++◌, get_or, length, map, Some, Result, Ok, refl, sym, ap, subst, ◌∙◌, arith}
 use Rattle.std.specs.Prelude.{◌&&◌, ◌≢◌, filter, not}
-use Rattle.xray_io.specs.Rows.{First, NeedsPart}
 use Rattle.std.proofs.lemmas.List.Sorted.{length_permutation}
 use Rattle.std.specs.List.{flat_map}
 use Rattle.std.specs.List.Sorted.{IsNonDecreasingBy, IsStableByKey}
@@ -16,7 +15,6 @@ use Rattle.fdr_record.specs.declared.event.Event.{Event}
 use Rattle.fdr_buffer.specs.declared.buffer.TheConstants.{LARGEST_SIZE}
 use Rattle.fdr_buffer.specs.Segments.{segments}
 use Rattle.fdr_file.specs.declared.trace.Block.{Block}
-use Rattle.fdr_file.specs.declared.fault.TraceFault.TheVariants as traces
 use Rattle.fdr_file.specs.declared.trace.Trace.{Trace}
 use Rattle.fdr_file.specs.ThreadEvents.{ThreadEvent, block_events, thread_events}
 use Rattle.fdr_file.specs.Traces.{trace_of, type_in, version_in}
@@ -25,18 +23,19 @@ use Rattle.runtime_log.specs.declared.basic.Passing.{Passing}
 use Rattle.runtime_log.specs.declared.blocks.Mode.{Mode}
 use Rattle.runtime_log.specs.declared.blocks.Mode.TheVariants.{Recorder, Basic}
 use Rattle.runtime_log.specs.declared.fault.LogFault.{LogFault}
+use Rattle.runtime_log.specs.declared.version.BasicVersion.{BasicVersion}
 use Rattle.runtime_log.specs.declared.version.LogVersion.{LogVersion}
-use Rattle.runtime_log.specs.BasicLogs.{recorded_events}
+use Rattle.runtime_log.specs.BasicLogs.{basic_records, recorded_events}
 use Rattle.runtime_log.specs.Imports.{pieces_of, trace_taken}
 use Rattle.runtime_log.specs.Laws.{ImportsRead, ThreadsKeepTheirOrder}
 use Rattle.runtime_log.specs.Logs.{LogBlock}
 use Rattle.runtime_log.specs.Taken.{AreTaken}
 use Rattle.runtime_log.specs.Threads.{recorded_by}
-use Rattle.runtime_log.specs.Versions.{log_version_of}
+use Rattle.runtime_log.specs.Versions.{basic_version_of}
 use Rattle.runtime_log.specs.private.Headers.{mode_of}
 use Rattle.runtime_log.specs.private.Passings.{HasThreads, RiseFrom, event_of_passing, events_of_passings}
 use Rattle.runtime_log.proofs.AddedBlocks.{event_of}
-use Rattle.runtime_log.proofs.WholeLogs.{HasParts, LogParts, log_parts}
+use Rattle.runtime_log.proofs.WholeLogs.{HasParts, LogParts, log_parts, mode_is}
 
 -- ---- a stable sort by threads
 
@@ -68,33 +67,33 @@ same_filter p q same (x ∷ xs) =
     ap (λ (b : Bool). cond b (x ∷ filter p xs) (filter p xs)) (same x) ∙ ap (λ (ys : List Passing). cond (q x) (x ∷ ys) ys) (same_filter p q same xs)
 
 -- the events that a thread recorded are those of its passings
-recorded_passings : (bytes : List ℕ) (thread : ℕ) (passings : List Passing) → recorded_by thread (events_of_passings bytes passings) ≡ events_of_passings bytes (filter (λ p. eqb p.thread thread) passings)
-recorded_passings bytes thread [] = refl
-recorded_passings bytes thread (p ∷ passings) = by_test (recorded_passings bytes thread passings) (eqb p.thread thread)
+recorded_passings : (version : BasicVersion) (bytes : List ℕ) (thread : ℕ) (passings : List Passing) → recorded_by thread (events_of_passings version bytes passings) ≡ events_of_passings version bytes (filter (λ p. eqb p.thread thread) passings)
+recorded_passings version bytes thread [] = refl
+recorded_passings version bytes thread (p ∷ passings) = by_test (recorded_passings version bytes thread passings) (eqb p.thread thread)
   where
-    by_test : recorded_by thread (events_of_passings bytes passings) ≡ events_of_passings bytes (filter (λ q. eqb q.thread thread) passings) → (b : Bool) → cond b (event_of_passing bytes p ∷ recorded_by thread (events_of_passings bytes passings)) (recorded_by thread (events_of_passings bytes passings))
-        ≡ events_of_passings bytes (cond b (p ∷ filter (λ q. eqb q.thread thread) passings) (filter (λ q. eqb q.thread thread) passings))
-    by_test again true = ap (λ (es : List ThreadEvent). event_of_passing bytes p ∷ es) again
+    by_test : recorded_by thread (events_of_passings version bytes passings) ≡ events_of_passings version bytes (filter (λ q. eqb q.thread thread) passings) → (b : Bool) → cond b (event_of_passing version bytes p ∷ recorded_by thread (events_of_passings version bytes passings)) (recorded_by thread (events_of_passings version bytes passings))
+        ≡ events_of_passings version bytes (cond b (p ∷ filter (λ q. eqb q.thread thread) passings) (filter (λ q. eqb q.thread thread) passings))
+    by_test again true = ap (λ (es : List ThreadEvent). event_of_passing version bytes p ∷ es) again
     by_test again false = again
 
-rise_from : (bytes : List ℕ) (thread : ℕ) (passings : List Passing) → ((k : ℕ) (d : Passing) → k < length passings → thread ≤ (let p : Passing = get_or passings k d in p.thread))
-    → IsNonDecreasingBy (λ (p : Passing). p.thread) passings → RiseFrom thread (events_of_passings bytes passings)
-rise_from bytes thread [] low sorted = tt
-rise_from bytes thread (p ∷ passings) low sorted =
-    (low 0 p (omega arith), rise_from bytes p.thread passings (λ k d below. sorted 0 (suc k) d (omega arith) (omega arith)) (λ i j d ahead below. sorted (suc i) (suc j) d (omega arith) (omega arith)))
+rise_from : (version : BasicVersion) (bytes : List ℕ) (thread : ℕ) (passings : List Passing) → ((k : ℕ) (d : Passing) → k < length passings → thread ≤ (let p : Passing = get_or passings k d in p.thread))
+    → IsNonDecreasingBy (λ (p : Passing). p.thread) passings → RiseFrom thread (events_of_passings version bytes passings)
+rise_from version bytes thread [] low sorted = tt
+rise_from version bytes thread (p ∷ passings) low sorted =
+    (low 0 p (omega arith), rise_from version bytes p.thread passings (λ k d below. sorted 0 (suc k) d (omega arith) (omega arith)) (λ i j d ahead below. sorted (suc i) (suc j) d (omega arith) (omega arith)))
 
-pub threads_sorted : (bytes : List ℕ) (records : List BasicRec) (passings ordered : List Passing) → events_of_passings bytes passings ≡ recorded_events records
-    → IsStableByKey (λ (p : Passing). p.thread) nat_cmp passings ordered → IsNonDecreasingBy (λ (p : Passing). p.thread) ordered → HasThreads bytes records ordered
-threads_sorted bytes records passings ordered are stable sorted = record {
+pub threads_sorted : (version : BasicVersion) (bytes : List ℕ) (records : List BasicRec) (passings ordered : List Passing) → events_of_passings version bytes passings ≡ recorded_events records
+    → IsStableByKey (λ (p : Passing). p.thread) nat_cmp passings ordered → IsNonDecreasingBy (λ (p : Passing). p.thread) ordered → HasThreads version bytes records ordered
+threads_sorted version bytes records passings ordered are stable sorted = record {
   same = λ thread.
       let own : Passing → Bool = λ p. eqb p.thread thread in
       let tied : Passing → Bool = λ p. not (is_lt (nat_cmp thread p.thread)) && not (is_lt (nat_cmp p.thread thread)) in
       let same : (p : Passing) → own p ≡ tied p = λ p. sym (tied_is thread p.thread) in
-      recorded_passings bytes thread ordered
-      ∙ ap (events_of_passings bytes) (same_filter own tied same ordered ∙ stable (record { at = 0; thread = thread; pid = 0 }) ∙ sym (same_filter own tied same passings))
-      ∙ sym (recorded_passings bytes thread passings)
+      recorded_passings version bytes thread ordered
+      ∙ ap (events_of_passings version bytes) (same_filter own tied same ordered ∙ stable (record { at = 0; thread = thread; pid = 0 }) ∙ sym (same_filter own tied same passings))
+      ∙ sym (recorded_passings version bytes thread passings)
       ∙ ap (recorded_by thread) are;
-  rise = rise_from bytes 0 ordered (λ k d below. omega arith) sorted;
+  rise = rise_from version bytes 0 ordered (λ k d below. omega arith) sorted;
 }
 
 -- ---- events in pieces
@@ -118,21 +117,7 @@ pieces_events whole (block ∷ blocks) =
 
 -- a log of this type is a basic one
 pub not_recorder : (bytes : List ℕ) (version : LogVersion) → type_in bytes ≡ 0 → mode_of bytes ≡ Ok (Recorder version) → ⊥
-not_recorder bytes version zero_type is =
-    by_parts (ltb (length bytes) 32) (log_version_of (version_in bytes)) (eqb (type_in bytes) 1) (ap (λ (n : ℕ). eqb n 1) zero_type) (not (eqb (type_in bytes) 0)) (not (eqb (version_in bytes) 3)) is
-  where
-    by_rest : (form other : Bool) → First form (Err (traces.Form (type_in bytes))) (First other (Err (traces.Version (version_in bytes))) (Ok Basic)) ≡ Ok (Recorder version) → ⊥
-    by_rest true other e = absurd cc
-    by_rest false true e = absurd cc
-    by_rest false false e = absurd cc
-
-    by_parts : (short : Bool) (o : Option LogVersion) (recorder : Bool) → recorder ≡ false → (form other : Bool)
-        → First short (Err (traces.Short 0)) (NeedsPart o (Err (traces.Version (version_in bytes))) λ v. First recorder (Ok (Recorder v)) (First form (Err (traces.Form (type_in bytes))) (First other (Err (traces.Version (version_in bytes))) (Ok Basic)))) ≡ Ok (Recorder version)
-        → ⊥
-    by_parts true o recorder r form other e = absurd cc
-    by_parts false None recorder r form other e = absurd cc
-    by_parts false (Some v) true r form other e = absurd cc
-    by_parts false (Some v) false r form other e = by_rest form other e
+not_recorder bytes version zero_type is = let m = mode_is bytes (Recorder version) is in omega (arith, zero_type, m.2)
 
 same_records : (xs ys : List BasicRec) → ◌≡◌ {A = Result (List BasicRec) LogFault} (Ok xs) (Ok ys) → xs ≡ ys
 same_records xs ys e = cc
@@ -142,8 +127,12 @@ threads_alone : (pool : List LogBlock) (threads : List Block) → AreTaken [] po
 threads_alone [] threads are = refl
 threads_alone (b ∷ pool) threads are = absurd (omega (arith, length_permutation [] (b ∷ pool) are.all))
 
+-- the records of a log of one version
+one_version : (bytes : List ℕ) (one other : BasicVersion) → basic_version_of (version_in bytes) ≡ Some one → basic_version_of (version_in bytes) ≡ Some other → one ≡ other
+one_version bytes one other e f = let same : Some one ≡ Some other = sym e ∙ f in cc
+
 pub threads_keep : ImportsRead → ((size : ℕ) (events : List Event) → flat_map (λ s. s) (segments size events) ≡ events) → ThreadsKeepTheirOrder
-threads_keep reads whole bytes file facts records all zero_type is made = by_mode parts.mode parts.headed parts.has
+threads_keep reads whole bytes file facts named records all zero_type version_is is made = by_mode parts.mode parts.headed parts.has
   where
     parts : LogParts bytes made.log
     parts = log_parts bytes made.log made.says
@@ -151,10 +140,12 @@ threads_keep reads whole bytes file facts records all zero_type is made = by_mod
     by_mode : (mode : Mode) → mode_of bytes ≡ Ok mode → HasParts mode bytes made.log
         → (trace : Trace) × (trace_of file ≡ Ok trace) × ((thread : ℕ) → recorded_by thread (thread_events trace.blocks) ≡ recorded_by thread (recorded_events records))
     by_mode (Recorder version) headed has = absurd (not_recorder bytes version zero_type headed)
-    by_mode Basic headed has =
+    by_mode (Basic version) headed has =
         let takes = made.takes in
         let chosen = subst (λ (bs : List LogBlock). AreTaken bs takes.pool) has.0 takes.chosen in
-        let events : made.log.events ≡ recorded_events records = has.1.2 ∙ ap recorded_events (same_records has.1.0 records (sym has.1.1 ∙ is)) in (
+        let same : version ≡ named = one_version bytes version named (mode_is bytes (Basic version) headed).1 version_is in
+        let reads_so : basic_records version bytes ≡ Ok records = ap (λ (v : BasicVersion). basic_records v bytes) same ∙ is in
+        let events : made.log.events ≡ recorded_events records = has.1.2 ∙ ap recorded_events (same_records has.1.0 records (sym has.1.1 ∙ reads_so)) in (
           trace_taken made.log.header made.taken,
           reads bytes file facts all made,
           λ thread. ap (recorded_by thread) (pieces_events whole made.taken ∙ ap thread_events takes.parts ∙ threads_alone takes.pool takes.threads chosen)

@@ -1,7 +1,7 @@
 -- A trace of version 3 is a log. The reading of a trace, record by record, is that of a log: a block begins where it is
 -- due, its records lead to its end, and no record is an event of the program's own.
 use Rattle.std.proofs.Common.{◌≡◌, ℕ, zero, suc, ◌+◌, ◌-◌, ◌<◌, ◌≤◌, Bool, true, false, cond, eqb, ltb, List, [], ◌∷◌, ◌++◌, length, drop, map, take, Option, Some, None, Result, Ok, Err, refl, sym, ap, subst, ◌∙◌, inl, inr, append_assoc, append-nil, arith}
-use Rattle.std.specs.Prelude.{◌⊎◌, not, option_to_list}
+use Rattle.std.specs.Prelude.{◌⊎◌, ◌&&◌, not, option_to_list}
 use Rattle.std.proofs.lemmas.Bool.{cases_lt, eqb-false, eqb-true, le-ltb, ltb-false}
 use Rattle.std.proofs.lemmas.List.{drop-drop, drop-take, length-drop, length-take}
 use Rattle.xray_io.specs.Rows.{First, InTurn, NeedsPart, ◌>>=◌}
@@ -28,12 +28,10 @@ use Rattle.fdr_file.specs.declared.version.Version.TheVariants as versions
 use Rattle.fdr_file.specs.Places.{starts}
 use Rattle.fdr_file.specs.Scanning.{Scanned, block_span, empty_block, extents_next, extents_span, inside_next, last_longer, longer_block, record_or, scan_start, scanned, scanned_ends, scanned_from, scanned_on, scanned_over, stage_after, stage_ends, stage_judged, stage_within, step_on, version_read, with_event, with_told}
 use Rattle.fdr_file.specs.Traces.{block_length, header_in, pid_named, record_in, record_length, size_named, thread_named, trace_of, type_in, version_in, version_of, wall_named}
-use Rattle.runtime_log.specs.declared.blocks.Mode.{Mode}
-use Rattle.runtime_log.specs.declared.blocks.Mode.TheVariants.{Recorder, Basic}
-use Rattle.runtime_log.specs.declared.version.LogVersion.{LogVersion}
+use Rattle.runtime_log.specs.declared.blocks.Mode.TheVariants.{Recorder}
 use Rattle.runtime_log.specs.declared.version.LogVersion.TheVariants.{Three}
 use Rattle.runtime_log.specs.Laws.{TracesAreLogs, said_of}
-use Rattle.runtime_log.specs.Logs.{BlockSoFar, Log, LogBlock, as_log, block_content, block_opened, block_said, block_size_rows, block_with, content_rows, log_block_in, log_block_rows, log_places, log_record_rows, logged, recorder_blocks, recorder_header, said_rows, sized_rows, unless_faulty}
+use Rattle.runtime_log.specs.Logs.{BlockSoFar, Log, LogBlock, as_log, block_content, block_opened, block_said, block_size_rows, block_with, content_rows, log_block_in, log_block_rows, log_of_blocks, log_places, log_record_rows, logged, recorder_blocks, recorder_header, said_rows, sized_rows, too_few, unless_faulty}
 use Rattle.runtime_log.specs.OwnEvents.{log_record_in, log_record_length}
 use Rattle.runtime_log.specs.Versions.{log_version_of}
 use Rattle.runtime_log.specs.private.Headers.{mode_of}
@@ -41,7 +39,7 @@ use Rattle.runtime_log.proofs.BlockLists.{Onward, block_first, block_sized, size
 use Rattle.runtime_log.proofs.BlockReading.{block_is}
 use Rattle.runtime_log.proofs.RecordCuts.{extents_long, long_as, not_own, record_as, record_cut, record_short}
 use Rattle.runtime_log.proofs.RecordWalk.{places_first, record_some, rows_none, so_with, starts_first, starts_none}
-use Rattle.runtime_log.proofs.WholeLogs.{recorder_read}
+use Rattle.runtime_log.proofs.WholeLogs.{recorder_headed, recorder_read}
 
 -- ---- the reading of a trace
 
@@ -348,6 +346,14 @@ step_due at bytes blocks all some ends = by_found (record_in bytes) refl (ends_f
     by_found (Err fault) e after = absurd (no_fault (extents_span at) (traces.Bad at fault) blocks (at + len) (drop len bytes) all after)
     by_found (Ok r) e after = by_size r e (size_named r) refl after
 
+-- enough bytes for a preamble
+large : (size : ℕ) → 48 ≤ size → too_few Three size ≡ false
+large size enough = and_false (not (eqb size 0)) (ltb size 48) (le-ltb size 48 enough)
+  where
+    and_false : (a b : Bool) → b ≡ false → (a && b) ≡ false
+    and_false true b e = e
+    and_false false b e = refl
+
 -- the size of the block in the log
 size_rows : (at size : ℕ) (bytes : List ℕ) → record_in bytes ≡ Ok (Extents size) → 48 ≤ size → 16 + size ≤ length bytes → block_size_rows Three (at, bytes) ≡ Ok size
 size_rows at size bytes found enough fits =
@@ -355,7 +361,7 @@ size_rows at size bytes found enough fits =
     let own = not_own bytes (Extents size) found in
     ap (λ (b : Bool). First b (Err (traces.Short at)) (sized_rows Three (at, bytes) (log_record_in Three Due bytes))) whole
     ∙ ap (sized_rows Three (at, bytes)) (record_as Due bytes own ∙ found)
-    ∙ ap (λ (b : Bool). First b (Err (traces.Extents at)) (First (ltb (length bytes) (16 + size)) (Err (traces.Short at)) (Ok size))) (le-ltb size 48 enough)
+    ∙ ap (λ (b : Bool). First b (Err (traces.Extents at)) (First (ltb (length bytes) (16 + size)) (Err (traces.Short at)) (Ok size))) (large size enough)
     ∙ ap (λ (b : Bool). let x : Result ℕ TraceFault = First b (Err (traces.Short at)) (Ok size) in x) (le-ltb (length bytes) (16 + size) fits)
 
 -- ---- the blocks
@@ -502,17 +508,7 @@ ends_trace by_records bytes trace reads three = by_version (version_read bytes) 
 
 -- the mode of a trace, as a log
 trace_mode : (bytes : List ℕ) → HasVersion bytes versions.Three → version_in bytes ≡ 3 → mode_of bytes ≡ Ok (Recorder Three)
-trace_mode bytes has number =
-    let named : log_version_of (version_in bytes) ≡ Some Three = ap log_version_of number in
-    ap (λ (b : Bool). First b (Err (traces.Short 0)) (by_version (log_version_of (version_in bytes)))) has.long
-    ∙ ap by_version named
-    ∙ ap (λ (b : Bool). First b (Ok (Recorder Three)) others) has.typed
-  where
-    others : Result Mode TraceFault
-    others = First (not (eqb (type_in bytes) 0)) (Err (traces.Form (type_in bytes))) (First (not (eqb (version_in bytes) 3)) (Err (traces.Version (version_in bytes))) (Ok Basic))
-
-    by_version : Option LogVersion → Result Mode TraceFault
-    by_version o = NeedsPart o (Err (traces.Version (version_in bytes))) λ version. First (eqb (type_in bytes) 1) (Ok (Recorder version)) others
+trace_mode bytes has number = recorder_headed bytes Three (ltb-false (length bytes) 32 has.long) (ap log_version_of number) (eqb-true (type_in bytes) 1 has.typed)
 
 -- the log that a trace is
 pub record LogOfTrace (bytes : List ℕ) (trace : Trace) : Type 0 where
@@ -529,7 +525,7 @@ log_of_trace by_records bytes trace reads three =
     let number : version_in bytes ≡ 3 = ap (λ (h : Header). h.version) (sym t.header) ∙ three in
     let f = blocks_follow (length (drop 32 bytes)) 32 (drop 32 bytes) [] trace.blocks [] (omega arith) t.ends in
     let header : recorder_header bytes ≡ trace.header = ap (λ (n : ℕ). let h : Header = record (header_in bytes) { version = n } in h) (sym number) ∙ sym t.header in record {
-      log = record { header = recorder_header bytes; blocks = f.more; events = [] };
+      log = log_of_blocks (recorder_header bytes) f.more;
       says = recorder_read bytes Three f.more (trace_mode bytes t.version number) (ap as_log f.reads);
       blocks = f.reads;
       said =

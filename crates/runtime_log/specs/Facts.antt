@@ -6,7 +6,7 @@ use Rattle.fdr_file.specs.ThreadEvents.{ThreadEvent, thread_events}
 use Rattle.fdr_file.specs.Traces.{logs_arg}
 use Rattle.fdr_file.specs.declared.trace.Block.{Block}
 use Rattle.runtime_log.specs.declared.facts.Facts.{Facts}
-use Rattle.runtime_log.specs.Logs.{LogBlock}
+use Rattle.runtime_log.specs.Logs.{Log}
 use Rattle.runtime_log.specs.Taken.{undoubled}
 
 -- how many numbers these are, if equal ones stand side by side
@@ -34,9 +34,10 @@ abbrev pub greatest_of : List ℕ → Option ℕ
 greatest_of [] = None
 greatest_of (n ∷ ns) = Some (option_map_or (max n) (greatest_of ns) n)
 
--- The facts of what was taken, of a log with these blocks in its pool. What was taken is in the order of threads.
-abbrev pub facts_of : (blocks : List LogBlock) → (taken : List Block) → Facts
-facts_of blocks taken =
+-- The facts of what was taken of a log. What was taken is in the order of threads.
+abbrev pub facts_of : (log : Log) → (taken : List Block) → Facts
+facts_of log taken =
+    let blocks = log.blocks in
     let events = thread_events taken in
     let counters = map (λ e. e.event.tsc) events in record {
       blocks = length taken;
@@ -50,6 +51,8 @@ facts_of blocks taken =
       first = least_of counters;
       last = greatest_of counters;
       back = different (falls events);
+      lost = log.lost;
+      frequency = log.header.frequency;
     }
 
 -- ---- as they are printed
@@ -83,5 +86,10 @@ counters_text facts =
     counter_line facts.first (codes "first counter") ++ counter_line facts.last (codes "last counter")
     ++ count_line facts.back (codes "threads whose counter goes back")
 
+-- the records that were left out, and the frequency of the counter
+abbrev pub records_text : Facts → List ℕ
+records_text facts =
+    count_line facts.lost (codes "arguments without an entry left out") ++ count_line facts.frequency (codes "cycles a second")
+
 abbrev pub facts_text : Facts → List ℕ
-facts_text facts = taken_text facts ++ left_out_text facts ++ counters_text facts
+facts_text facts = taken_text facts ++ left_out_text facts ++ (counters_text facts ++ records_text facts)

@@ -1,5 +1,5 @@
 -- What a log of the Flight Data Recorder mode is: a header, and blocks, one after the other.
-use Rattle.std.specs.Prelude.{◌≡◌, ◌<◌, ℕ, ◌+◌, ◌/◌, ◌%◌, ◌^◌, ◌==◌, ⊤, Bool, true, false, List, [], ◌∷◌, ◌++◌, length, count_by}
+use Rattle.std.specs.Prelude.{◌≡◌, ◌<◌, ◌⊎◌, ℕ, ◌+◌, ◌/◌, ◌%◌, ◌^◌, ◌==◌, ⊤, Bool, true, false, List, [], ◌∷◌, ◌++◌, length, count_by}
 use Rattle.std.specs.List.{AllByRecursion}
 use Rattle.byteorder.specs.Endian.{little_bytes}
 use Rattle.fdr_record.specs.declared.rec.Rec.{Rec}
@@ -8,6 +8,7 @@ use Rattle.fdr_record.specs.Records.{FieldsFit, Spells, first_of, metadata_lengt
 use Rattle.fdr_file.specs.declared.header.Header.{Header}
 use Rattle.fdr_file.specs.Events.{counter_at}
 use Rattle.fdr_file.specs.Grammar.{ArgsFollow, BeginWithCpu, IsInner, block_records}
+use Rattle.fdr_file.specs.Scanning.{empty_block}
 use Rattle.fdr_file.specs.Traces.{block_of}
 use Rattle.runtime_log.specs.declared.own_event.OwnKind.{OwnKind}
 use Rattle.runtime_log.specs.declared.own_event.OwnKind.TheVariants.{Custom, Typed}
@@ -98,13 +99,8 @@ is_typed_event (OfProgram Typed delta) = true
 
 -- ---- blocks
 
--- The bytes are a block: extents, and as many bytes as they name. These are records that stand for those of a block of a
--- trace, the preamble and others, which say the block.
-pub record IsLogBlock (version : LogVersion) (bytes : List ℕ) (b : LogBlock) : Type 0 where
-  pub extents : List ℕ
-  pub parts : bytes ≡ extents ++ b.content
-  pub named : Spells extents (Extents (length b.content))
-  pub few : length b.content < 2 ^ 64
+-- The content of a block is records that stand for those of a block of a trace, the preamble and others, which say the block.
+pub record IsFilled (version : LogVersion) (b : LogBlock) : Type 0 where
   pub records : List LogRecord
   pub spelled : AreLogRecords version records b.content
   pub others : List Rec
@@ -115,6 +111,21 @@ pub record IsLogBlock (version : LogVersion) (bytes : List ℕ) (b : LogBlock) :
   pub told : b.block ≡ block_of (stand_for [] records)
   pub custom : b.custom ≡ count_by is_custom_event records
   pub typed : b.typed ≡ count_by is_typed_event records
+
+-- the block has no bytes and no events, and says nothing
+pub record IsBare (b : LogBlock) : Type 0 where
+  pub bytes : b.content ≡ []
+  pub block : b.block ≡ empty_block 0 (record { secs = 0; micros = 0 }) 0
+  pub custom : b.custom ≡ 0
+  pub typed : b.typed ≡ 0
+
+-- The bytes are a block: extents, and as many bytes as they name. These are its records, or there are none.
+pub record IsLogBlock (version : LogVersion) (bytes : List ℕ) (b : LogBlock) : Type 0 where
+  pub extents : List ℕ
+  pub parts : bytes ≡ extents ++ b.content
+  pub named : Spells extents (Extents (length b.content))
+  pub few : length b.content < 2 ^ 64
+  pub says : IsFilled version b ⊎ IsBare b
 
 -- the bytes, which begin at a place, are these blocks, one after the other
 abbrev pub AreLogBlocks : LogVersion → ℕ → List LogBlock → List ℕ → Type 0
@@ -156,3 +167,4 @@ pub record IsLog (bytes : List ℕ) (log : Log) : Type 0 where
   pub header : IsLogHeader version front log.header
   pub blocks : AreLogBlocks version 32 log.blocks following
   pub alone : log.events ≡ []
+  pub none : log.lost ≡ 0

@@ -53,4 +53,4 @@ pub record IsImport (bytes file : List ℕ) (facts : Facts) : Type 0 where
   pub taken : List Block
   pub takes : AreTakenOf log taken
   pub file_is : file ≡ trace_file (trace_taken log.header taken)
-  pub facts_are : facts ≡ facts_of log.blocks taken
+  pub facts_are : facts ≡ facts_of log taken

@@ -1,5 +1,5 @@
 -- Laws of imports, over what the bytes of a log say.
-use Rattle.std.specs.Prelude.{◌≡◌, ◌≢◌, ◌<◌, ⊤, ℕ, List, [], ◌∷◌, map, All, AllPairs, IsTrue, Ok}
+use Rattle.std.specs.Prelude.{◌≡◌, ◌≢◌, ◌<◌, ⊤, ℕ, List, [], ◌∷◌, map, All, AllPairs, IsTrue, Some, Ok}
 use Rattle.std.specs.Cmp.Lexicographic.{slice_cmp}
 use Rattle.std.specs.Ordering.{nat_cmp}
 use Rattle.std.specs.declared.cmp.Ordering.{Ordering}
@@ -9,14 +9,16 @@ use Rattle.fdr_file.specs.declared.header.Header.{Header}
 use Rattle.fdr_file.specs.declared.trace.Trace.{Trace}
 use Rattle.fdr_file.specs.Files.{BlockFits, HeaderFits, file_bytes}
 use Rattle.fdr_file.specs.ThreadEvents.{thread_events}
-use Rattle.fdr_file.specs.Traces.{trace_of, type_in}
+use Rattle.fdr_file.specs.Traces.{trace_of, type_in, version_in}
 use Rattle.runtime_log.specs.declared.basic.BasicRec.{BasicRec}
 use Rattle.runtime_log.specs.declared.facts.Facts.{Facts}
+use Rattle.runtime_log.specs.declared.version.BasicVersion.{BasicVersion}
 use Rattle.runtime_log.specs.BasicLogs.{basic_records, recorded_events}
 use Rattle.runtime_log.specs.Imports.{IsImport, trace_taken}
 use Rattle.runtime_log.specs.Logs.{Log, logged}
 use Rattle.runtime_log.specs.Taken.{first_counter}
 use Rattle.runtime_log.specs.Threads.{recorded_by}
+use Rattle.runtime_log.specs.Versions.{basic_version_of}
 
 -- a log is imported in one way only
 abbrev pub OneImport : Type 0
@@ -37,8 +39,8 @@ ImportsRead = (bytes file : List ℕ) (facts : Facts) → All (λ b. b < 256) by
 -- The trace of a basic log has the events of each thread as the log has them: all of them and no others, in the order in which
 -- they were recorded.
 abbrev pub ThreadsKeepTheirOrder : Type 0
-ThreadsKeepTheirOrder = (bytes file : List ℕ) (facts : Facts) (records : List BasicRec) → All (λ b. b < 256) bytes → type_in bytes ≡ 0
-    → basic_records bytes ≡ Ok records → IsImport bytes file facts → (trace : Trace) × (trace_of file ≡ Ok trace)
+ThreadsKeepTheirOrder = (bytes file : List ℕ) (facts : Facts) (version : BasicVersion) (records : List BasicRec) → All (λ b. b < 256) bytes
+    → type_in bytes ≡ 0 → basic_version_of (version_in bytes) ≡ Some version → basic_records version bytes ≡ Ok records → IsImport bytes file facts → (trace : Trace) × (trace_of file ≡ Ok trace)
     × ((thread : ℕ) → recorded_by thread (thread_events trace.blocks) ≡ recorded_by thread (recorded_events records))
 
 -- ---- traces are logs

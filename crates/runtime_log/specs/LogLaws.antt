@@ -11,7 +11,7 @@ use Rattle.runtime_log.specs.declared.facts.Facts.{Facts}
 use Rattle.runtime_log.specs.Grammar.{IsLog}
 use Rattle.runtime_log.specs.Imports.{IsImport}
 use Rattle.runtime_log.specs.Logs.{Log, LogBlock, logged}
-use Rattle.runtime_log.specs.Taken.{comes_before, is_among_contents}
+use Rattle.runtime_log.specs.Taken.{comes_before, is_doubled}
 use Rattle.runtime_log.specs.Threads.{recorded_by}
 
 -- what bytes are read as, if they say that they are a log of this mode, is a log by the grammar
@@ -66,9 +66,9 @@ abbrev pub IsGreatest : List ℕ → Option ℕ → Type 0
 IsGreatest numbers None = numbers ≡ []
 IsGreatest numbers (Some n) = Contains numbers n × All (λ m. m ≤ n) numbers
 
--- block i has the bytes of a block before it
+-- block i has bytes, and these are those of a block before it
 abbrev pub is_double : List LogBlock → (i : ℕ) → Bool
-is_double blocks i = let contents = map (λ b. b.content) blocks in is_among_contents (take i contents) (slice_index_or contents i [])
+is_double blocks i = let contents = map (λ b. b.content) blocks in is_doubled (take i contents) (slice_index_or contents i [])
 
 -- block i has no events
 abbrev pub is_empty_block : List LogBlock → (i : ℕ) → Bool
@@ -103,7 +103,7 @@ pub record NumbersAreOfEvents (all : List ThreadEvent) (facts : Facts) : Type 0 
   pub back : facts.back ≡ distinct_threads (filter (λ thread. goes_back (thread_counters thread all)) (map (λ e. e.thread) all))
 
 -- What is printed of a log and of the trace that is made of it. Each block of the log is taken, doubled or empty. A block is
--- doubled if its bytes are those of a block before it. It is empty if it isn't doubled and has no events. The program's own
+-- doubled if it has bytes, and these are those of a block before it. It is empty if it isn't doubled and has no events. The program's own
 -- events are those of all blocks. The other numbers are those of the trace.
 pub record NumbersAreOf (log : Log) (trace : Trace) (facts : Facts) : Type 0 where
   pub blocks : facts.blocks + facts.doubled + facts.empty ≡ length log.blocks
@@ -111,6 +111,8 @@ pub record NumbersAreOf (log : Log) (trace : Trace) (facts : Facts) : Type 0 whe
   pub empty : facts.empty ≡ count_by (λ i. is_empty_block log.blocks i && not (is_double log.blocks i)) (block_places log.blocks)
   pub custom : facts.custom ≡ sum (map (λ b. b.custom) log.blocks)
   pub typed : facts.typed ≡ sum (map (λ b. b.typed) log.blocks)
+  pub lost : facts.lost ≡ 0
+  pub frequency : facts.frequency ≡ trace.header.frequency
   pub of_events : NumbersAreOfEvents (thread_events trace.blocks) facts
 
 abbrev pub NumbersAreMeant : Type 0
@@ -126,14 +128,17 @@ run_count [] = 0
 run_count (e ∷ []) = 1
 run_count (e ∷ next ∷ events) = (if (e.thread == next.thread) && (e.pid == next.pid) then 0 else 1) + run_count (next ∷ events)
 
--- What is printed of a basic log and of the trace that is made of it. The blocks are the runs of the trace. A basic log has
--- nothing else, so nothing is left out. The numbers of events are those of the trace, and those of the log.
+-- What is printed of a basic log and of the trace that is made of it. The blocks are the runs of the trace. Of a basic log
+-- only arguments that have lost their entries are left out. The numbers of events are those of the trace, and those of the
+-- log.
 pub record BasicNumbersAreOf (log : Log) (trace : Trace) (facts : Facts) : Type 0 where
   pub blocks : facts.blocks ≡ run_count (thread_events trace.blocks)
   pub doubled : facts.doubled ≡ 0
   pub empty : facts.empty ≡ 0
   pub custom : facts.custom ≡ 0
   pub typed : facts.typed ≡ 0
+  pub lost : facts.lost ≡ log.lost
+  pub frequency : facts.frequency ≡ trace.header.frequency
   pub of_events : NumbersAreOfEvents (thread_events trace.blocks) facts
   pub of_log : NumbersAreOfEvents log.events facts
 

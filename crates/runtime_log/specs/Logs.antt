@@ -1,5 +1,5 @@
 -- What the bytes of a log of LLVM's runtime say.
-use Rattle.std.specs.Prelude.{ℕ, ◌+◌, ◌==◌, not, List, [], ◌∷◌, ◌++◌, length, take, drop, nat_lt, option_to_list, Option, Some, None, Result, Ok, Err}
+use Rattle.std.specs.Prelude.{ℕ, ◌+◌, ◌==◌, ◌&&◌, Bool, not, List, [], ◌∷◌, ◌++◌, length, take, drop, nat_lt, option_to_list, Option, Some, None, Result, Ok, Err}
 use Rattle.xray_io.specs.Rows.{First, InTurn, NeedsPart, ◌>>=◌}
 use Rattle.fdr_record.specs.declared.fault.RecFault.{RecFault}
 use Rattle.fdr_record.specs.declared.rec.Rec.{Rec}
@@ -21,10 +21,12 @@ use Rattle.runtime_log.specs.declared.fault.LogFault.{LogFault}
 use Rattle.runtime_log.specs.declared.fault.LogFault.TheVariants as faults
 use Rattle.runtime_log.specs.declared.own_event.OwnKind.{OwnKind}
 use Rattle.runtime_log.specs.declared.own_event.OwnKind.TheVariants.{Custom, Typed}
+use Rattle.runtime_log.specs.declared.basic.BasicRec.{BasicRec}
+use Rattle.runtime_log.specs.declared.version.BasicVersion.{BasicVersion}
 use Rattle.runtime_log.specs.declared.version.LogVersion.{LogVersion}
-use Rattle.runtime_log.specs.BasicLogs.{basic_records, recorded_events}
+use Rattle.runtime_log.specs.BasicLogs.{basic_records, lost_count, recorded_events}
 use Rattle.runtime_log.specs.OwnEvents.{log_record_in, log_record_length, own_kind}
-use Rattle.runtime_log.specs.Versions.{log_version_of, trace_version}
+use Rattle.runtime_log.specs.Versions.{basic_version_of, is_version, log_version_of, trace_version}
 
 -- A block of a log: where it begins; its bytes, which another block may have too; what it says, as a block of a trace; and
 -- how many events of the program's own it has, of each kind.
@@ -36,11 +38,13 @@ pub record LogBlock : Type 0 where
   pub typed : ℕ
 
 -- A log: what it says about itself, as the header of a trace, and what it has. A log of the Flight Data Recorder mode has
--- blocks, in the order of the file, and a basic log has events, in the order in which they were recorded.
+-- blocks, in the order of the file. A basic log has events, in the order in which they were recorded, and arguments that have
+-- lost their entries.
 pub record Log : Type 0 where
   pub header : Header
   pub blocks : List LogBlock
   pub events : List ThreadEvent
+  pub lost : ℕ
 
 -- ---- a block of the Flight Data Recorder mode
 
@@ -109,11 +113,15 @@ block_content size bytes = take size (drop metadata_length bytes)
 abbrev pub log_places : LogVersion → ℕ → List ℕ → List (ℕ × List ℕ)
 log_places version at bytes = starts (log_record_length version) 0 at bytes
 
+-- Extents name as many bytes as a preamble has, at least, or none: the runtime also hands out empty buffers.
+abbrev pub too_few : LogVersion → ℕ → Bool
+too_few version size = not (size == 0) && nat_lt size (preamble_bytes (trace_version version))
+
 -- how many bytes the block that begins at a place has after its extents, by its first record
 abbrev pub sized_rows : LogVersion → ℕ × List ℕ → Result Rec RecFault → Result ℕ TraceFault
 sized_rows version (at, bytes) (Ok r) =
     NeedsPart (size_named r) (Err (traces.Order at)) λ size.
-    First (nat_lt size (preamble_bytes (trace_version version))) (Err (traces.Extents at))
+    First (too_few version size) (Err (traces.Extents at))
     (First (nat_lt (length bytes) (metadata_length + size)) (Err (traces.Short at)) (Ok size))
 sized_rows version (at, bytes) (Err fault) = Err (traces.Bad at fault)
 
@@ -157,26 +165,35 @@ recorder_header bytes = record (header_in bytes) { version = 3 }
 abbrev pub imported_header : List ℕ → Header
 imported_header bytes = record (header_in bytes) { version = 3; size = 0 }
 
+-- a log with these blocks, or with these records
+abbrev pub log_of_blocks : Header → List LogBlock → Log
+log_of_blocks header blocks = record { header = header; blocks = blocks; events = []; lost = 0 }
+
+abbrev pub log_of_records : Header → List BasicRec → Log
+log_of_records header records = record { header = header; blocks = []; events = recorded_events records; lost = lost_count None records }
+
 -- a log of each mode
 abbrev pub recorder_log : LogVersion → List ℕ → Result Log LogFault
-recorder_log version bytes =
-    as_log (recorder_blocks version bytes) >>= λ blocks. Ok (record { header = recorder_header bytes; blocks = blocks; events = [] })
+recorder_log version bytes = as_log (recorder_blocks version bytes) >>= λ blocks. Ok (log_of_blocks (recorder_header bytes) blocks)
 
-abbrev pub basic_log : List ℕ → Result Log LogFault
-basic_log bytes =
-    basic_records bytes >>= λ records. Ok (record { header = imported_header bytes; blocks = []; events = recorded_events records })
+abbrev pub basic_log : BasicVersion → List ℕ → Result Log LogFault
+basic_log version bytes = basic_records version bytes >>= λ records. Ok (log_of_records (imported_header bytes) records)
+
+-- the refusal of the version in a header
+abbrev pub no_version : List ℕ → Result Log LogFault
+no_version bytes = Err (faults.Trace (traces.Version (version_in bytes)))
 
 -- A log of the type 1 is one of the Flight Data Recorder mode, of version 2 to 5. One of the type 0 is a basic log, of
--- version 3. A header is refused for its version first, if no log has that version.
-abbrev pub typed_rows : LogVersion → List ℕ → Result Log LogFault
-typed_rows version bytes =
-    First (type_in bytes == 1) (recorder_log version bytes)
+-- version 1 to 3.
+abbrev pub typed_rows : List ℕ → Result Log LogFault
+typed_rows bytes =
+    First (type_in bytes == 1) (NeedsPart (log_version_of (version_in bytes)) (no_version bytes) λ version. recorder_log version bytes)
     (First (not (type_in bytes == 0)) (Err (faults.Trace (traces.Form (type_in bytes))))
-    (First (not (version_in bytes == 3)) (Err (faults.Trace (traces.Version (version_in bytes)))) (basic_log bytes)))
+    (NeedsPart (basic_version_of (version_in bytes)) (no_version bytes) λ version. basic_log version bytes))
 
--- the log that bytes are, or the fault of the first place that has one
+-- The log that bytes are, or the fault of the first place that has one. A header is refused for its version first, if no
+-- log has that version.
 abbrev pub logged : List ℕ → Result Log LogFault
 logged bytes =
     First (nat_lt (length bytes) 32) (Err (faults.Trace (traces.Short 0)))
-    (NeedsPart (log_version_of (version_in bytes)) (Err (faults.Trace (traces.Version (version_in bytes)))) λ version.
-    typed_rows version bytes)
+    (First (not (is_version (version_in bytes))) (no_version bytes) (typed_rows bytes))

@@ -1,5 +1,5 @@
 -- Which blocks of a log are taken, and in which order.
-use Rattle.std.specs.Prelude.{ℕ, Bool, List, [], ◌∷◌, nat_lt, filter, length, if◌then◌else◌, IsPermutation}
+use Rattle.std.specs.Prelude.{ℕ, ◌==◌, ◌&&◌, not, Bool, List, [], ◌∷◌, nat_lt, filter, length, if◌then◌else◌, IsPermutation}
 use Rattle.std.specs.List.{list_any}
 use Rattle.std.specs.List.Sorted.{IsSortedBy}
 use Rattle.std.specs.Cmp.Lexicographic.{slice_cmp}
@@ -14,11 +14,15 @@ use Rattle.runtime_log.specs.Logs.{LogBlock}
 abbrev pub is_among_contents : List (List ℕ) → List ℕ → Bool
 is_among_contents contents content = list_any (bytes_eq content) contents
 
+-- a block is doubled if its bytes are among those of the blocks before it; a block of no bytes is never doubled
+abbrev pub is_doubled : (before : List (List ℕ)) → (content : List ℕ) → Bool
+is_doubled before content = not (length content == 0) && is_among_contents before content
+
 -- the blocks whose bytes aren't those of a block before them, and not these either
 abbrev pub first_ones : (before : List (List ℕ)) → List LogBlock → List LogBlock
 first_ones before [] = []
 first_ones before (b ∷ blocks) =
-    let others = first_ones (b.content ∷ before) blocks in if is_among_contents before b.content then others else b ∷ others
+    let others = first_ones (b.content ∷ before) blocks in if is_doubled before b.content then others else b ∷ others
 
 -- a log that is flushed while threads run may have one block twice; only the first of them is looked at
 abbrev pub undoubled : List LogBlock → List LogBlock

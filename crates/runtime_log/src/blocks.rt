@@ -7,7 +7,7 @@ ghost use Rattle.runtime_log.specs.private.{Choices.{IsAt, LiesWithin, Shows}, C
 
 use crate::basic::{BasicEvents, Passing};
 use crate::stretch::Stretch;
-use crate::version::LogVersion;
+use crate::version::{BasicVersion, LogVersion};
 use crate::walk::BlockWalk;
 use fdr_file::Told;
 use fdr_record::Event;
@@ -18,8 +18,8 @@ use xray_io::Wall;
 pub(crate) enum Mode {
     /// The Flight Data Recorder mode, in a version.
     Recorder(LogVersion),
-    /// The basic mode.
-    Basic,
+    /// The basic mode, in a version.
+    Basic(BasicVersion),
 }
 
 /// A block of the Flight Data Recorder mode: where it is, and what it says without its events.
@@ -190,12 +190,16 @@ impl<'a> BlockEvents<'a> {
     }
 
     /// The events of passings of a basic log.
-    pub(crate) fn of_passings(bytes: &'a [u8], passings: &'a [Passing]) -> BlockEvents<'a>
+    pub(crate) fn of_passings(
+        version: BasicVersion,
+        bytes: &'a [u8],
+        passings: &'a [Passing],
+    ) -> BlockEvents<'a>
         ensures may { MayGive result }
-        ensures all { events_to_come result ≡ map (λ p. event_at bytes.entry.now p.at) passings.entry.now }
+        ensures all { events_to_come result ≡ map (λ p. event_at version bytes.entry.now p.at) passings.entry.now }
         ensures recordable { All IsRecordable (events_to_come result) }
     {
-        BlockEvents::Basic(BasicEvents::new(bytes, passings))
+        BlockEvents::Basic(BasicEvents::new(version, bytes, passings))
     }
 
     /// The next event.

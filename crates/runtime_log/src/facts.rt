@@ -1,7 +1,7 @@
 //! What is said of an import.
-ghost use Rattle.std.specs.{Prelude.{◌≡◌}, List.{flat_map}};
+ghost use Rattle.std.specs.{Prelude.{◌≡◌, ◌++◌}, List.{flat_map}};
 ghost use Rattle.xray_io.specs.Piece.{piece_text};
-ghost use Rattle.runtime_log.specs.Facts.{counters_text, left_out_text, right_or_dash, taken_text};
+ghost use Rattle.runtime_log.specs.Facts.{counters_text, left_out_text, records_text, right_or_dash, taken_text};
 ghost use Rattle.runtime_log.specs.private.FactLines.{line_text};
 
 use xray_io::{Each, Piece, Printed, Sink, Text, WriteFault};
@@ -34,6 +34,23 @@ pub struct Facts {
     pub last: Option<u64>,
     /// How many threads have an event with a lower counter than the event before it.
     pub back: u64,
+    /// How many arguments of a basic log have lost their entries.
+    pub lost: u64,
+    /// How many times the counter advances in a second, as the log says.
+    pub frequency: u64,
+}
+
+/// The numbers of what a log has.
+#[derive(Clone, Copy)]
+pub(crate) struct Counts {
+    /// How many custom events its blocks have.
+    pub(crate) custom: u64,
+    /// How many typed events.
+    pub(crate) typed: u64,
+    /// How many arguments have lost their entries.
+    pub(crate) lost: u64,
+    /// How many times the counter advances in a second.
+    pub(crate) frequency: u64,
 }
 
 impl Printed for Facts {
@@ -47,7 +64,7 @@ impl Printed for Facts {
     fn add_to<S: Sink>(&self, to: &mut Text<S>) -> Result<(), WriteFault> {
         Each(&self.taken()).add_to(to)?;
         Each(&self.left_out()).add_to(to)?;
-        Each(&self.counters()).add_to(to)
+        Each(&self.numbers()).add_to(to)
     }
 }
 
@@ -76,14 +93,16 @@ impl Facts {
         ]
     }
 
-    /// The counters of the events.
-    fn counters(&self) -> [Line; 3]
-        ensures { flat_map line_text result ≡ counters_text self.now }
+    /// The counters of the events, the records that were left out, and the frequency of the counter.
+    fn numbers(&self) -> [Line; 5]
+        ensures { flat_map line_text result ≡ counters_text self.now ++ records_text self.now }
     {
         [
             Line(self.first, b"first counter"),
             Line(self.last, b"last counter"),
             Line(Some(self.back), b"threads whose counter goes back"),
+            Line(Some(self.lost), b"arguments without an entry left out"),
+            Line(Some(self.frequency), b"cycles a second"),
         ]
     }
 }

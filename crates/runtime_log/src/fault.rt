@@ -7,9 +7,8 @@ use thiserror::Error;
 /// byte offset, counted from the file's start.
 #[derive(Clone, Copy, Debug, PartialEq, Eq, Error)]
 pub enum LogFault {
-    /// What a trace may be refused for, too. The versions are 2 to 5, and 3 for a basic log. The types
-    /// are 1, and 0 for a basic log. In a basic log `Short` is a record that isn't whole, and `Order`
-    /// an argument that doesn't stand behind the entry that it is of.
+    /// What a trace may be refused for, too. The versions are 2 to 5, and 1 to 3 for a basic log. The
+    /// types are 1, and 0 for a basic log. In a basic log `Short` is a record that isn't whole.
     #[error("{0}")]
     Trace(TraceFault),
     /// The first two bytes of the record at this place of a basic log, as a number, if they are

@@ -1,18 +1,17 @@
 //! The events of blocks as the file of a trace.
-ghost use Rattle.std.specs.Prelude.{◌≡◌, ◌≢◌, ◌≤◌, ◌<◌, ◌+◌, ◌++◌, ◌^◌, ℕ, All, IsTrue, List, [], ◌∷◌, IfOk, OnOk, length, map, sum};
+ghost use Rattle.std.specs.Prelude.{◌≡◌, ◌≢◌, ◌≤◌, ◌<◌, ◌+◌, ◌++◌, ◌^◌, ℕ, All, IsTrue, List, [], ◌∷◌, IfOk, OnOk, length};
 ghost use Rattle.fdr_buffer.specs.declared.buffer.TheConstants.{LARGEST_SIZE};
 ghost use Rattle.fdr_file.specs.Files.{block_bytes, file_bytes};
-ghost use Rattle.fdr_file.specs.declared.header.Header.{Header as TheHeader};
 ghost use Rattle.fdr_file.specs.declared.trace.Block.{Block as TheBlock};
 ghost use Rattle.fdr_record.specs.declared.event.Event.{Event as TheEvent};
 ghost use Rattle.fdr_record.specs.Recordable.{IsRecordable};
 ghost use Rattle.runtime_log.specs.declared.blocks.BlockEvents.{BlockEvents as TheEvents};
 ghost use Rattle.runtime_log.specs.declared.packing.Packing.{Packing as ThePacking};
-ghost use Rattle.runtime_log.specs.Logs.{LogBlock as SaidBlock};
-ghost use Rattle.runtime_log.specs.private.{Choices.{AreLeftOut}, Coming.{MayGive, events_to_come}, Notes.{AreFew, EndsWith}, Packings.{Adds, EndsIn, Fills, HasPacked, Heads, NoEvents, SaysOfLog, filled_for}};
+ghost use Rattle.runtime_log.specs.Logs.{Log as TheLog};
+ghost use Rattle.runtime_log.specs.private.{Choices.{AreLeftOut}, Coming.{MayGive, events_to_come}, Notes.{AreFew, EndsWith}, Packings.{Adds, AreOfLog, EndsIn, Fills, HasPacked, Heads, NoEvents, SaysOfLog, filled_for}};
 
 use crate::blocks::{BlockEvents, Head};
-use crate::facts::Facts;
+use crate::facts::{Counts, Facts};
 use crate::notes::Notes;
 use crate::taken::LeftOut;
 use fdr_buffer::{Buffer, LARGEST_SIZE, a_segment_grows, one_event_fits};
@@ -32,24 +31,25 @@ pub(crate) struct Packing {
     notes: Notes,
 }
 
-/// The facts before any block is taken, by how many events of the program's own the log has.
-pub(crate) fn log_facts(custom: u64, typed: u64, left: LeftOut) -> Facts
+/// The facts before any block is taken, by the numbers of what the log has.
+pub(crate) fn log_facts(counts: Counts, left: LeftOut) -> Facts
     ensures none { NoEvents result }
-    ensures log { (said : List SaidBlock) → custom ≡ sum (map (λ b. b.custom) said)
-        → typed ≡ sum (map (λ b. b.typed) said) → AreLeftOut said left → SaysOfLog said result }
+    ensures log { (log : TheLog) → AreOfLog log counts → AreLeftOut log.blocks left → SaysOfLog log result }
 {
     Facts {
         blocks: 0,
         threads: 0,
         events: 0,
         arguments: 0,
-        custom,
-        typed,
+        custom: counts.custom,
+        typed: counts.typed,
         doubled: left.doubled,
         empty: left.empty,
         first: None,
         last: None,
         back: 0,
+        lost: counts.lost,
+        frequency: counts.frequency,
     }
 }
 
@@ -78,8 +78,8 @@ impl Packing {
     ) -> Result<Packing, NoMemory>
         requires version { header.now.version ≡ 3 }
         requires none { NoEvents facts }
-        ensures packs { (said : List SaidBlock) → SaysOfLog said facts
-            → IfOk result (λ packing. HasPacked header.now said [] packing) }
+        ensures packs { (log : TheLog) → log.header ≡ header.now → SaysOfLog log facts
+            → IfOk result (λ packing. HasPacked log [] packing) }
         ensures none { IfOk result (λ packing. (packing.notes.facts.events ≡ 0)
             × (packing.notes.facts.blocks ≡ 0) × AreFew packing.notes.facts
             × (packing.buffer.size ≡ LARGEST_SIZE)) }
@@ -186,10 +186,10 @@ impl Packing {
         requires room { self.old.notes.facts.events + length (events_to_come events) < 2 ^ 63 }
         requires few { (self.old.notes.facts.blocks < 2 ^ 32) × AreFew self.old.notes.facts }
         requires size { self.old.buffer.size ≡ LARGEST_SIZE }
-        ensures packs { (header : TheHeader) (said : List SaidBlock) (taken : List TheBlock) (b : TheBlock)
-            → HasPacked header said taken self.old → Heads head b
+        ensures packs { (log : TheLog) (taken : List TheBlock) (b : TheBlock)
+            → HasPacked log taken self.old → Heads head b
             → b.events ≢ [] → events_to_come events.entry ≡ b.events
-            → OnOk result (HasPacked header said (taken ++ b ∷ []) self.new) }
+            → OnOk result (HasPacked log (taken ++ b ∷ []) self.new) }
         ensures room { OnOk result (self.new.notes.facts.events
             ≡ self.old.notes.facts.events + length (events_to_come events.entry)) }
         ensures blocks { OnOk result (self.new.notes.facts.blocks ≡ self.old.notes.facts.blocks + 1) }

@@ -1,11 +1,13 @@
 //! All blocks of a log of the Flight Data Recorder mode, in the order of the file.
-ghost use Rattle.std.specs.Prelude.{◌≡◌, ◌⊎◌, ◌<◌, ◌≤◌, ◌+◌, ◌++◌, ◌^◌, [], List, Ok, Err, IfErr, IfOk, OnOk, drop, length, option_to_list};
+ghost use Rattle.std.specs.Prelude.{◌≡◌, ◌⊎◌, ◌<◌, ◌≤◌, ◌+◌, ◌++◌, ◌^◌, [], List, Ok, Err, IfErr, IfOk, OnOk, drop, length, option_map, option_to_list};
 ghost use Rattle.fdr_file.specs.declared.fault.TraceFault.TheVariants.{NoMemory as NoRoom};
 ghost use Rattle.fdr_file.specs.declared.trace.Block.{Block as TheBlock};
 ghost use Rattle.fdr_file.specs.Scanning.{empty_block};
 ghost use Rattle.fdr_file.specs.Traces.{block_length};
 ghost use Rattle.runtime_log.specs.declared.fault.LogFault.TheVariants.{Trace};
 ghost use Rattle.runtime_log.specs.Logs.{BlockSoFar, LogBlock as SaidBlock, as_log, block_with, log_block_in, one_custom, one_typed, recorder_blocks};
+ghost use Rattle.runtime_log.specs.Versions.{basic_version_of, is_version, log_version_of};
+ghost use Rattle.runtime_log.specs.declared.blocks.Mode.TheVariants as TheMode;
 ghost use Rattle.runtime_log.specs.private.Choices.{IsAt, Shows, counter_first};
 ghost use Rattle.runtime_log.specs.private.Headers.{header_for, mode_of};
 ghost use Rattle.runtime_log.specs.private.Readings.{AreRead, HasRead, MayPass, RecordsRead, walk_reads};
@@ -13,9 +15,9 @@ ghost use Rattle.runtime_log.specs.private.Readings.{AreRead, HasRead, MayPass, 
 use crate::blocks::{LogBlock, LogBlocks, Mode};
 use crate::fault::LogFault;
 use crate::own_event::OwnKind;
-use crate::version::LogVersion;
+use crate::version::{BasicVersion, LogVersion};
 use crate::walk::BlockWalk;
-use basic_record::{BASIC_TYPE, BASIC_VERSION};
+use basic_record::BASIC_TYPE;
 use byteorder::{ByteOrder, LittleEndian};
 use fdr_file::{HEADER_BYTES, Header, Told, TraceFault, VERSION, header_fields};
 use fdr_record::Event;
@@ -28,6 +30,33 @@ const TYPE_AT: usize = 2;
 /// The type of logs of the Flight Data Recorder mode.
 const RECORDER: u16 = 1;
 
+/// Whether logs of some mode have the version with this number.
+fn is_version(number: u16) -> bool
+    ensures { result ≡ is_version number }
+{
+    LogVersion::of(number).is_some() || BasicVersion::of(number).is_some()
+}
+
+/// The Flight Data Recorder mode in the version with this number, if it has that version.
+fn recorder_mode(number: u16) -> Option<Mode>
+    ensures { result ≡ option_map TheMode.Recorder (log_version_of number) }
+{
+    match LogVersion::of(number) {
+        Some(version) => Some(Mode::Recorder(version)),
+        None => None,
+    }
+}
+
+/// The basic mode in the version with this number, if it has that version.
+fn basic_mode(number: u16) -> Option<Mode>
+    ensures { result ≡ option_map TheMode.Basic (basic_version_of number) }
+{
+    match BasicVersion::of(number) {
+        Some(version) => Some(Mode::Basic(version)),
+        None => None,
+    }
+}
+
 /// The mode of a log, or why its header isn't that of one.
 pub(crate) fn read_mode(bytes: &[u8]) -> Result<Mode, TraceFault>
     ensures reads { result ≡ mode_of bytes.now }
@@ -37,19 +66,17 @@ pub(crate) fn read_mode(bytes: &[u8]) -> Result<Mode, TraceFault>
         return Err(TraceFault::Short(0));
     }
     let number = LittleEndian::read_u16(bytes);
-    let Some(version) = LogVersion::of(number) else {
+    if !is_version(number) {
         return Err(TraceFault::Version(number));
+    }
+    let mode = match LittleEndian::read_u16(&bytes[TYPE_AT..]) {
+        RECORDER => recorder_mode(number),
+        BASIC_TYPE => basic_mode(number),
+        form => return Err(TraceFault::Form(form)),
     };
-    match LittleEndian::read_u16(&bytes[TYPE_AT..]) {
-        RECORDER => Ok(Mode::Recorder(version)),
-        BASIC_TYPE => {
-            if number == BASIC_VERSION {
-                Ok(Mode::Basic)
-            } else {
-                Err(TraceFault::Version(number))
-            }
-        }
-        form => Err(TraceFault::Form(form)),
+    match mode {
+        Some(mode) => Ok(mode),
+        None => Err(TraceFault::Version(number)),
     }
 }
 
@@ -61,7 +88,7 @@ pub(crate) fn trace_header(bytes: &[u8], mode: Mode) -> Header
     let fields = header_fields(bytes);
     let size = match mode {
         Mode::Recorder(_) => fields.size,
-        Mode::Basic => 0,
+        Mode::Basic(_) => 0,
     };
     Header {
         version: VERSION,

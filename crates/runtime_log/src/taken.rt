@@ -1,10 +1,10 @@
 //! The blocks that are taken of a log of the Flight Data Recorder mode, in their order.
 ghost use Rattle.std.specs.{Cmp.Lexicographic.{slice_cmp}, Ordering.{nat_cmp}};
-ghost use Rattle.std.specs.Prelude.{◌≡◌, ◌≤◌, ◌||◌, ℕ, All, IfOk, List, OnOk, length, map, not};
+ghost use Rattle.std.specs.Prelude.{◌≡◌, ◌≤◌, ◌==◌, ◌||◌, ℕ, All, IfOk, List, OnOk, length, map, not};
 ghost use Rattle.std.specs.{Option.{unwrap_or}, Str.{bytes_eq}};
 ghost use Rattle.runtime_log.specs.declared.version.LogVersion.{LogVersion};
 ghost use Rattle.runtime_log.specs.Logs.{LogBlock as SaidBlock};
-ghost use Rattle.runtime_log.specs.Taken.{AreTaken, is_among_contents, undoubled};
+ghost use Rattle.runtime_log.specs.Taken.{AreTaken, is_among_contents, is_doubled, undoubled};
 ghost use Rattle.runtime_log.specs.private.Choices.{AreAt, AreLeftOut, LiesWithin, content_at, time_key};
 
 use crate::blocks::LogBlock;
@@ -32,17 +32,25 @@ fn content<'a>(bytes: &'a [u8], block: &LogBlock) -> &'a [u8]
     &bytes[begin..block.end]
 }
 
-/// Adds the bytes of a block to those of the blocks before it. Returns whether they are none of
-/// these.
+/// Whether a block isn't doubled, if its bytes are none of those before it or some of these.
+fn is_own(fresh: bool, content: &[u8]) -> bool
+    ensures { result ≡ (fresh || length content.now == 0) }
+{
+    fresh || content.is_empty()
+}
+
+/// Adds the bytes of a block to those of the blocks before it. Returns whether the block isn't doubled:
+/// its bytes are none of these, or it has no bytes.
 fn add_content<'a>(seen: &mut BTreeSet<&'a [u8]>, content: &'a [u8]) -> Result<bool, NoMemory>
-    ensures own { IfOk result (λ own. own ≡ not (is_among_contents (map (λ k. k.now) seen.old.keys) content.now)) }
+    ensures own { IfOk result (λ own. own ≡ not (is_doubled (map (λ k. k.now) seen.old.keys) content.now)) }
     ensures seen { OnOk result ((other : List ℕ) → is_among_contents (map (λ k. k.now) seen.new.keys) other
         ≡ (bytes_eq other content.now || is_among_contents (map (λ k. k.now) seen.old.keys) other)) }
 {
-    Ok(seen.insert(content)?)
+    let fresh = seen.insert(content)?;
+    Ok(is_own(fresh, content))
 }
 
-/// The blocks whose bytes aren't those of a block before them.
+/// The blocks without bytes, and those whose bytes aren't those of a block before them.
 fn first_ones(alloc: Global, bytes: &[u8], blocks: &[LogBlock]) -> Result<Vec<LogBlock>, NoMemory>
     requires within { All (LiesWithin bytes.now) blocks.now }
     ensures keeps { (version : LogVersion) (said : List SaidBlock) → AreAt bytes.now version blocks.now said

@@ -1,10 +1,10 @@
-//! The versions of logs of the Flight Data Recorder mode.
+//! The versions of logs.
 ghost use Rattle.std.specs.Prelude.{◌≡◌};
-ghost use Rattle.runtime_log.specs.Versions.{log_version_of, trace_version};
+ghost use Rattle.runtime_log.specs.Versions.{basic_version_of, log_version_of, trace_version};
 
 use fdr_file::Version;
 
-/// A version of logs that is read.
+/// A version of logs of the Flight Data Recorder mode that is read.
 #[derive(Clone, Copy)]
 pub enum LogVersion {
     /// Version 2. No record names a process.
@@ -39,6 +39,28 @@ impl LogVersion {
         match self {
             LogVersion::Two => Version::Two,
             LogVersion::Three | LogVersion::Four | LogVersion::Five => Version::Three,
+        }
+    }
+}
+
+/// A version of basic logs.
+#[derive(Clone, Copy)]
+pub enum BasicVersion {
+    /// Versions 1 and 2. No record names a process.
+    Early,
+    /// Version 3.
+    Third,
+}
+
+impl BasicVersion {
+    /// The version with this number, if there is one.
+    pub(crate) fn of(number: u16) -> Option<BasicVersion>
+        ensures { result ≡ basic_version_of number }
+    {
+        match number {
+            1 | 2 => Some(BasicVersion::Early),
+            3 => Some(BasicVersion::Third),
+            _ => None,
         }
     }
 }

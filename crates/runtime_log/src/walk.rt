@@ -101,7 +101,7 @@ fn block_size(version: LogVersion, at: u64, bytes: &[u8]) -> Result<usize, Trace
     let Rec::Extents { size } = rec else {
         return Err(TraceFault::Order(at));
     };
-    if size < version.as_trace().preamble_bytes() {
+    if size > 0 && size < version.as_trace().preamble_bytes() {
         return Err(TraceFault::Extents(at));
     }
     if (bytes.len() as u128) < METADATA_BYTES as u128 + u128::from(size) {

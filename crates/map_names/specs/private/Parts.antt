@@ -3,7 +3,7 @@ use Rattle.std.specs.Prelude.{ℕ, Bool, true, false, List, [], ◌∷◌, Optio
 use Rattle.map_names.specs.declared.entry.IdName.{IdName}
 use Rattle.map_names.specs.declared.quote.Added.{Added}
 use Rattle.map_names.specs.declared.quote.Added.TheVariants.{Nothing, Byte, Escape}
-use Rattle.map_names.specs.Entries.{NamedFunction, id_in, written_name}
+use Rattle.map_names.specs.Entries.{NamedFunction, id_in, past_fields}
 
 -- what is added to a name, and whether the next byte belongs to the one that added it
 abbrev pub added_by : Added → List ℕ × Bool
@@ -11,9 +11,9 @@ added_by Nothing = ([], true)
 added_by (Byte b) = (b ∷ [], false)
 added_by (Escape b) = (92 ∷ b ∷ [], false)
 
--- the id of a line, and what is written for its name
-abbrev pub written_in : List ℕ → Option (ℕ × List ℕ)
-written_in line = option_and_then (λ start. option_map (λ name. (start.0, name)) (written_name start.1)) (id_in line)
+-- the id of a line, and what follows the fields before its name
+abbrev pub fields_in : List ℕ → Option (ℕ × List ℕ)
+fields_in line = option_and_then (λ start. option_map (λ rest. (start.0, rest)) (past_fields start.1)) (id_in line)
 
 -- an entry that was read
 abbrev pub entry_read : IdName → NamedFunction

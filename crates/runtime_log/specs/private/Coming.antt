@@ -12,7 +12,7 @@ recorder_events events = option_to_list events.pending ++ walk_events events.wal
 
 abbrev pub events_to_come : BlockEvents → List Event
 events_to_come (coming.Recorder events) = recorder_events events
-events_to_come (coming.Basic events) = map (λ p. event_at events.bytes.now p.at) events.passings.now
+events_to_come (coming.Basic events) = map (λ p. event_at events.version events.bytes.now p.at) events.passings.now
 events_to_come coming.Done = []
 
 -- they may be taken

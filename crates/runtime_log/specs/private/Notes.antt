@@ -44,6 +44,8 @@ pub record SameLog (old new : Facts) : Type 0 where
   pub typed : new.typed ≡ old.typed
   pub doubled : new.doubled ≡ old.doubled
   pub empty : new.empty ≡ old.empty
+  pub lost : new.lost ≡ old.lost
+  pub frequency : new.frequency ≡ old.frequency
 
 -- one more event of this thread, with this counter
 pub record NotesCounter (old : Notes) (thread tsc : ℕ) (new : Notes) : Type 0 where

@@ -4,7 +4,6 @@ use Rattle.std.specs.List.{flat_map}
 use Rattle.fdr_buffer.specs.declared.buffer.TheConstants.{LARGEST_SIZE}
 use Rattle.fdr_buffer.specs.Filled.{Filled}
 use Rattle.fdr_buffer.specs.Segments.{segments}
-use Rattle.fdr_file.specs.declared.header.Header.{Header}
 use Rattle.fdr_file.specs.Files.{block_bytes}
 use Rattle.fdr_record.specs.declared.event.Event.{Event}
 use Rattle.fdr_file.specs.ThreadEvents.{ThreadEvent, thread_events}
@@ -13,8 +12,9 @@ use Rattle.runtime_log.specs.declared.blocks.Head.{Head}
 use Rattle.fdr_file.specs.declared.trace.Block.{Block}
 use Rattle.runtime_log.specs.declared.facts.Facts.{Facts}
 use Rattle.runtime_log.specs.declared.packing.Packing.{Packing}
+use Rattle.runtime_log.specs.declared.facts.Counts.{Counts}
 use Rattle.runtime_log.specs.Imports.{trace_file, trace_taken}
-use Rattle.runtime_log.specs.Logs.{LogBlock}
+use Rattle.runtime_log.specs.Logs.{Log}
 use Rattle.runtime_log.specs.Taken.{undoubled}
 use Rattle.runtime_log.specs.private.Coming.{events_to_come}
 use Rattle.runtime_log.specs.private.Notes.{AreFew, HasNoted}
@@ -29,12 +29,21 @@ pub record NoEvents (facts : Facts) : Type 0 where
   pub last : facts.last ≡ None
   pub back : facts.back ≡ 0
 
--- what is said of all blocks of the log
-pub record SaysOfLog (blocks : List LogBlock) (facts : Facts) : Type 0 where
-  pub custom : facts.custom ≡ sum (map (λ b. b.custom) blocks)
-  pub typed : facts.typed ≡ sum (map (λ b. b.typed) blocks)
-  pub doubled : facts.doubled ≡ length blocks - length (undoubled blocks)
-  pub empty : facts.empty ≡ count_by (λ b. length b.block.events == 0) (undoubled blocks)
+-- what is said of the log
+pub record SaysOfLog (log : Log) (facts : Facts) : Type 0 where
+  pub custom : facts.custom ≡ sum (map (λ b. b.custom) log.blocks)
+  pub typed : facts.typed ≡ sum (map (λ b. b.typed) log.blocks)
+  pub doubled : facts.doubled ≡ length log.blocks - length (undoubled log.blocks)
+  pub empty : facts.empty ≡ count_by (λ b. length b.block.events == 0) (undoubled log.blocks)
+  pub lost : facts.lost ≡ log.lost
+  pub frequency : facts.frequency ≡ log.header.frequency
+
+-- these are the numbers of what a log has
+pub record AreOfLog (log : Log) (counts : Counts) : Type 0 where
+  pub custom : counts.custom ≡ sum (map (λ b. b.custom) log.blocks)
+  pub typed : counts.typed ≡ sum (map (λ b. b.typed) log.blocks)
+  pub lost : counts.lost ≡ log.lost
+  pub frequency : counts.frequency ≡ log.header.frequency
 
 -- what is known of a block without its events is what it says
 pub record Heads (head : Head) (block : Block) : Type 0 where
@@ -66,14 +75,14 @@ pub record Fills (head : Head) (file : List ℕ) (events : List Event) (packing 
   pub written : packing.file.items ≡ file ++ flat_map (λ s. block_bytes (filled_for head s)) whole
   pub buffer : packing.buffer ≡ filled_for head opened
 
--- it is the file of these blocks, which are taken of those of a log
-pub record HasPacked (header : Header) (blocks : List LogBlock) (taken : List Block) (packing : Packing) : Type 0 where
-  pub file : packing.file.items ≡ trace_file (trace_taken header taken)
+-- it is the file of these blocks, which are taken of a log
+pub record HasPacked (log : Log) (taken : List Block) (packing : Packing) : Type 0 where
+  pub file : packing.file.items ≡ trace_file (trace_taken log.header taken)
   pub size : packing.buffer.size ≡ LARGEST_SIZE
   pub notes : HasNoted (thread_events taken) packing.notes
   pub few : AreFew packing.notes.facts
   pub count : packing.notes.facts.blocks ≡ length taken
-  pub log : SaysOfLog blocks packing.notes.facts
+  pub says : SaysOfLog log packing.notes.facts
 
 -- The first events of a block were added to a packing: they are filled in, and noted.
 pub record Adds (head : Head) (old : Packing) (all left : BlockEvents) (new : Packing) : Type 0 where
@@ -83,4 +92,4 @@ pub record Adds (head : Head) (old : Packing) (all left : BlockEvents) (new : Pa
   pub notes : (before : List ThreadEvent) (pid : ℕ) → HasNoted before old.notes
       → HasNoted (before ++ map (λ event. record { thread = head.thread; pid = pid; event = event }) done) new.notes
   pub count : new.notes.facts.blocks ≡ old.notes.facts.blocks + 1
-  pub log : (blocks : List LogBlock) → SaysOfLog blocks old.notes.facts → SaysOfLog blocks new.notes.facts
+  pub log : (log : Log) → SaysOfLog log old.notes.facts → SaysOfLog log new.notes.facts

@@ -7,7 +7,7 @@ use Rattle.runtime_log.proofs.basic.record_at.Goals as goal
 pub returns-clause-reads : goal.returns-clause-reads
 returns-clause-reads c =
     let bytes = simp take_rest at c.record_bytes.ensures in
-    c.record_in.ensures.reads ∙ ap (tagged_rows c.args.at) bytes
+    c.record_in.ensures.reads ∙ ap (tagged_rows c.args.version c.args.at) bytes
 
 pub returns-clause-whole : goal.returns-clause-whole
 returns-clause-whole c =

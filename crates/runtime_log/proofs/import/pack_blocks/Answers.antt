@@ -17,15 +17,15 @@ adding-preserved c =
       size = c.add.ensures.size;
       room = omega (arith, i.room, c.in_ok-add.ensures.room, c.of.ensures.few);
       count = c.in_ok-add.ensures.blocks ∙ ap (λ (n : ℕ). n + 1) i.count;
-      packed = λ header said taken packed at some.
+      packed = λ log taken packed at some.
           let there = at_index bytes version c.args.blocks.now taken index _ at c.adding-test.true in
-          packed_next header said taken c.add.new.self bytes version _ index there
-          (c.in_ok-add.ensures.packs header said _ there.b.block (i.packed header said taken packed at some) (c.head.ensures there.b.block there.is.shows) (has_some bytes version _ taken index there some) (c.of.ensures.all there.b there.is));
+          packed_next log taken c.add.new.self bytes version _ index there
+          (c.in_ok-add.ensures.packs log _ there.b.block (i.packed log taken packed at some) (c.head.ensures there.b.block there.is.shows) (has_some bytes version _ taken index there some) (c.of.ensures.all there.b there.is));
     }
 
 pub returns : goal.returns
-returns c = λ header said taken packed at some.
+returns c = λ log taken packed at some.
     let index = c.adding.block-index in
     let all = take_all index taken (omega (arith, c.adding-test.false, at_length c.args.bytes.now c.args.version c.args.blocks.now taken at)) in
-    let done = subst (λ (bs : List LogBlock). HasPacked header said (blocks_of bs) c.adding.packing) all (c.adding.invariant.packed header said taken packed at some) in
-    (c.finish.ensures.file ∙ done.file, c.finish.ensures.facts ∙ facts_packed header said (blocks_of taken) c.adding.packing done)
+    let done = subst (λ (bs : List LogBlock). HasPacked log (blocks_of bs) c.adding.packing) all (c.adding.invariant.packed log taken packed at some) in
+    (c.finish.ensures.file ∙ done.file, c.finish.ensures.facts ∙ facts_packed log (blocks_of taken) c.adding.packing done)

@@ -1,8 +1,7 @@
 use Rattle.std.proofs.Common.{◌≡◌, ◌*◌, ◌^◌, ◌≤◌, List, [], take}
 use Rattle.std.specs.Prelude.{◌≢◌, All}
 use Rattle.fdr_buffer.specs.declared.buffer.TheConstants.{LARGEST_SIZE}
-use Rattle.fdr_file.specs.declared.header.Header.{Header}
-use Rattle.runtime_log.specs.Logs.{LogBlock}
+use Rattle.runtime_log.specs.Logs.{Log, LogBlock}
 use Rattle.runtime_log.specs.private.Choices.{AreAt}
 use Rattle.runtime_log.specs.private.Notes.{AreFew}
 use Rattle.runtime_log.specs.private.Packings.{HasPacked}
@@ -16,6 +15,6 @@ invariant-adding l = record {
   size : l.packing.buffer.size ≡ LARGEST_SIZE;
   room : l.packing.notes.facts.events ≤ l.block-index * 2 ^ 31;
   count : l.packing.notes.facts.blocks ≡ l.block-index;
-  packed : (header : Header) (said taken : List LogBlock) → HasPacked header said [] l.initial.packing
-      → AreAt l.bytes l.version l.blocks taken → All (λ b. b.block.events ≢ []) taken → HasPacked header said (blocks_of (take l.block-index taken)) l.packing;
+  packed : (log : Log) (taken : List LogBlock) → HasPacked log [] l.initial.packing
+      → AreAt l.bytes l.version l.blocks taken → All (λ b. b.block.events ≢ []) taken → HasPacked log (blocks_of (take l.block-index taken)) l.packing;
 }

@@ -16,6 +16,7 @@ pub packing-preserved : goal.packing-preserved
 packing-preserved c =
     let i = c.packing.invariant in
     let bytes = c.args.bytes.now in
+    let version = c.args.version in
     let left = c.packing.left.now in
     let first = c.in-Some.first.now in
     let others = c.in-Some.others.now in
@@ -24,39 +25,40 @@ packing-preserved c =
     let one : 1 + n ≡ suc n = omega arith in
     let run : c.split_at.result.0.now ≡ first ∷ take n others = c.split_at.ensures.front ∙ ap (λ (k : ℕ). take k left) one ∙ ap (take (suc n)) cut in
     let later : c.split_at.result.1.now ≡ drop n others = c.split_at.ensures.back ∙ ap (λ (k : ℕ). drop k left) one ∙ ap (drop (suc n)) cut in
-    let events : events_to_come c.of_passings.result ≡ events_left bytes (first ∷ take n others) = c.of_passings.ensures.all ∙ ap (events_left bytes) run in
+    let events : events_to_come c.of_passings.result ≡ events_left version bytes (first ∷ take n others) = c.of_passings.ensures.all ∙ ap (events_left version bytes) run in
     let many : length (events_to_come c.of_passings.result) ≡ length c.split_at.result.0.now =
-    ap length c.of_passings.ensures.all ∙ length-map c.split_at.result.0.now (λ (p : Passing). event_at bytes p.at) in
-    let block = run_block first (events_left bytes (first ∷ take n others)) in
-    let rest = runs_of (events_of_passings bytes (drop n others)) in
+    ap length c.of_passings.ensures.all ∙ length-map c.split_at.result.0.now (λ (p : Passing). event_at version bytes p.at) in
+    let block = run_block first (events_left version bytes (first ∷ take n others)) in
+    let rest = runs_of (events_of_passings version bytes (drop n others)) in
     let head = c.head.ensures in
     record {
       few = c.in_ok-add.ensures.few;
       size = c.in_ok-add.ensures.size;
       room = omega (arith, i.room, c.in_ok-add.ensures.room, many, c.split_at.ensures.front_len, c.split_at.ensures.back_len);
       count = omega (arith, i.count, c.in_ok-add.ensures.blocks, c.split_at.ensures.back_len);
-      packed = λ header packed.
-          let p = i.packed header packed in (
+      packed = λ log packed.
+          let p = i.packed log packed in (
             p.0 ++ block ∷ [],
-            c.in_ok-add.ensures.packs header [] p.0 block p.1
+            c.in_ok-add.ensures.packs log p.0 block p.1
                 (record { thread = ap (λ (h : Head). h.thread) head; pid = ap (λ (h : Head). h.pid) head; wall = ap (λ (h : Head). h.wall) head })
-                (run_some first (event_at bytes first.at) (events_left bytes (take n others))) events,
-            ap (λ (ps : List Passing). (p.0 ++ block ∷ []) ++ runs_of (events_of_passings bytes ps)) later
+                (run_some first (event_at version bytes first.at) (events_left version bytes (take n others))) events,
+            ap (λ (ps : List Passing). (p.0 ++ block ∷ []) ++ runs_of (events_of_passings version bytes ps)) later
                 ∙ append_assoc p.0 (block ∷ []) rest
                 ∙ ap (λ (bs : List Block). p.0 ++ bs)
-                (sym (ap (λ (ps : List Passing). runs_of (events_of_passings bytes ps)) cut
-                ∙ run_first bytes first others n (record { within = c.run_len.ensures.within; same = c.run_len.ensures.same; ends = c.run_len.ensures.ends })))
+                (sym (ap (λ (ps : List Passing). runs_of (events_of_passings version bytes ps)) cut
+                ∙ run_first version bytes first others n (record { within = c.run_len.ensures.within; same = c.run_len.ensures.same; ends = c.run_len.ensures.ends })))
                 ∙ p.2,
           );
     }
 
 pub returns : goal.returns
-returns c = λ header packed.
-    let p = c.packing.invariant.packed header packed in
+returns c = λ log packed.
+    let p = c.packing.invariant.packed log packed in
     let bytes = c.args.bytes.now in
+    let version = c.args.version in
     let none : c.packing.left.now ≡ [] = nil_from_length c.packing.left.now c.in_default.ensures.cases in
-    let done : p.0 ≡ runs_of (events_of_passings bytes c.args.passings.now) =
-    sym (append-nil p.0) ∙ ap (λ (ps : List Passing). p.0 ++ runs_of (events_of_passings bytes ps)) (sym none) ∙ p.2 in (
-      c.finish.ensures.file ∙ p.1.file ∙ ap (λ (bs : List Block). trace_file (trace_taken header bs)) done,
-      c.finish.ensures.facts ∙ facts_packed header [] p.0 c.packing.packing p.1 ∙ ap (facts_of []) done,
+    let done : p.0 ≡ runs_of (events_of_passings version bytes c.args.passings.now) =
+    sym (append-nil p.0) ∙ ap (λ (ps : List Passing). p.0 ++ runs_of (events_of_passings version bytes ps)) (sym none) ∙ p.2 in (
+      c.finish.ensures.file ∙ p.1.file ∙ ap (λ (bs : List Block). trace_file (trace_taken log.header bs)) done,
+      c.finish.ensures.facts ∙ facts_packed log p.0 c.packing.packing p.1 ∙ ap (facts_of log) done,
     )

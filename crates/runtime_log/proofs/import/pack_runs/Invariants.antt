@@ -1,6 +1,6 @@
 use Rattle.std.proofs.Common.{◌≡◌, ◌+◌, ◌++◌, ◌≤◌, List, [], length}
 use Rattle.fdr_buffer.specs.declared.buffer.TheConstants.{LARGEST_SIZE}
-use Rattle.fdr_file.specs.declared.header.Header.{Header}
+use Rattle.runtime_log.specs.Logs.{Log}
 use Rattle.fdr_file.specs.declared.trace.Block.{Block}
 use Rattle.runtime_log.specs.private.Notes.{AreFew}
 use Rattle.runtime_log.specs.private.Packings.{HasPacked}
@@ -14,8 +14,8 @@ invariant-packing l = record {
   size : l.packing.buffer.size ≡ LARGEST_SIZE;
   room : l.packing.notes.facts.events + length l.left ≤ length l.passings;
   count : l.packing.notes.facts.blocks + length l.left ≤ length l.passings;
-  packed : (header : Header) → HasPacked header [] [] l.initial.packing → (done : List Block) × HasPacked header [] done l.packing
-      × (done ++ runs_of (events_of_passings l.bytes l.left) ≡ runs_of (events_of_passings l.bytes l.passings));
+  packed : (log : Log) → HasPacked log [] l.initial.packing → (done : List Block) × HasPacked log done l.packing
+      × (done ++ runs_of (events_of_passings l.version l.bytes l.left) ≡ runs_of (events_of_passings l.version l.bytes l.passings));
 }
 
 abbrev pub decreases-packing : goal.decreases-packing

@@ -5,7 +5,7 @@ use Rattle.std.proofs.lemmas.Bool.{not-true, not-false}
 use Rattle.std.proofs.lemmas.List.{drop_all, length_push}
 use Rattle.runtime_log.specs.declared.blocks.LogBlock.{LogBlock as Placed}
 use Rattle.runtime_log.specs.Logs.{LogBlock}
-use Rattle.runtime_log.specs.Taken.{first_ones, is_among_contents}
+use Rattle.runtime_log.specs.Taken.{first_ones, is_among_contents, is_doubled}
 use Rattle.runtime_log.specs.private.Choices.{AreAt, KeepsFirst}
 use Rattle.runtime_log.proofs.TakenBlocks.{at_index, at_length, keeps_doubled, keeps_own}
 use Rattle.runtime_log.proofs.taken.first_ones.Goals.{then-branch+in_ok-push, else-branch}
@@ -31,7 +31,7 @@ keeping-preserved c =
     let seen = map (λ (k : Bor (List ℕ)). k.now) c.keeping.seen.keys in
     let kept = c.keeping.kept.items in
     let same = c.content.ensures in
-    let own = c.in_ok-add_content.ensures.own ∙ ap (λ (xs : List ℕ). not (is_among_contents seen xs)) same in
+    let own = c.in_ok-add_content.ensures.own ∙ ap (λ (xs : List ℕ). not (is_doubled seen xs)) same in
     let adds = λ (q : List ℕ). c.in_ok-add_content.ensures.seen q ∙ ap (λ (xs : List ℕ). bytes_eq q xs || is_among_contents seen q) same in
     record {
       few = elim c.if-branch.branch [

@@ -6,7 +6,8 @@ use Rattle.runtime_log.proofs.threads.read_passings.Given as goal
 abbrev pub invariant-records : goal.invariant-records
 invariant-records l = record {
   within : l.at ≤ length l.bytes;
-  reads : PassingsRead l.bytes l.at l.before l.passings.items;
+  few : l.lost ≤ l.at;
+  reads : PassingsRead l.version l.bytes l.at l.before l.lost l.passings.items;
 }
 
 abbrev pub decreases-records : goal.decreases-records

@@ -8,8 +8,8 @@ returns-in-Recorder-clause-gives c =
 
 pub returns-in-Basic-clause-gives : goal.returns-in-Basic-clause-gives
 returns-in-Basic-clause-gives c =
-    rw c.in-Basic.is (given_next _ _ _ _ c.next-in-Basic.result c.next-in-Basic.ensures.bytes c.next-in-Basic.ensures.gives)
+    rw c.in-Basic.is (given_next _ _ _ _ _ _ c.next-in-Basic.result c.next-in-Basic.ensures.version c.next-in-Basic.ensures.bytes c.next-in-Basic.ensures.gives)
 
 pub returns-in-Basic-clause-ends : goal.returns-in-Basic-clause-ends
 returns-in-Basic-clause-ends c = λ none.
-    rw c.in-Basic.is (given_none _ _ _ _ c.next-in-Basic.result c.next-in-Basic.ensures.bytes c.next-in-Basic.ensures.gives none)
+    rw c.in-Basic.is (given_none _ _ _ _ _ _ c.next-in-Basic.result c.next-in-Basic.ensures.version c.next-in-Basic.ensures.bytes c.next-in-Basic.ensures.gives none)

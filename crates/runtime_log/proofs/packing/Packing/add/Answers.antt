@@ -60,8 +60,8 @@ pub events-smaller : goal.events-smaller
 events-smaller c = omega (arith, c.add_stretch.ensures.fewer, ap length c.in-Some-next.ensures.gives)
 
 pub returns-clause-packs : goal.returns-clause-packs
-returns-clause-packs c = λ header said taken b packed shows some is.
+returns-clause-packs c = λ log taken b packed shows some is.
     let i = c.events.invariant in
     on_ok_weaker c.flush.result
-    (packed_more header said taken b c.args.head c.args.self.now c.events.self c.flush.new.self c.args.events c.events.events packed shows is i.adds
+    (packed_more log taken b c.args.head c.args.self.now c.events.self c.flush.new.self c.args.events c.events.events packed shows is i.adds
     (c.next-in-events.ensures.ends c.in_default-next.is) i.few i.begun.1 c.flush.ensures.others.0 c.flush.ensures.others.1) c.flush.ensures.file

@@ -1,9 +1,0 @@
-use Rattle.std.specs.Prelude.{codes}
-use Rattle.runtime_log.specs.Facts.{count_line, counter_line}
-use Rattle.runtime_log.proofs.FactTexts.{three_lines}
-use Rattle.runtime_log.proofs.facts.Facts.counters.Goals as goal
-
-pub returns : goal.returns
-returns c =
-    let f = c.args.self.now in
-    three_lines (counter_line f.first (codes "first counter")) (counter_line f.last (codes "last counter")) (count_line f.back (codes "threads whose counter goes back"))
