@@ -34,7 +34,13 @@ CONTRACT = [
     ("xray_program", "Commands", "IsStill"),
     ("fdr_buffer", "Times", "IsTime"),
 ]
-HEADLINE = [("xray_program", "Headline", name) for name in ("SimIsTraced", "RunIsTraced")]
+# what is promised of an image, a script and a schedule that were read, and what says it of the bytes of the inputs
+HEADLINE = [
+    ("xray_program", "Headline", "RanBySchedule"),
+    ("xray_program", "Run", "RanBeside"),
+    ("xray_program", "Traced", "IsTraced"),
+]
+HEADLINE_OF_BYTES = [("xray_program", "Headline", name) for name in ("SimIsTraced", "RunIsTraced")]
 MODIFIERS = r"(?:(?:abbrev|unfoldable|opaque|pub) )*"
 OPENS = re.compile(MODIFIERS + r"(?:(?:record|data) ([^\s:(]+)|([^\s:(]+)(?: \{[^}]*\})* :(?= |$))")
 PUBLIC = re.compile(r"\s*(?:(?:abbrev|unfoldable|opaque) )+pub (?:(?:record|data) )?([^\s:(]+)|\s*pub (?:record|data) ([^\s:(]+)|pub (?!use |mod )([^\s:(]+)")
@@ -54,8 +60,11 @@ and stop where a name says enough. [MODEL.md](MODEL.md) says the same in words.
 `tools/compare/believe.py` makes this page from the sources, and the gate compares them. Lines are those of the
 definitions. Comments aren't counted.
 """
-HEADLINE_INTRO = """What `sim` and `run` promise about threads, marks and traces (`SimIsTraced` and `RunIsTraced`) stands on these
-definitions alone."""
+HEADLINE_INTRO = """What `sim` and `run` promise about threads, marks and traces stands on these definitions alone, once the image, the
+script and the schedule are read: the threads have run by the schedule (`RanBySchedule`) or beside the script
+(`RanBeside`), and what is written is left of such runs (`IsTraced`)."""
+BYTES_INTRO = """`SimIsTraced` and `RunIsTraced` say the same of the bytes that the desk held. These definitions say what the bytes of an
+image, of a script and of a schedule mean, and what the options of a command set."""
 
 
 def split_uses(text):
@@ -280,10 +289,13 @@ def table(book, keys):
 def page(book):
     seen, declared = book.closure(CONTRACT)
     headline, _ = book.closure(HEADLINE)
-    others = {key: None for key in seen if key not in headline}
+    of_bytes, _ = book.closure(HEADLINE_OF_BYTES)
+    inputs = {key: None for key in of_bytes if key not in headline}
+    others = {key: None for key in seen if key not in of_bytes}
     counted = lambda keys: f"{len(keys)} definitions in {len({key[:2] for key in keys})} files, {sum(map(book.lines, keys)):,} lines"
-    text = [INTRO, f"- the headline: {counted(headline)}", f"- all: {counted(seen)}", ""]
+    text = [INTRO, f"- the headline: {counted(headline)}", f"- its inputs: {counted(inputs)}", f"- all: {counted(seen)}", ""]
     text += ["## The headline", "", HEADLINE_INTRO, "", *table(book, headline), ""]
+    text += ["## The inputs of the headline", "", BYTES_INTRO, "", *table(book, inputs), ""]
     text += ["## The rest of the contract", "", *table(book, others), ""]
     text += ["## Types of the code", "", "The logic sees them as they are declared.", "", "| File | Types and constants |", "|---|---|"]
     for (crate, module), kinds in sorted(declared_rows(declared).items()):
