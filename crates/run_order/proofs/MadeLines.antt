@@ -4,7 +4,7 @@ use Rattle.std.specs.Prelude.{replicate}
 use Rattle.step_sim.specs.declared.turns.Turns.{Turns}
 use Rattle.step_sim.specs.declared.turns.Turns.TheVariants.{Patcher, Thread}
 use Rattle.run_order.specs.declared.lines.ScheduleLines.{ScheduleLines}
-use Rattle.run_order.specs.Orders.{joined, joined_to}
+use Rattle.run_order.specs.private.Ordered.{joined, joined_to}
 use Rattle.run_order.specs.private.Lines.{HasJoined, steps_line}
 
 line_alone : (steps : ℕ) → joined (steps_line steps ++ []) ≡ steps_line steps

@@ -11,7 +11,7 @@ use Rattle.step_sim.proofs.AllThreads.{set_cases}
 use Rattle.step_sim.specs.declared.turns.Turns.{Turns}
 use Rattle.run_order.specs.declared.lines.ScheduleLines.{ScheduleLines}
 use Rattle.audit_check.specs.declared.stop.Stop.{Stop}
-use Rattle.run_order.specs.Orders.{load_line, turns_at}
+use Rattle.run_order.specs.private.Ordered.{load_line, turns_at}
 use Rattle.run_order.specs.private.Lines.{HasJoined}
 use Rattle.audit_check.specs.Stops.{places_of}
 use Rattle.run_order.specs.private.Stops.{AllFrom, ArePassed, AreStops, HaveAdded, Passes, loads_at, places_in}

@@ -1,5 +1,5 @@
 -- There is one answer to an audit, and always some answer.
-use Rattle.std.proofs.Common.{◌≡◌, ℕ, ◌+◌, ◌-◌, Bool, true, false, List, [], Some, None, Option, refl, sym, ap, subst, ◌∙◌, arith, map}
+use Rattle.std.proofs.Common.{◌≡◌, ◌+◌, ◌-◌, Bool, true, false, List, [], Some, None, Option, refl, sym, ap, subst, ◌∙◌, arith, map}
 use Rattle.std.specs.Prelude.{Result, Ok, Err, option_map, slice_get}
 use Rattle.std.proofs.lemmas.Option.{slice_get-map, slice_get_within}
 use Rattle.xray_image.specs.Program.{Program}
@@ -25,7 +25,7 @@ use Rattle.run_order.specs.declared.fault.OrderFault.TheVariants.{Ends, Marks, L
 use Rattle.run_order.specs.Answers.{AllEndsAgree, AnswersOrder, IsOrderOrLong, IsOrdered, AllMarksAgree}
 use Rattle.run_order.specs.Orders.{is_long}
 use Rattle.run_order.specs.RunOrders.{IsOrderOf}
-use Rattle.run_order.proofs.OrderLeavesRun.{one_order, some_order}
+use Rattle.run_order.proofs.OrderLeavesRun.{BoundsWithin, one_order, some_order}
 
 -- ---- one answer
 
@@ -97,10 +97,10 @@ marks_follow program script s runs names are agree i run e = by_said (slice_get 
         let marks : run.marks ≡ said.marks = cc in
         subst (λ (ms : List Mark). MarksFollowScript program s.setup.threads script (i + 1) (sleds_passed run.passed) ms) (sym marks) row.follow
 
-some_long : (program : Program) (script : List PatchCommand) (s : AuditStatement) (runs : List ThreadRun) (are : AreRunsOf program s runs) → NamesThreads s
+some_long : BoundsWithin → (program : Program) (script : List PatchCommand) (s : AuditStatement) (runs : List ThreadRun) (are : AreRunsOf program s runs) → NamesThreads s
     → AllEndsAgree program script s runs → AllMarksAgree program script s runs → (answer : Answer) × IsOrdered program script s answer
-some_long program script s runs are names ends marks =
-    let order = some_order program s.setup script runs are.run (marks_follow program script s runs names are marks) in
+some_long bounds program script s runs are names ends marks =
+    let order = some_order bounds program s.setup script runs are.run (marks_follow program script s runs names are marks) in
     by_length order.0 order.1 (is_long order.0) refl
   where
     by_length : (schedule : List Turns) → IsOrderOf program s.setup.threads script runs schedule → (long : Bool) → is_long schedule ≡ long
@@ -111,11 +111,11 @@ some_long program script s runs are names ends marks =
         (Ok schedule, record { runs = runs; are = are; answer_is = (ends, marks, order, short) })
 
 -- the audit of a lawful run has an order, or one that is too long
-pub lawful_answer : (program : Program) (script : List PatchCommand) (setup : Setup) (runs : List ThreadRun) → IsRun program setup runs
+pub lawful_answer : BoundsWithin → (program : Program) (script : List PatchCommand) (setup : Setup) (runs : List ThreadRun) → IsRun program setup runs
     → AllMarksFollow program setup.threads script runs → AreLost setup.size (spare_of setup) runs
     → (answer : Answer) × IsOrdered program script (run_statement setup runs) answer × IsOrderOrLong answer
-lawful_answer program script setup runs is follow lost =
-    let order = some_order program setup script runs is follow in
+lawful_answer bounds program script setup runs is follow lost =
+    let order = some_order bounds program setup script runs is follow in
     by_length order.0 order.1 (is_long order.0) refl
   where
     by_length : (schedule : List Turns) → IsOrderOf program setup.threads script runs schedule → (long : Bool) → is_long schedule ≡ long
@@ -140,15 +140,15 @@ lawful_answer program script setup runs is follow lost =
     )
 
 -- what is judged has an answer
-pub some_answer : (program : Program) (script : List PatchCommand) (s : AuditStatement) (verdict : Verdict) → NamesThreads s → IsJudged program script s [] verdict
+pub some_answer : BoundsWithin → (program : Program) (script : List PatchCommand) (s : AuditStatement) (verdict : Verdict) → NamesThreads s → IsJudged program script s [] verdict
     → (answer : Answer) × IsOrdered program script s answer
-some_answer program script s (verdicts.Ends t) names judged = (Err (Ends t), record { runs = judged.runs; are = judged.are; answer_is = judged.verdict_is })
-some_answer program script s (verdicts.Marks t) names judged = (Err (Marks t), record { runs = judged.runs; are = judged.are; answer_is = judged.verdict_is })
-some_answer program script s (verdicts.Counts t) names judged =
-    some_long program script s judged.runs judged.are names judged.verdict_is.0 judged.verdict_is.1
-some_answer program script s verdicts.Recycled names judged =
-    some_long program script s judged.runs judged.are names judged.verdict_is.0 judged.verdict_is.1
-some_answer program script s verdicts.Trace names judged =
-    some_long program script s judged.runs judged.are names judged.verdict_is.0 judged.verdict_is.1
-some_answer program script s verdicts.Yes names judged =
-    some_long program script s judged.runs judged.are names judged.verdict_is.0 judged.verdict_is.1
+some_answer bounds program script s (verdicts.Ends t) names judged = (Err (Ends t), record { runs = judged.runs; are = judged.are; answer_is = judged.verdict_is })
+some_answer bounds program script s (verdicts.Marks t) names judged = (Err (Marks t), record { runs = judged.runs; are = judged.are; answer_is = judged.verdict_is })
+some_answer bounds program script s (verdicts.Counts t) names judged =
+    some_long bounds program script s judged.runs judged.are names judged.verdict_is.0 judged.verdict_is.1
+some_answer bounds program script s verdicts.Recycled names judged =
+    some_long bounds program script s judged.runs judged.are names judged.verdict_is.0 judged.verdict_is.1
+some_answer bounds program script s verdicts.Trace names judged =
+    some_long bounds program script s judged.runs judged.are names judged.verdict_is.0 judged.verdict_is.1
+some_answer bounds program script s verdicts.Yes names judged =
+    some_long bounds program script s judged.runs judged.are names judged.verdict_is.0 judged.verdict_is.1

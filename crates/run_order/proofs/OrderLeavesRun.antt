@@ -27,13 +27,19 @@ use Rattle.step_sim.specs.Replay.{Cast, Replay, marks_at}
 use Rattle.step_sim.specs.Replayed.{IsReplayOf, cast_of, cast_with, passed_of}
 use Rattle.step_sim.proofs.ReplayAlong.{front_steps}
 use Rattle.run_order.specs.FreeScripts.{free_commands, free_place}
-use Rattle.run_order.specs.Orders.{ordered}
+use Rattle.run_order.specs.private.Ordered.{ordered}
 use Rattle.run_order.specs.Places.{free_places}
 use Rattle.run_order.specs.RunOrders.{AreRunPlaces, IsOrderOf}
-use Rattle.run_order.proofs.FreeMicros.{AllRelease}
+use Rattle.run_order.specs.Merges.{IsMerge}
+use Rattle.machine_step.specs.Follows.{Rise}
+use Rattle.audit_check.specs.Places.{load_places}
+use Rattle.audit_check.proofs.SearchResults.{was_made}
+use Rattle.run_order.proofs.FreeMicros.{AllRelease, free_start, free_total, places_rise}
+use Rattle.run_order.proofs.MergedLoads.{order_merges}
+use Rattle.run_order.proofs.OneMerge.{one_merge}
 use Rattle.audit_check.proofs.LeastPlaces.{following_least}
 use Rattle.run_order.proofs.OrderOfRun.{HavePlaces, none_there, order_replays, passings_count, passings_of}
-use Rattle.run_order.proofs.ThreadLoads.{Exist}
+use Rattle.run_order.proofs.ThreadLoads.{Exist, passings_placed, rise_mapped}
 
 -- ---- other losses
 
@@ -125,6 +131,55 @@ abbrev pub BoundsWithin : Type 0
 BoundsWithin = (program : Program) (threads : ℕ) (script : List PatchCommand) (thread passing : ℕ)
     → bound_of program threads script thread passing ≤ total_of program threads script
 
+-- ---- the schedule of an order
+
+module _ (program : Program) (setup : Setup) (threads : ℕ) (script : List PatchCommand) (runs : List ThreadRun)
+    (bounds : (thread passing : ℕ) → bound_of program threads script thread passing ≤ total_of program threads script) (is : IsRun program setup runs)
+  where
+    abbrev free : ℕ → ℕ
+    free = free_place program threads script
+
+    abbrev start : ℕ
+    start = start_of program threads script
+
+    abbrev total : ℕ
+    total = total_of program threads script
+
+    pub runs_rise : (places : List (List ℕ)) → AreRunPlaces program threads script runs places → (i : ℕ) (own : List ℕ) → slice_get places i ≡ Some own
+        → Rise (free start) (free total) own
+    runs_rise places are i own there = by_run (slice_get runs i) refl
+      where
+        by_run : (run : Option ThreadRun) → slice_get runs i ≡ run → Rise (free start) (free total) own
+        by_run None e = let within = slice_get_within places i own there in absurd (none_there runs i (omega (arith, within, are.count)) e)
+        by_run (Some run) e =
+            let back : i + 1 - 1 ≡ i = omega arith in
+            let made = was_made (map free) (load_places program threads script (i + 1) (sleds_passed run.passed) run.marks) own
+            (are.each i run e ∙ (ap (slice_get places) back ∙ there)) in
+            let placed = passings_placed program threads (code_at program threads script) (i + 1) (bound_of program threads script (i + 1)) (hold_of (i + 1) script)
+            total (bounds (i + 1)) 0 start (sleds_passed run.passed) run.marks made.value
+            (sleds_exist program threads (code_at program threads script) (i + 1) run.passed (run_exists program setup runs is i run e)) made.given_is in
+            subst (Rise (free start) (free total)) made.makes
+            (rise_mapped free (places_rise program threads script) start total made.value placed.rise)
+
+    -- what is made of the places is their merge
+    pub merge_made : (places : List (List ℕ)) → AreRunPlaces program threads script runs places
+        → IsMerge (free start) (free total) places (ordered (free start) (free total) places)
+    merge_made places are =
+        order_merges (free start) (free total) places (places_rise program threads script start total (starts_within program threads script)) (runs_rise places are)
+
+    -- so it is the order
+    pub schedule_made : (schedule : List Turns) (order : IsOrderOf program threads script runs schedule)
+        → schedule ≡ ordered (free start) (free total) order.places
+    schedule_made schedule order =
+        one_merge (free start) (free total) order.places schedule (ordered (free start) (free total) order.places) order.merge (merge_made order.places order.are)
+
+    pub schedule_free : AllRelease threads script → (schedule : List Turns) (order : IsOrderOf program threads script runs schedule)
+        → schedule ≡ ordered (start_of program threads (free_commands script)) (total_of program threads (free_commands script)) order.places
+    schedule_free releases schedule order =
+        schedule_made schedule order
+        ∙ (ap (λ s. ordered s (free total) order.places) (sym (free_start program threads script releases))
+        ∙ ap (λ t. ordered (start_of program threads (free_commands script)) t order.places) (sym (free_total program threads script releases)))
+
 pub order_leaves : HasBuffers → BoundsWithin → (program : Program) (setup : Setup) (script : List PatchCommand) (runs : List ThreadRun) (schedule : List Turns)
     → IsRun program setup runs → AllRelease setup.threads script → IsOrderOf program setup.threads script runs schedule
     → (replayed : List ThreadRun) × IsReplayOf program (free_commands script) schedule setup replayed × (without_losses replayed ≡ without_losses runs)
@@ -136,7 +191,7 @@ order_leaves buffers bounds program setup script runs schedule is releases order
     let have = have_of program setup script runs order_n.places is order_n.are in
     let cast : Cast = cast_with program (free_commands script) runs in
     let replay : Replay cast schedule (map (λ (run : ThreadRun). run.marks) runs) =
-    subst (λ (s : List Turns). Replay cast s (map (λ (run : ThreadRun). run.marks) runs)) (sym order_n.schedule_is)
+    subst (λ (s : List Turns). Replay cast s (map (λ (run : ThreadRun). run.marks) runs)) (sym (schedule_free program setup n script runs (bounds program n script) is releases_n schedule order_n))
     (order_replays program script runs releases_n (bounds program n script) (starts_within program n script) order_n.places have) in
     leaves is replay
   where
@@ -199,9 +254,9 @@ collect (first ∷ runs) Own each =
         (own, refl, subst (λ (r : ThreadRun). Own 0 r own) same holds)
     at own holds others each (suc i) run e = each i run e
 
-pub some_order : (program : Program) (setup : Setup) (script : List PatchCommand) (runs : List ThreadRun) → IsRun program setup runs
+pub some_order : BoundsWithin → (program : Program) (setup : Setup) (script : List PatchCommand) (runs : List ThreadRun) → IsRun program setup runs
     → AllMarksFollow program setup.threads script runs → (schedule : List Turns) × IsOrderOf program setup.threads script runs schedule
-some_order program setup script runs is follow =
+some_order bounds program setup script runs is follow =
     let threads : ℕ = setup.threads in
     let all = collect runs (λ i run own. free_places program threads script (i + 1) (sleds_passed run.passed) run.marks ≡ Some own)
     (λ i run e.
@@ -217,8 +272,9 @@ some_order program setup script runs is follow =
           let back : i ≡ i + 1 - 1 = omega arith in
           own.2 ∙ sym own.1 ∙ ap (slice_get all.0) back;
     } in
-    let schedule : List Turns = ordered (start_of program threads (free_commands script)) (total_of program threads (free_commands script)) all.0 in
-    (schedule, record { places = all.0; are = are; schedule_is = refl })
+    let f : ℕ → ℕ = free_place program threads script in
+    let schedule : List Turns = ordered (f (start_of program threads script)) (f (total_of program threads script)) all.0 in
+    (schedule, record { places = all.0; are = are; merge = merge_made program setup threads script runs (bounds program threads script) is all.0 are })
 
 -- ---- and only one
 
@@ -237,9 +293,10 @@ pub one_order : (program : Program) (threads : ℕ) (script : List PatchCommand)
 one_order program threads script runs schedule other a b =
     let same : a.places ≡ b.places =
     same_lists a.places b.places (a.are.count ∙ sym b.are.count) (λ i low. by_run i (omega (arith, low, a.are.count))) in
-    a.schedule_is
-    ∙ ap (λ (ps : List (List ℕ)). ordered (start_of program threads (free_commands script)) (total_of program threads (free_commands script)) ps) same
-    ∙ sym b.schedule_is
+    let f : ℕ → ℕ = free_place program threads script in
+    let start : ℕ = f (start_of program threads script) in
+    let total : ℕ = f (total_of program threads script) in
+    one_merge start total b.places schedule other (subst (λ (ps : List (List ℕ)). IsMerge start total ps schedule) same a.merge) b.merge
   where
     by_run : (i : ℕ) → i < length runs → slice_get a.places i ≡ slice_get b.places i
     by_run i low = some_run (slice_get runs i) refl

@@ -14,7 +14,7 @@ use Rattle.traced_run.specs.Runs.{ThreadRun}
 use Rattle.step_sim.specs.Replay.{Cast, Replay, marks_at, of_thread}
 use Rattle.step_sim.specs.Replayed.{cast_with, passed_of}
 use Rattle.run_order.specs.FreeScripts.{free_commands, free_place}
-use Rattle.run_order.specs.Orders.{ordered}
+use Rattle.run_order.specs.private.Ordered.{ordered}
 use Rattle.run_order.specs.Placed.{ArePlaced}
 use Rattle.audit_check.specs.Places.{load_places}
 use Rattle.run_order.specs.Places.{free_places}

@@ -16,6 +16,8 @@ use Rattle.audit_check.specs.Statements.{HasCounts, MayState, AuditStatement}
 use Rattle.run_order.specs.Answers.{IsOrdered}
 use Rattle.run_order.specs.Orders.{is_long}
 use Rattle.run_order.proofs.FewLoads.{free_few}
+use Rattle.run_order.proofs.FreeReading.{free_plan}
+use Rattle.run_order.proofs.OrderLeavesRun.{BoundsWithin, schedule_free}
 use Rattle.run_order.proofs.OrderWords.{HasFew, ordered_words}
 use Rattle.run_order.proofs.ScriptSizes.{total_few}
 use Rattle.run_order.proofs.TurnsOf.{ordered_turns}
@@ -50,15 +52,18 @@ pub record MayBeWritten (threads : ℕ) (schedule : List Turns) : Type 0 where
   pub words : All HasWords schedule
   pub short : is_long schedule ≡ false
 
-pub order_written : (bytes : List ℕ) (program : Program) (text : List ℕ) (plan : Plan) (statement : AuditStatement) (schedule : List Turns)
+pub order_written : BoundsWithin → (bytes : List ℕ) (program : Program) (text : List ℕ) (plan : Plan) (statement : AuditStatement) (schedule : List Turns)
     → IsAccepted bytes program → MayState statement → plan_of program statement.setup.threads text ≡ Ok plan
     → IsOrdered program (commands_of plan.lines) statement (Ok schedule) → MayBeWritten statement.setup.threads schedule
-order_written bytes program text plan statement schedule accepted may e ordered =
+order_written bounds bytes program text plan statement schedule accepted may e ordered =
     let runs = ordered.runs in
     let order = ordered.answer_is.2 in
     let script = commands_of plan.lines in
     let threads : ℕ = statement.setup.threads in
     let places = order.places in
+    let made =
+    schedule_free program statement.setup threads script runs (bounds program threads script) ordered.are.run
+    (free_plan program threads text plan e).releases schedule order in
     let few : All HasFew places =
     places_few runs places order.are.count (λ i run own found there.
     let back : i + 1 - 1 ≡ i = omega arith in
@@ -70,10 +75,10 @@ order_written bytes program text plan statement schedule accepted may e ordered 
     )) in
     record {
       turns =
-          subst (λ (s : List Turns). All (AreTurnsOf threads) s) (sym order.schedule_is)
+          subst (λ (s : List Turns). All (AreTurnsOf threads) s) (sym made)
           (ordered_turns threads _ _ places (omega (arith, order.are.count, ordered.are.run.count)));
       words =
-          subst (λ (s : List Turns). All HasWords s) (sym order.schedule_is)
+          subst (λ (s : List Turns). All HasWords s) (sym made)
           (ordered_words _ _ places (total_few bytes program threads text plan accepted e) few);
       short = ordered.answer_is.3;
     }

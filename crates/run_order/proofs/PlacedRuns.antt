@@ -25,15 +25,19 @@ use Rattle.audit_check.specs.Stops.{AreJoined, places_of}
 use Rattle.run_order.specs.declared.fault.OrderFault.{OrderFault}
 use Rattle.run_order.specs.declared.fault.OrderFault.TheVariants.{Long, NoMemory}
 use Rattle.run_order.specs.Answers.{AllEndsAgree, IsOrdered, AllMarksAgree}
-use Rattle.run_order.specs.FreeScripts.{free_commands, free_place}
-use Rattle.run_order.specs.Orders.{is_long, ordered}
+use Rattle.run_order.specs.FreeScripts.{free_place}
+use Rattle.run_order.specs.Orders.{is_long}
+use Rattle.run_order.specs.private.Ordered.{ordered}
 use Rattle.machine_step.specs.Follows.{Rise}
 use Rattle.run_order.specs.RunOrders.{IsOrderOf}
 use Rattle.run_order.specs.private.Ordering.{cut, fault_of}
 use Rattle.run_order.specs.private.Stops.{AreStops}
 use Rattle.run_order.specs.private.Waits.{freed, waits_of}
 use Rattle.run_order.proofs.FewLoads.{loads_few}
-use Rattle.run_order.proofs.FreeMicros.{AllRelease, free_start, free_total, places_rise}
+use Rattle.run_order.specs.Merges.{IsMerge}
+use Rattle.audit_check.proofs.SearchResults.{was_made}
+use Rattle.run_order.proofs.FreeMicros.{places_rise}
+use Rattle.run_order.proofs.MergedLoads.{order_merges}
 use Rattle.run_order.proofs.WaitsBefore.{freed_is}
 use Rattle.run_order.proofs.OrderOfRun.{none_there}
 use Rattle.run_order.proofs.OrderLeavesRun.{BoundsWithin, run_exists, sleds_exist, starts_within}
@@ -150,14 +154,16 @@ module _ (bounds : BoundsWithin) (program : Program) (script : List PatchCommand
         (joined_rise (free start) (free total) stops joined
         (subst (Rise (free start) (free total)) (sym (same ∙ freed_places i own at)) (free_rise i own at)))
 
-    pub order_is : AllRelease threads script → (schedule : List Turns)
+    pub order_is : (schedule : List Turns)
         → schedule ≡ ordered (freed waits start) (freed waits total) (map (map (freed waits)) all)
         → IsOrderOf program threads script runs schedule
-    order_is releases schedule same =
+    order_is schedule same =
         let low = starts_within program threads script in
-        let begin : freed waits start ≡ start_of program threads (free_commands script) = freed_at start low ∙ sym (free_start program threads script releases) in
-        let end : freed waits total ≡ total_of program threads (free_commands script) =
-        freed_at total (omega arith) ∙ sym (free_total program threads script releases) in
+        let begin : freed waits start ≡ free start = freed_at start low in
+        let end : freed waits total ≡ free total = freed_at total (omega arith) in
+        let made : schedule ≡ ordered (free start) (free total) (map (map free) all) =
+        same ∙ (ap (λ s. ordered s (freed waits total) (map (map (freed waits)) all)) begin
+        ∙ (ap (λ t. ordered (free start) t (map (map (freed waits)) all)) end ∙ ap (ordered (free start) (free total)) all_freed)) in
         record {
           places = map (map free) all;
           are = record {
@@ -165,10 +171,11 @@ module _ (bounds : BoundsWithin) (program : Program) (script : List PatchCommand
             each = λ i run e.
                 ap (option_map (map free)) (load.each i run e) ∙ sym (slice_get-map (map free) all (i + 1 - 1));
           };
-          schedule_is =
-              same ∙ ap (λ s. ordered s (freed waits total) (map (map (freed waits)) all)) begin
-              ∙ ap (λ t. ordered (start_of program threads (free_commands script)) t (map (map (freed waits)) all)) end
-              ∙ ap (ordered (start_of program threads (free_commands script)) (total_of program threads (free_commands script))) all_freed;
+          merge = subst (IsMerge (free start) (free total) (map (map free) all)) (sym made)
+              (order_merges (free start) (free total) (map (map free) all) (places_rise program threads script start total low)
+              (λ i own there.
+              let was = was_made (map free) (slice_get all i) own (sym (slice_get-map (map free) all i) ∙ there) in
+              subst (Rise (free start) (free total)) was.makes (free_rise i was.value was.given_is)));
         }
 
   -- the same of stops in some kind of lists

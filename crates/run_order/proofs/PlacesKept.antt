@@ -1,5 +1,5 @@
 -- The places that searches find keep the waits of a script.
-use Rattle.std.proofs.Common.{◌≡◌, ◌≢◌, inl, inr, ℕ, zero, suc, ◌+◌, ◌<◌, ◌≤◌, Bool, true, false, cond, List, [], ◌∷◌, ◌++◌, Option, Some, None, refl, sym, ap, subst, ◌∙◌, arith, length, map, take}
+use Rattle.std.proofs.Common.{◌≡◌, ◌≢◌, inl, inr, ℕ, zero, suc, ◌+◌, ◌<◌, ◌≤◌, Bool, true, false, cond, List, [], ◌∷◌, ◌++◌, Option, Some, refl, sym, ap, subst, ◌∙◌, arith, length, take}
 use Rattle.std.specs.Prelude.{◌==◌, ◌⊎◌, All, filter, not, slice_get}
 use Rattle.std.proofs.lemmas.Bool.Decides.{nat_tests}
 use Rattle.std.proofs.lemmas.List.{map-append}
@@ -7,21 +7,21 @@ use Rattle.std.proofs.lemmas.List.Elements.{All-take, filter-append}
 use Rattle.xray_image.specs.Program.{Program}
 use Rattle.handler_word.specs.declared.mark.Mark.{Mark}
 use Rattle.handler_word.specs.declared.mark.Mark.TheVariants.{Recorded}
-use Rattle.sled_words.specs.Words.{release_word, state_word}
+use Rattle.sled_words.specs.Words.{release_word}
 use Rattle.patch_script.specs.declared.command.PatchCommand.{PatchCommand}
 use Rattle.patch_script.specs.Bounds.{bound_of}
 use Rattle.patch_script.specs.CodeAt.{code_at}
 use Rattle.patch_script.specs.Micros.{hold_of, start_of, total_of}
-use Rattle.machine_step.specs.Follows.{MarksFollow, Rise}
+use Rattle.machine_step.specs.Follows.{Rise}
 use Rattle.machine_step.specs.Loads.{Load, Marked, Reading, Wants, from_head, from_start, is_held_at, marks_from, next_from}
 use Rattle.audit_check.specs.Places.{found_by, head_searches, is_set, load_places, passing_searches, load_places_from}
-use Rattle.audit_check.specs.private.Ways.{Held, Leaf, Node, Passes, Reaches, Tree, passing_tree, trees_of}
+use Rattle.audit_check.specs.private.Ways.{Held, Leaf, Node, Passes, Reaches, Tree, trees_of}
 use Rattle.audit_check.proofs.FollowWays.{marks_pass}
 use Rattle.audit_check.proofs.LeastPlaces.{passing_least}
 use Rattle.audit_check.proofs.OwnRelease.{trees_own}
 use Rattle.audit_check.proofs.SearchResults.{found_on}
 use Rattle.run_order.specs.FreeScripts.{is_release_word}
-use Rattle.run_order.specs.KeptWaits.{IsMadeAfter, KeepScript, LoadAtPlace, is_passing_load, their_loads, their_places}
+use Rattle.run_order.specs.KeptWaits.{KeepScript, LoadAtPlace, is_passing_load, their_loads, their_places}
 use Rattle.run_order.proofs.FirstPassing.{go_on}
 use Rattle.run_order.proofs.PassingLoads.{Leads, passing_led}
 use Rattle.run_order.proofs.RisingSearches.{found_rises}

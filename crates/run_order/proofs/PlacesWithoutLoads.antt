@@ -5,7 +5,7 @@ use Rattle.std.specs.Borrow.{Bor}
 use Rattle.std.specs.List.{enumerate_from, flat_map}
 use Rattle.std.proofs.lemmas.List.Elements.{All-append, All-cons, All-head, All-nil, All-tail}
 use Rattle.audit_check.specs.declared.stop.Stop.{Stop}
-use Rattle.run_order.specs.Orders.{load_line}
+use Rattle.run_order.specs.private.Ordered.{load_line}
 use Rattle.run_order.specs.private.Stops.{AllFrom, AreStops, loads_at, places_in}
 use Rattle.run_order.proofs.MergedTurns.{line_at}
 use Rattle.run_order.proofs.StopLemmas.{loads_none}

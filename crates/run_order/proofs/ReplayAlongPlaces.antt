@@ -15,7 +15,7 @@ use Rattle.step_sim.specs.Plays.{Plays, ThreadsRunOut, line_played, lines_played
 use Rattle.step_sim.specs.Replay.{Cast, Moment, first_moment, moment_rules, of_thread, patcher_turn, thread_count, thread_turn, wanted_by}
 use Rattle.step_sim.proofs.PlayLemmas.{turns_add}
 use Rattle.step_sim.proofs.TurnLemmas.{turn_own, turns_length, turns_other, turns_place}
-use Rattle.run_order.specs.Orders.{joined, joined_to, ordered, load_line, turns_at, turns_from}
+use Rattle.run_order.specs.private.Ordered.{joined, joined_to, ordered, load_line, turns_at, turns_from}
 use Rattle.run_order.specs.Placed.{ArePlaced}
 use Rattle.run_order.proofs.Counts.{at, at_places, before, before_all, before_next, before_none}
 

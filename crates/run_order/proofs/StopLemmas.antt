@@ -8,7 +8,7 @@ use Rattle.step_sim.specs.declared.turns.Turns.{Turns}
 use Rattle.step_sim.specs.declared.turns.Turns.TheVariants.{Thread}
 use Rattle.run_order.specs.declared.lines.ScheduleLines.{ScheduleLines}
 use Rattle.audit_check.specs.declared.stop.Stop.{Stop}
-use Rattle.run_order.specs.Orders.{load_line}
+use Rattle.run_order.specs.private.Ordered.{load_line}
 use Rattle.run_order.specs.private.Lines.{HasJoined}
 use Rattle.audit_check.specs.Stops.{places_of}
 use Rattle.run_order.specs.private.Stops.{AreStops, Passes, loads_at}

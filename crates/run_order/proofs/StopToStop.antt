@@ -6,7 +6,7 @@ use Rattle.step_sim.specs.declared.turns.Turns.{Turns}
 use Rattle.step_sim.specs.declared.turns.Turns.TheVariants.{Patcher}
 use Rattle.audit_check.specs.declared.stop.Stop.{Stop}
 use Rattle.run_order.specs.declared.lines.ScheduleLines.{ScheduleLines}
-use Rattle.run_order.specs.Orders.{joined, turns_at, turns_from}
+use Rattle.run_order.specs.private.Ordered.{joined, turns_at, turns_from}
 use Rattle.run_order.specs.private.Lines.{HasJoined}
 use Rattle.run_order.specs.private.Stops.{AllFrom, ArePassed, IsUpTo, places_in}
 use Rattle.run_order.proofs.PlacesWithoutLoads.{no_turns_from}

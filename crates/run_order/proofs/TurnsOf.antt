@@ -6,7 +6,7 @@ use Rattle.std.proofs.lemmas.List.Elements.{All-append, All-cons, All-head, All-
 use Rattle.step_sim.specs.declared.turns.Turns.{Turns}
 use Rattle.step_sim.specs.declared.turns.Turns.TheVariants.{Thread, Patcher}
 use Rattle.step_sim.specs.Schedules.{AreTurnsOf}
-use Rattle.run_order.specs.Orders.{joined, joined_to, ordered, load_line, turns_at, turns_from}
+use Rattle.run_order.specs.private.Ordered.{joined, joined_to, ordered, load_line, turns_at, turns_from}
 
 module _ (threads : ℕ) where
   abbrev AllTurns : List Turns → Type 0

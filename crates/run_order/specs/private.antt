@@ -1,4 +1,5 @@
 pub mod Lines
+pub mod Ordered
 pub mod Stops
 pub mod Texts
 pub mod Waits

@@ -63,9 +63,10 @@ pub fn an_order_keeps_the_waits()
     awaits_bound_passings();
 }
 
-/// The order of a run is a merge of the loads of its threads (`merge`): all loads by their places in the
-/// script without waits, those at one place by their threads, and all micro steps between them. There is
-/// only one merge of the same places (`one`).
+/// The order of a run is a merge of the loads of its threads: all loads by their places in the script
+/// without waits, those at one place by their threads, and all micro steps between them. If the script is
+/// read, the merge begins where threads start in the script without waits, and goes up to its end
+/// (`merge`). There is only one merge of the same places (`one`).
 pub fn an_order_is_a_merge()
     ensures merge { (program : Program) (text : List ℕ) (plan : Plan) (setup : Setup) (runs : List ThreadRun)
         (schedule : List Line) → plan_of program setup.threads text ≡ Ok plan → IsRun program setup runs
@@ -89,7 +90,9 @@ pub fn each_lawful_run_has_one_order()
     ensures one { (program : Program) (plan : Plan) (setup : Setup) (runs : List ThreadRun)
         (schedule other : List Line) → IsOrderOf program setup.threads (commands_of plan.lines) runs schedule
         → IsOrderOf program setup.threads (commands_of plan.lines) runs other → schedule ≡ other }
-{}
+{
+    awaits_bound_passings();
+}
 
 /// There is one answer to what an audit states (`one`), and always some answer (`some`), for an accepted
 /// image and any script.
@@ -101,6 +104,7 @@ pub fn one_order_of_an_audit()
         → IsAccepted bytes program → MayState statement
         → (answer : Result (List Line) OrderFault) × IsOrdered program script statement answer }
 {
+    awaits_bound_passings();
     one_end();
     some_verdict();
 }
@@ -112,7 +116,9 @@ pub fn a_lawful_run_is_ordered()
         → AreLost setup.size (spare_of setup) runs
         → (answer : Result (List Line) OrderFault)
         × IsOrdered program script (run_statement setup runs) answer × IsOrderOrLong answer }
-{}
+{
+    awaits_bound_passings();
+}
 
 /// If an order comes of an audit, for an accepted image and a script that is read, the text of the order
 /// reads as the order (`reads`). The text has at most as many bytes as a schedule may have (`short`).
@@ -128,5 +134,6 @@ pub fn an_order_is_a_schedule()
         → IsOrdered program (commands_of plan.lines) statement (Ok schedule)
         → length (schedule_text schedule) ≤ 16777216 }
 {
+    awaits_bound_passings();
     a_written_schedule_is_read();
 }

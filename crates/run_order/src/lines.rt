@@ -3,7 +3,7 @@
 ghost use Rattle.std.specs.Prelude.{◌≡◌, ◌<◌, ◌+◌, ◌^◌, ◌∷◌, ◌++◌, [], List, IfOk, OnOk, replicate};
 ghost use Rattle.step_sim.specs.declared.turns.Turns.{Turns as Line};
 ghost use Rattle.step_sim.specs.declared.turns.Turns.TheVariants.{Thread, Patcher};
-ghost use Rattle.run_order.specs.Orders.{joined};
+ghost use Rattle.run_order.specs.private.Ordered.{joined};
 ghost use Rattle.run_order.specs.private.Lines.{HasJoined, steps_line};
 
 use std::alloc::Global;

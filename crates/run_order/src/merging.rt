@@ -3,7 +3,7 @@
 ghost use Rattle.std.specs.Prelude.{◌≡◌, ◌<◌, ◌≤◌, ◌+◌, ◌^◌, ◌∷◌, ◌++◌, [], ℕ, All, List, IfOk, OnOk, length, map};
 ghost use Rattle.step_sim.specs.declared.turns.Turns.{Turns as Line};
 ghost use Rattle.patch_script.specs.Limits.{most_micros};
-ghost use Rattle.run_order.specs.Orders.{ordered, load_line, turns_at};
+ghost use Rattle.run_order.specs.private.Ordered.{ordered, load_line, turns_at};
 ghost use Rattle.run_order.specs.private.Lines.{HasJoined};
 ghost use Rattle.audit_check.specs.Stops.{places_of};
 ghost use Rattle.run_order.specs.private.Stops.{AllFrom, ArePassed, AreStops, Passes, loads_at, places_in};

@@ -5,7 +5,7 @@ ghost use Rattle.std.specs.List.{flat_map};
 ghost use Rattle.xray_io.specs.Text.{AddsText};
 ghost use Rattle.patch_script.specs.Limits.{most_micros};
 ghost use Rattle.run_order.specs.declared.fault.OrderFault.TheVariants.{NoMemory};
-ghost use Rattle.run_order.specs.Orders.{ordered};
+ghost use Rattle.run_order.specs.private.Ordered.{ordered};
 ghost use Rattle.audit_check.specs.Stops.{places_of};
 ghost use Rattle.run_order.specs.private.{Ordering.{cut}, Stops.{AreStops}, Texts.{line_text}};
 

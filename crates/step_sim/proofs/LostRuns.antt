@@ -1,11 +1,13 @@
 -- What a replay loses: as many segments as the queue has no buffers for, and each thread's oldest.
-use Rattle.std.proofs.Common.{◌≡◌, ℕ, zero, suc, ◌+◌, ◌-◌, ◌<◌, List, [], ◌∷◌, ◌++◌, Bool, true, false, Some, inl, inr, refl, sym, subst, ap, ◌∙◌, arith, length, map, fold}
+use Rattle.std.proofs.Common.{◌≡◌, ℕ, zero, suc, ◌+◌, ◌-◌, ◌<◌, ◌≤◌, List, [], ◌∷◌, ◌++◌, Bool, true, false, Some, drop, get_or, inl, inr, refl, sym, subst, take, ap, ◌∙◌, arith, length, map, fold}
 use Rattle.std.specs.Prelude.{◌&&◌, ◌==◌, if◌then◌else◌, nat_lt, replicate, slice_get}
 use Rattle.std.specs.List.{All}
 use Rattle.std.proofs.lemmas.Bool.{cases_eq}
 use Rattle.std.proofs.lemmas.Bool.Decides.{nat_tests}
 use Rattle.std.proofs.lemmas.List.{append-nil, length-map}
 use Rattle.std.proofs.lemmas.List.Elements.{All-head, All-tail, recursion_from_All}
+use Rattle.std.proofs.lemmas.Option.{same_Some, slice_get-get_or, slice_get_within}
+use Rattle.std.proofs.Math.Seq.{drop-append_seam, take-append_seam}
 use Rattle.xray_image.specs.Program.{Program}
 use Rattle.patch_script.specs.declared.command.PatchCommand.{PatchCommand}
 use Rattle.patch_script.specs.Micros.{hold_of}
@@ -27,7 +29,7 @@ use Rattle.step_sim.specs.private.Turns.{AllPooledRunOut, pooled_line, pooled_li
 use Rattle.step_sim.specs.Recorded.{numbers_from, pooling_of, segments_at}
 use Rattle.step_sim.specs.Plays.{turns}
 use Rattle.step_sim.specs.Replay.{Cast, Moment, of_thread, thread_count, thread_turn}
-use Rattle.step_sim.specs.Replayed.{IsReplayOf, LoseOldest, cast_with, passed_of, pooling_with}
+use Rattle.step_sim.specs.Replayed.{IsReplayOf, LoseOldest, TakesFirst, cast_with, passed_of, pooling_with}
 use Rattle.machine_step.specs.Buffers.{spare_of}
 use Rattle.step_sim.specs.Schedules.{AreTurnsOf}
 use Rattle.step_sim.proofs.CountedSegments.{fresh_serials}
@@ -35,7 +37,7 @@ use Rattle.step_sim.proofs.EndedRuns.{enumerated_map, no_run, of_thread_at, some
 use Rattle.step_sim.proofs.MoreLoads.{IsSameOrNext, no_marks, turn_segments}
 use Rattle.step_sim.proofs.PoolLemmas.{same_items, serial_other, serial_own, serials_of-append, stock_stays}
 use Rattle.step_sim.proofs.ReplayAlong.{no_loads, of_thread_is}
-use Rattle.step_sim.proofs.StockRuns.{first_is, lines_are, losses_of, runs_are}
+use Rattle.step_sim.proofs.StockRuns.{StockIs, first_is, lines_are, losses_of, runs_are}
 use Rattle.step_sim.proofs.TurnLemmas.{turn_other}
 
 -- ---- what a replay keeps
@@ -250,15 +252,15 @@ kept_of_replay program script schedule setup runs of is = record { lost_is = los
         (lines_ordered cast passed setup.size (spare_of setup) setup.threads schedule (first_pooled cast pooling) of
         (first_ordered cast passed setup.size (spare_of setup)))
 
-pub replay_loses : (program : Program) (script : List PatchCommand) (schedule : List Turns) (setup : Setup) (runs : List ThreadRun)
-    → All (AreTurnsOf setup.threads) schedule → IsReplayOf program script schedule setup runs → AreLost setup.size (spare_of setup) runs
-replay_loses program script schedule setup runs of is =
-    let kept = kept_of_replay program script schedule setup runs of is in
-    losses_of setup.size (spare_of setup) setup.threads runs is.last.stock segs is.run.count kept.lost_is kept.count_is kept.order
-    (runs_are cast pooling setup.threads (spare_of setup) (length cast.passings) 1 (pooled_lines cast pooling schedule) is.last (omega arith)
+-- its stock
+pub replay_stocks : (program : Program) (script : List PatchCommand) (schedule : List Turns) (setup : Setup) (runs : List ThreadRun)
+    → All (AreTurnsOf setup.threads) schedule → (is : IsReplayOf program script schedule setup runs)
+    → StockIs setup.threads (spare_of setup) is.last.stock
+replay_stocks program script schedule setup runs of is =
+    runs_are cast pooling setup.threads (spare_of setup) (length cast.passings) 1 (pooled_lines cast pooling schedule) is.last (omega arith)
     (omega (arith, long)) is.replay
     (lines_are cast pooling setup.threads (spare_of setup) schedule (first_pooled cast pooling) (recursion_from_All (AreTurnsOf setup.threads) schedule of)
-    (first_is setup.threads (spare_of setup))))
+    (first_is setup.threads (spare_of setup)))
   where
     cast : Cast
     cast = cast_with program script runs
@@ -266,11 +268,18 @@ replay_loses program script schedule setup runs of is =
     pooling : Pooling
     pooling = pooling_with program script setup runs
 
-    segs : ℕ → ℕ
-    segs t = length (segments_at cast (passed_of runs) setup.size t is.last.moment)
-
     long : length cast.passings ≡ setup.threads
     long = length-map (passed_of runs) sleds_passed ∙ length-map runs (λ (run : ThreadRun). run.passed) ∙ is.run.count
+
+pub replay_loses : (program : Program) (script : List PatchCommand) (schedule : List Turns) (setup : Setup) (runs : List ThreadRun)
+    → All (AreTurnsOf setup.threads) schedule → IsReplayOf program script schedule setup runs → AreLost setup.size (spare_of setup) runs
+replay_loses program script schedule setup runs of is =
+    let kept = kept_of_replay program script schedule setup runs of is in
+    losses_of setup.size (spare_of setup) setup.threads runs is.last.stock segs is.run.count kept.lost_is kept.count_is kept.order
+    (replay_stocks program script schedule setup runs of is)
+  where
+    segs : ℕ → ℕ
+    segs t = length (segments_at (cast_with program script runs) (passed_of runs) setup.size t is.last.moment)
 
 -- ---- the oldest
 
@@ -337,3 +346,64 @@ replay_loses_oldest program script schedule setup runs of is = record {
         let lost : ℕ = segments_among (1 + j) is.last.stock.taken in
         let from : 0 + lost ≡ lost = omega arith in
         (both.0, both.1 ∙ ap (λ (k : ℕ). numbers_from k (segs (1 + j) - 1 - lost)) from)
+
+-- ---- the first
+
+-- numbers that follow one another, in two parts
+numbers_add : (first a b : ℕ) → numbers_from first (a + b) ≡ numbers_from first a ++ numbers_from (first + a) b
+numbers_add first zero b =
+    let count : zero + b ≡ b = omega arith in
+    let start : first ≡ first + zero = omega arith in
+    ap (numbers_from first) count ∙ ap (λ (k : ℕ). numbers_from k b) start
+numbers_add first (suc a) b =
+    let count : suc a + b ≡ suc (a + b) = omega arith in
+    let start : first + 1 + a ≡ first + suc a = omega arith in
+    ap (numbers_from first) count
+    ∙ ap (λ (ns : List ℕ). first ∷ ns) (numbers_add (first + 1) a b ∙ ap (λ (k : ℕ). numbers_from (first + 1) a ++ numbers_from k b) start)
+
+of_all : (P : ThreadRun → Type 0) (runs : List ThreadRun) → All P runs → (j : ℕ) (run : ThreadRun) → slice_get runs j ≡ Some run → P run
+of_all P runs all j run found =
+    let within : j < length runs = slice_get_within runs j run found in
+    subst P (same_Some (get_or runs j run) run (sym (slice_get-get_or runs j run within) ∙ found)) (all j run within)
+
+pub replay_takes_first : (program : Program) (script : List PatchCommand) (schedule : List Turns) (setup : Setup) (runs : List ThreadRun)
+    → All (AreTurnsOf setup.threads) schedule → (is : IsReplayOf program script schedule setup runs)
+    → TakesFirst setup.size (spare_of setup) runs is.last.stock
+replay_takes_first program script schedule setup runs of is =
+    record {
+      put = stock.pushed;
+      own = λ j run found.
+          let few = at_most (segment_count setup.size run) run.lost (below run j found) (none run j found) in
+          let start : 0 + run.lost ≡ run.lost = omega arith in
+          let whole : run.lost + (segment_count setup.size run - 1 - run.lost) ≡ segment_count setup.size run - 1 = omega (arith, few) in
+          sym (fresh_serials (spare_of setup) (j + 1) stock.pushed)
+          ∙ (ap (serials_of (j + 1)) (sym stock.all)
+          ∙ (serials_of-append (j + 1) is.last.stock.taken is.last.stock.queue
+          ∙ (ap (λ (ns : List ℕ). ns ++ serials_of (j + 1) is.last.stock.queue) (oldest.taken j run found)
+          ∙ (ap (λ (ns : List ℕ). numbers_from 0 run.lost ++ ns) (oldest.left j run found)
+          ∙ (ap (λ (k : ℕ). numbers_from 0 run.lost ++ numbers_from k (segment_count setup.size run - 1 - run.lost)) (sym start)
+          ∙ (sym (numbers_add 0 run.lost (segment_count setup.size run - 1 - run.lost)) ∙ ap (numbers_from 0) whole))))));
+      taken = sym (take-append_seam is.last.stock.taken is.last.stock.queue)
+          ∙ (ap (take (length is.last.stock.taken)) stock.all ∙ ap (λ (n : ℕ). take n (replicate (spare_of setup) Fresh ++ stock.pushed)) stock.count);
+      left = sym (drop-append_seam is.last.stock.taken is.last.stock.queue)
+          ∙ (ap (drop (length is.last.stock.taken)) stock.all ∙ ap (λ (n : ℕ). drop n (replicate (spare_of setup) Fresh ++ stock.pushed)) stock.count);
+    }
+  where
+    stock : StockIs setup.threads (spare_of setup) is.last.stock
+    stock = replay_stocks program script schedule setup runs of is
+
+    oldest : LoseOldest setup.size runs is.last.stock
+    oldest = replay_loses_oldest program script schedule setup runs of is
+
+    lost : AreLost setup.size (spare_of setup) runs
+    lost = replay_loses program script schedule setup runs of is
+
+    at_most : (segments lost : ℕ) → (0 < segments → lost < segments) → (segments ≡ 0 → lost ≡ 0) → lost ≤ segments - 1
+    at_most zero lost below none = omega (arith, none refl)
+    at_most (suc segments) lost below none = omega (arith, below (omega arith))
+
+    below : (run : ThreadRun) (j : ℕ) → slice_get runs j ≡ Some run → 0 < segment_count setup.size run → run.lost < segment_count setup.size run
+    below run j found = of_all (λ run. 0 < segment_count setup.size run → run.lost < segment_count setup.size run) runs lost.few.below j run found
+
+    none : (run : ThreadRun) (j : ℕ) → slice_get runs j ≡ Some run → segment_count setup.size run ≡ 0 → run.lost ≡ 0
+    none run j found = of_all (λ run. segment_count setup.size run ≡ 0 → run.lost ≡ 0) runs lost.few.none j run found

@@ -1,5 +1,5 @@
 -- The runs that a schedule leaves, and what a replay leaves of them.
-use Rattle.std.specs.Prelude.{◌≡◌, ◌-◌, ℕ, List, map}
+use Rattle.std.specs.Prelude.{◌≡◌, ◌-◌, ◌++◌, ℕ, List, drop, length, map, replicate, take}
 use Rattle.xray_image.specs.Program.{Program}
 use Rattle.patch_script.specs.declared.command.PatchCommand.{PatchCommand}
 use Rattle.fdr_buffer.specs.Filled.{Filled}
@@ -12,7 +12,7 @@ use Rattle.traced_run.specs.Left.{AreThreadsOf, Leaves}
 use Rattle.traced_run.specs.Losses.{AreLost}
 use Rattle.traced_run.specs.Runs.{EachThread, IsRun, ThreadRun}
 use Rattle.step_sim.specs.declared.turns.Turns.{Turns}
-use Rattle.step_sim.specs.Pool.{Pooled, PooledReplay, Pooling, Stock, segments_among, serials_of}
+use Rattle.step_sim.specs.Pool.{Fresh, Pooled, PooledReplay, Pooling, QueueItem, Stock, segments_among, serials_of}
 use Rattle.step_sim.specs.Recorded.{numbers_from, pooling_of}
 use Rattle.step_sim.specs.Replay.{Cast, marks_at}
 
@@ -48,6 +48,15 @@ pub record LoseOldest (size : ℕ) (runs : List ThreadRun) (stock : Stock) : Typ
   pub taken : EachThread runs (λ number run. serials_of number stock.taken ≡ numbers_from 0 run.lost)
   pub left : EachThread runs
       (λ number run. serials_of number stock.queue ≡ numbers_from run.lost (segment_count size run - 1 - run.lost))
+
+-- The buffers of a replay by their places. Behind `spare` buffers that aren't begun stand all segments that were put into
+-- the queue: of each thread all but the last one, in their order. As many buffers as segments were taken away, from the
+-- first one on, and the others are in the queue.
+pub record TakesFirst (size spare : ℕ) (runs : List ThreadRun) (stock : Stock) : Type 0 where
+  pub put : List QueueItem
+  pub own : EachThread runs (λ number run. serials_of number put ≡ numbers_from 0 (segment_count size run - 1))
+  pub taken : stock.taken ≡ take (length put) (replicate spare Fresh ++ put)
+  pub left : stock.queue ≡ drop (length put) (replicate spare Fresh ++ put)
 
 -- A replay leaves what the runs of its schedule leave: the threads of the setup; how many buffers each has put into the queue, how
 -- many segments it has, and how many of them are lost; and the buffers of those that are left. As many are lost as the

@@ -11,7 +11,7 @@ ghost use Rattle.step_sim.specs.declared.turns.Turns.{Turns as Line};
 ghost use Rattle.step_sim.specs.Pool.{Pooled, PooledReplay, Pooling};
 ghost use Rattle.step_sim.specs.Plays.{Plays};
 ghost use Rattle.step_sim.specs.Replay.{Cast, Replay, first_moment, marks_at, moment_rules};
-ghost use Rattle.step_sim.specs.Replayed.{IsReplayOf, LoseOldest};
+ghost use Rattle.step_sim.specs.Replayed.{IsReplayOf, LoseOldest, TakesFirst};
 ghost use Rattle.machine_step.specs.Buffers.{spare_of};
 ghost use Rattle.step_sim.specs.Schedules.{AreTurnsOf, schedule_of};
 
@@ -95,6 +95,21 @@ pub fn a_replay_loses_few()
     ensures read { (program : Program) (script : List PatchCommand) (text : List ℕ) (schedule : List Line)
         (setup : Setup) (runs : List ThreadRun) → schedule_of setup.threads text ≡ Ok schedule
         → IsReplayOf program script schedule setup runs → AreLost setup.size (spare_of setup) runs }
+{}
+
+/// The queue of a replay by its places (`TakesFirst`). It holds at first the spare buffers. A thread puts
+/// its segments in, each when it begins the next one. For each that comes in, the first one that is there
+/// is taken away. So of all buffers and segments, in the order in which they came, the first ones are
+/// taken: as many as segments came.
+pub fn the_first_buffers_are_taken()
+    ensures named { (program : Program) (script : List PatchCommand) (schedule : List Line) (setup : Setup)
+        (runs : List ThreadRun) → All (AreTurnsOf setup.threads) schedule
+        → (replay : IsReplayOf program script schedule setup runs)
+        → TakesFirst setup.size (spare_of setup) runs replay.last.stock }
+    ensures read { (program : Program) (script : List PatchCommand) (text : List ℕ) (schedule : List Line)
+        (setup : Setup) (runs : List ThreadRun) → schedule_of setup.threads text ≡ Ok schedule
+        → (replay : IsReplayOf program script schedule setup runs)
+        → TakesFirst setup.size (spare_of setup) runs replay.last.stock }
 {}
 
 /// The segments that a replay loses are each thread's oldest, in their order. Buffers are taken from

@@ -27,7 +27,7 @@ pub use fault::ScheduleFault;
 pub use in_one::simulate;
 pub use laws::{
     a_replay_loses_few, buffers_change_no_replay, lost_segments_are_the_oldest, one_pooled_replay,
-    one_replay, one_run, some_replay, some_run,
+    one_replay, one_run, some_replay, some_run, the_first_buffers_are_taken,
 };
 pub use replay::SimEnd;
 pub use schedule::{Schedule, read_schedule};

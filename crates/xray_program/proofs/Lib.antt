@@ -22,6 +22,8 @@ pub mod OrderReplays
 pub mod RunReplays
 -- What stamps and buffers don't change (src/laws.rt)
 pub mod OtherOptions
+-- Beside a script that records each passing, runs that lose nothing leave the same (src/laws.rt)
+pub mod SameRuns
 -- The trace of a run is imported as itself (src/laws.rt)
 pub mod ImportedRuns
 -- Inputs: in their turn, what comes of each, and of one that is refused (src/input.rt, src/inputs.rt)

@@ -55,21 +55,21 @@ pub record RunReplays : Type 0 where
   pub end : (bytes : List ℕ) (program : Program) → IsAccepted bytes program → OneEnd program
 
 -- what a run that left files and a text was made of
-record RunOf (held : List ℕ → Entry) (s : List ℕ) (setup : Setup) (image trace audit text : List ℕ) : Type 0 where
-  program : Program
-  accepted : IsAccepted image program
-  image_short : length image ≤ image_limit
-  plan : Plan
-  script : IsAcceptedAs (script_form program setup.threads) (held s) plan
-  runs : List ThreadRun
-  run : IsRun program setup runs
-  follow : AllMarksFollow program setup.threads (commands_of plan.lines) runs
-  losses : AreLost setup.size (spare_of setup) runs
-  trace_is : trace ≡ trace_bytes setup runs
-  audit_is : audit ≡ audit_of_run setup runs
-  text_is : text ≡ state_texts 1 runs
+pub record RunOf (held : List ℕ → Entry) (s : List ℕ) (setup : Setup) (image trace audit text : List ℕ) : Type 0 where
+  pub program : Program
+  pub accepted : IsAccepted image program
+  pub image_short : length image ≤ image_limit
+  pub plan : Plan
+  pub script : IsAcceptedAs (script_form program setup.threads) (held s) plan
+  pub runs : List ThreadRun
+  pub run : IsRun program setup runs
+  pub follow : AllMarksFollow program setup.threads (commands_of plan.lines) runs
+  pub losses : AreLost setup.size (spare_of setup) runs
+  pub trace_is : trace ≡ trace_bytes setup runs
+  pub audit_is : audit ≡ audit_of_run setup runs
+  pub text_is : text ≡ state_texts 1 runs
 
-run_of : (held : List ℕ → Entry) (i s t a : List ℕ) (setup : Setup) (image trace audit text : List ℕ) → held i ≡ Holds image
+pub run_of : (held : List ℕ → Entry) (i s t a : List ℕ) (setup : Setup) (image trace audit text : List ℕ) → held i ≡ Holds image
     → RunComes Sound held i s t a setup (Done ((t, trace) ∷ (a, audit) ∷ []) text) → RunOf held s setup image trace audit text
 run_of held i s t a setup image trace audit text image_is comes =
     let left : List (List ℕ × List ℕ) = (t, trace) ∷ (a, audit) ∷ [] in

@@ -24,6 +24,7 @@ pub mod Import
 pub mod LoadOrder
 pub mod OrderReplays
 pub mod OtherOptions
+pub mod SameRuns
 pub mod Commands
 pub mod Accepted
 pub mod Headline

@@ -7,8 +7,9 @@ ghost use Rattle.command_words.specs.Files.{inputs_in, names_given, names_of, ro
 ghost use Rattle.machine_step.specs.Buffers.{spare_of};
 ghost use Rattle.machine_step.specs.declared.setup.Setup.{Setup};
 ghost use Rattle.patch_script.specs.declared.command.PatchCommand.{PatchCommand};
+ghost use Rattle.patch_script.specs.{Plans.{Plan, plan_of}, Refusals.{commands_of}};
 ghost use Rattle.trace_flush.specs.Telling.{HasRunNumbers};
-ghost use Rattle.traced_run.specs.{Following.{AllMarksFollow}, Losses.{AreLost}, Runs.{IsRun, ThreadRun, events_of}};
+ghost use Rattle.traced_run.specs.{Following.{AllMarksFollow}, Losses.{AreLost}, Recording.{RecordsAll}, Runs.{IsRun, ThreadRun, events_of}};
 ghost use Rattle.xray_image.specs.Program.{IsAccepted, Program};
 ghost use Rattle.xray_io.specs.Desk.{Entry, Holds};
 ghost use Rattle.xray_io.specs.World.{World};
@@ -21,7 +22,9 @@ ghost use Rattle.xray_program.specs.{
   OtherOptions.{LeavesAlike},
   Profile.{profile_of, states_before, trouble_of},
   ProfiledStacks.{MakeMarksOf},
+  SameRuns.{MayLeaveWhole},
   Setups.{setup_of},
+  Spoken.{commands_said},
 };
 ghost use Rattle.xray_program.specs.Outcomes.{Done, Outcome, status_of, written_by};
 ghost use Rattle.xray_program.specs.private.CallLaws.{CallLaws};
@@ -57,8 +60,8 @@ use step_sim::{
 };
 use trace_flush::{a_run_is_traced, a_trace_is_short};
 use traced_run::{
-    a_run_fits_its_buffers, a_whole_run_executes_to_its_end, some_losses_are_of_a_queue,
-    stamps_change_no_run,
+    a_run_fits_its_buffers, a_script_that_records_all_leaves_one_run,
+    a_whole_run_executes_to_its_end, some_losses_are_of_a_queue, stamps_change_no_run,
 };
 use xray_image::{one_verdict, some_verdict};
 
@@ -341,4 +344,27 @@ pub fn stamps_and_buffers_change_no_text()
     some_run();
     some_end();
     some_losses_are_of_a_queue();
+}
+
+/// Beside a script that records each passing, all runs leave and print the same, if none of them loses a
+/// segment. Suppose that the lines of the script say commands by which all is recorded (`RecordsAll`). Then
+/// whatever two runs with equal options may leave, the traces, the audits and the texts are equal, if both
+/// audits state that nothing was recycled (`same`). The commands of a script that is read are those that
+/// its lines say (`said`). So the law `a_script_that_sets_all_before_go_records_all` of `traced_run` shows
+/// by its commands that a script is one.
+pub fn a_script_that_records_all_leaves_one_outcome()
+    ensures same { (held : List ℕ → Entry) (i s t a : List ℕ) (options : RunOptions) (image script : List ℕ)
+        (program : Program) (arguments : ℕ) (trace audit text other_trace other_audit other_text : List ℕ)
+        → AreRunOptions options → held i ≡ Holds image → held s ≡ Holds script → IsAccepted image program
+        → RecordsAll program options.bounds.threads (commands_said script) arguments
+        → MayLeaveWhole held i s t a options trace audit text
+        → MayLeaveWhole held i s t a options other_trace other_audit other_text
+        → (trace ≡ other_trace) × (audit ≡ other_audit) × (text ≡ other_text) }
+    ensures said { (program : Program) (threads : ℕ) (text : List ℕ) (plan : Plan)
+        → plan_of program threads text ≡ Ok plan → commands_of plan.lines ≡ commands_said text }
+{
+    one_reading();
+    a_lawful_run_is_accepted();
+    a_script_that_records_all_leaves_one_run();
+    xray_image::one_reading();
 }

@@ -1,6 +1,6 @@
 //! `profile`: threads that run over an image while a script patches their sleds, and the stacks of
 //! what they recorded.
-ghost use Rattle.std.specs.Prelude.{◌≡◌, ◌≤◌, ◌++◌, [], All, IfOk, None, OnErr, Some, length, map, option_map};
+ghost use Rattle.std.specs.Prelude.{◌≡◌, ◌≤◌, ◌++◌, [], All, IfOk, None, OnErr, OnOk, Some, length, map, option_map, true};
 ghost use Rattle.std.specs.List.{flat_map};
 ghost use Rattle.call_trie.specs.Tries.{StandsFor};
 ghost use Rattle.command_words.specs.Ranges.{AreProfileOptions};
@@ -12,7 +12,7 @@ ghost use Rattle.machine_step.specs.{EndedText.{thread_text}, Traced.{IsDone}};
 ghost use Rattle.stack_rebuild.specs.Stacks.{told};
 ghost use Rattle.thread_run.specs.Starters.{has_started};
 ghost use Rattle.xray_io.specs.World.{desk_view, sink_view};
-ghost use Rattle.xray_program.specs.{Answers.{IsUnwriting}, Started.{StartsLate}};
+ghost use Rattle.xray_program.specs.{Answers.{IsUnwriting}, Started.{CameToOutputs, StartsLate}};
 ghost use Rattle.xray_program.specs.Profile.{states_before, trouble_in, trouble_of};
 ghost use Rattle.xray_program.specs.private.Profiled.{comes_of, said_by, HaveProfiled};
 ghost use Rattle.xray_program.specs.private.RunInputs.{IsReadFor};
@@ -84,6 +84,7 @@ fn finish<'a, T: Threads + Wait + Sync, D: Desk, O: Sink, G: Gate + Sync>(
     ensures others { let seen = desk_view D.held D.read_faults D.write_faults in
         KeepsOthers (outputs_of (said_by command.now)) (seen desk.old) (seen desk.new) }
     ensures stops { IsUnwriting (answer_of result) → answer_of result ≡ 5 }
+    ensures started { CameToOutputs (answer_of result) → has_started starter.new ≡ true }
 {
     let RunInputs { image, script } = inputs;
     // Called for their contracts: the image was accepted, and threads that run over it run lawfully.
@@ -206,6 +207,7 @@ fn run_profiled<'s, T: Threads + Wait + Sync, G: Gate + Sync>(
         HaveProfiled options steps.now script end.cpus.items end.recorders.items) }
     ensures few { IfOk result (λ end. length end.recorders.items ≤ MAX_THREADS) }
     ensures unstarted { OnErr result (has_started starter.new ≡ has_started starter.old) }
+    ensures started { OnOk result (has_started starter.new ≡ true) }
 {
     let threads = options.bounds.threads;
     let (table, mut seat) = CodeTable::new(alloc, steps.image(), script, threads)?;

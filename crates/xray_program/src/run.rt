@@ -1,5 +1,5 @@
 //! `run`: threads that run over an image while a script patches their sleds.
-ghost use Rattle.std.specs.Prelude.{◌≡◌, ◌∷◌, [], IfOk, OnErr, Some, map};
+ghost use Rattle.std.specs.Prelude.{◌≡◌, ◌∷◌, [], IfOk, OnErr, OnOk, Some, map, true};
 ghost use Rattle.command_words.specs.Words.{outputs_of};
 ghost use Rattle.patch_script.specs.Refusals.{commands_of};
 ghost use Rattle.machine_step.specs.Setups.{IsSetup};
@@ -7,7 +7,7 @@ ghost use Rattle.machine_step.specs.declared.setup.Setup.{Setup};
 ghost use Rattle.sled_rule.specs.Seats.{work_view};
 ghost use Rattle.thread_run.specs.{Runs.{HaveRunBeside}, Starters.{has_started}};
 ghost use Rattle.xray_io.specs.World.{desk_view, sink_view};
-ghost use Rattle.xray_program.specs.{Answers.{IsUnwriting}, Started.{StartsLate}};
+ghost use Rattle.xray_program.specs.{Answers.{IsUnwriting}, Started.{CameToOutputs, StartsLate}};
 ghost use Rattle.xray_program.specs.private.RunInputs.{comes_of, said_by, IsReadFor};
 ghost use Rattle.xray_program.specs.private.Stops.{answer_of, told_of};
 ghost use Rattle.xray_program.specs.private.Works.{Ends, Finishes, KeepsOthers};
@@ -66,6 +66,7 @@ fn finish<'a, T: Threads + Wait + Sync, D: Desk, O: Sink, G: Gate + Sync>(
     ensures others { let seen = desk_view D.held D.read_faults D.write_faults in
         KeepsOthers (outputs_of (said_by command.now)) (seen desk.old) (seen desk.new) }
     ensures starts { IsUnwriting (answer_of result) → has_started starter.new ≡ has_started starter.old }
+    ensures started { CameToOutputs (answer_of result) → has_started starter.new ≡ true }
 {
     let RunInputs { image, script } = inputs;
     // Called for their contracts: the image was accepted, and threads that run over it run lawfully.
@@ -93,6 +94,7 @@ fn run_beside<'s, T: Threads + Wait + Sync, G: Gate + Sync>(
     ensures left { IfOk result (λ end. HaveRunBeside steps.now (commands_of script.lines) setup.now
         end.cpus.items (map work_view end.seats.items) end.segments.items end.first.items end.buffers.items) }
     ensures unstarted { OnErr result (has_started starter.new ≡ has_started starter.old) }
+    ensures started { OnOk result (has_started starter.new ≡ true) }
 {
     let (table, mut seat) = CodeTable::new(alloc, steps.image(), script, setup.threads)?;
     let ready = ReadyRun::new(starter, alloc, steps, &table, setup)?;

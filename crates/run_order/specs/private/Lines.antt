@@ -3,7 +3,7 @@ use Rattle.std.specs.Prelude.{◌≡◌, ◌++◌, ◌∷◌, ℕ, zero, suc, Li
 use Rattle.step_sim.specs.declared.turns.Turns.{Turns}
 use Rattle.step_sim.specs.declared.turns.Turns.TheVariants.{Patcher}
 use Rattle.run_order.specs.declared.lines.ScheduleLines.{ScheduleLines}
-use Rattle.run_order.specs.Orders.{joined}
+use Rattle.run_order.specs.private.Ordered.{joined}
 
 -- the line of this many micro steps; none if there are none
 abbrev pub steps_line : ℕ → List Turns

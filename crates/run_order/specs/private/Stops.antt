@@ -6,7 +6,7 @@ use Rattle.step_sim.specs.declared.turns.Turns.{Turns}
 use Rattle.run_order.specs.declared.lines.ScheduleLines.{ScheduleLines}
 use Rattle.audit_check.specs.declared.stop.Stop.{Stop}
 use Rattle.audit_check.specs.Stops.{places_of}
-use Rattle.run_order.specs.Orders.{load_line, turns_from}
+use Rattle.run_order.specs.private.Ordered.{load_line, turns_from}
 use Rattle.run_order.specs.private.Lines.{HasJoined}
 
 -- their places rise from one on, and there is a load at each

@@ -7,8 +7,7 @@ use Rattle.run_order.proofs.laws.an_order_is_a_merge.Goals as goal
 pub returns-clause-merge : goal.returns-clause-merge
 returns-clause-merge c program text plan setup runs schedule e is order =
     let free = free_plan program setup.threads text plan e in
-    order_is_merge program (commands_of plan.lines) setup runs schedule
-    (λ thread passing. c.awaits_bound_passings.ensures.within program setup.threads (commands_of plan.lines) thread passing) free.releases is order
+    order_is_merge program (commands_of plan.lines) setup runs schedule free.releases order
 
 pub returns-clause-one : goal.returns-clause-one
 returns-clause-one c start total places schedule other a b = one_merge start total places schedule other a b

@@ -3,13 +3,15 @@ use Rattle.step_sim.specs.declared.turns.Turns.{Turns as Line}
 use Rattle.step_sim.specs.Schedules.{AreTurnsOf}
 use Rattle.patch_script.specs.Refusals.{commands_of}
 use Rattle.run_order.proofs.FreeReading.{free_plan}
-use Rattle.run_order.proofs.OrderLeavesRun.{order_leaves}
+use Rattle.run_order.proofs.OrderLeavesRun.{order_leaves, schedule_made}
 use Rattle.run_order.proofs.TurnsOf.{ordered_turns}
 use Rattle.run_order.proofs.laws.an_order_leaves_its_run.Goals as goal
 
 pub returns-clause-turns : goal.returns-clause-turns
 returns-clause-turns c program text plan setup runs schedule is order =
-    subst (λ (s : List Line). All (AreTurnsOf setup.threads) s) (sym order.schedule_is)
+    subst (λ (s : List Line). All (AreTurnsOf setup.threads) s)
+    (sym (schedule_made program setup setup.threads (commands_of plan.lines) runs
+    (λ thread passing. c.awaits_bound_passings.ensures.within program setup.threads (commands_of plan.lines) thread passing) is schedule order))
     (ordered_turns setup.threads _ _ order.places (omega (arith, order.are.count, is.count)))
 
 pub returns-clause-leaves : goal.returns-clause-leaves

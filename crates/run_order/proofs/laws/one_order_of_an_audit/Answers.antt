@@ -10,4 +10,4 @@ returns-clause-one c bytes program script statement answer other accepted a b =
 pub returns-clause-some : goal.returns-clause-some
 returns-clause-some c bytes program script statement accepted may =
     let judged = c.some_verdict.ensures bytes program script statement [] accepted may in
-    some_answer program script statement judged.0 may.names judged.1
+    some_answer (λ p n s thread passing. c.awaits_bound_passings.ensures.within p n s thread passing) program script statement judged.0 may.names judged.1

@@ -1,7 +1,7 @@
 use Rattle.std.proofs.Common.{◌≡◌, ◌∷◌, ◌++◌, ◌∙◌, List, ap, subst, sym}
 use Rattle.step_sim.specs.declared.turns.Turns.{Turns as Line}
 use Rattle.audit_check.specs.declared.stop.Stop.{Stop}
-use Rattle.run_order.specs.Orders.{load_line}
+use Rattle.run_order.specs.private.Ordered.{load_line}
 use Rattle.run_order.specs.private.Lines.{HasJoined}
 use Rattle.run_order.specs.private.Stops.{AreStops, loads_at}
 use Rattle.run_order.proofs.StopLemmas.{first_line, none_added, other_line}

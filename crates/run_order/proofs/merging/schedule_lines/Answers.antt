@@ -5,7 +5,7 @@ use Rattle.step_sim.specs.declared.turns.Turns.{Turns}
 use Rattle.step_sim.specs.declared.turns.Turns.TheVariants.{Patcher}
 use Rattle.audit_check.specs.declared.stop.Stop.{Stop}
 use Rattle.audit_check.specs.Stops.{places_of}
-use Rattle.run_order.specs.Orders.{turns_from}
+use Rattle.run_order.specs.private.Ordered.{turns_from}
 use Rattle.run_order.specs.private.Stops.{AllFrom, IsUpTo, places_in}
 use Rattle.run_order.proofs.MergedTurns.{all_items, places_of_items, same_places, stops_left, stops_of_all}
 use Rattle.run_order.proofs.StopToStop.{lines_are, up_to_last, up_to_next}

@@ -11,11 +11,9 @@ use Rattle.audit_check.specs.Statements.{AuditStatement, statement_of}
 use Rattle.audit_check.specs.Stops.{places_of}
 use Rattle.audit_check.proofs.OwnScript.{own_place}
 use Rattle.run_order.specs.Answers.{IsOrdered}
-use Rattle.run_order.specs.Orders.{ordered}
+use Rattle.run_order.specs.private.Ordered.{ordered}
 use Rattle.run_order.specs.private.Stops.{AreStops}
 use Rattle.run_order.specs.private.Waits.{freed}
-use Rattle.run_order.proofs.FreeMicros.{AllRelease}
-use Rattle.run_order.proofs.FreeReading.{free_plan}
 use Rattle.run_order.proofs.PlacedRuns.{Answer, PassingsLimited, all_are_placed, answer_is, fault_answer, loads_fit, order_is, others_freed, others_rise, starts_low}
 use Rattle.run_order.proofs.OrderLeavesRun.{BoundsWithin}
 use Rattle.run_order.proofs.ordering.order_run.Goals as goal
@@ -102,16 +100,13 @@ returns c =
     let freed_are : map (λ (stops : Vec Stop Global). places_of stops.items) free
     ≡ map (λ (stops : Vec Stop Global). map (freed waits) (places_of stops.items)) threads.items =
     c.in_ok-free.ensures.places ∙ ap (map (λ (stops : Vec Stop Global). map (freed waits) (places_of stops.items))) c.deref.ensures.value in
-    let read = c.start.ensures.read in
-    let releases : AllRelease statement.setup.threads script =
-    subst (λ n. AllRelease n script) c.requires.threads (free_plan own.program own.threads read.0 own read.1).releases in
     let lists : List (List ℕ) = map (λ (stops : Vec Stop Global). places_of stops.items) c.deref-2.result.now in
     let lists_are : lists ≡ map (map (freed waits)) (all_places threads) =
     ap (map (λ (stops : Vec Stop Global). places_of stops.items)) c.deref-2.ensures.value
     ∙ others_freed bounds program script statement placed.runs placed.are (all_places threads) placed.placing.2 (Vec Stop Global) (λ stops. stops.items) threads.items free refl
     waits c.in_ok-waits.ensures freed_are in
     let schedule : List Turns = ordered c.free_place-start.result c.free_place-total.result lists in
-    let order = order_is bounds program script statement placed.runs placed.are (all_places threads) placed.placing.2 waits c.in_ok-waits.ensures releases schedule
+    let order = order_is bounds program script statement placed.runs placed.are (all_places threads) placed.placing.2 waits c.in_ok-waits.ensures schedule
     (ap (λ s. ordered s c.free_place-total.result lists) begin
     ∙ ap (λ t. ordered (freed waits (start_of program statement.setup.threads script)) t lists) end
     ∙ ap (ordered (freed waits (start_of program statement.setup.threads script)) (freed waits (total_of program statement.setup.threads script))) lists_are) in

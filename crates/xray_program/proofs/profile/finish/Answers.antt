@@ -19,7 +19,7 @@ use Rattle.xray_program.specs.declared.stop.Stop.TheVariants as stops
 use Rattle.xray_program.proofs.WorkEndings.{finishes, refuses}
 use Rattle.xray_program.proofs.ProfiledThreads.{all_live, profile_done, profile_fell, were_profiled}
 use Rattle.xray_program.proofs.RunWritten.{threads_ended, threads_printed}
-use Rattle.xray_program.proofs.StartedThreads.{delivers_something, ran_out}
+use Rattle.xray_program.proofs.StartedThreads.{delivers_something, none_at_memory, ran_out}
 use Rattle.xray_program.proofs.profile.finish.Goals as goal
 
 pub returns-in_err-steps-clause-finishes : goal.returns-in_err-steps-clause-finishes
@@ -154,3 +154,12 @@ returns-clause-stops g c unwriting =
     absurd (delivers_something [] text None
     (seen c.args.desk.now) (seen c.deliver_report.new.desk) (got c.args.out.now) (got c.deliver_report.new.out)
     (g.D.Desk.along c.args.desk.now c.deliver_report.new.desk) c.deliver_report.result c.deliver_report.ensures.delivers unwriting)
+
+pub returns-in_err-steps-clause-started : goal.returns-in_err-steps-clause-started
+returns-in_err-steps-clause-started g c came = absurd (none_at_memory c.from_residual.result c.from_residual.ensures.1 came)
+
+pub returns-in_err-end-clause-started : goal.returns-in_err-end-clause-started
+returns-in_err-end-clause-started g c came = absurd (none_at_memory c.from_residual-in_err-end.result c.from_residual-in_err-end.ensures.1 came)
+
+pub returns-in_err-rows-in-None-clause-started : goal.returns-in_err-rows-in-None-clause-started
+returns-in_err-rows-in-None-clause-started g c came = absurd (none_at_memory c.from_residual-in_err-rows-in-None.result c.from_residual-in_err-rows-in-None.ensures.1 came)

@@ -13,7 +13,7 @@ use Rattle.xray_program.specs.declared.stop.Stop.TheVariants as stops
 use Rattle.xray_program.proofs.LawfulRuns.{ran_beside}
 use Rattle.xray_program.proofs.WorkEndings.{finishes, refuses}
 use Rattle.xray_program.proofs.RunWritten.{leaves_same}
-use Rattle.xray_program.proofs.StartedThreads.{delivers_something}
+use Rattle.xray_program.proofs.StartedThreads.{delivers_something, none_at_memory}
 use Rattle.xray_program.proofs.run.finish.Goals as goal
 
 pub deliver_run-requires-clause-left : goal.deliver_run-requires-clause-left
@@ -95,3 +95,12 @@ returns-clause-starts g c unwriting =
     (g.D.Desk.along c.args.desk.now c.deliver_run.new.desk) c.deliver_run.result
     (c.deliver_run.ensures.delivers is.runs (leaves_same setup is.runs end.cpus left.cpus end.segments left.segments end.first left.first end.buffers left.buffers c.from.ensures is.leaves))
     unwriting)
+
+pub returns-in_err-lines-clause-started : goal.returns-in_err-lines-clause-started
+returns-in_err-lines-clause-started g c came = absurd (none_at_memory c.from_residual.result c.from_residual.ensures.1 came)
+
+pub returns-in_err-steps-clause-started : goal.returns-in_err-steps-clause-started
+returns-in_err-steps-clause-started g c came = absurd (none_at_memory c.from_residual-in_err-steps.result c.from_residual-in_err-steps.ensures.1 came)
+
+pub returns-in_err-end-clause-started : goal.returns-in_err-end-clause-started
+returns-in_err-end-clause-started g c came = absurd (none_at_memory c.from_residual-in_err-end.result c.from_residual-in_err-end.ensures.1 came)

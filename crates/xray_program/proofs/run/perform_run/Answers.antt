@@ -1,7 +1,7 @@
 use Rattle.std.proofs.Common.{Ok, Err}
 use Rattle.xray_io.specs.World.{desk_view, sink_view}
 use Rattle.xray_program.specs.private.RunInputs.{comes_of, said_by}
-use Rattle.xray_program.proofs.StartedThreads.{run_starts_late, unstarted}
+use Rattle.xray_program.proofs.StartedThreads.{none_by, none_scripts, run_starts_late, unstarted}
 use Rattle.xray_program.proofs.WorkEndings.{ends_at_input, ends_with_work}
 use Rattle.xray_program.proofs.Scripts.{script_taken}
 use Rattle.xray_program.specs.Run.{RunsBeside}
@@ -33,9 +33,14 @@ returns-clause-ends g c =
     c.in_ok-inputs.ensures.calls
 
 pub returns-in_err-inputs-clause-starts : goal.returns-in_err-inputs-clause-starts
-returns-in_err-inputs-clause-starts g c = unstarted _ _ _
+returns-in_err-inputs-clause-starts g c =
+    let seen = desk_view g.D.Desk.held g.D.Desk.read_faults g.D.Desk.write_faults in
+    let s = c.args.command.now in
+    unstarted _ _ _
+    (none_by _ (none_scripts s.image.now s.script.now s.options.bounds.threads (seen c.args.desk.now) (seen c.take_script.new.desk) _ c.in_err-inputs.ensures.taken)
+    c.from_residual.result c.from_residual.ensures.1)
 
 pub returns-clause-starts : goal.returns-clause-starts
 returns-clause-starts g c =
     let s = c.args.command.now in
-    run_starts_late s.image.now s.script.now s.files.trace.now s.files.audit.now s.options _ _ _ c.finish.ensures.starts
+    run_starts_late s.image.now s.script.now s.files.trace.now s.files.audit.now s.options _ _ _ c.finish.ensures.starts c.finish.ensures.started

@@ -1,4 +1,4 @@
-use Rattle.std.proofs.Common.{◌≡◌, ◌≤◌, ◌-◌, ℕ, List, ap, arith, rules, subst, sym, ◌∙◌}
+use Rattle.std.proofs.Common.{◌≤◌, ◌-◌, ℕ, List, ap, arith, rules, subst, sym, ◌∙◌}
 use Rattle.std.specs.Prelude.{nat_lt}
 use Rattle.std.proofs.lemmas.List.Sorted.{IsPartitionPoint-from_clause}
 use Rattle.run_order.proofs.WaitsBefore.{before, counted_before, few_waits}

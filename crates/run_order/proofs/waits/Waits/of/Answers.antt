@@ -1,4 +1,4 @@
-use Rattle.std.proofs.Common.{◌≡◌, ◌<◌, ◌++◌, ◌∷◌, [], Option, None, Some, true, false, List, ℕ, append-nil, ap, arith, refl, subst, sym, take, ◌∙◌}
+use Rattle.std.proofs.Common.{◌≡◌, ◌++◌, ◌∷◌, [], Option, None, Some, true, false, List, ℕ, append-nil, ap, arith, refl, sym, take, ◌∙◌}
 use Rattle.std.specs.Prelude.{is_some, not}
 use Rattle.xray_image.specs.Program.{Program}
 use Rattle.patch_script.specs.declared.command.PatchCommand.{PatchCommand}
