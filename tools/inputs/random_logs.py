@@ -4,7 +4,9 @@ their blocks, with doubled and empty blocks; and basic logs. Many are damaged.
 import dataclasses
 import struct
 
-from model.trace_model import FLIGHT_DATA_RECORDER, FUNCTION, METADATA_LENGTH, NEW_CPU, PID, WORD_32, WORD_64
+from model.trace_model import (
+    CALL_ARGUMENT, ENTRY, ENTRY_ARGS, EXIT, FLIGHT_DATA_RECORDER, FUNCTION, METADATA_LENGTH, NEW_CPU, PID, WORD_32, WORD_64,
+)  # fmt: skip
 
 from . import random_traces
 from .random_traces import Record
@@ -40,6 +42,15 @@ def own_event(draw, version):
     return OwnEvent(CUSTOM, CUSTOM_FIELDS[version], fields, payload)
 
 
+def with_older_entries(draw, records):
+    """The same records, where some events before arguments are entries of action 0, and a few are exits."""
+    for record, behind in zip(records, records[1:]):
+        if record.kind == FUNCTION and record.fields[1] == ENTRY_ARGS and behind.kind == CALL_ARGUMENT:
+            function, _, delta = record.fields
+            record.fields = (function, draw.choice([ENTRY, ENTRY, ENTRY, ENTRY_ARGS, ENTRY_ARGS, EXIT if draw.random() < 0.1 else ENTRY]), delta)
+    return records
+
+
 def with_own_events(draw, version, records):
     """The records of a block with events of the program's own, mostly behind its first CPU."""
     first = next((at for at, record in enumerate(records) if record.kind == NEW_CPU), len(records))
@@ -56,6 +67,8 @@ def recorder_log(draw):
     version = draw.choice([5, 5, 5, 5, 2, 3, 4])
     threads = random_traces.Threads(draw, 2 if version == 2 else 3)
     blocks = [threads.block() for _ in range(draw.choice([0, 1, 2, 3, 6, 12]))]
+    if draw.random() < 0.3:
+        blocks = [[with_older_entries(draw, records), more] for records, more in blocks]
     blocks = [[with_own_events(draw, version, records), more] for records, more in blocks]
     if version == 2 and blocks and draw.random() < 0.2:
         # In version 2 no record of a block may be a Pid.

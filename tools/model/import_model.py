@@ -10,7 +10,7 @@ import struct
 
 from . import trace_model
 from .image_model import Refused
-from .trace_model import ENTRY_ARGS, FLIGHT_DATA_RECORDER, FUNCTION_LENGTH, HEADER_LENGTH, METADATA_LENGTH, WORD_64, Event, Header
+from .trace_model import ENTRY, ENTRY_ARGS, FLIGHT_DATA_RECORDER, FUNCTION_LENGTH, HEADER_LENGTH, METADATA_LENGTH, WORD_64, Event, Header
 
 BASIC = 0
 VERSIONS = range(1, 6)
@@ -110,7 +110,7 @@ def records_of(content, at, end, version):
             due = preamble[len(records)] == rec.kind
         elif rec.kind == ARGUMENT:
             last = records[-1]
-            due = last.kind == ARGUMENT or (last.kind == FUNCTION and last.fields[1] == ENTRY_ARGS)
+            due = last.kind == ARGUMENT or (last.kind == FUNCTION and last.fields[1] in (ENTRY, ENTRY_ARGS))
         else:
             due = rec.kind in (NEW_CPU, TSC_WRAP, FUNCTION, CUSTOM, TYPED)
         if not due:
@@ -135,7 +135,10 @@ def events_of(records, version):
             function, action, delta = rec.fields
             tsc = (tsc + delta) % WORD_64
             behind = records[number + 1] if number + 1 < len(records) else None
-            arg = behind.fields[0] if behind and behind.kind == ARGUMENT else 0
+            arg = 0
+            if behind and behind.kind == ARGUMENT:
+                # Older runtimes say of no entry that it logs its argument: there is one behind it.
+                arg, action = behind.fields[0], ENTRY_ARGS
             events.append(Event(cpu, function, action, tsc, arg))
         elif rec.kind in (CUSTOM, TYPED) and version == 5:
             tsc = (tsc + rec.fields[1]) % WORD_64

@@ -19,9 +19,11 @@ use Rattle.runtime_log.specs.declared.blocks.LogBlocks.{LogBlocks}
 use Rattle.runtime_log.specs.declared.own_event.OwnKind.{OwnKind}
 use Rattle.runtime_log.specs.declared.version.LogVersion.{LogVersion}
 use Rattle.runtime_log.specs.Logs.{LogBlock, block_size_rows, log_block_in, log_block_rows, recorder_blocks, sized_rows, too_few}
+use Rattle.runtime_log.specs.Arguments.{arg_follows, found_before, rec_before}
 use Rattle.runtime_log.specs.OwnEvents.{log_record_in, own_kind}
 use Rattle.runtime_log.specs.private.Choices.{AreAt, IsAt}
 use Rattle.runtime_log.specs.private.Readings.{BlocksRead}
+use Rattle.runtime_log.proofs.ArgumentsBehind.{size_before}
 use Rattle.runtime_log.proofs.RecordWalk.{starts_first, starts_none}
 
 -- ---- the size of a block
@@ -54,8 +56,8 @@ block_sized version at rest size is = by_short (ltb (length rest) 16) is
     by_named r (Some n) named found e =
         by_tests n (too_few version n) (ltb (length rest) (16 + n)) (found ∙ ap (λ (x : Rec). let y : Result Rec RecFault = Ok x in y) (size_is r n named)) e
 
-    by_record : (x : Result Rec RecFault) → record_in rest ≡ x → sized_rows version (at, rest) x ≡ Ok size → block_length rest ≡ 16 + size
-    by_record (Ok r) found e = by_named r (size_named r) refl found e
+    by_record : (x : Result Rec RecFault) → record_in rest ≡ x → sized_rows version (at, rest) (found_before (arg_follows rest) x) ≡ Ok size → block_length rest ≡ 16 + size
+    by_record (Ok r) found e = by_named r (size_named (rec_before (arg_follows rest) r)) (sym (size_before (arg_follows rest) r)) found e
     by_record (Err fault) found e = absurd cc
 
     by_kind : (kind : Option OwnKind) → own_kind version rest ≡ kind → sized_rows version (at, rest) (log_record_in version Due rest) ≡ Ok size → block_length rest ≡ 16 + size

@@ -21,32 +21,33 @@ use Rattle.fdr_file.specs.declared.version.Version.{Version}
 use Rattle.fdr_file.specs.Events.{counter_at, events_after}
 use Rattle.fdr_file.specs.Grammar.{ArgsFollow, BeginWithCpu, IsInner}
 use Rattle.fdr_file.specs.Scanning.{inside_next, stage_after, step_on}
-use Rattle.fdr_file.specs.Traces.{Standing, first_takes_arg, names_cpu, records_among}
+use Rattle.fdr_file.specs.Traces.{Standing, first_takes_arg, names_cpu, records_among, record_in}
 use Rattle.fdr_file.specs.private.Faults.{decided, standing_faults}
 use Rattle.fdr_file.specs.private.Reading.{events_on, is_end}
 use Rattle.fdr_file.proofs.PlacesDecide.{IsBehind, events_decided, may_behind, one_after}
 use Rattle.runtime_log.specs.declared.version.LogVersion.{LogVersion}
-use Rattle.runtime_log.specs.Grammar.{AreLogRecords, LogRecord, OfProgram, OfTrace, is_custom_event, is_typed_event, stand_for, stands_for}
+use Rattle.runtime_log.specs.Grammar.{AreLogRecords, LogRecord, OfProgram, OfTrace, arg_first, is_custom_event, is_typed_event, stand_for, stands_for}
 use Rattle.runtime_log.specs.Logs.{BlockSoFar, log_places, one_custom, one_typed, said_rows}
+use Rattle.runtime_log.specs.Arguments.{found_arg, rec_before}
 use Rattle.runtime_log.specs.OwnEvents.{based_counter}
 use Rattle.runtime_log.specs.Versions.{trace_version}
 use Rattle.runtime_log.proofs.LogEvents.{Counts, count_more, counts_step, events_end, longer}
 use Rattle.runtime_log.proofs.LogRecords.{as_record, kind_of, one_of_custom, one_of_typed}
 use Rattle.runtime_log.proofs.RecordWalk.{rows_none}
-use Rattle.runtime_log.proofs.RecordsAgain.{front_some, run_step, so_lr}
+use Rattle.runtime_log.proofs.RecordsAgain.{arg_agrees, front_some, run_step, so_lr}
 
 -- ---- records at their places
 
 pub said_at : (version : LogVersion) (at : ℕ) (past : List Rec) (records : List LogRecord) (bytes : List ℕ) → AreLogRecords version records bytes → List Standing
 said_at version at past [] bytes are = []
-said_at version at past (r ∷ records) bytes (front, following, parts, is, rest) = (at, Ok (stands_for past r)) ∷ said_at version (at + length front) (stands_for past r ∷ past) records following rest
+said_at version at past (r ∷ records) bytes (front, following, parts, is, rest) = (at, Ok (stands_for past r records)) ∷ said_at version (at + length front) (stands_for past r records ∷ past) records following rest
 
 pub said_among : (version : LogVersion) (at : ℕ) (past : List Rec) (records : List LogRecord) (bytes : List ℕ) (are : AreLogRecords version records bytes)
     → records_among (said_at version at past records bytes are) ≡ stand_for past records
 unfolding said_at
 said_among version at past [] bytes are = refl
 said_among version at past (r ∷ records) bytes (front, following, parts, is, rest) =
-    ap (λ (x : List Rec). stands_for past r ∷ x) (said_among version (at + length front) (stands_for past r ∷ past) records following rest)
+    ap (λ (x : List Rec). stands_for past r records ∷ x) (said_among version (at + length front) (stands_for past r records ∷ past) records following rest)
 
 abbrev pub AreOk : List Standing → Type 0
 AreOk [] = ⊤
@@ -56,7 +57,7 @@ AreOk ((at, Err fault) ∷ said) = ⊥
 pub said_ok : (version : LogVersion) (at : ℕ) (past : List Rec) (records : List LogRecord) (bytes : List ℕ) (are : AreLogRecords version records bytes) → AreOk (said_at version at past records bytes are)
 unfolding said_at
 said_ok version at past [] bytes are = tt
-said_ok version at past (r ∷ records) bytes (front, following, parts, is, rest) = said_ok version (at + length front) (stands_for past r ∷ past) records following rest
+said_ok version at past (r ∷ records) bytes (front, following, parts, is, rest) = said_ok version (at + length front) (stands_for past r records ∷ past) records following rest
 
 -- ---- none has a fault
 
@@ -129,11 +130,11 @@ events_cut base at r following events is = by_step (step_on (is_end following) a
 counter_same : (tsc counter delta : ℕ) → tsc % 2 ^ 64 ≡ counter → (tsc + delta) % 2 ^ 64 ≡ (counter + delta) % 2 ^ 64
 counter_same tsc counter delta e = omega arith
 
-as_stands : (ends : Bool) (at : ℕ) (lr : LogRecord) (base : Option Base) (past : List Rec) (step : Step) → step_on ends at (stands_for past lr) base ≡ Ok step → Counts base past
-    → as_record (based_counter base) lr ≡ stands_for past lr
-as_stands ends at (OfTrace r) base past step is counts = refl
-as_stands ends at (OfProgram kind delta) None past step is counts = absurd cc
-as_stands ends at (OfProgram kind delta) (Some base) past step is counts = ap (λ (n : ℕ). let r : Rec = TscWrap n in r) (counter_same base.tsc (counter_at past) delta counts)
+as_stands : (ends : Bool) (at : ℕ) (follows : Bool) (lr : LogRecord) (later : List LogRecord) (base : Option Base) (past : List Rec) (step : Step) → follows ≡ arg_first later
+    → step_on ends at (stands_for past lr later) base ≡ Ok step → Counts base past → as_record (based_counter base) follows lr ≡ stands_for past lr later
+as_stands ends at follows (OfTrace r) later base past step agrees is counts = ap (λ (b : Bool). rec_before b r) agrees
+as_stands ends at follows (OfProgram kind delta) later None past step agrees is counts = absurd cc
+as_stands ends at follows (OfProgram kind delta) later (Some base) past step agrees is counts = ap (λ (n : ℕ). let r : Rec = TscWrap n in r) (counter_same base.tsc (counter_at past) delta counts)
 
 -- a block so far after all of its records
 abbrev pub so_done : BlockSoFar → List Event → List LogRecord → BlockSoFar
@@ -168,8 +169,8 @@ events_again version [] span base past at bytes so events are end stage counts r
     ∙ ap (λ (n : ℕ). let x : Result BlockSoFar TraceFault = Ok (record so { stage = Due; block = longer so.block events; custom = n }) in x) (sym (add-zero so.custom))
     ∙ ap (λ (n : ℕ). let x : Result BlockSoFar TraceFault = Ok (record so { stage = Due; block = longer so.block events; custom = so.custom + 0; typed = n }) in x) (sym (add-zero so.typed))
 events_again version (r ∷ records) span base past at bytes so events (front, following, parts, is, rest) end stage counts reads =
-    by_cut (events_cut base at (stands_for past r) (said_at version (at + length front) (stands_for past r ∷ past) records following rest) events reads)
-    (λ step so1 more. events_again version records span (Some step.0) (stands_for past r ∷ past) (at + length front) following so1 more rest)
+    by_cut (events_cut base at (stands_for past r records) (said_at version (at + length front) (stands_for past r records ∷ past) records following rest) events reads)
+    (λ step so1 more. events_again version records span (Some step.0) (stands_for past r records ∷ past) (at + length front) following so1 more rest)
   where
     n : ℕ
     n = length front
@@ -179,20 +180,20 @@ events_again version (r ∷ records) span base past at bytes so events (front, f
 
     Again : Type 0
     Again = (step : Step) (so1 : BlockSoFar) (more : List Event) → span.end ≡ at + n + length following → so1.stage ≡ stage_after span (at + n) (insides.Events (Some step.0))
-        → Counts (Some step.0) (stands_for past r ∷ past)
-        → events_on (Some step.0) (said_at version (at + n) (stands_for past r ∷ past) records following rest) ≡ Ok more
+        → Counts (Some step.0) (stands_for past r records ∷ past)
+        → events_on (Some step.0) (said_at version (at + n) (stands_for past r records ∷ past) records following rest) ≡ Ok more
         → InTurn (said_rows version) so1 (log_places version (at + n) following) ≡ Ok (so_done so1 more records)
 
-    by_cut : EventsCut base at (stands_for past r) (said_at version (at + n) (stands_for past r ∷ past) records following rest) events → Again
+    by_cut : EventsCut base at (stands_for past r records) (said_at version (at + n) (stands_for past r records ∷ past) records following rest) events → Again
         → InTurn (said_rows version) so (log_places version at bytes) ≡ Ok (so_done so events (r ∷ records))
     by_cut c again =
         let step = c.step in
         let settled = option_to_list step.1 ++ option_to_list step.2 in
         let told : Inside × Told = (insides.Events (Some step.0), Noted step.1 step.2) in
-        let last = is_last version (at + n) (at + n) (stands_for past r ∷ past) records following rest span.end (omega (arith, end, long)) in
-        let stepped : step_on (eqb (at + n) span.end) at (stands_for past r) base ≡ Ok step = ap (λ (b : Bool). step_on b at (stands_for past r) base) (sym last) ∙ c.stepped in
-        let as_is = as_stands (eqb (at + n) span.end) at r base past step stepped counts in
-        let next : inside_next (trace_version version) (insides.Events base) (eqb (at + n) span.end) at (as_record (based_counter base) r) ≡ Ok told =
+        let last = is_last version (at + n) (at + n) (stands_for past r records ∷ past) records following rest span.end (omega (arith, end, long)) in
+        let stepped : step_on (eqb (at + n) span.end) at (stands_for past r records) base ≡ Ok step = ap (λ (b : Bool). step_on b at (stands_for past r records) base) (sym last) ∙ c.stepped in
+        let as_is = as_stands (eqb (at + n) span.end) at (found_arg (record_in following)) r records base past step (arg_agrees version records following rest) stepped counts in
+        let next : inside_next (trace_version version) (insides.Events base) (eqb (at + n) span.end) at (as_record (based_counter base) (found_arg (record_in following)) r) ≡ Ok told =
         ap (λ (x : Rec). inside_next (trace_version version) (insides.Events base) (eqb (at + n) span.end) at x) as_is
         ∙ ap (λ (x : Result Step TraceFault). x >>= λ s. Ok (insides.Events (Some s.0), Noted s.1 s.2)) stepped in
         let within : so.stage ≡ Within span (insides.Events base) =
@@ -204,7 +205,7 @@ events_again version (r ∷ records) span base past at bytes so events (front, f
         let made : List Event → ℕ → ℕ → Result BlockSoFar TraceFault = λ es x y. Ok (record { stage = Due; block = record so.block { events = es }; custom = x; typed = y }) in
         ap (λ (xs : List ℕ). InTurn (said_rows version) so (log_places version at xs)) parts
         ∙ run_step version span (insides.Events base) at r front following so told is within (omega (arith, end, long)) next
-        ∙ again step so1 c.more (omega (arith, end, long)) refl (counts_step (eqb (at + n) span.end) at (stands_for past r) base past step stepped counts) c.rest
+        ∙ again step so1 c.more (omega (arith, end, long)) refl (counts_step (eqb (at + n) span.end) at (stands_for past r records) base past step stepped counts) c.rest
         ∙ ap (λ (es : List Event). made es (so.custom + one_custom (kind_of r) + count_by is_custom_event records) (so.typed + one_typed (kind_of r) + count_by is_typed_event records)) all
         ∙ ap (λ (x : ℕ). made (so.block.events ++ events) x (so.typed + one_typed (kind_of r) + count_by is_typed_event records)) custom
         ∙ ap (λ (y : ℕ). made (so.block.events ++ events) (so.custom + count_by is_custom_event (r ∷ records)) y) typed

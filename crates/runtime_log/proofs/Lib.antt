@@ -1,6 +1,7 @@
 -- The reader: what has been read after one more record or block (src/reading.rt, src/blocks.rt, src/basic.rt)
 pub mod NotedEvents
 pub mod RecordWalk
+pub mod ArgumentsBehind
 pub mod BlockReading
 pub mod BlockLists
 pub mod RecordedPassings

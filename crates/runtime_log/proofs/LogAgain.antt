@@ -8,8 +8,9 @@ use Rattle.byteorder.specs.Endian.{little_bytes}
 use Rattle.byteorder.specs.Numbers.{little_number-reads_back}
 use Rattle.xray_io.specs.Rows.{First, InTurn, ◌>>=◌}
 use Rattle.xray_io.specs.declared.wall.Wall.{Wall}
+use Rattle.fdr_record.specs.declared.event.Kind.{Kind}
 use Rattle.fdr_record.specs.declared.rec.Rec.{Rec}
-use Rattle.fdr_record.specs.declared.rec.Rec.TheVariants.{NewBuffer, TscWrap, WallTime, Pid, Extents}
+use Rattle.fdr_record.specs.declared.rec.Rec.TheVariants.{NewBuffer, TscWrap, WallTime, Pid, Extents, Function}
 use Rattle.fdr_record.specs.Records.{BeginsWith, Spells}
 use Rattle.fdr_file.specs.declared.fault.TraceFault.{TraceFault}
 use Rattle.fdr_file.specs.declared.fault.TraceFault.TheVariants as traces
@@ -32,7 +33,8 @@ use Rattle.runtime_log.specs.declared.blocks.Mode.TheVariants.{Recorder}
 use Rattle.runtime_log.specs.declared.fault.LogFault.{LogFault}
 use Rattle.runtime_log.specs.declared.version.LogVersion.{LogVersion}
 use Rattle.runtime_log.specs.declared.version.LogVersion.TheVariants.{Two, Three, Four, Five}
-use Rattle.runtime_log.specs.Grammar.{AreLogBlocks, AreLogRecords, IsBare, IsFilled, IsLogBlock, IsLogHeader, LogRecord, OfProgram, OfTrace, is_custom_event, is_typed_event, stand_for, stands_for, version_number}
+use Rattle.runtime_log.specs.Arguments.{arg_follows, found_before}
+use Rattle.runtime_log.specs.Grammar.{AreLogBlocks, AreLogRecords, IsBare, IsFilled, IsLogBlock, IsLogHeader, LogRecord, OfProgram, OfTrace, arg_first, is_custom_event, is_typed_event, stand_for, stands_for, version_number}
 use Rattle.runtime_log.specs.LogLaws.{LogIsLogged}
 use Rattle.runtime_log.specs.Logs.{BlockSoFar, Log, LogBlock, as_log, block_content, block_opened, block_size_rows, content_rows, log_block_in, log_block_rows, log_of_blocks, log_places, logged, recorder_blocks, recorder_header, said_rows, sized_rows, too_few}
 use Rattle.runtime_log.specs.OwnEvents.{log_record_in}
@@ -41,6 +43,7 @@ use Rattle.runtime_log.specs.private.Headers.{mode_of}
 use Rattle.runtime_log.proofs.BlockLists.{Onward, block_first, block_sized}
 use Rattle.runtime_log.proofs.BlockReading.{block_is}
 use Rattle.runtime_log.proofs.EventsAgain.{events_again, events_are}
+use Rattle.runtime_log.proofs.ArgumentsBehind.{rec_other}
 use Rattle.runtime_log.proofs.LogRecords.{record_by}
 use Rattle.runtime_log.proofs.LogShapes.{no_custom, no_pid, no_typed}
 use Rattle.runtime_log.proofs.RecordWalk.{rows_none, starts_none}
@@ -68,9 +71,9 @@ record ReadsAgain (version : LogVersion) (at least : ℕ) (content : List ℕ) (
   reads : InTurn (said_rows version) (block_opened at (length content)) (log_places version (at + 16) content) ≡ Ok (so_said block records)
 
 -- a record of a trace
-of_trace : (past : List Rec) (lr : LogRecord) (r : Rec) → ((n : ℕ) → r ≢ TscWrap n) → stands_for past lr ≡ r → OfTrace r ≡ lr
-of_trace past (OfTrace s) r other is = ap (λ (x : Rec). let y : LogRecord = OfTrace x in y) (sym is)
-of_trace past (OfProgram kind delta) r other is = absurd (other _ (sym is))
+of_trace : (past : List Rec) (lr : LogRecord) (later : List LogRecord) (r : Rec) → ((n : ℕ) → r ≢ TscWrap n) → ((kind : Kind) (func delta : ℕ) → r ≡ Function kind func delta → ⊥) → stands_for past lr later ≡ r → OfTrace r ≡ lr
+of_trace past (OfTrace s) later r other plain is = ap (λ (x : Rec). let y : LogRecord = OfTrace x in y) (sym (rec_other (arg_first later) s r plain is))
+of_trace past (OfProgram kind delta) later r other plain is = absurd (other _ (sym is))
 
 -- the block that was read
 finish : (made block : Block) (x y : ℕ) (records : List LogRecord) → block ≡ made → x ≡ count_by is_custom_event records → y ≡ count_by is_typed_event records
@@ -181,12 +184,14 @@ three_again version v at content block (a ∷ c ∷ d ∷ rest) others k =
     let w = block.wall in
     let p = block.pid in
     let e = k.are in
-    let one : stands_for [] a ≡ NewBuffer t = cc in
-    let two : stands_for (stands_for [] a ∷ []) c ≡ WallTime w = cc in
-    let three : stands_for (stands_for (stands_for [] a ∷ []) c ∷ stands_for [] a ∷ []) d ≡ Pid p = cc in
-    let a_is = of_trace [] a (NewBuffer t) (λ n same. cc) one in
-    let c_is = of_trace (stands_for [] a ∷ []) c (WallTime w) (λ n same. cc) two in
-    let d_is = of_trace (stands_for (stands_for [] a ∷ []) c ∷ stands_for [] a ∷ []) d (Pid p) (λ n same. cc) three in
+    let ra : Rec = stands_for [] a (c ∷ d ∷ rest) in
+    let rc : Rec = stands_for (ra ∷ []) c (d ∷ rest) in
+    let one : ra ≡ NewBuffer t = cc in
+    let two : rc ≡ WallTime w = cc in
+    let three : stands_for (rc ∷ ra ∷ []) d rest ≡ Pid p = cc in
+    let a_is = of_trace [] a (c ∷ d ∷ rest) (NewBuffer t) (λ n same. cc) (λ kind func delta same. cc) one in
+    let c_is = of_trace (ra ∷ []) c (d ∷ rest) (WallTime w) (λ n same. cc) (λ kind func delta same. cc) two in
+    let d_is = of_trace (rc ∷ ra ∷ []) d rest (Pid p) (λ n same. cc) (λ kind func delta same. cc) three in
     let all_is : OfTrace (NewBuffer t) ∷ OfTrace (WallTime w) ∷ OfTrace (Pid p) ∷ rest ≡ a ∷ c ∷ d ∷ rest =
     ap (λ (x : LogRecord). x ∷ OfTrace (WallTime w) ∷ OfTrace (Pid p) ∷ rest) a_is ∙ ap (λ (x : LogRecord). a ∷ x ∷ OfTrace (Pid p) ∷ rest) c_is ∙ ap (λ (x : LogRecord). a ∷ c ∷ x ∷ rest) d_is in
     let known = subst (λ (rs : List LogRecord). Known version versions.Three content block rs others) (sym all_is) k in
@@ -206,10 +211,11 @@ two_again version v at content block (a ∷ c ∷ rest) others k =
     let t = block.thread in
     let w = block.wall in
     let e = k.are in
-    let one : stands_for [] a ≡ NewBuffer t = cc in
-    let two : stands_for (stands_for [] a ∷ []) c ≡ WallTime w = cc in
-    let a_is = of_trace [] a (NewBuffer t) (λ n same. cc) one in
-    let c_is = of_trace (stands_for [] a ∷ []) c (WallTime w) (λ n same. cc) two in
+    let ra : Rec = stands_for [] a (c ∷ rest) in
+    let one : ra ≡ NewBuffer t = cc in
+    let two : stands_for (ra ∷ []) c rest ≡ WallTime w = cc in
+    let a_is = of_trace [] a (c ∷ rest) (NewBuffer t) (λ n same. cc) (λ kind func delta same. cc) one in
+    let c_is = of_trace (ra ∷ []) c rest (WallTime w) (λ n same. cc) (λ kind func delta same. cc) two in
     let all_is : OfTrace (NewBuffer t) ∷ OfTrace (WallTime w) ∷ rest ≡ a ∷ c ∷ rest =
     ap (λ (x : LogRecord). x ∷ OfTrace (WallTime w) ∷ rest) a_is ∙ ap (λ (x : LogRecord). a ∷ x ∷ rest) c_is in
     let known = subst (λ (rs : List LogRecord). Known version versions.Two content block rs others) (sym all_is) k in
@@ -297,7 +303,7 @@ block_again version at front following b place is =
     let c = content_again version at b is.says in
     let sized : block_size_rows version (at, bytes) ≡ Ok n =
     ap (λ (t : Bool). First t (Err (traces.Short at)) (sized_rows version (at, bytes) (log_record_in version Due bytes))) (le-ltb (length bytes) 16 (omega (arith, long)))
-    ∙ ap (sized_rows version (at, bytes)) (ap (record_by version Due bytes) own ∙ found)
+    ∙ ap (sized_rows version (at, bytes)) (ap (record_by version Due bytes) own ∙ ap (found_before (arg_follows bytes)) found)
     ∙ ap (λ (t : Bool). First t (Err (traces.Extents at)) (First (ltb (length bytes) (16 + n)) (Err (traces.Short at)) (Ok n))) c.enough
     ∙ ap (λ (t : Bool). let x : Result ℕ TraceFault = First t (Err (traces.Short at)) (Ok n) in x) (le-ltb (length bytes) (16 + n) (omega (arith, long))) in
     let content : block_content n bytes ≡ b.content = ap (take n) (drop_at is.extents (b.content ++ following) 16 is.named.whole) ∙ take_at b.content following n refl in

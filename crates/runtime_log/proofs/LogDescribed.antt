@@ -26,9 +26,11 @@ use Rattle.runtime_log.specs.declared.version.LogVersion.TheVariants.{Two, Three
 use Rattle.runtime_log.specs.Grammar.{AreLogBlocks, IsBare, IsFilled, IsLogBlock, IsLogHeader, version_number}
 use Rattle.runtime_log.specs.LogLaws.{LoggedIsLog}
 use Rattle.runtime_log.specs.Logs.{BlockSoFar, LogBlock, as_log, block_content, block_opened, block_said, block_size_rows, log_block_in, log_block_rows, log_places, recorder_blocks, recorder_header, said_rows, sized_rows, too_few}
+use Rattle.runtime_log.specs.Arguments.{arg_follows, found_before, rec_before}
 use Rattle.runtime_log.specs.OwnEvents.{log_record_in, own_kind}
 use Rattle.runtime_log.specs.Versions.{log_version_of, trace_version}
 use Rattle.runtime_log.specs.private.Headers.{header_for, mode_of}
+use Rattle.runtime_log.proofs.ArgumentsBehind.{size_before}
 use Rattle.runtime_log.proofs.BlockLists.{block_first, block_sized, size_is}
 use Rattle.runtime_log.proofs.LogEvents.{no_bytes}
 use Rattle.runtime_log.proofs.LogRecords.{Decodes}
@@ -70,8 +72,8 @@ sized_so version at bytes size is = by_short (ltb (length bytes) 16) is
     by_named r (Some n) named found e =
         by_tests n (too_few version n) (ltb (length bytes) (16 + n)) refl refl (found ∙ ap (λ (x : Rec). let y : Result Rec RecFault = Ok x in y) (size_is r n named)) e
 
-    by_record : (x : Result Rec RecFault) → record_in bytes ≡ x → sized_rows version (at, bytes) x ≡ Ok size → Sized version bytes size
-    by_record (Ok r) found e = by_named r (size_named r) refl found e
+    by_record : (x : Result Rec RecFault) → record_in bytes ≡ x → sized_rows version (at, bytes) (found_before (arg_follows bytes) x) ≡ Ok size → Sized version bytes size
+    by_record (Ok r) found e = by_named r (size_named (rec_before (arg_follows bytes) r)) (sym (size_before (arg_follows bytes) r)) found e
     by_record (Err fault) found e = absurd cc
 
     by_kind : (kind : Option OwnKind) → own_kind version bytes ≡ kind → sized_rows version (at, bytes) (log_record_in version Due bytes) ≡ Ok size → Sized version bytes size

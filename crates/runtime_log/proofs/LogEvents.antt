@@ -27,11 +27,13 @@ use Rattle.fdr_file.specs.Traces.{Standing, logs_arg, records_among}
 use Rattle.fdr_file.specs.private.Reading.{events_on, is_end}
 use Rattle.runtime_log.specs.declared.own_event.OwnKind.{OwnKind}
 use Rattle.runtime_log.specs.declared.version.LogVersion.{LogVersion}
-use Rattle.runtime_log.specs.Grammar.{AreLogRecords, LogRecord, OfProgram, OfTrace, is_custom_event, is_typed_event, stand_for, stands_for}
+use Rattle.runtime_log.specs.Grammar.{AreLogRecords, LogRecord, OfProgram, OfTrace, arg_first, is_custom_event, is_typed_event, stand_for, stands_for}
 use Rattle.runtime_log.specs.Logs.{BlockSoFar, block_with, log_places, one_custom, one_typed, said_rows}
+use Rattle.runtime_log.specs.Arguments.{rec_before}
 use Rattle.runtime_log.specs.OwnEvents.{based_counter, log_record_length, own_kind}
-use Rattle.runtime_log.proofs.LogRecords.{BeginsLog, Decodes, LogStep, as_record, begins_log, kind_of, log_step, one_of_custom, one_of_typed}
+use Rattle.runtime_log.proofs.LogRecords.{BeginsLog, Decodes, LogStep, as_record, begins_log, follows_in, kind_of, log_step, one_of_custom, one_of_typed}
 use Rattle.runtime_log.proofs.RecordFits.{AreBytes}
+use Rattle.runtime_log.proofs.RecordsAgain.{arg_agrees}
 use Rattle.runtime_log.proofs.RecordWalk.{log_record_some, rows_none, so_with}
 
 -- ---- the counter
@@ -110,11 +112,11 @@ counter_same : (tsc counter delta : ℕ) → tsc % 2 ^ 64 ≡ counter → (tsc +
 counter_same tsc counter delta e = omega arith
 
 -- what a record stands for, by the counter that is known and by the records before it
-pub stands_same : (ends : Bool) (at : ℕ) (lr : LogRecord) (base : Option Base) (past : List Rec) (step : Step) → step_on ends at (as_record (based_counter base) lr) base ≡ Ok step → Counts base past
-    → as_record (based_counter base) lr ≡ stands_for past lr
-stands_same ends at (OfTrace r) base past step is counts = refl
-stands_same ends at (OfProgram kind delta) None past step is counts = absurd cc
-stands_same ends at (OfProgram kind delta) (Some base) past step is counts = ap (λ (n : ℕ). let r : Rec = TscWrap n in r) (counter_same base.tsc (counter_at past) delta counts)
+pub stands_same : (ends : Bool) (at : ℕ) (follows : Bool) (lr : LogRecord) (later : List LogRecord) (base : Option Base) (past : List Rec) (step : Step) → follows ≡ arg_first later
+    → step_on ends at (as_record (based_counter base) follows lr) base ≡ Ok step → Counts base past → as_record (based_counter base) follows lr ≡ stands_for past lr later
+stands_same ends at follows (OfTrace r) later base past step agrees is counts = ap (λ (b : Bool). rec_before b r) agrees
+stands_same ends at follows (OfProgram kind delta) later None past step agrees is counts = absurd cc
+stands_same ends at follows (OfProgram kind delta) later (Some base) past step agrees is counts = ap (λ (n : ℕ). let r : Rec = TscWrap n in r) (counter_same base.tsc (counter_at past) delta counts)
 
 -- ---- the events that are read
 
@@ -186,40 +188,49 @@ events_read decodes version (suc n) span base past at bytes so last few some all
         → (next st).block ≡ longer so.block (option_to_list step.1 ++ option_to_list step.2)
     block_next st step said = ap (λ (s : Inside × Told). block_with s.1 so.block) said
 
+    -- the record stands for what it was read as
+    as_read : (st : LogStep version span (insides.Events base) at bytes so last) (l : BeginsLog version (Within span (insides.Events base)) bytes st.r) (step : Step) (b : Bool) (later : List LogRecord)
+        → step_on b at st.r base ≡ Ok step → AreLogRecords version later rest → st.r ≡ stands_for past l.lr later
+    as_read st l step b later e are =
+        l.stands
+        ∙ stands_same b at (follows_in version bytes) l.lr later base past step (arg_agrees version later rest are) (ap (λ (r : Rec). step_on b at r base) (sym l.stands) ∙ e) counts
+
     by_last : (st : LogStep version span (insides.Events base) at bytes so last) (l : BeginsLog version (Within span (insides.Events base)) bytes st.r) (step : Step)
-        → step_on true at (stands_for past l.lr) base ≡ Ok step → st.said ≡ (insides.Events (Some step.0), Noted step.1 step.2) → length rest ≡ 0 → Here
+        → step_on true at st.r base ≡ Ok step → st.said ≡ (insides.Events (Some step.0), Noted step.1 step.2) → length rest ≡ 0 → Here
     by_last st l step e said none =
         let ends : Ok (next st) ≡ Ok last = sym (rows_none version (next st) (at + len) rest none) ∙ st.rest in
         let same : next st ≡ last = cc in
         let settled = option_to_list step.1 ++ option_to_list step.2 in
         let block : last.block ≡ longer so.block settled = ap (λ (s : BlockSoFar). s.block) (sym same) ∙ block_next st step said in
         let custom : last.custom ≡ so.custom + one_custom (own_kind version bytes) + 0 = ap (λ (s : BlockSoFar). s.custom) (sym same) ∙ sym (add-zero _) in
-        let typed : last.typed ≡ so.typed + one_typed (own_kind version bytes) + 0 = ap (λ (s : BlockSoFar). s.typed) (sym same) ∙ sym (add-zero _) in record {
+        let typed : last.typed ≡ so.typed + one_typed (own_kind version bytes) + 0 = ap (λ (s : BlockSoFar). s.typed) (sym same) ∙ sym (add-zero _) in
+        let r_is = as_read st l step true [] e (no_bytes rest none) in record {
           records = l.lr ∷ [];
           spelled = (take len bytes, rest, sym (take-append-drop len bytes), l.is, no_bytes rest none);
-          first = (at, Ok (stands_for past l.lr));
+          first = (at, Ok st.r);
           later = [];
-          among = refl;
+          among = ap (λ (r : Rec). r ∷ []) r_is;
           events = settled ++ [];
-          reads = events_more base at (stands_for past l.lr) [] step [] e (events_end (Some step.0));
+          reads = events_more base at st.r [] step [] e (events_end (Some step.0));
           block = block ∙ ap (longer so.block) (sym (append-nil settled));
           custom = custom_more l.lr (own_kind version bytes) so.custom 0 last.custom [] l.kind refl custom;
           typed = typed_more l.lr (own_kind version bytes) so.typed 0 last.typed [] l.kind refl typed;
         }
 
     by_more : (st : LogStep version span (insides.Events base) at bytes so last) (l : BeginsLog version (Within span (insides.Events base)) bytes st.r) (step : Step)
-        → step_on false at (stands_for past l.lr) base ≡ Ok step → st.said ≡ (insides.Events (Some step.0), Noted step.1 step.2)
-        → EventsRead version (Some step.0) (stands_for past l.lr ∷ past) rest (next st) last → Here
+        → step_on false at st.r base ≡ Ok step → st.said ≡ (insides.Events (Some step.0), Noted step.1 step.2)
+        → EventsRead version (Some step.0) (st.r ∷ past) rest (next st) last → Here
     by_more st l step e said later =
         let settled = option_to_list step.1 ++ option_to_list step.2 in
+        let r_is = as_read st l step false later.records e later.spelled in
         record {
           records = l.lr ∷ later.records;
           spelled = (take len bytes, rest, sym (take-append-drop len bytes), l.is, later.spelled);
-          first = (at, Ok (stands_for past l.lr));
+          first = (at, Ok st.r);
           later = later.first ∷ later.later;
-          among = ap (λ (x : List Rec). stands_for past l.lr ∷ x) later.among;
+          among = ap (λ (x : List Rec). st.r ∷ x) later.among ∙ ap (λ (r : Rec). r ∷ stand_for (r ∷ past) later.records) r_is;
           events = settled ++ later.events;
-          reads = events_more base at (stands_for past l.lr) (later.first ∷ later.later) step later.events e later.reads;
+          reads = events_more base at st.r (later.first ∷ later.later) step later.events e later.reads;
           block =
               later.block ∙ ap (λ (b : Block). longer b later.events) (block_next st step said)
               ∙ ap (λ (es : List Event). let b : Block = record so.block { events = es } in b) (append_assoc so.block.events settled later.events);
@@ -232,23 +243,16 @@ events_read decodes version (suc n) span base past at bytes so last few some all
     by_end again st l step e said (inr none) =
         let zero_left : length rest ≡ 0 = omega (arith, none) in
         let there : at + len ≡ span.end = omega (arith, length-drop len bytes, st.within, zero_left, end) in
-        let same = stands_same (eqb (at + len) span.end) at l.lr base past step (ap (λ (r : Rec). step_on (eqb (at + len) span.end) at r base) (sym l.stands) ∙ e) counts in
-        by_last st l step
-        (ap (λ (b : Bool). step_on b at (stands_for past l.lr) base) (sym (eq-eqb (at + len) span.end there))
-        ∙ ap (λ (r : Rec). step_on (eqb (at + len) span.end) at r base) (sym (l.stands ∙ same)) ∙ e) said zero_left
+        by_last st l step (ap (λ (b : Bool). step_on b at st.r base) (sym (eq-eqb (at + len) span.end there)) ∙ e) said zero_left
     by_end again st l step e said (inl more) =
         let other : at + len ≢ span.end = λ there. omega (arith, length-drop len bytes, st.within, more, end, there) in
         let inside : eqb (at + len) span.end ≡ false = ne_eqb (at + len) span.end other in
-        let same = stands_same (eqb (at + len) span.end) at l.lr base past step (ap (λ (r : Rec). step_on (eqb (at + len) span.end) at r base) (sym l.stands) ∙ e) counts in
-        let r_is : st.r ≡ stands_for past l.lr = l.stands ∙ same in
         let known = counts_step (eqb (at + len) span.end) at st.r base past step e counts in
         let stage : (next st).stage ≡ Within span (insides.Events (Some step.0)) =
         ap (λ (b : Bool). cond b Due (Within span st.said.0)) inside ∙ ap (λ (s : Inside × Told). Within span s.0) said in
-        by_more st l step
-        (ap (λ (b : Bool). step_on b at (stands_for past l.lr) base) (sym inside) ∙ ap (λ (r : Rec). step_on (eqb (at + len) span.end) at r base) (sym r_is) ∙ e) said
-        (again span (Some step.0) (stands_for past l.lr ∷ past) (at + len) rest (next st) last (omega (arith, length-drop len bytes, log_record_some version bytes, few))
-        more (All-drop (λ b. b < 256) len bytes all) (omega (arith, length-drop len bytes, st.within, end)) stage
-        (subst (λ (r : Rec). Counts (Some step.0) (r ∷ past)) r_is known) st.rest)
+        by_more st l step (ap (λ (b : Bool). step_on b at st.r base) (sym inside) ∙ e) said
+        (again span (Some step.0) (st.r ∷ past) (at + len) rest (next st) last (omega (arith, length-drop len bytes, log_record_some version bytes, few))
+        more (All-drop (λ b. b < 256) len bytes all) (omega (arith, length-drop len bytes, st.within, end)) stage known st.rest)
 
     by_next : Reads version n → (st : LogStep version span (insides.Events base) at bytes so last) → (x : Result Step TraceFault) → step_on (eqb (at + len) span.end) at st.r base ≡ x
         → (x >>= λ step. Ok (insides.Events (Some step.0), Noted step.1 step.2)) ≡ Ok st.said → Here

@@ -10,7 +10,7 @@ use Rattle.xray_io.specs.Rows.{First, InTurn, ◌>>=◌}
 use Rattle.fdr_record.specs.declared.fault.RecFault.{RecFault}
 use Rattle.fdr_record.specs.declared.rec.Rec.{Rec}
 use Rattle.fdr_record.specs.declared.rec.Rec.TheVariants.{TscWrap}
-use Rattle.fdr_record.specs.Records.{BeginsWith, FieldsFit, Spells, length_of}
+use Rattle.fdr_record.specs.Records.{Spells, length_of}
 use Rattle.fdr_record.specs.Refusals.{Answers}
 use Rattle.fdr_record.proofs.Fields.{field_4}
 use Rattle.fdr_file.specs.declared.fault.TraceFault.{TraceFault}
@@ -30,6 +30,7 @@ use Rattle.runtime_log.specs.declared.version.LogVersion.{LogVersion}
 use Rattle.runtime_log.specs.declared.version.LogVersion.TheVariants.{Two, Three, Four, Five}
 use Rattle.runtime_log.specs.Grammar.{DeltaFits, HasEventsOf, IsLogRecord, IsOwnEvent, LogRecord, OfProgram, OfTrace, delta_bytes, is_custom_event, is_typed_event, own_marker}
 use Rattle.runtime_log.specs.Logs.{BlockSoFar, log_places, log_record_rows, one_custom, one_typed, said_rows, unless_faulty}
+use Rattle.runtime_log.specs.Arguments.{arg_follows, found_arg, found_before, rec_before, traced_in}
 use Rattle.runtime_log.specs.OwnEvents.{counter_so_far, first_kind, log_record_in, log_record_length, own_delta, own_kind, own_size, typed_kind}
 use Rattle.runtime_log.specs.Versions.{trace_version}
 use Rattle.runtime_log.proofs.RecordFits.{AreBytes}
@@ -129,10 +130,14 @@ own_written version kind (first ∷ rest) all is fits = by_short (ltb (length (f
 
 -- ---- a record
 
--- what a record stands for, after this counter
-abbrev pub as_record : ℕ → LogRecord → Rec
-as_record counter (OfTrace r) = r
-as_record counter (OfProgram kind delta) = TscWrap ((counter + delta) % 2 ^ 64)
+-- what a record stands for, after this counter, and before an argument or not
+abbrev pub as_record : ℕ → Bool → LogRecord → Rec
+as_record counter follows (OfTrace r) = rec_before follows r
+as_record counter follows (OfProgram kind delta) = TscWrap ((counter + delta) % 2 ^ 64)
+
+-- an argument begins what stands behind the record that bytes begin with
+abbrev pub follows_in : LogVersion → List ℕ → Bool
+follows_in version bytes = found_arg (record_in (drop (log_record_length version bytes) bytes))
 
 abbrev pub kind_of : LogRecord → Option OwnKind
 kind_of (OfTrace r) = None
@@ -142,11 +147,11 @@ kind_of (OfProgram kind delta) = Some kind
 pub record BeginsLog (version : LogVersion) (stage : Stage) (bytes : List ℕ) (r : Rec) : Type 0 where
   pub lr : LogRecord
   pub is : IsLogRecord version lr (take (log_record_length version bytes) bytes)
-  pub stands : r ≡ as_record (counter_so_far stage) lr
+  pub stands : r ≡ as_record (counter_so_far stage) (follows_in version bytes) lr
   pub kind : own_kind version bytes ≡ kind_of lr
 
 abbrev pub record_by : LogVersion → Stage → List ℕ → Option OwnKind → Result Rec RecFault
-record_by version stage bytes kind = option_map_or (λ k. Ok (TscWrap ((counter_so_far stage + own_delta version bytes) % 2 ^ 64))) kind (record_in bytes)
+record_by version stage bytes kind = option_map_or (λ k. Ok (TscWrap ((counter_so_far stage + own_delta version bytes) % 2 ^ 64))) kind (traced_in bytes)
 
 abbrev pub length_by_kind : List ℕ → Option OwnKind → ℕ
 length_by_kind bytes kind = option_map_or (λ k. 16 + own_size bytes) kind (record_length bytes)
@@ -155,22 +160,21 @@ pub begins_log : Decodes → (version : LogVersion) (stage : Stage) (bytes : Lis
     → BeginsLog version stage bytes r
 begins_log decodes version stage bytes r all fits found = by_kind (own_kind version bytes) refl
   where
-    by_answer : own_kind version bytes ≡ None → log_record_length version bytes ≡ record_length bytes → (a : Result Rec RecFault) → a ≡ Ok r → Answers bytes a → BeginsLog version stage bytes r
+    by_answer : own_kind version bytes ≡ None → log_record_length version bytes ≡ record_length bytes → (a : Result Rec RecFault) → found_before (arg_follows bytes) a ≡ Ok r → Answers bytes a → BeginsLog version stage bytes r
     by_answer e long (Err fault) h answers = absurd cc
-    by_answer e long (Ok s) h answers =
-        let same : s ≡ r = cc in
-        let is = subst (λ (x : Rec). FieldsFit x × BeginsWith x bytes) same answers in
-        let told : log_record_length version bytes ≡ length_of r = long ∙ length_told r bytes is.0 is.1 in record {
-          lr = OfTrace r;
-          is = (is.0, subst (λ (k : ℕ). Spells (take k bytes) r) (sym told) is.1);
-          stands = refl;
+    by_answer e long (Ok s) h is =
+        let same : rec_before (arg_follows bytes) s ≡ r = cc in
+        let told : log_record_length version bytes ≡ length_of s = long ∙ length_told s bytes is.0 is.1 in record {
+          lr = OfTrace s;
+          is = (is.0, subst (λ (k : ℕ). Spells (take k bytes) s) (sym told) is.1);
+          stands = sym same ∙ ap (λ (k : ℕ). rec_before (found_arg (record_in (drop k bytes))) s) (sym long);
           kind = e;
         }
 
     by_kind : (o : Option OwnKind) → own_kind version bytes ≡ o → BeginsLog version stage bytes r
     by_kind None e =
         let long : log_record_length version bytes ≡ record_length bytes = ap (length_by_kind bytes) e in
-        let here : record_in bytes ≡ Ok r = sym (ap (record_by version stage bytes) e) ∙ found in
+        let here : traced_in bytes ≡ Ok r = sym (ap (record_by version stage bytes) e) ∙ found in
         by_answer e long (record_in bytes) here (decodes bytes all)
     by_kind (Some kind) e =
         let long : log_record_length version bytes ≡ 16 + own_size bytes = ap (length_by_kind bytes) e in

@@ -8,8 +8,9 @@ use Rattle.std.proofs.lemmas.List.Elements.{All-drop}
 use Rattle.xray_io.specs.Rows.{InTurn, NeedsPart}
 use Rattle.xray_io.specs.declared.wall.Wall.{Wall}
 use Rattle.fdr_record.specs.declared.event.Event.{Event}
+use Rattle.fdr_record.specs.declared.event.Kind.{Kind}
 use Rattle.fdr_record.specs.declared.rec.Rec.{Rec}
-use Rattle.fdr_record.specs.declared.rec.Rec.TheVariants.{NewBuffer, TscWrap, WallTime, Pid}
+use Rattle.fdr_record.specs.declared.rec.Rec.TheVariants.{NewBuffer, TscWrap, WallTime, Pid, Function}
 use Rattle.fdr_record.specs.Records.{length_of}
 use Rattle.fdr_file.specs.declared.fault.TraceFault.{TraceFault}
 use Rattle.fdr_file.specs.declared.fault.TraceFault.TheVariants as faults
@@ -36,8 +37,9 @@ use Rattle.runtime_log.specs.Grammar.{AreLogRecords, IsLogRecord, LogRecord, OfP
 use Rattle.runtime_log.specs.Logs.{BlockSoFar, block_opened, block_with, log_places, one_custom, one_typed, said_rows}
 use Rattle.runtime_log.specs.OwnEvents.{counter_so_far, log_record_length, own_kind}
 use Rattle.runtime_log.specs.Versions.{trace_version}
+use Rattle.runtime_log.proofs.ArgumentsBehind.{rec_other}
 use Rattle.runtime_log.proofs.LogEvents.{EventsRead, count_more, events_read, longer, no_bytes}
-use Rattle.runtime_log.proofs.LogRecords.{BeginsLog, Decodes, LogStep, as_record, begins_log, kind_of, log_step}
+use Rattle.runtime_log.proofs.LogRecords.{BeginsLog, Decodes, LogStep, as_record, begins_log, follows_in, kind_of, log_step}
 use Rattle.runtime_log.proofs.RecordFits.{AreBytes}
 use Rattle.runtime_log.proofs.RecordWalk.{rows_none, so_with}
 
@@ -53,8 +55,8 @@ pub record TraceStep (version : LogVersion) (span : Span) (at : ℕ) (bytes : Li
   pub rest : InTurn (said_rows version) (so_traced so (stage_after span (at + 16) inside) told) (log_places version (at + 16) (drop 16 bytes)) ≡ Ok last
 
 trace_step : Decodes → (version : LogVersion) (span : Span) (at : ℕ) (bytes : List ℕ) (so last : BlockSoFar) (before : Inside) (r : Rec) (inside : Inside) (told : Told) → AreBytes bytes
-    → (st : LogStep version span before at bytes so last) → st.r ≡ r → length_of r ≡ 16 → ((n : ℕ) → r ≢ TscWrap n) → st.said ≡ (inside, told) → TraceStep version span at bytes so last r inside told
-trace_step decodes version span at bytes so last before r inside told all st r_is long other said = by_record l.lr l.is l.stands l.kind
+    → (st : LogStep version span before at bytes so last) → st.r ≡ r → length_of r ≡ 16 → ((n : ℕ) → r ≢ TscWrap n) → ((kind : Kind) (func delta : ℕ) → r ≡ Function kind func delta → ⊥) → st.said ≡ (inside, told) → TraceStep version span at bytes so last r inside told
+trace_step decodes version span at bytes so last before r inside told all st r_is long other plain said = by_record l.lr l.is l.stands l.kind
   where
     len : ℕ
     len = log_record_length version bytes
@@ -62,11 +64,11 @@ trace_step decodes version span at bytes so last before r inside told all st r_i
     l : BeginsLog version (Within span before) bytes st.r
     l = begins_log decodes version (Within span before) bytes st.r all st.within st.found
 
-    by_record : (lr : LogRecord) → IsLogRecord version lr (take len bytes) → st.r ≡ as_record (counter_so_far (Within span before)) lr → own_kind version bytes ≡ kind_of lr
+    by_record : (lr : LogRecord) → IsLogRecord version lr (take len bytes) → st.r ≡ as_record (counter_so_far (Within span before)) (follows_in version bytes) lr → own_kind version bytes ≡ kind_of lr
         → TraceStep version span at bytes so last r inside told
     by_record (OfProgram kind delta) is stands e = absurd (other _ (sym r_is ∙ stands))
     by_record (OfTrace s) is stands e =
-        let same : s ≡ r = sym stands ∙ r_is in
+        let same : s ≡ r = rec_other (follows_in version bytes) s r plain (sym stands ∙ r_is) in
         let sixteen : len ≡ 16 = omega (arith, length-take len bytes, st.within, is.1.whole, ap length_of same, long) in
         let custom : so.custom + one_custom (own_kind version bytes) ≡ so.custom = ap (λ (o : Option OwnKind). so.custom + one_custom o) e ∙ add-zero so.custom in
         let typed : so.typed + one_typed (own_kind version bytes) ≡ so.typed = ap (λ (o : Option OwnKind). so.typed + one_typed o) e ∙ add-zero so.typed in
@@ -108,7 +110,7 @@ thread_read decodes version span at bytes so last all st = by_named (thread_name
     by_named (Some thread) e h =
         let said : st.said ≡ (insides.Thread thread, Nothing) = cc in record {
           thread = thread;
-          step = trace_step decodes version span at bytes so last insides.Opened (NewBuffer thread) (insides.Thread thread) Nothing all st (thread_is st.r thread e) refl (λ n same. cc) said;
+          step = trace_step decodes version span at bytes so last insides.Opened (NewBuffer thread) (insides.Thread thread) Nothing all st (thread_is st.r thread e) refl (λ n same. cc) (λ kind func delta same. cc) said;
         }
 
 -- the wall time
@@ -125,7 +127,7 @@ wall_read decodes version tv v thread span at bytes so last all st = by_named (w
     by_named (Some wall) e h =
         let said : st.said ≡ after_wall tv thread wall = cc in record {
           wall = wall;
-          step = trace_step decodes version span at bytes so last (insides.Thread thread) (WallTime wall) (after_wall tv thread wall).0 (after_wall tv thread wall).1 all st (wall_is st.r wall e) refl (λ n same. cc) said;
+          step = trace_step decodes version span at bytes so last (insides.Thread thread) (WallTime wall) (after_wall tv thread wall).0 (after_wall tv thread wall).1 all st (wall_is st.r wall e) refl (λ n same. cc) (λ kind func delta same. cc) said;
         }
 
 -- the process
@@ -142,7 +144,7 @@ pid_read decodes version thread wall span at bytes so last all st = by_named (pi
     by_named (Some pid) e h =
         let said : st.said ≡ (insides.Events None, Begun thread wall pid) = cc in record {
           pid = pid;
-          step = trace_step decodes version span at bytes so last (insides.Wall thread wall) (Pid pid) (insides.Events None) (Begun thread wall pid) all st (pid_is st.r pid e) refl (λ n same. cc) said;
+          step = trace_step decodes version span at bytes so last (insides.Wall thread wall) (Pid pid) (insides.Events None) (Begun thread wall pid) all st (pid_is st.r pid e) refl (λ n same. cc) (λ kind func delta same. cc) said;
         }
 
 -- ---- records behind a preamble

@@ -16,6 +16,7 @@ use Rattle.fdr_file.specs.Traces.{record_in, record_length}
 use Rattle.runtime_log.specs.declared.own_event.OwnKind.{OwnKind}
 use Rattle.runtime_log.specs.declared.own_event.OwnKind.TheVariants.{Custom}
 use Rattle.runtime_log.specs.declared.version.LogVersion.TheVariants.{Three}
+use Rattle.runtime_log.specs.Arguments.{traced_in}
 use Rattle.runtime_log.specs.OwnEvents.{counter_so_far, log_record_in, log_record_length, own_delta, own_kind, own_size}
 
 -- ---- fewer bytes behind it
@@ -132,9 +133,9 @@ not_own (first ∷ rest) r found = by_short (ltb (length (first ∷ rest)) 16)
 pub long_as : (bytes : List ℕ) → own_kind Three bytes ≡ None → log_record_length Three bytes ≡ record_length bytes
 long_as bytes own = ap (λ (o : Option OwnKind). option_map_or (λ kind. 16 + own_size bytes) o (record_length bytes)) own
 
-pub record_as : (stage : Stage) (bytes : List ℕ) → own_kind Three bytes ≡ None → log_record_in Three stage bytes ≡ record_in bytes
+pub record_as : (stage : Stage) (bytes : List ℕ) → own_kind Three bytes ≡ None → log_record_in Three stage bytes ≡ traced_in bytes
 record_as stage bytes own =
-    ap (λ (o : Option OwnKind). option_map_or (λ kind. let x : Result Rec RecFault = Ok (TscWrap ((counter_so_far stage + own_delta Three bytes) % 2 ^ 64)) in x) o (record_in bytes)) own
+    ap (λ (o : Option OwnKind). option_map_or (λ kind. let x : Result Rec RecFault = Ok (TscWrap ((counter_so_far stage + own_delta Three bytes) % 2 ^ 64)) in x) o (traced_in bytes)) own
 
 -- ---- extents
 

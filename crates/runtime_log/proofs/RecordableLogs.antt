@@ -29,16 +29,29 @@ use Rattle.fdr_file.specs.declared.version.Version.{Version}
 use Rattle.fdr_file.specs.declared.version.Version.TheVariants.{Two, Three}
 use Rattle.fdr_file.specs.Places.{starts}
 use Rattle.fdr_file.specs.Scanning.{after_wall, argument_on, block_span, entry_due, entry_with, extents_span, function_on, inside_judged, inside_next, record_or, stage_after, stage_judged, stage_within, step_on}
-use Rattle.fdr_file.specs.Traces.{logs_arg, pid_named, preamble_bytes, size_named, thread_named, wall_named}
+use Rattle.fdr_file.specs.Traces.{logs_arg, pid_named, preamble_bytes, record_in, size_named, thread_named, wall_named}
 use Rattle.runtime_log.specs.declared.own_event.OwnKind.{OwnKind}
 use Rattle.runtime_log.specs.declared.version.LogVersion.{LogVersion}
 use Rattle.runtime_log.specs.Logs.{log_record_rows, unless_faulty}
+use Rattle.runtime_log.specs.Arguments.{arg_follows, found_before}
 use Rattle.runtime_log.specs.OwnEvents.{counter_so_far, log_record_in, log_record_length, own_delta, own_kind}
 use Rattle.runtime_log.specs.Versions.{trace_version}
 use Rattle.runtime_log.specs.private.Walks.{events_by, events_told, settled}
 use Rattle.runtime_log.proofs.RecordFits.{AreBytes, FoundFits, record_fits}
 
 -- ---- records
+
+-- a record fits before an argument, too
+before_fits : (follows : Bool) (x : Result Rec RecFault) → FoundFits x → FoundFits (found_before follows x)
+before_fits follows (Err fault) fits = tt
+before_fits follows (Ok (NewBuffer thread)) fits = fits
+before_fits follows (Ok (NewCpu cpu tsc)) fits = fits
+before_fits follows (Ok (TscWrap tsc)) fits = fits
+before_fits follows (Ok (WallTime wall)) fits = fits
+before_fits follows (Ok (Pid pid)) fits = fits
+before_fits follows (Ok (CallArg value)) fits = fits
+before_fits follows (Ok (Extents size)) fits = fits
+before_fits follows (Ok (Function kind func delta)) fits = fits
 
 log_record_fits : (version : LogVersion) (stage : Stage) (bytes : List ℕ) → AreBytes bytes → FoundFits (log_record_in version stage bytes)
 log_record_fits version stage bytes all = by_kind (own_kind version bytes) refl
@@ -47,7 +60,7 @@ log_record_fits version stage bytes all = by_kind (own_kind version bytes) refl
     below = omega arith
 
     by_kind : (kind : Option OwnKind) → own_kind version bytes ≡ kind → FoundFits (log_record_in version stage bytes)
-    by_kind None e = rw e (record_fits bytes all)
+    by_kind None e = rw e (before_fits (arg_follows bytes) (record_in bytes) (record_fits bytes all))
     by_kind (Some kind) e = rw e below
 
 -- ---- stages

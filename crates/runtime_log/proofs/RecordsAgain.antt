@@ -27,10 +27,12 @@ use Rattle.runtime_log.specs.declared.own_event.OwnKind.{OwnKind}
 use Rattle.runtime_log.specs.declared.own_event.OwnKind.TheVariants.{Custom, Typed}
 use Rattle.runtime_log.specs.declared.version.LogVersion.{LogVersion}
 use Rattle.runtime_log.specs.declared.version.LogVersion.TheVariants.{Two, Three, Four, Five}
-use Rattle.runtime_log.specs.Grammar.{DeltaFits, HasEventsOf, IsLogRecord, IsOwnEvent, LogRecord, OfProgram, OfTrace, delta_bytes, own_marker}
+use Rattle.runtime_log.specs.Grammar.{AreLogRecords, DeltaFits, HasEventsOf, IsLogRecord, IsOwnEvent, LogRecord, OfProgram, OfTrace, arg_first, delta_bytes, own_marker}
 use Rattle.runtime_log.specs.Logs.{BlockSoFar, block_with, log_places, log_record_rows, one_custom, one_typed, said_rows, unless_faulty}
+use Rattle.runtime_log.specs.Arguments.{arg_follows, found_arg, found_before, rec_before}
 use Rattle.runtime_log.specs.OwnEvents.{counter_inside, counter_so_far, first_kind, log_record_in, log_record_length, own_delta, own_kind, own_size, typed_kind}
 use Rattle.runtime_log.specs.Versions.{trace_version}
+use Rattle.runtime_log.proofs.ArgumentsBehind.{nothing_found}
 use Rattle.runtime_log.proofs.LogRecords.{as_record, kind_of, length_by_kind, not_faulty, record_by}
 use Rattle.runtime_log.proofs.RecordWalk.{log_record_some, rows_first, so_with}
 
@@ -116,7 +118,7 @@ own_again version kind delta front following is =
 pub record LogReads (version : LogVersion) (stage : Stage) (bytes : List ℕ) (lr : LogRecord) (n : ℕ) : Type 0 where
   pub kind : own_kind version bytes ≡ kind_of lr
   pub long : log_record_length version bytes ≡ n
-  pub found : log_record_in version stage bytes ≡ Ok (as_record (counter_so_far stage) lr)
+  pub found : log_record_in version stage bytes ≡ Ok (as_record (counter_so_far stage) (found_arg (record_in (drop n bytes))) lr)
 
 pub log_reads : (version : LogVersion) (stage : Stage) (lr : LogRecord) (front following : List ℕ) → IsLogRecord version lr front → LogReads version stage (front ++ following) lr (length front)
 log_reads version stage (OfTrace r) front following is =
@@ -126,7 +128,9 @@ log_reads version stage (OfTrace r) front following is =
     let own = never_own version bytes r found in record {
       kind = own;
       long = ap (length_by_kind bytes) own ∙ length_told r bytes is.0 begins ∙ sym is.1.whole;
-      found = ap (record_by version stage bytes) own ∙ found;
+      found =
+          ap (record_by version stage bytes) own ∙ (ap (found_before (arg_follows bytes)) found
+          ∙ ap (λ (k : ℕ). let x : Result Rec RecFault = Ok (rec_before (found_arg (record_in (drop k bytes))) r) in x) (length_told r bytes is.0 begins ∙ sym is.1.whole));
     }
 log_reads version stage (OfProgram kind delta) front following is =
     let bytes = front ++ following in
@@ -142,6 +146,25 @@ front_some version lr front following is =
     let stage : Stage = Within (record { begin = 0; end = 0 }) insides.Opened in
     omega (arith, (log_reads version stage lr front following is).long, log_record_some version (front ++ following))
 
+-- an argument is next in bytes if it is the first of their records
+pub arg_agrees : (version : LogVersion) (records : List LogRecord) (bytes : List ℕ) → AreLogRecords version records bytes → found_arg (record_in bytes) ≡ arg_first records
+arg_agrees version [] bytes are = ap (λ (xs : List ℕ). found_arg (record_in xs)) are ∙ nothing_found
+arg_agrees version (OfTrace r ∷ records) bytes (front, following, parts, is, rest) =
+    let all = front ++ following in
+    let begins : BeginsWith r all = subst (λ (x : List ℕ). Spells x r) (sym (take_at front following (length_of r) is.1.whole)) is.1 in
+    ap (λ (xs : List ℕ). found_arg (record_in xs)) parts ∙ ap found_arg (told_again r all is.0 begins)
+arg_agrees version (OfProgram kind delta ∷ records) bytes (front, following, parts, is, rest) =
+    ap (λ (xs : List ℕ). found_arg (record_in xs)) parts ∙ by_found (record_in (front ++ following)) refl
+  where
+    all : List ℕ
+    all = front ++ following
+
+    by_found : (x : Result Rec RecFault) → record_in all ≡ x → found_arg x ≡ false
+    by_found (Err fault) e = refl
+    by_found (Ok r) e =
+        let no : Some kind ≡ None = sym (own_again version kind delta front following is).kind_is ∙ never_own version all r e in
+        absurd cc
+
 -- ---- one step
 
 -- the block so far, with what a record says
@@ -150,7 +173,7 @@ so_lr so lr stage told = record { stage = stage; block = block_with told so.bloc
 
 pub run_step : (version : LogVersion) (span : Span) (inside : Inside) (at : ℕ) (lr : LogRecord) (front following : List ℕ) (so : BlockSoFar) (said : Inside × Told) → IsLogRecord version lr front
     → so.stage ≡ Within span inside → at + length front ≤ span.end
-    → inside_next (trace_version version) inside (eqb (at + length front) span.end) at (as_record (counter_inside inside) lr) ≡ Ok said
+    → inside_next (trace_version version) inside (eqb (at + length front) span.end) at (as_record (counter_inside inside) (found_arg (record_in following)) lr) ≡ Ok said
     → InTurn (said_rows version) so (log_places version at (front ++ following))
     ≡ InTurn (said_rows version) (so_lr so lr (stage_after span (at + length front) said.0) said.1) (log_places version (at + length front) following)
 run_step version span inside at lr front following so said is stage within next =
@@ -176,7 +199,7 @@ run_step version span inside at lr front following so said is stage within next 
     some = omega (arith, length-append front following, front_some version lr front following is)
 
     rec : Rec
-    rec = as_record (counter_inside inside) lr
+    rec = as_record (counter_inside inside) (found_arg (record_in following)) lr
 
     made : Option OwnKind → BlockSoFar
     made o = record { stage = stage_after span (at + n) said.0; block = block_with said.1 so.block; custom = so.custom + one_custom o; typed = so.typed + one_typed o }
@@ -186,7 +209,8 @@ run_step version span inside at lr front following so said is stage within next 
         ap (λ (s : Stage). log_record_rows version s (at, bytes)) stage
         ∙ ap (λ (k : ℕ). First (ltb (length bytes) k) (Err (traces.Extents at)) (unless_faulty (stage_judged tv (Within span inside) at k (log_record_in version (Within span inside) bytes)))) r.long
         ∙ ap (λ (b : Bool). First b (Err (traces.Extents at)) (unless_faulty (stage_judged tv (Within span inside) at n (log_record_in version (Within span inside) bytes)))) (le-ltb (length bytes) n (omega (arith, length-append front following)))
-        ∙ ap (λ (x : Result Rec RecFault). unless_faulty (stage_judged tv (Within span inside) at n x)) r.found
+        ∙ ap (λ (x : Result Rec RecFault). unless_faulty (stage_judged tv (Within span inside) at n x))
+        (r.found ∙ ap (λ (xs : List ℕ). let x : Result Rec RecFault = Ok (as_record (counter_inside inside) (found_arg (record_in xs)) lr) in x) (drop_at front following n refl))
         ∙ ap (λ (b : Bool). unless_faulty (stage_within span (at + n) (cond b (Err (traces.Extents at)) (Ok rec) >>= λ x. inside_next tv inside (eqb (at + n) span.end) at x))) (le-ltb span.end (at + n) within)
         ∙ ap (λ (x : Result (Inside × Told) TraceFault). unless_faulty (stage_within span (at + n) x)) next
         ∙ not_faulty span (at + n) said

@@ -1,20 +1,23 @@
 -- Stretches of function records: what they say, and the records of their events.
-use Rattle.std.proofs.Common.{◌≡◌, ℕ, zero, suc, ◌+◌, ◌*◌, ◌/◌, ◌%◌, ◌^◌, ◌<◌, ◌≤◌, Bool, true, false, cond, eqb, ltb, List, [], ◌∷◌, ◌++◌, length, drop, slice_index, Option, Some, None, Result, Ok, refl, sym, ap, subst, ◌∙◌, append_assoc, append-nil, eq-eqb, arith}
+use Rattle.std.proofs.Common.{◌≡◌, ℕ, zero, suc, ◌+◌, ◌*◌, ◌/◌, ◌%◌, ◌^◌, ◌<◌, ◌≤◌, Bool, true, false, cond, eqb, ltb, List, [], ◌∷◌, ◌++◌, length, drop, slice_index, Option, Some, None, Result, Ok, Err, refl, sym, ap, subst, ◌∙◌, append_assoc, append-nil, eq-eqb, arith}
 use Rattle.std.specs.Prelude.{is_some, option_to_list}
 use Rattle.std.proofs.lemmas.Bool.Decides.{nat_tests}
 use Rattle.std.proofs.lemmas.List.{drop-drop, length-drop}
-use Rattle.xray_io.specs.Rows.{InTurn, ◌>>=◌}
+use Rattle.std.specs.Option.{option_map_or}
+use Rattle.xray_io.specs.Rows.{First, InTurn, ◌>>=◌}
 use Rattle.byteorder.specs.Endian.{little_number}
 use Rattle.fdr_record.specs.declared.event.Event.{Event}
 use Rattle.fdr_record.specs.declared.event.Kind.{Kind}
 use Rattle.fdr_record.specs.declared.event.Kind.TheVariants.{Entry, Exit, TailExit}
 use Rattle.fdr_record.specs.declared.rec.Rec.{Rec}
-use Rattle.fdr_record.specs.declared.rec.Rec.TheVariants.{Function}
+use Rattle.fdr_record.specs.declared.fault.RecFault.{RecFault}
+use Rattle.fdr_record.specs.declared.rec.Rec.TheVariants.{TscWrap, Function}
 use Rattle.fdr_record.specs.Reading.{function_record_at, kind_read}
 use Rattle.fdr_file.specs.declared.events.Argument.{Argument}
 use Rattle.fdr_file.specs.declared.events.Argument.TheVariants.{Barred}
 use Rattle.fdr_file.specs.declared.events.Base.{Base}
 use Rattle.fdr_file.specs.declared.fault.TraceFault.{TraceFault}
+use Rattle.fdr_file.specs.declared.fault.TraceFault.TheVariants as traces
 use Rattle.fdr_file.specs.declared.stage.Inside.{Inside}
 use Rattle.fdr_file.specs.declared.stage.Inside.TheVariants.{Events}
 use Rattle.fdr_file.specs.declared.stage.Span.{Span}
@@ -22,14 +25,17 @@ use Rattle.fdr_file.specs.declared.stage.Stage.{Stage}
 use Rattle.fdr_file.specs.declared.stage.Stage.TheVariants.{Due, Within}
 use Rattle.fdr_file.specs.declared.stage.Told.{Told}
 use Rattle.fdr_file.specs.declared.stage.Told.TheVariants.{Noted}
-use Rattle.fdr_file.specs.Scanning.{stage_after}
+use Rattle.fdr_file.specs.Scanning.{stage_after, stage_judged}
 use Rattle.fdr_file.specs.Traces.{logs_arg, record_in}
+use Rattle.runtime_log.specs.declared.own_event.OwnKind.{OwnKind}
 use Rattle.runtime_log.specs.declared.stretch.Stretch.{Stretch}
 use Rattle.runtime_log.specs.declared.version.LogVersion.{LogVersion}
 use Rattle.runtime_log.specs.declared.version.LogVersion.TheVariants.{Two, Three, Four, Five}
 use Rattle.runtime_log.specs.declared.walk.BlockWalk.{BlockWalk}
 use Rattle.runtime_log.specs.Logs.{BlockSoFar, log_places, log_record_rows, said_rows, unless_faulty}
-use Rattle.runtime_log.specs.OwnEvents.{first_kind, log_record_length, own_kind}
+use Rattle.runtime_log.specs.Arguments.{traced_in}
+use Rattle.runtime_log.specs.OwnEvents.{counter_so_far, first_kind, log_record_in, log_record_length, own_delta, own_kind}
+use Rattle.runtime_log.specs.Versions.{trace_version}
 use Rattle.runtime_log.specs.private.Stretches.{AreStretch, IsPlain, IsStretch, SaysStretch, action_in, counter_in, event_in, kind_in, last_counter, stretch_events}
 use Rattle.runtime_log.specs.private.Walks.{IsCounted, IsPastStretch, events_by, events_told, walk_events}
 use Rattle.runtime_log.proofs.RecordWalk.{events_first, rows_first, so_with}
@@ -109,11 +115,15 @@ plain_row : (version : LogVersion) (span : Span) (cpu tsc at : ℕ) (bytes : Lis
 plain_row version span cpu tsc at bytes plain within =
     let own = plain_own version tsc bytes plain in
     let even = eq-eqb (slice_index bytes 0 % 2) 0 plain.function in
-    let read = plain_read bytes plain.whole plain.function plain.action in
+    let read : traced_in bytes ≡ Ok (record_of bytes) = plain.alone ∙ plain_read bytes plain.whole plain.function plain.action in
     let long : ltb (length bytes) 8 ≡ false = grind (arith, nat_tests, plain.whole) in
     let inside : ltb span.end (at + 8) ≡ false = grind (arith, nat_tests) in
     let same : (tsc + little_number 4 (drop 4 bytes)) % 2 ^ 64 ≡ tsc + little_number 4 (drop 4 bytes) = omega (arith, plain.counter) in
-    rw (own, even, long, read, inside, no_argument bytes, same)
+    let stage : Stage = Within span (Events (Some (counted cpu tsc))) in
+    let found : log_record_in version stage bytes ≡ Ok (record_of bytes) =
+    ap (λ (o : Option OwnKind). option_map_or (λ kind. let x : Result Rec RecFault = Ok (TscWrap ((counter_so_far stage + own_delta version bytes) % 2 ^ 64)) in x) o (traced_in bytes)) own ∙ read in
+    ap (λ (x : Result Rec RecFault). First (ltb (length bytes) (log_record_length version bytes)) (Err (traces.Extents at)) (unless_faulty (stage_judged (trace_version version) stage at (log_record_length version bytes) x))) found
+    ∙ rw (own, even, long, inside, no_argument bytes, same)
     (not_faulty (eqb (at + 8) span.end) span (Events (Some (counted cpu (counter_in tsc bytes)))) (Noted None (Some (event_in cpu (counter_in tsc bytes) bytes))))
 
 -- ---- a stretch among the records of a block

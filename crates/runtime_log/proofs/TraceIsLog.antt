@@ -1,6 +1,6 @@
 -- A trace of version 3 is a log. The reading of a trace, record by record, is that of a log: a block begins where it is
 -- due, its records lead to its end, and no record is an event of the program's own.
-use Rattle.std.proofs.Common.{◌≡◌, ℕ, zero, suc, ◌+◌, ◌-◌, ◌<◌, ◌≤◌, Bool, true, false, cond, eqb, ltb, List, [], ◌∷◌, ◌++◌, length, drop, map, take, Option, Some, None, Result, Ok, Err, refl, sym, ap, subst, ◌∙◌, inl, inr, append_assoc, append-nil, arith}
+use Rattle.std.proofs.Common.{◌≡◌, ℕ, ◌^◌, ◌%◌, zero, suc, ◌+◌, ◌-◌, ◌<◌, ◌≤◌, Bool, true, false, cond, eqb, ltb, List, [], ◌∷◌, ◌++◌, length, drop, map, take, Option, Some, None, Result, Ok, Err, refl, sym, ap, subst, ◌∙◌, inl, inr, append_assoc, append-nil, arith}
 use Rattle.std.specs.Prelude.{◌⊎◌, ◌&&◌, not, option_to_list}
 use Rattle.std.proofs.lemmas.Bool.{cases_lt, eqb-false, eqb-true, le-ltb, ltb-false}
 use Rattle.std.proofs.lemmas.List.{drop-drop, drop-take, length-drop, length-take}
@@ -9,7 +9,9 @@ use Rattle.xray_io.specs.declared.wall.Wall.{Wall}
 use Rattle.fdr_record.specs.declared.event.Event.{Event}
 use Rattle.fdr_record.specs.declared.fault.RecFault.{RecFault}
 use Rattle.fdr_record.specs.declared.rec.Rec.{Rec}
-use Rattle.fdr_record.specs.declared.rec.Rec.TheVariants.{Extents}
+use Rattle.fdr_record.specs.declared.event.Kind.TheVariants.{Entry, Exit, TailExit, EntryArgs}
+use Rattle.fdr_record.specs.declared.rec.Rec.TheVariants.{NewBuffer, NewCpu, TscWrap, WallTime, Pid, CallArg, Extents, Function}
+use Rattle.fdr_file.specs.declared.events.Argument.TheVariants as arguments
 use Rattle.fdr_file.specs.declared.events.Base.{Base}
 use Rattle.fdr_file.specs.declared.fault.TraceFault.{TraceFault}
 use Rattle.fdr_file.specs.declared.fault.TraceFault.TheVariants as traces
@@ -26,8 +28,8 @@ use Rattle.fdr_file.specs.declared.trace.Trace.{Trace}
 use Rattle.fdr_file.specs.declared.version.Version.{Version}
 use Rattle.fdr_file.specs.declared.version.Version.TheVariants as versions
 use Rattle.fdr_file.specs.Places.{starts}
-use Rattle.fdr_file.specs.Scanning.{Scanned, block_span, empty_block, extents_next, extents_span, inside_next, last_longer, longer_block, record_or, scan_start, scanned, scanned_ends, scanned_from, scanned_on, scanned_over, stage_after, stage_ends, stage_judged, stage_within, step_on, version_read, with_event, with_told}
-use Rattle.fdr_file.specs.Traces.{block_length, header_in, pid_named, record_in, record_length, size_named, thread_named, trace_of, type_in, version_in, version_of, wall_named}
+use Rattle.fdr_file.specs.Scanning.{Scanned, block_span, empty_block, entry_with, extents_next, extents_span, inside_next, last_longer, longer_block, record_or, scan_start, scanned, scanned_ends, scanned_from, scanned_on, scanned_over, stage_after, stage_ends, stage_judged, stage_within, step_on, version_read, with_event, with_told}
+use Rattle.fdr_file.specs.Traces.{block_length, header_in, is_arg, pid_named, record_in, record_length, size_named, thread_named, trace_of, type_in, version_in, version_of, wall_named}
 use Rattle.runtime_log.specs.declared.blocks.Mode.TheVariants.{Recorder}
 use Rattle.runtime_log.specs.declared.version.LogVersion.TheVariants.{Three}
 use Rattle.runtime_log.specs.Laws.{TracesAreLogs, said_of}
@@ -35,6 +37,8 @@ use Rattle.runtime_log.specs.Logs.{BlockSoFar, Log, LogBlock, as_log, block_cont
 use Rattle.runtime_log.specs.OwnEvents.{log_record_in, log_record_length}
 use Rattle.runtime_log.specs.Versions.{log_version_of}
 use Rattle.runtime_log.specs.private.Headers.{mode_of}
+use Rattle.runtime_log.specs.Arguments.{arg_follows, found_arg, found_before, rec_before}
+use Rattle.runtime_log.proofs.ArgumentsBehind.{none_follows, rec_alone}
 use Rattle.runtime_log.proofs.BlockLists.{Onward, block_first, block_sized, size_is}
 use Rattle.runtime_log.proofs.BlockReading.{block_is}
 use Rattle.runtime_log.proofs.RecordCuts.{extents_long, long_as, not_own, record_as, record_cut, record_short}
@@ -207,34 +211,90 @@ tracks_end span (insides.Events base) at before blocks block end tracks = tracks
 -- ---- the same record in a log
 
 -- a record of a block of a log, which the block's bytes end behind
-log_row : (stage : Stage) (at m : ℕ) (bytes : List ℕ) (r : Rec) (next : Stage × Told) → record_in bytes ≡ Ok r → record_length bytes ≤ m
+log_row : (stage : Stage) (at m : ℕ) (bytes : List ℕ) (r : Rec) (next : Stage × Told) → record_in bytes ≡ Ok r → record_length bytes ≤ m → rec_before (arg_follows (take m bytes)) r ≡ r
     → unless_faulty (stage_judged versions.Three stage at (record_length bytes) (Ok r)) ≡ Ok next → log_record_rows Three stage (at, take m bytes) ≡ Ok next
-log_row stage at m bytes r next found within judged =
+log_row stage at m bytes r next found within alone judged =
     let cut = record_cut bytes m r found within in
     let xs = take m bytes in
     let own = not_own xs r cut.same in
     let long : log_record_length Three xs ≡ record_length bytes = long_as xs own ∙ cut.long in
     let there : ltb (length xs) (record_length bytes) ≡ false = le-ltb (length xs) (record_length bytes) (omega (arith, length-take m bytes, cut.whole, within)) in
     ap (λ (n : ℕ). First (ltb (length xs) n) (Err (traces.Extents at)) (unless_faulty (stage_judged versions.Three stage at n (log_record_in Three stage xs)))) long
-    ∙ ap (λ (x : Result Rec RecFault). First (ltb (length xs) (record_length bytes)) (Err (traces.Extents at)) (unless_faulty (stage_judged versions.Three stage at (record_length bytes) x))) (record_as stage xs own ∙ cut.same)
+    ∙ ap (λ (x : Result Rec RecFault). First (ltb (length xs) (record_length bytes)) (Err (traces.Extents at)) (unless_faulty (stage_judged versions.Three stage at (record_length bytes) x))) (record_as stage xs own ∙ (ap (found_before (arg_follows xs)) cut.same ∙ ap (λ (s : Rec). let x : Result Rec RecFault = Ok s in x) alone))
     ∙ ap (λ (b : Bool). First b (Err (traces.Extents at)) (unless_faulty (stage_judged versions.Three stage at (record_length bytes) (Ok r)))) there
     ∙ judged
 
 -- the records of a block of a log, from this one on
-log_rows : (so : BlockSoFar) (stage : Stage) (at m : ℕ) (bytes : List ℕ) (r : Rec) (next : Stage × Told) → so.stage ≡ stage → record_in bytes ≡ Ok r → record_length bytes ≤ m
+log_rows : (so : BlockSoFar) (stage : Stage) (at m : ℕ) (bytes : List ℕ) (r : Rec) (next : Stage × Told) → so.stage ≡ stage → record_in bytes ≡ Ok r → record_length bytes ≤ m → rec_before (arg_follows (take m bytes)) r ≡ r
     → unless_faulty (stage_judged versions.Three stage at (record_length bytes) (Ok r)) ≡ Ok next
     → InTurn (said_rows Three) so (log_places Three at (take m bytes))
     ≡ InTurn (said_rows Three) (so_with Three so (take m bytes) next) (log_places Three (at + record_length bytes) (drop (record_length bytes) (take m bytes)))
-log_rows so stage at m bytes r next is found within judged =
+log_rows so stage at m bytes r next is found within alone judged =
     let cut = record_cut bytes m r found within in
     let xs = take m bytes in
     let own = not_own xs r cut.same in
     let long : log_record_length Three xs ≡ record_length bytes = long_as xs own ∙ cut.long in
     let some : 0 < length xs = omega (arith, length-take m bytes, cut.whole, within, record_some bytes) in
-    let row : log_record_rows Three so.stage (at, xs) ≡ Ok next = ap (λ (s : Stage). log_record_rows Three s (at, xs)) is ∙ log_row stage at m bytes r next found within judged in
+    let row : log_record_rows Three so.stage (at, xs) ≡ Ok next = ap (λ (s : Stage). log_record_rows Three s (at, xs)) is ∙ log_row stage at m bytes r next found within alone judged in
     ap (InTurn (said_rows Three) so) (places_first Three at xs some)
     ∙ ap (λ (x : Result (Stage × Told) TraceFault). (x >>= λ said. Ok (so_with Three so xs said)) >>= λ s. InTurn (said_rows Three) s (log_places Three (at + log_record_length Three xs) (drop (log_record_length Three xs) xs))) row
     ∙ ap (λ (n : ℕ). InTurn (said_rows Three) (so_with Three so xs next) (log_places Three (at + n) (drop n xs))) long
+
+-- ---- a record, and the one behind it
+
+-- what is accepted next
+next_accepted : (span : Span) (inside : Inside) (at : ℕ) (bytes : List ℕ) (blocks all : List Block) → Ends (Within span inside) blocks at bytes all → StepsWithin span inside at bytes blocks all
+next_accepted span inside at bytes blocks all ends = by_length (cases_lt 0 (length bytes))
+  where
+    by_length : (0 < length bytes) ⊎ (length bytes ≤ 0) → StepsWithin span inside at bytes blocks all
+    by_length (inl some) = step_within span inside at bytes blocks all some ends
+    by_length (inr few) =
+        let none : length bytes ≡ 0 = omega (arith, few) in
+        let no = (ends_last (Within span inside) blocks at bytes all none ends).0 in
+        absurd cc
+
+-- behind an entry of action 0 no argument is accepted
+abbrev barred_base : Base → ℕ → Base
+barred_base base delta = record { cpu = base.cpu; tsc = (base.tsc + delta) % 2 ^ 64; argument = arguments.Barred }
+
+no_arg_behind : (base : Base) (func delta : ℕ) (ends : Bool) (at : ℕ) (r : Rec) (said : Inside × Told) → inside_next versions.Three (insides.Events (Some (barred_base base delta))) ends at r ≡ Ok said
+    → rec_before (is_arg r) (Function Entry func delta) ≡ Function Entry func delta
+no_arg_behind base func delta ends at (CallArg value) said is = absurd cc
+no_arg_behind base func delta ends at (NewBuffer thread) said is = refl
+no_arg_behind base func delta ends at (NewCpu cpu tsc) said is = refl
+no_arg_behind base func delta ends at (TscWrap tsc) said is = refl
+no_arg_behind base func delta ends at (WallTime wall) said is = refl
+no_arg_behind base func delta ends at (Pid pid) said is = refl
+no_arg_behind base func delta ends at (Extents size) said is = refl
+no_arg_behind base func delta ends at (Function kind f d) said is = refl
+
+entry_pair : (inside : Inside) (ends other : Bool) (at behind func delta : ℕ) (r : Rec) (said next : Inside × Told) → inside_next versions.Three inside ends at (Function Entry func delta) ≡ Ok said
+    → inside_next versions.Three said.0 other behind r ≡ Ok next → rec_before (is_arg r) (Function Entry func delta) ≡ Function Entry func delta
+entry_pair insides.Opened ends other at behind func delta r said next is follows = absurd cc
+entry_pair (insides.Thread thread) ends other at behind func delta r said next is follows = absurd cc
+entry_pair (insides.Wall thread wall) ends other at behind func delta r said next is follows = absurd cc
+entry_pair (insides.Events None) ends other at behind func delta r said next is follows = absurd cc
+entry_pair (insides.Events (Some base)) ends other at behind func delta r said next is follows =
+    let made : Inside × Told = (
+      insides.Events (Some (barred_base base delta)),
+      Noted (entry_with (Some base) 0) (Some (record { cpu = base.cpu; func = func; kind = Entry; tsc = (base.tsc + delta) % 2 ^ 64; arg = 0 })),
+    ) in
+    let same : made ≡ said = cc in
+    no_arg_behind base func delta other behind r next (ap (λ (s : Inside × Told). inside_next versions.Three s.0 other behind r) same ∙ follows)
+
+accepted_pair : (inside : Inside) (ends other : Bool) (at behind : ℕ) (r s : Rec) (said next : Inside × Told) → inside_next versions.Three inside ends at r ≡ Ok said
+    → inside_next versions.Three said.0 other behind s ≡ Ok next → rec_before (is_arg s) r ≡ r
+accepted_pair inside ends other at behind (NewBuffer thread) s said next is follows = refl
+accepted_pair inside ends other at behind (NewCpu cpu tsc) s said next is follows = refl
+accepted_pair inside ends other at behind (TscWrap tsc) s said next is follows = refl
+accepted_pair inside ends other at behind (WallTime wall) s said next is follows = refl
+accepted_pair inside ends other at behind (Pid pid) s said next is follows = refl
+accepted_pair inside ends other at behind (CallArg value) s said next is follows = refl
+accepted_pair inside ends other at behind (Extents size) s said next is follows = refl
+accepted_pair inside ends other at behind (Function Entry func delta) s said next is follows = entry_pair inside ends other at behind func delta s said next is follows
+accepted_pair inside ends other at behind (Function Exit func delta) s said next is follows = refl
+accepted_pair inside ends other at behind (Function TailExit func delta) s said next is follows = refl
+accepted_pair inside ends other at behind (Function EntryArgs func delta) s said next is follows = refl
 
 -- ---- the records of a block
 
@@ -269,7 +329,10 @@ records_follow (suc n) span inside at bytes before blocks all so few tracks stag
         let within : len ≤ m = omega (arith, end) in
         let cut = record_cut bytes m st.r st.found within in
         let next : Stage × Told = (Due, st.said.1) in
-        let rows = log_rows so (Within span inside) at m bytes st.r next stage st.found within (ap unless_faulty judged) in
+        let xs = take m bytes in
+        let few : length xs ≤ record_length xs = omega (arith, length-take m bytes, cut.long, end) in
+        let alone : rec_before (arg_follows xs) st.r ≡ st.r = ap (λ (b : Bool). rec_before b st.r) (none_follows xs few) ∙ rec_alone st.r in
+        let rows = log_rows so (Within span inside) at m bytes st.r next stage st.found within alone (ap unless_faulty judged) in
         let after = so_with Three so (take m bytes) next in
         let none : length (drop len (take m bytes)) ≡ 0 = omega (arith, length-drop len (take m bytes), length-take m bytes, end) in
         let then_is = tracks_next span inside at len (eqb (at + len) span.end) st.r st.said before blocks so.block (record_short bytes) (omega (arith, end)) st.next tracks in
@@ -290,12 +353,20 @@ records_follow (suc n) span inside at bytes before blocks all so few tracks stag
         let within : len ≤ m = omega (arith, inner) in
         let cut = record_cut bytes m st.r st.found within in
         let next : Stage × Told = (Within span st.said.0, st.said.1) in
-        let rows = log_rows so (Within span inside) at m bytes st.r next stage st.found within (ap unless_faulty judged) in
+        let parts : m ≡ len + (span.end - (at + len)) = omega (arith, inner) in
+        let rest : drop len (take m bytes) ≡ take (span.end - (at + len)) (drop len bytes) = ap (λ (k : ℕ). drop len (take k bytes)) parts ∙ drop-take len (span.end - (at + len)) bytes in
+        let xs = take m bytes in
+        let other_r = next_accepted span st.said.0 (at + len) (drop len bytes) (with_told st.said.1 blocks) all left in
+        let there = record_cut (drop len bytes) (span.end - (at + len)) other_r.r other_r.found (omega (arith, other_r.within)) in
+        let follows : arg_follows xs ≡ is_arg other_r.r =
+        ap (λ (k : ℕ). found_arg (record_in (drop k xs))) cut.long ∙ (ap (λ (ys : List ℕ). found_arg (record_in ys)) rest ∙ ap found_arg there.same) in
+        let alone : rec_before (arg_follows xs) st.r ≡ st.r =
+        ap (λ (b : Bool). rec_before b st.r) follows
+        ∙ accepted_pair inside (eqb (at + len) span.end) (eqb (at + len + record_length (drop len bytes)) span.end) at (at + len) st.r other_r.r st.said other_r.said st.next other_r.next in
+        let rows = log_rows so (Within span inside) at m bytes st.r next stage st.found within alone (ap unless_faulty judged) in
         let after = so_with Three so (take m bytes) next in
         let then_is = tracks_next span inside at len (eqb (at + len) span.end) st.r st.said before blocks so.block (record_short bytes) st.within st.next tracks in
         let f = again st.said.0 before (with_told st.said.1 blocks) after (omega (arith, few, length-drop len bytes, record_some bytes)) then_is refl left in
-        let parts : m ≡ len + (span.end - (at + len)) = omega (arith, inner) in
-        let rest : drop len (take m bytes) ≡ take (span.end - (at + len)) (drop len bytes) = ap (λ (k : ℕ). drop len (take k bytes)) parts ∙ drop-take len (span.end - (at + len)) bytes in
         let behind : drop (span.end - (at + len)) (drop len bytes) ≡ drop m bytes = drop-drop (span.end - (at + len)) len bytes ∙ ap (λ (k : ℕ). drop k bytes) (sym parts) in record {
           fits = omega (arith, f.fits, length-drop len bytes, cut.whole);
           last = f.last;
@@ -360,7 +431,7 @@ size_rows at size bytes found enough fits =
     let whole : ltb (length bytes) 16 ≡ false = le-ltb (length bytes) 16 (omega (arith, fits)) in
     let own = not_own bytes (Extents size) found in
     ap (λ (b : Bool). First b (Err (traces.Short at)) (sized_rows Three (at, bytes) (log_record_in Three Due bytes))) whole
-    ∙ ap (sized_rows Three (at, bytes)) (record_as Due bytes own ∙ found)
+    ∙ ap (sized_rows Three (at, bytes)) (record_as Due bytes own ∙ ap (found_before (arg_follows bytes)) found)
     ∙ ap (λ (b : Bool). First b (Err (traces.Extents at)) (First (ltb (length bytes) (16 + size)) (Err (traces.Short at)) (Ok size))) (large size enough)
     ∙ ap (λ (b : Bool). let x : Result ℕ TraceFault = First b (Err (traces.Short at)) (Ok size) in x) (le-ltb (length bytes) (16 + size) fits)
 

@@ -9,7 +9,8 @@ use Rattle.fdr_file.specs.declared.header.Header.{Header}
 use Rattle.fdr_file.specs.Events.{counter_at}
 use Rattle.fdr_file.specs.Grammar.{ArgsFollow, BeginWithCpu, IsInner, block_records}
 use Rattle.fdr_file.specs.Scanning.{empty_block}
-use Rattle.fdr_file.specs.Traces.{block_of}
+use Rattle.fdr_file.specs.Traces.{block_of, is_arg}
+use Rattle.runtime_log.specs.Arguments.{rec_before}
 use Rattle.runtime_log.specs.declared.own_event.OwnKind.{OwnKind}
 use Rattle.runtime_log.specs.declared.own_event.OwnKind.TheVariants.{Custom, Typed}
 use Rattle.runtime_log.specs.declared.version.LogVersion.{LogVersion}
@@ -75,16 +76,23 @@ AreLogRecords version (r ∷ records) bytes =
 
 -- ---- what they say
 
--- The record of a trace that a record stands for, after these, the last of which comes first. An event of the program's own
--- stands for the counter at it: the counter at the record before, and its delta.
-abbrev pub stands_for : List Rec → LogRecord → Rec
-stands_for before (OfTrace r) = r
-stands_for before (OfProgram kind delta) = TscWrap ((counter_at before + delta) % 2 ^ 64)
+-- an argument comes first of these
+abbrev pub arg_first : List LogRecord → Bool
+arg_first [] = false
+arg_first (OfTrace r ∷ records) = is_arg r
+arg_first (OfProgram kind delta ∷ records) = false
+
+-- The record of a trace that a record stands for, after some records, the last of which comes first, and before others. An
+-- entry directly before an argument stands for one that logs it. An event of the program's own stands for the counter at it:
+-- the counter at the record before, and its delta.
+abbrev pub stands_for : (before : List Rec) → LogRecord → (later : List LogRecord) → Rec
+stands_for before (OfTrace r) later = rec_before (arg_first later) r
+stands_for before (OfProgram kind delta) later = TscWrap ((counter_at before + delta) % 2 ^ 64)
 
 -- those that records stand for
 abbrev pub stand_for : List Rec → List LogRecord → List Rec
 stand_for before [] = []
-stand_for before (r ∷ records) = stands_for before r ∷ stand_for (stands_for before r ∷ before) records
+stand_for before (r ∷ records) = stands_for before r records ∷ stand_for (stands_for before r records ∷ before) records
 
 -- the record is a custom event, or a typed one
 abbrev pub is_custom_event : LogRecord → Bool

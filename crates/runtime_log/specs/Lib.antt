@@ -1,4 +1,5 @@
 pub mod Versions
+pub mod Arguments
 pub mod OwnEvents
 pub mod BasicLogs
 pub mod Logs

@@ -12,7 +12,8 @@ use Rattle.fdr_file.specs.declared.stage.Inside.{Inside}
 use Rattle.fdr_file.specs.declared.stage.Inside.TheVariants.{Opened, Thread, Wall, Events}
 use Rattle.fdr_file.specs.declared.stage.Stage.{Stage}
 use Rattle.fdr_file.specs.declared.stage.Stage.TheVariants.{Due, Within, Faulty}
-use Rattle.fdr_file.specs.Traces.{record_in, record_length}
+use Rattle.fdr_file.specs.Traces.{record_length}
+use Rattle.runtime_log.specs.Arguments.{traced_in}
 use Rattle.runtime_log.specs.declared.own_event.OwnKind.{OwnKind}
 use Rattle.runtime_log.specs.declared.own_event.OwnKind.TheVariants.{Custom, Typed}
 use Rattle.runtime_log.specs.declared.version.LogVersion.{LogVersion}
@@ -75,8 +76,8 @@ counter_so_far (Faulty span fault) = 0
 abbrev pub log_record_length : LogVersion → List ℕ → ℕ
 log_record_length version bytes = option_map_or (λ kind. metadata_length + own_size bytes) (own_kind version bytes) (record_length bytes)
 
--- The record that bytes begin with, where the reading stands at this stage. An event of the program's own stands for the
--- record that says the counter at it.
+-- The record of a trace that bytes begin with, where the reading stands at this stage. An event of the program's own stands
+-- for the record that says the counter at it, and an entry before an argument for one that logs it.
 abbrev pub log_record_in : LogVersion → Stage → List ℕ → Result Rec RecFault
 log_record_in version stage bytes =
-    option_map_or (λ kind. Ok (TscWrap ((counter_so_far stage + own_delta version bytes) % 2 ^ 64))) (own_kind version bytes) (record_in bytes)
+    option_map_or (λ kind. Ok (TscWrap ((counter_so_far stage + own_delta version bytes) % 2 ^ 64))) (own_kind version bytes) (traced_in bytes)

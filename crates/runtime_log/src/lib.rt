@@ -3,7 +3,8 @@
 //! The formats are those of `xray_fdr_log_records.h`, `xray_fdr_logging.cpp` and
 //! `xray_basic_logging.cpp` of LLVM's compiler-rt.
 //!
-//! `version` and `own_event` have what differs from one version to the next. `walk` goes through the
+//! `version` and `own_event` have what differs from one version to the next, and `argument` the
+//! arguments behind entries. `walk` goes through the
 //! records of a block of the Flight Data Recorder mode, over the step of `fdr_file`. `stretch` has the
 //! function records that are passed and packed many at a time. `basic` reads the records of the basic
 //! mode, and `threads` puts its passings in the order of threads. `reading` makes a list of all blocks,
@@ -11,6 +12,7 @@
 //! `notes` takes what they say, and `facts` is what is said of all this.
 #![tactic(auto)]
 
+mod argument;
 mod basic;
 mod blocks;
 mod facts;

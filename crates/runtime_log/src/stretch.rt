@@ -2,6 +2,7 @@
 ghost use Rattle.std.specs.Prelude.{◌≡◌, ◌≤◌, ◌<◌, ◌*◌, ◌^◌, All, IfSome, length};
 ghost use Rattle.runtime_log.specs.private.Stretches.{AreStretch, IsPlain, IsStretch, action_in, counter_in, event_in, last_counter};
 
+use crate::argument::may_have_arg;
 use byteorder::{ByteOrder, LittleEndian};
 use fdr_record::{Event, FUNCTION_BYTES, Kind};
 
@@ -33,7 +34,8 @@ const ID_SHIFT: u32 = 4;
 const DELTA_AT: usize = 4;
 
 /// Function records that stand one after the other in a block. Each is of an entry without an argument,
-/// of an exit or of a tail exit, and the counter doesn't go past 2^64 at it. Their events have exactly
+/// of an exit or of a tail exit, and the counter doesn't go past 2^64 at it. No argument follows an entry
+/// among them. Their events have exactly
 /// these records in a trace, too, if they follow an event on the same CPU, at the counter before them.
 #[derive(Clone, Copy)]
 pub(crate) struct Stretch<'a> {
@@ -61,7 +63,7 @@ fn counter_after(tsc: u64, bytes: &[u8]) -> Option<u64>
     requires { 8 ≤ length bytes.now }
     ensures { IfSome result (λ next. IsPlain tsc bytes.now × (next ≡ counter_in tsc bytes.now)) }
 {
-    if bytes[0] % TYPES != FUNCTION || action_in(bytes) > TAIL_EXIT {
+    if bytes[0] % TYPES != FUNCTION || action_in(bytes) > TAIL_EXIT || may_have_arg(bytes) {
         return None;
     }
     tsc.checked_add(u64::from(LittleEndian::read_u32(&bytes[DELTA_AT..])))

@@ -6,12 +6,13 @@ ghost use Rattle.runtime_log.specs.Logs.{block_size_rows, log_record_rows};
 ghost use Rattle.runtime_log.specs.OwnEvents.{counter_inside, counter_so_far, log_record_in, log_record_length, own_kind};
 ghost use Rattle.runtime_log.specs.private.Walks.{IsCounted, IsPastStretch, OpensTo, StepsTo};
 
+use crate::argument::{may_have_arg, traced_of};
 use crate::own_event::{OwnKind, own_delta, own_kind, own_size};
 use crate::stretch::Stretch;
 use crate::version::LogVersion;
 use fdr_file::{
-    Argument, Base, Inside, Span, Stage, Told, TraceFault, end_among, judge, record_len, record_of,
-    stage_at, take_step, within_events,
+    Argument, Base, Inside, Span, Stage, Told, TraceFault, end_among, judge, record_len, stage_at,
+    take_step, within_events,
 };
 use fdr_record::{Event, METADATA_BYTES, Rec, RecFault};
 
@@ -71,7 +72,7 @@ fn found_in(version: LogVersion, stage: Stage, bytes: &[u8]) -> Found
     if own.is_none() {
         return Found {
             len: record_len(bytes),
-            rec: record_of(bytes),
+            rec: traced_of(bytes),
             own,
         };
     }
@@ -161,7 +162,7 @@ impl<'a> BlockWalk<'a> {
             × (0 < x.1) × (x.1 ≤ length self.now.rest.now)) }
         ensures own { IfSome result (λ _. own_kind self.now.version self.now.rest.now ≡ None) }
     {
-        if own_kind(self.version, self.rest).is_some() {
+        if own_kind(self.version, self.rest).is_some() || may_have_arg(self.rest) {
             return None;
         }
         let (span, base) = within_events(self.stage)?;

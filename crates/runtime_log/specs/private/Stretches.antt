@@ -4,7 +4,9 @@ use Rattle.byteorder.specs.Endian.{little_number}
 use Rattle.fdr_record.specs.declared.event.Event.{Event}
 use Rattle.fdr_record.specs.declared.event.Kind.{Kind}
 use Rattle.fdr_record.specs.declared.event.Kind.TheVariants.{Entry, Exit, TailExit}
+use Rattle.fdr_file.specs.Traces.{record_in}
 use Rattle.runtime_log.specs.declared.stretch.Stretch.{Stretch}
+use Rattle.runtime_log.specs.Arguments.{traced_in}
 
 -- the number of the action in a function record
 abbrev pub action_in : List ℕ → ℕ
@@ -27,6 +29,7 @@ pub record IsPlain (tsc : ℕ) (bytes : List ℕ) : Type 0 where
   pub function : slice_index bytes 0 % 2 ≡ 0
   pub action : action_in bytes ≤ 2
   pub counter : counter_in tsc bytes < 2 ^ 64
+  pub alone : traced_in bytes ≡ record_in bytes
 
 -- the counter at the last of so many function records
 abbrev pub last_counter : ℕ → ℕ → List ℕ → ℕ
