@@ -1,0 +1,4 @@
+pub mod CallRows
+pub mod CallRowLaws
+pub mod CallText
+pub mod private
