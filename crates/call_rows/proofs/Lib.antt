@@ -1,0 +1,8 @@
+-- Open calls, and what was open before each (src/fold.rt)
+pub mod NestedEntries
+pub mod SpentInCalls
+-- Frames and rows after one more event (src/frames.rt, src/fold.rt)
+pub mod NumberedEvents
+pub mod FrameSteps
+pub mod RowsStay
+pub mod FoldSteps

@@ -5,6 +5,7 @@ ghost use Rattle.xray_io.specs.Faults.{Rose};
 ghost use Rattle.fdr_file.specs.declared.trace.Block.{Block};
 ghost use Rattle.fdr_file.specs.Scanning.{empty_block, longer_block};
 ghost use Rattle.call_rows.specs.CallRows.{call_rows_of, wanted_rows};
+ghost use Rattle.call_rows.specs.Keeping.{wanted_by};
 ghost use Rattle.call_rows.specs.private.Folding.{KeepsCalls};
 
 use crate::filter::CallFilter;

@@ -1,6 +1,6 @@
 -- What is kept of the open calls of a thread, and how one more event changes it. Frames are listed from the outermost to
 -- the innermost.
-use Rattle.std.specs.Prelude.{◌-◌, ◌+◌, ℕ, List, [], ◌∷◌, ◌++◌, length, map, reverse, take, slice_get, if◌then◌else◌, Option, Some, None, option_map}
+use Rattle.std.specs.Prelude.{◌-◌, ◌+◌, Bool, ℕ, List, [], ◌∷◌, ◌++◌, length, map, reverse, take, slice_get, if◌then◌else◌, Option, Some, None, option_map}
 use Rattle.fdr_record.specs.declared.event.Event.{Event}
 use Rattle.fdr_file.specs.ThreadEvents.{ThreadEvent}
 use Rattle.stack_rebuild.specs.declared.call.Call.{Call}
@@ -50,10 +50,10 @@ abbrev pub left_of : Pair → ℕ → Option Frame → List Frame → List Frame
 left_of pair depth None frames = frames
 left_of pair depth (Some ended) frames = with_spent pair.duration (take depth frames)
 
--- the frames after an event, by the pair that it makes and by how many calls are open after it
-abbrev pub next_frames : ℕ → ℕ → Event → Option Pair → ℕ → List Frame → List Frame
-next_frames number pid e None depth frames = if enters e.kind then frames ++ opened_frame number pid e ∷ [] else frames
-next_frames number pid e (Some pair) depth frames = left_of pair depth (slice_get frames depth) frames
+-- the frames after an event: whether it is an entry, the pair that it makes, and how many calls are open after it
+abbrev pub next_frames : ℕ → ℕ → Event → Bool → Option Pair → ℕ → List Frame → List Frame
+next_frames number pid e entered None depth frames = if entered then frames ++ opened_frame number pid e ∷ [] else frames
+next_frames number pid e entered (Some pair) depth frames = left_of pair depth (slice_get frames depth) frames
 
 -- the number of the first of some frames
 abbrev pub first_number : List Frame → Option ℕ
@@ -91,7 +91,7 @@ depth_on e before = length (next_standing e before.standing).calls
 abbrev pub next_framed : ℕ → ℕ → Event → Framed → Framed
 next_framed number pid e before = record {
   standing = next_standing e before.standing;
-  frames = next_frames number pid e (pair_on e before) (depth_on e before) before.frames;
+  frames = next_frames number pid e (enters e.kind) (pair_on e before) (depth_on e before) before.frames;
 }
 
 abbrev pub row_on : ℕ → Event → Framed → Option CallRow

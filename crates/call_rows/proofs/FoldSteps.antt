@@ -1,0 +1,139 @@
+-- A fold after one more event, and the rows of a history after it.
+use Rattle.std.proofs.Common.{◌≡◌, ◌<◌, ◌≤◌, ◌-◌, ◌+◌, ◌++◌, ◌∙◌, ℕ, suc, Bool, true, false, cond, List, [], ◌∷◌, length, map, reverse, take, refl, ap, sym, subst, arith, nat_eq, get_or, Option, Some, None, unwrap_or, append_assoc}
+use Rattle.std.specs.Prelude.{filter, option_map, slice_get}
+use Rattle.std.specs.HashMap.{get}
+use Rattle.std.specs.Option.{option_to_list}
+use Rattle.std.proofs.lemmas.Bool.{eq-eqb, eqb-false, eqb-true, ne_eqb}
+use Rattle.std.proofs.lemmas.List.{append-nil, length-map, length-reverse, map-append, reverse-append, reverse-reverse}
+use Rattle.std.proofs.lemmas.List.Elements.{filter-append}
+use Rattle.fdr_record.specs.declared.event.Event.{Event}
+use Rattle.fdr_record.specs.declared.event.Kind.{Kind}
+use Rattle.fdr_record.specs.declared.event.Kind.TheVariants.{Entry, Exit, TailExit, EntryArgs}
+use Rattle.fdr_file.specs.ThreadEvents.{ThreadEvent}
+use Rattle.stack_rebuild.specs.declared.call.Call.{Call}
+use Rattle.stack_rebuild.specs.declared.call.Pair.{Pair}
+use Rattle.stack_rebuild.specs.Calls.{cycles_between, from_innermost, left_open, open_after_kind, open_calls, pair_at, pair_at_kind, pair_of_call, pairs_in}
+use Rattle.stack_rebuild.specs.Histories.{ThreadPair, history_of_thread, pair_after, pairs_after, pairs_of_thread, thread_event, thread_pair}
+use Rattle.call_rows.specs.declared.row.CallRow.{CallRow}
+use Rattle.call_rows.specs.declared.frames.Frame.{Frame}
+use Rattle.call_rows.specs.declared.fold.CallFold.{CallFold}
+use Rattle.call_rows.specs.CallRows.{NumberedEvent, call_row, no_numbered, numbered_of_thread, rows_after}
+use Rattle.call_rows.specs.private.Folding.{Follows, FramedThreads, framed_in}
+use Rattle.call_rows.specs.private.Frames.{Framed, frame_by, framed_after, next_framed, next_row, row_by, row_on}
+use Rattle.call_rows.proofs.NestedEntries.{Nests, nests, nests_from, one_more}
+use Rattle.call_rows.proofs.NumberedEvents.{as_many, numbered, other_events, other_numbered, own_events, own_numbered}
+use Rattle.call_rows.proofs.SpentInCalls.{GoesOn}
+use Rattle.call_rows.proofs.FrameSteps.{ends_at, framed_by, framed_next, frames_in}
+use Rattle.call_rows.proofs.RowsStay.{AllWhole, Each, Stays, StaysEnded, each_stays, ended_by, pairs_stay, row_framed, row_in, row_stays}
+
+-- ---- frames
+
+pub framed_more : GoesOn → (thread pid : ℕ) (e : Event) (h : List ThreadEvent)
+    → framed_after (thread_event thread pid e ∷ h) thread ≡ next_framed (length h) pid e (framed_after h thread)
+framed_more law thread pid e h =
+    let own = history_of_thread thread h in
+    ap (λ (ns : List NumberedEvent). framed_by ns (history_of_thread thread (thread_event thread pid e ∷ h))) (own_numbered thread pid e h)
+    ∙ (ap (λ (es : List Event). framed_by (numbered (length h) pid e ∷ numbered_of_thread thread h) es) (own_events thread pid e h)
+    ∙ framed_next law (length h) pid e (numbered_of_thread thread h) own (as_many thread h))
+
+framed_other : (thread pid other : ℕ) (e : Event) (h : List ThreadEvent) → (thread ≡ other → ⊥)
+    → framed_after (thread_event thread pid e ∷ h) other ≡ framed_after h other
+framed_other thread pid other e h apart =
+    ap (λ (ns : List NumberedEvent). framed_by ns (history_of_thread other (thread_event thread pid e ∷ h))) (other_numbered thread pid other e h apart)
+    ∙ ap (λ (es : List Event). framed_by (numbered_of_thread other h) es) (other_events thread pid other e h apart)
+
+-- ---- the pairs of a history, and those of its threads
+
+of_thread-append : (thread : ℕ) (made more : List ThreadPair) → pairs_of_thread thread (made ++ more) ≡ pairs_of_thread thread made ++ pairs_of_thread thread more
+of_thread-append thread made more =
+    let test : ThreadPair → Bool = λ m. nat_eq m.thread thread in
+    let pair : ThreadPair → Pair = λ m. m.pair in
+    ap (map pair) (filter-append test made more) ∙ map-append pair (filter test made) (filter test more)
+
+of_one : (other thread : ℕ) (pair : Option Pair)
+    → pairs_of_thread other (map (thread_pair thread) (option_to_list pair)) ≡ cond (nat_eq thread other) (option_to_list pair) []
+of_one other thread None = by_thread (nat_eq thread other)
+  where
+    by_thread : (b : Bool) → (let none : List Pair = [] in none) ≡ cond b [] []
+    by_thread true = refl
+    by_thread false = refl
+of_one other thread (Some p) = by_thread (nat_eq thread other)
+  where
+    by_thread : (b : Bool) → map (λ (m : ThreadPair). m.pair) (cond b (thread_pair thread p ∷ []) []) ≡ cond b (p ∷ []) []
+    by_thread true = refl
+    by_thread false = refl
+
+of_thread-pairs : (thread : ℕ) (h : List ThreadEvent) → pairs_of_thread thread (pairs_after h) ≡ pairs_in (history_of_thread thread h)
+of_thread-pairs thread [] = refl
+of_thread-pairs thread (e ∷ h) =
+    of_thread-append thread (pairs_after h) (map (thread_pair e.thread) (option_to_list (pair_after e h)))
+    ∙ (ap (λ (ps : List Pair). ps ++ pairs_of_thread thread (map (thread_pair e.thread) (option_to_list (pair_after e h)))) (of_thread-pairs thread h)
+    ∙ (ap (λ (ps : List Pair). pairs_in (history_of_thread thread h) ++ ps) (of_one thread e.thread (pair_after e h))
+    ∙ by_thread (nat_eq e.thread thread) refl))
+  where
+    by_thread : (b : Bool) → nat_eq e.thread thread ≡ b → pairs_in (history_of_thread thread h) ++ cond b (option_to_list (pair_after e h)) []
+        ≡ pairs_in (cond b (e.event ∷ history_of_thread thread h) (history_of_thread thread h))
+    by_thread true is =
+        ap (λ (t : ℕ). pairs_in (history_of_thread thread h)
+        ++ option_to_list (pair_at e.event (length (history_of_thread t h)) (open_calls (history_of_thread t h)))) (eqb-true e.thread thread is)
+    by_thread false is = append-nil (pairs_in (history_of_thread thread h))
+
+-- what holds of the pairs of each thread holds of all
+of_threads : (Q : ThreadPair → Type 0) (xs : List ThreadPair) → ((thread : ℕ) → Each (λ (pair : Pair). Q (thread_pair thread pair)) (pairs_of_thread thread xs)) → Each Q xs
+of_threads Q [] each = tt
+of_threads Q (x ∷ xs) each = (own (nat_eq x.thread x.thread) (eq-eqb x.thread x.thread refl) (each x.thread), of_threads Q xs (λ thread. rest thread (nat_eq x.thread thread) (each thread)))
+  where
+    own : (b : Bool) → b ≡ true → Each (λ (pair : Pair). Q (thread_pair x.thread pair)) (map (λ (m : ThreadPair). m.pair) (cond b (x ∷ filter (λ (m : ThreadPair). nat_eq m.thread x.thread) xs) (filter (λ (m : ThreadPair). nat_eq m.thread x.thread) xs))) → Q x
+    own true is every = every.0
+    own false is every = absurd (let n : ⊥ = cc in n)
+
+    rest : (thread : ℕ) (b : Bool) → Each (λ (pair : Pair). Q (thread_pair thread pair)) (map (λ (m : ThreadPair). m.pair) (cond b (x ∷ filter (λ (m : ThreadPair). nat_eq m.thread thread) xs) (filter (λ (m : ThreadPair). nat_eq m.thread thread) xs)))
+        → Each (λ (pair : Pair). Q (thread_pair thread pair)) (pairs_of_thread thread xs)
+    rest thread true every = every.1
+    rest thread false every = every
+
+map_each : {X Y : Type 0} (f g : X → Y) (xs : List X) → Each (λ (x : X). f x ≡ g x) xs → map f xs ≡ map g xs
+map_each f g [] each = refl
+map_each {Y = Y} f g (x ∷ xs) each = ap (λ (y : Y). y ∷ map f xs) each.0 ∙ ap (λ (l : List Y). g x ∷ l) (map_each f g xs each.1)
+
+each_more : {X : Type 0} (P Q : X → Type 0) (xs : List X) → ((x : X) → P x → Q x) → Each P xs → Each Q xs
+each_more P Q [] gives each = tt
+each_more P Q (x ∷ xs) gives each = (gives x each.0, each_more P Q xs gives each.1)
+
+-- ---- the rows that were made before
+
+-- a row by the events of its thread, listed from the last one to the first
+abbrev row_turned : List NumberedEvent → List Event → ThreadPair → CallRow
+row_turned numbers own made = row_in (reverse numbers) (reverse own) made
+
+-- the row of a pair of the thread of the new event
+own_row : (thread pid : ℕ) (e : Event) (h : List ThreadEvent) (pair : Pair)
+    → Stays (reverse (history_of_thread thread h)) e pair → call_row (thread_event thread pid e ∷ h) (thread_pair thread pair) ≡ call_row h (thread_pair thread pair)
+own_row thread pid e h pair stays =
+    let made = thread_pair thread pair in
+    let n = numbered (length h) pid e in
+    let numbers = numbered_of_thread thread h in
+    let own = history_of_thread thread h in
+    ap (λ (ns : List NumberedEvent). row_turned ns (history_of_thread thread (thread_event thread pid e ∷ h)) made) (own_numbered thread pid e h)
+    ∙ (ap (λ (es : List Event). row_turned (n ∷ numbers) es made) (own_events thread pid e h)
+    ∙ (ap (λ (ns : List NumberedEvent). row_in ns (reverse (e ∷ own)) made) (reverse-append (n ∷ []) numbers)
+    ∙ (ap (λ (es : List Event). row_in (reverse numbers ++ n ∷ []) es made) (one_more e own)
+    ∙ row_stays (reverse numbers) n (reverse own) e made (length-reverse numbers ∙ (as_many thread h ∙ sym (length-reverse own))) stays.within stays.own)))
+
+other_row : (thread pid other : ℕ) (e : Event) (h : List ThreadEvent) (pair : Pair) → (thread ≡ other → ⊥)
+    → call_row (thread_event thread pid e ∷ h) (thread_pair other pair) ≡ call_row h (thread_pair other pair)
+other_row thread pid other e h pair apart =
+    let made = thread_pair other pair in
+    ap (λ (ns : List NumberedEvent). row_turned ns (history_of_thread other (thread_event thread pid e ∷ h)) made) (other_numbered thread pid other e h apart)
+    ∙ ap (λ (es : List Event). row_turned (numbered_of_thread other h) es made) (other_events thread pid other e h apart)
+
+rows_still : GoesOn → AllWhole → (thread pid : ℕ) (e : Event) (h : List ThreadEvent)
+    → map (call_row (thread_event thread pid e ∷ h)) (pairs_after h) ≡ rows_after h
+rows_still law whole thread pid e h =
+    map_each (call_row (thread_event thread pid e ∷ h)) (call_row h) (pairs_after h) (of_threads Same (pairs_after h) (λ other. of_thread other (nat_eq thread other) refl))
+  where
+    Same : ThreadPair → Type 0
+    Same made = call_row (thread_event thread pid e ∷ h) made ≡ call_row h made
+
+    of_thread : (other : ℕ) (b : Bool) → nat_eq thread other ≡ b → Each (λ (pair : Pair). Same (thread_pair other pair)) (pairs_of_thread other (pairs_after h))
+    of_thread other b is = ?
