@@ -14,6 +14,7 @@ use Rattle.stack_rebuild.specs.declared.call.Call.{Call}
 use Rattle.stack_rebuild.specs.declared.call.Pair.{Pair}
 use Rattle.stack_rebuild.specs.Calls.{cycles_between, from_innermost, left_open, open_after_kind, open_calls, pair_at, pair_at_kind, pair_of_call, pairs_in}
 use Rattle.stack_rebuild.specs.Histories.{ThreadPair, history_of_thread, pair_after, pairs_after, pairs_of_thread, thread_event, thread_pair}
+use Rattle.stack_rebuild.specs.Stacks.{spent_in}
 use Rattle.call_rows.specs.declared.row.CallRow.{CallRow}
 use Rattle.call_rows.specs.declared.frames.Frame.{Frame}
 use Rattle.call_rows.specs.declared.fold.CallFold.{CallFold}
@@ -100,6 +101,10 @@ each_more : {X : Type 0} (P Q : X → Type 0) (xs : List X) → ((x : X) → P x
 each_more P Q [] gives each = tt
 each_more P Q (x ∷ xs) gives each = (gives x each.0, each_more P Q xs gives each.1)
 
+each_always : {X : Type 0} (Q : X → Type 0) (xs : List X) → ((x : X) → Q x) → Each Q xs
+each_always Q [] holds = tt
+each_always Q (x ∷ xs) holds = (holds x, each_always Q xs holds)
+
 -- ---- the rows that were made before
 
 -- a row by the events of its thread, listed from the last one to the first
@@ -136,4 +141,108 @@ rows_still law whole thread pid e h =
     Same made = call_row (thread_event thread pid e ∷ h) made ≡ call_row h made
 
     of_thread : (other : ℕ) (b : Bool) → nat_eq thread other ≡ b → Each (λ (pair : Pair). Same (thread_pair other pair)) (pairs_of_thread other (pairs_after h))
-    of_thread other b is = ?
+    of_thread other true is =
+        let own = history_of_thread thread h in
+        let P : ℕ → Type 0 = λ t. Each (λ (pair : Pair). Same (thread_pair t pair)) (pairs_of_thread t (pairs_after h)) in
+        subst P (eqb-true thread other is)
+        (subst (Each (λ (pair : Pair). Same (thread_pair thread pair))) (sym (of_thread-pairs thread h))
+        (each_more (Stays (reverse own) e) (λ (pair : Pair). Same (thread_pair thread pair)) (pairs_in own) (own_row thread pid e h) (each_stays law whole own e)))
+    of_thread other false is =
+        each_always (λ (pair : Pair). Same (thread_pair other pair)) (pairs_of_thread other (pairs_after h))
+        (λ pair. other_row thread pid other e h pair (eqb-false thread other is))
+
+-- ---- the row of the call that the new event ends
+
+row_found : (thread pid : ℕ) (e : Event) (h : List ThreadEvent) (found : List Call) → from_innermost e.func (open_calls (history_of_thread thread h)) ≡ found
+    → StaysEnded (history_of_thread thread h) e found
+    → map (call_row (thread_event thread pid e ∷ h)) (map (thread_pair thread) (option_to_list (pair_of_call e (length (history_of_thread thread h)) found)))
+    ≡ option_to_list (next_row thread (pair_of_call e (length (history_of_thread thread h)) found) (length (left_open (open_calls (history_of_thread thread h)) found)) (framed_after h thread).frames)
+row_found thread pid e h [] is stays = refl
+row_found thread pid e h (ended ∷ outer) is stays =
+    let own = history_of_thread thread h in
+    let ns = reverse (numbered_of_thread thread h) in
+    let es = reverse own in
+    let pair : Pair = record { func = e.func; entry = ended.entry; exit = length own; duration = cycles_between ended.tsc e.tsc } in
+    let f : Call → Frame = λ call. frame_by (get_or ns call.entry no_numbered) (spent_in es call.entry) in
+    let fs = reverse (map f (open_calls own)) in
+    let inner : Nests es (ended ∷ outer) = subst (Nests es) is (nests_from es e.func (open_calls own) (nests own)) in
+    let at = ends_at f e.func (open_calls own) ended outer is in
+    let size : length (map f outer) ≡ length outer = length-map outer f in
+    let found : slice_get fs (length outer) ≡ Some (f ended) = ap (slice_get fs) (sym size) ∙ at.found in
+    let left : take (length outer) fs ≡ reverse (map f outer) = ap (λ (k : ℕ). take k fs) (sym size) ∙ at.left in
+    let row : call_row (thread_event thread pid e ∷ h) (thread_pair thread pair) ≡ row_by thread pair (take (length outer) fs) (f ended) =
+    own_row thread pid e h pair (record { within = inner.0; own = stays })
+    ∙ (row_framed ns es thread pair ended outer refl inner.1 ∙ ap (λ (gs : List Frame). row_by thread pair gs (f ended)) (sym left)) in
+    ap (λ (r : CallRow). r ∷ []) row
+    ∙ ap (λ (o : Option Frame). option_to_list (option_map (row_by thread pair (take (length outer) fs)) o)) (sym found)
+
+row_kind : (k : Kind) (thread pid : ℕ) (e : Event) (h : List ThreadEvent) → StaysEnded (history_of_thread thread h) e (ended_by k e.func (open_calls (history_of_thread thread h)))
+    → map (call_row (thread_event thread pid e ∷ h)) (map (thread_pair thread) (option_to_list (pair_at_kind k e (length (history_of_thread thread h)) (open_calls (history_of_thread thread h)))))
+    ≡ option_to_list (next_row thread (pair_at_kind k e (length (history_of_thread thread h)) (open_calls (history_of_thread thread h)))
+    (length (open_after_kind k e (length (history_of_thread thread h)) (open_calls (history_of_thread thread h)))) (framed_after h thread).frames)
+row_kind Entry thread pid e h stays = refl
+row_kind EntryArgs thread pid e h stays = refl
+row_kind Exit thread pid e h stays = row_found thread pid e h (from_innermost e.func (open_calls (history_of_thread thread h))) refl stays
+row_kind TailExit thread pid e h stays = row_found thread pid e h (from_innermost e.func (open_calls (history_of_thread thread h))) refl stays
+
+rows_more : GoesOn → AllWhole → (thread pid : ℕ) (e : Event) (h : List ThreadEvent)
+    → rows_after (thread_event thread pid e ∷ h) ≡ rows_after h ++ option_to_list (row_on thread e (framed_after h thread))
+rows_more law whole thread pid e h =
+    let said = thread_event thread pid e in
+    let new = map (thread_pair thread) (option_to_list (pair_after said h)) in
+    map-append (call_row (said ∷ h)) (pairs_after h) new
+    ∙ (ap (λ (rows : List CallRow). rows ++ map (call_row (said ∷ h)) new) (rows_still law whole thread pid e h)
+    ∙ ap (λ (rows : List CallRow). rows_after h ++ rows) (row_kind e.kind thread pid e h (pairs_stay law (history_of_thread thread h) e).ended))
+
+-- ---- a fold
+
+pub row_taken : GoesOn → AllWhole → (fold : CallFold) (pid : ℕ) (e : Event) (row : Option CallRow) (h : List ThreadEvent) → row ≡ row_on fold.thread e fold.own
+    → Follows fold h → rows_after (thread_event fold.thread pid e ∷ h) ≡ rows_after h ++ option_to_list row
+row_taken law whole fold pid e row h is follows =
+    rows_more law whole fold.thread pid e h
+    ∙ ap (λ (o : Option CallRow). rows_after h ++ option_to_list o) (sym (is ∙ ap (row_on fold.thread e) follows.own))
+
+pub follows_more : GoesOn → (fold new : CallFold) (pid : ℕ) (e : Event) (h : List ThreadEvent) → new.thread ≡ fold.thread → new.others ≡ fold.others
+    → new.own ≡ next_framed fold.events pid e fold.own → new.events ≡ fold.events + 1
+    → Follows fold h → Follows new (thread_event fold.thread pid e ∷ h)
+follows_more law fold new pid e h thread others own events follows = record {
+  count = omega (arith, events, follows.count);
+  own =
+      own
+      ∙ (ap (λ (n : ℕ). next_framed n pid e fold.own) follows.count
+      ∙ (ap (next_framed (length h) pid e) follows.own
+      ∙ (sym (framed_more law fold.thread pid e h) ∙ ap (framed_after (thread_event fold.thread pid e ∷ h)) (sym thread))));
+  others = λ other apart.
+      let other_one : fold.thread ≡ other → ⊥ = λ same. apart (thread ∙ same) in
+      ap (λ (threads : FramedThreads). framed_in threads other) others
+      ∙ (follows.others other other_one ∙ sym (framed_other fold.thread pid other e h other_one));
+}
+
+-- all threads, once that at hand is put among the others
+all_framed : (fold : CallFold) (h : List ThreadEvent) (threads : FramedThreads) → Follows fold h
+    → ((other : ℕ) → get nat_eq threads other ≡ cond (nat_eq fold.thread other) (Some fold.own) (get nat_eq fold.others other))
+    → (other : ℕ) → framed_in threads other ≡ framed_after h other
+all_framed fold h threads follows put other = by_thread (nat_eq fold.thread other) refl
+  where
+    found : (b : Bool) → nat_eq fold.thread other ≡ b
+        → framed_in threads other ≡ unwrap_or (cond b (Some fold.own) (get nat_eq fold.others other)) (framed_after [] other)
+    found b is =
+        ap (λ (o : Option Framed). unwrap_or o (framed_after [] other))
+        (put other ∙ ap (λ (a : Bool). cond a (Some fold.own) (get nat_eq fold.others other)) is)
+
+    by_thread : (b : Bool) → nat_eq fold.thread other ≡ b → framed_in threads other ≡ framed_after h other
+    by_thread true is = found true is ∙ (follows.own ∙ ap (framed_after h) (eqb-true fold.thread other is))
+    by_thread false is = found false is ∙ follows.others other (eqb-false fold.thread other is)
+
+pub gone_to : (fold new : CallFold) (h : List ThreadEvent) (threads : FramedThreads) → Follows fold h
+    → ((other : ℕ) → get nat_eq threads other ≡ cond (nat_eq fold.thread other) (Some fold.own) (get nat_eq fold.others other))
+    → new.own ≡ framed_in threads new.thread
+    → ((other : ℕ) → (new.thread ≡ other → ⊥) → framed_in new.others other ≡ framed_in threads other)
+    → new.events ≡ fold.events → Follows new h
+gone_to fold new h threads follows put taken others events =
+    let all = all_framed fold h threads follows put in
+    record {
+      count = events ∙ follows.count;
+      own = taken ∙ all new.thread;
+      others = λ other apart. others other apart ∙ all other;
+    }

@@ -1,6 +1,6 @@
 //! The calls of events that come one after the other.
 
-ghost use Rattle.std.specs.Prelude.{◌≡◌, ◌++◌, ℕ, [], ◌∷◌, List, IfOk, OnOk};
+ghost use Rattle.std.specs.Prelude.{◌≡◌, ◌+◌, ◌++◌, ℕ, [], ◌∷◌, List, IfOk, OnOk};
 ghost use Rattle.std.specs.Option.{option_to_list};
 ghost use Rattle.fdr_file.specs.ThreadEvents.{ThreadEvent};
 ghost use Rattle.stack_rebuild.specs.Histories.{thread_event};
@@ -41,6 +41,14 @@ fn take_out(alloc: Global, threads: &mut HashMap<u32, ThreadFrames>, thread: u32
         Some(frames) => frames,
         None => ThreadFrames::new(alloc),
     }
+}
+
+/// The number after a count. No trace in memory reaches a count beyond its type, so `NoMemory` stands
+/// for that too.
+fn one_more(count: u64) -> Result<u64, NoMemory>
+    ensures { IfOk result (λ more. more ≡ count + 1) }
+{
+    count.checked_add(1).ok_or(NoMemory)
 }
 
 impl CallFold {
@@ -106,7 +114,7 @@ impl CallFold {
         a_thread_goes_on();
         each_pair_is_a_whole_call();
         let number = self.events;
-        self.events = number.checked_add(1).ok_or(NoMemory)?;
+        self.events = one_more(number)?;
         self.own.take(self.thread, pid, number, event)
     }
 }
