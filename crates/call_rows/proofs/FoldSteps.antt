@@ -185,7 +185,7 @@ row_kind EntryArgs thread pid e h stays = refl
 row_kind Exit thread pid e h stays = row_found thread pid e h (from_innermost e.func (open_calls (history_of_thread thread h))) refl stays
 row_kind TailExit thread pid e h stays = row_found thread pid e h (from_innermost e.func (open_calls (history_of_thread thread h))) refl stays
 
-rows_more : GoesOn → AllWhole → (thread pid : ℕ) (e : Event) (h : List ThreadEvent)
+pub rows_more : GoesOn → AllWhole → (thread pid : ℕ) (e : Event) (h : List ThreadEvent)
     → rows_after (thread_event thread pid e ∷ h) ≡ rows_after h ++ option_to_list (row_on thread e (framed_after h thread))
 rows_more law whole thread pid e h =
     let said = thread_event thread pid e in

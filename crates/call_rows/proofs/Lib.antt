@@ -6,3 +6,5 @@ pub mod NumberedEvents
 pub mod FrameSteps
 pub mod RowsStay
 pub mod FoldSteps
+-- Lines of calls that end one after the other (src/printing.rt)
+pub mod CallLines

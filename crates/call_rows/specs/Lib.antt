@@ -1,3 +1,5 @@
 pub mod CallRows
+pub mod CallText
 pub mod Keeping
+pub mod Printing
 pub mod private

@@ -5,9 +5,13 @@ mod filter;
 mod fold;
 mod frames;
 mod kept;
+mod printing;
 mod row;
+mod text;
 
 pub use filter::CallFilter;
 pub use fold::CallFold;
 pub use kept::KeptCalls;
+pub use printing::{CallsFault, add_calls, write_calls};
 pub use row::CallRow;
+pub use text::CallsText;
