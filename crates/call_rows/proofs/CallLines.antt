@@ -1,5 +1,5 @@
 -- The lines of calls that end one after the other.
-use Rattle.std.proofs.Common.{◌≡◌, ◌++◌, ◌∙◌, ℕ, List, [], ◌∷◌, map, reverse, refl, ap, sym, subst, Option, append_assoc}
+use Rattle.std.proofs.Common.{◌≡◌, ◌++◌, ◌∙◌, ℕ, List, [], ◌∷◌, map, reverse, refl, ap, sym, subst, Bool, false, cond, Option, None, Some, append_assoc}
 use Rattle.std.specs.Prelude.{filter}
 use Rattle.std.specs.List.{flat_map}
 use Rattle.std.specs.Option.{option_to_list}
@@ -87,3 +87,14 @@ rest_of_lines law whole format names wanted all given left before =
           sym (lines-append format names wanted (rows_after (reverse given)) grown.0)
           ∙ ap (lines_of format names wanted) (sym (ap rows_after same ∙ grown.1));
     }
+
+-- ---- one call
+
+pub no_call : (format : AccountLayout) (names : Naming) (wanted : CallFilter) (row : Option CallRow) → row ≡ None → [] ≡ lines_of format names wanted (option_to_list row)
+no_call format names wanted row is = ap (λ (o : Option CallRow). lines_of format names wanted (option_to_list o)) (sym is)
+
+pub unwanted_call : (format : AccountLayout) (names : Naming) (wanted : CallFilter) (row : Option CallRow) (r : CallRow) → row ≡ Some r → passes wanted r ≡ false
+    → [] ≡ lines_of format names wanted (option_to_list row)
+unwanted_call format names wanted row r is fails =
+    ap (λ (b : Bool). flat_map (call_line format names) (cond b (r ∷ []) [])) (sym fails)
+    ∙ ap (λ (o : Option CallRow). lines_of format names wanted (option_to_list o)) (sym is)

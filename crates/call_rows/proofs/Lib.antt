@@ -8,3 +8,4 @@ pub mod RowsStay
 pub mod FoldSteps
 -- Lines of calls that end one after the other (src/printing.rt)
 pub mod CallLines
+pub mod CallsAnswers
