@@ -20,10 +20,10 @@ calls_unwritten {written = written} {faults = faults} {along = along} {first = f
     subst P (sym is) (error, p)
 
 pub calls_refused : {S : Type 0} {written : S → Option (List ℕ)} {faults : S → ℕ} {along : S → S → List Write → Type 0}
-    → {first second : Text S} {shown : List ℕ} (rest whole : List ℕ) → whole ≡ shown ++ rest → AddsText written faults along first second shown (Ok tt)
+    → {first second : Text S} (shown rest whole : List ℕ) → whole ≡ shown ++ rest → AddsText written faults along first second shown (Ok tt)
     → (answer : CallsAnswer) → IsErrAnd answer (λ e. e ≡ NoMemory) → AddsCalls written faults along first second whole answer
-calls_refused rest whole same p (Ok done) is = absurd is
-calls_refused {written = written} {faults = faults} {along = along} {first = first} {second = second} {shown = shown} rest whole same p (Err fault) is =
+calls_refused shown rest whole same p (Ok done) is = absurd is
+calls_refused {written = written} {faults = faults} {along = along} {first = first} {second = second} shown rest whole same p (Err fault) is =
     let P : CallsFault → Type 0 = λ e. AddsCalls written faults along first second whole (Err e) in
     subst P (sym is) (shown, rest, same, p)
 

@@ -64,7 +64,7 @@ of_one other thread (Some p) = by_thread (nat_eq thread other)
     by_thread true = refl
     by_thread false = refl
 
-of_thread-pairs : (thread : ℕ) (h : List ThreadEvent) → pairs_of_thread thread (pairs_after h) ≡ pairs_in (history_of_thread thread h)
+pub of_thread-pairs : (thread : ℕ) (h : List ThreadEvent) → pairs_of_thread thread (pairs_after h) ≡ pairs_in (history_of_thread thread h)
 of_thread-pairs thread [] = refl
 of_thread-pairs thread (e ∷ h) =
     of_thread-append thread (pairs_after h) (map (thread_pair e.thread) (option_to_list (pair_after e h)))
@@ -80,7 +80,7 @@ of_thread-pairs thread (e ∷ h) =
     by_thread false is = append-nil (pairs_in (history_of_thread thread h))
 
 -- what holds of the pairs of each thread holds of all
-of_threads : (Q : ThreadPair → Type 0) (xs : List ThreadPair) → ((thread : ℕ) → Each (λ (pair : Pair). Q (thread_pair thread pair)) (pairs_of_thread thread xs)) → Each Q xs
+pub of_threads : (Q : ThreadPair → Type 0) (xs : List ThreadPair) → ((thread : ℕ) → Each (λ (pair : Pair). Q (thread_pair thread pair)) (pairs_of_thread thread xs)) → Each Q xs
 of_threads Q [] each = tt
 of_threads Q (x ∷ xs) each = (own (nat_eq x.thread x.thread) (eq-eqb x.thread x.thread refl) (each x.thread), of_threads Q xs (λ thread. rest thread (nat_eq x.thread thread) (each thread)))
   where
@@ -97,7 +97,7 @@ map_each : {X Y : Type 0} (f g : X → Y) (xs : List X) → Each (λ (x : X). f 
 map_each f g [] each = refl
 map_each {Y = Y} f g (x ∷ xs) each = ap (λ (y : Y). y ∷ map f xs) each.0 ∙ ap (λ (l : List Y). g x ∷ l) (map_each f g xs each.1)
 
-each_more : {X : Type 0} (P Q : X → Type 0) (xs : List X) → ((x : X) → P x → Q x) → Each P xs → Each Q xs
+pub each_more : {X : Type 0} (P Q : X → Type 0) (xs : List X) → ((x : X) → P x → Q x) → Each P xs → Each Q xs
 each_more P Q [] gives each = tt
 each_more P Q (x ∷ xs) gives each = (gives x each.0, each_more P Q xs gives each.1)
 

@@ -9,3 +9,6 @@ pub mod FoldSteps
 -- Lines of calls that end one after the other (src/printing.rt)
 pub mod CallLines
 pub mod CallsAnswers
+-- The laws: an account sums calls, and parents enclose them (src/laws.rt)
+pub mod CallSums
+pub mod Parents

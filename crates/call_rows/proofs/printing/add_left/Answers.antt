@@ -3,8 +3,9 @@ use Rattle.xray_io.specs.Text.{AddsText, adds_more, adds_nothing, adds_within}
 use Rattle.fdr_file.specs.ThreadEvents.{ThreadEvent}
 use Rattle.fdr_file.specs.EventsLeft.{events_left}
 use Rattle.function_names.specs.Name.{naming}
+use Rattle.call_rows.specs.CallRows.{rows_after}
 use Rattle.call_rows.specs.private.Folding.{Follows}
-use Rattle.call_rows.proofs.CallLines.{given_more, given_none, lines_next, rest_of_lines, turned_more}
+use Rattle.call_rows.proofs.CallLines.{given_more, given_none, lines_next, lines_of, rest_of_lines, turned_more}
 use Rattle.call_rows.proofs.CallsAnswers.{calls_refused, calls_unwritten}
 use Rattle.call_rows.proofs.printing.add_left.Goals as goal
 
@@ -16,7 +17,8 @@ returns-in_err-row g c =
     let names = naming c.args.names in
     let inv = c.calls.invariant in
     let rest = rest_of_lines c.a_thread_goes_on.ensures c.each_pair_is_a_whole_call.ensures c.args.format names c.args.wanted.now (events_left c.args.cursor.now) inv.0 (events_left c.calls.cursor) inv.1 in
-    calls_refused rest.rest _ (sym rest.is) inv.3 c.from_residual.result c.from_residual.ensures.1
+    calls_refused (lines_of c.args.format names c.args.wanted.now (rows_after (reverse inv.0))) rest.rest
+    (lines_of c.args.format names c.args.wanted.now (rows_after (reverse (events_left c.args.cursor.now)))) (sym rest.is) inv.3 c.from_residual.result c.from_residual.ensures.1
 
 pub calls-preserved : goal.calls-preserved
 calls-preserved g c =
