@@ -1,5 +1,5 @@
 -- The lines of calls that end one after the other.
-use Rattle.std.proofs.Common.{◌≡◌, ◌++◌, ◌∙◌, ℕ, List, [], ◌∷◌, map, reverse, refl, ap, sym, subst, Bool, false, cond, Option, None, Some, append_assoc}
+use Rattle.std.proofs.Common.{◌≡◌, ◌++◌, ◌∙◌, ℕ, List, [], ◌∷◌, length, map, reverse, refl, ap, sym, subst, Bool, false, cond, Option, None, Some, append_assoc}
 use Rattle.std.specs.Prelude.{filter}
 use Rattle.std.specs.List.{flat_map}
 use Rattle.std.specs.Option.{option_to_list}
@@ -33,7 +33,7 @@ rows_grow : GoesOn → AllWhole → (later h : List ThreadEvent) → (more : Lis
 rows_grow law whole [] h = ([], sym (append-nil (rows_after h)))
 rows_grow law whole (e ∷ later) h =
     let there = rows_grow law whole later (e ∷ h) in
-    let new = option_to_list (row_on e.thread e.event (framed_after h e.thread)) in
+    let new = option_to_list (row_on e.thread (length h) e.event (framed_after h e.thread)) in
     let same : reverse (e ∷ later) ++ h ≡ reverse later ++ (e ∷ h) =
     ap (λ (es : List ThreadEvent). es ++ h) (reverse-append (e ∷ []) later) ∙ append_assoc (reverse later) (e ∷ []) h in
     (new ++ there.0, ap rows_after same ∙ (there.1 ∙ (ap (λ (rows : List CallRow). rows ++ there.0) (rows_more law whole e.thread e.pid e.event h) ∙ append_assoc (rows_after h) new there.0)))

@@ -4,7 +4,8 @@ use Rattle.std.specs.Prelude.{filter, option_map, slice_get}
 use Rattle.std.specs.HashMap.{get}
 use Rattle.std.specs.Option.{option_to_list}
 use Rattle.std.proofs.lemmas.Bool.{eq-eqb, eqb-false, eqb-true, ne_eqb}
-use Rattle.std.proofs.lemmas.List.{append-nil, length-map, length-reverse, map-append, reverse-append, reverse-reverse}
+use Rattle.std.proofs.Math.Seq.{get_or-append_seam}
+use Rattle.std.proofs.lemmas.List.{append-nil, get_or_append_left, length-map, length-reverse, map-append, reverse-append, reverse-reverse}
 use Rattle.std.proofs.lemmas.List.Elements.{filter-append}
 use Rattle.fdr_record.specs.declared.event.Event.{Event}
 use Rattle.fdr_record.specs.declared.event.Kind.{Kind}
@@ -14,7 +15,7 @@ use Rattle.stack_rebuild.specs.declared.call.Call.{Call}
 use Rattle.stack_rebuild.specs.declared.call.Pair.{Pair}
 use Rattle.stack_rebuild.specs.Calls.{cycles_between, from_innermost, left_open, open_after_kind, open_calls, pair_at, pair_at_kind, pair_of_call, pairs_in}
 use Rattle.stack_rebuild.specs.Histories.{ThreadPair, history_of_thread, pair_after, pairs_after, pairs_of_thread, thread_event, thread_pair}
-use Rattle.stack_rebuild.specs.Stacks.{spent_in}
+use Rattle.stack_rebuild.specs.Stacks.{open_before, spent_in}
 use Rattle.call_rows.specs.declared.row.CallRow.{CallRow}
 use Rattle.call_rows.specs.declared.frames.Frame.{Frame}
 use Rattle.call_rows.specs.declared.fold.CallFold.{CallFold}
@@ -25,7 +26,7 @@ use Rattle.call_rows.proofs.NestedEntries.{Nests, nests, nests_from, one_more}
 use Rattle.call_rows.proofs.NumberedEvents.{as_many, numbered, other_events, other_numbered, own_events, own_numbered}
 use Rattle.call_rows.proofs.SpentInCalls.{GoesOn}
 use Rattle.call_rows.proofs.FrameSteps.{ends_at, framed_by, framed_next, frames_in}
-use Rattle.call_rows.proofs.RowsStay.{AllWhole, Each, Stays, StaysEnded, each_stays, ended_by, pairs_stay, row_framed, row_in, row_stays}
+use Rattle.call_rows.proofs.RowsStay.{AllWhole, Each, Stays, StaysEnded, each_stays, ended_by, pairs_stay, parent_in, row_framed, row_in, row_stays, row_with, rows_same}
 
 -- ---- frames
 
@@ -111,19 +112,33 @@ each_always Q (x ∷ xs) holds = (holds x, each_always Q xs holds)
 abbrev row_turned : List NumberedEvent → List Event → ThreadPair → CallRow
 row_turned numbers own made = row_in (reverse numbers) (reverse own) made
 
+-- the thread with the new event
+turned_more : (thread pid : ℕ) (e : Event) (h : List ThreadEvent) (made : ThreadPair) → made.thread ≡ thread
+    → call_row (thread_event thread pid e ∷ h) (thread_pair thread made.pair)
+    ≡ row_in (reverse (numbered_of_thread thread h) ++ numbered (length h) pid e ∷ []) (reverse (history_of_thread thread h) ++ e ∷ []) (thread_pair thread made.pair)
+turned_more thread pid e h made is =
+    let one = thread_pair thread made.pair in
+    let n = numbered (length h) pid e in
+    let numbers = numbered_of_thread thread h in
+    let own = history_of_thread thread h in
+    ap (λ (ns : List NumberedEvent). row_turned ns (history_of_thread thread (thread_event thread pid e ∷ h)) one) (own_numbered thread pid e h)
+    ∙ (ap (λ (es : List Event). row_turned (n ∷ numbers) es one) (own_events thread pid e h)
+    ∙ (ap (λ (ns : List NumberedEvent). row_in ns (reverse (e ∷ own)) one) (reverse-append (n ∷ []) numbers)
+    ∙ ap (λ (es : List Event). row_in (reverse numbers ++ n ∷ []) es one) (one_more e own)))
+
+as_long : (thread : ℕ) (h : List ThreadEvent) → length (reverse (numbered_of_thread thread h)) ≡ length (reverse (history_of_thread thread h))
+as_long thread h = length-reverse (numbered_of_thread thread h) ∙ (as_many thread h ∙ sym (length-reverse (history_of_thread thread h)))
+
 -- the row of a pair of the thread of the new event
 own_row : (thread pid : ℕ) (e : Event) (h : List ThreadEvent) (pair : Pair)
     → Stays (reverse (history_of_thread thread h)) e pair → call_row (thread_event thread pid e ∷ h) (thread_pair thread pair) ≡ call_row h (thread_pair thread pair)
 own_row thread pid e h pair stays =
     let made = thread_pair thread pair in
     let n = numbered (length h) pid e in
-    let numbers = numbered_of_thread thread h in
-    let own = history_of_thread thread h in
-    ap (λ (ns : List NumberedEvent). row_turned ns (history_of_thread thread (thread_event thread pid e ∷ h)) made) (own_numbered thread pid e h)
-    ∙ (ap (λ (es : List Event). row_turned (n ∷ numbers) es made) (own_events thread pid e h)
-    ∙ (ap (λ (ns : List NumberedEvent). row_in ns (reverse (e ∷ own)) made) (reverse-append (n ∷ []) numbers)
-    ∙ (ap (λ (es : List Event). row_in (reverse numbers ++ n ∷ []) es made) (one_more e own)
-    ∙ row_stays (reverse numbers) n (reverse own) e made (length-reverse numbers ∙ (as_many thread h ∙ sym (length-reverse own))) stays.within stays.own)))
+    let ns = reverse (numbered_of_thread thread h) in
+    turned_more thread pid e h made refl
+    ∙ row_stays ns n (reverse (history_of_thread thread h)) e made (as_long thread h) stays.within
+    (ap (λ (x : NumberedEvent). x.number) (get_or_append_left ns (n ∷ []) no_numbered pair.exit (omega (arith, stays.ended, as_long thread h)))) stays.own
 
 other_row : (thread pid other : ℕ) (e : Event) (h : List ThreadEvent) (pair : Pair) → (thread ≡ other → ⊥)
     → call_row (thread_event thread pid e ∷ h) (thread_pair other pair) ≡ call_row h (thread_pair other pair)
@@ -156,7 +171,7 @@ rows_still law whole thread pid e h =
 row_found : (thread pid : ℕ) (e : Event) (h : List ThreadEvent) (found : List Call) → from_innermost e.func (open_calls (history_of_thread thread h)) ≡ found
     → StaysEnded (history_of_thread thread h) e found
     → map (call_row (thread_event thread pid e ∷ h)) (map (thread_pair thread) (option_to_list (pair_of_call e (length (history_of_thread thread h)) found)))
-    ≡ option_to_list (next_row thread (pair_of_call e (length (history_of_thread thread h)) found) (length (left_open (open_calls (history_of_thread thread h)) found)) (framed_after h thread).frames)
+    ≡ option_to_list (next_row thread (length h) (pair_of_call e (length (history_of_thread thread h)) found) (length (left_open (open_calls (history_of_thread thread h)) found)) (framed_after h thread).frames)
 row_found thread pid e h [] is stays = refl
 row_found thread pid e h (ended ∷ outer) is stays =
     let own = history_of_thread thread h in
@@ -170,15 +185,22 @@ row_found thread pid e h (ended ∷ outer) is stays =
     let size : length (map f outer) ≡ length outer = length-map outer f in
     let found : slice_get fs (length outer) ≡ Some (f ended) = ap (slice_get fs) (sym size) ∙ at.found in
     let left : take (length outer) fs ≡ reverse (map f outer) = ap (λ (k : ℕ). take k fs) (sym size) ∙ at.left in
-    let row : call_row (thread_event thread pid e ∷ h) (thread_pair thread pair) ≡ row_by thread pair (take (length outer) fs) (f ended) =
-    own_row thread pid e h pair (record { within = inner.0; own = stays })
-    ∙ (row_framed ns es thread pair ended outer refl inner.1 ∙ ap (λ (gs : List Frame). row_by thread pair gs (f ended)) (sym left)) in
+    let n = numbered (length h) pid e in
+    let last : (get_or (ns ++ n ∷ []) (length own) no_numbered).number ≡ length h =
+    ap (λ (k : ℕ). (get_or (ns ++ n ∷ []) k no_numbered).number) (sym (as_long thread h ∙ length-reverse own))
+    ∙ ap (λ (x : NumberedEvent). x.number) (get_or-append_seam ns n [] no_numbered) in
+    let row : call_row (thread_event thread pid e ∷ h) (thread_pair thread pair) ≡ row_by thread (length h) pair (take (length outer) fs) (f ended) =
+    turned_more thread pid e h (thread_pair thread pair) refl
+    ∙ (rows_same ns n es e (thread_pair thread pair) (as_long thread h) inner.0 stays ((get_or (ns ++ n ∷ []) (length own) no_numbered).number)
+    ∙ (ap (λ (k : ℕ). row_with (thread_pair thread pair) (get_or ns pair.entry no_numbered) (parent_in ns (open_before es pair.entry)) (pair.duration - spent_in es pair.entry)
+    (length (open_before es pair.entry)) k) last
+    ∙ (row_framed ns es thread (length h) pair ended outer refl inner.1 ∙ ap (λ (gs : List Frame). row_by thread (length h) pair gs (f ended)) (sym left)))) in
     ap (λ (r : CallRow). r ∷ []) row
-    ∙ ap (λ (o : Option Frame). option_to_list (option_map (row_by thread pair (take (length outer) fs)) o)) (sym found)
+    ∙ ap (λ (o : Option Frame). option_to_list (option_map (row_by thread (length h) pair (take (length outer) fs)) o)) (sym found)
 
 row_kind : (k : Kind) (thread pid : ℕ) (e : Event) (h : List ThreadEvent) → StaysEnded (history_of_thread thread h) e (ended_by k e.func (open_calls (history_of_thread thread h)))
     → map (call_row (thread_event thread pid e ∷ h)) (map (thread_pair thread) (option_to_list (pair_at_kind k e (length (history_of_thread thread h)) (open_calls (history_of_thread thread h)))))
-    ≡ option_to_list (next_row thread (pair_at_kind k e (length (history_of_thread thread h)) (open_calls (history_of_thread thread h)))
+    ≡ option_to_list (next_row thread (length h) (pair_at_kind k e (length (history_of_thread thread h)) (open_calls (history_of_thread thread h)))
     (length (open_after_kind k e (length (history_of_thread thread h)) (open_calls (history_of_thread thread h)))) (framed_after h thread).frames)
 row_kind Entry thread pid e h stays = refl
 row_kind EntryArgs thread pid e h stays = refl
@@ -186,7 +208,7 @@ row_kind Exit thread pid e h stays = row_found thread pid e h (from_innermost e.
 row_kind TailExit thread pid e h stays = row_found thread pid e h (from_innermost e.func (open_calls (history_of_thread thread h))) refl stays
 
 pub rows_more : GoesOn → AllWhole → (thread pid : ℕ) (e : Event) (h : List ThreadEvent)
-    → rows_after (thread_event thread pid e ∷ h) ≡ rows_after h ++ option_to_list (row_on thread e (framed_after h thread))
+    → rows_after (thread_event thread pid e ∷ h) ≡ rows_after h ++ option_to_list (row_on thread (length h) e (framed_after h thread))
 rows_more law whole thread pid e h =
     let said = thread_event thread pid e in
     let new = map (thread_pair thread) (option_to_list (pair_after said h)) in
@@ -196,11 +218,11 @@ rows_more law whole thread pid e h =
 
 -- ---- a fold
 
-pub row_taken : GoesOn → AllWhole → (fold : CallFold) (pid : ℕ) (e : Event) (row : Option CallRow) (h : List ThreadEvent) → row ≡ row_on fold.thread e fold.own
+pub row_taken : GoesOn → AllWhole → (fold : CallFold) (pid : ℕ) (e : Event) (row : Option CallRow) (h : List ThreadEvent) → row ≡ row_on fold.thread fold.events e fold.own
     → Follows fold h → rows_after (thread_event fold.thread pid e ∷ h) ≡ rows_after h ++ option_to_list row
 row_taken law whole fold pid e row h is follows =
     rows_more law whole fold.thread pid e h
-    ∙ ap (λ (o : Option CallRow). rows_after h ++ option_to_list o) (sym (is ∙ ap (row_on fold.thread e) follows.own))
+    ∙ ap (λ (o : Option CallRow). rows_after h ++ option_to_list o) (sym (is ∙ (ap (λ (n : ℕ). row_on fold.thread n e fold.own) follows.count ∙ ap (row_on fold.thread (length h) e) follows.own)))
 
 pub follows_more : GoesOn → (fold new : CallFold) (pid : ℕ) (e : Event) (h : List ThreadEvent) → new.thread ≡ fold.thread → new.others ≡ fold.others
     → new.own ≡ next_framed fold.events pid e fold.own → new.events ≡ fold.events + 1

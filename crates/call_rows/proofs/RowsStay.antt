@@ -27,8 +27,8 @@ use Rattle.call_rows.proofs.SpentInCalls.{GoesOn, open_from-calls, pairs_of_law}
 abbrev pub parent_in : List NumberedEvent → List Call → Option ℕ
 parent_in ns outer = option_map (λ at. (get_or ns at no_numbered).number) (innermost_entry outer)
 
-abbrev pub row_with : ThreadPair → NumberedEvent → Option ℕ → ℕ → ℕ → CallRow
-row_with made entry parent own depth = record {
+abbrev pub row_with : ThreadPair → NumberedEvent → Option ℕ → ℕ → ℕ → ℕ → CallRow
+row_with made entry parent own depth end = record {
   call = entry.number;
   parent = parent;
   thread = made.thread;
@@ -40,11 +40,12 @@ row_with made entry parent own depth = record {
   depth = depth;
   arg = logged_arg entry.event;
   func = made.pair.func;
+  end = end;
 }
 
 abbrev pub row_in : List NumberedEvent → List Event → ThreadPair → CallRow
 row_in ns es made =
-    row_with made (get_or ns made.pair.entry no_numbered) (parent_in ns (open_before es made.pair.entry)) (made.pair.duration - spent_in es made.pair.entry) (length (open_before es made.pair.entry))
+    row_with made (get_or ns made.pair.entry no_numbered) (parent_in ns (open_before es made.pair.entry)) (made.pair.duration - spent_in es made.pair.entry) (length (open_before es made.pair.entry)) (get_or ns made.pair.exit no_numbered).number
 
 -- ---- one more event
 
@@ -64,19 +65,32 @@ parent_stays ns n (call ∷ outer) low = ap (λ (x : NumberedEvent). Some x.numb
 abbrev pub StaysOwn : List Event → Event → Pair → Type 0
 StaysOwn es e pair = pair.duration - spent_in (es ++ e ∷ []) pair.entry ≡ pair.duration - spent_in es pair.entry
 
-pub row_stays : (ns : List NumberedEvent) (n : NumberedEvent) (es : List Event) (e : Event) (made : ThreadPair) → length ns ≡ length es → made.pair.entry < length es
-    → StaysOwn es e made.pair → row_in (ns ++ n ∷ []) (es ++ e ∷ []) made ≡ row_in ns es made
-row_stays ns n es e made many within stays =
+-- all but the number of the exit
+pub rows_same : (ns : List NumberedEvent) (n : NumberedEvent) (es : List Event) (e : Event) (made : ThreadPair) → length ns ≡ length es → made.pair.entry < length es
+    → StaysOwn es e made.pair → (end : ℕ)
+    → row_with made (get_or (ns ++ n ∷ []) made.pair.entry no_numbered) (parent_in (ns ++ n ∷ []) (open_before (es ++ e ∷ []) made.pair.entry))
+    (made.pair.duration - spent_in (es ++ e ∷ []) made.pair.entry) (length (open_before (es ++ e ∷ []) made.pair.entry)) end
+    ≡ row_with made (get_or ns made.pair.entry no_numbered) (parent_in ns (open_before es made.pair.entry)) (made.pair.duration - spent_in es made.pair.entry)
+    (length (open_before es made.pair.entry)) end
+rows_same ns n es e made many within stays end =
     let at = made.pair.entry in
     let opens : open_before (es ++ e ∷ []) at ≡ open_before es at = open_kept es e at (omega (arith, within)) in
     let size : length (reverse (reverse (take at es))) ≡ at = length-reverse (reverse (take at es)) ∙ (length-reverse (take at es) ∙ length-take-le at es (omega (arith, within))) in
     let low : HeadBelow (length ns) (open_before es at) =
     head_below (length ns) (reverse (reverse (take at es))) (open_before es at) (omega (arith, size, within, many)) (nests (reverse (take at es))) in
-    ap (λ (calls : List Call). row_with made (get_or (ns ++ n ∷ []) at no_numbered) (parent_in (ns ++ n ∷ []) calls) (made.pair.duration - spent_in (es ++ e ∷ []) at) (length calls)) opens
-    ∙ (ap (λ (x : NumberedEvent). row_with made x (parent_in (ns ++ n ∷ []) (open_before es at)) (made.pair.duration - spent_in (es ++ e ∷ []) at) (length (open_before es at)))
+    ap (λ (calls : List Call). row_with made (get_or (ns ++ n ∷ []) at no_numbered) (parent_in (ns ++ n ∷ []) calls) (made.pair.duration - spent_in (es ++ e ∷ []) at) (length calls) end) opens
+    ∙ (ap (λ (x : NumberedEvent). row_with made x (parent_in (ns ++ n ∷ []) (open_before es at)) (made.pair.duration - spent_in (es ++ e ∷ []) at) (length (open_before es at)) end)
     (get_or_append_left ns (n ∷ []) no_numbered at (omega (arith, within, many)))
-    ∙ (ap (λ (p : Option ℕ). row_with made (get_or ns at no_numbered) p (made.pair.duration - spent_in (es ++ e ∷ []) at) (length (open_before es at))) (parent_stays ns n (open_before es at) low)
-    ∙ ap (λ (own : ℕ). row_with made (get_or ns at no_numbered) (parent_in ns (open_before es at)) own (length (open_before es at))) stays))
+    ∙ (ap (λ (p : Option ℕ). row_with made (get_or ns at no_numbered) p (made.pair.duration - spent_in (es ++ e ∷ []) at) (length (open_before es at)) end) (parent_stays ns n (open_before es at) low)
+    ∙ ap (λ (own : ℕ). row_with made (get_or ns at no_numbered) (parent_in ns (open_before es at)) own (length (open_before es at)) end) stays))
+
+pub row_stays : (ns : List NumberedEvent) (n : NumberedEvent) (es : List Event) (e : Event) (made : ThreadPair) → length ns ≡ length es → made.pair.entry < length es
+    → (get_or (ns ++ n ∷ []) made.pair.exit no_numbered).number ≡ (get_or ns made.pair.exit no_numbered).number
+    → StaysOwn es e made.pair → row_in (ns ++ n ∷ []) (es ++ e ∷ []) made ≡ row_in ns es made
+row_stays ns n es e made many within ends stays =
+    rows_same ns n es e made many within stays ((get_or (ns ++ n ∷ []) made.pair.exit no_numbered).number)
+    ∙ ap (λ (k : ℕ). row_with made (get_or ns made.pair.entry no_numbered) (parent_in ns (open_before es made.pair.entry)) (made.pair.duration - spent_in es made.pair.entry)
+    (length (open_before es made.pair.entry)) k) ends
 
 -- ---- the row of a pair whose call is open, by its frame
 
@@ -84,17 +98,19 @@ first_is : (ns : List NumberedEvent) (es : List Event) (outer : List Call) → p
 first_is ns es [] = refl
 first_is ns es (call ∷ outer) = refl
 
-pub row_framed : (ns : List NumberedEvent) (es : List Event) (thread : ℕ) (pair : Pair) (ended : Call) (outer : List Call) → pair.entry ≡ ended.entry
+pub row_framed : (ns : List NumberedEvent) (es : List Event) (thread number : ℕ) (pair : Pair) (ended : Call) (outer : List Call) → pair.entry ≡ ended.entry
     → open_before es ended.entry ≡ outer
-    → row_in ns es (thread_pair thread pair) ≡ row_by thread pair (reverse (frames_in ns es outer)) (frame_by (get_or ns ended.entry no_numbered) (spent_in es ended.entry))
-row_framed ns es thread pair ended outer at is =
+    → row_with (thread_pair thread pair) (get_or ns pair.entry no_numbered) (parent_in ns (open_before es pair.entry)) (pair.duration - spent_in es pair.entry)
+    (length (open_before es pair.entry)) number
+    ≡ row_by thread number pair (reverse (frames_in ns es outer)) (frame_by (get_or ns ended.entry no_numbered) (spent_in es ended.entry))
+row_framed ns es thread number pair ended outer at is =
     let made = thread_pair thread pair in
     let size : length outer ≡ length (reverse (frames_in ns es outer)) = sym (length-reverse (frames_in ns es outer) ∙ length-map outer (λ (call : Call). frame_by (get_or ns call.entry no_numbered) (spent_in es call.entry))) in
     let parent : parent_in ns outer ≡ first_number (reverse (reverse (frames_in ns es outer))) = first_is ns es outer ∙ ap first_number (sym (reverse-reverse (frames_in ns es outer))) in
-    ap (λ (p : ℕ). row_with made (get_or ns p no_numbered) (parent_in ns (open_before es p)) (pair.duration - spent_in es p) (length (open_before es p))) at
-    ∙ (ap (λ (calls : List Call). row_with made (get_or ns ended.entry no_numbered) (parent_in ns calls) (pair.duration - spent_in es ended.entry) (length calls)) is
-    ∙ (ap (λ (p : Option ℕ). row_with made (get_or ns ended.entry no_numbered) p (pair.duration - spent_in es ended.entry) (length outer)) parent
-    ∙ ap (λ (k : ℕ). row_with made (get_or ns ended.entry no_numbered) (first_number (reverse (reverse (frames_in ns es outer)))) (pair.duration - spent_in es ended.entry) k) size))
+    ap (λ (p : ℕ). row_with made (get_or ns p no_numbered) (parent_in ns (open_before es p)) (pair.duration - spent_in es p) (length (open_before es p)) number) at
+    ∙ (ap (λ (calls : List Call). row_with made (get_or ns ended.entry no_numbered) (parent_in ns calls) (pair.duration - spent_in es ended.entry) (length calls) number) is
+    ∙ (ap (λ (p : Option ℕ). row_with made (get_or ns ended.entry no_numbered) p (pair.duration - spent_in es ended.entry) (length outer) number) parent
+    ∙ ap (λ (k : ℕ). row_with made (get_or ns ended.entry no_numbered) (first_number (reverse (reverse (frames_in ns es outer)))) (pair.duration - spent_in es ended.entry) k number) size))
 
 -- ---- what the law says of pairs
 
@@ -113,6 +129,7 @@ AllWhole = (events : List Event) → All (IsWholeCall events) (pairs_of events)
 -- a pair was made before, and its row stays
 pub record Stays (es : List Event) (e : Event) (pair : Pair) : Type 0 where
   pub within : pair.entry < length es
+  pub ended : pair.exit < length es
   pub own : StaysOwn es e pair
 
 both : (es : List Event) (e : Event) (pairs : List Pair) → Each (IsWholeCall es) pairs → map (timed (es ++ e ∷ [])) pairs ≡ map (timed es) pairs → Each (Stays es e) pairs
@@ -121,7 +138,7 @@ both es e (pair ∷ pairs) whole same =
     let first : timed (es ++ e ∷ []) pair ≡ timed es pair = cc in
     let later : map (timed (es ++ e ∷ [])) pairs ≡ map (timed es) pairs = cc in
     let is = whole.0 in
-    (record { within = omega (arith, is.rises, is.within); own = ap (λ (t : Timed). t.own) first }, both es e pairs whole.1 later)
+    (record { within = omega (arith, is.rises, is.within); ended = is.within; own = ap (λ (t : Timed). t.own) first }, both es e pairs whole.1 later)
 
 -- equal lists that begin with as many items
 split : {X Y : Type 0} (f g : X → Y) (xs : List X) (ys zs : List Y) → map g xs ++ ys ≡ map f xs ++ zs → (map f xs ≡ map g xs) × (ys ≡ zs)

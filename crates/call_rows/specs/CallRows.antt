@@ -60,6 +60,7 @@ call_row history made =
       depth = length outer;
       arg = logged_arg entry.event;
       func = made.pair.func;
+      end = number_at history made.thread made.pair.exit;
     }
 
 -- a row for each pair, in the order of their exits

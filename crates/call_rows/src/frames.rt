@@ -61,13 +61,13 @@ impl ThreadFrames {
         number: u64,
         event: &Event,
     ) -> Result<Option<CallRow>, NoMemory>
-        ensures row { IfOk result (λ row. row ≡ row_on thread event.now self.old) }
+        ensures row { IfOk result (λ row. row ≡ row_on thread number event.now self.old) }
         ensures next { OnOk result (self.new ≡ next_framed number pid event.now self.old) }
     {
         let pair = self.calls.take(event)?;
         let depth = self.calls.depth();
         match pair {
-            Some(pair) => end_frame(&mut self.frames, thread, depth, &pair),
+            Some(pair) => end_frame(&mut self.frames, thread, number, depth, &pair),
             None => {
                 if is_entry(event.kind) {
                     open_frame(&mut self.frames, number, pid, event)?;
@@ -112,11 +112,12 @@ fn open_frame(
 fn end_frame(
     frames: &mut Vec<Frame>,
     thread: u32,
+    number: u64,
     depth: usize,
     pair: &Pair,
 ) -> Result<Option<CallRow>, NoMemory>
     ensures row { IfOk result (λ row.
-        row ≡ next_row thread (Some pair.now) depth frames.old.items) }
+        row ≡ next_row thread number (Some pair.now) depth frames.old.items) }
     ensures left { OnOk result (frames.new.items
         ≡ left_of pair.now depth (slice_get frames.old.items depth) frames.old.items) }
 {
@@ -124,16 +125,22 @@ fn end_frame(
         None => Ok(None),
         Some(ended) => {
             frames.truncate(depth);
-            let row = row_of(thread, pair, frames, &ended);
+            let row = row_of(thread, number, pair, frames, &ended);
             spend(frames, pair.duration)?;
             Ok(Some(row))
         }
     }
 }
 
-/// The row of a pair, by the frame of its call and those outside it.
-fn row_of(thread: u32, pair: &Pair, outer: &[Frame], frame: &Frame) -> CallRow
-    ensures { result ≡ row_by thread pair.now outer.now frame.now }
+/// The row of a pair, by the number of its exit, the frame of its call and those outside it.
+fn row_of(
+    thread: u32,
+    number: u64,
+    pair: &Pair,
+    outer: &[Frame],
+    frame: &Frame,
+) -> CallRow
+    ensures { result ≡ row_by thread number pair.now outer.now frame.now }
 {
     CallRow {
         call: frame.number,
@@ -147,6 +154,7 @@ fn row_of(thread: u32, pair: &Pair, outer: &[Frame], frame: &Frame) -> CallRow
         depth: outer.len() as u64,
         arg: arg_of(&frame.event),
         func: pair.func,
+        end: number,
     }
 }
 

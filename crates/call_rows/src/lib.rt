@@ -15,5 +15,5 @@ pub use fold::CallFold;
 pub use kept::KeptCalls;
 pub use laws::{an_account_sums_the_calls_of_each_function, each_parent_encloses_its_call};
 pub use printing::{CallsFault, add_calls, write_calls};
-pub use row::CallRow;
+pub use row::{CallKey, CallRow};
 pub use text::CallsText;

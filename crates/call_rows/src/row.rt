@@ -28,4 +28,24 @@ pub struct CallRow {
     pub arg: Option<u64>,
     /// The id of the function.
     pub func: u32,
+    /// The number of the exit or tail exit that ends it, among all events of the trace. It isn't
+    /// printed: it says in which order calls end.
+    pub end: u64,
+}
+
+/// What calls are ordered by.
+#[derive(Clone, Copy)]
+pub enum CallKey {
+    /// The order in which they end in the file.
+    End,
+    /// The number of the entry.
+    Call,
+    /// The counter at the entry.
+    Start,
+    /// The duration.
+    Duration,
+    /// The duration without the calls made directly in it.
+    Own,
+    /// How many entries were open.
+    Depth,
 }

@@ -60,9 +60,9 @@ abbrev pub first_number : List Frame → Option ℕ
 first_number [] = None
 first_number (frame ∷ frames) = Some frame.number
 
--- the row of a pair, by the frame of its call and those outside it
-abbrev pub row_by : ℕ → Pair → List Frame → Frame → CallRow
-row_by thread pair outer frame = record {
+-- the row of a pair, by the number of its exit, the frame of its call and those outside it
+abbrev pub row_by : ℕ → ℕ → Pair → List Frame → Frame → CallRow
+row_by thread number pair outer frame = record {
   call = frame.number;
   parent = first_number (reverse outer);
   thread = thread;
@@ -74,12 +74,13 @@ row_by thread pair outer frame = record {
   depth = length outer;
   arg = logged_arg frame.event;
   func = pair.func;
+  end = number;
 }
 
 -- the row of the call that an event ends, by the pair that it makes and by how many calls are open after it
-abbrev pub next_row : ℕ → Option Pair → ℕ → List Frame → Option CallRow
-next_row thread None depth frames = None
-next_row thread (Some pair) depth frames = option_map (row_by thread pair (take depth frames)) (slice_get frames depth)
+abbrev pub next_row : ℕ → ℕ → Option Pair → ℕ → List Frame → Option CallRow
+next_row thread number None depth frames = None
+next_row thread number (Some pair) depth frames = option_map (row_by thread number pair (take depth frames)) (slice_get frames depth)
 
 -- the pair that an event makes, and how many calls are open after it
 abbrev pub pair_on : Event → Framed → Option Pair
@@ -94,5 +95,5 @@ next_framed number pid e before = record {
   frames = next_frames number pid e (enters e.kind) (pair_on e before) (depth_on e before) before.frames;
 }
 
-abbrev pub row_on : ℕ → Event → Framed → Option CallRow
-row_on thread e before = next_row thread (pair_on e before) (depth_on e before) before.frames
+abbrev pub row_on : ℕ → ℕ → Event → Framed → Option CallRow
+row_on thread number e before = next_row thread number (pair_on e before) (depth_on e before) before.frames

@@ -14,7 +14,7 @@ pub returns-clause-row : goal.returns-clause-row
 returns-clause-row c =
     let fold = c.args.self.now in
     let e = c.args.event.now in
-    IfOk-weaker c.take.result (λ (row : Option CallRow). row ≡ row_on fold.thread e fold.own)
+    IfOk-weaker c.take.result (λ (row : Option CallRow). row ≡ row_on fold.thread fold.events e fold.own)
     (λ (row : Option CallRow). (history : List ThreadEvent) → Follows fold history
     → rows_after (thread_event fold.thread c.args.pid e ∷ history) ≡ rows_after history ++ option_to_list row)
     (λ row is history follows. row_taken c.a_thread_goes_on.ensures c.each_pair_is_a_whole_call.ensures fold c.args.pid e row history is follows) c.take.ensures.row
