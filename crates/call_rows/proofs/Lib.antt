@@ -12,3 +12,7 @@ pub mod CallsAnswers
 -- The laws: an account sums calls, and parents enclose them (src/laws.rt)
 pub mod CallSums
 pub mod Parents
+-- The first rows in an order (src/order.rt)
+pub mod CallOrdering
+pub mod PutInOrder
+pub mod FirstInOrder

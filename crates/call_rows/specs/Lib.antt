@@ -1,4 +1,5 @@
 pub mod CallRows
+pub mod CallOrders
 pub mod CallRowLaws
 pub mod CallText
 pub mod Keeping
