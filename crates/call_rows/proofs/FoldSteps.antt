@@ -19,9 +19,10 @@ use Rattle.stack_rebuild.specs.Stacks.{open_before, spent_in}
 use Rattle.call_rows.specs.declared.row.CallRow.{CallRow}
 use Rattle.call_rows.specs.declared.frames.Frame.{Frame}
 use Rattle.call_rows.specs.declared.fold.CallFold.{CallFold}
-use Rattle.call_rows.specs.CallRows.{NumberedEvent, call_row, no_numbered, numbered_of_thread, rows_after}
+use Rattle.call_rows.specs.CallRows.{EndsAt, NumberedEvent, call_row, no_numbered, numbered_of_thread, rows_after}
 use Rattle.call_rows.specs.private.Folding.{Follows, FramedThreads, framed_in}
-use Rattle.call_rows.specs.private.Frames.{Framed, frame_by, framed_after, next_framed, next_row, row_by, row_on}
+use Rattle.call_rows.specs.private.Frames.{Framed, depth_on, frame_by, framed_after, next_framed, next_row, pair_on, row_by, row_on}
+use Rattle.call_rows.proofs.Collecting.{row_ends}
 use Rattle.call_rows.proofs.NestedEntries.{Nests, nests, nests_from, one_more}
 use Rattle.call_rows.proofs.NumberedEvents.{as_many, numbered, other_events, other_numbered, own_events, own_numbered}
 use Rattle.call_rows.proofs.SpentInCalls.{GoesOn}
@@ -223,6 +224,13 @@ pub row_taken : GoesOn → AllWhole → (fold : CallFold) (pid : ℕ) (e : Event
 row_taken law whole fold pid e row h is follows =
     rows_more law whole fold.thread pid e h
     ∙ ap (λ (o : Option CallRow). rows_after h ++ option_to_list o) (sym (is ∙ (ap (λ (n : ℕ). row_on fold.thread n e fold.own) follows.count ∙ ap (row_on fold.thread (length h) e) follows.own)))
+
+pub row_end_at : (fold : CallFold) (e : Event) (row : Option CallRow) (h : List ThreadEvent) → row ≡ row_on fold.thread fold.events e fold.own → Follows fold h
+    → EndsAt (length h) row
+row_end_at fold e row h is follows =
+    let ends : EndsAt fold.events row =
+    subst (EndsAt fold.events) (sym is) (row_ends fold.thread fold.events (pair_on e fold.own) (depth_on e fold.own) fold.own.frames) in
+    subst (λ (n : ℕ). EndsAt n row) follows.count ends
 
 pub follows_more : GoesOn → (fold new : CallFold) (pid : ℕ) (e : Event) (h : List ThreadEvent) → new.thread ≡ fold.thread → new.others ≡ fold.others
     → new.own ≡ next_framed fold.events pid e fold.own → new.events ≡ fold.events + 1

@@ -16,3 +16,5 @@ pub mod Parents
 pub mod CallOrdering
 pub mod PutInOrder
 pub mod FirstInOrder
+-- The wanted calls that are collected (src/order.rt, src/kept.rt)
+pub mod Collecting

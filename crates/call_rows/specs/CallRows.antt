@@ -1,6 +1,6 @@
 -- The calls of blocks: a row for each pair of an entry and an exit. A history is the events of all threads, listed from
 -- the last one to the first.
-use Rattle.std.specs.Prelude.{◌-◌, ◌==◌, ◌&&◌, Bool, true, ℕ, List, [], ◌∷◌, length, map, filter, reverse, nat_le, slice_index_or, if◌then◌else◌, Option, Some, None, option_map}
+use Rattle.std.specs.Prelude.{◌≡◌, ◌-◌, ◌==◌, ◌&&◌, Bool, true, ℕ, List, [], ◌∷◌, length, map, filter, reverse, nat_le, slice_index_or, if◌then◌else◌, Option, Some, None, option_map}
 use Rattle.fdr_record.specs.declared.event.Event.{Event}
 use Rattle.fdr_file.specs.declared.trace.Block.{Block}
 use Rattle.fdr_file.specs.ThreadEvents.{ThreadEvent}
@@ -69,6 +69,11 @@ rows_after history = map (call_row history) (pairs_after history)
 
 abbrev pub call_rows_of : List Block → List CallRow
 call_rows_of blocks = rows_after (history_of blocks)
+
+-- the row of the call that the event with a number ends, if it ends one
+abbrev pub EndsAt : ℕ → Option CallRow → Type 0
+EndsAt number None = Unit {0}
+EndsAt number (Some row) = row.end ≡ number
 
 -- ---- the rows that are wanted
 

@@ -1,10 +1,10 @@
 //! The calls of events that come one after the other.
 
-ghost use Rattle.std.specs.Prelude.{◌≡◌, ◌+◌, ◌++◌, ℕ, [], ◌∷◌, List, IfOk, OnOk};
+ghost use Rattle.std.specs.Prelude.{◌≡◌, ◌+◌, ◌++◌, ℕ, [], ◌∷◌, List, length, IfOk, OnOk};
 ghost use Rattle.std.specs.Option.{option_to_list};
 ghost use Rattle.fdr_file.specs.ThreadEvents.{ThreadEvent};
 ghost use Rattle.stack_rebuild.specs.Histories.{thread_event};
-ghost use Rattle.call_rows.specs.CallRows.{rows_after};
+ghost use Rattle.call_rows.specs.CallRows.{EndsAt, rows_after};
 ghost use Rattle.call_rows.specs.private.Folding.{Follows, framed_in};
 
 use crate::frames::ThreadFrames;
@@ -79,6 +79,8 @@ impl CallFold {
             → Follows self.old history
             → rows_after (thread_event thread pid event.now ∷ history)
             ≡ rows_after history ++ option_to_list row) }
+        ensures end { IfOk result (λ row. (history : List ThreadEvent)
+            → Follows self.old history → EndsAt (length history) row) }
         ensures follows { OnOk result ((history : List ThreadEvent) → Follows self.old history
             → Follows self.new (thread_event thread pid event.now ∷ history)) }
     {
@@ -108,6 +110,8 @@ impl CallFold {
             → Follows self.old history
             → rows_after (thread_event self.old.thread pid event.now ∷ history)
             ≡ rows_after history ++ option_to_list row) }
+        ensures end { IfOk result (λ row. (history : List ThreadEvent)
+            → Follows self.old history → EndsAt (length history) row) }
         ensures follows { OnOk result ((history : List ThreadEvent) → Follows self.old history
             → Follows self.new (thread_event self.old.thread pid event.now ∷ history)) }
     {

@@ -13,7 +13,7 @@ mod text;
 
 pub use filter::CallFilter;
 pub use fold::CallFold;
-pub use kept::KeptCalls;
+pub use kept::{KeptCalls, calls_in_order};
 pub use laws::{an_account_sums_the_calls_of_each_function, each_parent_encloses_its_call};
 pub use order::{CallOrder, order_calls};
 pub use printing::{CallsFault, add_calls, write_calls};

@@ -1,12 +1,15 @@
 //! Calls in the order of a column.
 
-ghost use Rattle.std.specs.Prelude.{◌≡◌, ◌≤◌, ◌+◌, ◌++◌, ℕ, [], ◌∷◌, List, OnOk, map, nat_eq};
-ghost use Rattle.std.specs.List.{IsDistinct};
+ghost use Rattle.std.specs.Prelude.{◌≡◌, ◌≤◌, ◌+◌, ◌++◌, ℕ, [], ◌∷◌, List, OnOk, length, map, nat_eq};
+ghost use Rattle.std.specs.{List.{IsDistinct}, Option.{option_to_list}};
 ghost use Rattle.std.specs.Ordering.{is_lt};
+ghost use Rattle.fdr_file.specs.ThreadEvents.{ThreadEvent};
 ghost use Rattle.call_rows.specs.declared.row.CallRow.{CallRow};
 ghost use Rattle.call_rows.specs.CallOrders.{arranged_calls, call_before, call_column};
-ghost use Rattle.call_rows.specs.private.FirstRows.{KeepsFirst};
+ghost use Rattle.call_rows.specs.CallRows.{EndsAt, rows_after};
+ghost use Rattle.call_rows.specs.private.FirstRows.{Collects, KeepsFirst};
 
+use crate::filter::CallFilter;
 use crate::row::{CallKey, CallRow};
 use std::alloc::Global;
 use std::cmp::Ordering;
@@ -88,6 +91,13 @@ impl FirstRows {
         }
     }
 
+    /// The order.
+    pub(crate) fn order(&self) -> CallOrder
+        ensures { result ≡ self.now.order }
+    {
+        self.order
+    }
+
     /// Takes the row of a call that ends after the others.
     pub(crate) fn add(&mut self, row: &CallRow) -> Result<(), NoMemory>
         ensures added { OnOk result ((events : ℕ) (rows : List CallRow)
@@ -98,6 +108,28 @@ impl FirstRows {
         self.rows.push(*row)?;
         if self.is_full() {
             self.cut();
+        }
+        Ok(())
+    }
+
+    /// Takes the call that an event ends, if there is one and it is wanted.
+    #[inline(always)]
+    pub(crate) fn add_wanted(
+        &mut self,
+        wanted: &CallFilter,
+        row: &Option<CallRow>,
+    ) -> Result<(), NoMemory>
+        ensures added { OnOk result ((history : List ThreadEvent) (e : ThreadEvent)
+            → Collects self.old wanted.now history
+            → rows_after (e ∷ history) ≡ rows_after history ++ option_to_list row.now
+            → EndsAt (length history) row.now
+            → Collects self.new wanted.now (e ∷ history)) }
+        ensures order { self.new.order ≡ self.old.order }
+    {
+        if let Some(row) = row {
+            if wanted.wants(row) {
+                return self.add(row);
+            }
         }
         Ok(())
     }

@@ -1,5 +1,8 @@
 -- What is kept of rows of which the first ones in an order are wanted.
-use Rattle.std.specs.Prelude.{◌≡◌, ◌<◌, ℕ, List, [], ◌∷◌}
+use Rattle.std.specs.Prelude.{◌≡◌, ◌<◌, ℕ, List, [], ◌∷◌, length}
+use Rattle.fdr_file.specs.ThreadEvents.{ThreadEvent}
+use Rattle.call_rows.specs.declared.filter.CallFilter.{CallFilter}
+use Rattle.call_rows.specs.CallRows.{rows_after, wanted_rows}
 use Rattle.call_rows.specs.declared.row.CallRow.{CallRow}
 use Rattle.call_rows.specs.declared.order.FirstRows.{FirstRows}
 use Rattle.call_rows.specs.CallOrders.{arranged_calls}
@@ -25,3 +28,7 @@ pub record KeepsFirst (first : FirstRows) (events : ℕ) (rows : List CallRow) :
   pub ended : AllEnded events first.rows.items
   pub all_apart : AllApart rows
   pub all_ended : AllEnded events rows
+
+-- the first of the wanted rows of a history are kept
+abbrev pub Collects : FirstRows → CallFilter → List ThreadEvent → Type 0
+Collects first wanted history = KeepsFirst first (length history) (wanted_rows wanted (rows_after history))

@@ -8,7 +8,7 @@ use Rattle.fdr_file.specs.ThreadEvents.{ThreadEvent}
 use Rattle.stack_rebuild.specs.Histories.{history_of}
 use Rattle.call_rows.specs.declared.fold.CallFold.{CallFold}
 use Rattle.call_rows.specs.declared.kept.KeptCalls.{KeptCalls}
-use Rattle.call_rows.specs.CallRows.{call_rows_of, wanted_rows}
+use Rattle.call_rows.specs.private.FirstRows.{Collects}
 use Rattle.call_rows.specs.private.Frames.{Framed, framed_after}
 
 -- threads by their ids
@@ -25,9 +25,9 @@ pub record Follows (fold : CallFold) (history : List ThreadEvent) : Type 0 where
   pub own : fold.own ≡ framed_after history fold.thread
   pub others : (other : ℕ) → (fold.thread ≡ other → ⊥) → framed_in fold.others other ≡ framed_after history other
 
--- The wanted rows of blocks are kept, and the thread and the process of the last block.
+-- The first of the wanted rows of blocks are kept, and the thread and the process of the last block.
 pub record KeepsCalls (kept : KeptCalls) (blocks : List Block) : Type 0 where
   pub thread : (first : List Block) (block : Block) → blocks ≡ first ++ block ∷ [] → block.thread ≡ kept.thread
   pub pid : (first : List Block) (block : Block) → blocks ≡ first ++ block ∷ [] → block.pid ≡ kept.pid
   pub follows : Follows kept.fold (history_of blocks)
-  pub rows : kept.rows.items ≡ wanted_rows kept.wanted (call_rows_of blocks)
+  pub collects : Collects kept.first kept.wanted (history_of blocks)
