@@ -12,9 +12,11 @@ pub mod CallsAnswers
 -- The laws: an account sums calls, and parents enclose them (src/laws.rt)
 pub mod CallSums
 pub mod Parents
+pub mod EndsRise
 -- The first rows in an order (src/order.rt)
 pub mod CallOrdering
 pub mod PutInOrder
 pub mod FirstInOrder
 -- The wanted calls that are collected (src/order.rt, src/kept.rt)
 pub mod Collecting
+pub mod KeptSteps

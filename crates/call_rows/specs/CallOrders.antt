@@ -1,5 +1,5 @@
 -- Calls in the order of a column.
-use Rattle.std.specs.Prelude.{◌==◌, ◌&&◌, ◌||◌, Bool, ℕ, List, take, nat_lt, Option, Some, None}
+use Rattle.std.specs.Prelude.{◌==◌, ◌&&◌, ◌||◌, Bool, false, ℕ, List, take, nat_lt, Option, Some, None}
 use Rattle.account_report.specs.Ascending.{ordered_by}
 use Rattle.account_report.specs.Ordered.{comes_first}
 use Rattle.call_rows.specs.declared.row.CallRow.{CallRow}
@@ -29,3 +29,7 @@ first_calls (Some top) rows = take top rows
 -- the first rows of the rows in order
 abbrev pub arranged_calls : CallOrder → List CallRow → List CallRow
 arranged_calls order rows = first_calls order.top (ordered_by (call_before order.key order.descending) rows)
+
+-- in the order in which calls end
+abbrev pub by_end : CallOrder
+by_end = record { key = End; descending = false; top = None }

@@ -89,12 +89,7 @@ fn is_entry(kind: Kind) -> bool
 }
 
 /// Opens a frame inside the innermost one.
-fn open_frame(
-    frames: &mut Vec<Frame>,
-    number: u64,
-    pid: u32,
-    event: &Event,
-) -> Result<(), NoMemory>
+fn open_frame(frames: &mut Vec<Frame>, number: u64, pid: u32, event: &Event) -> Result<(), NoMemory>
     ensures { OnOk result (
         frames.new.items ≡ frames.old.items ++ opened_frame number pid event.now ∷ []) }
 {
@@ -133,13 +128,7 @@ fn end_frame(
 }
 
 /// The row of a pair, by the number of its exit, the frame of its call and those outside it.
-fn row_of(
-    thread: u32,
-    number: u64,
-    pair: &Pair,
-    outer: &[Frame],
-    frame: &Frame,
-) -> CallRow
+fn row_of(thread: u32, number: u64, pair: &Pair, outer: &[Frame], frame: &Frame) -> CallRow
     ensures { result ≡ row_by thread number pair.now outer.now frame.now }
 {
     CallRow {

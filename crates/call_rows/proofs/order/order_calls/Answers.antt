@@ -9,20 +9,16 @@ use Rattle.call_rows.proofs.order.order_calls.Goals as goal
 
 pub returns-in_default : goal.returns-in_default
 returns-in_default c = λ distinct.
-    let key = c.args.order.now.key in
-    let down = c.args.order.now.descending in
-    let up = c.sort_unstable_by.ensures.sorted (call_before key down) (call_order key down) (always_returns_same _ _ _ (λ a r f' k. search rules)) in
-    one_order (λ (r : CallRow). r.end) (call_before key down) (call_order key down) (calls_decide key down) c.args.rows.now.items c.sort_unstable_by.new.self.items distinct
-    c.sort_unstable_by.ensures.permutation up
-    ∙ sym (ap (λ (top : Option ℕ). first_calls top (ordered_by (call_before key down) c.args.rows.now.items)) c.in_default.is)
+    one_order (λ (r : CallRow). r.end) (call_before c.args.order.now.key c.args.order.now.descending) (call_order c.args.order.now.key c.args.order.now.descending)
+    (calls_decide c.args.order.now.key c.args.order.now.descending) c.args.rows.now.items c.sort_unstable_by.new.self.items distinct c.sort_unstable_by.ensures.permutation
+    (c.sort_unstable_by.ensures.sorted (call_before c.args.order.now.key c.args.order.now.descending) (call_order c.args.order.now.key c.args.order.now.descending) (always_returns_same _ _ _ (λ a r f' k. search rules)))
+    ∙ sym (ap (λ (top : Option ℕ). first_calls top (ordered_by (call_before c.args.order.now.key c.args.order.now.descending) c.args.rows.now.items)) c.in_default.is)
 
 pub returns-in-Some : goal.returns-in-Some
 returns-in-Some c = λ distinct.
-    let key = c.args.order.now.key in
-    let down = c.args.order.now.descending in
-    let up = c.sort_unstable_by.ensures.sorted (call_before key down) (call_order key down) (always_returns_same _ _ _ (λ a r f' k. search rules)) in
     c.truncate.ensures.items
     ∙ (ap (take c.in-Some.top)
-    (one_order (λ (r : CallRow). r.end) (call_before key down) (call_order key down) (calls_decide key down) c.args.rows.now.items c.sort_unstable_by.new.self.items distinct
-    c.sort_unstable_by.ensures.permutation up)
-    ∙ sym (ap (λ (top : Option ℕ). first_calls top (ordered_by (call_before key down) c.args.rows.now.items)) c.in-Some.is))
+    (one_order (λ (r : CallRow). r.end) (call_before c.args.order.now.key c.args.order.now.descending) (call_order c.args.order.now.key c.args.order.now.descending)
+    (calls_decide c.args.order.now.key c.args.order.now.descending) c.args.rows.now.items c.sort_unstable_by.new.self.items distinct c.sort_unstable_by.ensures.permutation
+    (c.sort_unstable_by.ensures.sorted (call_before c.args.order.now.key c.args.order.now.descending) (call_order c.args.order.now.key c.args.order.now.descending) (always_returns_same _ _ _ (λ a r f' k. search rules))))
+    ∙ sym (ap (λ (top : Option ℕ). first_calls top (ordered_by (call_before c.args.order.now.key c.args.order.now.descending) c.args.rows.now.items)) c.in-Some.is))
