@@ -1,5 +1,5 @@
 -- The rows of a function's calls, and its row in an account.
-use Rattle.std.proofs.Common.{◌≡◌, ◌<◌, ◌+◌, ◌∙◌, ℕ, suc, Bool, true, false, cond, List, [], ◌∷◌, length, map, reverse, refl, ap, sym, arith, nat_eq, get_or, sum}
+use Rattle.std.proofs.Common.{◌≡◌, ◌+◌, ◌∙◌, ℕ, suc, Bool, true, false, cond, List, [], ◌∷◌, length, map, refl, ap, sym, arith, nat_eq, get_or, sum}
 use Rattle.std.specs.Prelude.{All, filter, nat_lt, sum_by}
 use Rattle.std.proofs.lemmas.List.{length-map}
 use Rattle.std.proofs.lemmas.List.Elements.{All-map}
@@ -11,7 +11,7 @@ use Rattle.account_report.specs.Account.{account_of, durations_of, function_row,
 use Rattle.account_report.specs.Ascending.{ascending, put_in}
 use Rattle.call_rows.specs.declared.row.CallRow.{CallRow}
 use Rattle.call_rows.specs.CallRowLaws.{SumsCalls, rows_of_function}
-use Rattle.call_rows.specs.CallRows.{call_row, call_rows_of, rows_after}
+use Rattle.call_rows.specs.CallRows.{call_row, call_rows_of}
 
 -- ---- numbers in order
 

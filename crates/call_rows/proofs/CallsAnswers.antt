@@ -1,10 +1,10 @@
 -- What a writer of calls answers.
-use Rattle.std.proofs.Common.{◌≡◌, ◌++◌, ◌∙◌, ℕ, List, [], ◌∷◌, Option, Ok, Err, refl, ap, sym, subst, append_assoc}
-use Rattle.std.specs.Prelude.{IsErrAnd, option_map}
+use Rattle.std.proofs.Common.{◌≡◌, ◌++◌, ◌∙◌, ℕ, List, [], Option, Ok, Err, refl, ap, sym, subst, append_assoc}
+use Rattle.std.specs.Prelude.{IsErrAnd}
 use Rattle.xray_io.specs.Calls.{Composes, Write}
 use Rattle.xray_io.specs.Sink.{AddsPrefix}
-use Rattle.xray_io.specs.Text.{AddsText, adds_more, adds_stop, adds_within, sink_of, waiting, writes_all, writes_failed}
-use Rattle.xray_io.specs.Writes.{Answer, Sends, WritesText, prefix_of, sends_stop}
+use Rattle.xray_io.specs.Text.{AddsText, adds_more, sink_of, waiting, writes_all, writes_failed}
+use Rattle.xray_io.specs.Writes.{Sends, WritesText, prefix_of}
 use Rattle.xray_io.specs.declared.faults.WriteFault.{WriteFault}
 use Rattle.xray_io.specs.declared.text.Text.{Text}
 use Rattle.call_rows.specs.declared.printing.CallsFault.{CallsFault}

@@ -1,5 +1,5 @@
 -- The first rows in order, of which more come.
-use Rattle.std.proofs.Common.{◌≡◌, ◌<◌, ◌≤◌, ◌+◌, ◌++◌, ◌∙◌, ℕ, Bool, true, false, List, [], ◌∷◌, map, take, refl, ap, sym, subst, arith, nat_eq, Option, None, Some}
+use Rattle.std.proofs.Common.{◌≡◌, ◌≤◌, ◌+◌, ◌++◌, ◌∙◌, ℕ, Bool, true, false, List, [], ◌∷◌, map, take, refl, ap, sym, subst, nat_eq, Option, None, Some}
 use Rattle.std.specs.List.{AllByRecursion, IsDistinct}
 use Rattle.std.specs.Cmp.{IsStrictWeakOrder}
 use Rattle.std.proofs.lemmas.Bool.{ne_eqb}
@@ -12,7 +12,7 @@ use Rattle.call_rows.specs.declared.order.FirstRows.{FirstRows}
 use Rattle.call_rows.specs.CallOrders.{arranged_calls, call_before, first_calls}
 use Rattle.call_rows.specs.private.FirstRows.{AllApart, AllEnded, ApartFrom, KeepsFirst}
 use Rattle.call_rows.proofs.CallOrdering.{call_order, calls_decide}
-use Rattle.call_rows.proofs.PutInOrder.{IsLine, InOrder, all_apart-more, all_apart-ordered, all_apart-take, ended-more, ended-ordered, ended-take, in_order-ordered, in_order-take, ordered-more, ordered_already, take-put, take_twice}
+use Rattle.call_rows.proofs.PutInOrder.{IsLine, all_apart-more, all_apart-ordered, all_apart-take, ended-more, ended-ordered, ended-take, in_order-ordered, in_order-take, ordered-more, ordered_already, take-put, take_twice}
 
 -- ---- the order by a column
 

@@ -1,11 +1,11 @@
 -- A fold after one more event, and the rows of a history after it.
-use Rattle.std.proofs.Common.{◌≡◌, ◌<◌, ◌≤◌, ◌-◌, ◌+◌, ◌++◌, ◌∙◌, ℕ, suc, Bool, true, false, cond, List, [], ◌∷◌, length, map, reverse, take, refl, ap, sym, subst, arith, nat_eq, get_or, Option, Some, None, unwrap_or, append_assoc}
+use Rattle.std.proofs.Common.{◌≡◌, ◌-◌, ◌+◌, ◌++◌, ◌∙◌, ℕ, Bool, true, false, cond, List, [], ◌∷◌, length, map, reverse, take, refl, ap, sym, subst, arith, nat_eq, get_or, Option, Some, None, unwrap_or}
 use Rattle.std.specs.Prelude.{filter, option_map, slice_get}
 use Rattle.std.specs.HashMap.{get}
 use Rattle.std.specs.Option.{option_to_list}
-use Rattle.std.proofs.lemmas.Bool.{eq-eqb, eqb-false, eqb-true, ne_eqb}
+use Rattle.std.proofs.lemmas.Bool.{eq-eqb, eqb-false, eqb-true}
 use Rattle.std.proofs.Math.Seq.{get_or-append_seam}
-use Rattle.std.proofs.lemmas.List.{append-nil, get_or_append_left, length-map, length-reverse, map-append, reverse-append, reverse-reverse}
+use Rattle.std.proofs.lemmas.List.{append-nil, get_or_append_left, length-map, length-reverse, map-append, reverse-append}
 use Rattle.std.proofs.lemmas.List.Elements.{filter-append}
 use Rattle.fdr_record.specs.declared.event.Event.{Event}
 use Rattle.fdr_record.specs.declared.event.Kind.{Kind}
@@ -26,7 +26,7 @@ use Rattle.call_rows.proofs.Collecting.{row_ends}
 use Rattle.call_rows.proofs.NestedEntries.{Nests, nests, nests_from, one_more}
 use Rattle.call_rows.proofs.NumberedEvents.{as_many, numbered, other_events, other_numbered, own_events, own_numbered}
 use Rattle.call_rows.proofs.SpentInCalls.{GoesOn}
-use Rattle.call_rows.proofs.FrameSteps.{ends_at, framed_by, framed_next, frames_in}
+use Rattle.call_rows.proofs.FrameSteps.{ends_at, framed_by, framed_next}
 use Rattle.call_rows.proofs.RowsStay.{AllWhole, Each, Stays, StaysEnded, each_stays, ended_by, pairs_stay, parent_in, row_framed, row_in, row_stays, row_with, rows_same}
 
 -- ---- frames

@@ -1,5 +1,5 @@
 -- The frames of a thread after one more of its events.
-use Rattle.std.proofs.Common.{◌≡◌, ◌<◌, ◌-◌, ◌+◌, ◌++◌, ◌∙◌, ℕ, zero, suc, Bool, true, false, cond, List, [], ◌∷◌, length, map, reverse, take, set, refl, ap, sym, subst, arith, nat_eq, get_or, Option, Some, None, length-append}
+use Rattle.std.proofs.Common.{◌≡◌, ◌<◌, ◌-◌, ◌+◌, ◌++◌, ◌∙◌, ℕ, zero, suc, Bool, true, false, cond, List, [], ◌∷◌, length, map, reverse, take, set, refl, ap, sym, subst, arith, nat_eq, get_or, Option, Some, length-append}
 use Rattle.std.specs.Prelude.{slice_get}
 use Rattle.std.proofs.Math.Seq.{get_or-append_seam, set-append_seam, take-append_seam}
 use Rattle.std.proofs.lemmas.List.{get_or_append_left, length-map, length-reverse, reverse-append, reverse-reverse, take-append-le}
@@ -13,7 +13,7 @@ use Rattle.stack_rebuild.specs.OpenPaths.{OpenPath, Stacked, next_by_kind, open_
 use Rattle.stack_rebuild.specs.Stacks.{spent_in, timed_pairs}
 use Rattle.call_rows.specs.declared.frames.Frame.{Frame}
 use Rattle.call_rows.specs.CallRows.{NumberedEvent, no_numbered}
-use Rattle.call_rows.specs.private.Frames.{Framed, frame_by, left_of, more_spent, next_frames, next_framed, opened_frame, with_spent}
+use Rattle.call_rows.specs.private.Frames.{Framed, frame_by, left_of, more_spent, next_frames, next_framed, opened_frame}
 use Rattle.call_rows.proofs.NestedEntries.{Nests, nests, nests_from, one_more}
 use Rattle.call_rows.proofs.NumberedEvents.{numbered}
 use Rattle.call_rows.proofs.SpentInCalls.{GoesOn, add_first, calls_of_law, spents, told_spent, told-more, told-paths, open_from-calls}

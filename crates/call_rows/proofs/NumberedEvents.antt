@@ -1,10 +1,10 @@
 -- The events of a thread with their numbers, after one more event.
-use Rattle.std.proofs.Common.{◌≡◌, ◌<◌, ◌++◌, ◌∙◌, ℕ, suc, Bool, true, false, cond, List, [], ◌∷◌, length, refl, ap, nat_eq, get_or}
+use Rattle.std.proofs.Common.{◌≡◌, ℕ, suc, Bool, true, false, cond, List, [], ◌∷◌, length, refl, ap, nat_eq}
 use Rattle.std.proofs.lemmas.Bool.{eq-eqb, ne_eqb}
 use Rattle.fdr_record.specs.declared.event.Event.{Event}
 use Rattle.fdr_file.specs.ThreadEvents.{ThreadEvent}
 use Rattle.stack_rebuild.specs.Histories.{history_of_thread, thread_event}
-use Rattle.call_rows.specs.CallRows.{NumberedEvent, no_numbered, numbered_of_thread}
+use Rattle.call_rows.specs.CallRows.{NumberedEvent, numbered_of_thread}
 
 -- an event with its number
 abbrev pub numbered : ℕ → ℕ → Event → NumberedEvent

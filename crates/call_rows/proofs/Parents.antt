@@ -1,6 +1,6 @@
 -- The parent of a call encloses it.
-use Rattle.std.proofs.Common.{◌≡◌, ◌<◌, ◌≤◌, ◌+◌, ◌++◌, ◌∙◌, ◌||◌, ℕ, Bool, true, false, cond, List, [], ◌∷◌, length, map, reverse, take, drop, refl, ap, sym, subst, arith, nat_eq, get_or, length-append, Option, None, Some}
-use Rattle.std.specs.Prelude.{All, IsTrue, MatchOption, option_map}
+use Rattle.std.proofs.Common.{◌≡◌, ◌<◌, ◌≤◌, ◌++◌, ◌∙◌, ◌||◌, ℕ, Bool, true, false, cond, List, [], ◌∷◌, length, reverse, take, drop, refl, ap, sym, subst, arith, nat_eq, length-append, None, Some}
+use Rattle.std.specs.Prelude.{All, MatchOption, option_map}
 use Rattle.std.proofs.Math.Seq.{get_or-append_seam}
 use Rattle.std.proofs.lemmas.Bool.{eq-eqb}
 use Rattle.std.proofs.lemmas.List.Elements.{All-cons}
@@ -12,7 +12,7 @@ use Rattle.fdr_file.specs.ThreadEvents.{ThreadEvent}
 use Rattle.stack_rebuild.specs.declared.call.Call.{Call}
 use Rattle.stack_rebuild.specs.declared.call.Pair.{Pair}
 use Rattle.stack_rebuild.specs.Calls.{enters, from_innermost, left_open, open_after_kind, open_calls, pairs_in}
-use Rattle.stack_rebuild.specs.Histories.{ThreadPair, history_of_thread, pairs_after, pairs_of_thread, thread_pair}
+use Rattle.stack_rebuild.specs.Histories.{history_of_thread, pairs_after, pairs_of_thread, thread_pair}
 use Rattle.stack_rebuild.specs.PairLaws.{IsWholeCall, event_at, innermost_entry, no_event}
 use Rattle.stack_rebuild.specs.Stacks.{open_before}
 use Rattle.call_rows.specs.CallRowLaws.{Encloses, HasItsParent, is_among}

@@ -1,5 +1,5 @@
 -- Rows that are put in order one after the other.
-use Rattle.std.proofs.Common.{◌≡◌, ◌<◌, ◌≤◌, ◌+◌, ◌++◌, ◌∙◌, ℕ, zero, suc, Bool, true, false, cond, List, [], ◌∷◌, take, refl, ap, sym, subst, arith}
+use Rattle.std.proofs.Common.{◌≡◌, ◌<◌, ◌≤◌, ◌+◌, ◌++◌, ◌∙◌, ℕ, zero, suc, Bool, true, false, cond, List, [], ◌∷◌, take, refl, ap, sym, arith}
 use Rattle.account_report.specs.Ascending.{ordered_by, put_in}
 use Rattle.call_rows.specs.declared.row.CallRow.{CallRow}
 use Rattle.call_rows.specs.private.FirstRows.{AllApart, AllEnded, ApartFrom}

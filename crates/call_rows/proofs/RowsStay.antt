@@ -1,25 +1,24 @@
 -- The row of a pair is as it was after more events, and the row of a new pair.
-use Rattle.std.proofs.Common.{◌≡◌, ◌<◌, ◌≤◌, ◌-◌, ◌++◌, ◌∙◌, ℕ, Bool, true, false, cond, List, [], ◌∷◌, length, map, reverse, take, refl, ap, sym, subst, arith, nat_eq, get_or, Option, Some, None}
-use Rattle.std.specs.Prelude.{All, filter, option_map, slice_get}
+use Rattle.std.proofs.Common.{◌≡◌, ◌<◌, ◌≤◌, ◌-◌, ◌++◌, ◌∙◌, ℕ, List, [], ◌∷◌, length, map, reverse, take, refl, ap, sym, subst, arith, get_or, Option, Some}
+use Rattle.std.specs.Prelude.{All, option_map}
 use Rattle.std.specs.Option.{option_to_list}
-use Rattle.std.proofs.lemmas.List.{append-nil, get_or_append_left, length-map, length-reverse, length-take-le, map-append, reverse-append, reverse-reverse}
+use Rattle.std.proofs.lemmas.List.{append-nil, get_or_append_left, length-map, length-reverse, length-take-le, map-append, reverse-reverse}
 use Rattle.std.proofs.lemmas.List.Elements.{All-head, All-tail}
 use Rattle.fdr_record.specs.declared.event.Event.{Event}
 use Rattle.fdr_record.specs.declared.event.Kind.{Kind}
 use Rattle.fdr_record.specs.declared.event.Kind.TheVariants.{Entry, Exit, TailExit, EntryArgs}
 use Rattle.stack_rebuild.specs.declared.call.Call.{Call}
 use Rattle.stack_rebuild.specs.declared.call.Pair.{Pair}
-use Rattle.stack_rebuild.specs.Calls.{cycles_between, from_innermost, open_after_kind, open_calls, pair_at_kind, pair_of_call, pairs_in, pairs_of}
+use Rattle.stack_rebuild.specs.Calls.{cycles_between, from_innermost, open_calls, pair_at_kind, pair_of_call, pairs_in, pairs_of}
 use Rattle.stack_rebuild.specs.Histories.{ThreadPair, thread_pair}
-use Rattle.stack_rebuild.specs.OpenPaths.{OpenPath, Stacked, next_by_kind, open_paths, pair_of_open, stacked_closing}
+use Rattle.stack_rebuild.specs.OpenPaths.{OpenPath, next_by_kind, open_paths, pair_of_open, stacked_closing}
 use Rattle.stack_rebuild.specs.PairLaws.{IsWholeCall, innermost_entry}
 use Rattle.stack_rebuild.specs.Stacks.{Timed, open_before, path_of, spent_in, timed, timed_pairs}
 use Rattle.call_rows.specs.declared.row.CallRow.{CallRow}
-use Rattle.call_rows.specs.declared.frames.Frame.{Frame}
 use Rattle.call_rows.specs.CallRows.{NumberedEvent, logged_arg, no_numbered}
 use Rattle.call_rows.specs.private.Frames.{first_number, frame_by, row_by}
-use Rattle.call_rows.proofs.NestedEntries.{Nests, nests, nests_from, open_kept}
-use Rattle.call_rows.proofs.FrameSteps.{ends_at, frames_in, stacked_by}
+use Rattle.call_rows.proofs.NestedEntries.{Nests, nests, open_kept}
+use Rattle.call_rows.proofs.FrameSteps.{frames_in, stacked_by}
 use Rattle.call_rows.proofs.SpentInCalls.{GoesOn, open_from-calls, pairs_of_law}
 
 -- ---- rows by the events of a thread, listed from the first one to the last

@@ -1,15 +1,11 @@
 -- What was spent in the open calls, and in the calls of pairs, after one more event.
-use Rattle.std.proofs.Common.{◌≡◌, ◌++◌, ◌-◌, ◌+◌, ◌∙◌, ℕ, Bool, true, false, cond, List, [], ◌∷◌, length, map, reverse, refl, ap, sym, subst, arith, nat_eq, Option, Some, None}
-use Rattle.std.specs.Option.{option_to_list}
-use Rattle.std.proofs.lemmas.List.{append-nil, map-append, reverse-reverse}
+use Rattle.std.proofs.Common.{◌≡◌, ◌++◌, ◌+◌, ◌∙◌, ℕ, Bool, true, false, cond, List, [], ◌∷◌, map, reverse, refl, ap, sym, nat_eq}
+use Rattle.std.proofs.lemmas.List.{reverse-reverse}
 use Rattle.fdr_record.specs.declared.event.Event.{Event}
-use Rattle.fdr_record.specs.declared.event.Kind.{Kind}
-use Rattle.fdr_record.specs.declared.event.Kind.TheVariants.{Entry, Exit, TailExit, EntryArgs}
 use Rattle.stack_rebuild.specs.declared.call.Call.{Call}
-use Rattle.stack_rebuild.specs.declared.call.Pair.{Pair}
-use Rattle.stack_rebuild.specs.Calls.{cycles_between, from_innermost, left_open, open_after_kind, open_calls, pair_at, pair_at_kind, pair_of_call, pairs_in, pairs_of}
-use Rattle.stack_rebuild.specs.OpenPaths.{OpenPath, Stacked, next_by_kind, next_stacked, open_from, open_paths, pair_of_open, stacked_after, stacked_closing, with_spent}
-use Rattle.stack_rebuild.specs.Stacks.{Timed, spent_in, timed, timed_pairs}
+use Rattle.stack_rebuild.specs.Calls.{from_innermost, open_calls, pairs_in, pairs_of}
+use Rattle.stack_rebuild.specs.OpenPaths.{OpenPath, Stacked, next_stacked, open_from, open_paths, stacked_after, with_spent}
+use Rattle.stack_rebuild.specs.Stacks.{spent_in, timed, timed_pairs}
 use Rattle.call_rows.proofs.NestedEntries.{one_more}
 
 -- the law of a thread after one more event

@@ -149,7 +149,8 @@ impl FirstRows {
             → KeepsFirst self.new events rows }
         ensures order { self.new.order ≡ self.old.order }
     {
-        order_calls(&mut self.rows, &self.order);
+        let order = self.order;
+        order_calls(&mut self.rows, &order);
     }
 
     /// The first rows in order.

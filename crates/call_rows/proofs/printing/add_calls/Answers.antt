@@ -1,4 +1,4 @@
-use Rattle.std.proofs.Common.{List, ℕ, reverse, subst}
+use Rattle.std.proofs.Common.{List, reverse, subst}
 use Rattle.std.specs.List.{flat_map}
 use Rattle.xray_io.specs.Text.{adds_stop}
 use Rattle.fdr_file.specs.ThreadEvents.{ThreadEvent}
