@@ -38,16 +38,19 @@ const ALL: CallFilter = CallFilter {
 };
 
 /// The calls in the order in which they end.
-const BY_END: &str = "call,parent,thread,process,cpu,start,duration,self,depth,arg,funcid,function\n\
+const BY_END: &str =
+    "call,parent,thread,process,cpu,start,duration,self,depth,arg,funcid,function\n\
     2,0,1,1,0,1,3,3,1,,8,#8\n\
     1,,2,1,0,100,40,40,0,0,9,#9\n\
     5,0,1,1,0,5,3,3,1,,8,#8\n";
 
 /// The two longest.
-const LONGEST: &str = "      call     parent     thread    process        cpu      start   duration       self      depth        arg     funcid function\n         1          -          2          1          0        100         40         40          0          0          9 #9\n         2          0          1          1          0          1          3          3          1          -          8 #8\n";
+const LONGEST: &str =
+    "      call     parent     thread    process        cpu      start   duration       self      depth        arg     funcid function\n         1          -          2          1          0        100         40         40          0          0          9 #9\n         2          0          1          1          0          1          3          3          1          -          8 #8\n";
 
 /// The calls of 8, the last of them first.
-const OF_8_TURNED: &str = "call,parent,thread,process,cpu,start,duration,self,depth,arg,funcid,function\n\
+const OF_8_TURNED: &str =
+    "call,parent,thread,process,cpu,start,duration,self,depth,arg,funcid,function\n\
     5,0,1,1,0,5,3,3,1,,8,#8\n\
     2,0,1,1,0,1,3,3,1,,8,#8\n";
 
@@ -60,8 +63,9 @@ fn text_of(
 ) -> Result<String, Fail> {
     let mut kept = KeptCalls::new(alloc, wanted, order);
     feed_pieces(&file_of(alloc, &CALLS)?, PIECE, &mut kept)??;
+    let rows = kept.rows();
     let text = CallsText {
-        rows: &kept.rows(),
+        rows: &rows,
         names: Names::Ids,
         format,
     };
