@@ -15,7 +15,7 @@ use Rattle.stack_rebuild.specs.Calls.{enters, from_innermost, left_open, open_af
 use Rattle.stack_rebuild.specs.Histories.{history_of_thread, pairs_after, pairs_of_thread, thread_pair}
 use Rattle.stack_rebuild.specs.PairLaws.{IsWholeCall, event_at, innermost_entry, no_event}
 use Rattle.stack_rebuild.specs.Stacks.{open_before}
-use Rattle.call_rows.specs.CallRowLaws.{Encloses, HasItsParent, is_among}
+use Rattle.call_rows.specs.CallRowLaws.{Encloses, HasItsParent, is_open_at}
 use Rattle.call_rows.specs.CallRows.{number_at}
 use Rattle.call_rows.proofs.FoldSteps.{each_more, of_thread-pairs, of_threads}
 use Rattle.call_rows.proofs.NestedEntries.{Nests, nests, nests_from, one_more}
@@ -94,7 +94,7 @@ event_less events at more low =
 
 -- ---- the calls from the pair's own outwards
 
-among_from : (at func : ℕ) (calls : List Call) → is_among at (from_innermost func calls) ≡ true → is_among at calls ≡ true
+among_from : (at func : ℕ) (calls : List Call) → is_open_at at (from_innermost func calls) ≡ true → is_open_at at calls ≡ true
 among_from at func [] is = is
 among_from at func (call ∷ outer) is = by_func (nat_eq call.func func) is (among_from at func outer)
   where
@@ -102,14 +102,14 @@ among_from at func (call ∷ outer) is = by_func (nat_eq call.func func) is (amo
     or_true true = refl
     or_true false = refl
 
-    by_func : (b : Bool) → is_among at (cond b (call ∷ outer) (from_innermost func outer)) ≡ true
-        → (is_among at (from_innermost func outer) ≡ true → is_among at outer ≡ true) → is_among at (call ∷ outer) ≡ true
+    by_func : (b : Bool) → is_open_at at (cond b (call ∷ outer) (from_innermost func outer)) ≡ true
+        → (is_open_at at (from_innermost func outer) ≡ true → is_open_at at outer ≡ true) → is_open_at at (call ∷ outer) ≡ true
     by_func true holds later = holds
     by_func false holds later = ap (λ (b : Bool). nat_eq call.entry at || b) (later holds) ∙ or_true (nat_eq call.entry at)
 
 -- just before the exit of a pair, the calls outside its own are those that were open just before its entry
 outside : (events : List Event) (pair : Pair) → IsWholeCall events pair → (found : List Call) → from_innermost pair.func (open_before events pair.exit) ≡ found
-    → (call : Call) (outer : List Call) → open_before events pair.entry ≡ call ∷ outer → is_among call.entry (open_before events pair.exit) ≡ true
+    → (call : Call) (outer : List Call) → open_before events pair.entry ≡ call ∷ outer → is_open_at call.entry (open_before events pair.exit) ≡ true
 outside events pair whole [] is call outer opens =
     let none : None ≡ Some pair.entry = ap innermost_entry (sym is) ∙ whole.ends in absurd (let n : ⊥ = cc in n)
 outside events pair whole (ended ∷ others) is call outer opens =
@@ -122,8 +122,8 @@ outside events pair whole (ended ∷ others) is call outer opens =
     ∙ (ap (open_before (take pair.exit events)) at
     ∙ (open_less events pair.entry pair.exit (omega (arith, whole.rises)) (omega (arith, whole.within)) ∙ opens)) in
     among_from call.entry pair.func (open_before events pair.exit)
-    (ap (is_among call.entry) (is ∙ ap (λ (cs : List Call). ended ∷ cs) same)
-    ∙ (ap (λ (b : Bool). nat_eq ended.entry call.entry || (b || is_among call.entry outer)) (eq-eqb call.entry call.entry refl) ∙ or_true (nat_eq ended.entry call.entry)))
+    (ap (is_open_at call.entry) (is ∙ ap (λ (cs : List Call). ended ∷ cs) same)
+    ∙ (ap (λ (b : Bool). nat_eq ended.entry call.entry || (b || is_open_at call.entry outer)) (eq-eqb call.entry call.entry refl) ∙ or_true (nat_eq ended.entry call.entry)))
   where
     or_true : (b : Bool) → (b || true) ≡ true
     or_true true = refl
@@ -137,7 +137,7 @@ encloses events pair whole call outer opens =
     record {
       earlier = omega (arith, size, first.0);
       entry = ap (λ (x : Event). enters x.kind) (sym (event_less events call.entry pair.entry first.0)) ∙ first.1;
-      begins = ap (is_among call.entry) opens ∙ ap (λ (b : Bool). b || is_among call.entry outer) (eq-eqb call.entry call.entry refl);
+      begins = ap (is_open_at call.entry) opens ∙ ap (λ (b : Bool). b || is_open_at call.entry outer) (eq-eqb call.entry call.entry refl);
       ends = outside events pair whole (from_innermost pair.func (open_before events pair.exit)) refl call outer opens;
     }
 

@@ -24,16 +24,16 @@ pub record SumsCalls (blocks : List Block) (row : AccountRow) : Type 0 where
   pub sum : row.sum ≡ sum_by (λ call. call.duration) (rows_of_function row.func (call_rows_of blocks))
 
 -- whether the call with its entry at a position is among some calls
-abbrev pub is_among : ℕ → List Call → Bool
-is_among at calls = list_any (λ call. call.entry == at) calls
+abbrev pub is_open_at : ℕ → List Call → Bool
+is_open_at at calls = list_any (λ call. call.entry == at) calls
 
 -- An event of a thread encloses a pair of it: it is an earlier entry, and its call is open just before the pair's entry and
 -- just before the pair's exit.
 pub record Encloses (events : List Event) (at : ℕ) (pair : Pair) : Type 0 where
   pub earlier : at < pair.entry
   pub entry : IsTrue (enters (event_at events at).kind)
-  pub begins : IsTrue (is_among at (open_before events pair.entry))
-  pub ends : IsTrue (is_among at (open_before events pair.exit))
+  pub begins : IsTrue (is_open_at at (open_before events pair.entry))
+  pub ends : IsTrue (is_open_at at (open_before events pair.exit))
 
 -- The parent of a call is the number of an entry of its thread that encloses it. A call has none exactly if nothing is
 -- open just before its entry.

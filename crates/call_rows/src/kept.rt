@@ -6,7 +6,7 @@ ghost use Rattle.fdr_file.specs.declared.trace.{Block.{Block}, Trace.{Trace}};
 ghost use Rattle.fdr_file.specs.Scanning.{empty_block, longer_block};
 ghost use Rattle.fdr_file.specs.{EventsLeft.{events_left}, Prefixes.{ReadsAsTrace}, Traces.{trace_of}};
 ghost use Rattle.call_rows.specs.{CallOrders.{arranged_calls}, CallRows.{call_rows_of, rows_after, wanted_rows}};
-ghost use Rattle.call_rows.specs.Keeping.{order_by, wanted_by};
+ghost use Rattle.call_rows.specs.Keeping.{order_by, kept_filter};
 ghost use Rattle.call_rows.specs.private.{FirstRows.{Collects}, Folding.{KeepsCalls}};
 
 use crate::filter::CallFilter;
@@ -36,7 +36,7 @@ impl KeptCalls {
     /// Before the first block.
     pub fn new(alloc: Global, wanted: CallFilter, order: CallOrder) -> KeptCalls
         ensures took { ⟦<KeptCalls as Taker>⟧.took result [] }
-        ensures wanted { wanted_by result ≡ wanted }
+        ensures wanted { kept_filter result ≡ wanted }
         ensures order { order_by result ≡ order }
     {
         KeptCalls {
@@ -51,7 +51,7 @@ impl KeptCalls {
 
     /// Which calls are kept.
     pub fn wanted(&self) -> CallFilter
-        ensures { result ≡ wanted_by self.now }
+        ensures { result ≡ kept_filter self.now }
     {
         self.wanted
     }
@@ -67,7 +67,7 @@ impl KeptCalls {
     pub fn rows(self) -> Vec<CallRow>
         ensures { (blocks : List Block) → ⟦<KeptCalls as Taker>⟧.took self blocks
             → result.items
-            ≡ arranged_calls (order_by self) (wanted_rows (wanted_by self) (call_rows_of blocks)) }
+            ≡ arranged_calls (order_by self) (wanted_rows (kept_filter self) (call_rows_of blocks)) }
     {
         self.first.into_rows()
     }
