@@ -11,6 +11,8 @@ mod assembler;
 #[cfg(test)]
 mod audits;
 #[cfg(test)]
+mod call_lists;
+#[cfg(test)]
 mod call_tries;
 #[cfg(test)]
 mod checks;
