@@ -8,8 +8,8 @@ use Rattle.elf_file.specs.declared.header.Headers.{Headers}
 use Rattle.elf_file.specs.Numbers.{number_at}
 
 -- 0x7F and `ELF`
-abbrev pub magic : List ℕ
-magic = 0x7F ∷ 0x45 ∷ 0x4C ∷ 0x46 ∷ []
+abbrev pub elf_magic : List ℕ
+elf_magic = 0x7F ∷ 0x45 ∷ 0x4C ∷ 0x46 ∷ []
 
 -- 2 for files of 64 bits (`EI_CLASS`)
 abbrev pub class_of : List ℕ → ℕ
@@ -44,7 +44,7 @@ names_number file = number_at 2 file 62
 -- Where the headers of sections are, or the first refusal of the header's fields, in their order.
 unfoldable pub header_of : List ℕ → Result Headers ElfFault
 header_of file =
-    First (not (bytes_eq (take 4 file) magic)) (Err faults.Magic)
+    First (not (bytes_eq (take 4 file) elf_magic)) (Err faults.Magic)
     (First (nat_lt (length file) 64) (Err (faults.Header 0))
     (First (not (class_of file == 2)) (Err faults.Class)
     (First (not (order_of file == 1)) (Err faults.ByteOrder)

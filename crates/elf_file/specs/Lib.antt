@@ -1,5 +1,5 @@
 pub mod Numbers
-pub mod Answers
+pub mod Readings
 pub mod Header
 pub mod Sections
 pub mod Symbols

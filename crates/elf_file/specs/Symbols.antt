@@ -72,13 +72,13 @@ abbrev pub best_at : List Symbol → ℕ → Option Symbol
 best_at symbols address = best (filter (λ symbol. symbol.address == address) symbols)
 
 -- what symbols name functions, and the table of their names
-pub record Names : Type 0 where
+pub record SymbolNames : Type 0 where
   pub symbol : ℕ → Option Symbol
   pub names : List ℕ
 
 -- the name of the function at an address; it is empty if no symbol names one
-abbrev pub name_of : Names → ℕ → List ℕ
-name_of all address = option_map_or (λ symbol. take symbol.size (drop symbol.begin all.names)) (all.symbol address) []
+abbrev pub function_name_at : SymbolNames → ℕ → List ℕ
+function_name_at all address = option_map_or (λ symbol. take symbol.size (drop symbol.begin all.names)) (all.symbol address) []
 
 -- ---- the names of a file
 
@@ -87,8 +87,8 @@ abbrev pub symbol_section : List Section → Option Section
 symbol_section sections = option_or (section_typed 2 sections) (section_typed 11 sections)
 
 -- the names that a table of symbols gives, or its refusal
-abbrev pub names_in : List ℕ → List Section → Section → Result Names ElfFault
-names_in file sections section =
+abbrev pub table_names : List ℕ → List Section → Section → Result SymbolNames ElfFault
+table_names file sections section =
     section_content file section >>= λ table.
     First (not (length table % 24 == 0)) (Err (faults.Entries section.header))
     (NeedsPart (slice_get sections section.link) (Err (faults.Link section.header)) λ strings.
@@ -97,6 +97,6 @@ names_in file sections section =
     Ok (record { symbol = best_at symbols; names = names }))
 
 -- the names of functions, or the first refusal; a file without symbols has none
-abbrev pub names_of : List ℕ → List Section → Result Names ElfFault
-names_of file sections =
-    NeedsPart (symbol_section sections) (Ok (record { symbol = λ address. None; names = [] })) (names_in file sections)
+abbrev pub elf_names : List ℕ → List Section → Result SymbolNames ElfFault
+elf_names file sections =
+    NeedsPart (symbol_section sections) (Ok (record { symbol = λ address. None; names = [] })) (table_names file sections)

@@ -4,10 +4,10 @@ use Rattle.std.specs.HashMap.{get}
 use Rattle.elf_file.specs.declared.addends.Addends.{Addends}
 use Rattle.elf_file.specs.declared.symbols.FunctionNames.{FunctionNames}
 use Rattle.elf_file.specs.Addends.{Settings}
-use Rattle.elf_file.specs.Symbols.{Names}
+use Rattle.elf_file.specs.Symbols.{SymbolNames}
 
 -- the names that a FunctionNames has
-abbrev pub names_held : FunctionNames → Names
+abbrev pub names_held : FunctionNames → SymbolNames
 names_held held = record { symbol = λ address. get nat_eq held.best address; names = held.names.now }
 
 -- the words that an Addends has

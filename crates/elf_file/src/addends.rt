@@ -2,9 +2,9 @@
 
 ghost use Rattle.std.specs.Prelude.{◌≡◌, ◌≤◌, ◌+◌, ◌*◌, ℕ, IfErr, None, Ok, OnOk, length};
 ghost use Rattle.elf_file.specs.Addends.{settings_in, settings_of};
-ghost use Rattle.elf_file.specs.Answers.{Answers};
+ghost use Rattle.elf_file.specs.Readings.{IsElfReading};
 ghost use Rattle.elf_file.specs.Views.{settings_held};
-ghost use Rattle.elf_file.specs.private.Tables.{Adds};
+ghost use Rattle.elf_file.specs.private.Tables.{AddsWord};
 
 use crate::fault::ElfFault;
 use crate::numbers::{u32_at, u64_at};
@@ -44,7 +44,7 @@ impl Addends {
     #[tactic(auto, unfolding(crate::specs::Addends::sets_word))]
     fn take_relocation(&mut self, table: &[u8], number: usize) -> Result<(), ElfFault>
         requires { 24 * number + 24 ≤ length table.now }
-        ensures took { OnOk result (Adds table.now number self.old self.new) }
+        ensures took { OnOk result (AddsWord table.now number self.old self.new) }
         ensures refused { IfErr result (λ fault. fault ≡ ElfFault.NoMemory) }
     {
         let place = RELOCATION_BYTES * number;
@@ -71,7 +71,7 @@ impl Addends {
 
 /// The words that a table of relocations sets.
 fn read_table(alloc: Global, table: &[u8]) -> Result<Addends, ElfFault>
-    ensures { Answers settings_held (Ok (settings_in table.now)) result }
+    ensures { IsElfReading settings_held (Ok (settings_in table.now)) result }
 {
     let mut held = Addends::new(alloc);
     for number in 0..table.len() / RELOCATION_BYTES {
@@ -90,7 +90,7 @@ pub fn read_addends(
     names: &[u8],
     sections: &[Section],
 ) -> Result<Addends, ElfFault>
-    ensures { Answers settings_held (settings_of file.now names.now sections.now) result }
+    ensures { IsElfReading settings_held (settings_of file.now names.now sections.now) result }
 {
     let Some(section) = section_named(names, sections, b".rela.dyn\0") else {
         return Ok(Addends::new(alloc));

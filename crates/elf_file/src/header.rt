@@ -2,7 +2,7 @@
 
 ghost use Rattle.std.specs.Prelude.{◌≡◌, ◌≤◌, ◌+◌, ◌*◌, ◌==◌, ◌||◌, ◌↔◌, IfOk, IsTrue, OnOk, length, take};
 ghost use Rattle.std.specs.Str.{bytes_eq};
-ghost use Rattle.elf_file.specs.Header.{header_of, magic};
+ghost use Rattle.elf_file.specs.Header.{header_of, elf_magic};
 
 use crate::fault::ElfFault;
 use crate::numbers::{u8_at, u16_at, u64_at};
@@ -55,7 +55,7 @@ pub(crate) struct Headers {
 
 /// Whether the file begins as an ELF file.
 fn has_magic(file: &[u8]) -> bool
-    ensures { result ≡ bytes_eq (take 4 file.now) magic }
+    ensures { result ≡ bytes_eq (take 4 file.now) elf_magic }
 {
     file.starts_with(&MAGIC)
 }

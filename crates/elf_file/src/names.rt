@@ -1,8 +1,8 @@
 //! The names of functions in a file.
 
 ghost use Rattle.std.specs.Prelude.{◌≡◌, ◌<◌, ◌^◌, length};
-ghost use Rattle.elf_file.specs.Answers.{Answers};
-ghost use Rattle.elf_file.specs.Symbols.{names_in, names_of, symbol_section};
+ghost use Rattle.elf_file.specs.Readings.{IsElfReading};
+ghost use Rattle.elf_file.specs.Symbols.{table_names, elf_names, symbol_section};
 ghost use Rattle.elf_file.specs.Views.{names_held};
 
 use crate::fault::ElfFault;
@@ -35,7 +35,7 @@ fn read_table<'a>(
     sections: &[Section],
     section: Section,
 ) -> Result<FunctionNames<'a>, ElfFault>
-    ensures { Answers names_held (names_in file.now sections.now section) result }
+    ensures { IsElfReading names_held (table_names file.now sections.now section) result }
 {
     let table = content(file, &section)?;
     if table.len() % SYMBOL_BYTES != 0 {
@@ -59,7 +59,7 @@ pub fn read_names<'a>(
     file: &'a [u8],
     sections: &[Section],
 ) -> Result<FunctionNames<'a>, ElfFault>
-    ensures { Answers names_held (names_of file.now sections.now) result }
+    ensures { IsElfReading names_held (elf_names file.now sections.now) result }
 {
     match symbol_section(sections) {
         Some(section) => read_table(alloc, file, sections, section),

@@ -1,7 +1,7 @@
 //! The sections of a file by their number, name and type.
 
 ghost use Rattle.std.specs.Prelude.{◌≡◌, ◌≤◌, ◌+◌, IfOk, OnOk, length, slice_get};
-ghost use Rattle.elf_file.specs.Answers.{Answers};
+ghost use Rattle.elf_file.specs.Readings.{IsElfReading};
 ghost use Rattle.elf_file.specs.Sections.{is_name_at, section_content, section_named, section_names_of, section_typed, sections_of};
 
 use crate::fault::ElfFault;
@@ -17,7 +17,7 @@ const NAMES_AT: usize = 62;
 /// `NoMemory` may be returned in place of any other result.
 #[tactic(auto, using(crate::proofs::SectionSteps::sections_more))]
 pub fn read_sections(alloc: Global, file: &[u8]) -> Result<Vec<Section>, ElfFault>
-    ensures said { Answers (λ sections. sections.items) (sections_of file.now) result }
+    ensures said { IsElfReading (λ sections. sections.items) (sections_of file.now) result }
     ensures whole { OnOk result (64 ≤ length file.now) }
 {
     let headers = read_header(file)?;
@@ -32,7 +32,7 @@ pub fn read_sections(alloc: Global, file: &[u8]) -> Result<Vec<Section>, ElfFaul
 
 /// The bytes of a section, or its refusal.
 pub fn content<'a>(file: &'a [u8], section: &Section) -> Result<&'a [u8], ElfFault>
-    ensures said { Answers (λ bytes. bytes.now) (section_content file.now section.now) result }
+    ensures said { IsElfReading (λ bytes. bytes.now) (section_content file.now section.now) result }
     ensures inside { IfOk result (λ bytes. section.now.offset + length bytes.now ≤ length file.now) }
 {
     match section.content(file) {
@@ -51,7 +51,7 @@ pub(crate) fn section_numbered(sections: &[Section], number: usize) -> Option<Se
 /// The table of the names of sections, or its refusal.
 pub fn section_names<'a>(file: &'a [u8], sections: &[Section]) -> Result<&'a [u8], ElfFault>
     requires { 64 ≤ length file.now }
-    ensures { Answers (λ bytes. bytes.now) (section_names_of file.now sections.now) result }
+    ensures { IsElfReading (λ bytes. bytes.now) (section_names_of file.now sections.now) result }
 {
     match section_numbered(sections, usize::from(u16_at(file, NAMES_AT))) {
         Some(section) => content(file, &section),

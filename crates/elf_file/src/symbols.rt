@@ -1,8 +1,8 @@
 //! The names of functions by their addresses.
 
 ghost use Rattle.std.specs.Prelude.{◌≡◌, ◌≤◌, ◌<◌, ◌+◌, ◌*◌, ◌^◌, ◌++◌, ◌∷◌, [], ℕ, List, OnOk, length, take, drop};
-ghost use Rattle.elf_file.specs.Answers.{Answers};
-ghost use Rattle.elf_file.specs.Symbols.{Names, best_at, name_of, symbol_rows, symbols_in};
+ghost use Rattle.elf_file.specs.Readings.{IsElfReading};
+ghost use Rattle.elf_file.specs.Symbols.{SymbolNames, best_at, function_name_at, symbol_rows, symbols_in};
 ghost use Rattle.elf_file.specs.Views.{names_held};
 ghost use Rattle.elf_file.specs.private.Tables.{HoldsBest, Took, names_from};
 ghost use Rattle.elf_file.specs.declared.symbol.Symbol.{Symbol as TheSymbol};
@@ -82,7 +82,7 @@ impl<'a> FunctionNames<'a> {
 
     /// The name of the function at an address. It is empty if the file has none.
     pub fn name_at(&self, address: u64) -> &[u8]
-        ensures { result.now ≡ name_of (names_held self.now) address }
+        ensures { result.now ≡ function_name_at (names_held self.now) address }
     {
         match self.best.get(&address) {
             Some(symbol) => part(self.names, symbol.begin, symbol.size),
@@ -99,7 +99,7 @@ pub(crate) fn read_symbols<'a>(
     names: &'a [u8],
 ) -> Result<FunctionNames<'a>, ElfFault>
     requires { offset + length table.now < 2 ^ 64 }
-    ensures { Answers names_held (names_from offset table.now names.now) result }
+    ensures { IsElfReading names_held (names_from offset table.now names.now) result }
 {
     let mut held = FunctionNames::new(alloc, names);
     for number in 0..table.len() / SYMBOL_BYTES {

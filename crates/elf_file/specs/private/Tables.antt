@@ -9,7 +9,7 @@ use Rattle.elf_file.specs.declared.fault.ElfFault.TheVariants.{NoMemory}
 use Rattle.elf_file.specs.declared.symbol.Symbol.{Symbol}
 use Rattle.elf_file.specs.declared.symbols.FunctionNames.{FunctionNames}
 use Rattle.elf_file.specs.Addends.{addend_of, sets_word}
-use Rattle.elf_file.specs.Symbols.{Names, best_at, symbols_in}
+use Rattle.elf_file.specs.Symbols.{SymbolNames, best_at, symbols_in}
 
 -- it has the best of these symbols for each address
 pub record HoldsBest (symbols : List Symbol) (held : FunctionNames) : Type 0 where
@@ -22,10 +22,10 @@ Took held (Ok done) (Err fault) = ⊥
 Took held (Err fault) rows = (fault ≡ NoMemory) ⊎ (rows ≡ Err fault)
 
 -- the names that a table of symbols gives
-abbrev pub names_from : (offset : ℕ) → (table names : List ℕ) → Result Names ElfFault
+abbrev pub names_from : (offset : ℕ) → (table names : List ℕ) → Result SymbolNames ElfFault
 names_from offset table names = symbols_in offset table names >>= λ symbols. Ok (record { symbol = best_at symbols; names = names })
 
 -- a relocation was taken: the word that it sets is there, unless it was before
-pub record Adds (table : List ℕ) (number : ℕ) (old new : Addends) : Type 0 where
+pub record AddsWord (table : List ℕ) (number : ℕ) (old new : Addends) : Type 0 where
   pub each : (address : ℕ) → get nat_eq new.words address
       ≡ option_or (get nat_eq old.words address) (cond (sets_word table address number) (Some (addend_of table number)) None)

@@ -4,6 +4,6 @@ use Rattle.elf_file.specs.declared.fault.ElfFault.{ElfFault}
 use Rattle.elf_file.specs.declared.fault.ElfFault.TheVariants.{NoMemory}
 
 -- what is said, as a value that is read as this, or the refusal; or memory ran out
-abbrev pub Answers : {X Y : Type 0} → (Y → X) → Result X ElfFault → Result Y ElfFault → Type 0
-Answers view said (Ok y) = said ≡ Ok (view y)
-Answers view said (Err fault) = (fault ≡ NoMemory) ⊎ (said ≡ Err fault)
+abbrev pub IsElfReading : {X Y : Type 0} → (Y → X) → Result X ElfFault → Result Y ElfFault → Type 0
+IsElfReading view said (Ok y) = said ≡ Ok (view y)
+IsElfReading view said (Err fault) = (fault ≡ NoMemory) ⊎ (said ≡ Err fault)
