@@ -1,0 +1,83 @@
+-- The text of a program's sled map, as `map_names` reads sled maps.
+use Rattle.std.specs.Prelude.{ℕ, ◌-◌, ◌==◌, ◌++◌, not, Bool, true, false, List, [], length, map, codes, decimal, if◌then◌else◌}
+use Rattle.std.specs.Fmt.{digits}
+use Rattle.std.specs.List.{filter, flat_map, list_any}
+use Rattle.map_names.specs.Entries.{NamedFunction}
+use Rattle.map_names.specs.Spelling.{single_quoted}
+use Rattle.xray_io.specs.Piece.{right_aligned}
+use Rattle.elf_file.specs.Symbols.{SymbolNames, function_name_at}
+use Rattle.program_map.specs.declared.facts.MapFacts.{MapFacts}
+use Rattle.program_map.specs.declared.numbering.NumberedSled.{NumberedSled}
+use Rattle.program_map.specs.declared.sled.MapKind.{MapKind}
+use Rattle.program_map.specs.declared.sled.MapKind.TheVariants.{FunctionEnter, FunctionExit, TailExit, LogArgsEnter, CustomEvent, TypedEvent}
+use Rattle.program_map.specs.Numbering.{groups_in}
+use Rattle.program_map.specs.Programs.{MappedProgram}
+
+-- ---- the parts of a line
+
+-- an address, in upper-case digits without leading zeros
+abbrev pub map_address : ℕ → List ℕ
+map_address address = codes "0x" ++ digits 16 true address
+
+abbrev pub kind_word : MapKind → List ℕ
+kind_word FunctionEnter = codes "function-enter"
+kind_word FunctionExit = codes "function-exit"
+kind_word TailExit = codes "tail-exit"
+kind_word LogArgsEnter = codes "log-args-enter"
+kind_word CustomEvent = codes "custom-event"
+kind_word TypedEvent = codes "typed-event"
+
+abbrev pub truth_word : Bool → List ℕ
+truth_word true = codes "true"
+truth_word false = codes "false"
+
+-- A name as a map may have it. One with a line feed (10) can't stand in a line, and is left out.
+abbrev pub line_name : List ℕ → List ℕ
+line_name name = if list_any (λ b. b == 10) name then [] else name
+
+-- the name of a sled's function; it is empty if the file has none
+abbrev pub sled_name : SymbolNames → NumberedSled → List ℕ
+sled_name names numbered = line_name (function_name_at names numbered.sled.function)
+
+-- ---- the text
+
+-- the line of a sled
+abbrev pub map_line : SymbolNames → NumberedSled → List ℕ
+map_line names numbered =
+    codes "- { id: " ++ decimal numbered.id ++ codes ", address: " ++ map_address numbered.sled.address
+    ++ codes ", function: " ++ map_address numbered.sled.function ++ codes ", kind: " ++ kind_word numbered.sled.kind
+    ++ codes ", always-instrument: " ++ truth_word numbered.sled.always
+    ++ codes ", function-name: " ++ single_quoted (sled_name names numbered)
+    ++ codes ", version: " ++ decimal numbered.sled.version ++ codes " }\n"
+
+-- a line for each sled in their order, between the marks of a YAML document
+abbrev pub map_text : MappedProgram → List ℕ
+map_text program = codes "---\n" ++ flat_map (map_line program.names) program.numbering.sleds ++ codes "...\n"
+
+-- what the lines say
+abbrev pub named_sled : SymbolNames → NumberedSled → NamedFunction
+named_sled names numbered = record { id = numbered.id; name = sled_name names numbered }
+
+-- ---- what is said of it
+
+-- the functions that have a name, by the ids of their sleds, which go up
+abbrev pub named_functions : MappedProgram → ℕ
+named_functions program =
+    groups_in (map (λ numbered. numbered.id) (filter (λ numbered. not (length (sled_name program.names numbered) == 0)) program.numbering.sleds))
+
+abbrev pub map_facts : MappedProgram → MapFacts
+map_facts program = record {
+  sleds = length program.numbering.sleds;
+  functions = program.numbering.functions;
+  unnamed = program.numbering.functions - named_functions program;
+  left_out = program.numbering.left_out;
+}
+
+-- a line: a number at the right end of twenty places, and what it is
+unfoldable pub map_fact_line : ℕ → List ℕ → List ℕ
+map_fact_line number what = right_aligned number 20 ++ codes " " ++ what ++ codes "\n"
+
+abbrev pub map_facts_text : MapFacts → List ℕ
+map_facts_text facts =
+    map_fact_line facts.sleds (codes "sleds") ++ map_fact_line facts.functions (codes "functions")
+    ++ map_fact_line facts.unnamed (codes "functions without a name") ++ map_fact_line facts.left_out (codes "sleds without an id left out")

@@ -1,0 +1,4 @@
+pub mod Views
+pub mod Counts
+pub mod Indexes
+pub mod MapLines

@@ -1,0 +1,196 @@
+//! The text of a sled map.
+ghost use Rattle.std.specs.Prelude.{◌≡◌, ◌==◌, ⊤, true};
+ghost use Rattle.std.specs.Fmt.{digits};
+ghost use Rattle.std.specs.List.{flat_map, list_any};
+ghost use Rattle.xray_io.specs.Text.{AddsText};
+ghost use Rattle.map_names.specs.Spelling.{single_byte};
+ghost use Rattle.elf_file.specs.Views.{names_held};
+ghost use Rattle.program_map.specs.MapText.{kind_word, map_line, map_text, sled_name, truth_word};
+ghost use Rattle.program_map.specs.Programs.{program_held};
+ghost use Rattle.program_map.specs.private.MapLines.{part_text};
+
+use crate::hex::{MOST_DIGITS, put_digits};
+use crate::numbering::NumberedSled;
+use crate::program::ProgramMap;
+use crate::sled::MapKind;
+use elf_file::FunctionNames;
+use xray_io::{Each, Printed, Sink, Text, WriteFault};
+
+/// The quotation mark that stands around names, and is doubled in them.
+const MARK: u8 = b'\'';
+
+/// The byte that ends a line.
+const LINE_FEED: u8 = b'\n';
+
+/// A part of a line.
+#[derive(Clone, Copy)]
+enum LinePart<'a> {
+    /// These bytes.
+    Plain(&'a [u8]),
+    /// A number in decimal digits.
+    Decimal(u128),
+    /// A number in upper-case hexadecimal digits.
+    Address(u64),
+    /// A name, with its quotation marks doubled.
+    Quoted(&'a [u8]),
+}
+
+impl Printed for LinePart<'_> {
+    ghost text = { part_text };
+
+    ghost ready = { λ _. ⊤ };
+
+    fn add_to<S: Sink>(&self, to: &mut Text<S>) -> Result<(), WriteFault> {
+        match *self {
+            LinePart::Plain(bytes) => to.bytes(bytes),
+            LinePart::Decimal(n) => to.number(n),
+            LinePart::Address(n) => add_address(to, n),
+            LinePart::Quoted(name) => add_quoted(to, name),
+        }
+    }
+}
+
+/// Adds a number in upper-case hexadecimal digits.
+#[tactic(auto, using(std::proofs::lemmas::List::take_rest))]
+fn add_address<S: Sink>(to: &mut Text<S>, n: u64) -> Result<(), WriteFault>
+    ensures { AddsText S.written S.faults S.along to.old to.new (digits 16 true n) result }
+{
+    let mut buffer = [0; MOST_DIGITS];
+    let start = put_digits(n, &mut buffer);
+    to.bytes(&buffer[start..])
+}
+
+/// Adds a name, with its quotation marks doubled.
+fn add_quoted<S: Sink>(to: &mut Text<S>, name: &[u8]) -> Result<(), WriteFault>
+    ensures { AddsText S.written S.faults S.along to.old to.new (flat_map single_byte name.now) result }
+{
+    if has_mark(name) {
+        return add_doubled(to, name);
+    }
+    to.bytes(name)
+}
+
+/// Whether a name has a quotation mark.
+fn has_mark(name: &[u8]) -> bool
+    ensures { result ≡ list_any (λ b. b == 39) name.now }
+{
+    name.iter().any(|byte| *byte == MARK)
+}
+
+/// Adds a byte of a name.
+fn add_byte<S: Sink>(to: &mut Text<S>, byte: u8) -> Result<(), WriteFault>
+    ensures { AddsText S.written S.faults S.along to.old to.new (single_byte byte) result }
+{
+    if byte == MARK {
+        return to.bytes(b"''");
+    }
+    to.bytes(&[byte])
+}
+
+/// Adds a name byte by byte.
+fn add_doubled<S: Sink>(to: &mut Text<S>, name: &[u8]) -> Result<(), WriteFault>
+    ensures { AddsText S.written S.faults S.along to.old to.new (flat_map single_byte name.now) result }
+{
+    for byte in name {
+        add_byte(to, *byte)?;
+    }
+    Ok(())
+}
+
+/// The word for a kind of sleds.
+fn kind_word(kind: MapKind) -> &'static [u8]
+    ensures { result.now ≡ kind_word kind }
+{
+    match kind {
+        MapKind::FunctionEnter => b"function-enter",
+        MapKind::FunctionExit => b"function-exit",
+        MapKind::TailExit => b"tail-exit",
+        MapKind::LogArgsEnter => b"log-args-enter",
+        MapKind::CustomEvent => b"custom-event",
+        MapKind::TypedEvent => b"typed-event",
+    }
+}
+
+/// The word for a yes or no.
+fn truth_word(holds: bool) -> &'static [u8]
+    ensures { result.now ≡ truth_word holds }
+{
+    if holds { b"true" } else { b"false" }
+}
+
+/// Whether a name has a line feed.
+fn has_line_feed(name: &[u8]) -> bool
+    ensures { result ≡ list_any (λ b. b == 10) name.now }
+{
+    name.iter().any(|byte| *byte == LINE_FEED)
+}
+
+/// The name of a sled's function.
+pub(crate) fn sled_name<'a>(names: &'a FunctionNames, sled: &NumberedSled) -> &'a [u8]
+    ensures { result.now ≡ sled_name (names_held names.now) sled.now }
+{
+    let name = names.name_at(sled.sled.function);
+    if has_line_feed(name) {
+        return b"";
+    }
+    name
+}
+
+/// Adds the line of a sled.
+fn add_sled<S: Sink>(
+    to: &mut Text<S>,
+    names: &FunctionNames,
+    sled: &NumberedSled,
+) -> Result<(), WriteFault>
+    ensures { AddsText S.written S.faults S.along to.old to.new (map_line (names_held names.now) sled.now) result }
+{
+    let id = u128::from(sled.id);
+    let version = u128::from(sled.sled.version);
+    let name = sled_name(names, sled);
+    let kind = kind_word(sled.sled.kind);
+    let always = truth_word(sled.sled.always);
+    Each(&[
+        LinePart::Plain(b"- { id: "),
+        LinePart::Decimal(id),
+        LinePart::Plain(b", address: 0x"),
+        LinePart::Address(sled.sled.address),
+        LinePart::Plain(b", function: 0x"),
+        LinePart::Address(sled.sled.function),
+        LinePart::Plain(b", kind: "),
+        LinePart::Plain(kind),
+        LinePart::Plain(b", always-instrument: "),
+        LinePart::Plain(always),
+        LinePart::Plain(b", function-name: '"),
+        LinePart::Quoted(name),
+        LinePart::Plain(b"', version: "),
+        LinePart::Decimal(version),
+        LinePart::Plain(b" }\n"),
+    ])
+    .add_to(to)
+}
+
+/// Adds the lines of sleds.
+fn add_sleds<S: Sink>(
+    to: &mut Text<S>,
+    names: &FunctionNames,
+    sleds: &[NumberedSled],
+) -> Result<(), WriteFault>
+    ensures { AddsText S.written S.faults S.along to.old to.new (flat_map (map_line (names_held names.now)) sleds.now) result }
+{
+    for sled in sleds {
+        add_sled(to, names, sled)?;
+    }
+    Ok(())
+}
+
+impl Printed for ProgramMap<'_> {
+    ghost text = { λ map. map_text (program_held map) };
+
+    ghost ready = { λ _. ⊤ };
+
+    fn add_to<S: Sink>(&self, to: &mut Text<S>) -> Result<(), WriteFault> {
+        to.bytes(b"---\n")?;
+        add_sleds(to, &self.names, &self.sleds)?;
+        to.bytes(b"...\n")
+    }
+}
