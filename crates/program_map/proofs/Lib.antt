@@ -8,3 +8,5 @@ pub mod HexDigits
 -- Texts of several parts (src/line.rt)
 pub mod ItemTexts
 pub mod MapLines
+-- Functions with names (src/facts.rt)
+pub mod NamedFunctions

@@ -60,16 +60,23 @@ named_sled names numbered = record { id = numbered.id; name = sled_name names nu
 
 -- ---- what is said of it
 
--- the functions that have a name, by the ids of their sleds, which go up
-abbrev pub named_functions : MappedProgram → ℕ
-named_functions program =
-    groups_in (map (λ numbered. numbered.id) (filter (λ numbered. not (length (sled_name program.names numbered) == 0)) program.numbering.sleds))
+-- the function of a sled has a name
+abbrev pub has_name : SymbolNames → NumberedSled → Bool
+has_name names numbered = not (length (sled_name names numbered) == 0)
+
+-- the ids of sleds whose functions have a name
+abbrev pub named_ids : SymbolNames → List NumberedSled → List ℕ
+named_ids names sleds = map (λ numbered. numbered.id) (filter (has_name names) sleds)
+
+-- how many functions have a name: ids go up in the order of the sleds, so that those of a function stand side by side
+abbrev pub named_in : SymbolNames → List NumberedSled → ℕ
+named_in names sleds = groups_in (named_ids names sleds)
 
 abbrev pub map_facts : MappedProgram → MapFacts
 map_facts program = record {
   sleds = length program.numbering.sleds;
   functions = program.numbering.functions;
-  unnamed = program.numbering.functions - named_functions program;
+  unnamed = program.numbering.functions - named_in program.names program.numbering.sleds;
   left_out = program.numbering.left_out;
 }
 

@@ -2,3 +2,4 @@ pub mod Views
 pub mod Counts
 pub mod Indexes
 pub mod MapLines
+pub mod NamedIds

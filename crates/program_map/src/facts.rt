@@ -1,9 +1,18 @@
 //! What is said of a sled map.
-ghost use Rattle.std.specs.Prelude.{◌≡◌};
+ghost use Rattle.std.specs.Prelude.{◌≡◌, ◌≤◌, ◌<◌, ◌+◌, ◌^◌, ◌++◌, ◌∷◌, [], List, length};
 ghost use Rattle.std.specs.List.{flat_map};
-ghost use Rattle.program_map.specs.MapText.{map_facts_text};
+ghost use Rattle.elf_file.specs.Views.{names_held};
+ghost use Rattle.program_map.specs.MapText.{has_name, map_facts, map_facts_text, named_in};
+ghost use Rattle.program_map.specs.Programs.{program_held};
+ghost use Rattle.program_map.specs.declared.numbering.NumberedSled.{NumberedSled as TheNumbered};
 ghost use Rattle.program_map.specs.private.MapLines.{fact_text};
+ghost use Rattle.program_map.specs.private.Counts.{is_last};
+ghost use Rattle.program_map.specs.private.NamedIds.{IsNamed};
 
+use crate::line::sled_name;
+use crate::numbering::NumberedSled;
+use crate::program::ProgramMap;
+use elf_file::FunctionNames;
 use xray_io::{Each, Piece, Printed, Sink, Text, WriteFault};
 
 /// The width of a number. A longer one is printed whole.
@@ -70,5 +79,83 @@ impl Printed for FactLine {
             Piece::Bytes(self.1),
             Piece::Bytes(b"\n"),
         ])
+    }
+}
+
+/// Whether the function of a sled has a name.
+fn has_name(names: &FunctionNames, sled: &NumberedSled) -> bool
+    ensures { result ≡ has_name (names_held names.now) sled.now }
+{
+    !sled_name(names, sled).is_empty()
+}
+
+/// How many functions have a name, of some sleds in their order.
+#[derive(Clone, Copy)]
+pub(crate) struct Named {
+    pub(crate) functions: u64,
+    /// The id of the last sled whose function has a name.
+    pub(crate) last: Option<u32>,
+}
+
+impl Named {
+    /// Whether the last sled whose function has a name has this id.
+    fn is_last(&self, id: u32) -> bool
+        ensures { result ≡ is_last self.now.last id }
+    {
+        match self.last {
+            Some(last) => last == id,
+            None => false,
+        }
+    }
+
+    /// Takes a sled, of which there are fewer than 2^63.
+    fn take_sled(self, names: &FunctionNames, sled: &NumberedSled) -> Named
+        requires { self.functions < 2 ^ 63 }
+        ensures took { (sleds : List TheNumbered) → IsNamed (names_held names.now) sleds self →
+            IsNamed (names_held names.now) (sleds ++ sled.now ∷ []) result }
+        ensures few { result.functions ≤ self.functions + 1 }
+    {
+        if !has_name(names, sled) {
+            return self;
+        }
+        if self.is_last(sled.id) {
+            return self;
+        }
+        Named {
+            functions: self.functions + 1,
+            last: Some(sled.id),
+        }
+    }
+}
+
+/// How many functions of sleds have a name.
+#[tactic(auto, using(std::proofs::lemmas::List::take_more))]
+fn named_functions(names: &FunctionNames, sleds: &[NumberedSled]) -> u64
+    requires { length sleds.now < 2 ^ 63 }
+    ensures { result ≡ named_in (names_held names.now) sleds.now }
+{
+    let mut named = Named {
+        functions: 0,
+        last: None,
+    };
+    for sled in sleds {
+        named = named.take_sled(names, sled);
+    }
+    named.functions
+}
+
+impl ProgramMap<'_> {
+    /// What is said of the map.
+    pub fn facts(&self) -> MapFacts
+        ensures { result ≡ map_facts (program_held self.now) }
+    {
+        let functions = u64::from(self.functions);
+        let named = named_functions(&self.names, &self.sleds);
+        MapFacts {
+            sleds: self.sleds.len() as u64,
+            functions,
+            unnamed: functions.saturating_sub(named),
+            left_out: self.left_out,
+        }
     }
 }
