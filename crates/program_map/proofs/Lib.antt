@@ -10,3 +10,7 @@ pub mod ItemTexts
 pub mod MapLines
 -- Functions with names (src/facts.rt)
 pub mod NamedFunctions
+-- The text of a map as it is read (src/laws.rt)
+pub mod Numerals
+pub mod TextLines
+pub mod ReadMaps

@@ -4,5 +4,6 @@ pub mod Sleds
 pub mod Numbering
 pub mod Programs
 pub mod MapText
+pub mod Laws
 pub mod FaultWords
 pub mod private

@@ -9,6 +9,7 @@ mod facts;
 mod fault;
 mod hex;
 mod index;
+mod laws;
 mod line;
 mod numbering;
 mod parts;
@@ -19,6 +20,7 @@ mod sleds;
 
 pub use facts::MapFacts;
 pub use fault::ProgramFault;
+pub use laws::a_map_is_read_as_its_names;
 pub use numbering::NumberedSled;
 pub use program::{ProgramMap, read_program};
 pub use sled::{MapKind, MapSled};
