@@ -7,7 +7,7 @@ use Rattle.std.proofs.lemmas.List.{append-nil}
 use Rattle.map_names.specs.Spelling.{single_byte}
 use Rattle.elf_file.specs.Symbols.{SymbolNames}
 use Rattle.program_map.specs.declared.numbering.NumberedSled.{NumberedSled}
-use Rattle.program_map.specs.MapText.{kind_word, map_line, sled_name, truth_word}
+use Rattle.program_map.specs.MapText.{map_kind_word, map_line, sled_name, map_truth_word}
 
 -- the parts of a line, one after the other
 line_parts : (a b c d e f g h z m id x y k t q v : List ℕ)
@@ -23,8 +23,8 @@ line_with numbered id version k t n =
     ++ codes ", function-name: " ++ (39 ∷ flat_map single_byte n ++ 39 ∷ []) ++ codes ", version: " ++ decimal version ++ codes " }\n"
 
 pub pieces_line : (names : SymbolNames) (numbered : NumberedSled) (id version : ℕ) (kind truth name : List ℕ) → id ≡ numbered.id
-    → version ≡ numbered.sled.version → kind ≡ kind_word numbered.sled.kind
-    → truth ≡ truth_word numbered.sled.always → name ≡ sled_name names numbered
+    → version ≡ numbered.sled.version → kind ≡ map_kind_word numbered.sled.kind
+    → truth ≡ map_truth_word numbered.sled.always → name ≡ sled_name names numbered
     → codes "- { id: " ++ (decimal id ++ (codes ", address: 0x" ++ (digits 16 true numbered.sled.address ++ (codes ", function: 0x"
     ++ (digits 16 true numbered.sled.function ++ (codes ", kind: " ++ (kind ++ (codes ", always-instrument: "
     ++ (truth ++ (codes ", function-name: '" ++ (flat_map single_byte name ++ (codes "', version: " ++ (decimal version ++ (codes " }\n" ++ []))))))))))))))
@@ -35,15 +35,15 @@ pieces_line names numbered id version kind truth name i v p q r =
     (flat_map single_byte name) (decimal version)
     ∙ with_words id version kind truth name i v p q r
   where
-    with_words : (id version : ℕ) (k t n : List ℕ) → id ≡ numbered.id → version ≡ numbered.sled.version → k ≡ kind_word numbered.sled.kind
-        → t ≡ truth_word numbered.sled.always → n ≡ sled_name names numbered
+    with_words : (id version : ℕ) (k t n : List ℕ) → id ≡ numbered.id → version ≡ numbered.sled.version → k ≡ map_kind_word numbered.sled.kind
+        → t ≡ map_truth_word numbered.sled.always → n ≡ sled_name names numbered
         → line_with numbered id version k t n
-        ≡ line_with numbered numbered.id numbered.sled.version (kind_word numbered.sled.kind) (truth_word numbered.sled.always) (sled_name names numbered)
+        ≡ line_with numbered numbered.id numbered.sled.version (map_kind_word numbered.sled.kind) (map_truth_word numbered.sled.always) (sled_name names numbered)
     with_words id version k t n i v p q r =
         ap (λ w. line_with numbered w version k t n) i ∙ ap (λ w. line_with numbered numbered.id w k t n) v
         ∙ ap (λ w. line_with numbered numbered.id numbered.sled.version w t n) p
-        ∙ ap (λ w. line_with numbered numbered.id numbered.sled.version (kind_word numbered.sled.kind) w n) q
-        ∙ ap (λ w. line_with numbered numbered.id numbered.sled.version (kind_word numbered.sled.kind) (truth_word numbered.sled.always) w) r
+        ∙ ap (λ w. line_with numbered numbered.id numbered.sled.version (map_kind_word numbered.sled.kind) w n) q
+        ∙ ap (λ w. line_with numbered numbered.id numbered.sled.version (map_kind_word numbered.sled.kind) (map_truth_word numbered.sled.always) w) r
 
 -- a name without marks is spelled as it is
 pub no_marks : (name : List ℕ) → list_any (λ b. b == 39) name ≡ false → flat_map single_byte name ≡ name

@@ -10,10 +10,10 @@ use Rattle.map_names.specs.Entries.{is_entry, is_event, is_exit, is_kind, is_tru
 use Rattle.map_names.specs.Spelling.{IsEnding, SpellEach, SpellsEntry, SpellsMap, single_byte, single_quoted}
 use Rattle.elf_file.specs.Symbols.{SymbolNames, function_name_at}
 use Rattle.program_map.specs.declared.numbering.NumberedSled.{NumberedSled}
-use Rattle.program_map.specs.declared.sled.MapKind.{MapKind}
-use Rattle.program_map.specs.declared.sled.MapKind.TheVariants.{FunctionEnter, FunctionExit, TailExit, LogArgsEnter, CustomEvent, TypedEvent}
+use Rattle.program_map.specs.declared.sled.MapSledKind.{MapSledKind}
+use Rattle.program_map.specs.declared.sled.MapSledKind.TheVariants.{FunctionEnter, FunctionExit, TailExit, LogArgsEnter, CustomEvent, TypedEvent}
 use Rattle.program_map.specs.Laws.{AreInRange, IsInRange}
-use Rattle.program_map.specs.MapText.{kind_word, line_name, map_address, map_line, map_text, named_sled, sled_name, truth_word}
+use Rattle.program_map.specs.MapText.{map_kind_word, line_name, map_address, map_line, map_text, named_sled, sled_name, map_truth_word}
 use Rattle.program_map.specs.Programs.{MappedProgram}
 use Rattle.program_map.proofs.Numerals.{address_line, address_reads, decimal_line, id_reads}
 use Rattle.program_map.proofs.TextLines.{AreLines, both_within, end_kept, is_within_line, text_lines, text_of_lines}
@@ -46,7 +46,7 @@ quoted_within name h = both_within (flat_map single_byte name) (39 ∷ []) h ref
 
 -- ---- words
 
-kind_within : (kind : MapKind) → is_within_line (kind_word kind) ≡ true
+kind_within : (kind : MapSledKind) → is_within_line (map_kind_word kind) ≡ true
 kind_within FunctionEnter = refl
 kind_within FunctionExit = refl
 kind_within TailExit = refl
@@ -54,7 +54,7 @@ kind_within LogArgsEnter = refl
 kind_within CustomEvent = refl
 kind_within TypedEvent = refl
 
-kind_reads : (kind : MapKind) → is_kind (kind_word kind) ≡ true
+kind_reads : (kind : MapSledKind) → is_kind (map_kind_word kind) ≡ true
 unfolding is_kind is_entry is_exit is_event
 kind_reads FunctionEnter = refl
 kind_reads FunctionExit = refl
@@ -63,11 +63,11 @@ kind_reads LogArgsEnter = refl
 kind_reads CustomEvent = refl
 kind_reads TypedEvent = refl
 
-truth_within : (b : Bool) → is_within_line (truth_word b) ≡ true
+truth_within : (b : Bool) → is_within_line (map_truth_word b) ≡ true
 truth_within true = refl
 truth_within false = refl
 
-truth_reads : (b : Bool) → is_truth (truth_word b) ≡ true
+truth_reads : (b : Bool) → is_truth (map_truth_word b) ≡ true
 unfolding is_truth
 truth_reads true = refl
 truth_reads false = refl
@@ -88,8 +88,8 @@ ending_reads (suc (suc (suc n))) small = absurd (omega arith)
 abbrev bare_line : SymbolNames → NumberedSled → List ℕ
 bare_line names numbered =
     codes "- { id: " ++ decimal numbered.id ++ codes ", address: " ++ map_address numbered.sled.address
-    ++ codes ", function: " ++ map_address numbered.sled.function ++ codes ", kind: " ++ kind_word numbered.sled.kind
-    ++ codes ", always-instrument: " ++ truth_word numbered.sled.always
+    ++ codes ", function: " ++ map_address numbered.sled.function ++ codes ", kind: " ++ map_kind_word numbered.sled.kind
+    ++ codes ", always-instrument: " ++ map_truth_word numbered.sled.always
     ++ codes ", function-name: " ++ single_quoted (sled_name names numbered)
     ++ ending_of numbered.sled.version
 
@@ -100,8 +100,8 @@ line_is : (names : SymbolNames) (numbered : NumberedSled) → map_line names num
 line_is names numbered =
     line_end
     (codes "- { id: " ++ decimal numbered.id ++ codes ", address: " ++ map_address numbered.sled.address
-    ++ codes ", function: " ++ map_address numbered.sled.function ++ codes ", kind: " ++ kind_word numbered.sled.kind
-    ++ codes ", always-instrument: " ++ truth_word numbered.sled.always
+    ++ codes ", function: " ++ map_address numbered.sled.function ++ codes ", kind: " ++ map_kind_word numbered.sled.kind
+    ++ codes ", always-instrument: " ++ map_truth_word numbered.sled.always
     ++ codes ", function-name: " ++ single_quoted (sled_name names numbered))
     (codes ", version: ") (decimal numbered.sled.version) (codes " }") (10 ∷ [])
 
@@ -126,7 +126,7 @@ line_within : (names : SymbolNames) (numbered : NumberedSled) → IsInRange numb
 line_within names numbered range =
     let name = function_name_at names numbered.sled.function in
     parts_within (codes "- { id: ") (decimal numbered.id) (codes ", address: ") (map_address numbered.sled.address) (codes ", function: ")
-    (map_address numbered.sled.function) (codes ", kind: ") (kind_word numbered.sled.kind) (codes ", always-instrument: ") (truth_word numbered.sled.always)
+    (map_address numbered.sled.function) (codes ", kind: ") (map_kind_word numbered.sled.kind) (codes ", always-instrument: ") (map_truth_word numbered.sled.always)
     (codes ", function-name: ") (single_quoted (sled_name names numbered)) (ending_of numbered.sled.version)
     refl (decimal_line numbered.id (omega (arith, range.id))) refl
     (both_within (codes "0x") (digits 16 true numbered.sled.address) refl (address_line numbered.sled.address (omega (arith, range.address))))
@@ -146,8 +146,8 @@ end_is w v = assoc w (codes ", version: " ++ v) (32 ∷ []) (125 ∷ [])
 abbrev line_start : SymbolNames → NumberedSled → List ℕ
 line_start names numbered =
     codes "- { id: " ++ decimal numbered.id ++ codes ", address: " ++ map_address numbered.sled.address
-    ++ codes ", function: " ++ map_address numbered.sled.function ++ codes ", kind: " ++ kind_word numbered.sled.kind
-    ++ codes ", always-instrument: " ++ truth_word numbered.sled.always
+    ++ codes ", function: " ++ map_address numbered.sled.function ++ codes ", kind: " ++ map_kind_word numbered.sled.kind
+    ++ codes ", always-instrument: " ++ map_truth_word numbered.sled.always
     ++ codes ", function-name: " ++ single_quoted (sled_name names numbered)
 
 line_kept : (names : SymbolNames) (numbered : NumberedSled) → strip_carriage_return (bare_line names numbered) ≡ bare_line names numbered
@@ -161,8 +161,8 @@ line_reads names numbered range = record {
   id = decimal numbered.id;
   address = map_address numbered.sled.address;
   function = map_address numbered.sled.function;
-  kind = kind_word numbered.sled.kind;
-  always = truth_word numbered.sled.always;
+  kind = map_kind_word numbered.sled.kind;
+  always = map_truth_word numbered.sled.always;
   written = single_quoted (sled_name names numbered);
   ending = ending_of numbered.sled.version;
   id_is = id_reads numbered.id range.id;

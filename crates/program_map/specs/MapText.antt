@@ -8,8 +8,8 @@ use Rattle.xray_io.specs.Piece.{right_aligned}
 use Rattle.elf_file.specs.Symbols.{SymbolNames, function_name_at}
 use Rattle.program_map.specs.declared.facts.MapFacts.{MapFacts}
 use Rattle.program_map.specs.declared.numbering.NumberedSled.{NumberedSled}
-use Rattle.program_map.specs.declared.sled.MapKind.{MapKind}
-use Rattle.program_map.specs.declared.sled.MapKind.TheVariants.{FunctionEnter, FunctionExit, TailExit, LogArgsEnter, CustomEvent, TypedEvent}
+use Rattle.program_map.specs.declared.sled.MapSledKind.{MapSledKind}
+use Rattle.program_map.specs.declared.sled.MapSledKind.TheVariants.{FunctionEnter, FunctionExit, TailExit, LogArgsEnter, CustomEvent, TypedEvent}
 use Rattle.program_map.specs.Numbering.{groups_in}
 use Rattle.program_map.specs.Programs.{MappedProgram}
 
@@ -19,17 +19,17 @@ use Rattle.program_map.specs.Programs.{MappedProgram}
 abbrev pub map_address : ℕ → List ℕ
 map_address address = codes "0x" ++ digits 16 true address
 
-abbrev pub kind_word : MapKind → List ℕ
-kind_word FunctionEnter = codes "function-enter"
-kind_word FunctionExit = codes "function-exit"
-kind_word TailExit = codes "tail-exit"
-kind_word LogArgsEnter = codes "log-args-enter"
-kind_word CustomEvent = codes "custom-event"
-kind_word TypedEvent = codes "typed-event"
+abbrev pub map_kind_word : MapSledKind → List ℕ
+map_kind_word FunctionEnter = codes "function-enter"
+map_kind_word FunctionExit = codes "function-exit"
+map_kind_word TailExit = codes "tail-exit"
+map_kind_word LogArgsEnter = codes "log-args-enter"
+map_kind_word CustomEvent = codes "custom-event"
+map_kind_word TypedEvent = codes "typed-event"
 
-abbrev pub truth_word : Bool → List ℕ
-truth_word true = codes "true"
-truth_word false = codes "false"
+abbrev pub map_truth_word : Bool → List ℕ
+map_truth_word true = codes "true"
+map_truth_word false = codes "false"
 
 -- A name as a map may have it. One with a line feed (10) can't stand in a line, and is left out.
 abbrev pub line_name : List ℕ → List ℕ
@@ -45,8 +45,8 @@ sled_name names numbered = line_name (function_name_at names numbered.sled.funct
 abbrev pub map_line : SymbolNames → NumberedSled → List ℕ
 map_line names numbered =
     codes "- { id: " ++ decimal numbered.id ++ codes ", address: " ++ map_address numbered.sled.address
-    ++ codes ", function: " ++ map_address numbered.sled.function ++ codes ", kind: " ++ kind_word numbered.sled.kind
-    ++ codes ", always-instrument: " ++ truth_word numbered.sled.always
+    ++ codes ", function: " ++ map_address numbered.sled.function ++ codes ", kind: " ++ map_kind_word numbered.sled.kind
+    ++ codes ", always-instrument: " ++ map_truth_word numbered.sled.always
     ++ codes ", function-name: " ++ single_quoted (sled_name names numbered)
     ++ codes ", version: " ++ decimal numbered.sled.version ++ codes " }\n"
 
@@ -69,14 +69,14 @@ abbrev pub named_ids : SymbolNames → List NumberedSled → List ℕ
 named_ids names sleds = map (λ numbered. numbered.id) (filter (has_name names) sleds)
 
 -- how many functions have a name: ids go up in the order of the sleds, so that those of a function stand side by side
-abbrev pub named_in : SymbolNames → List NumberedSled → ℕ
-named_in names sleds = groups_in (named_ids names sleds)
+abbrev pub functions_named : SymbolNames → List NumberedSled → ℕ
+functions_named names sleds = groups_in (named_ids names sleds)
 
 abbrev pub map_facts : MappedProgram → MapFacts
 map_facts program = record {
   sleds = length program.numbering.sleds;
   functions = program.numbering.functions;
-  unnamed = program.numbering.functions - named_in program.names program.numbering.sleds;
+  unnamed = program.numbering.functions - functions_named program.names program.numbering.sleds;
   left_out = program.numbering.left_out;
 }
 

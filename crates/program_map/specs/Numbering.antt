@@ -33,63 +33,63 @@ groups_in (n ∷ []) = 1
 groups_in (n ∷ next ∷ ns) = (if n == next then 0 else 1) + groups_in (next ∷ ns)
 
 -- how many functions sleds have, of which those of a function stand side by side
-abbrev pub functions_in : List MapSled → ℕ
-functions_in sleds = groups_in (map (λ sled. sled.function) sleds)
+abbrev pub functions_among : List MapSled → ℕ
+functions_among sleds = groups_in (map (λ sled. sled.function) sleds)
 
 -- the id of a sled is how many functions the map has up to it; some sleds have come before these
 abbrev pub numbered_after : (before : List MapSled) → List MapSled → List NumberedSled
 numbered_after before [] = []
-numbered_after before (sled ∷ sleds) = with_id (functions_in (before ++ sled ∷ [])) sled ∷ numbered_after (before ++ sled ∷ []) sleds
+numbered_after before (sled ∷ sleds) = with_id (functions_among (before ++ sled ∷ [])) sled ∷ numbered_after (before ++ sled ∷ []) sleds
 
 abbrev pub by_function : List MapSled → Numbering
-by_function sleds = record { sleds = numbered_after [] sleds; functions = functions_in sleds; left_out = 0 }
+by_function sleds = record { sleds = numbered_after [] sleds; functions = functions_among sleds; left_out = 0 }
 
 -- ---- with an index, which has 16 bytes for each function
 
 -- from the address of a function's first sled up to an address behind its last one
-pub record Span : Type 0 where
+pub record AddressSpan : Type 0 where
   pub begin : ℕ
   pub end : ℕ
 
 -- the two words of the entry of a number, as the file has them
-abbrev pub first_word : List ℕ → (number : ℕ) → ℕ
-first_word table number = number_at 8 table (16 * number)
+abbrev pub first_index_word : List ℕ → (number : ℕ) → ℕ
+first_index_word table number = number_at 8 table (16 * number)
 
-abbrev pub second_word : List ℕ → (number : ℕ) → ℕ
-second_word table number = number_at 8 table (16 * number + 8)
+abbrev pub second_index_word : List ℕ → (number : ℕ) → ℕ
+second_index_word table number = number_at 8 table (16 * number + 8)
 
 -- as LLVM 14 has it: both addresses
-abbrev pub span_absolute : Settings → (index : Section) → List ℕ → (number : ℕ) → Span
+abbrev pub span_absolute : Settings → (index : Section) → List ℕ → (number : ℕ) → AddressSpan
 span_absolute settings index table number = record {
-  begin = word_there settings (address_in index (16 * number)) (first_word table number);
-  end = word_there settings (address_in index (16 * number + 8)) (second_word table number);
+  begin = word_there settings (address_in index (16 * number)) (first_index_word table number);
+  end = word_there settings (address_in index (16 * number + 8)) (second_index_word table number);
 }
 
 -- as LLVM 19 has it: the first address, counted from the word that says it, and how many sleds there are
-abbrev pub span_relative : (index : Section) → List ℕ → (number : ℕ) → Span
+abbrev pub span_relative : (index : Section) → List ℕ → (number : ℕ) → AddressSpan
 span_relative index table number = record {
-  begin = (address_in index (16 * number) + first_word table number) % 2 ^ 64;
-  end = (address_in index (16 * number) + first_word table number) % 2 ^ 64 + 32 * second_word table number;
+  begin = (address_in index (16 * number) + first_index_word table number) % 2 ^ 64;
+  end = (address_in index (16 * number) + first_index_word table number) % 2 ^ 64 + 32 * second_index_word table number;
 }
 
 -- the first word of an index tells: as an address, it is one of the map, or it isn't
 abbrev pub is_absolute : MapParts → (index : Section) → List ℕ → Bool
 is_absolute parts index table =
-    let first = word_there parts.settings (address_in index 0) (first_word table 0) in
+    let first = word_there parts.settings (address_in index 0) (first_index_word table 0) in
     nat_le parts.section.address first && nat_lt first (parts.section.address + length parts.table)
 
-abbrev pub span_by : (absolute : Bool) → MapParts → (index : Section) → List ℕ → (number : ℕ) → Span
+abbrev pub span_by : (absolute : Bool) → MapParts → (index : Section) → List ℕ → (number : ℕ) → AddressSpan
 span_by absolute parts index table number =
     if absolute then span_absolute parts.settings index table number else span_relative index table number
 
 -- it begins and ends at entries of the map
-abbrev pub is_within_map : MapParts → Span → Bool
+abbrev pub is_within_map : MapParts → AddressSpan → Bool
 is_within_map parts span =
     nat_le parts.section.address span.begin && nat_le span.begin span.end && nat_le span.end (parts.section.address + length parts.table)
     && ((span.begin - parts.section.address) % 32 == 0) && ((span.end - span.begin) % 32 == 0)
 
 -- the sleds of it, if it does, and if they are not too many
-unfoldable pub entry_sleds : MapParts → List MapSled → Span → (most : ℕ) → Option (List MapSled)
+unfoldable pub entry_sleds : MapParts → List MapSled → AddressSpan → (most : ℕ) → Option (List MapSled)
 entry_sleds parts sleds span most =
     if is_within_map parts span && nat_le ((span.end - span.begin) / 32) most
     then Some (take ((span.end - span.begin) / 32) (drop ((span.begin - parts.section.address) / 32) sleds)) else None

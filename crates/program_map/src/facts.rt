@@ -2,7 +2,7 @@
 ghost use Rattle.std.specs.Prelude.{◌≡◌, ◌≤◌, ◌<◌, ◌+◌, ◌^◌, ◌++◌, ◌∷◌, [], List, length};
 ghost use Rattle.std.specs.List.{flat_map};
 ghost use Rattle.elf_file.specs.Views.{names_held};
-ghost use Rattle.program_map.specs.MapText.{has_name, map_facts, map_facts_text, named_in};
+ghost use Rattle.program_map.specs.MapText.{has_name, map_facts, map_facts_text, functions_named};
 ghost use Rattle.program_map.specs.Programs.{program_held};
 ghost use Rattle.program_map.specs.declared.numbering.NumberedSled.{NumberedSled as TheNumbered};
 ghost use Rattle.program_map.specs.private.MapLines.{fact_text};
@@ -132,7 +132,7 @@ impl Named {
 #[tactic(auto, using(std::proofs::lemmas::List::take_more))]
 fn named_functions(names: &FunctionNames, sleds: &[NumberedSled]) -> u64
     requires { length sleds.now < 2 ^ 63 }
-    ensures { result ≡ named_in (names_held names.now) sleds.now }
+    ensures { result ≡ functions_named (names_held names.now) sleds.now }
 {
     let mut named = Named {
         functions: 0,

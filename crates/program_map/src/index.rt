@@ -8,7 +8,7 @@ ghost use Rattle.program_map.specs.private.Views.{parts_held};
 
 use crate::fault::ProgramFault;
 use crate::numbering::NumberedSled;
-use crate::parts::{ENTRY_BYTES, Parts};
+use crate::parts::{ENTRY_BYTES, ProgramParts};
 use crate::sled::{MapSled, address_in, word_there};
 use elf_file::{Section, u64_at};
 use std::alloc::{AllocFailed, Global};
@@ -39,7 +39,7 @@ enum Form {
 }
 
 /// The sleds of an entry of which both addresses stand there.
-fn span_absolute(parts: &Parts, index: &Section, table: &[u8], number: usize) -> SledSpan
+fn span_absolute(parts: &ProgramParts, index: &Section, table: &[u8], number: usize) -> SledSpan
     requires { 16 * number + 16 ≤ length table.now }
     ensures { span_held result ≡ span_absolute (parts_held parts.now).settings index.now table.now number }
 {
@@ -75,7 +75,7 @@ fn span_relative(index: &Section, table: &[u8], number: usize) -> SledSpan
 }
 
 /// The form of an index that isn't empty, by its first word.
-fn form_of(parts: &Parts, index: &Section, table: &[u8]) -> Form
+fn form_of(parts: &ProgramParts, index: &Section, table: &[u8]) -> Form
     requires table { 16 ≤ length table.now }
     requires map { length parts.now.table.now < 2 ^ 64 }
     ensures { is_absolute_form result ≡ is_absolute (parts_held parts.now) index.now table.now }
@@ -90,7 +90,13 @@ fn form_of(parts: &Parts, index: &Section, table: &[u8]) -> Form
 }
 
 /// The sleds of an entry of an index of this form.
-fn span_in(form: Form, parts: &Parts, index: &Section, table: &[u8], number: usize) -> SledSpan
+fn span_in(
+    form: Form,
+    parts: &ProgramParts,
+    index: &Section,
+    table: &[u8],
+    number: usize,
+) -> SledSpan
     requires { 16 * number + 16 ≤ length table.now }
     ensures { span_held result ≡ span_by (is_absolute_form form) (parts_held parts.now) index.now table.now number }
 {
@@ -102,7 +108,7 @@ fn span_in(form: Form, parts: &Parts, index: &Section, table: &[u8], number: usi
 
 impl SledSpan {
     /// Whether it begins and ends at entries of the map.
-    fn is_within(&self, parts: &Parts) -> bool
+    fn is_within(&self, parts: &ProgramParts) -> bool
         requires { length parts.now.table.now < 2 ^ 64 }
         ensures { result ≡ is_within_map (parts_held parts.now) (span_held self.now) }
     {
@@ -134,7 +140,7 @@ fn add_sleds(
 /// The sleds of an entry, if it is a part of the map, and has at most `room` of them.
 #[tactic(auto, unfolding(crate::specs::Numbering::entry_sleds))]
 fn entry_sleds<'a>(
-    parts: &Parts,
+    parts: &ProgramParts,
     sleds: &'a [MapSled],
     span: SledSpan,
     room: usize,
@@ -158,7 +164,7 @@ fn entry_sleds<'a>(
 /// The sleds that an index numbers.
 pub(crate) fn read_index(
     alloc: Global,
-    parts: &Parts,
+    parts: &ProgramParts,
     sleds: &[MapSled],
     index: &Section,
     table: &[u8],

@@ -23,4 +23,4 @@ pub use fault::ProgramFault;
 pub use laws::a_map_is_read_as_its_names;
 pub use numbering::NumberedSled;
 pub use program::{ProgramMap, read_program};
-pub use sled::{MapKind, MapSled};
+pub use sled::{MapSled, MapSledKind};

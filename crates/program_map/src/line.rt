@@ -5,14 +5,14 @@ ghost use Rattle.std.specs.List.{flat_map, list_any};
 ghost use Rattle.xray_io.specs.Text.{AddsText};
 ghost use Rattle.map_names.specs.Spelling.{single_byte};
 ghost use Rattle.elf_file.specs.Views.{names_held};
-ghost use Rattle.program_map.specs.MapText.{kind_word, map_line, map_text, sled_name, truth_word};
+ghost use Rattle.program_map.specs.MapText.{map_kind_word, map_line, map_text, sled_name, map_truth_word};
 ghost use Rattle.program_map.specs.Programs.{program_held};
 ghost use Rattle.program_map.specs.private.MapLines.{part_text};
 
 use crate::hex::{MOST_DIGITS, put_digits};
 use crate::numbering::NumberedSled;
 use crate::program::ProgramMap;
-use crate::sled::MapKind;
+use crate::sled::MapSledKind;
 use elf_file::FunctionNames;
 use xray_io::{Each, Printed, Sink, Text, WriteFault};
 
@@ -98,22 +98,22 @@ fn add_doubled<S: Sink>(to: &mut Text<S>, name: &[u8]) -> Result<(), WriteFault>
 }
 
 /// The word for a kind of sleds.
-fn kind_word(kind: MapKind) -> &'static [u8]
-    ensures { result.now ≡ kind_word kind }
+fn map_kind_word(kind: MapSledKind) -> &'static [u8]
+    ensures { result.now ≡ map_kind_word kind }
 {
     match kind {
-        MapKind::FunctionEnter => b"function-enter",
-        MapKind::FunctionExit => b"function-exit",
-        MapKind::TailExit => b"tail-exit",
-        MapKind::LogArgsEnter => b"log-args-enter",
-        MapKind::CustomEvent => b"custom-event",
-        MapKind::TypedEvent => b"typed-event",
+        MapSledKind::FunctionEnter => b"function-enter",
+        MapSledKind::FunctionExit => b"function-exit",
+        MapSledKind::TailExit => b"tail-exit",
+        MapSledKind::LogArgsEnter => b"log-args-enter",
+        MapSledKind::CustomEvent => b"custom-event",
+        MapSledKind::TypedEvent => b"typed-event",
     }
 }
 
 /// The word for a yes or no.
-fn truth_word(holds: bool) -> &'static [u8]
-    ensures { result.now ≡ truth_word holds }
+fn map_truth_word(holds: bool) -> &'static [u8]
+    ensures { result.now ≡ map_truth_word holds }
 {
     if holds { b"true" } else { b"false" }
 }
@@ -147,8 +147,8 @@ fn add_sled<S: Sink>(
     let id = u128::from(sled.id);
     let version = u128::from(sled.sled.version);
     let name = sled_name(names, sled);
-    let kind = kind_word(sled.sled.kind);
-    let always = truth_word(sled.sled.always);
+    let kind = map_kind_word(sled.sled.kind);
+    let always = map_truth_word(sled.sled.always);
     Each(&[
         LinePart::Plain(b"- { id: "),
         LinePart::Decimal(id),

@@ -9,7 +9,7 @@ ghost use Rattle.program_map.specs.declared.sled.MapSled.{MapSled as TheSled};
 
 use crate::fault::ProgramFault;
 use crate::index::{INDEX_BYTES, read_index};
-use crate::parts::Parts;
+use crate::parts::ProgramParts;
 use crate::sled::MapSled;
 use elf_file::{ElfFault, Section, content, section_named};
 use std::alloc::Global;
@@ -26,7 +26,7 @@ pub struct NumberedSled {
 
 /// Sleds with their ids.
 #[derive(Drop)]
-pub(crate) struct Numbered {
+pub(crate) struct NumberedSleds {
     pub(crate) sleds: Vec<NumberedSled>,
     /// How many functions there are.
     pub(crate) functions: u32,
@@ -84,7 +84,7 @@ impl Counting {
 
 /// Numbers sleds by the changes of their functions.
 #[tactic(auto, using(std::proofs::lemmas::List::take_more))]
-fn by_function(alloc: Global, sleds: &[MapSled]) -> Result<Numbered, ProgramFault>
+fn by_function(alloc: Global, sleds: &[MapSled]) -> Result<NumberedSleds, ProgramFault>
     requires { length sleds.now + 1 < 2 ^ 32 }
     ensures { IsProgramReading numbering_held (Ok (by_function sleds.now)) result }
 {
@@ -100,7 +100,7 @@ fn by_function(alloc: Global, sleds: &[MapSled]) -> Result<Numbered, ProgramFaul
         functions,
         ..
     } = counting;
-    Ok(Numbered {
+    Ok(NumberedSleds {
         sleds,
         functions,
         left_out: 0,
@@ -111,10 +111,10 @@ fn by_function(alloc: Global, sleds: &[MapSled]) -> Result<Numbered, ProgramFaul
 fn by_index(
     alloc: Global,
     file: &[u8],
-    parts: &Parts,
+    parts: &ProgramParts,
     sleds: &[MapSled],
     index: Section,
-) -> Result<Numbered, ProgramFault>
+) -> Result<NumberedSleds, ProgramFault>
     requires short { length file.now ≤ 4294967296 }
     requires sleds { length sleds.now ≡ length parts.now.table.now / 32 }
     ensures { IsProgramReading numbering_held
@@ -126,7 +126,7 @@ fn by_index(
     }
     let numbered = read_index(alloc, parts, sleds, &index, table)?;
     let left_out = (sleds.len() - numbered.len()) as u64;
-    Ok(Numbered {
+    Ok(NumberedSleds {
         sleds: numbered,
         functions: (table.len() / INDEX_BYTES) as u32,
         left_out,
@@ -137,9 +137,9 @@ fn by_index(
 pub(crate) fn number_sleds(
     alloc: Global,
     file: &[u8],
-    parts: &Parts,
+    parts: &ProgramParts,
     sleds: &[MapSled],
-) -> Result<Numbered, ProgramFault>
+) -> Result<NumberedSleds, ProgramFault>
     requires short { length file.now ≤ 4294967296 }
     requires sleds { length sleds.now ≡ length parts.now.table.now / 32 }
     requires few { length sleds.now + 1 < 2 ^ 32 }

@@ -16,7 +16,7 @@ pub(crate) const ENTRY_BYTES: usize = 32;
 
 /// The parts of a program that say its sleds.
 #[derive(Drop)]
-pub(crate) struct Parts<'a> {
+pub(crate) struct ProgramParts<'a> {
     pub(crate) sections: Vec<Section>,
     /// The table of the names of sections.
     pub(crate) names: &'a [u8],
@@ -45,7 +45,7 @@ fn parts_in<'a>(
     file: &'a [u8],
     sections: Vec<Section>,
     names: &'a [u8],
-) -> Result<Parts<'a>, ProgramFault>
+) -> Result<ProgramParts<'a>, ProgramFault>
     ensures said { IsProgramReading parts_held (parts_in file.now sections.items names.now) result }
     ensures inside { IfOk result (λ parts. parts.section.offset + length parts.table.now ≤ length file.now) }
 {
@@ -54,7 +54,7 @@ fn parts_in<'a>(
     };
     let table = map_table(file, &section)?;
     let addends = read_addends(alloc, file, names, &sections)?;
-    Ok(Parts {
+    Ok(ProgramParts {
         sections,
         names,
         section,
@@ -64,7 +64,10 @@ fn parts_in<'a>(
 }
 
 /// The parts of a file.
-pub(crate) fn read_parts<'a>(alloc: Global, file: &'a [u8]) -> Result<Parts<'a>, ProgramFault>
+pub(crate) fn read_parts<'a>(
+    alloc: Global,
+    file: &'a [u8],
+) -> Result<ProgramParts<'a>, ProgramFault>
     ensures said { IsProgramReading parts_held (map_parts file.now) result }
     ensures inside { IfOk result (λ parts. parts.section.offset + length parts.table.now ≤ length file.now) }
 {

@@ -3,7 +3,7 @@
 ghost use Rattle.std.specs.Prelude.{◌≡◌, ◌≤◌, ◌<◌, ◌+◌, ◌*◌, ◌%◌, ◌^◌, length};
 ghost use Rattle.elf_file.specs.Numbers.{number_at};
 ghost use Rattle.elf_file.specs.Views.{settings_held};
-ghost use Rattle.program_map.specs.Sleds.{address_in, entry_sled, map_kind, said_there, sled_said, word_there};
+ghost use Rattle.program_map.specs.Sleds.{address_in, entry_sled, map_kind, said_there, map_entry_said, word_there};
 
 use crate::fault::ProgramFault;
 use crate::parts::ENTRY_BYTES;
@@ -23,7 +23,7 @@ const RELATIVE_VERSION: u8 = 2;
 
 /// What a sled is for (`XRayEntryType`).
 #[derive(Clone, Copy, Debug, PartialEq, Eq)]
-pub enum MapKind {
+pub enum MapSledKind {
     /// The entry of a function.
     FunctionEnter,
     /// A return.
@@ -46,7 +46,7 @@ pub struct MapSled {
     /// The address of its function.
     pub function: u64,
     /// What it is for.
-    pub kind: MapKind,
+    pub kind: MapSledKind,
     /// Whether the function is always instrumented.
     pub always: bool,
     /// The version of its entry, at most 2.
@@ -54,16 +54,16 @@ pub struct MapSled {
 }
 
 /// The kind of a number, if it is one.
-fn map_kind(number: u8) -> Option<MapKind>
+fn map_kind(number: u8) -> Option<MapSledKind>
     ensures { result ≡ map_kind number }
 {
     match number {
-        0 => Some(MapKind::FunctionEnter),
-        1 => Some(MapKind::FunctionExit),
-        2 => Some(MapKind::TailExit),
-        3 => Some(MapKind::LogArgsEnter),
-        4 => Some(MapKind::CustomEvent),
-        5 => Some(MapKind::TypedEvent),
+        0 => Some(MapSledKind::FunctionEnter),
+        1 => Some(MapSledKind::FunctionExit),
+        2 => Some(MapSledKind::TailExit),
+        3 => Some(MapSledKind::LogArgsEnter),
+        4 => Some(MapSledKind::CustomEvent),
+        5 => Some(MapSledKind::TypedEvent),
         _ => None,
     }
 }
@@ -112,7 +112,7 @@ fn entry_sled(
     section: &Section,
     table: &[u8],
     number: usize,
-    kind: MapKind,
+    kind: MapSledKind,
 ) -> MapSled
     requires { 32 * number + 32 ≤ length table.now }
     ensures { result ≡ entry_sled (settings_held addends.now) section.now table.now number kind }
@@ -136,8 +136,8 @@ fn entry_sled(
 }
 
 /// The sled that the entry of a number says, or its refusal.
-#[tactic(auto, unfolding(crate::specs::Sleds::sled_said))]
-pub(crate) fn sled_said(
+#[tactic(auto, unfolding(crate::specs::Sleds::map_entry_said))]
+pub(crate) fn map_entry_said(
     addends: &Addends,
     section: &Section,
     table: &[u8],
@@ -145,7 +145,7 @@ pub(crate) fn sled_said(
 ) -> Result<MapSled, ProgramFault>
     requires inside { 32 * number + 32 ≤ length table.now }
     requires place { section.now.offset + length table.now < 2 ^ 64 }
-    ensures { result ≡ sled_said (settings_held addends.now) section.now table.now number }
+    ensures { result ≡ map_entry_said (settings_held addends.now) section.now table.now number }
 {
     let place = ENTRY_BYTES * number;
     if byte_at(table, place + VERSION_AT) > RELATIVE_VERSION {

@@ -7,7 +7,7 @@ ghost use Rattle.program_map.specs.Sleds.{map_sleds};
 
 use crate::fault::ProgramFault;
 use crate::parts::ENTRY_BYTES;
-use crate::sled::{MapSled, sled_said};
+use crate::sled::{MapSled, map_entry_said};
 use elf_file::{Addends, Section};
 use std::alloc::Global;
 
@@ -26,7 +26,7 @@ pub(crate) fn read_sleds(
     let count = table.len() / ENTRY_BYTES;
     let mut sleds = Vec::with_capacity(alloc, count)?;
     for number in 0..count {
-        match sled_said(addends, section, table, number) {
+        match map_entry_said(addends, section, table, number) {
             Ok(sled) => sleds.push(sled)?,
             Err(fault) => return Err(fault),
         }

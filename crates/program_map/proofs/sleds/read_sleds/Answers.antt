@@ -2,7 +2,7 @@ use Rattle.std.proofs.Common.{◌≡◌, ◌∙◌, ◌/◌, ◌++◌, ◌∷◌
 use Rattle.std.specs.List.{range_with_len}
 use Rattle.xray_io.specs.Rows.{InTurn}
 use Rattle.program_map.specs.declared.sled.MapSled.{MapSled}
-use Rattle.program_map.specs.Sleds.{sled_rows}
+use Rattle.program_map.specs.Sleds.{map_entry_rows}
 use Rattle.elf_file.specs.Views.{settings_held}
 use Rattle.program_map.proofs.SledSteps.{sled_next, sled_refused}
 use Rattle.program_map.proofs.sleds.read_sleds.Goals as goal
@@ -11,7 +11,7 @@ pub returns-in-Err-clause-said : goal.returns-in-Err-clause-said
 returns-in-Err-clause-said c =
     inr (c.loop-number.invariant.1
     ∙ sled_refused (settings_held c.args.addends.now) c.args.section.now c.args.table.now c.loop-number.sleds.items c.in-Err.fault c.loop-number.number (length c.args.table.now / 32)
-    c.loop-number-test.true (sym c.sled_said.ensures ∙ c.in-Err.is))
+    c.loop-number-test.true (sym c.map_entry_said.ensures ∙ c.in-Err.is))
 
 pub loop-number-preserved : goal.loop-number-preserved
 loop-number-preserved c =
@@ -20,7 +20,7 @@ loop-number-preserved c =
       ap length put ∙ length-append c.loop-number.sleds.items (c.in-Ok.sled ∷ []) ∙ ap (λ n. n + 1) c.loop-number.invariant.0,
       c.loop-number.invariant.1
           ∙ sled_next settings c.args.section.now c.args.table.now c.loop-number.sleds.items c.in-Ok.sled c.loop-number.number (length c.args.table.now / 32)
-          c.loop-number-test.true (sym c.sled_said.ensures ∙ c.in-Ok.is)
-          ∙ ap (λ (before : List MapSled). InTurn (sled_rows settings c.args.section.now c.args.table.now) before
+          c.loop-number-test.true (sym c.map_entry_said.ensures ∙ c.in-Ok.is)
+          ∙ ap (λ (before : List MapSled). InTurn (map_entry_rows settings c.args.section.now c.args.table.now) before
           (range_with_len (c.loop-number.number + 1) (length c.args.table.now / 32 - (c.loop-number.number + 1)))) (sym put),
     )
