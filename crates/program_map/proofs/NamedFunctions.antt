@@ -49,6 +49,15 @@ same_function names sleds sled named has last is =
       last = last_same named.last sled.id last ∙ sym (ap (last_or None) more ∙ last_more None (named_ids names sleds) sled.id);
     }
 
+-- a sled of the function that was named last changes nothing
+pub known_function : (names : SymbolNames) (sleds : List NumberedSled) (sled : NumberedSled) (named : Named) → is_last named.last sled.id ≡ true
+    → IsNamed names sleds named → IsNamed names (sleds ++ sled ∷ []) named
+known_function names sleds sled named last is = by_name (has_name names sled) refl
+  where
+    by_name : (b : Bool) → has_name names sled ≡ b → IsNamed names (sleds ++ sled ∷ []) named
+    by_name true has = same_function names sleds sled named has last is
+    by_name false isnt = unnamed_sled names sleds sled named isnt is
+
 -- another one is one more
 pub next_function : (names : SymbolNames) (sleds : List NumberedSled) (sled : NumberedSled) (named : Named) → has_name names sled ≡ true
     → is_last named.last sled.id ≡ false → IsNamed names sleds named

@@ -115,10 +115,7 @@ impl Named {
             IsNamed (names_held names.now) (sleds ++ sled.now ∷ []) result }
         ensures few { result.functions ≤ self.functions + 1 }
     {
-        if !has_name(names, sled) {
-            return self;
-        }
-        if self.is_last(sled.id) {
+        if self.is_last(sled.id) || !has_name(names, sled) {
             return self;
         }
         Named {
