@@ -8,6 +8,7 @@ pub mod HexDigits
 -- Texts of several parts (src/line.rt)
 pub mod ItemTexts
 pub mod MapLines
+pub mod NamedLines
 -- Functions with names (src/facts.rt)
 pub mod NamedFunctions
 -- The text of a map as it is read (src/laws.rt)

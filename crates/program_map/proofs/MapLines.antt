@@ -5,9 +5,8 @@ use Rattle.std.specs.Fmt.{digits}
 use Rattle.std.specs.List.{flat_map, list_any}
 use Rattle.std.proofs.lemmas.List.{append-nil}
 use Rattle.map_names.specs.Spelling.{single_byte}
-use Rattle.elf_file.specs.Symbols.{SymbolNames}
 use Rattle.program_map.specs.declared.numbering.NumberedSled.{NumberedSled}
-use Rattle.program_map.specs.MapText.{map_kind_word, map_line, sled_name, map_truth_word}
+use Rattle.program_map.specs.MapText.{map_kind_word, map_truth_word, named_line}
 
 -- the parts of a line, one after the other
 line_parts : (a b c d e f g h z m id x y k t q v : List ℕ)
@@ -22,28 +21,26 @@ line_with numbered id version k t n =
     ++ (codes "0x" ++ digits 16 true numbered.sled.function) ++ codes ", kind: " ++ k ++ codes ", always-instrument: " ++ t
     ++ codes ", function-name: " ++ (39 ∷ flat_map single_byte n ++ 39 ∷ []) ++ codes ", version: " ++ decimal version ++ codes " }\n"
 
-pub pieces_line : (names : SymbolNames) (numbered : NumberedSled) (id version : ℕ) (kind truth name : List ℕ) → id ≡ numbered.id
-    → version ≡ numbered.sled.version → kind ≡ map_kind_word numbered.sled.kind
-    → truth ≡ map_truth_word numbered.sled.always → name ≡ sled_name names numbered
+pub pieces_line : (numbered : NumberedSled) (id version : ℕ) (kind truth name : List ℕ) → id ≡ numbered.id
+    → version ≡ numbered.sled.version → kind ≡ map_kind_word numbered.sled.kind → truth ≡ map_truth_word numbered.sled.always
     → codes "- { id: " ++ (decimal id ++ (codes ", address: 0x" ++ (digits 16 true numbered.sled.address ++ (codes ", function: 0x"
     ++ (digits 16 true numbered.sled.function ++ (codes ", kind: " ++ (kind ++ (codes ", always-instrument: "
     ++ (truth ++ (codes ", function-name: '" ++ (flat_map single_byte name ++ (codes "', version: " ++ (decimal version ++ (codes " }\n" ++ []))))))))))))))
-    ≡ map_line names numbered
-pieces_line names numbered id version kind truth name i v p q r =
+    ≡ named_line name numbered
+pieces_line numbered id version kind truth name i v p q =
     line_parts (codes "- { id: ") (codes ", address: ") (codes ", function: ") (codes ", kind: ") (codes ", always-instrument: ") (codes ", function-name: ")
     (codes ", version: ") (codes " }\n") (codes "0x") (39 ∷ []) (decimal id) (digits 16 true numbered.sled.address) (digits 16 true numbered.sled.function) kind truth
     (flat_map single_byte name) (decimal version)
-    ∙ with_words id version kind truth name i v p q r
+    ∙ with_words id version kind truth i v p q
   where
-    with_words : (id version : ℕ) (k t n : List ℕ) → id ≡ numbered.id → version ≡ numbered.sled.version → k ≡ map_kind_word numbered.sled.kind
-        → t ≡ map_truth_word numbered.sled.always → n ≡ sled_name names numbered
-        → line_with numbered id version k t n
-        ≡ line_with numbered numbered.id numbered.sled.version (map_kind_word numbered.sled.kind) (map_truth_word numbered.sled.always) (sled_name names numbered)
-    with_words id version k t n i v p q r =
-        ap (λ w. line_with numbered w version k t n) i ∙ ap (λ w. line_with numbered numbered.id w k t n) v
-        ∙ ap (λ w. line_with numbered numbered.id numbered.sled.version w t n) p
-        ∙ ap (λ w. line_with numbered numbered.id numbered.sled.version (map_kind_word numbered.sled.kind) w n) q
-        ∙ ap (λ w. line_with numbered numbered.id numbered.sled.version (map_kind_word numbered.sled.kind) (map_truth_word numbered.sled.always) w) r
+    with_words : (id version : ℕ) (k t : List ℕ) → id ≡ numbered.id → version ≡ numbered.sled.version → k ≡ map_kind_word numbered.sled.kind
+        → t ≡ map_truth_word numbered.sled.always
+        → line_with numbered id version k t name
+        ≡ line_with numbered numbered.id numbered.sled.version (map_kind_word numbered.sled.kind) (map_truth_word numbered.sled.always) name
+    with_words id version k t i v p q =
+        ap (λ w. line_with numbered w version k t name) i ∙ ap (λ w. line_with numbered numbered.id w k t name) v
+        ∙ ap (λ w. line_with numbered numbered.id numbered.sled.version w t name) p
+        ∙ ap (λ w. line_with numbered numbered.id numbered.sled.version (map_kind_word numbered.sled.kind) w name) q
 
 -- a name without marks is spelled as it is
 pub no_marks : (name : List ℕ) → list_any (λ b. b == 39) name ≡ false → flat_map single_byte name ≡ name

@@ -35,20 +35,27 @@ map_truth_word false = codes "false"
 abbrev pub line_name : List ℕ → List ℕ
 line_name name = if list_any (λ b. b == 10) name then [] else name
 
--- the name of a sled's function; it is empty if the file has none
+-- the name of the function at an address, in a line; it is empty if the file has none
+abbrev pub line_name_at : SymbolNames → ℕ → List ℕ
+line_name_at names function = line_name (function_name_at names function)
+
+-- that of a sled's function
 abbrev pub sled_name : SymbolNames → NumberedSled → List ℕ
-sled_name names numbered = line_name (function_name_at names numbered.sled.function)
+sled_name names numbered = line_name_at names numbered.sled.function
 
 -- ---- the text
 
--- the line of a sled
-abbrev pub map_line : SymbolNames → NumberedSled → List ℕ
-map_line names numbered =
+-- the line of a sled whose function has this name
+abbrev pub named_line : List ℕ → NumberedSled → List ℕ
+named_line name numbered =
     codes "- { id: " ++ decimal numbered.id ++ codes ", address: " ++ map_address numbered.sled.address
     ++ codes ", function: " ++ map_address numbered.sled.function ++ codes ", kind: " ++ map_kind_word numbered.sled.kind
     ++ codes ", always-instrument: " ++ map_truth_word numbered.sled.always
-    ++ codes ", function-name: " ++ single_quoted (sled_name names numbered)
+    ++ codes ", function-name: " ++ single_quoted name
     ++ codes ", version: " ++ decimal numbered.sled.version ++ codes " }\n"
+
+abbrev pub map_line : SymbolNames → NumberedSled → List ℕ
+map_line names numbered = named_line (sled_name names numbered) numbered
 
 -- a line for each sled in their order, between the marks of a YAML document
 abbrev pub map_text : MappedProgram → List ℕ

@@ -171,7 +171,7 @@ pub(crate) fn read_index(
 ) -> Result<Vec<NumberedSled>, ProgramFault>
     requires map { length parts.now.table.now < 2 ^ 63 }
     requires sleds { length sleds.now ≡ length parts.now.table.now / 32 }
-    requires short { index.now.offset + length table.now ≤ 4294967296 }
+    requires short { index.now.offset + length table.now < 68719476736 }
     ensures said { IsProgramReading (λ numbered. numbered.items)
         (index_sleds (parts_held parts.now) index.now table.now sleds.now) result }
     ensures few { IfOk result (λ numbered. length numbered.items ≤ length sleds.now) }

@@ -5,9 +5,9 @@ ghost use Rattle.std.specs.List.{flat_map, list_any};
 ghost use Rattle.xray_io.specs.Text.{AddsText};
 ghost use Rattle.map_names.specs.Spelling.{single_byte};
 ghost use Rattle.elf_file.specs.Views.{names_held};
-ghost use Rattle.program_map.specs.MapText.{map_kind_word, map_line, map_text, sled_name, map_truth_word};
+ghost use Rattle.program_map.specs.MapText.{line_name_at, map_kind_word, map_line, map_text, map_truth_word, named_line, sled_name};
 ghost use Rattle.program_map.specs.Programs.{program_held};
-ghost use Rattle.program_map.specs.private.MapLines.{part_text};
+ghost use Rattle.program_map.specs.private.MapLines.{IsKnownName, part_text};
 
 use crate::hex::{MOST_DIGITS, put_digits};
 use crate::numbering::NumberedSled;
@@ -125,28 +125,60 @@ fn has_line_feed(name: &[u8]) -> bool
     name.iter().any(|byte| *byte == LINE_FEED)
 }
 
-/// The name of a sled's function.
-pub(crate) fn sled_name<'a>(names: &'a FunctionNames, sled: &NumberedSled) -> &'a [u8]
-    ensures { result.now ≡ sled_name (names_held names.now) sled.now }
+/// The name of the function at an address, as a line has it.
+fn line_name_at<'a>(names: &'a FunctionNames, function: u64) -> &'a [u8]
+    ensures { result.now ≡ line_name_at (names_held names.now) function }
 {
-    let name = names.name_at(sled.sled.function);
+    let name = names.name_at(function);
     if has_line_feed(name) {
         return b"";
     }
     name
 }
 
-/// Adds the line of a sled.
-fn add_sled<S: Sink>(
-    to: &mut Text<S>,
-    names: &FunctionNames,
-    sled: &NumberedSled,
-) -> Result<(), WriteFault>
-    ensures { AddsText S.written S.faults S.along to.old to.new (map_line (names_held names.now) sled.now) result }
+/// The name of a sled's function.
+pub(crate) fn sled_name<'a>(names: &'a FunctionNames, sled: &NumberedSled) -> &'a [u8]
+    ensures { result.now ≡ sled_name (names_held names.now) sled.now }
+{
+    line_name_at(names, sled.sled.function)
+}
+
+/// A function and its name. Sleds of a function stand side by side, so that its name is found once.
+#[derive(Clone, Copy)]
+pub(crate) struct KnownName<'a> {
+    pub(crate) function: u64,
+    pub(crate) name: &'a [u8],
+}
+
+impl<'a> KnownName<'a> {
+    /// The name of the function at an address.
+    fn of(names: &'a FunctionNames, function: u64) -> KnownName<'a>
+        ensures known { IsKnownName (names_held names.now) result }
+        ensures function { result.function ≡ function }
+    {
+        let name = line_name_at(names, function);
+        KnownName { function, name }
+    }
+
+    /// The same for another address.
+    fn next(self, names: &'a FunctionNames, function: u64) -> KnownName<'a>
+        requires { IsKnownName (names_held names.now) self }
+        ensures known { IsKnownName (names_held names.now) result }
+        ensures function { result.function ≡ function }
+    {
+        if self.function == function {
+            return self;
+        }
+        KnownName::of(names, function)
+    }
+}
+
+/// Adds the line of a sled whose function has this name.
+fn add_sled<S: Sink>(to: &mut Text<S>, name: &[u8], sled: &NumberedSled) -> Result<(), WriteFault>
+    ensures { AddsText S.written S.faults S.along to.old to.new (named_line name.now sled.now) result }
 {
     let id = u128::from(sled.id);
     let version = u128::from(sled.sled.version);
-    let name = sled_name(names, sled);
     let kind = map_kind_word(sled.sled.kind);
     let always = map_truth_word(sled.sled.always);
     Each(&[
@@ -177,8 +209,10 @@ fn add_sleds<S: Sink>(
 ) -> Result<(), WriteFault>
     ensures { AddsText S.written S.faults S.along to.old to.new (flat_map (map_line (names_held names.now)) sleds.now) result }
 {
+    let mut known = KnownName::of(names, 0);
     for sled in sleds {
-        add_sled(to, names, sled)?;
+        known = known.next(names, sled.sled.function);
+        add_sled(to, known.name, sled)?;
     }
     Ok(())
 }

@@ -115,7 +115,7 @@ fn by_index(
     sleds: &[MapSled],
     index: Section,
 ) -> Result<NumberedSleds, ProgramFault>
-    requires short { length file.now ≤ 4294967296 }
+    requires short { length file.now < 68719476736 }
     requires sleds { length sleds.now ≡ length parts.now.table.now / 32 }
     ensures { IsProgramReading numbering_held
         (by_index file.now (parts_held parts.now) sleds.now index) result }
@@ -140,7 +140,7 @@ pub(crate) fn number_sleds(
     parts: &ProgramParts,
     sleds: &[MapSled],
 ) -> Result<NumberedSleds, ProgramFault>
-    requires short { length file.now ≤ 4294967296 }
+    requires short { length file.now < 68719476736 }
     requires sleds { length sleds.now ≡ length parts.now.table.now / 32 }
     requires few { length sleds.now + 1 < 2 ^ 32 }
     ensures { IsProgramReading numbering_held

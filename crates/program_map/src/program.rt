@@ -1,6 +1,6 @@
 //! The sled map of a program.
 
-ghost use Rattle.std.specs.Prelude.{◌≡◌, ◌≤◌, length};
+ghost use Rattle.std.specs.Prelude.{◌≡◌, ◌<◌, length};
 ghost use Rattle.program_map.specs.Programs.{program_held, program_of_elf};
 ghost use Rattle.program_map.specs.Readings.{IsProgramReading};
 
@@ -22,7 +22,7 @@ pub struct ProgramMap<'a> {
     pub(crate) left_out: u64,
 }
 
-/// The sled map of a program, whose file has at most 4 GiB.
+/// The sled map of a program, whose file has fewer than 2^36 bytes.
 ///
 /// The file is an ELF file of 64 bits for x86-64, a program or a shared object, with a section
 /// `xray_instr_map`. If it has a section `xray_fn_idx`, a function's id is the number of its entry
@@ -32,7 +32,7 @@ pub struct ProgramMap<'a> {
 /// `NoMemory` may be returned in place of any other result. No more memory is taken than for the
 /// sections, relocations, symbols and sleds that the file has.
 pub fn read_program<'a>(alloc: Global, file: &'a [u8]) -> Result<ProgramMap<'a>, ProgramFault>
-    requires { length file.now ≤ 4294967296 }
+    requires { length file.now < 68719476736 }
     ensures { IsProgramReading program_held (program_of_elf file.now) result }
 {
     let parts = read_parts(alloc, file)?;
