@@ -1,0 +1,9 @@
+pub mod Numbers
+pub mod Readings
+pub mod Header
+pub mod Sections
+pub mod Symbols
+pub mod Addends
+pub mod Views
+pub mod FaultWords
+pub mod private

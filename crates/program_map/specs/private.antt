@@ -1,0 +1,5 @@
+pub mod Views
+pub mod Counts
+pub mod Indexes
+pub mod MapLines
+pub mod NamedIds
