@@ -1,5 +1,5 @@
 -- What the stamps of passings and the buffers don't change: the text that is printed, and the ends and marks of an audit.
-use Rattle.std.proofs.Common.{◌≡◌, ◌∙◌, ℕ, zero, suc, ◌+◌, List, [], ◌∷◌, ◌++◌, length, Option, Some, None, Ok, map, refl, sym, ap, subst, arith, codes}
+use Rattle.std.proofs.Common.{◌≡◌, ◌∙◌, ℕ, zero, suc, ◌+◌, List, [], ◌∷◌, ◌++◌, length, Option, Some, map, refl, sym, ap, subst, arith, codes}
 use Rattle.std.specs.Prelude.{option_map, slice_get}
 use Rattle.std.specs.List.{enumerate_from}
 use Rattle.std.proofs.lemmas.List.{length-map}
@@ -21,7 +21,7 @@ use Rattle.step_sim.specs.Replay.{Cast, Replay, marks_at}
 use Rattle.step_sim.specs.Replayed.{IsReplayOf, cast_of, cast_with, passed_of, pooling_with}
 use Rattle.trace_flush.specs.Lines.{audit_of, audits_of}
 use Rattle.traced_run.specs.Following.{AllMarksFollow, MarksFollowScript}
-use Rattle.traced_run.specs.Losses.{AreLost, without_loss, without_losses}
+use Rattle.traced_run.specs.Losses.{without_loss, without_losses}
 use Rattle.traced_run.specs.Runs.{EachThread, ThreadRun}
 use Rattle.xray_image.specs.Program.{IsAccepted, Program}
 use Rattle.xray_io.specs.Desk.{Entry}
