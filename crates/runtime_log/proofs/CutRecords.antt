@@ -9,7 +9,7 @@ use Rattle.runtime_log.specs.declared.own_event.OwnKind.TheVariants.{Custom}
 use Rattle.runtime_log.specs.declared.version.LogVersion.{LogVersion}
 use Rattle.runtime_log.specs.declared.version.LogVersion.TheVariants.{Two, Three, Four, Five}
 use Rattle.runtime_log.specs.Grammar.{AreLogRecords, IsCutRecord, LogRecord, is_typed_event}
-use Rattle.runtime_log.specs.Logs.{cut_after, cut_length, is_cut, log_places, one_typed, whole_content}
+use Rattle.runtime_log.specs.Logs.{cut_after, cut_length, lacks_an_end, log_places, one_typed, whole_content}
 use Rattle.runtime_log.specs.OwnEvents.{first_kind, log_record_length, typed_kind}
 use Rattle.runtime_log.specs.Versions.{trace_version}
 use Rattle.runtime_log.proofs.RecordWalk.{log_record_some, places_first, starts_none}
@@ -24,7 +24,7 @@ with_first version typed bytes = typed + one_typed (first_kind version (slice_in
 
 pub cut_step : (version : LogVersion) (size typed at : ℕ) (bytes : List ℕ) → 0 < length bytes
     → cut_after version size typed (log_places version at bytes)
-    ≡ cond (is_cut version size (with_first version typed bytes) bytes) (length bytes)
+    ≡ cond (lacks_an_end version size (with_first version typed bytes) bytes) (length bytes)
     (cut_after version size (with_first version typed bytes) (log_places version (at + log_record_length version bytes) (drop (log_record_length version bytes) bytes)))
 cut_step version size typed at bytes some = ap (cut_after version size typed) (places_first version at bytes some)
 
@@ -50,13 +50,13 @@ cut_within (suc n) version size typed at bytes few = by_length (cut_within n ver
 
     by_length : Again → (0 < length bytes) ⊎ (length bytes ≤ 0) → cut_after version size typed (log_places version at bytes) ≤ length bytes
     by_length again (inr none) = omega (arith, cut_none version size typed at bytes (omega (arith, none)))
-    by_length again (inl some) = omega (arith, cut_step version size typed at bytes some, by_cut again some (is_cut version size (with_first version typed bytes) bytes))
+    by_length again (inl some) = omega (arith, cut_step version size typed at bytes some, by_cut again some (lacks_an_end version size (with_first version typed bytes) bytes))
 
 pub cut_few : (version : LogVersion) (content : List ℕ) → cut_length version content ≤ length content
 cut_few version content = cut_within (length content) version (length content) 0 0 content (omega arith)
 
 -- a record that is whole is not cut
-not_cut : (version : LogVersion) (size typed : ℕ) (bytes : List ℕ) → log_record_length version bytes ≤ length bytes → is_cut version size typed bytes ≡ false
+not_cut : (version : LogVersion) (size typed : ℕ) (bytes : List ℕ) → log_record_length version bytes ≤ length bytes → lacks_an_end version size typed bytes ≡ false
 not_cut version size typed bytes whole =
     ap (λ (b : Bool). b && nat_le (log_record_length version bytes) (length bytes + 16 * typed) && nat_le (preamble_bytes (trace_version version) + length bytes) size)
     (le-ltb (length bytes) (log_record_length version bytes) whole)
@@ -106,7 +106,7 @@ cut_past version size typed at (r ∷ records) whole end (front, following, part
 -- ---- the record that is cut
 
 pub cut_is : (version : LogVersion) (size typed at : ℕ) (end : List ℕ) → end ≢ [] → cut_after version size typed (log_places version at end) ≡ length end → IsCutRecord version size typed end
-cut_is version size typed at end some is = by_cut (is_cut version size n end) refl (sym (cut_step version size typed at end there) ∙ is)
+cut_is version size typed at end some is = by_cut (lacks_an_end version size n end) refl (sym (cut_step version size typed at end there) ∙ is)
   where
     n : ℕ
     n = with_first version typed end
@@ -121,7 +121,7 @@ cut_is version size typed at end some is = by_cut (is_cut version size n end) re
         by_end [] not_so = absurd (not_so refl)
         by_end (x ∷ xs) not_so = omega arith
 
-    by_cut : (b : Bool) → is_cut version size n end ≡ b → cond b (length end) (cut_after version size n (log_places version (at + len) (drop len end))) ≡ length end → IsCutRecord version size typed end
+    by_cut : (b : Bool) → lacks_an_end version size n end ≡ b → cond b (length end) (cut_after version size n (log_places version (at + len) (drop len end))) ≡ length end → IsCutRecord version size typed end
     by_cut true e h =
         let parts = and_parts (ltb (length end) len && nat_le len (length end + 16 * n)) (nat_le (preamble_bytes (trace_version version) + length end) size) e in
         let first = and_parts (ltb (length end) len) (nat_le len (length end + 16 * n)) parts.0 in record {
@@ -143,7 +143,7 @@ cut_again version size typed at end is = by_length (cases_lt 0 (length end))
     len : ℕ
     len = log_record_length version end
 
-    test : is_cut version size n end ≡ true
+    test : lacks_an_end version size n end ≡ true
     test =
         ap (λ (b : Bool). b && nat_le len (length end + 16 * n) && nat_le (preamble_bytes (trace_version version) + length end) size) (lt-ltb (length end) len is.ends)
         ∙ (ap (λ (b : Bool). b && nat_le (preamble_bytes (trace_version version) + length end) size) (le-leb len (length end + 16 * n) is.lacks)
@@ -167,7 +167,7 @@ none_typed version first other = by_custom (eqb first 11) version other
     by_custom false Four not_five = refl
     by_custom false Five not_five = absurd (not_five refl)
 
-never_lacking : (version : LogVersion) (size typed : ℕ) (bytes : List ℕ) → typed ≡ 0 → is_cut version size typed bytes ≡ false
+never_lacking : (version : LogVersion) (size typed : ℕ) (bytes : List ℕ) → typed ≡ 0 → lacks_an_end version size typed bytes ≡ false
 never_lacking version size typed bytes none = by_short (ltb (length bytes) len) refl
   where
     len : ℕ
@@ -221,7 +221,7 @@ cut_behind (suc n) version size typed at bytes few within least = by_length (cut
     Again : Type 0
     Again = (t a : ℕ) (xs : List ℕ) → length xs ≤ n → length xs ≤ size → P ≤ size → P + cut_after version size t (log_places version a xs) ≤ size
 
-    by_cut : Again → 0 < length bytes → (b : Bool) → is_cut version size m bytes ≡ b → P + cond b (length bytes) (cut_after version size m (log_places version (at + len) (drop len bytes))) ≤ size
+    by_cut : Again → 0 < length bytes → (b : Bool) → lacks_an_end version size m bytes ≡ b → P + cond b (length bytes) (cut_after version size m (log_places version (at + len) (drop len bytes))) ≤ size
     by_cut again some true e = leb-true (P + length bytes) size (and_parts (ltb (length bytes) len && nat_le len (length bytes + 16 * m)) (nat_le (P + length bytes) size) e).1
     by_cut again some false e =
         again m (at + len) (drop len bytes) (omega (arith, few, some, length-drop len bytes, log_record_some version bytes)) (omega (arith, within, length-drop len bytes)) least
@@ -229,7 +229,7 @@ cut_behind (suc n) version size typed at bytes few within least = by_length (cut
     by_length : Again → (0 < length bytes) ⊎ (length bytes ≤ 0) → P + cut_after version size typed (log_places version at bytes) ≤ size
     by_length again (inr none) = omega (arith, cut_none version size typed at bytes (omega (arith, none)), least)
     by_length again (inl some) =
-        let here = by_cut again some (is_cut version size m bytes) refl in
+        let here = by_cut again some (lacks_an_end version size m bytes) refl in
         omega (arith, cut_step version size typed at bytes some, here)
 
 pub whole_enough : (version : LogVersion) (content : List ℕ) → preamble_bytes (trace_version version) ≤ length content → preamble_bytes (trace_version version) ≤ length (whole_content version content)
@@ -241,18 +241,18 @@ whole_enough version content least =
 
 -- the record at a place is cut
 pub cut_found : (version : LogVersion) (size typed one at : ℕ) (content rest : List ℕ) → rest ≡ drop at content → at < length content → one ≡ one_typed (first_kind version (slice_index rest 0))
-    → is_cut version size (typed + one) rest ≡ true → cut_after version size typed (log_places version at (drop at content)) ≡ length rest
+    → lacks_an_end version size (typed + one) rest ≡ true → cut_after version size typed (log_places version at (drop at content)) ≡ length rest
 cut_found version size typed one at content rest is within counts cut =
     let there : 0 < length rest = omega (arith, ap length is, length-drop at content, within) in
     let n : with_first version typed rest ≡ typed + one = omega (arith, counts) in
     ap (λ (xs : List ℕ). cut_after version size typed (log_places version at xs)) (sym is)
     ∙ (cut_step version size typed at rest there
     ∙ ap (λ (b : Bool). cond b (length rest) (cut_after version size (with_first version typed rest) (log_places version (at + log_record_length version rest) (drop (log_record_length version rest) rest))))
-    (ap (λ (k : ℕ). is_cut version size k rest) n ∙ cut))
+    (ap (λ (k : ℕ). lacks_an_end version size k rest) n ∙ cut))
 
 -- it is not, and the next one comes
 pub cut_on : (version : LogVersion) (size typed one at len : ℕ) (content rest : List ℕ) → rest ≡ drop at content → at < length content → one ≡ one_typed (first_kind version (slice_index rest 0))
-    → is_cut version size (typed + one) rest ≡ false → len ≡ log_record_length version rest
+    → lacks_an_end version size (typed + one) rest ≡ false → len ≡ log_record_length version rest
     → cut_after version size typed (log_places version at (drop at content)) ≡ cut_after version size (typed + one) (log_places version (at + len) (drop (at + len) content))
 cut_on version size typed one at len content rest is within counts cut long =
     let there : 0 < length rest = omega (arith, ap length is, length-drop at content, within) in
@@ -261,7 +261,7 @@ cut_on version size typed one at len content rest is within counts cut long =
     ap (λ (xs : List ℕ). cut_after version size typed (log_places version at xs)) (sym is)
     ∙ (cut_step version size typed at rest there
     ∙ (ap (λ (b : Bool). cond b (length rest) (cut_after version size (with_first version typed rest) (log_places version (at + log_record_length version rest) (drop (log_record_length version rest) rest))))
-    (ap (λ (k : ℕ). is_cut version size k rest) n ∙ cut)
+    (ap (λ (k : ℕ). lacks_an_end version size k rest) n ∙ cut)
     ∙ (ap (λ (k : ℕ). cut_after version size k (log_places version (at + log_record_length version rest) (drop (log_record_length version rest) rest))) n
     ∙ (ap (λ (k : ℕ). cut_after version size (typed + one) (log_places version (at + k) (drop (log_record_length version rest) rest))) (sym long)
     ∙ ap (λ (xs : List ℕ). cut_after version size (typed + one) (log_places version (at + len) xs)) left))))

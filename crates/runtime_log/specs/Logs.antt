@@ -134,8 +134,8 @@ block_size_rows version (at, bytes) =
 -- The runtimes name 16 bytes too few in the extents of a block for each typed event in it. So the block ends earlier than its
 -- records do, and one of these may be cut: fewer bytes of it are left than it has, and no more are lacking than for so many
 -- typed events. It is no record of the preamble.
-abbrev pub is_cut : LogVersion → (size typed : ℕ) → List ℕ → Bool
-is_cut version size typed rest =
+abbrev pub lacks_an_end : LogVersion → (size typed : ℕ) → List ℕ → Bool
+lacks_an_end version size typed rest =
     nat_lt (length rest) (log_record_length version rest) && nat_le (log_record_length version rest) (length rest + 16 * typed)
     && nat_le (preamble_bytes (trace_version version) + length rest) size
 
@@ -145,7 +145,7 @@ abbrev pub cut_after : LogVersion → (size typed : ℕ) → List (ℕ × List �
 cut_after version size typed [] = 0
 cut_after version size typed ((at, rest) ∷ places) =
     let n = typed + one_typed (first_kind version (slice_index rest 0)) in
-    if is_cut version size n rest then length rest else cut_after version size n places
+    if lacks_an_end version size n rest then length rest else cut_after version size n places
 
 abbrev pub cut_length : LogVersion → List ℕ → ℕ
 cut_length version content = cut_after version (length content) 0 (log_places version 0 content)

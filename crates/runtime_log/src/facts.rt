@@ -1,7 +1,7 @@
 //! What is said of an import.
 ghost use Rattle.std.specs.{Prelude.{◌≡◌, ◌++◌}, List.{flat_map}};
 ghost use Rattle.xray_io.specs.Piece.{piece_text};
-ghost use Rattle.runtime_log.specs.Facts.{counters_text, left_out_text, records_text, right_or_dash, taken_text};
+ghost use Rattle.runtime_log.specs.Facts.{counters_text, left_out_text, left_records_text, right_or_dash, taken_text};
 ghost use Rattle.runtime_log.specs.private.FactLines.{line_text};
 
 use xray_io::{Each, Piece, Printed, Sink, Text, WriteFault};
@@ -99,7 +99,7 @@ impl Facts {
 
     /// The counters of the events, the records that were left out, and the frequency of the counter.
     fn numbers(&self) -> [Line; 6]
-        ensures { flat_map line_text result ≡ counters_text self.now ++ records_text self.now }
+        ensures { flat_map line_text result ≡ counters_text self.now ++ left_records_text self.now }
     {
         [
             Line(self.first, b"first counter"),

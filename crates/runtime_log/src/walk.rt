@@ -2,7 +2,7 @@
 ghost use Rattle.std.specs.Prelude.{◌≡◌, ◌<◌, ◌≤◌, ◌+◌, ◌^◌, Err, IfErr, IfOk, IfSome, IsTrue, None, Ok, OnOk, drop, length};
 ghost use Rattle.fdr_file.specs.declared.events.Base.{Base as TheBase};
 ghost use Rattle.fdr_file.specs.declared.stage.Span.{Span as TheSpan};
-ghost use Rattle.runtime_log.specs.Logs.{block_size_rows, cut_length, is_cut, log_record_rows};
+ghost use Rattle.runtime_log.specs.Logs.{block_size_rows, cut_length, lacks_an_end, log_record_rows};
 ghost use Rattle.runtime_log.specs.OwnEvents.{counter_inside, counter_so_far, log_record_in, log_record_length, own_kind};
 ghost use Rattle.runtime_log.specs.private.Walks.{IsCounted, IsPastStretch, OpensTo, StepsTo};
 
@@ -132,7 +132,7 @@ fn log_record_len(version: LogVersion, bytes: &[u8]) -> usize
 fn is_cut(version: LogVersion, size: usize, typed: u64, rest: &[u8]) -> bool
     requires some { 0 < length rest.now }
     requires few { (length rest.now < 2 ^ 32) × (typed < 2 ^ 32) }
-    ensures { result ≡ is_cut version size typed rest.now }
+    ensures { result ≡ lacks_an_end version size typed rest.now }
 {
     let len = log_record_len(version, rest);
     rest.len() < len
