@@ -51,6 +51,26 @@ def with_older_entries(draw, records):
     return records
 
 
+@dataclasses.dataclass
+class Raw:
+    """Bytes of records."""
+
+    content: bytes
+
+    def raw(self):
+        return self.content
+
+
+def with_cut_end(draw, records):
+    """The same records without some bytes at their end: up to 16 for each typed event, and sometimes a few more."""
+    content = b"".join(record.raw() for record in records)
+    most = 16 * sum(isinstance(record, OwnEvent) and record.kind == TYPED for record in records)
+    if most == 0:
+        return records
+    lacking = draw.choice([most, draw.randint(1, most), draw.randint(1, 16), most + draw.choice([1, 8])])
+    return [Raw(content[: len(content) - lacking])]
+
+
 def with_own_events(draw, version, records):
     """The records of a block with events of the program's own, mostly behind its first CPU."""
     first = next((at for at, record in enumerate(records) if record.kind == NEW_CPU), len(records))
@@ -83,6 +103,8 @@ def recorder_log(draw):
         draw.choice([random_traces.other_header, random_traces.other_extents, random_traces.other_records])(draw, draft)
         if draw.random() < 0.3:
             draft.header[0] = draw.choice([1, 6, 5, 4])
+    if draw.random() < 0.4:
+        draft.blocks = [[with_cut_end(draw, records), more] for records, more in draft.blocks]
     for _ in range(draw.choice([0, 0, 0, 0, 1, 3])):
         # A buffer that nothing was written into.
         draft.blocks.insert(draw.randint(0, len(draft.blocks)), [[], 0])

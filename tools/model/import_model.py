@@ -53,6 +53,7 @@ class Block:
     events: list
     custom: int = 0
     typed: int = 0
+    cut: int = 0
 
 
 @dataclasses.dataclass
@@ -100,11 +101,31 @@ def record_at(content, at, end, version):
     return Rec(at, kind, found, length)
 
 
+def named_length(content, at, end, version):
+    """How many bytes the record at a place names, as far as its own bytes are there."""
+    first = content[at]
+    if first % 2 == 0:
+        return FUNCTION_LENGTH
+    is_own = first >> 1 == CUSTOM or (version == 5 and first >> 1 == TYPED)
+    if is_own and end - at >= METADATA_LENGTH:
+        return METADATA_LENGTH + struct.unpack_from("<I", content, at + 1)[0]
+    return METADATA_LENGTH
+
+
+def is_cut(content, at, begin, end, version, typed):
+    """Whether the record at a place is cut, since the runtime names 16 bytes too few for each typed event of a block."""
+    typed += version == 5 and content[at] >> 1 == TYPED and content[at] % 2 == 1
+    lacking = named_length(content, at, end, version) - (end - at)
+    return 0 < lacking <= 16 * typed and at - begin >= METADATA_LENGTH * len(preamble_of(version))
+
+
 def records_of(content, at, end, version):
-    """The records of a block, in order."""
+    """The records of a block, in order, and how many are cut at its end."""
     preamble = preamble_of(version)
-    records, has_base = [], False
+    records, has_base, begin = [], False, at
     while at < end:
+        if is_cut(content, at, begin, end, version, sum(rec.kind == TYPED for rec in records)):
+            return records, 1
         rec = record_at(content, at, end, version)
         if len(records) < len(preamble):
             due = preamble[len(records)] == rec.kind
@@ -120,7 +141,7 @@ def records_of(content, at, end, version):
         has_base = has_base or rec.kind == NEW_CPU
         records.append(rec)
         at += rec.length
-    return records
+    return records, 0
 
 
 def events_of(records, version):
@@ -166,12 +187,12 @@ def block_at(content, at, version):
         raise Refused("Extents", at)
     if used > len(content) - begin:
         raise Refused("Short", at)
-    records = records_of(content, begin, begin + used, version)
+    records, cut = records_of(content, begin, begin + used, version)
     thread, wall = records[0].fields[0], records[1].fields
     pid = records[2].fields[0] if version >= 3 else 0
     events = events_of(records, version)
     count = collections.Counter(rec.kind for rec in records)
-    block = Block(at, content[begin : begin + used], thread, wall, pid, events, count[CUSTOM], count[TYPED])
+    block = Block(at, content[begin : begin + used], thread, wall, pid, events, count[CUSTOM], count[TYPED], cut)
     return block, begin + used
 
 
@@ -310,6 +331,7 @@ def facts(log):
         (max(counters, default="-"), "last counter"),
         (sum(map(goes_back, threads.values())), "threads whose counter goes back"),
         (log.lost, "arguments without an entry left out"),
+        (sum(block.cut for block in log.blocks), "cut records left out"),
         (log.header.frequency, "cycles a second"),
     ]
     return "".join(f"{number:>20} {what}\n" for number, what in rows)

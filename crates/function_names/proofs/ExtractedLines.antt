@@ -1,16 +1,17 @@
 -- The lines of the map of a program, as texts and as entries.
-use Rattle.std.proofs.Common.{◌≡◌, ◌≤◌, ◌<◌, ◌^◌, ◌∷◌, ◌++◌, ◌∙◌, ◌==◌, ◌||◌, ◌&&◌, ℕ, Bool, true, false, List, [], map, refl, ap, sym, arith, append_assoc, inl}
-use Rattle.std.specs.Prelude.{All, codes, decimal, nat_le, if◌then◌else◌}
+use Rattle.std.proofs.Common.{◌≡◌, ◌≤◌, ◌<◌, ◌^◌, ◌∷◌, ◌++◌, ◌∙◌, ◌==◌, ◌||◌, ◌&&◌, ℕ, Bool, true, false, List, [], Some, None, drop, length, map, refl, ap, sym, arith, append_assoc, inl}
+use Rattle.std.specs.Prelude.{All, codes, decimal, filter, nat_le, not, slice_index_or, if◌then◌else◌}
 use Rattle.std.specs.List.{flat_map, list_all}
-use Rattle.std.specs.Option.{unwrap_or}
+use Rattle.std.specs.Option.{option_map_or, unwrap_or}
 use Rattle.std.specs.Str.Lines.{lines}
-use Rattle.std.proofs.lemmas.Bool.{and_from, and_parts, eqb-true, leb-true, ne_eqb}
+use Rattle.std.proofs.lemmas.Bool.{and_from, and_parts, eqb-true, leb-true, lt-ltb, ne_eqb}
 use Rattle.std.proofs.lemmas.List.{length-append}
 use Rattle.std.proofs.lemmas.List.Elements.{All-head, All-tail}
 use Rattle.text_lines.specs.Written.{are_written_words, is_word_byte, is_written_word, written_line, written_text}
 use Rattle.text_lines.proofs.WrittenLemmas.{number_short, number_word, written_lines}
 use Rattle.map_names.specs.Entries.{NamedFunction, is_entry, is_event, is_exit, is_kind, is_truth}
 use Rattle.map_names.proofs.SpelledLines.{joined_so}
+use Rattle.map_names.specs.Maps.{is_comment}
 use Rattle.map_names.specs.Spelling.{SpellEach, SpellsEntry, SpellsMap, single_byte}
 use Rattle.xray_image.specs.declared.sled.Sled.{Sled}
 use Rattle.xray_image.specs.declared.sled.SledKind.{SledKind}
@@ -82,7 +83,7 @@ line_is id address function kind always name = simp append_assoc
 pieces_are : (id address function kind always name : List ℕ)
     → written_line (words id address function kind always name)
     ≡ codes "- { id: " ++ id ++ codes ", address: " ++ address ++ codes ", function: " ++ function ++ codes ", kind: " ++ kind
-    ++ codes ", always-instrument: " ++ always ++ codes ", function-name: " ++ (39 ∷ name ++ 39 ∷ []) ++ codes " }"
+    ++ codes ", always-instrument: " ++ always ++ (codes ", function-name: " ++ (39 ∷ name ++ 39 ∷ [])) ++ codes " }"
 pieces_are id address function kind always name =
     let quoted : List ℕ = 39 ∷ name ++ 39 ∷ [] in
     let fifth : List ℕ = codes " function-name: " ++ (quoted ++ codes " }") in
@@ -96,7 +97,7 @@ pieces_are id address function kind always name =
     ∙ ap (λ (t : List ℕ). function ++ (codes ", kind: " ++ t)) (append_assoc kind (codes ",") fourth
     ∙ ap (λ (t : List ℕ). kind ++ (codes ", always-instrument: " ++ t)) (append_assoc always (codes ",") fifth)))))
     ∙ sym (joined_so (codes "- { id: ") id (codes ", address: ") address (codes ", function: ") function (codes ", kind: ") kind (codes ", always-instrument: ") always
-    (codes ", function-name: ") quoted (codes " }"))
+    (codes ", function-name: " ++ quoted) (codes " }"))
 
 -- the words of a sled
 abbrev pub sled_words : Program → Sled → List (List ℕ)
@@ -131,15 +132,20 @@ sled_spelled program sled fits =
       function = address_text sled.function;
       kind = kind_text sled.kind;
       always = truth_text sled.always;
-      written = 39 ∷ name ++ 39 ∷ [];
+      named = codes ", function-name: " ++ (39 ∷ name ++ 39 ∷ []);
       ending = codes " }";
       id_is = number_short sled.id fits.id;
       address_is = address_is sled.address fits.address;
       function_is = address_is sled.function fits.function;
       kind_is = kind_is sled.kind;
       always_is = truth_is sled.always;
-      name_is = inl (ap (λ (l : List ℕ). 39 ∷ l ++ 39 ∷ []) (sym (name_bytes name fits.name).1));
-      ending_is = inl refl;
+      name_is = inl (record {
+        written = 39 ∷ name ++ 39 ∷ [];
+        spelled = inl (ap (λ (l : List ℕ). 39 ∷ l ++ 39 ∷ []) (sym (name_bytes name fits.name).1));
+        labelled = refl;
+        direct = λ bare. absurd (let sizes = ap (λ (l : List ℕ). length l) bare in omega (arith, sizes));
+      });
+      ending_is = record { version = []; brace = codes " }"; version_is = inl refl; brace_is = inl refl; joined = refl };
       joined = pieces_are (decimal sled.id) (address_text sled.address) (address_text sled.function) (kind_text sled.kind) (truth_text sled.always) name;
     }
 
@@ -209,6 +215,22 @@ each_spelled : (program : Program) (sleds : List Sled) → All (Fits program) sl
 each_spelled program [] each = tt
 each_spelled program (sled ∷ sleds) each = (sled_spelled program sled (All-head (Fits program) sled sleds each), each_spelled program sleds (All-tail (Fits program) sled sleds each))
 
+-- no line of them is a comment
+begins_so : (rest : List ℕ) → is_comment (45 ∷ rest) ≡ false
+begins_so rest =
+    ap (λ (t : Bool). option_map_or (λ (n : ℕ). slice_index_or (45 ∷ rest) n 0 == 35) (if t then Some 0 else None) false) (lt-ltb 0 (length (45 ∷ rest)) (omega arith))
+
+abbrev said_lines : List (List ℕ) → List (List ℕ)
+said_lines all = filter (λ (line : List ℕ). not (is_comment line)) all
+
+none_comments : (program : Program) (sleds : List Sled)
+    → said_lines (map (λ (s : Sled). written_line (sled_words program s)) sleds ++ codes "..." ∷ []) ≡ map (λ (s : Sled). written_line (sled_words program s)) sleds ++ codes "..." ∷ []
+none_comments program [] = refl
+none_comments program (sled ∷ sleds) =
+    let line : List ℕ = written_line (sled_words program sled) in
+    let rest : List (List ℕ) = said_lines (map (λ (s : Sled). written_line (sled_words program s)) sleds ++ codes "..." ∷ []) in
+    ap (λ (t : Bool). if not t then line ∷ rest else rest) (begins_so (drop 1 line)) ∙ ap (λ (l : List (List ℕ)). line ∷ l) (none_comments program sleds)
+
 pub map_spelled : (program : Program) → All (Fits program) program.sleds → SpellsMap (extract_text program) (map (sled_entry program) program.sleds)
 map_spelled program each =
     let sleds : List Sled = program.sleds in
@@ -217,7 +239,8 @@ map_spelled program each =
       said = map (λ (s : Sled). written_line (sled_words program s)) sleds;
       each = each_spelled program sleds each;
       whole =
-          ap lines (append_assoc (codes "---\n") (flat_map (sled_line program) sleds) (codes "...\n") ∙ ap (λ (l : List ℕ). codes "---\n" ++ l) (sleds_written program sleds))
+          ap said_lines (ap lines (append_assoc (codes "---\n") (flat_map (sled_line program) sleds) (codes "...\n") ∙ ap (λ (l : List ℕ). codes "---\n" ++ l) (sleds_written program sleds))
           ∙ (written_lines ((codes "---" ∷ []) ∷ all) (all_written program sleds each refl)
-          ∙ ap (λ (l : List (List ℕ)). codes "---" ∷ l) (lines_of_sleds program sleds));
+          ∙ ap (λ (l : List (List ℕ)). codes "---" ∷ l) (lines_of_sleds program sleds)))
+          ∙ ap (λ (l : List (List ℕ)). codes "---" ∷ l) (none_comments program sleds);
     }

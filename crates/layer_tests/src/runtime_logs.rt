@@ -51,6 +51,9 @@ const RECORDER_FACTS: &str = "                   1 blocks
                    0 first counter
                    8 last counter
                    0 threads whose counter goes back
+                   0 arguments without an entry left out
+                   0 cut records left out
+                   0 cycles a second
 ";
 
 /// A basic log: in thread 7 an entry of function 1 with the argument 42, and its exit 4 cycles later;
@@ -96,13 +99,11 @@ const DAMAGES: [(usize, u8, LogFault); 8] = [
 ];
 
 /// A byte of the basic log, what it is changed to, and the fault.
-const BASIC_DAMAGES: [(usize, u8, LogFault); 6] = [
-    (0, 2, LogFault::Trace(TraceFault::Version(2))),
+const BASIC_DAMAGES: [(usize, u8, LogFault); 4] = [
+    (0, 4, LogFault::Trace(TraceFault::Version(4))),
     (32, 2, LogFault::Tag(32, 2)),
     (35, 4, LogFault::Kind(32, 4)),
     (39, 0x10, LogFault::Function(32, 0x1000_0001)),
-    (68, 2, LogFault::Trace(TraceFault::Order(64))),
-    (72, 2, LogFault::Trace(TraceFault::Order(64))),
 ];
 
 /// The import of a log that isn't too long for one.
@@ -160,6 +161,24 @@ fn a_block_that_stands_twice_is_taken_once(rt: HostRuntime) -> Result<(), Fail> 
         ..*once.facts()
     };
     check_same(&rt, twice.facts(), &wanted);
+    Ok(())
+}
+
+/// The places of the argument's function and thread in the basic log. If one is changed, the argument
+/// is that of no entry.
+const OTHER_ENTRIES: [usize; 2] = [68, 72];
+
+#[test]
+fn an_argument_without_its_entry_is_left_out(rt: HostRuntime) -> Result<(), Fail> {
+    for place in OTHER_ENTRIES {
+        let mut log = BASIC.to_vec(rt.alloc())?;
+        if let Some(byte) = log.get_mut(place) {
+            *byte = 2;
+        }
+        let imported = import(rt.alloc(), &log)??;
+        check_same_at(&rt, &imported.facts().lost, &1, &place);
+        check_same_at(&rt, &imported.facts().events, &3, &place);
+    }
     Ok(())
 }
 

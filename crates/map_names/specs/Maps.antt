@@ -1,10 +1,11 @@
 -- Sled maps as texts: the entries that their lines say, or the first line that refuses the text.
-use Rattle.std.specs.Prelude.{ℕ, ◌+◌, ◌==◌, ◌&&◌, ◌||◌, not, Bool, false, List, [], ◌∷◌, ◌++◌, length, codes, Result, Ok, Err, find, position, slice_index_or, option_map}
+use Rattle.std.specs.Prelude.{ℕ, ◌+◌, ◌==◌, ◌&&◌, not, Bool, false, List, [], ◌∷◌, ◌++◌, length, codes, Result, Ok, Err, find, position, slice_index_or, option_map}
 use Rattle.std.specs.Option.{option_map_or}
 use Rattle.std.specs.Str.{bytes_eq}
 use Rattle.std.specs.Str.Lines.{lines}
 use Rattle.xray_io.specs.Rows.{First, NeedsPart, InTurn, ◌>>=◌}
 use Rattle.text_lines.specs.Lines.{numbered_lines}
+use Rattle.text_lines.specs.Words.{is_blank}
 use Rattle.map_names.specs.declared.fault.MapFault.{MapFault}
 use Rattle.map_names.specs.declared.fault.MapFault.TheVariants.{Syntax}
 use Rattle.map_names.specs.Entries.{NamedFunction, entry_said}
@@ -15,10 +16,6 @@ pub data Before : Type 0 where
   Start : Before
   Listed : List NamedFunction → Before
   Whole : List NamedFunction → Before
-
--- a space (32) or a tab (9)
-abbrev pub is_blank : ℕ → Bool
-is_blank b = b == 32 || b == 9
 
 -- the line is a comment: its first byte that is no blank is `#` (35)
 abbrev pub is_comment : List ℕ → Bool

@@ -2,8 +2,9 @@
 
 ghost use Rattle.std.specs.Prelude.{◌≡◌, ◌<◌, [], List, IfSome, length, not, position};
 ghost use Rattle.map_names.specs.declared.reading.Part.TheVariants.{Head, Entries};
+ghost use Rattle.text_lines.specs.Words.{is_blank};
 ghost use Rattle.map_names.specs.Entries.{NamedFunction};
-ghost use Rattle.map_names.specs.Maps.{Listed, Start, is_blank, is_comment, map_line_rows, map_naming, said_line_rows};
+ghost use Rattle.map_names.specs.Maps.{Listed, Start, is_comment, map_line_rows, map_naming, said_line_rows};
 ghost use Rattle.map_names.specs.MapNames.{IsReading};
 ghost use Rattle.map_names.specs.private.Drafts.{IsDraftOf, Reads, Takes, before_in};
 

@@ -50,6 +50,7 @@ said_again log old new same says = record {
   doubled = same.doubled ∙ says.doubled;
   empty = same.empty ∙ says.empty;
   lost = same.lost ∙ says.lost;
+  cut = same.cut ∙ says.cut;
   frequency = same.frequency ∙ says.frequency;
 }
 
@@ -64,7 +65,7 @@ adds_first head old new all left event n more parts fills notes same = record {
   notes = λ before pid has. notes before (event_of head.thread pid event) (noted_again before old.notes n has) refl refl;
   count = same.blocks ∙ more;
   log = λ log says. said_again log (counted old.notes n).facts new.notes.facts same
-      (record { custom = says.custom; typed = says.typed; doubled = says.doubled; empty = says.empty; lost = says.lost; frequency = says.frequency });
+      (record { custom = says.custom; typed = says.typed; doubled = says.doubled; empty = says.empty; lost = says.lost; cut = says.cut; frequency = says.frequency });
 }
 
 -- an event that was noted changes neither the file nor the buffer

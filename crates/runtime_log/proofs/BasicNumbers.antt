@@ -110,6 +110,7 @@ basic_printed log trace threads none header are same = record {
   custom = ap (λ (bs : List LogBlock). sum (map (λ (b : LogBlock). b.custom) bs)) none;
   typed = ap (λ (bs : List LogBlock). sum (map (λ (b : LogBlock). b.typed) bs)) none;
   lost = refl;
+  cut = ap (λ (bs : List LogBlock). sum (map (λ (b : LogBlock). b.cut) bs)) none;
   frequency = ap (λ (h : Header). h.frequency) (sym header);
   of_events = subst (λ (es : List ThreadEvent). NumbersAreOfEvents es (facts_of log threads)) (sym same) (events_printed log threads (threads_ascend threads are.ascend));
   of_log = numbers_move (thread_events threads) log.events (facts_of log threads) are.same (events_printed log threads (threads_ascend threads are.ascend));

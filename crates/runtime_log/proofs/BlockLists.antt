@@ -83,6 +83,9 @@ custom_more said b = ap sum (map-append (λ (x : LogBlock). x.custom) said (b �
 typed_more : (said : List LogBlock) (b : LogBlock) → sum (map (λ (x : LogBlock). x.typed) (said ++ b ∷ [])) ≡ sum (map (λ (x : LogBlock). x.typed) said) + b.typed
 typed_more said b = ap sum (map-append (λ (x : LogBlock). x.typed) said (b ∷ [])) ∙ sum_by_push (λ n. n) (map (λ (x : LogBlock). x.typed) said) b.typed
 
+cut_more : (said : List LogBlock) (b : LogBlock) → sum (map (λ (x : LogBlock). x.cut) (said ++ b ∷ [])) ≡ sum (map (λ (x : LogBlock). x.cut) said) + b.cut
+cut_more said b = ap sum (map-append (λ (x : LogBlock). x.cut) said (b ∷ [])) ∙ sum_by_push (λ n. n) (map (λ (x : LogBlock). x.cut) said) b.cut
+
 -- ---- one more block
 
 -- the blocks from a place on, after these
@@ -95,9 +98,9 @@ block_first version said at rest some = ap (InTurn (log_block_rows version) said
 
 pub blocks_more : (version : LogVersion) (bytes : List ℕ) (at : ℕ) (old new : LogBlocks) (placed : Placed) (b : LogBlock) → BlocksRead version bytes at old → at < length bytes
     → log_block_in version (at, drop at bytes) ≡ Ok b → IsAt bytes version placed b → placed.end ≡ at + block_length (drop at bytes)
-    → new.blocks.items ≡ old.blocks.items ++ placed ∷ [] → new.custom ≡ old.custom + b.custom → new.typed ≡ old.typed + b.typed
+    → new.blocks.items ≡ old.blocks.items ++ placed ∷ [] → new.custom ≡ old.custom + b.custom → new.typed ≡ old.typed + b.typed → new.cut ≡ old.cut + b.cut
     → BlocksRead version bytes placed.end new
-blocks_more version bytes at old new placed b r within is place end items custom typed =
+blocks_more version bytes at old new placed b r within is place end items custom typed cut =
     let rest = drop at bytes in
     let more : List LogBlock = r.said ++ b ∷ [] in
     let some : 0 < length rest = omega (arith, length-drop at bytes) in
@@ -111,6 +114,7 @@ blocks_more version bytes at old new placed b r within is place end items custom
       places = subst (λ (xs : List Placed). AreAt bytes version xs more) (sym items) (at_more bytes version old.blocks.items r.said placed b r.places place);
       custom = custom ∙ ap (λ (n : ℕ). n + b.custom) r.custom ∙ sym (custom_more r.said b);
       typed = typed ∙ ap (λ (n : ℕ). n + b.typed) r.typed ∙ sym (typed_more r.said b);
+      cut = cut ∙ ap (λ (n : ℕ). n + b.cut) r.cut ∙ sym (cut_more r.said b);
     }
 
 pub blocks_stop : (version : LogVersion) (bytes : List ℕ) (at : ℕ) (blocks : LogBlocks) (fault : TraceFault) → BlocksRead version bytes at blocks → at < length bytes

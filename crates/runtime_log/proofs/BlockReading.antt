@@ -15,7 +15,7 @@ use Rattle.runtime_log.specs.declared.own_event.OwnKind.{OwnKind}
 use Rattle.runtime_log.specs.declared.own_event.OwnKind.TheVariants.{Custom, Typed}
 use Rattle.runtime_log.specs.declared.version.LogVersion.{LogVersion}
 use Rattle.runtime_log.specs.declared.walk.BlockWalk.{BlockWalk}
-use Rattle.runtime_log.specs.Logs.{BlockSoFar, LogBlock, block_content, block_opened, block_said, block_size_rows, content_rows, log_block_in, log_places, log_record_rows, block_with, one_custom, one_typed, said_rows}
+use Rattle.runtime_log.specs.Logs.{BlockSoFar, LogBlock, block_content, block_opened, block_said, block_size_rows, content_rows, log_block_in, whole_content, log_places, log_record_rows, block_with, one_custom, one_typed, said_rows}
 use Rattle.runtime_log.specs.OwnEvents.{log_record_length, own_kind}
 use Rattle.runtime_log.specs.private.Choices.{IsAt, Shows, counter_first}
 use Rattle.runtime_log.specs.private.Readings.{MayPass, ReadsOn, walk_reads}
@@ -133,38 +133,39 @@ reads_past so old before first new placed walk next r v (inr (some, stretch, p))
 
 -- the records of a block, by the walk that was opened before the first of them
 pub opened_rows : (version : LogVersion) (at size : ℕ) (rest : List ℕ) (walk : BlockWalk) (x : Result BlockSoFar TraceFault) → IsOpened version at size rest walk
-    → InTurn (said_rows walk.version) (block_opened at size) (log_places walk.version walk.at walk.rest.now) ≡ x → content_rows version at size rest ≡ x
+    → InTurn (said_rows walk.version) (block_opened at (length (whole_content version (block_content size rest)))) (log_places walk.version walk.at walk.rest.now) ≡ x → content_rows version at size rest ≡ x
 opened_rows version at size rest walk x o is =
-    let so = block_opened at size in
-    ap (λ (w : LogVersion). InTurn (said_rows w) so (log_places w (at + 16) (block_content size rest))) (sym o.version_is)
-    ∙ ap (λ (k : ℕ). InTurn (said_rows walk.version) so (log_places walk.version k (block_content size rest))) (sym o.at_is)
+    let whole = whole_content version (block_content size rest) in
+    let so = block_opened at (length whole) in
+    ap (λ (w : LogVersion). InTurn (said_rows w) so (log_places w (at + 16) whole)) (sym o.version_is)
+    ∙ ap (λ (k : ℕ). InTurn (said_rows walk.version) so (log_places walk.version k whole)) (sym o.at_is)
     ∙ ap (λ (xs : List ℕ). InTurn (said_rows walk.version) so (log_places walk.version walk.at xs)) (sym o.rest)
     ∙ is
 
 -- a block by what its records say
-abbrev Said : ℕ → List ℕ → Result BlockSoFar TraceFault → Result LogBlock TraceFault
-Said at content read = read >>= λ so. Ok (block_said at content so)
+abbrev Said : LogVersion → ℕ → List ℕ → Result BlockSoFar TraceFault → Result LogBlock TraceFault
+Said version at content read = read >>= λ so. Ok (block_said version at content so)
 
 pub block_is : (version : LogVersion) (at size : ℕ) (rest : List ℕ) (all : BlockSoFar) → block_size_rows version (at, rest) ≡ Ok size
-    → content_rows version at size rest ≡ Ok all → log_block_in version (at, rest) ≡ Ok (block_said at (block_content size rest) all)
+    → content_rows version at size rest ≡ Ok all → log_block_in version (at, rest) ≡ Ok (block_said version at (block_content size rest) all)
 block_is version at size rest all sized is =
-    ap (λ (n : Result ℕ TraceFault). n >>= λ k. Said at (block_content k rest) (content_rows version at k rest)) sized
-    ∙ ap (Said at (block_content size rest)) is
+    ap (λ (n : Result ℕ TraceFault). n >>= λ k. Said version at (block_content k rest) (content_rows version at k rest)) sized
+    ∙ ap (Said version at (block_content size rest)) is
 
 pub block_stops : (version : LogVersion) (at size : ℕ) (rest : List ℕ) (fault : TraceFault) → block_size_rows version (at, rest) ≡ Ok size
     → content_rows version at size rest ≡ Err fault → log_block_in version (at, rest) ≡ Err fault
 block_stops version at size rest fault sized is =
-    ap (λ (n : Result ℕ TraceFault). n >>= λ k. Said at (block_content k rest) (content_rows version at k rest)) sized
-    ∙ ap (Said at (block_content size rest)) is
+    ap (λ (n : Result ℕ TraceFault). n >>= λ k. Said version at (block_content k rest) (content_rows version at k rest)) sized
+    ∙ ap (Said version at (block_content size rest)) is
 
 pub block_unsized : (version : LogVersion) (at : ℕ) (rest : List ℕ) (fault : TraceFault) → block_size_rows version (at, rest) ≡ Err fault → log_block_in version (at, rest) ≡ Err fault
-block_unsized version at rest fault sized = ap (λ (n : Result ℕ TraceFault). n >>= λ k. Said at (block_content k rest) (content_rows version at k rest)) sized
+block_unsized version at rest fault sized = ap (λ (n : Result ℕ TraceFault). n >>= λ k. Said version at (block_content k rest) (content_rows version at k rest)) sized
 
 -- the places of a block that was read
 pub block_at : (version : LogVersion) (bytes : List ℕ) (at size : ℕ) (placed : Placed) (all : BlockSoFar) → at ≤ length bytes → 16 + size ≤ length (drop at bytes)
-    → log_block_in version (at, drop at bytes) ≡ Ok (block_said at (block_content size (drop at bytes)) all)
+    → log_block_in version (at, drop at bytes) ≡ Ok (block_said version at (block_content size (drop at bytes)) all)
     → placed.begin ≡ at → placed.end ≡ at + 16 + size → Shows placed all.block
-    → IsAt bytes version placed (block_said at (block_content size (drop at bytes)) all)
+    → IsAt bytes version placed (block_said version at (block_content size (drop at bytes)) all)
 block_at version bytes at size placed all within fits said begin end shows =
     let from : placed.begin + 16 ≡ at + 16 = omega (arith, begin) in
     let long : placed.end - (placed.begin + 16) ≡ size = omega (arith, begin, end) in

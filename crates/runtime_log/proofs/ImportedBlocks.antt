@@ -71,6 +71,7 @@ facts_packed log taken packing packed = λ i. record {
   last = packed.notes.last i;
   back = packed.notes.back i;
   lost = packed.says.lost i;
+  cut = packed.says.cut i;
   frequency = packed.says.frequency i;
 }
 

@@ -278,6 +278,7 @@ printed log trace taken are none header events =
       custom = refl;
       typed = refl;
       lost = none;
+      cut = refl;
       frequency = ap (λ (h : Header). h.frequency) (sym header);
       of_events = subst (λ (es : List ThreadEvent). NumbersAreOfEvents es (facts_of log blocks)) (sym events) (events_printed log blocks (threads_rise taken (rises_from_sorted order_key taken are.sorted)));
     }

@@ -12,6 +12,7 @@ pub mod LogEvents
 pub mod LogShapes
 pub mod LogDescribed
 pub mod RecordsAgain
+pub mod CutRecords
 pub mod EventsAgain
 pub mod LogAgain
 -- What is imported of a log: each event of each thread, and what is printed (src/laws.rt)

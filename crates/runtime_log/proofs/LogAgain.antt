@@ -34,9 +34,9 @@ use Rattle.runtime_log.specs.declared.fault.LogFault.{LogFault}
 use Rattle.runtime_log.specs.declared.version.LogVersion.{LogVersion}
 use Rattle.runtime_log.specs.declared.version.LogVersion.TheVariants.{Two, Three, Four, Five}
 use Rattle.runtime_log.specs.Arguments.{arg_follows, found_before}
-use Rattle.runtime_log.specs.Grammar.{AreLogBlocks, AreLogRecords, IsBare, IsFilled, IsLogBlock, IsLogHeader, LogRecord, OfProgram, OfTrace, arg_first, is_custom_event, is_typed_event, stand_for, stands_for, version_number}
+use Rattle.runtime_log.specs.Grammar.{AreLogBlocks, AreLogRecords, IsBare, IsCutEnd, IsFilled, IsLogBlock, IsLogHeader, LogRecord, OfProgram, OfTrace, arg_first, is_custom_event, is_typed_event, stand_for, stands_for, version_number}
 use Rattle.runtime_log.specs.LogLaws.{LogIsLogged}
-use Rattle.runtime_log.specs.Logs.{BlockSoFar, Log, LogBlock, as_log, block_content, block_opened, block_size_rows, content_rows, log_block_in, log_block_rows, log_of_blocks, log_places, logged, recorder_blocks, recorder_header, said_rows, sized_rows, too_few}
+use Rattle.runtime_log.specs.Logs.{BlockSoFar, Log, LogBlock, as_log, block_content, block_opened, block_size_rows, content_rows, cut_after, cut_length, log_block_in, log_block_rows, log_of_blocks, log_places, logged, recorder_blocks, recorder_header, said_rows, sized_rows, too_few, whole_content, whole_rows}
 use Rattle.runtime_log.specs.OwnEvents.{log_record_in}
 use Rattle.runtime_log.specs.Versions.{log_version_of, trace_version}
 use Rattle.runtime_log.specs.private.Headers.{mode_of}
@@ -44,6 +44,8 @@ use Rattle.runtime_log.proofs.BlockLists.{Onward, block_first, block_sized}
 use Rattle.runtime_log.proofs.BlockReading.{block_is}
 use Rattle.runtime_log.proofs.EventsAgain.{events_again, events_are}
 use Rattle.runtime_log.proofs.ArgumentsBehind.{rec_other}
+use Rattle.runtime_log.proofs.CutRecords.{cut_again, cut_none, cut_past, whole_all, whole_is}
+use Rattle.runtime_log.proofs.LogEvents.{no_bytes}
 use Rattle.runtime_log.proofs.LogRecords.{record_by}
 use Rattle.runtime_log.proofs.LogShapes.{no_custom, no_pid, no_typed}
 use Rattle.runtime_log.proofs.RecordWalk.{rows_none, starts_none}
@@ -223,44 +225,81 @@ two_again version v at content block (a ∷ c ∷ rest) others k =
     let same : stand_for (WallTime w ∷ NewBuffer t ∷ []) rest ≡ others = cc in
     subst (ReadsAgain version at 32 content block) all_is (two_known version v at t w content block rest others same known)
 
-reads_again : (version : LogVersion) (at : ℕ) (b : LogBlock) (is : IsFilled version b) → ReadsAgain version at (preamble_bytes (trace_version version)) b.content b.block is.records
+reads_again : (version : LogVersion) (at : ℕ) (b : LogBlock) (is : IsFilled version b) → ReadsAgain version at (preamble_bytes (trace_version version)) is.whole b.block is.records
 reads_again Two at b is =
-    two_again Two refl at b.content b.block is.records is.others (record { spelled = is.spelled; are = is.are; inner = is.inner; based = is.based; args = is.args; told = is.told })
+    two_again Two refl at is.whole b.block is.records is.others (record { spelled = is.spelled; are = is.are; inner = is.inner; based = is.based; args = is.args; told = is.told })
 reads_again Three at b is =
-    three_again Three refl at b.content b.block is.records is.others (record { spelled = is.spelled; are = is.are; inner = is.inner; based = is.based; args = is.args; told = is.told })
+    three_again Three refl at is.whole b.block is.records is.others (record { spelled = is.spelled; are = is.are; inner = is.inner; based = is.based; args = is.args; told = is.told })
 reads_again Four at b is =
-    three_again Four refl at b.content b.block is.records is.others (record { spelled = is.spelled; are = is.are; inner = is.inner; based = is.based; args = is.args; told = is.told })
+    three_again Four refl at is.whole b.block is.records is.others (record { spelled = is.spelled; are = is.are; inner = is.inner; based = is.based; args = is.args; told = is.told })
 reads_again Five at b is =
-    three_again Five refl at b.content b.block is.records is.others (record { spelled = is.spelled; are = is.are; inner = is.inner; based = is.based; args = is.args; told = is.told })
+    three_again Five refl at is.whole b.block is.records is.others (record { spelled = is.spelled; are = is.are; inner = is.inner; based = is.based; args = is.args; told = is.told })
 
 -- ---- blocks
 
-block_same : (b : LogBlock) (at : ℕ) (content : List ℕ) (x y : ℕ) → b.place ≡ at → content ≡ b.content → b.custom ≡ x → b.typed ≡ y
-    → ◌≡◌ {A = Result LogBlock TraceFault} (Ok (record { place = at; content = content; block = b.block; custom = x; typed = y })) (Ok b)
-block_same b at content x y place is custom typed =
-    ap (λ (n : ℕ). let z : Result LogBlock TraceFault = Ok (record { place = n; content = content; block = b.block; custom = x; typed = y }) in z) (sym place)
-    ∙ ap (λ (xs : List ℕ). let z : Result LogBlock TraceFault = Ok (record { place = b.place; content = xs; block = b.block; custom = x; typed = y }) in z) is
-    ∙ ap (λ (n : ℕ). let z : Result LogBlock TraceFault = Ok (record { place = b.place; content = b.content; block = b.block; custom = n; typed = y }) in z) (sym custom)
-    ∙ ap (λ (n : ℕ). let z : Result LogBlock TraceFault = Ok (record { place = b.place; content = b.content; block = b.block; custom = b.custom; typed = n }) in z) (sym typed)
+block_same : (b : LogBlock) (at : ℕ) (content : List ℕ) (block : Block) (x y z : ℕ) → b.place ≡ at → content ≡ b.content → b.block ≡ block → b.custom ≡ x → b.typed ≡ y → b.cut ≡ z
+    → record { place = at; content = content; block = block; custom = x; typed = y; cut = z } ≡ b
+block_same b at content block x y z place is said custom typed cut = λ i. record {
+  place = (sym place) i;
+  content = is i;
+  block = (sym said) i;
+  custom = (sym custom) i;
+  typed = (sym typed) i;
+  cut = (sym cut) i;
+}
 
 -- a block with records has bytes
 pub filled_long : (version : LogVersion) (b : LogBlock) → IsFilled version b → 0 < length b.content
 filled_long version b is = by_version version (reads_again version 0 b is).enough
   where
-    by_version : (v : LogVersion) → preamble_bytes (trace_version v) ≤ length b.content → 0 < length b.content
-    by_version Two enough = omega (arith, enough)
-    by_version Three enough = omega (arith, enough)
-    by_version Four enough = omega (arith, enough)
-    by_version Five enough = omega (arith, enough)
+    long : length b.content ≡ length is.whole + length is.end
+    long = ap length is.content ∙ length-append is.whole is.end
+
+    by_version : (v : LogVersion) → preamble_bytes (trace_version v) ≤ length is.whole → 0 < length b.content
+    by_version Two enough = omega (arith, enough, long)
+    by_version Three enough = omega (arith, enough, long)
+    by_version Four enough = omega (arith, enough, long)
+    by_version Five enough = omega (arith, enough, long)
+
+-- the record that is cut at the end of a block is found again
+record CutAgain (version : LogVersion) (b : LogBlock) (is : IsFilled version b) : Type 0 where
+  long : cut_length version b.content ≡ length is.end
+  count : b.cut ≡ cond {A = ℕ} (eqb (cut_length version b.content) 0) 0 1
+
+end_again : (version : LogVersion) (b : LogBlock) (is : IsFilled version b) → CutAgain version b is
+end_again version b is = by_cut is.cut
+  where
+    size : ℕ
+    size = length b.content
+
+    count : ℕ
+    count = count_by is_typed_event is.records
+
+    past : cut_length version b.content ≡ cut_after version size count (log_places version (length is.whole) is.end)
+    past =
+        ap (λ (xs : List ℕ). cut_after version size 0 (log_places version 0 xs)) is.content
+        ∙ (cut_past version size 0 0 is.records is.whole is.end is.spelled
+        ∙ (ap (λ (n : ℕ). cut_after version size n (log_places version (0 + length is.whole) is.end)) (omega arith)
+        ∙ ap (λ (n : ℕ). cut_after version size count (log_places version n is.end)) (omega arith)))
+
+    by_cut : IsCutEnd version size is.records is.end b.cut → CutAgain version b is
+    by_cut (inl none) =
+        let long : cut_length version b.content ≡ 0 = past ∙ cut_none version size count (length is.whole) is.end (ap length none.0) in
+        record { long = long ∙ sym (ap length none.0); count = none.1 ∙ sym (ap (λ (k : ℕ). cond {A = ℕ} (eqb k 0) 0 1) long) }
+    by_cut (inr cut) =
+        let long : cut_length version b.content ≡ length is.end = past ∙ cut_again version size count (length is.whole) is.end cut.0 in
+        let some : length is.end ≢ 0 = λ none. cut.0.begins (no_bytes is.end none) in
+        record { long = long; count = cut.1 ∙ sym (ap (λ (k : ℕ). cond {A = ℕ} (eqb k 0) 0 1) long ∙ ap (λ (t : Bool). cond {A = ℕ} t 0 1) (ne_eqb (length is.end) 0 some)) }
 
 -- the content of a block is read again, and its size is accepted
 record ContentAgain (version : LogVersion) (at : ℕ) (b : LogBlock) : Type 0 where
   enough : too_few version (length b.content) ≡ false
   so : BlockSoFar
-  reads : InTurn (said_rows version) (block_opened at (length b.content)) (log_places version (at + 16) b.content) ≡ Ok so
+  reads : whole_rows version at (whole_content version b.content) ≡ Ok so
   block : b.block ≡ so.block
   custom : b.custom ≡ so.custom
   typed : b.typed ≡ so.typed
+  cut : b.cut ≡ cond {A = ℕ} (eqb (cut_length version b.content) 0) 0 1
 
 and_false : (a b : Bool) → b ≡ false → (a && b) ≡ false
 and_false true b e = e
@@ -268,22 +307,29 @@ and_false false b e = refl
 
 content_again : (version : LogVersion) (at : ℕ) (b : LogBlock) → IsFilled version b ⊎ IsBare b → ContentAgain version at b
 content_again version at b (inl is) =
-    let r = reads_again version at b is in record {
-      enough = and_false (not (eqb (length b.content) 0)) (ltb (length b.content) (preamble_bytes (trace_version version))) (le-ltb (length b.content) (preamble_bytes (trace_version version)) r.enough);
+    let r = reads_again version at b is in
+    let c = end_again version b is in
+    let long : length b.content ≡ length is.whole + length is.end = ap length is.content ∙ length-append is.whole is.end in
+    let least : preamble_bytes (trace_version version) ≤ length b.content = omega (arith, r.enough, long) in record {
+      enough = and_false (not (eqb (length b.content) 0)) (ltb (length b.content) (preamble_bytes (trace_version version))) (le-ltb (length b.content) (preamble_bytes (trace_version version)) least);
       so = so_said b.block is.records;
-      reads = r.reads;
+      reads = ap (whole_rows version at) (whole_is version b.content is.whole is.end is.content c.long) ∙ r.reads;
       block = refl;
       custom = is.custom;
       typed = is.typed;
+      cut = c.count;
     }
 content_again version at b (inr bare) =
-    let none : length b.content ≡ 0 = ap length bare.bytes in record {
+    let none : length b.content ≡ 0 = ap length bare.bytes in
+    let no_cut : cut_length version b.content ≡ 0 = cut_none version (length b.content) 0 0 b.content none in
+    let whole : whole_content version b.content ≡ b.content = whole_all version b.content no_cut in record {
       enough = ap (λ (k : ℕ). not (eqb k 0) && ltb k (preamble_bytes (trace_version version))) none;
       so = block_opened at (length b.content);
-      reads = rows_none version (block_opened at (length b.content)) (at + 16) b.content none;
+      reads = ap (whole_rows version at) whole ∙ rows_none version (block_opened at (length b.content)) (at + 16) b.content none;
       block = bare.block;
       custom = bare.custom;
       typed = bare.typed;
+      cut = bare.cut ∙ sym (ap (λ (k : ℕ). cond {A = ℕ} (eqb k 0) 0 1) no_cut);
     }
 
 pub record BlockAgain (version : LogVersion) (at : ℕ) (front : List ℕ) (b : LogBlock) (bytes : List ℕ) : Type 0 where
@@ -307,12 +353,13 @@ block_again version at front following b place is =
     ∙ ap (λ (t : Bool). First t (Err (traces.Extents at)) (First (ltb (length bytes) (16 + n)) (Err (traces.Short at)) (Ok n))) c.enough
     ∙ ap (λ (t : Bool). let x : Result ℕ TraceFault = First t (Err (traces.Short at)) (Ok n) in x) (le-ltb (length bytes) (16 + n) (omega (arith, long))) in
     let content : block_content n bytes ≡ b.content = ap (take n) (drop_at is.extents (b.content ++ following) 16 is.named.whole) ∙ take_at b.content following n refl in
-    let rows : content_rows version at n bytes ≡ Ok c.so = ap (λ (xs : List ℕ). InTurn (said_rows version) (block_opened at n) (log_places version (at + 16) xs)) content ∙ c.reads in
+    let rows : content_rows version at n bytes ≡ Ok c.so = ap (λ (xs : List ℕ). whole_rows version at (whole_content version xs)) content ∙ c.reads in
     subst (BlockAgain version at front b) (sym parts) (record {
       reads =
           block_is version at n bytes c.so sized rows
-          ∙ ap (λ (x : Block). let z : Result LogBlock TraceFault = Ok (record { place = at; content = block_content n bytes; block = x; custom = c.so.custom; typed = c.so.typed }) in z) (sym c.block)
-          ∙ block_same b at (block_content n bytes) c.so.custom c.so.typed place content c.custom c.typed;
+          ∙ ap (λ (x : LogBlock). let z : Result LogBlock TraceFault = Ok x in z) (block_same b at (block_content n bytes) c.so.block c.so.custom c.so.typed
+          (cond {A = ℕ} (eqb (cut_length version (block_content n bytes)) 0) 0 1) place content c.block c.custom c.typed
+          (c.cut ∙ ap (λ (xs : List ℕ). cond {A = ℕ} (eqb (cut_length version xs) 0) 0 1) (sym content)));
       long = block_sized version at bytes n sized ∙ omega (arith, ap length is.parts, length-append is.extents b.content, is.named.whole);
       some = omega (arith, long);
     })

@@ -1,7 +1,7 @@
 -- What is read as a log of the Flight Data Recorder mode is one by the grammar.
-use Rattle.std.proofs.Common.{◌≡◌, ℕ, zero, suc, ◌+◌, ◌<◌, ◌≤◌, Bool, true, false, cond, eqb, ltb, List, [], ◌∷◌, ◌++◌, length, drop, take, Option, Some, None, Result, Ok, Err, inl, inr, refl, sym, ap, subst, ◌∙◌, append_assoc, append-nil, arith}
-use Rattle.std.specs.Prelude.{◌⊎◌, ◌&&◌, not}
-use Rattle.std.proofs.lemmas.Bool.{cases_lt, eqb-true, ltb-false}
+use Rattle.std.proofs.Common.{◌≡◌, ℕ, zero, suc, ◌+◌, ◌-◌, ◌<◌, ◌≤◌, Bool, true, false, cond, eqb, ltb, List, [], ◌∷◌, ◌++◌, length, drop, take, Option, Some, None, Result, Ok, Err, inl, inr, refl, sym, ap, subst, ◌∙◌, append_assoc, append-nil, arith}
+use Rattle.std.specs.Prelude.{◌≢◌, ◌⊎◌, ◌&&◌, count_by, not}
+use Rattle.std.proofs.lemmas.Bool.{cases_lt, eqb-true, ltb-false, ne_eqb}
 use Rattle.std.proofs.lemmas.List.{drop-drop, length-drop, length-take, take-append-drop}
 use Rattle.std.proofs.lemmas.List.Elements.{All-drop, All-take}
 use Rattle.std.proofs.Math.Seq.{take-add}
@@ -23,15 +23,16 @@ use Rattle.runtime_log.specs.declared.blocks.Mode.TheVariants.{Recorder, Basic}
 use Rattle.runtime_log.specs.declared.own_event.OwnKind.{OwnKind}
 use Rattle.runtime_log.specs.declared.version.LogVersion.{LogVersion}
 use Rattle.runtime_log.specs.declared.version.LogVersion.TheVariants.{Two, Three, Four, Five}
-use Rattle.runtime_log.specs.Grammar.{AreLogBlocks, IsBare, IsFilled, IsLogBlock, IsLogHeader, version_number}
+use Rattle.runtime_log.specs.Grammar.{AreLogBlocks, AreLogRecords, IsBare, IsCutEnd, IsFilled, LogRecord, is_typed_event, IsLogBlock, IsLogHeader, version_number}
 use Rattle.runtime_log.specs.LogLaws.{LoggedIsLog}
-use Rattle.runtime_log.specs.Logs.{BlockSoFar, LogBlock, as_log, block_content, block_opened, block_said, block_size_rows, log_block_in, log_block_rows, log_places, recorder_blocks, recorder_header, said_rows, sized_rows, too_few}
+use Rattle.runtime_log.specs.Logs.{BlockSoFar, LogBlock, as_log, block_content, block_opened, block_said, block_size_rows, cut_after, cut_length, log_block_in, log_block_rows, log_places, recorder_blocks, recorder_header, sized_rows, too_few, whole_content, whole_rows}
 use Rattle.runtime_log.specs.Arguments.{arg_follows, found_before, rec_before}
 use Rattle.runtime_log.specs.OwnEvents.{log_record_in, own_kind}
 use Rattle.runtime_log.specs.Versions.{log_version_of, trace_version}
 use Rattle.runtime_log.specs.private.Headers.{header_for, mode_of}
 use Rattle.runtime_log.proofs.ArgumentsBehind.{size_before}
 use Rattle.runtime_log.proofs.BlockLists.{block_first, block_sized, size_is}
+use Rattle.runtime_log.proofs.CutRecords.{cut_few, cut_is, cut_past, whole_enough, whole_long}
 use Rattle.runtime_log.proofs.LogEvents.{no_bytes}
 use Rattle.runtime_log.proofs.LogRecords.{Decodes}
 use Rattle.runtime_log.proofs.LogShapes.{block_read}
@@ -92,22 +93,87 @@ record BlockDescribed (version : LogVersion) (at : ℕ) (bytes : List ℕ) (b : 
   long : block_length bytes ≡ 16 + length b.content
   whole : 16 + length b.content ≤ length bytes
 
+-- the end of a content behind its whole records
+abbrev end_of : LogVersion → List ℕ → List ℕ
+end_of version content = drop (length content - cut_length version content) content
+
+-- a count of one, or of none
+count_cut : (n : ℕ) → n ≡ 0 → cond {A = ℕ} (eqb n 0) 0 1 ≡ 0
+count_cut n none = ap (λ (k : ℕ). cond {A = ℕ} (eqb k 0) 0 1) none
+
+count_one : (n : ℕ) → n ≢ 0 → cond {A = ℕ} (eqb n 0) 0 1 ≡ 1
+count_one n some = ap (λ (b : Bool). cond {A = ℕ} b 0 1) (ne_eqb n 0 some)
+
+-- a record is cut behind these, or none
+end_says : (version : LogVersion) (at : ℕ) (content : List ℕ) (records : List LogRecord) → AreLogRecords version records (whole_content version content)
+    → IsCutEnd version (length content) records (end_of version content) (cond {A = ℕ} (eqb (cut_length version content) 0) 0 1)
+end_says version at content records are = by_end (end_of version content) refl
+  where
+    whole : List ℕ
+    whole = whole_content version content
+
+    count : ℕ
+    count = count_by is_typed_event records
+
+    parts : content ≡ whole ++ end_of version content
+    parts = sym (take-append-drop (length content - cut_length version content) content)
+
+    long : length (end_of version content) ≡ cut_length version content
+    long = omega (arith, length-drop (length content - cut_length version content) content, cut_few version content)
+
+    past : cut_length version content ≡ cut_after version (length content) count (log_places version (length whole) (end_of version content))
+    past =
+        ap (λ (xs : List ℕ). cut_after version (length content) 0 (log_places version 0 xs)) parts
+        ∙ (cut_past version (length content) 0 0 records whole (end_of version content) are
+        ∙ (ap (λ (n : ℕ). cut_after version (length content) n (log_places version (0 + length whole) (end_of version content))) (omega arith)
+        ∙ ap (λ (n : ℕ). cut_after version (length content) count (log_places version n (end_of version content))) (omega arith)))
+
+    by_end : (end : List ℕ) → end_of version content ≡ end → IsCutEnd version (length content) records (end_of version content) (cond {A = ℕ} (eqb (cut_length version content) 0) 0 1)
+    by_end [] e = inl (e, count_cut (cut_length version content) (sym long ∙ ap length e))
+    by_end (b ∷ end) e =
+        let some : end_of version content ≢ [] = λ none. absurd (let no : b ∷ end ≡ [] = sym e ∙ none in cc) in
+        let cut = cut_is version (length content) count (length whole) (end_of version content) some (sym past ∙ sym long) in
+        let there : length (b ∷ end) ≡ cut_length version content = ap length (sym e) ∙ long in
+        inr (cut, count_one (cut_length version content) (λ none. omega (arith, there, none)))
+
 -- what the content of a block says: its records, or nothing
 content_says : Decodes → (version : LogVersion) (at size : ℕ) (content : List ℕ) (so : BlockSoFar) → AreBytes content → length content ≡ size
-    → (size ≡ 0) ⊎ (preamble_bytes (trace_version version) ≤ size) → InTurn (said_rows version) (block_opened at size) (log_places version (at + 16) content) ≡ Ok so
-    → IsFilled version (block_said at content so) ⊎ IsBare (block_said at content so)
+    → (size ≡ 0) ⊎ (preamble_bytes (trace_version version) ≤ size) → whole_rows version at (whole_content version content) ≡ Ok so
+    → IsFilled version (block_said version at content so) ⊎ IsBare (block_said version at content so)
 content_says decodes version at size content so all long (inr least) reads =
-    let r = block_read decodes version at size content so all long least reads in
-    inl (record { records = r.records; spelled = r.spelled; others = r.others; are = r.are; inner = r.inner; based = r.based; args = r.args; told = r.told; custom = r.custom; typed = r.typed })
+    let whole = whole_content version content in
+    let fits : AreBytes whole = All-take (λ b. b < 256) (length content - cut_length version content) content all in
+    let r = block_read decodes version at (length whole) whole so fits refl (whole_enough version content (omega (arith, long, least))) reads in
+    inl (record {
+      whole = whole;
+      end = end_of version content;
+      content = sym (take-append-drop (length content - cut_length version content) content);
+      records = r.records;
+      spelled = r.spelled;
+      cut = end_says version at content r.records r.spelled;
+      others = r.others;
+      are = r.are;
+      inner = r.inner;
+      based = r.based;
+      args = r.args;
+      told = r.told;
+      custom = r.custom;
+      typed = r.typed;
+    })
 content_says decodes version at size content so all long (inl none) reads =
     let zero_long : length content ≡ 0 = long ∙ none in
-    let both : Ok (block_opened at size) ≡ Ok so = sym (rows_none version (block_opened at size) (at + 16) content zero_long) ∙ reads in
-    let same : block_opened at size ≡ so = cc in
+    let few = cut_few version content in
+    let no_cut : cut_length version content ≡ 0 = omega (arith, few, zero_long) in
+    let whole_long_is : length (whole_content version content) ≡ 0 = omega (arith, whole_long version content, zero_long) in
+    let opened = block_opened at (length (whole_content version content)) in
+    let both : Ok opened ≡ Ok so = sym (rows_none version opened (at + 16) (whole_content version content) whole_long_is) ∙ reads in
+    let same : opened ≡ so = cc in
     inr (record {
       bytes = no_bytes content zero_long;
       block = ap (λ (s : BlockSoFar). s.block) (sym same);
       custom = ap (λ (s : BlockSoFar). s.custom) (sym same);
       typed = ap (λ (s : BlockSoFar). s.typed) (sym same);
+      cut = count_cut (cut_length version content) no_cut;
     })
 
 block_described : Decodes → (version : LogVersion) (at : ℕ) (bytes : List ℕ) (b : LogBlock) → AreBytes bytes → log_block_in version (at, bytes) ≡ Ok b → BlockDescribed version at bytes b
@@ -118,7 +184,7 @@ block_described decodes version at bytes b all is =
     let long : length content ≡ p.size = omega (arith, length-take p.size (drop 16 bytes), length-drop 16 bytes, z.whole) in
     let extents = subst (Answers bytes) z.found (decodes bytes all) in
     let same : p.size ≡ length content = sym long in
-    let whole = All-take (λ b. b < 256) p.size (drop 16 bytes) (All-drop (λ b. b < 256) 16 bytes all) in
+    let fits = All-take (λ b. b < 256) p.size (drop 16 bytes) (All-drop (λ b. b < 256) 16 bytes all) in
     subst (BlockDescribed version at bytes) (sym p.is) (record {
       place = refl;
       is = record {
@@ -126,7 +192,7 @@ block_described decodes version at bytes b all is =
         parts = ap (λ (k : ℕ). take (16 + k) bytes) long ∙ take-add 16 p.size bytes;
         named = subst (λ (k : ℕ). Spells (take 16 bytes) (Extents k)) same extents.1;
         few = omega (arith, extents.0, long);
-        says = content_says decodes version at p.size content p.so whole long z.least p.reads;
+        says = content_says decodes version at p.size content p.so fits long z.least p.reads;
       };
       long = block_sized version at bytes p.size p.sized ∙ ap (λ (k : ℕ). 16 + k) same;
       whole = omega (arith, z.whole, long);

@@ -1,5 +1,5 @@
 -- The file of an import reads as the trace that was taken: its header and its blocks fit what is written.
-use Rattle.std.proofs.Common.{◌≡◌, ℕ, ◌+◌, ◌^◌, ◌<◌, ◌≤◌, Bool, true, false, cond, eqb, List, [], ◌∷◌, ◌++◌, length, drop, map, take, Result, Ok, Err, refl, sym, ap, subst, ◌∙◌, arith}
+use Rattle.std.proofs.Common.{◌≡◌, ℕ, ◌+◌, ◌-◌, ◌^◌, ◌<◌, ◌≤◌, Bool, true, false, cond, eqb, List, [], ◌∷◌, ◌++◌, length, drop, map, take, Result, Ok, Err, refl, sym, ap, subst, ◌∙◌, arith}
 use Rattle.std.specs.Prelude.{◌≢◌, All, IsTrue}
 use Rattle.std.specs.List.{flat_map}
 use Rattle.std.proofs.lemmas.List.Elements.{All-append, All-cons, All-drop, All-filter, All-head, All-map, All-nil, All-push, All-tail, All-take}
@@ -28,7 +28,7 @@ use Rattle.runtime_log.specs.declared.version.LogVersion.{LogVersion}
 use Rattle.runtime_log.specs.BasicLogs.{basic_places, basic_records, basic_rows, recorded_events, tagged_rows}
 use Rattle.runtime_log.specs.Imports.{buffer_for, pieces_of}
 use Rattle.runtime_log.specs.Laws.{ImportsRead}
-use Rattle.runtime_log.specs.Logs.{BlockSoFar, Log, LogBlock, as_log, block_content, block_opened, block_with, log_block_in, log_block_rows, log_places, log_record_rows, recorder_blocks, said_rows}
+use Rattle.runtime_log.specs.Logs.{BlockSoFar, Log, LogBlock, as_log, block_content, block_opened, block_with, cut_length, whole_content, log_block_in, log_block_rows, log_places, log_record_rows, recorder_blocks, said_rows}
 use Rattle.runtime_log.specs.OwnEvents.{log_record_length}
 use Rattle.runtime_log.specs.private.Headers.{header_for}
 use Rattle.runtime_log.specs.Threads.{AreByThread, recorded_by}
@@ -86,9 +86,10 @@ block_fits : (version : LogVersion) (at : ℕ) (bytes : List ℕ) (b : LogBlock)
 block_fits version at bytes b all is =
     let p = block_parts version at bytes b is in
     let content : AreBytes (block_content p.size bytes) = All-take (λ b. b < 256) p.size (drop 16 bytes) (All-drop (λ b. b < 256) 16 bytes all) in
+    let whole = whole_content version (block_content p.size bytes) in
+    let fits : AreBytes whole = All-take (λ b. b < 256) (length (block_content p.size bytes) - cut_length version (block_content p.size bytes)) (block_content p.size bytes) content in
     subst BlockCan (sym p.is)
-    (so_fits version (block_opened at p.size) (log_places version (at + 16) (block_content p.size bytes)) p.so p.reads
-    (starts_fit (log_record_length version) 0 (at + 16) (block_content p.size bytes) content) tt no_fields)
+    (so_fits version (block_opened at (length whole)) (log_places version (at + 16) whole) p.so p.reads (starts_fit (log_record_length version) 0 (at + 16) whole fits) tt no_fields)
 
 recorder_fits : (version : LogVersion) (before : List LogBlock) (places : List (ℕ × List ℕ)) (all : List LogBlock) → InTurn (log_block_rows version) before places ≡ Ok all → PlacesFit places
     → All BlockCan before → All BlockCan all

@@ -1,5 +1,5 @@
 -- A record of a log by the grammar is read as this record.
-use Rattle.std.proofs.Common.{◌≡◌, ℕ, ◌+◌, ◌%◌, ◌^◌, ◌<◌, ◌≤◌, Bool, true, false, cond, eqb, ltb, List, [], ◌∷◌, ◌++◌, length, drop, Option, Some, None, Result, Ok, Err, refl, sym, ap, subst, ◌∙◌, append_assoc, arith}
+use Rattle.std.proofs.Common.{◌≡◌, ℕ, ◌+◌, ◌%◌, ◌^◌, ◌<◌, ◌≤◌, Bool, true, false, cond, eqb, ltb, List, [], ◌∷◌, ◌++◌, length, drop, slice_index, Option, Some, None, Result, Ok, Err, refl, sym, ap, subst, ◌∙◌, append_assoc, arith}
 use Rattle.std.proofs.lemmas.Bool.{eqb-true, le-ltb}
 use Rattle.std.proofs.lemmas.List.{drop_at, length-append, take_at}
 use Rattle.byteorder.specs.Endian.{little_bytes, little_number}
@@ -27,7 +27,7 @@ use Rattle.runtime_log.specs.declared.own_event.OwnKind.{OwnKind}
 use Rattle.runtime_log.specs.declared.own_event.OwnKind.TheVariants.{Custom, Typed}
 use Rattle.runtime_log.specs.declared.version.LogVersion.{LogVersion}
 use Rattle.runtime_log.specs.declared.version.LogVersion.TheVariants.{Two, Three, Four, Five}
-use Rattle.runtime_log.specs.Grammar.{AreLogRecords, DeltaFits, HasEventsOf, IsLogRecord, IsOwnEvent, LogRecord, OfProgram, OfTrace, arg_first, delta_bytes, own_marker}
+use Rattle.runtime_log.specs.Grammar.{AreLogRecords, DeltaFits, HasEventsOf, IsLogRecord, IsOwnEvent, LogRecord, OfProgram, OfTrace, arg_first, delta_bytes, is_typed_event, own_marker}
 use Rattle.runtime_log.specs.Logs.{BlockSoFar, block_with, log_places, log_record_rows, one_custom, one_typed, said_rows, unless_faulty}
 use Rattle.runtime_log.specs.Arguments.{arg_follows, found_arg, found_before, rec_before}
 use Rattle.runtime_log.specs.OwnEvents.{counter_inside, counter_so_far, first_kind, log_record_in, log_record_length, own_delta, own_kind, own_size, typed_kind}
@@ -55,9 +55,8 @@ not_typed rest r found = by_short (ltb (length rest) 15) found
     by_short false h = absurd cc
 
 -- no record of a trace begins as an event of the program's own does
-pub never_own : (version : LogVersion) (bytes : List ℕ) (r : Rec) → record_in bytes ≡ Ok r → own_kind version bytes ≡ None
-never_own version [] r found = refl
-never_own version (first ∷ rest) r found = by_short (ltb (length (first ∷ rest)) 16)
+pub never_first : (version : LogVersion) (first : ℕ) (rest : List ℕ) (r : Rec) → record_in (first ∷ rest) ≡ Ok r → first_kind version first ≡ None
+never_first version first rest r found = by_custom (eqb first 11) refl
   where
     by_typed : (b : Bool) → eqb first 17 ≡ b → cond b (Some Typed) None ≡ None
     by_typed true e = absurd (not_typed rest r (ap (λ (k : ℕ). record_in (k ∷ rest)) (sym (eqb-true first 17 e)) ∙ found))
@@ -73,9 +72,13 @@ never_own version (first ∷ rest) r found = by_short (ltb (length (first ∷ re
     by_custom true e = absurd (not_custom rest r (ap (λ (k : ℕ). record_in (k ∷ rest)) (sym (eqb-true first 11 e)) ∙ found))
     by_custom false e = by_version version
 
+pub never_own : (version : LogVersion) (bytes : List ℕ) (r : Rec) → record_in bytes ≡ Ok r → own_kind version bytes ≡ None
+never_own version [] r found = refl
+never_own version (first ∷ rest) r found = by_short (ltb (length (first ∷ rest)) 16)
+  where
     by_short : (b : Bool) → cond b None (first_kind version first) ≡ None
     by_short true = refl
-    by_short false = by_custom (eqb first 11) refl
+    by_short false = never_first version first rest r found
 
 -- ---- events of the program's own
 
@@ -164,6 +167,32 @@ arg_agrees version (OfProgram kind delta ∷ records) bytes (front, following, p
     by_found (Ok r) e =
         let no : Some kind ≡ None = sym (own_again version kind delta front following is).kind_is ∙ never_own version all r e in
         absurd cc
+
+no_bytes_read : (r : Rec) → record_in [] ≡ Ok r → ⊥
+unfolding record_in
+no_bytes_read r found = absurd cc
+
+-- a record is a typed event by its first byte
+pub first_typed : (version : LogVersion) (lr : LogRecord) (front following : List ℕ) → IsLogRecord version lr front → one_typed (first_kind version (slice_index (front ++ following) 0)) ≡ cond (is_typed_event lr) 1 0
+first_typed version (OfTrace r) front following is =
+    let all = front ++ following in
+    let begins : BeginsWith r all = subst (λ (x : List ℕ). Spells x r) (sym (take_at front following (length_of r) is.1.whole)) is.1 in
+    by_bytes all (told_again r all is.0 begins)
+  where
+    by_bytes : (xs : List ℕ) → record_in xs ≡ Ok r → one_typed (first_kind version (slice_index xs 0)) ≡ 0
+    by_bytes [] found = absurd (no_bytes_read r found)
+    by_bytes (first ∷ rest) found = ap one_typed (never_first version first rest r found)
+first_typed version (OfProgram kind delta) front following is =
+    let o = own_again version kind delta front following is in
+    by_long (ltb (length (front ++ following)) 16) o.kind_is
+  where
+    by_kind : (k : OwnKind) → one_typed (Some k) ≡ cond (is_typed_event (OfProgram k delta)) 1 0
+    by_kind Custom = refl
+    by_kind Typed = refl
+
+    by_long : (b : Bool) → cond b None (first_kind version (slice_index (front ++ following) 0)) ≡ Some kind → one_typed (first_kind version (slice_index (front ++ following) 0)) ≡ cond (is_typed_event (OfProgram kind delta)) 1 0
+    by_long true e = absurd cc
+    by_long false e = ap one_typed e ∙ by_kind kind
 
 -- ---- one step
 

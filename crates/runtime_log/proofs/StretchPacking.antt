@@ -306,7 +306,7 @@ rises old thread n t next m first low up =
       ends = refl;
       events = omega arith;
       arguments = omega arith;
-      log = record { blocks = refl; custom = refl; typed = refl; doubled = refl; empty = refl; lost = refl; frequency = refl };
+      log = record { blocks = refl; custom = refl; typed = refl; doubled = refl; empty = refl; lost = refl; cut = refl; frequency = refl };
     }
   where
     by_last : (o : Option ℕ) → Some (option_map_or (λ k. max k next) o next) ≡ Some (max (option_map_or (λ k. max k t) o t) next)
@@ -378,7 +378,7 @@ adds_stretch head first mid new all left rest after stretch bytes joins says end
           (stretch_noted stretch.count head.thread pid after.cpu after.tsc bytes (before ++ map one done) mid.notes (adds.notes before pid has) ends));
       count = ap (λ (n : Notes). n.facts.blocks) notes ∙ adds.count;
       log = λ log says_log. said_again log mid.notes.facts new.notes.facts (subst (λ (n : Notes). SameLog mid.notes.facts n.facts) (sym notes)
-          (record { blocks = refl; custom = refl; typed = refl; doubled = refl; empty = refl; lost = refl; frequency = refl })) (adds.log log says_log);
+          (record { blocks = refl; custom = refl; typed = refl; doubled = refl; empty = refl; lost = refl; cut = refl; frequency = refl })) (adds.log log says_log);
     }
 
 pub all_after : (P : Event → Type 0) (more left events : List Event) → events ≡ more ++ left → All P events → All P left

@@ -26,7 +26,7 @@ use Rattle.runtime_log.proofs.BlockLists.{at_more}
 
 -- a block that says nothing
 abbrev no_block : LogBlock
-no_block = record { place = 0; content = []; block = record { thread = 0; wall = record { secs = 0; micros = 0 }; pid = 0; events = [] }; custom = 0; typed = 0 }
+no_block = record { place = 0; content = []; block = record { thread = 0; wall = record { secs = 0; micros = 0 }; pid = 0; events = [] }; custom = 0; typed = 0; cut = 0 }
 
 abbrev read_or : LogBlock → Result LogBlock TraceFault → LogBlock
 read_or other (Ok b) = b

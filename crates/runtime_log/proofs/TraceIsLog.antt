@@ -33,7 +33,7 @@ use Rattle.fdr_file.specs.Traces.{block_length, header_in, is_arg, pid_named, re
 use Rattle.runtime_log.specs.declared.blocks.Mode.TheVariants.{Recorder}
 use Rattle.runtime_log.specs.declared.version.LogVersion.TheVariants.{Three}
 use Rattle.runtime_log.specs.Laws.{TracesAreLogs, said_of}
-use Rattle.runtime_log.specs.Logs.{BlockSoFar, Log, LogBlock, as_log, block_content, block_opened, block_said, block_size_rows, block_with, content_rows, log_block_in, log_block_rows, log_of_blocks, log_places, log_record_rows, logged, recorder_blocks, recorder_header, said_rows, sized_rows, too_few, unless_faulty}
+use Rattle.runtime_log.specs.Logs.{BlockSoFar, Log, LogBlock, as_log, block_content, block_opened, block_said, block_size_rows, block_with, content_rows, log_block_in, log_block_rows, log_of_blocks, log_places, log_record_rows, logged, recorder_blocks, recorder_header, said_rows, sized_rows, too_few, unless_faulty, whole_content, whole_rows}
 use Rattle.runtime_log.specs.OwnEvents.{log_record_in, log_record_length}
 use Rattle.runtime_log.specs.Versions.{log_version_of}
 use Rattle.runtime_log.specs.private.Headers.{mode_of}
@@ -41,6 +41,7 @@ use Rattle.runtime_log.specs.Arguments.{arg_follows, found_arg, found_before, re
 use Rattle.runtime_log.proofs.ArgumentsBehind.{none_follows, rec_alone}
 use Rattle.runtime_log.proofs.BlockLists.{Onward, block_first, block_sized, size_is}
 use Rattle.runtime_log.proofs.BlockReading.{block_is}
+use Rattle.runtime_log.proofs.CutRecords.{never_cut, whole_all}
 use Rattle.runtime_log.proofs.RecordCuts.{extents_long, long_as, not_own, record_as, record_cut, record_short}
 use Rattle.runtime_log.proofs.RecordWalk.{places_first, record_some, rows_none, so_with, starts_first, starts_none}
 use Rattle.runtime_log.proofs.WholeLogs.{recorder_headed, recorder_read}
@@ -477,8 +478,14 @@ blocks_follow (suc n) at bytes before all said few ends =
         let far : at + 16 + size - (at + 16) ≡ size = omega arith in
         let some : 0 < length bytes = omega (arith, length-drop 16 bytes, f.fits, st.enough) in
         let sized = size_rows at size bytes st.found st.enough (omega (arith, length-drop 16 bytes, f.fits, st.enough)) in
-        let reads : content_rows Three at size bytes ≡ Ok f.last = ap (λ (k : ℕ). InTurn (said_rows Three) (block_opened at size) (log_places Three (at + 16) (take k (drop 16 bytes)))) (sym far) ∙ f.reads in
-        let b : LogBlock = block_said at (block_content size bytes) f.last in
+        let content : List ℕ = block_content size bytes in
+        let whole : whole_content Three content ≡ content = whole_all Three content (never_cut Three content (λ same. cc)) in
+        let long_content : length content ≡ size = omega (arith, length-take size (drop 16 bytes), length-drop 16 bytes, f.fits) in
+        let reads : content_rows Three at size bytes ≡ Ok f.last =
+        ap (whole_rows Three at) whole
+        ∙ (ap (λ (n : ℕ). InTurn (said_rows Three) (block_opened at n) (log_places Three (at + 16) content)) long_content
+        ∙ (ap (λ (k : ℕ). InTurn (said_rows Three) (block_opened at size) (log_places Three (at + 16) (take k (drop 16 bytes)))) (sym far) ∙ f.reads)) in
+        let b : LogBlock = block_said Three at (block_content size bytes) f.last in
         let is : log_block_in Three (at, bytes) ≡ Ok b = block_is Three at size bytes f.last sized reads in
         let long : block_length bytes ≡ 16 + size = block_sized Three at bytes size sized in
         let place : at + block_length bytes ≡ at + 16 + size = omega (arith, long) in

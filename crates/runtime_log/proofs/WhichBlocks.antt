@@ -13,7 +13,7 @@ use Rattle.fdr_file.specs.declared.trace.Block.{Block}
 use Rattle.fdr_file.specs.declared.fault.TraceFault.{TraceFault}
 use Rattle.fdr_file.specs.Grammar.{block_records}
 use Rattle.runtime_log.specs.declared.version.LogVersion.{LogVersion}
-use Rattle.runtime_log.specs.Grammar.{AreLogBlocks, AreLogRecords, IsBare, IsFilled, IsLogBlock}
+use Rattle.runtime_log.specs.Grammar.{AreLogBlocks, IsBare, IsCutEnd, IsFilled, IsLogBlock}
 use Rattle.runtime_log.specs.LogLaws.{BlocksAreTaken, LoggedIsLog, SomeBlock}
 use Rattle.runtime_log.specs.Logs.{LogBlock}
 use Rattle.runtime_log.specs.Taken.{chosen, first_ones, has_events, is_among_contents, is_doubled, undoubled}
@@ -37,10 +37,15 @@ ok : LogBlock → Result LogBlock TraceFault
 ok b = Ok b
 
 -- another place, with the same bytes
-moved : (version : LogVersion) (x y : LogBlock) → x.content ≡ y.content → x.block ≡ y.block → x.custom ≡ y.custom → x.typed ≡ y.typed → IsFilled version x ⊎ IsBare x → IsFilled version y ⊎ IsBare y
-moved version x y content block custom typed (inl is) = inl (record {
+moved : (version : LogVersion) (x y : LogBlock) → x.content ≡ y.content → x.block ≡ y.block → x.custom ≡ y.custom → x.typed ≡ y.typed → x.cut ≡ y.cut
+    → IsFilled version x ⊎ IsBare x → IsFilled version y ⊎ IsBare y
+moved version x y content block custom typed cut (inl is) = inl (record {
+  whole = is.whole;
+  end = is.end;
+  content = sym content ∙ is.content;
   records = is.records;
-  spelled = subst (AreLogRecords version is.records) content is.spelled;
+  spelled = is.spelled;
+  cut = subst (IsCutEnd version (length y.content) is.records is.end) cut (subst (λ (xs : List ℕ). IsCutEnd version (length xs) is.records is.end x.cut) content is.cut);
   others = is.others;
   are = is.are ∙ ap (λ (b : Block). block_records (trace_version version) b is.others) block;
   inner = is.inner;
@@ -50,16 +55,17 @@ moved version x y content block custom typed (inl is) = inl (record {
   custom = sym custom ∙ is.custom;
   typed = sym typed ∙ is.typed;
 })
-moved version x y content block custom typed (inr bare) = inr (record { bytes = sym content ∙ bare.bytes; block = sym block ∙ bare.block; custom = sym custom ∙ bare.custom; typed = sym typed ∙ bare.typed })
+moved version x y content block custom typed cut (inr bare) =
+    inr (record { bytes = sym content ∙ bare.bytes; block = sym block ∙ bare.block; custom = sym custom ∙ bare.custom; typed = sym typed ∙ bare.typed; cut = sym cut ∙ bare.cut })
 
 same_block : (version : LogVersion) (x b : LogBlock) → IsOfLog version x → IsOfLog version b → x.content ≡ b.content → x.block ≡ b.block
 same_block version x b one other same =
     let ix = one.is in
     let ib = other.is in
-    let x0 : LogBlock = record { place = 0; content = b.content; block = x.block; custom = x.custom; typed = x.typed } in
+    let x0 : LogBlock = record { place = 0; content = b.content; block = x.block; custom = x.custom; typed = x.typed; cut = x.cut } in
     let b0 : LogBlock = record b { place = 0 } in
-    let isx : IsLogBlock version other.front x0 = record { extents = ib.extents; parts = ib.parts; named = ib.named; few = ib.few; says = moved version x x0 same refl refl refl ix.says } in
-    let isb : IsLogBlock version other.front b0 = record { extents = ib.extents; parts = ib.parts; named = ib.named; few = ib.few; says = moved version b b0 refl refl refl refl ib.says } in
+    let isx : IsLogBlock version other.front x0 = record { extents = ib.extents; parts = ib.parts; named = ib.named; few = ib.few; says = moved version x x0 same refl refl refl refl ix.says } in
+    let isb : IsLogBlock version other.front b0 = record { extents = ib.extents; parts = ib.parts; named = ib.named; few = ib.few; says = moved version b b0 refl refl refl refl refl ib.says } in
     let both : Ok x0 ≡ Ok b0 = sym (block_again version 0 other.front [] x0 refl isx).reads ∙ (block_again version 0 other.front [] b0 refl isb).reads in
     let equal : x0 ≡ b0 = cc in
     ap (λ (y : LogBlock). y.block) equal

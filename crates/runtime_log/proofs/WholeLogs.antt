@@ -205,18 +205,18 @@ pub record BlockParts (version : LogVersion) (at : ℕ) (bytes : List ℕ) (b : 
   pub so : BlockSoFar
   pub sized : block_size_rows version (at, bytes) ≡ Ok size
   pub reads : content_rows version at size bytes ≡ Ok so
-  pub is : b ≡ block_said at (block_content size bytes) so
+  pub is : b ≡ block_said version at (block_content size bytes) so
 
 pub block_parts : (version : LogVersion) (at : ℕ) (bytes : List ℕ) (b : LogBlock) → log_block_in version (at, bytes) ≡ Ok b → BlockParts version at bytes b
 block_parts version at bytes b is = by_size (block_size_rows version (at, bytes)) refl is
   where
     by_read : (size : ℕ) → block_size_rows version (at, bytes) ≡ Ok size → (x : Result BlockSoFar TraceFault) → content_rows version at size bytes ≡ x
-        → (x >>= λ so. Ok (block_said at (block_content size bytes) so)) ≡ Ok b → BlockParts version at bytes b
+        → (x >>= λ so. Ok (block_said version at (block_content size bytes) so)) ≡ Ok b → BlockParts version at bytes b
     by_read size e (Ok so) f h =
-        let same : b ≡ block_said at (block_content size bytes) so = cc in record { size = size; so = so; sized = e; reads = f; is = same }
+        let same : b ≡ block_said version at (block_content size bytes) so = cc in record { size = size; so = so; sized = e; reads = f; is = same }
     by_read size e (Err fault) f h = absurd cc
 
     by_size : (x : Result ℕ TraceFault) → block_size_rows version (at, bytes) ≡ x
-        → (x >>= λ size. content_rows version at size bytes >>= λ so. Ok (block_said at (block_content size bytes) so)) ≡ Ok b → BlockParts version at bytes b
+        → (x >>= λ size. content_rows version at size bytes >>= λ so. Ok (block_said version at (block_content size bytes) so)) ≡ Ok b → BlockParts version at bytes b
     by_size (Ok size) e h = by_read size e (content_rows version at size bytes) refl h
     by_size (Err fault) e h = absurd cc

@@ -52,6 +52,7 @@ facts_of log taken =
       last = greatest_of counters;
       back = different (falls events);
       lost = log.lost;
+      cut = sum (map (λ b. b.cut) blocks);
       frequency = log.header.frequency;
     }
 
@@ -87,9 +88,10 @@ counters_text facts =
     ++ count_line facts.back (codes "threads whose counter goes back")
 
 -- the records that were left out, and the frequency of the counter
-abbrev pub records_text : Facts → List ℕ
-records_text facts =
-    count_line facts.lost (codes "arguments without an entry left out") ++ count_line facts.frequency (codes "cycles a second")
+abbrev pub left_records_text : Facts → List ℕ
+left_records_text facts =
+    count_line facts.lost (codes "arguments without an entry left out") ++ count_line facts.cut (codes "cut records left out")
+    ++ count_line facts.frequency (codes "cycles a second")
 
 abbrev pub facts_text : Facts → List ℕ
-facts_text facts = taken_text facts ++ left_out_text facts ++ (counters_text facts ++ records_text facts)
+facts_text facts = taken_text facts ++ left_out_text facts ++ (counters_text facts ++ left_records_text facts)

@@ -1,5 +1,5 @@
 -- What a log of the Flight Data Recorder mode is: a header, and blocks, one after the other.
-use Rattle.std.specs.Prelude.{◌≡◌, ◌<◌, ◌⊎◌, ℕ, ◌+◌, ◌/◌, ◌%◌, ◌^◌, ◌==◌, ⊤, Bool, true, false, List, [], ◌∷◌, ◌++◌, length, count_by}
+use Rattle.std.specs.Prelude.{◌≡◌, ◌≢◌, ◌<◌, ◌≤◌, ◌⊎◌, ℕ, ◌+◌, ◌*◌, ◌/◌, ◌%◌, ◌^◌, ◌==◌, ⊤, Bool, true, false, List, [], ◌∷◌, ◌++◌, length, count_by, slice_index}
 use Rattle.std.specs.List.{AllByRecursion}
 use Rattle.byteorder.specs.Endian.{little_bytes}
 use Rattle.fdr_record.specs.declared.rec.Rec.{Rec}
@@ -9,14 +9,14 @@ use Rattle.fdr_file.specs.declared.header.Header.{Header}
 use Rattle.fdr_file.specs.Events.{counter_at}
 use Rattle.fdr_file.specs.Grammar.{ArgsFollow, BeginWithCpu, IsInner, block_records}
 use Rattle.fdr_file.specs.Scanning.{empty_block}
-use Rattle.fdr_file.specs.Traces.{block_of, is_arg}
+use Rattle.fdr_file.specs.Traces.{block_of, is_arg, preamble_bytes}
 use Rattle.runtime_log.specs.Arguments.{rec_before}
 use Rattle.runtime_log.specs.declared.own_event.OwnKind.{OwnKind}
 use Rattle.runtime_log.specs.declared.own_event.OwnKind.TheVariants.{Custom, Typed}
 use Rattle.runtime_log.specs.declared.version.LogVersion.{LogVersion}
 use Rattle.runtime_log.specs.declared.version.LogVersion.TheVariants.{Two, Three, Four, Five}
-use Rattle.runtime_log.specs.Logs.{Log, LogBlock}
-use Rattle.runtime_log.specs.OwnEvents.{custom_event_marker, typed_event_marker}
+use Rattle.runtime_log.specs.Logs.{Log, LogBlock, one_typed}
+use Rattle.runtime_log.specs.OwnEvents.{custom_event_marker, first_kind, log_record_length, typed_event_marker}
 use Rattle.runtime_log.specs.Versions.{trace_version}
 
 -- ---- records
@@ -107,10 +107,28 @@ is_typed_event (OfProgram Typed delta) = true
 
 -- ---- blocks
 
--- The content of a block is records that stand for those of a block of a trace, the preamble and others, which say the block.
+-- These bytes of a block of this size begin a record. It is cut: the block ends before it does. For each of so many typed events
+-- up to 16 bytes may be lacking.
+pub record IsCutRecord (version : LogVersion) (size typed : ℕ) (bytes : List ℕ) : Type 0 where
+  pub begins : bytes ≢ []
+  pub ends : length bytes < log_record_length version bytes
+  pub lacks : log_record_length version bytes ≤ length bytes + 16 * (typed + one_typed (first_kind version (slice_index bytes 0)))
+  pub behind : preamble_bytes (trace_version version) + length bytes ≤ size
+
+-- at the end of a block with these records a record is cut, or none
+abbrev pub IsCutEnd : LogVersion → (size : ℕ) → List LogRecord → List ℕ → ℕ → Type 0
+IsCutEnd version size records bytes count =
+    ((bytes ≡ []) × (count ≡ 0)) ⊎ (IsCutRecord version size (count_by is_typed_event records) bytes × (count ≡ 1))
+
+-- The content of a block is records, and perhaps the bytes of one that is cut. The records stand for those of a block of a
+-- trace, the preamble and others, which say the block.
 pub record IsFilled (version : LogVersion) (b : LogBlock) : Type 0 where
+  pub whole : List ℕ
+  pub end : List ℕ
+  pub content : b.content ≡ whole ++ end
   pub records : List LogRecord
-  pub spelled : AreLogRecords version records b.content
+  pub spelled : AreLogRecords version records whole
+  pub cut : IsCutEnd version (length b.content) records end b.cut
   pub others : List Rec
   pub are : stand_for [] records ≡ block_records (trace_version version) b.block others
   pub inner : AllByRecursion IsInner others
@@ -126,6 +144,7 @@ pub record IsBare (b : LogBlock) : Type 0 where
   pub block : b.block ≡ empty_block 0 (record { secs = 0; micros = 0 }) 0
   pub custom : b.custom ≡ 0
   pub typed : b.typed ≡ 0
+  pub cut : b.cut ≡ 0
 
 -- The bytes are a block: extents, and as many bytes as they name. These are its records, or there are none.
 pub record IsLogBlock (version : LogVersion) (bytes : List ℕ) (b : LogBlock) : Type 0 where

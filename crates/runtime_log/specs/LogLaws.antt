@@ -104,7 +104,7 @@ pub record NumbersAreOfEvents (all : List ThreadEvent) (facts : Facts) : Type 0 
 
 -- What is printed of a log and of the trace that is made of it. Each block of the log is taken, doubled or empty. A block is
 -- doubled if it has bytes, and these are those of a block before it. It is empty if it isn't doubled and has no events. The program's own
--- events are those of all blocks. The other numbers are those of the trace.
+-- events and the cut records are those of all blocks. The other numbers are those of the trace.
 pub record NumbersAreOf (log : Log) (trace : Trace) (facts : Facts) : Type 0 where
   pub blocks : facts.blocks + facts.doubled + facts.empty ≡ length log.blocks
   pub doubled : facts.doubled ≡ count_by (is_double log.blocks) (block_places log.blocks)
@@ -112,6 +112,7 @@ pub record NumbersAreOf (log : Log) (trace : Trace) (facts : Facts) : Type 0 whe
   pub custom : facts.custom ≡ sum (map (λ b. b.custom) log.blocks)
   pub typed : facts.typed ≡ sum (map (λ b. b.typed) log.blocks)
   pub lost : facts.lost ≡ 0
+  pub cut : facts.cut ≡ sum (map (λ b. b.cut) log.blocks)
   pub frequency : facts.frequency ≡ trace.header.frequency
   pub of_events : NumbersAreOfEvents (thread_events trace.blocks) facts
 
@@ -138,6 +139,7 @@ pub record BasicNumbersAreOf (log : Log) (trace : Trace) (facts : Facts) : Type 
   pub custom : facts.custom ≡ 0
   pub typed : facts.typed ≡ 0
   pub lost : facts.lost ≡ log.lost
+  pub cut : facts.cut ≡ 0
   pub frequency : facts.frequency ≡ trace.header.frequency
   pub of_events : NumbersAreOfEvents (thread_events trace.blocks) facts
   pub of_log : NumbersAreOfEvents log.events facts

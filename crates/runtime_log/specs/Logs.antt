@@ -1,5 +1,5 @@
 -- What the bytes of a log of LLVM's runtime say.
-use Rattle.std.specs.Prelude.{ℕ, ◌+◌, ◌==◌, ◌&&◌, Bool, not, List, [], ◌∷◌, ◌++◌, length, take, drop, nat_lt, option_to_list, Option, Some, None, Result, Ok, Err}
+use Rattle.std.specs.Prelude.{ℕ, ◌+◌, ◌-◌, ◌*◌, ◌==◌, ◌&&◌, Bool, not, List, [], ◌∷◌, ◌++◌, length, take, drop, nat_le, nat_lt, option_to_list, slice_index, Option, Some, None, Result, Ok, Err, if◌then◌else◌}
 use Rattle.xray_io.specs.Rows.{First, InTurn, NeedsPart, ◌>>=◌}
 use Rattle.fdr_record.specs.declared.fault.RecFault.{RecFault}
 use Rattle.fdr_record.specs.declared.rec.Rec.{Rec}
@@ -25,17 +25,18 @@ use Rattle.runtime_log.specs.declared.basic.BasicRec.{BasicRec}
 use Rattle.runtime_log.specs.declared.version.BasicVersion.{BasicVersion}
 use Rattle.runtime_log.specs.declared.version.LogVersion.{LogVersion}
 use Rattle.runtime_log.specs.BasicLogs.{basic_records, lost_count, recorded_events}
-use Rattle.runtime_log.specs.OwnEvents.{log_record_in, log_record_length, own_kind}
+use Rattle.runtime_log.specs.OwnEvents.{first_kind, log_record_in, log_record_length, own_kind}
 use Rattle.runtime_log.specs.Versions.{basic_version_of, is_version, log_version_of, trace_version}
 
--- A block of a log: where it begins; its bytes, which another block may have too; what it says, as a block of a trace; and
--- how many events of the program's own it has, of each kind.
+-- A block of a log: where it begins; its bytes, which another block may have too; what it says, as a block of a trace; how
+-- many events of the program's own it has, of each kind; and how many records are cut at its end: one or none.
 pub record LogBlock : Type 0 where
   pub place : ℕ
   pub content : List ℕ
   pub block : Block
   pub custom : ℕ
   pub typed : ℕ
+  pub cut : ℕ
 
 -- A log: what it says about itself, as the header of a trace, and what it has. A log of the Flight Data Recorder mode has
 -- blocks, in the order of the file. A basic log has events, in the order in which they were recorded, and arguments that have
@@ -130,18 +131,52 @@ block_size_rows version (at, bytes) =
     First (nat_lt (length bytes) metadata_length) (Err (traces.Short at))
     (sized_rows version (at, bytes) (log_record_in version Due bytes))
 
--- the records of a block of this size, in turn
+-- The runtimes name 16 bytes too few in the extents of a block for each typed event in it. So the block ends earlier than its
+-- records do, and one of these may be cut: fewer bytes of it are left than it has, and no more are lacking than for so many
+-- typed events. It is no record of the preamble.
+abbrev pub lacks_an_end : LogVersion → (size typed : ℕ) → List ℕ → Bool
+lacks_an_end version size typed rest =
+    nat_lt (length rest) (log_record_length version rest) && nat_le (log_record_length version rest) (length rest + 16 * typed)
+    && nat_le (preamble_bytes (trace_version version) + length rest) size
+
+-- How many bytes are left of a block of this size where its record is cut, by the places of its records: those of the typed
+-- events before these, and of the cut one too, count.
+abbrev pub cut_after : LogVersion → (size typed : ℕ) → List (ℕ × List ℕ) → ℕ
+cut_after version size typed [] = 0
+cut_after version size typed ((at, rest) ∷ places) =
+    let n = typed + one_typed (first_kind version (slice_index rest 0)) in
+    if lacks_an_end version size n rest then length rest else cut_after version size n places
+
+abbrev pub cut_length : LogVersion → List ℕ → ℕ
+cut_length version content = cut_after version (length content) 0 (log_places version 0 content)
+
+-- the content of a block without the bytes of the record that is cut
+abbrev pub whole_content : LogVersion → List ℕ → List ℕ
+whole_content version content = take (length content - cut_length version content) content
+
+-- the records of a block with this content, in turn
+abbrev pub whole_rows : LogVersion → ℕ → List ℕ → Result BlockSoFar TraceFault
+whole_rows version at whole =
+    InTurn (said_rows version) (block_opened at (length whole)) (log_places version (at + metadata_length) whole)
+
 abbrev pub content_rows : LogVersion → ℕ → ℕ → List ℕ → Result BlockSoFar TraceFault
-content_rows version at size bytes =
-    InTurn (said_rows version) (block_opened at size) (log_places version (at + metadata_length) (block_content size bytes))
+content_rows version at size bytes = whole_rows version at (whole_content version (block_content size bytes))
 
 -- the block of a log that begins at a place, with what its records said
-abbrev pub block_said : ℕ → List ℕ → BlockSoFar → LogBlock
-block_said at content so = record { place = at; content = content; block = so.block; custom = so.custom; typed = so.typed }
+abbrev pub block_said : LogVersion → ℕ → List ℕ → BlockSoFar → LogBlock
+block_said version at content so = record {
+  place = at;
+  content = content;
+  block = so.block;
+  custom = so.custom;
+  typed = so.typed;
+  cut = if cut_length version content == 0 then 0 else 1;
+}
 
 abbrev pub log_block_in : LogVersion → ℕ × List ℕ → Result LogBlock TraceFault
 log_block_in version (at, bytes) =
-    block_size_rows version (at, bytes) >>= λ size. content_rows version at size bytes >>= λ so. Ok (block_said at (block_content size bytes) so)
+    block_size_rows version (at, bytes) >>= λ size.
+    content_rows version at size bytes >>= λ so. Ok (block_said version at (block_content size bytes) so)
 
 -- the same, after the blocks before it
 abbrev pub log_block_rows : LogVersion → List LogBlock → ℕ × List ℕ → Result (List LogBlock) TraceFault

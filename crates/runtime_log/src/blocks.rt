@@ -63,13 +63,14 @@ impl LogBlock {
     }
 }
 
-/// The blocks of a log of the Flight Data Recorder mode, in the order of the file, and how many events
-/// of the program's own they have.
+/// The blocks of a log of the Flight Data Recorder mode, in the order of the file, how many events of
+/// the program's own they have, and how many records are cut at their ends.
 #[derive(Drop)]
 pub(crate) struct LogBlocks {
     pub(crate) blocks: Vec<LogBlock>,
     pub(crate) custom: u64,
     pub(crate) typed: u64,
+    pub(crate) cut: u64,
 }
 
 /// The events of a block of the Flight Data Recorder mode, one after the other.
@@ -181,8 +182,8 @@ impl<'a> BlockEvents<'a> {
         ensures few { length (events_to_come result) < 2 ^ 31 }
     {
         match BlockWalk::open(version, block.begin as u64, &bytes[block.begin..]) {
-            Ok(walk) => BlockEvents::Recorder(RecorderEvents {
-                walk,
+            Ok(opened) => BlockEvents::Recorder(RecorderEvents {
+                walk: opened.walk,
                 pending: None,
             }),
             Err(_) => BlockEvents::Done,

@@ -1,7 +1,7 @@
 //! What is said of an import.
 ghost use Rattle.std.specs.{Prelude.{◌≡◌, ◌++◌}, List.{flat_map}};
 ghost use Rattle.xray_io.specs.Piece.{piece_text};
-ghost use Rattle.runtime_log.specs.Facts.{counters_text, left_out_text, records_text, right_or_dash, taken_text};
+ghost use Rattle.runtime_log.specs.Facts.{counters_text, left_out_text, left_records_text, right_or_dash, taken_text};
 ghost use Rattle.runtime_log.specs.private.FactLines.{line_text};
 
 use xray_io::{Each, Piece, Printed, Sink, Text, WriteFault};
@@ -36,6 +36,8 @@ pub struct Facts {
     pub back: u64,
     /// How many arguments of a basic log have lost their entries.
     pub lost: u64,
+    /// How many records are cut at the ends of blocks.
+    pub cut: u64,
     /// How many times the counter advances in a second, as the log says.
     pub frequency: u64,
 }
@@ -49,6 +51,8 @@ pub(crate) struct Counts {
     pub(crate) typed: u64,
     /// How many arguments have lost their entries.
     pub(crate) lost: u64,
+    /// How many records are cut at the ends of blocks.
+    pub(crate) cut: u64,
     /// How many times the counter advances in a second.
     pub(crate) frequency: u64,
 }
@@ -94,14 +98,15 @@ impl Facts {
     }
 
     /// The counters of the events, the records that were left out, and the frequency of the counter.
-    fn numbers(&self) -> [Line; 5]
-        ensures { flat_map line_text result ≡ counters_text self.now ++ records_text self.now }
+    fn numbers(&self) -> [Line; 6]
+        ensures { flat_map line_text result ≡ counters_text self.now ++ left_records_text self.now }
     {
         [
             Line(self.first, b"first counter"),
             Line(self.last, b"last counter"),
             Line(Some(self.back), b"threads whose counter goes back"),
             Line(Some(self.lost), b"arguments without an entry left out"),
+            Line(Some(self.cut), b"cut records left out"),
             Line(Some(self.frequency), b"cycles a second"),
         ]
     }

@@ -117,6 +117,7 @@ fn import_recorder(
         custom: blocks.custom,
         typed: blocks.typed,
         lost: 0,
+        cut: blocks.cut,
         frequency: header.frequency,
     };
     let facts = log_facts(counts, left);
@@ -145,6 +146,7 @@ fn import_basic(
         custom: 0,
         typed: 0,
         lost,
+        cut: 0,
         frequency: header.frequency,
     };
     let packing = Packing::new(alloc, &header, bytes.len(), log_facts(counts, left))?;

@@ -1,5 +1,6 @@
 //! Events that a program logs itself.
 ghost use Rattle.std.specs.Prelude.{◌≡◌, ◌≤◌, IfSome, length};
+ghost use Rattle.runtime_log.specs.Logs.{one_typed};
 ghost use Rattle.runtime_log.specs.OwnEvents.{first_kind, own_delta, own_kind, own_size};
 
 use crate::version::LogVersion;
@@ -38,6 +39,17 @@ fn first_kind(version: LogVersion, first: u8) -> Option<OwnKind>
             LogVersion::Two | LogVersion::Three | LogVersion::Four => None,
         },
         _ => None,
+    }
+}
+
+/// How many typed events a record is, by its first byte: one or none.
+pub(crate) fn one_typed(version: LogVersion, first: u8) -> u64
+    ensures is { result ≡ one_typed (first_kind version first) }
+    ensures few { result ≤ 1 }
+{
+    match first_kind(version, first) {
+        Some(OwnKind::Typed) => 1,
+        Some(OwnKind::Custom) | None => 0,
     }
 }
 

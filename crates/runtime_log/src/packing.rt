@@ -49,6 +49,7 @@ pub(crate) fn log_facts(counts: Counts, left: LeftOut) -> Facts
         last: None,
         back: 0,
         lost: counts.lost,
+        cut: counts.cut,
         frequency: counts.frequency,
     }
 }

@@ -1,5 +1,5 @@
 //! All blocks of a log of the Flight Data Recorder mode, in the order of the file.
-ghost use Rattle.std.specs.Prelude.{◌≡◌, ◌⊎◌, ◌<◌, ◌≤◌, ◌+◌, ◌++◌, ◌^◌, [], List, Ok, Err, IfErr, IfOk, OnOk, drop, length, option_map, option_to_list};
+ghost use Rattle.std.specs.Prelude.{◌≡◌, ◌⊎◌, ◌<◌, ◌≤◌, ◌+◌, ◌==◌, if◌then◌else◌, ◌++◌, ◌^◌, [], List, Ok, Err, IfErr, IfOk, OnOk, drop, length, option_map, option_to_list};
 ghost use Rattle.fdr_file.specs.declared.fault.TraceFault.TheVariants.{NoMemory as NoRoom};
 ghost use Rattle.fdr_file.specs.declared.trace.Block.{Block as TheBlock};
 ghost use Rattle.fdr_file.specs.Scanning.{empty_block};
@@ -161,15 +161,24 @@ impl LogBlock {
     }
 }
 
+/// How many records are cut at the end of a block, by how many bytes are left of one: one or none.
+fn one_cut(cut: usize) -> u64
+    ensures is { result ≡ (if cut == 0 then 0 else 1) }
+    ensures few { result ≤ 1 }
+{
+    if cut == 0 { 0 } else { 1 }
+}
+
 impl LogBlocks {
     /// No block.
     fn new(alloc: Global) -> LogBlocks
-        ensures { (result.blocks.items ≡ []) × (result.custom ≡ 0) × (result.typed ≡ 0) }
+        ensures { (result.blocks.items ≡ []) × (result.custom ≡ 0) × (result.typed ≡ 0) × (result.cut ≡ 0) }
     {
         LogBlocks {
             blocks: Vec::new(alloc),
             custom: 0,
             typed: 0,
+            cut: 0,
         }
     }
 
@@ -179,7 +188,7 @@ impl LogBlocks {
         requires few { (self.old.custom < 2 ^ 32) × (self.old.typed < 2 ^ 32) }
         ensures custom { self.new.custom ≡ self.old.custom + one_custom own }
         ensures typed { self.new.typed ≡ self.old.typed + one_typed own }
-        ensures others { self.new.blocks ≡ self.old.blocks }
+        ensures others { (self.new.blocks ≡ self.old.blocks) × (self.new.cut ≡ self.old.cut) }
     {
         match own {
             Some(OwnKind::Custom) => self.custom += 1,
@@ -200,7 +209,7 @@ impl LogBlocks {
             × (self.new.typed ≤ walk.entry.at + length walk.entry.rest.now)) }
         ensures places { OnOk result ((block.new.begin ≡ block.old.begin)
             × (block.new.end ≡ walk.entry.at + length walk.entry.rest.now)) }
-        ensures others { self.new.blocks ≡ self.old.blocks }
+        ensures others { (self.new.blocks ≡ self.old.blocks) × (self.new.cut ≡ self.old.cut) }
     {
         'records: while walk.left() > 0 {
             let (told, own) = walk.step()?;
@@ -221,26 +230,31 @@ impl LogBlocks {
     ) -> Result<LogBlock, TraceFault>
         requires few { length bytes.now < 2 ^ 32 }
         requires within { at ≤ length bytes.now }
-        requires counts { (self.old.custom ≤ at) × (self.old.typed ≤ at) }
+        requires counts { (self.old.custom ≤ at) × (self.old.typed ≤ at) × (self.old.cut ≤ at) }
         ensures reads { IfOk result (λ placed. (b : SaidBlock) × (log_block_in version (at, drop at bytes.now) ≡ Ok b)
             × IsAt bytes.now version placed b
-            × (self.new.custom ≡ self.old.custom + b.custom) × (self.new.typed ≡ self.old.typed + b.typed)) }
+            × (self.new.custom ≡ self.old.custom + b.custom) × (self.new.typed ≡ self.old.typed + b.typed)
+            × (self.new.cut ≡ self.old.cut + b.cut)) }
         ensures refuses { IfErr result (λ fault. log_block_in version (at, drop at bytes.now) ≡ Err fault) }
-        ensures counts { IfOk result (λ placed. (self.new.custom ≤ placed.end) × (self.new.typed ≤ placed.end)) }
+        ensures counts { IfOk result (λ placed. (self.new.custom ≤ placed.end) × (self.new.typed ≤ placed.end)
+            × (self.new.cut ≤ placed.end)) }
         ensures places { IfOk result (λ placed. (placed.begin ≡ at)
             × (placed.end ≡ at + block_length (drop at bytes.now))) }
         ensures others { self.new.blocks ≡ self.old.blocks }
     {
-        let walk = BlockWalk::open(version, at as u64, &bytes[at..])?;
+        let first = BlockWalk::open(version, at as u64, &bytes[at..])?;
         let mut block = opened(at);
-        self.read_records(walk, &mut block)?;
+        self.read_records(first.walk, &mut block)?;
+        block.end += first.cut;
+        self.cut += one_cut(first.cut);
         Ok(block)
     }
 
     /// The blocks of a log of the Flight Data Recorder mode.
     fn read_recorder(&mut self, version: LogVersion, bytes: &[u8]) -> Result<(), LogFault>
         requires few { (32 ≤ length bytes.now) × (length bytes.now < 2 ^ 32) }
-        requires none { (self.old.blocks.items ≡ []) × (self.old.custom ≡ 0) × (self.old.typed ≡ 0) }
+        requires none { (self.old.blocks.items ≡ []) × (self.old.custom ≡ 0) × (self.old.typed ≡ 0)
+            × (self.old.cut ≡ 0) }
         ensures { HasRead version bytes.now self.new result }
     {
         let mut at = HEADER_BYTES;

@@ -2,12 +2,12 @@
 ghost use Rattle.std.specs.Prelude.{◌≡◌, ◌<◌, ◌≤◌, ◌+◌, ◌^◌, Err, IfErr, IfOk, IfSome, IsTrue, None, Ok, OnOk, drop, length};
 ghost use Rattle.fdr_file.specs.declared.events.Base.{Base as TheBase};
 ghost use Rattle.fdr_file.specs.declared.stage.Span.{Span as TheSpan};
-ghost use Rattle.runtime_log.specs.Logs.{block_size_rows, log_record_rows};
+ghost use Rattle.runtime_log.specs.Logs.{block_size_rows, cut_length, lacks_an_end, log_record_rows};
 ghost use Rattle.runtime_log.specs.OwnEvents.{counter_inside, counter_so_far, log_record_in, log_record_length, own_kind};
 ghost use Rattle.runtime_log.specs.private.Walks.{IsCounted, IsPastStretch, OpensTo, StepsTo};
 
 use crate::argument::{may_have_arg, traced_of};
-use crate::own_event::{OwnKind, own_delta, own_kind, own_size};
+use crate::own_event::{OwnKind, one_typed, own_delta, own_kind, own_size};
 use crate::stretch::Stretch;
 use crate::version::LogVersion;
 use fdr_file::{
@@ -15,6 +15,9 @@ use fdr_file::{
     take_step, within_events,
 };
 use fdr_record::{Event, METADATA_BYTES, Rec, RecFault};
+
+/// How many bytes may be lacking at the end of a block for each typed event in it.
+const LACKING: u64 = 16;
 
 /// A way through the records of a block, from one to the next. A record of the program's own stands
 /// for the record of a trace that says the counter at it.
@@ -111,29 +114,86 @@ fn block_size(version: LogVersion, at: u64, bytes: &[u8]) -> Result<usize, Trace
     Ok(size as usize)
 }
 
+/// The length of the record that bytes begin with, and of what stands behind it.
+fn log_record_len(version: LogVersion, bytes: &[u8]) -> usize
+    requires { 0 < length bytes.now }
+    ensures is { result ≡ log_record_length version bytes.now }
+    ensures some { 0 < result }
+    ensures few { result < 2 ^ 33 }
+{
+    match own_kind(version, bytes) {
+        Some(_) => METADATA_BYTES + own_size(bytes) as usize,
+        None => record_len(bytes),
+    }
+}
+
+/// Whether the record that bytes at the end of a block begin with is cut, for so many typed events in
+/// this block.
+fn is_cut(version: LogVersion, size: usize, typed: u64, rest: &[u8]) -> bool
+    requires some { 0 < length rest.now }
+    requires few { (length rest.now < 2 ^ 32) × (typed < 2 ^ 32) }
+    ensures { result ≡ lacks_an_end version size typed rest.now }
+{
+    let len = log_record_len(version, rest);
+    rest.len() < len
+        && len as u64 <= rest.len() as u64 + LACKING * typed
+        && version.as_trace().preamble_bytes() + rest.len() as u64 <= size as u64
+}
+
+/// How many bytes at the end of a block's content are those of a record that is cut.
+fn cut_len(version: LogVersion, content: &[u8]) -> usize
+    requires { length content.now < 2 ^ 32 }
+    ensures is { result ≡ cut_length version content.now }
+    ensures within { result ≤ length content.now }
+{
+    let mut at = 0;
+    let mut typed = 0;
+    'records: while at < content.len() {
+        let rest = &content[at..];
+        typed += one_typed(version, rest[0]);
+        if is_cut(version, content.len(), typed, rest) {
+            return rest.len();
+        }
+        at += log_record_len(version, rest);
+    }
+    0
+}
+
+/// A block whose records come next.
+#[derive(Clone, Copy)]
+pub(crate) struct OpenedBlock<'a> {
+    /// The way through its records, up to the one that is cut.
+    pub(crate) walk: BlockWalk<'a>,
+    /// How many bytes are left of the record that is cut at its end: 0 if none is.
+    pub(crate) cut: usize,
+}
+
 impl<'a> BlockWalk<'a> {
     /// Before the first record of the block at a place, whose extents these bytes begin with.
     pub(crate) fn open(
         version: LogVersion,
         at: u64,
         bytes: &'a [u8],
-    ) -> Result<BlockWalk<'a>, TraceFault>
+    ) -> Result<OpenedBlock<'a>, TraceFault>
         requires few { at + length bytes.now < 2 ^ 32 }
         ensures { OpensTo version at bytes.entry.now result }
     {
         let size = block_size(version, at, bytes)?;
         let content = &bytes[METADATA_BYTES..];
-        let end = u128::from(at) + (METADATA_BYTES + size) as u128;
-        let span = Span { begin: at, end };
-        Ok(BlockWalk {
+        let content = &content[..size];
+        let cut = cut_len(version, content);
+        let rest = &content[..size - cut];
+        let end = u128::from(at) + (METADATA_BYTES + rest.len()) as u128;
+        let walk = BlockWalk {
             version,
-            rest: &content[..size],
+            rest,
             at: at + METADATA_BYTES as u64,
             stage: Stage::Within {
-                span,
+                span: Span { begin: at, end },
                 inside: Inside::Opened,
             },
-        })
+        };
+        Ok(OpenedBlock { walk, cut })
     }
 
     /// The place of the next record, or that after the block.

@@ -19,7 +19,11 @@ const HEADER_OF_6: &[u8] =
 /// Process 0.
 const PROCESS_0: &[u8] = b"\x13\0\0\0\0\0\0\0\0\0\0\0\0\0\0\0";
 
-/// Extents of 48 bytes, and of 101.
+/// Extents of no bytes, of 48, of 88 and of 101.
+const EXTENTS_0: &[u8] = b"\x0F\0\0\0\0\0\0\0\0\0\0\0\0\0\0\0";
+
+const EXTENTS_88: &[u8] = b"\x0F\x58\0\0\0\0\0\0\0\0\0\0\0\0\0\0";
+
 const EXTENTS_48: &[u8] = b"\x0F\x30\0\0\0\0\0\0\0\0\0\0\0\0\0\0";
 
 const EXTENTS_101: &[u8] = b"\x0F\x65\0\0\0\0\0\0\0\0\0\0\0\0\0\0";
@@ -40,6 +44,10 @@ const EXIT_AFTER_5: &[u8] = b"\x12\0\0\0\x05\0\0\0";
 const BASIC_HEADER: &[u8] =
     b"\x03\0\0\0\xF3\x01\0\0\x09\0\0\0\0\0\0\0\0\x40\0\0\0\0\0\0\0\0\0\0\0\0\0\0";
 
+/// The same of version 1.
+const BASIC_HEADER_OF_1: &[u8] =
+    b"\x01\0\0\0\xF3\x01\0\0\x09\0\0\0\0\0\0\0\0\x40\0\0\0\0\0\0\0\0\0\0\0\0\0\0";
+
 /// The header of its trace: the frequency 9, and no size of buffers.
 const HEADER_OF_BASIC: &[u8] =
     b"\x03\0\x01\0\x03\0\0\0\x09\0\0\0\0\0\0\0\0\0\0\0\0\0\0\0\0\0\0\0\0\0\0\0";
@@ -55,10 +63,12 @@ const BASIC_ARGUMENT: &[u8] =
 const BASIC_EXIT: &[u8] =
     b"\0\0\0\x01\x01\0\0\0\x02\0\0\0\0\0\0\0\x01\0\0\0\x01\0\0\0\0\0\0\0\0\0\0\0";
 
-/// An entry of function 1 that logs its argument, and the argument 77.
+/// An entry of function 1 that logs its argument, and the arguments 77 and 0.
 const ENTRY_WITH_ARGUMENT: &[u8] = b"\x16\0\0\0\0\0\0\0";
 
 const ARGUMENT_77: &[u8] = b"\x0D\x4D\0\0\0\0\0\0\0\0\0\0\0\0\0\0";
+
+const ARGUMENT_0: &[u8] = b"\x0D\0\0\0\0\0\0\0\0\0\0\0\0\0\0\0";
 
 /// Records of a basic log: thread 1 enters function 1 at 100; thread 2 enters function 9 at 1; thread 1
 /// enters function 3 at 50 and leaves it at 60; thread 2 leaves function 9 at 2; thread 1 leaves
@@ -113,7 +123,7 @@ const ENTRY_OF_2: &[u8] = b"\x20\0\0\0\0\0\0\0";
 const PROCESS_2: &[u8] = b"\x13\x02\0\0\0\0\0\0\0\0\0\0\0\0\0\0";
 
 /// What is printed after each number.
-const FACTS: [&str; 11] = [
+const FACTS: [&str; 14] = [
     "blocks",
     "threads",
     "events",
@@ -125,6 +135,9 @@ const FACTS: [&str; 11] = [
     "first counter",
     "last counter",
     "threads whose counter goes back",
+    "arguments without an entry left out",
+    "cut records left out",
+    "cycles a second",
 ];
 
 /// The parts of a file, in groups.
@@ -140,13 +153,13 @@ const FIVE_CYCLES: File = &[&[HEADER], &[EXTENTS_80, PREAMBLE, CPU, ENTRY, EXIT_
 const ENTERED_BY_2: &[&[u8]] = &[EXTENTS_72, PREAMBLE_OF_2, CPU, ENTRY];
 
 /// Logs, and what is made of them.
-const IMPORTS: [Import; 11] = [
+const IMPORTS: [Import; 17] = [
     // A trace is imported as itself.
-    (&[&ONE_CALL], "1 1 2 0 0 0 0 0 0 2 0", &[&ONE_CALL]),
+    (&[&ONE_CALL], "1 1 2 0 0 0 0 0 0 2 0 0 0 0", &[&ONE_CALL]),
     // Without a process it is 0.
     (
         &[&ONE_CALL_WITHOUT_PROCESS],
-        "1 1 2 0 0 0 0 0 0 2 0",
+        "1 1 2 0 0 0 0 0 0 2 0 0 0 0",
         &[
             &[HEADER, EXTENTS_80, THREAD_1, WALL_0, PROCESS_0],
             &[CPU, ENTRY, EXIT_AFTER_2],
@@ -158,7 +171,7 @@ const IMPORTS: [Import; 11] = [
             &[HEADER_OF_5],
             &[EXTENTS_101, PREAMBLE, CPU, ENTRY, CUSTOM, EXIT_AFTER_2],
         ],
-        "1 1 2 0 1 0 0 0 0 5 0",
+        "1 1 2 0 1 0 0 0 0 5 0 0 0 0",
         FIVE_CYCLES,
     ),
     (
@@ -166,7 +179,7 @@ const IMPORTS: [Import; 11] = [
             &[HEADER_OF_5],
             &[EXTENTS_101, PREAMBLE, CPU, ENTRY, TYPED, EXIT_AFTER_2],
         ],
-        "1 1 2 0 0 1 0 0 0 5 0",
+        "1 1 2 0 0 1 0 0 0 5 0 0 0 0",
         FIVE_CYCLES,
     ),
     (
@@ -174,7 +187,7 @@ const IMPORTS: [Import; 11] = [
             &[HEADER_OF_4, EXTENTS_101, PREAMBLE, CPU, ENTRY],
             &[CUSTOM_OF_4, EXIT_AFTER_2],
         ],
-        "1 1 2 0 1 0 0 0 0 2 0",
+        "1 1 2 0 1 0 0 0 0 2 0 0 0 0",
         &[&ONE_CALL],
     ),
     // Blocks of a thread come in the order of time, and threads ascend. A block counts once, and one without events not
@@ -188,13 +201,13 @@ const IMPORTS: [Import; 11] = [
             ENTERED,
             LEFT,
         ],
-        "3 2 3 0 0 0 1 1 0 2 0",
+        "3 2 3 0 0 0 1 1 0 2 0 0 0 0",
         &[&[HEADER], ENTERED, LEFT, ENTERED_BY_2],
     ),
     // A basic log.
     (
         &[&[BASIC_HEADER, BASIC_ENTRY, BASIC_ARGUMENT, BASIC_EXIT]],
-        "1 1 2 1 0 0 0 0 0 2 0",
+        "1 1 2 1 0 0 0 0 0 2 0 0 0 9",
         &[
             &[HEADER_OF_BASIC],
             &[EXTENTS_96, PREAMBLE, CPU, ENTRY_WITH_ARGUMENT],
@@ -206,7 +219,7 @@ const IMPORTS: [Import; 11] = [
     // another thread records.
     (
         &[&[BASIC_HEADER], &COUNTER_FALLS],
-        "2 2 6 0 0 0 0 0 1 200 1",
+        "2 2 6 0 0 0 0 0 1 200 1 0 0 9",
         &[
             &[HEADER_OF_BASIC, EXTENTS_112, PREAMBLE, CPU_AT_100, ENTRY],
             &[COUNTER_50, CALL_OF_3, EXIT_AFTER_140],
@@ -215,7 +228,7 @@ const IMPORTS: [Import; 11] = [
     ),
     (
         &[&[BASIC_HEADER], &RECORDED_AGAIN],
-        "2 2 3 0 0 0 0 0 100 100 0",
+        "2 2 3 0 0 0 0 0 100 100 0 0 0 9",
         &[
             &[
                 HEADER_OF_BASIC,
@@ -230,7 +243,7 @@ const IMPORTS: [Import; 11] = [
     ),
     (
         &[&[BASIC_HEADER], &TWO_PROCESSES],
-        "4 2 5 0 0 0 0 0 0 5 0",
+        "4 2 5 0 0 0 0 0 0 5 0 0 0 9",
         &[
             &[HEADER_OF_BASIC, EXTENTS_72, PREAMBLE, CPU, ENTRY],
             &[EXTENTS_72, THREAD_1, WALL_0, PROCESS_2, CPU_AT_2, ENTRY],
@@ -238,8 +251,76 @@ const IMPORTS: [Import; 11] = [
             ENTERED_BY_2,
         ],
     ),
+    // Blocks of no bytes are empty, and not doubled.
+    (
+        &[
+            &[HEADER_OF_5, EXTENTS_0, EXTENTS_0, EXTENTS_80, PREAMBLE, CPU],
+            &[ENTRY, EXIT_AFTER_5],
+        ],
+        "1 1 2 0 0 0 0 2 0 5 0 0 0 0",
+        FIVE_CYCLES,
+    ),
+    // An entry that doesn't say that it logs an argument has the one directly behind it.
+    (
+        &[
+            &[HEADER_OF_5, EXTENTS_96, PREAMBLE, CPU, ENTRY, ARGUMENT_77],
+            &[EXIT_AFTER_2],
+        ],
+        "1 1 2 1 0 0 0 0 0 2 0 0 0 0",
+        &[
+            &[HEADER, EXTENTS_96, PREAMBLE, CPU, ENTRY_WITH_ARGUMENT],
+            &[ARGUMENT_77, EXIT_AFTER_2],
+        ],
+    ),
+    // A record is cut behind a typed event, and the typed event itself; an entry directly before it is
+    // taken.
+    (
+        &[
+            &[HEADER_OF_5, EXTENTS_96, PREAMBLE, CPU, ENTRY, TYPED],
+            &[b"\x12\0\0"],
+        ],
+        "1 1 1 0 0 1 0 0 0 0 0 0 1 0",
+        &[&[HEADER, EXTENTS_72, PREAMBLE, CPU, ENTRY]],
+    ),
+    (
+        &[
+            &[HEADER_OF_5, EXTENTS_88, PREAMBLE, CPU, ENTRY_WITH_ARGUMENT],
+            &[b"\x11\x05\0\0\0\x03\0\0\0\x07\0\0\0\0\0\0"],
+        ],
+        "1 1 1 1 0 0 0 0 0 0 0 0 1 0",
+        &[
+            &[HEADER, EXTENTS_88, PREAMBLE, CPU, ENTRY_WITH_ARGUMENT],
+            &[ARGUMENT_0],
+        ],
+    ),
+    // Versions 1 and 2 of basic logs name no process.
+    (
+        &[&[BASIC_HEADER_OF_1, BASIC_ENTRY, BASIC_ARGUMENT, BASIC_EXIT]],
+        "1 1 2 1 0 0 0 0 0 2 0 0 0 9",
+        &[
+            &[HEADER_OF_BASIC, EXTENTS_96, THREAD_1, WALL_0, PROCESS_0],
+            &[CPU, ENTRY_WITH_ARGUMENT, ARGUMENT_77, EXIT_AFTER_2],
+        ],
+    ),
+    // Only the argument directly behind its entry belongs to it.
+    (
+        &[
+            &[BASIC_HEADER, BASIC_ARGUMENT, BASIC_ENTRY, BASIC_ARGUMENT],
+            &[BASIC_ARGUMENT, BASIC_EXIT, BASIC_ARGUMENT],
+        ],
+        "1 1 2 1 0 0 0 0 0 2 0 3 0 9",
+        &[
+            &[HEADER_OF_BASIC],
+            &[EXTENTS_96, PREAMBLE, CPU, ENTRY_WITH_ARGUMENT],
+            &[ARGUMENT_77, EXIT_AFTER_2],
+        ],
+    ),
     // No block.
-    (&[&[HEADER_OF_5]], "0 0 0 0 0 0 0 0 - - 0", &[&[HEADER]]),
+    (
+        &[&[HEADER_OF_5]],
+        "0 0 0 0 0 0 0 0 - - 0 0 0 0",
+        &[&[HEADER]],
+    ),
 ];
 
 #[test]
@@ -268,10 +349,11 @@ fn a_log_is_a_trace_of_its_events(rt: HostRuntime) -> Result<(), Fail> {
 type Refusal = (&'static [&'static [u8]], &'static str);
 
 /// Logs that are refused.
-const REFUSED: [Refusal; 12] = [
+const REFUSED: [Refusal; 14] = [
     (&[], "xray: l: log Short 0\n"),
     (&[HEADER_OF_6], "xray: l: log Version 6\n"),
-    (&[b"\x02\0\0\0", &[0; 28]], "xray: l: log Version 2\n"),
+    (&[b"\x04\0\0\0", &[0; 28]], "xray: l: log Version 4\n"),
+    (&[b"\x01\0\x01\0", &[0; 28]], "xray: l: log Version 1\n"),
     (&[b"\x05\0\x02\0", &[0; 28]], "xray: l: log Form 2\n"),
     (&[HEADER_OF_5, CPU], "xray: l: log Order 32\n"),
     (&[HEADER_OF_5, TYPED], "xray: l: log Order 32\n"),
@@ -291,8 +373,19 @@ const REFUSED: [Refusal; 12] = [
         "xray: l: log Extents 112\n",
     ),
     (
-        &[BASIC_HEADER, BASIC_EXIT, BASIC_ARGUMENT],
-        "xray: l: log Order 64\n",
+        &[
+            HEADER_OF_5,
+            EXTENTS_88,
+            PREAMBLE,
+            CPU,
+            EXIT_AFTER_2,
+            ARGUMENT_77,
+        ],
+        "xray: l: log Order 120\n",
+    ),
+    (
+        &[HEADER_OF_5, b"\x0F\x2F", &[0; 14], &[0; 47]],
+        "xray: l: log Extents 32\n",
     ),
     (
         &[BASIC_HEADER, b"\x02\0", &[0; 30]],

@@ -45,6 +45,7 @@ pub record SameLog (old new : Facts) : Type 0 where
   pub doubled : new.doubled ≡ old.doubled
   pub empty : new.empty ≡ old.empty
   pub lost : new.lost ≡ old.lost
+  pub cut : new.cut ≡ old.cut
   pub frequency : new.frequency ≡ old.frequency
 
 -- one more event of this thread, with this counter

@@ -36,6 +36,7 @@ pub record SaysOfLog (log : Log) (facts : Facts) : Type 0 where
   pub doubled : facts.doubled ≡ length log.blocks - length (undoubled log.blocks)
   pub empty : facts.empty ≡ count_by (λ b. length b.block.events == 0) (undoubled log.blocks)
   pub lost : facts.lost ≡ log.lost
+  pub cut : facts.cut ≡ sum (map (λ b. b.cut) log.blocks)
   pub frequency : facts.frequency ≡ log.header.frequency
 
 -- these are the numbers of what a log has
@@ -43,6 +44,7 @@ pub record AreOfLog (log : Log) (counts : Counts) : Type 0 where
   pub custom : counts.custom ≡ sum (map (λ b. b.custom) log.blocks)
   pub typed : counts.typed ≡ sum (map (λ b. b.typed) log.blocks)
   pub lost : counts.lost ≡ log.lost
+  pub cut : counts.cut ≡ sum (map (λ b. b.cut) log.blocks)
   pub frequency : counts.frequency ≡ log.header.frequency
 
 -- what is known of a block without its events is what it says

@@ -21,6 +21,7 @@ pub record AreRead (version : LogVersion) (bytes : List ℕ) (said : List LogBlo
   pub places : AreAt bytes version blocks.blocks.items said
   pub custom : blocks.custom ≡ sum (map (λ b. b.custom) said)
   pub typed : blocks.typed ≡ sum (map (λ b. b.typed) said)
+  pub cut : blocks.cut ≡ sum (map (λ b. b.cut) said)
 
 -- what comes of reading all of them
 abbrev pub HasRead : LogVersion → List ℕ → LogBlocks → Result Unit LogFault → Type 0
@@ -60,3 +61,4 @@ pub record BlocksRead (version : LogVersion) (bytes : List ℕ) (at : ℕ) (bloc
   pub places : AreAt bytes version blocks.blocks.items said
   pub custom : blocks.custom ≡ sum (map (λ b. b.custom) said)
   pub typed : blocks.typed ≡ sum (map (λ b. b.typed) said)
+  pub cut : blocks.cut ≡ sum (map (λ b. b.cut) said)

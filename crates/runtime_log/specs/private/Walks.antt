@@ -16,21 +16,23 @@ use Rattle.runtime_log.specs.declared.own_event.OwnKind.{OwnKind}
 use Rattle.runtime_log.specs.declared.stretch.Stretch.{Stretch}
 use Rattle.runtime_log.specs.declared.version.LogVersion.{LogVersion}
 use Rattle.runtime_log.specs.declared.walk.BlockWalk.{BlockWalk}
-use Rattle.runtime_log.specs.Logs.{block_content, block_opened, block_size_rows, log_places, log_record_rows}
+use Rattle.runtime_log.specs.declared.walk.OpenedBlock.{OpenedBlock}
+use Rattle.runtime_log.specs.Logs.{block_content, block_opened, block_size_rows, cut_length, log_places, log_record_rows, whole_content}
 use Rattle.runtime_log.specs.OwnEvents.{log_record_length, own_kind}
 use Rattle.runtime_log.specs.private.Stretches.{IsStretch}
 
--- a walk before the first record of a block that begins at a place and has this size
+-- a walk before the first record of a block that begins at a place and has this size, up to the record that is cut
 pub record IsOpened (version : LogVersion) (at size : ℕ) (bytes : List ℕ) (walk : BlockWalk) : Type 0 where
   pub version_is : walk.version ≡ version
-  pub rest : walk.rest.now ≡ block_content size bytes
+  pub rest : walk.rest.now ≡ whole_content version (block_content size bytes)
   pub at_is : walk.at ≡ at + metadata_length
-  pub stage : walk.stage ≡ (block_opened at size).stage
+  pub stage : walk.stage ≡ (block_opened at (length (whole_content version (block_content size bytes)))).stage
 
 -- what comes of the first record of a block
-abbrev pub OpensTo : LogVersion → ℕ → List ℕ → Result BlockWalk TraceFault → Type 0
-OpensTo version at bytes (Ok walk) =
-    (size : ℕ) × (block_size_rows version (at, bytes) ≡ Ok size) × (metadata_length + size ≤ length bytes) × IsOpened version at size bytes walk
+abbrev pub OpensTo : LogVersion → ℕ → List ℕ → Result OpenedBlock TraceFault → Type 0
+OpensTo version at bytes (Ok opened) =
+    (size : ℕ) × (block_size_rows version (at, bytes) ≡ Ok size) × (metadata_length + size ≤ length bytes) × IsOpened version at size bytes opened.walk
+    × (opened.cut ≡ cut_length version (block_content size bytes))
 OpensTo version at bytes (Err fault) = block_size_rows version (at, bytes) ≡ Err fault
 
 -- a walk after one more record

@@ -18,7 +18,7 @@ returns-clause-imports c =
     let threads = runs_of (events_of_passings version bytes passings) in
     let header = c.trace_header-header.result in
     let log = log_of_records header read.0 in
-    let packed = c.in_ok-packing.ensures.packs log refl (c.log_facts.ensures.log log (record { custom = refl; typed = refl; lost = read.3; frequency = refl }) (record { doubled = refl; empty = refl })) in
+    let packed = c.in_ok-packing.ensures.packs log refl (c.log_facts.ensures.log log (record { custom = refl; typed = refl; lost = read.3; cut = refl; frequency = refl }) (record { doubled = refl; empty = refl })) in
     let made = c.in_ok-pack_runs.ensures log packed in
     let same = c.deref.ensures.value in
     basic_imported version bytes read.0 threads header _ _ c.requires.mode read.1 (runs_by_thread (recorded_events read.0) (events_of_passings version bytes passings) read.2.same read.2.rise) c.trace_header-header.ensures

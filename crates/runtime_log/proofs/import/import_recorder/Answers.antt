@@ -43,7 +43,7 @@ returns-clause-imports c =
     let t = c.in_ok-taken.ensures version read.0 (subst (λ (ps : List Placed). AreAt bytes version ps read.0) (sym c.deref.ensures.value) at) in
     let header = c.trace_header-header.result in
     let log = log_of_blocks header read.0 in
-    let packed = c.in_ok-packing.ensures.packs log refl (c.log_facts-facts.ensures.log log (record { custom = read.2.custom; typed = read.2.typed; lost = refl; frequency = refl }) t.3) in
+    let packed = c.in_ok-packing.ensures.packs log refl (c.log_facts-facts.ensures.log log (record { custom = read.2.custom; typed = read.2.typed; lost = refl; cut = read.2.cut; frequency = refl }) t.3) in
     let taken_at = subst (λ (ps : List Placed). AreAt bytes version ps t.0) (sym c.deref-2.ensures.value) t.2 in
     let made = c.in_ok-pack_blocks.ensures log t.0 packed taken_at (taken_some read.0 t.0 t.1) in
     recorder_imported bytes version read.0 t.0 header _ _ c.requires.mode read.1 t.1 c.trace_header-header.ensures made.0 made.1

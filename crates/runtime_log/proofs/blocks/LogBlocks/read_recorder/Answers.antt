@@ -16,11 +16,11 @@ reading-preserved c =
     let items = c.in_ok-push.ensures.items ∙ ap (λ (v : Vec Placed Global). v.items ++ c.in-Ok.block ∷ []) c.read_block.ensures.others in
     record {
       within = read.2.within.whole;
-      reads = blocks_more c.args.version c.args.bytes.now c.reading.at c.reading.self _ c.in-Ok.block read.0 i.reads c.reading-test.true read.1 read.2 c.in-Ok.ensures.places.1 items read.3 read.4;
+      reads = blocks_more c.args.version c.args.bytes.now c.reading.at c.reading.self _ c.in-Ok.block read.0 i.reads c.reading-test.true read.1 read.2 c.in-Ok.ensures.places.1 items read.3 read.4 read.5;
       counts = c.in-Ok.ensures.counts;
     }
 
 pub returns : goal.returns
 returns c =
     let r = c.reading.invariant.reads in
-    (r.said, blocks_all c.args.version c.args.bytes.now c.reading.at c.reading.self r c.reading-test.false, record { places = r.places; custom = r.custom; typed = r.typed })
+    (r.said, blocks_all c.args.version c.args.bytes.now c.reading.at c.reading.self r c.reading-test.false, record { places = r.places; custom = r.custom; typed = r.typed; cut = r.cut })

@@ -7,7 +7,7 @@ abbrev pub invariant-reading : goal.invariant-reading
 invariant-reading l = record {
   within : l.at ≤ length l.bytes;
   reads : BlocksRead l.version l.bytes l.at l.self;
-  counts : (l.self.custom ≤ l.at) × (l.self.typed ≤ l.at);
+  counts : (l.self.custom ≤ l.at) × (l.self.typed ≤ l.at) × (l.self.cut ≤ l.at);
 }
 
 abbrev pub decreases-reading : goal.decreases-reading

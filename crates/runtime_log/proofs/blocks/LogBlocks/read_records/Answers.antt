@@ -15,6 +15,7 @@ records-init c = record {
   reads = λ so stage. record { now = so; on = refl; stage = stage; shows = λ s. s; custom = refl; typed = refl };
   begin = refl;
   others = refl;
+  cut = refl;
 }
 
 pub records-preserved : goal.records-preserved
@@ -37,7 +38,8 @@ records-preserved c =
           c.hear.ensures.shows i.version some said.0 past custom typed)
           (past.version ∙ i.version) c.past_stretch-walk.ensures;
       begin = c.hear.ensures.places.0 ∙ i.begin;
-      others = c.count.ensures.others ∙ i.others;
+      others = c.count.ensures.others.0 ∙ i.others;
+      cut = c.count.ensures.others.1 ∙ i.cut;
     }
 
 pub returns-in_err-told-clause-refuses : goal.returns-in_err-told-clause-refuses

@@ -12,6 +12,7 @@ invariant-records l = record {
   reads : (so : BlockSoFar) → l.initial.walk.stage ≡ so.stage → ReadsOn so l.fn.self l.fn.block l.initial.walk l.self l.block l.walk;
   begin : l.block.begin ≡ l.fn.block.begin;
   others : l.self.blocks ≡ l.fn.self.blocks;
+  cut : l.self.cut ≡ l.fn.self.cut;
 }
 
 abbrev pub decreases-records : goal.decreases-records
