@@ -1,9 +1,9 @@
 -- What is gathered from clap's matches, one file or option after the other.
 use Rattle.std.proofs.Math.Seq.{drop-cons}
-use Rattle.std.proofs.Common.{◌≡◌, ◌∙◌, ◌<◌, ◌≤◌, ◌+◌, ◌&&◌, ℕ, suc, true, false, Bool, cond, refl, sym, ap, drop, get_or, add-one, append_assoc, List, [], ◌∷◌, ◌++◌, length, map, option_map, option_copied, Option, Some, None, Bor}
-use Rattle.std.proofs.lemmas.List.{drop_all, map-append}
+use Rattle.std.proofs.Common.{◌≡◌, ◌∙◌, ◌<◌, ◌+◌, ◌&&◌, ◌||◌, ℕ, true, false, Bool, cond, not, refl, sym, ap, drop, get_or, add-one, append_assoc, List, [], ◌∷◌, ◌++◌, length, map, option_map, option_copied, take, Option, Some, None, Bor}
+use Rattle.std.proofs.lemmas.List.{map-append}
 use Rattle.std.proofs.lemmas.Str.{IsUtf8-string_bytes, encodes-chars}
-use Rattle.std.specs.List.{cons_option, find, list_all, position_from}
+use Rattle.std.specs.List.{cons_option, find, list_all, list_any, position_from, zip}
 use Rattle.std.specs.Prelude.{String, string_bytes, if◌then◌else◌}
 use Rattle.std.specs.Str.{bytes_eq}
 use Rattle.std.specs.declared.alloc.Global.{Global}
@@ -14,11 +14,10 @@ use Rattle.clap.specs.declared.parser.matches.ArgMatches.{ArgMatches}
 use Rattle.command_words.specs.private.Clapped.{given_in, names_in, rows_in}
 use Rattle.command_words.specs.Lines.{outputs_in}
 use Rattle.command_words.specs.Rows as rows
-use Rattle.command_words.specs.Rows.{is_written}
+use Rattle.command_words.specs.Rows.{is_output}
 use Rattle.command_words.specs.private.CodeViews.{file_view, option_view}
 use Rattle.command_words.specs.declared.rows.FileRow.{FileRow}
 use Rattle.command_words.specs.declared.rows.OptionRow.{OptionRow}
-use Rattle.command_words.specs.declared.rows.Role.TheVariants.{Input}
 use Rattle.command_words.proofs.Arguments.{Each}
 use Rattle.command_words.proofs.WordShapes.{IsText}
 
@@ -34,7 +33,7 @@ value_of_row matches id answer gives = sym (first_value-rows (found_of matches) 
 
 -- the next file, before those after it
 pub names_from : (files : List FileRow) (i : ℕ) (d : FileRow) (rows : List Row) → i < length files
-    → names_in (map file_view (drop i files)) rows ≡ cons_option (first_of (get_or files i d).label.now rows) (names_in (map file_view (drop (i + 1) files)) rows)
+    → names_in (map file_view (drop i files)) rows ≡ cons_option (first_of (file_view (get_or files i d)).label rows) (names_in (map file_view (drop (i + 1) files)) rows)
 names_from files i d rows within = rw (add-one, drop-cons files i d) refl
 
 -- the next option, before those after it
@@ -79,50 +78,34 @@ pair_view pair = (pair.0.now, pair.1.now)
 abbrev pub given_from_place : Text → List (Bor Text × Bor Text) → ℕ → Option (Text × Text)
 given_from_place name pairs i = find (λ (given : Text × Text). bytes_eq given.0 name) (map pair_view (drop i pairs))
 
--- ---- the names of outputs
+-- ---- what a row allows
 
--- the outputs from a place on, and a test that all of them pass
-abbrev pub outputs_from : List FileRow → List (Bor Text) → ℕ → List Text
-outputs_from files names i = outputs_in (map file_view (drop i files)) (map (λ name. name.now) (drop i names))
-
-abbrev pub pass_from : (Text → Bool) → List FileRow → List (Bor Text) → ℕ → Bool
-pass_from p files names i = list_all p (outputs_from files names i)
-
--- the next name isn't an output's, or passes
-pub pass_next : (p : Text → Bool) (files : List FileRow) (names : List (Bor Text)) (i : ℕ) (d : FileRow) (e : Bor Text) → i < length files → i < length names
-    → pass_from p files names i ≡ (if is_written (get_or files i d).role then p (get_or names i e).now && pass_from p files names (i + 1) else pass_from p files names (i + 1))
-pass_next p files names i d e in_files in_names = rw (add-one, drop-cons files i d, drop-cons names i e) (go (is_written (get_or files i d).role))
+-- the outputs, by the places of files and the words in them
+pub outputs_zipped : (p : Text → Bool) (files : List FileRow) (names : List (Bor Text))
+    → list_all p (outputs_in (map file_view files) (map (λ name. name.now) names))
+    ≡ list_all (λ pair. not (is_output (file_view pair.0)) || p pair.1.now) (zip files names)
+outputs_zipped p [] names = refl
+outputs_zipped p (file ∷ files) [] = refl
+outputs_zipped p (file ∷ files) (name ∷ names) = go (is_output (file_view file)) (outputs_zipped p files names)
   where
-    go : (b : Bool) → list_all p (if b then (get_or names i e).now ∷ outputs_from files names (suc i) else outputs_from files names (suc i))
-        ≡ (if b then p (get_or names i e).now && pass_from p files names (suc i) else pass_from p files names (suc i))
-    go true = refl
-    go false = refl
+    rest : List Text
+    rest = outputs_in (map file_view files) (map (λ name. name.now) names)
 
--- after the last name there is no output
-pub pass_end : (p : Text → Bool) (files : List FileRow) (names : List (Bor Text)) (i : ℕ) → length names ≤ i → pass_from p files names i ≡ true
-pass_end p files names i beyond = rw (drop_all i names beyond) (go (map file_view (drop i files)))
-  where
-    go : (files : List rows.FileRow) → list_all p (outputs_in files []) ≡ true
-    go [] = refl
-    go (file ∷ files) = refl
+    go : (b : Bool) → list_all p rest ≡ list_all (λ pair. not (is_output (file_view pair.0)) || p pair.1.now) (zip files names)
+        → list_all p (if b then name.now ∷ rest else rest)
+        ≡ ((not b || p name.now) && list_all (λ pair. not (is_output (file_view pair.0)) || p pair.1.now) (zip files names))
+    go true more = ap (λ b. p name.now && b) more
+    go false more = more
 
--- so an output whose name fails decides, and otherwise what comes after it does
-pub pass_fails : (p : Text → Bool) (files : List FileRow) (names : List (Bor Text)) (i : ℕ) (d : FileRow) (e : Bor Text) → i < length files → i < length names
-    → is_written (get_or files i d).role ≡ true → p (get_or names i e).now ≡ false → pass_from p files names i ≡ false
-pass_fails p files names i d e in_files in_names written fails = pass_next p files names i d e in_files in_names ∙ rw (written, fails) refl
+pub all_mapped : {X Y : Type 0} (p : Y → Bool) (f : X → Y) (xs : List X) → list_all p (map f xs) ≡ list_all (λ x. p (f x)) xs
+all_mapped p f [] = refl
+all_mapped p f (x ∷ xs) = ap (λ b. p (f x) && b) (all_mapped p f xs)
 
-pub pass_skips : (p : Text → Bool) (files : List FileRow) (names : List (Bor Text)) (i : ℕ) (d : FileRow) (e : Bor Text) → i < length files → i < length names
-    → is_written (get_or files i d).role ≡ false → pass_from p files names i ≡ pass_from p files names (i + 1)
-pass_skips p files names i d e in_files in_names read = pass_next p files names i d e in_files in_names ∙ rw read refl
-
-pub pass_passes : (p : Text → Bool) (files : List FileRow) (names : List (Bor Text)) (i : ℕ) (e : Bor Text) → i < length files → i < length names
-    → p (get_or names i e).now ≡ true → pass_from p files names i ≡ pass_from p files names (i + 1)
-pass_passes p files names i e in_files in_names passes =
-    pass_next p files names i blank e in_files in_names ∙ rw passes (go (is_written (get_or files i blank).role))
-  where
-    blank : FileRow
-    blank = record { label = record { ref_ptr = (0, 0); now = [] }; role = Input }
-
-    go : (b : Bool) → (if b then pass_from p files names (i + 1) else pass_from p files names (i + 1)) ≡ pass_from p files names (i + 1)
-    go true = refl
-    go false = refl
+-- the files that have a word, by so many names as a line has
+pub named_mapped : (name : Text) (files : List FileRow) (names : List (Bor Text))
+    → list_any (λ (file : rows.FileRow). bytes_eq file.label name) (take (length (map (λ name. name.now) names)) (map file_view files))
+    ≡ list_any (λ file. bytes_eq (file_view file).label name) (take (length names) files)
+named_mapped name [] [] = refl
+named_mapped name [] (one ∷ names) = refl
+named_mapped name (file ∷ files) [] = refl
+named_mapped name (file ∷ files) (one ∷ names) = ap (λ b. bytes_eq (file_view file).label name || b) (named_mapped name files names)

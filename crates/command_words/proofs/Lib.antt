@@ -12,8 +12,8 @@ pub mod ClapMatches
 pub mod CommandSteps
 pub mod ReadWords
 -- Commands: what is made of a line, by the rows of the table (src/words.rt, src/laws.rt)
+pub mod CommandRows
 pub mod OfRows
 pub mod Outputs
-pub mod ReadLines
 -- Worked examples: command lines
 pub mod WorkedLines

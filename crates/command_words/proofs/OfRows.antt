@@ -1,314 +1,205 @@
 -- A command and its row in the table.
-use Rattle.std.proofs.Common.{◌≡◌, ◌∙◌, ◌==◌, ℕ, Bool, true, false, List, [], ◌∷◌, Option, Some, None, refl, sym, ap, subst}
-use Rattle.std.specs.List.{cons_option}
-use Rattle.std.specs.Option.{option_map_or}
-use Rattle.std.specs.Prelude.{if◌then◌else◌, option_and_then, option_map}
+use Rattle.std.proofs.Common.{◌≡◌, ◌∙◌, ◌&&◌, ℕ, Bool, cond, true, false, List, [], ◌∷◌, Option, Some, None, find, refl, sym, ap, subst, true≢false}
+use Rattle.std.specs.List.{cons_option, list_all}
+use Rattle.std.specs.Prelude.{codes, if◌then◌else◌, is_some, option_and_then}
 use Rattle.std.specs.Str.{bytes_eq}
+use Rattle.std.proofs.Math.Bool.{or-true}
 use Rattle.xray_io.specs.declared.wall.Wall.{Wall}
-use Rattle.command_words.specs.Files.{AreOfTheirRows, IsOfItsRow, OutputsAreOfTheRow, files_given, image_named, map_named, named_in, names_given, names_of, row_of}
+use Rattle.command_words.specs.Files.{AreOfTheirRows, IsOfItsRow, files_given, named_in, row_of}
 use Rattle.command_words.specs.Items.{Item, items_of}
-use Rattle.command_words.specs.Lines.{Line, line_of, number_given, value_in}
+use Rattle.command_words.specs.Lines.{Line, row_allows, is_cut, keeps, line_by, line_of, outputs_differ, outputs_in, value_in}
+use Rattle.command_words.specs.Made.{Takes, Word, by_word, made_of, no_options, line_says}
 use Rattle.command_words.specs.Numbers.{number_meant}
-use Rattle.command_words.specs.Reports.{NameSource, ByIds, ByImage, ByMap, account_options_in, choice_in, convert_options_in, stack_formats}
-use Rattle.command_words.specs.Rows.{CommandRow}
-use Rattle.command_words.specs.Tables.{account_row, asm_row, check_row, convert_row, dump_row, extract_row, plain_row, run_row, sim_row}
-use Rattle.command_words.specs.Tables.{import_row, map_option, map_version_option, order_row, profile_row, relative_map, seeds, soak_row, stack_format_option, stack_row, threshold_option}
-use Rattle.command_words.specs.Words.{Command, Sim, Run, Plain, Extract, Asm, Account, Stack, Convert, Dump, Check, Order, Profile, Soak, Import}
-use Rattle.command_words.specs.Words.{account_in, asm_in, bounds_in, check_in, convert_in, dump_in, extract_in, import_in, order_in, plain_in, profile_in, profile_options_in, report_by, run_in, run_options_in, sim_in, soak_in, stack_in}
-use Rattle.command_words.specs.declared.profile_options.ProfileOptions.{ProfileOptions}
-use Rattle.command_words.specs.declared.report_options.AccountOptions.{AccountOptions}
-use Rattle.command_words.specs.declared.report_options.ConvertOptions.{ConvertOptions}
-use Rattle.command_words.specs.declared.report_options.StackFormat.{StackFormat}
-use Rattle.command_words.specs.declared.run_options.Bounds.{Bounds}
-use Rattle.command_words.specs.declared.run_options.RunOptions.{RunOptions}
-use Rattle.command_words.proofs.Texts.{equal_texts}
+use Rattle.command_words.specs.Reports.{NameSource, ByIds, ByImage, ByMap}
+use Rattle.command_words.specs.Rows.{CommandRow, FileRow, MaybeRead, Numeral, OptionRow, Read, Role, Written}
+use Rattle.command_words.specs.Tables.{report_row}
+use Rattle.command_words.specs.Words.{asm_row, check_row, commands, dump_row, extract_row, import_row, order_row, plain_row, profile_row, run_row, sim_row, soak_row}
+use Rattle.command_words.specs.Words.{Command, Extract, Account, Stack, Convert, Dump, Check, Order, Soak, Import}
+use Rattle.command_words.specs.Words.{InTable, command_by, table_entry, outputs_of, profile_options_in, report_by, run_options_in, with_source}
+use Rattle.command_words.specs.declared.tables.Verb.{Verb}
+use Rattle.command_words.proofs.Arguments.{Each}
+use Rattle.command_words.proofs.Texts.{and_parts, equal_texts}
 
--- a command of this row names these files, and by its options those
-record IsOf (row : CommandRow) (names given : List (List ℕ)) (command : Command) : Type 0 where
-  row_is : row_of command ≡ row
-  names_are : names_of command ≡ named_in row.files names
-  given_are : names_given command ≡ given
-
--- a command of this row names the files of a line
-abbrev IsOfLine : CommandRow → Line → Command → Type 0
-IsOfLine row line command = IsOf row line.files (files_given row.options line) command
-
-same : (one other : Command) → Some one ≡ Some other → one ≡ other
+same : {X : Type 0} (one other : X) → Some one ≡ Some other → one ≡ other
 same one other e = cc
 
-never : (command : Command) → None ≡ Some command → ⊥
-never command e = cc
+pub never : {X : Type 0} {C : Type 0} (x : X) → None ≡ Some x → C
+never x e = cc
+
+-- ---- what holds of all that is made, holds of what is made of words
+
+abbrev OfWords : Type 0 → Type 1
+OfWords Y = List (List ℕ) → Y → Type 0
+
+-- whatever a place gives
+abbrev AllWords : {T Y : Type 0} (role : Role) → (Word role → T) → (T → OfWords Y → Type 0) → OfWords Y → Type 0
+AllWords Read make Rest P = (word : List ℕ) → Rest (make word) (λ words. P (word ∷ words))
+AllWords MaybeRead make Rest P = Rest (make None) P × ((word : List ℕ) → Rest (make (Some word)) (λ words. P (word ∷ words)))
+AllWords Written make Rest P = (word : List ℕ) → Rest (make word) (λ words. P (word ∷ words))
+AllWords (Numeral values) make Rest P = (number : ℕ) (word : List ℕ) → Rest (make number) (λ words. P (word ∷ words))
+
+-- whatever all places give, and the options say
+abbrev AllMade : (X Y : Type 0) (files : List FileRow) → Takes files (X → Y) → OfWords Y → Type 0
+AllMade X Y [] make P = (options : X) → P [] (make options)
+AllMade X Y (file ∷ files) make P = AllWords file.role make (λ made Q. AllMade X Y files made Q) P
+
+made_is : (X Y : Type 0) (files : List FileRow) (make : Takes files (X → Y)) (options : Option X) (P : OfWords Y) → AllMade X Y files make P
+    → (words : List (List ℕ)) (y : Y) → made_of files make options words ≡ Some y → P words y
+made_is X Y [] make None P all [] y is = never y is
+made_is X Y [] make (Some options) P all [] y is = subst (P []) (same _ _ is) (all options)
+made_is X Y [] make options P all (word ∷ words) y is = never y is
+made_is X Y (file ∷ files) make options P all words y is =
+    go file.role make P all words is (λ made Q all words is. made_is X Y files made options Q all words y is)
+  where
+    More : Type 1
+    More = (made : Takes files (X → Y)) (Q : OfWords Y) → AllMade X Y files made Q → (words : List (List ℕ)) → made_of files made options words ≡ Some y → Q words y
+
+    by_number : (make : ℕ → Takes files (X → Y)) (P : OfWords Y) (word : List ℕ) (words : List (List ℕ)) (found : Option ℕ)
+        → ((number : ℕ) → AllMade X Y files (make number) (λ words. P (word ∷ words)))
+        → option_and_then (λ number. made_of files (make number) options words) found ≡ Some y → More → P (word ∷ words) y
+    by_number make P word words None all is more = never y is
+    by_number make P word words (Some number) all is more = more (make number) (λ words. P (word ∷ words)) (all number) words is
+
+    go : (role : Role) (make : Word role → Takes files (X → Y)) (P : OfWords Y) → AllWords role make (λ made Q. AllMade X Y files made Q) P
+        → (words : List (List ℕ)) → by_word role make (λ made rest. made_of files made options rest) words ≡ Some y → More → P words y
+    go Read make P all [] is more = never y is
+    go Read make P all (word ∷ words) is more = more (make word) (λ words. P (word ∷ words)) (all word) words is
+    go MaybeRead make P all [] is more = more (make None) P all.0 [] is
+    go MaybeRead make P all (word ∷ words) is more = more (make (Some word)) (λ words. P (word ∷ words)) (all.1 word) words is
+    go Written make P all [] is more = never y is
+    go Written make P all (word ∷ words) is more = more (make word) (λ words. P (word ∷ words)) (all word) words is
+    go (Numeral values) make P all [] is more = never y is
+    go (Numeral values) make P all (word ∷ words) is more = by_number make P word words (number_meant values word) (λ number. all number word) is more
+
+-- ---- each command
+
+-- The command is in the table by this row, with the names among words that are in the places of files. Its outputs are
+-- the names in the places of files that are written.
+abbrev IsOf : CommandRow → Line → OfWords Command
+IsOf row line words command =
+    (table_entry command ≡ record { row = row; names = named_in row.files words; given = files_given row.options line })
+    × (outputs_of command ≡ outputs_in row.files words)
+
+-- so is each command that is said by an allowed line of the row
+abbrev Says : CommandRow → (Wall → Line → Option Command) → Type 0
+Says row said = (wall : Wall) (line : Line) (command : Command) → row_allows row line ≡ true → said wall line ≡ Some command
+    → IsOf row line line.files command
+
+abbrev IsLawful : CommandRow → Type 0
+IsLawful row = Says row (command_by row.verb)
+
+-- a command by its places
+by_places : {X : Type 0} (row : CommandRow) (make : Takes row.files (X → Command)) (options : Wall → Line → Option X)
+    → ((line : Line) → AllMade X Command row.files make (IsOf row line)) → Says row (λ wall line. line_says row.files make (options wall line) line)
+by_places {X} row make options all wall line command allowed is =
+    made_is X Command row.files make (options wall line) (IsOf row line) (all line) line.files command is
+
+by_names : (row : CommandRow) (make : Takes row.files (Unit {0} → Command)) → ((line : Line) → AllMade (Unit {0}) Command row.files make (IsOf row line))
+    → Says row (λ wall line. line_says row.files make no_options line)
+by_names row make all = by_places row make (λ wall line. no_options) all
+
+-- a line of a report doesn't have both an image and a map
+both_named : (word : List ℕ) (verb : Verb) (options : List OptionRow) (line : Line) (trace image map : List ℕ) → row_allows (report_row word verb options) line ≡ true
+    → line.files ≡ trace ∷ image ∷ [] → value_in (codes "map") line ≡ Some map → ⊥
+both_named word verb options line trace image map allowed names given =
+    let row = report_row word verb options in
+    let rules : list_all (keeps row line) row.beside ≡ true = (and_parts (outputs_differ row.files line.files) _ allowed).1 in
+    true≢false (sym (rw (given, names, or-true (is_some (value_in (codes "image") line))) at rules))
+
+-- a report by what names its functions
+by_source : {X : Type 0} (word : List ℕ) (verb : Verb) (options : List OptionRow) (make : List ℕ → NameSource → X → Command) (said : Line → Option X)
+    → ((line : Line) → files_given (report_row word verb options).options line ≡ cons_option (value_in (codes "map") line) [])
+    → ((trace : List ℕ) (source : NameSource) (option : X) → table_entry (make trace source option) ≡ with_source (report_row word verb options) trace source)
+    → Says (report_row word verb options) (λ wall line. report_by make (said line) line)
+by_source {X} word verb options make said map_only sources wall line command allowed is =
+    go line.files (value_in (codes "map") line) (said line) refl refl refl
+  where
+    row : CommandRow
+    row = report_row word verb options
+
+    both : (trace : List ℕ) (source : NameSource) (option : X)
+        → (table_entry (make trace source option) ≡ with_source row trace source) × (outputs_of (make trace source option) ≡ outputs_in row.files (with_source row trace source).names)
+    both trace source option = (sources trace source option, ap (λ (t : InTable). outputs_in t.row.files t.names) (sources trace source option))
+
+    go : (names : List (List ℕ)) (map : Option (List ℕ)) (option : Option X) → line.files ≡ names → value_in (codes "map") line ≡ map → said line ≡ option
+        → IsOf row line line.files command
+    go (trace ∷ []) None (Some option) e f g = rw (← same (make trace ByIds option) command (rw (g, e, f) at is), map_only line, e, f) (both trace ByIds option)
+    go (trace ∷ []) (Some map) (Some option) e f g =
+        rw (← same (make trace (ByMap map) option) command (rw (g, e, f) at is), map_only line, e, f) (both trace (ByMap map) option)
+    go (trace ∷ image ∷ []) None (Some option) e f g =
+        rw (← same (make trace (ByImage image) option) command (rw (g, e) at is), map_only line, e, f) (both trace (ByImage image) option)
+    go (trace ∷ image ∷ []) (Some map) option e f g = absurd (both_named word verb options line trace image map allowed e f)
+    go (trace ∷ []) map None e f g = never command (rw (g, e) at is)
+    go (trace ∷ image ∷ []) None None e f g = never command (rw (g, e) at is)
+    go [] map option e f g = never command (rw e at is)
+    go (a ∷ b ∷ c ∷ names) map option e f g = never command (rw e at is)
 
 -- ---- a line for each command
 
-sim_of : (wall : Wall) (line : Line) (command : Command) → sim_in wall line ≡ Some command → IsOfLine sim_row line command
-unfolding run_options_in
-sim_of wall line command says = go line.files (run_options_in wall line) refl refl
-  where
-    go : (names : List (List ℕ)) (options : Option RunOptions) → line.files ≡ names → run_options_in wall line ≡ options → IsOfLine sim_row line command
-    go (image ∷ script ∷ schedule ∷ trace ∷ audit ∷ []) (Some options) e f =
-        let is : Sim image script schedule trace audit options ≡ command = same _ _ (rw (e, f) at says) in
-        rw (sym is, e) (record { row_is = refl; names_are = refl; given_are = refl })
-    go (image ∷ script ∷ schedule ∷ trace ∷ audit ∷ []) None e f = absurd (never command (rw (e, f) at says))
-    go [] options e f = absurd (never command (rw e at says))
-    go (a ∷ []) options e f = absurd (never command (rw e at says))
-    go (a ∷ b ∷ []) options e f = absurd (never command (rw e at says))
-    go (a ∷ b ∷ c ∷ []) options e f = absurd (never command (rw e at says))
-    go (a ∷ b ∷ c ∷ d ∷ []) options e f = absurd (never command (rw e at says))
-    go (a ∷ b ∷ c ∷ d ∷ g ∷ h ∷ names) options e f = absurd (never command (rw e at says))
+infixr 10 ◌▸◌
+-- one, and those after it
+◌▸◌ : {A B : Type 0} → A → B → A × B
+a ▸ b = (a, b)
 
-run_of : (wall : Wall) (line : Line) (command : Command) → run_in wall line ≡ Some command → IsOfLine run_row line command
-unfolding run_options_in
-run_of wall line command says = go line.files (run_options_in wall line) refl refl
-  where
-    go : (names : List (List ℕ)) (options : Option RunOptions) → line.files ≡ names → run_options_in wall line ≡ options → IsOfLine run_row line command
-    go (image ∷ script ∷ trace ∷ audit ∷ []) (Some options) e f =
-        let is : Run image script trace audit options ≡ command = same _ _ (rw (e, f) at says) in
-        rw (sym is, e) (record { row_is = refl; names_are = refl; given_are = refl })
-    go (image ∷ script ∷ trace ∷ audit ∷ []) None e f = absurd (never command (rw (e, f) at says))
-    go [] options e f = absurd (never command (rw e at says))
-    go (a ∷ []) options e f = absurd (never command (rw e at says))
-    go (a ∷ b ∷ []) options e f = absurd (never command (rw e at says))
-    go (a ∷ b ∷ c ∷ []) options e f = absurd (never command (rw e at says))
-    go (a ∷ b ∷ c ∷ d ∷ g ∷ names) options e f = absurd (never command (rw e at says))
-
-plain_of : (line : Line) (command : Command) → plain_in line ≡ Some command → IsOfLine plain_row line command
-plain_of line command says = go line.files (bounds_in line) refl refl
-  where
-    go : (names : List (List ℕ)) (bounds : Option Bounds) → line.files ≡ names → bounds_in line ≡ bounds → IsOfLine plain_row line command
-    go (image ∷ []) (Some bounds) e f =
-        let is : Plain image bounds ≡ command = same _ _ (rw (e, f) at says) in
-        rw (sym is, e) (record { row_is = refl; names_are = refl; given_are = refl })
-    go (image ∷ []) None e f = absurd (never command (rw (e, f) at says))
-    go [] bounds e f = absurd (never command (rw e at says))
-    go (a ∷ b ∷ names) bounds e f = absurd (never command (rw e at says))
-
-extract_of : (line : Line) (command : Command) → extract_in line ≡ Some command → IsOfLine extract_row line command
-extract_of line command says = go line.files refl
-  where
-    go : (names : List (List ℕ)) → line.files ≡ names → IsOfLine extract_row line command
-    go (image ∷ []) e =
-        let is : Extract image ≡ command = same _ _ (rw e at says) in
-        rw (sym is, e) (record { row_is = refl; names_are = refl; given_are = refl })
-    go [] e = absurd (never command (rw e at says))
-    go (a ∷ b ∷ names) e = absurd (never command (rw e at says))
-
-asm_of : (line : Line) (command : Command) → asm_in line ≡ Some command → IsOfLine asm_row line command
-asm_of line command says = go line.files (number_given threshold_option line) (number_given map_version_option line) refl refl refl
-  where
-    go : (names : List (List ℕ)) (threshold version : Option ℕ) → line.files ≡ names → number_given threshold_option line ≡ threshold → number_given map_version_option line ≡ version → IsOfLine asm_row line command
-    go (text ∷ image ∷ []) (Some threshold) (Some version) e f g =
-        let is : Asm text image threshold (version == relative_map) ≡ command = same _ _ (rw (e, f, g) at says) in
-        rw (sym is, e) (record { row_is = refl; names_are = refl; given_are = refl })
-    go (text ∷ image ∷ []) (Some threshold) None e f g = absurd (never command (rw (e, f, g) at says))
-    go (text ∷ image ∷ []) None version e f g = absurd (never command (rw (e, f) at says))
-    go [] threshold version e f g = absurd (never command (rw e at says))
-    go (a ∷ []) threshold version e f g = absurd (never command (rw e at says))
-    go (a ∷ b ∷ c ∷ names) threshold version e f g = absurd (never command (rw e at says))
-
--- a report, whatever its options are
-report_of : {X : Type 0} (row : CommandRow) (make : List ℕ → NameSource → X → Command) (line : Line) (options : Option X) (command : Command)
-    → ((trace : List ℕ) (names : NameSource) (option : X) → IsOf row (trace ∷ image_named names) (map_named names) (make trace names option))
-    → report_by make line options ≡ Some command → IsOf row line.files (cons_option (value_in map_option.name line) []) command
-report_of {X} row make line options command each says = go line.files (value_in map_option.name line) options refl refl refl
-  where
-    -- what is said by a trace alone, with this map
-    named_alone : (trace : List ℕ) (option : X) (map : Option (List ℕ)) → Type 0
-    named_alone trace option map = Some (make trace (option_map_or ByMap map ByIds) option) ≡ Some command
-
-    go : (files : List (List ℕ)) (map : Option (List ℕ)) (given : Option X) → line.files ≡ files → value_in map_option.name line ≡ map → options ≡ given
-        → IsOf row line.files (cons_option (value_in map_option.name line) []) command
-    go (trace ∷ []) None (Some option) e f g =
-        let is : make trace ByIds option ≡ command = same _ _ (subst (named_alone trace option) f (rw (e, g) at says)) in
-        rw (sym is, e, f) (each trace ByIds option)
-    go (trace ∷ []) (Some map) (Some option) e f g =
-        let is : make trace (ByMap map) option ≡ command = same _ _ (subst (named_alone trace option) f (rw (e, g) at says)) in
-        rw (sym is, e, f) (each trace (ByMap map) option)
-    go (trace ∷ image ∷ []) None (Some option) e f g =
-        let is : make trace (ByImage image) option ≡ command = same _ _ (rw (e, f, g) at says) in
-        rw (sym is, e, f) (each trace (ByImage image) option)
-    go (trace ∷ []) map None e f g = absurd (never command (rw (e, g) at says))
-    go (trace ∷ image ∷ []) None None e f g = absurd (never command (rw (e, f, g) at says))
-    go (trace ∷ image ∷ []) (Some map) given e f g = absurd (never command (rw (e, f) at says))
-    go [] map given e f g = absurd (never command (rw e at says))
-    go (a ∷ b ∷ c ∷ files) map given e f g = absurd (never command (rw e at says))
-
-account_of : (line : Line) (command : Command) → account_in line ≡ Some command → IsOfLine account_row line command
-account_of line command says =
-    report_of account_row Account line (account_options_in line) command (λ trace names options. by_names trace names options) says
-  where
-    by_names : (trace : List ℕ) (names : NameSource) (options : AccountOptions) → IsOf account_row (trace ∷ image_named names) (map_named names) (Account trace names options)
-    by_names trace ByIds options = record { row_is = refl; names_are = refl; given_are = refl }
-    by_names trace (ByImage name) options = record { row_is = refl; names_are = refl; given_are = refl }
-    by_names trace (ByMap name) options = record { row_is = refl; names_are = refl; given_are = refl }
-
-stack_of : (line : Line) (command : Command) → stack_in line ≡ Some command → IsOfLine stack_row line command
-stack_of line command says =
-    report_of stack_row Stack line (choice_in stack_format_option stack_formats line) command (λ trace names format. by_names trace names format) says
-  where
-    by_names : (trace : List ℕ) (names : NameSource) (format : StackFormat) → IsOf stack_row (trace ∷ image_named names) (map_named names) (Stack trace names format)
-    by_names trace ByIds format = record { row_is = refl; names_are = refl; given_are = refl }
-    by_names trace (ByImage name) format = record { row_is = refl; names_are = refl; given_are = refl }
-    by_names trace (ByMap name) format = record { row_is = refl; names_are = refl; given_are = refl }
-
-convert_of : (line : Line) (command : Command) → convert_in line ≡ Some command → IsOfLine convert_row line command
-convert_of line command says =
-    report_of convert_row Convert line (convert_options_in line) command (λ trace names options. by_names trace names options) says
-  where
-    by_names : (trace : List ℕ) (names : NameSource) (options : ConvertOptions) → IsOf convert_row (trace ∷ image_named names) (map_named names) (Convert trace names options)
-    by_names trace ByIds options = record { row_is = refl; names_are = refl; given_are = refl }
-    by_names trace (ByImage name) options = record { row_is = refl; names_are = refl; given_are = refl }
-    by_names trace (ByMap name) options = record { row_is = refl; names_are = refl; given_are = refl }
-
-dump_of : (line : Line) (command : Command) → dump_in line ≡ Some command → IsOfLine dump_row line command
-dump_of line command says = go line.files refl
-  where
-    go : (names : List (List ℕ)) → line.files ≡ names → IsOfLine dump_row line command
-    go (trace ∷ []) e =
-        let is : Dump trace ≡ command = same _ _ (rw e at says) in
-        rw (sym is, e) (record { row_is = refl; names_are = refl; given_are = refl })
-    go [] e = absurd (never command (rw e at says))
-    go (a ∷ b ∷ names) e = absurd (never command (rw e at says))
-
-check_of : (line : Line) (command : Command) → check_in line ≡ Some command → IsOfLine check_row line command
-check_of line command says = go line.files refl
-  where
-    go : (names : List (List ℕ)) → line.files ≡ names → IsOfLine check_row line command
-    go (image ∷ script ∷ trace ∷ audit ∷ []) e =
-        let is : Check image script trace audit ≡ command = same _ _ (rw e at says) in
-        rw (sym is, e) (record { row_is = refl; names_are = refl; given_are = refl })
-    go [] e = absurd (never command (rw e at says))
-    go (a ∷ []) e = absurd (never command (rw e at says))
-    go (a ∷ b ∷ []) e = absurd (never command (rw e at says))
-    go (a ∷ b ∷ c ∷ []) e = absurd (never command (rw e at says))
-    go (a ∷ b ∷ c ∷ d ∷ g ∷ names) e = absurd (never command (rw e at says))
-
-order_of : (line : Line) (command : Command) → order_in line ≡ Some command → IsOfLine order_row line command
-order_of line command says = go line.files refl
-  where
-    go : (names : List (List ℕ)) → line.files ≡ names → IsOfLine order_row line command
-    go (image ∷ script ∷ audit ∷ free ∷ schedule ∷ []) e =
-        let is : Order image script audit free schedule ≡ command = same _ _ (rw e at says) in
-        rw (sym is, e) (record { row_is = refl; names_are = refl; given_are = refl })
-    go [] e = absurd (never command (rw e at says))
-    go (a ∷ []) e = absurd (never command (rw e at says))
-    go (a ∷ b ∷ []) e = absurd (never command (rw e at says))
-    go (a ∷ b ∷ c ∷ []) e = absurd (never command (rw e at says))
-    go (a ∷ b ∷ c ∷ d ∷ []) e = absurd (never command (rw e at says))
-    go (a ∷ b ∷ c ∷ d ∷ g ∷ h ∷ names) e = absurd (never command (rw e at says))
-
-profile_of : (line : Line) (command : Command) → profile_in line ≡ Some command → IsOfLine profile_row line command
-unfolding profile_options_in
-profile_of line command says = go line.files (profile_options_in line) refl refl
-  where
-    go : (names : List (List ℕ)) (options : Option ProfileOptions) → line.files ≡ names → profile_options_in line ≡ options → IsOfLine profile_row line command
-    go (image ∷ script ∷ []) (Some options) e f =
-        let is : Profile image script options ≡ command = same _ _ (rw (e, f) at says) in
-        rw (sym is, e) (record { row_is = refl; names_are = refl; given_are = refl })
-    go (image ∷ script ∷ []) None e f = absurd (never command (rw (e, f) at says))
-    go [] options e f = absurd (never command (rw e at says))
-    go (a ∷ []) options e f = absurd (never command (rw e at says))
-    go (a ∷ b ∷ c ∷ names) options e f = absurd (never command (rw e at says))
-
-soak_of : (line : Line) (command : Command) → soak_in line ≡ Some command → IsOfLine soak_row line command
-soak_of line command says = go line.files refl
-  where
-    by_number : (seed : List ℕ) (number : Option ℕ) → option_map Soak number ≡ Some command → IsOf soak_row (seed ∷ []) [] command
-    by_number seed (Some number) says =
-        let is : Soak number ≡ command = same _ _ says in
-        rw (sym is) (record { row_is = refl; names_are = refl; given_are = refl })
-    by_number seed None says = absurd (never command says)
-
-    go : (names : List (List ℕ)) → line.files ≡ names → IsOfLine soak_row line command
-    go (seed ∷ []) e = rw e (by_number seed (number_meant seeds seed) (rw e at says))
-    go [] e = absurd (never command (rw e at says))
-    go (a ∷ b ∷ names) e = absurd (never command (rw e at says))
-
-import_of : (line : Line) (command : Command) → import_in line ≡ Some command → IsOfLine import_row line command
-import_of line command says = go line.files refl
-  where
-    go : (names : List (List ℕ)) → line.files ≡ names → IsOfLine import_row line command
-    go (log ∷ trace ∷ []) e =
-        let is : Import log trace ≡ command = same _ _ (rw e at says) in
-        rw (sym is, e) (record { row_is = refl; names_are = refl; given_are = refl })
-    go [] e = absurd (never command (rw e at says))
-    go (a ∷ []) e = absurd (never command (rw e at says))
-    go (a ∷ b ∷ c ∷ names) e = absurd (never command (rw e at says))
-
--- the outputs of each
-pub outputs_of_row : OutputsAreOfTheRow
-outputs_of_row (Sim image script schedule trace audit options) = refl
-outputs_of_row (Run image script trace audit options) = refl
-outputs_of_row (Plain image bounds) = refl
-outputs_of_row (Extract image) = refl
-outputs_of_row (Asm text image threshold relative) = refl
-outputs_of_row (Account trace ByIds options) = refl
-outputs_of_row (Account trace (ByImage name) options) = refl
-outputs_of_row (Account trace (ByMap name) options) = refl
-outputs_of_row (Stack trace ByIds format) = refl
-outputs_of_row (Stack trace (ByImage name) format) = refl
-outputs_of_row (Stack trace (ByMap name) format) = refl
-outputs_of_row (Convert trace ByIds options) = refl
-outputs_of_row (Convert trace (ByImage name) options) = refl
-outputs_of_row (Convert trace (ByMap name) options) = refl
-outputs_of_row (Dump trace) = refl
-outputs_of_row (Check image script trace audit) = refl
-outputs_of_row (Order image script audit free schedule) = refl
-outputs_of_row (Profile image script options) = refl
-outputs_of_row (Soak number) = refl
-outputs_of_row (Import log trace) = refl
+all_lawful : Each IsLawful commands
+unfolding run_options_in profile_options_in
+all_lawful =
+    by_places plain_row _ _ (λ line image bounds. (refl, refl))
+    ▸ by_names extract_row (λ image none. Extract image) (λ line image none. (refl, refl))
+    ▸ by_places sim_row _ _ (λ line image script schedule trace audit options. (refl, refl))
+    ▸ by_places run_row _ _ (λ line image script trace audit options. (refl, refl))
+    ▸ by_places asm_row _ _ (λ line text image options. (refl, refl))
+    ▸ by_source _ _ _ Account _ (λ line. refl) (λ trace source options. refl)
+    ▸ by_source _ _ _ Stack _ (λ line. refl) (λ trace source format. refl)
+    ▸ by_source _ _ _ Convert _ (λ line. refl) (λ trace source options. refl)
+    ▸ by_names dump_row (λ trace none. Dump trace) (λ line trace none. (refl, refl))
+    ▸ by_names check_row (λ image script trace audit none. Check image script trace audit) (λ line image script trace audit none. (refl, refl))
+    ▸ by_names order_row (λ image script audit free schedule none. Order image script audit free schedule) (λ line image script audit free schedule none. (refl, refl))
+    ▸ by_places profile_row _ _ (λ line image script options. (refl, refl))
+    ▸ by_names soak_row (λ number none. Soak number) (λ line number word none. (refl, refl))
+    ▸ by_names import_row (λ log trace none. Import log trace) (λ line log trace none. (refl, refl))
+    ▸ tt
 
 -- ---- all words
 
--- a command of this row is said by a line of the items
-abbrev IsSaid : CommandRow → List Item → Command → Type 0
-IsSaid row items command = (line : Line) × (line_of row items ≡ Some line) × IsOfLine row line command
-
--- the command that is made of the line that items say
-of_line : (make : Line → Option Command) (row : CommandRow) (items : List Item) (command : Command)
-    → ((line : Line) → make line ≡ Some command → IsOfLine row line command)
-    → option_and_then make (line_of row items) ≡ Some command → IsSaid row items command
-of_line make row items command is says = go (line_of row items) refl says
+-- the line that items say is allowed by the row
+pub allowed_in : (row : CommandRow) (items : List Item) (line : Line) → line_of row items ≡ Some line → row_allows row line ≡ true
+allowed_in row items line is = go (is_cut row items) (row_allows row (line_by row items)) refl is
   where
-    go : (found : Option Line) → line_of row items ≡ found → option_and_then make found ≡ Some command → IsSaid row items command
-    go (Some line) e says = (line, e, is line says)
-    go None e says = absurd (never command says)
+    go : (b d : Bool) → row_allows row (line_by row items) ≡ d → (if b && d then Some (line_by row items) else None) ≡ Some line → row_allows row line ≡ true
+    go true true e h = rw (← same (line_by row items) line h) e
+    go true false e h = never line h
+    go false d e h = never line h
 
--- the words of a row's command, or other words
-branch : (word : List ℕ) (words : List (List ℕ)) (command : Command) (row : CommandRow) (mine other : Option Command)
-    → (mine ≡ Some command → IsSaid row (items_of words) command) → (other ≡ Some command → IsOfItsRow word words command)
-    → (if bytes_eq word row.word then mine else other) ≡ Some command → IsOfItsRow word words command
-branch word words command row mine other is later says = go (bytes_eq word row.word) refl says
+-- the first row with the word, if each row is lawful
+found_said : (wall : Wall) (word : List ℕ) (words : List (List ℕ)) (command : Command) (rows : List CommandRow) → Each IsLawful rows
+    → option_and_then (λ row. option_and_then (command_by row.verb wall) (line_of row (items_of words))) (find (λ row. bytes_eq word row.word) rows) ≡ Some command
+    → IsOfItsRow word words command
+found_said wall word words command [] all is = never command is
+found_said wall word words command (row ∷ rows) all is = go (bytes_eq word row.word) refl is (found_said wall word words command rows all.1)
   where
-    go : (b : Bool) → bytes_eq word row.word ≡ b → (if b then mine else other) ≡ Some command → IsOfItsRow word words command
-    go true e says =
-        let said = is says in
-        let line = said.0 in
-        let of = said.2 in
+    said : CommandRow → Option Command
+    said row = option_and_then (command_by row.verb wall) (line_of row (items_of words))
+
+    by_line : (found : Option Line) → word ≡ row.word → line_of row (items_of words) ≡ found → option_and_then (command_by row.verb wall) found ≡ Some command
+        → IsOfItsRow word words command
+    by_line None e says is = never command is
+    by_line (Some line) e says is =
+        let of = all.0 wall line command (allowed_in row (items_of words) line says) is in
+        let row_is : row ≡ row_of command = ap (λ (t : InTable). t.row) (sym of.0) in
         record {
-          word_is = equal_texts word row.word e ∙ ap (λ (r : CommandRow). r.word) (sym of.row_is);
+          word_is = e ∙ ap (λ (r : CommandRow). r.word) row_is;
           line = line;
-          says = ap (λ (r : CommandRow). line_of r (items_of words)) of.row_is ∙ said.1;
-          names_are = of.names_are ∙ ap (λ (r : CommandRow). named_in r.files line.files) (sym of.row_is);
-          given_are = of.given_are ∙ ap (λ (r : CommandRow). files_given r.options line) (sym of.row_is);
+          says = ap (λ (r : CommandRow). line_of r (items_of words)) (sym row_is) ∙ says;
+          names_are = ap (λ (t : InTable). t.names) of.0 ∙ ap (λ (r : CommandRow). named_in r.files line.files) row_is;
+          given_are = ap (λ (t : InTable). t.given) of.0 ∙ ap (λ (r : CommandRow). files_given r.options line) row_is;
+          outputs_are = of.1 ∙ ap (λ (r : CommandRow). outputs_in r.files line.files) row_is;
         }
-    go false e says = later says
+
+    go : (b : Bool) → bytes_eq word row.word ≡ b → option_and_then said (cond b (Some row) (find (λ row. bytes_eq word row.word) rows)) ≡ Some command
+        → (option_and_then said (find (λ row. bytes_eq word row.word) rows) ≡ Some command → IsOfItsRow word words command) → IsOfItsRow word words command
+    go true e is more = by_line (line_of row (items_of words)) (equal_texts word row.word e) refl is
+    go false e is more = more is
 
 pub of_their_rows : AreOfTheirRows
-of_their_rows wall word words command says =
-    let items = items_of words in
-    branch word words command plain_row _ _ (of_line plain_in plain_row items command (λ line. plain_of line command))
-    (branch word words command extract_row _ _ (of_line extract_in extract_row items command (λ line. extract_of line command))
-    (branch word words command sim_row _ _ (of_line (sim_in wall) sim_row items command (λ line. sim_of wall line command))
-    (branch word words command run_row _ _ (of_line (run_in wall) run_row items command (λ line. run_of wall line command))
-    (branch word words command asm_row _ _ (of_line asm_in asm_row items command (λ line. asm_of line command))
-    (branch word words command account_row _ _ (of_line account_in account_row items command (λ line. account_of line command))
-    (branch word words command stack_row _ _ (of_line stack_in stack_row items command (λ line. stack_of line command))
-    (branch word words command convert_row _ _ (of_line convert_in convert_row items command (λ line. convert_of line command))
-    (branch word words command dump_row _ _ (of_line dump_in dump_row items command (λ line. dump_of line command))
-    (branch word words command check_row _ _ (of_line check_in check_row items command (λ line. check_of line command))
-    (branch word words command order_row _ _ (of_line order_in order_row items command (λ line. order_of line command))
-    (branch word words command profile_row _ _ (of_line profile_in profile_row items command (λ line. profile_of line command))
-    (branch word words command soak_row _ _ (of_line soak_in soak_row items command (λ line. soak_of line command))
-    (branch word words command import_row _ _ (of_line import_in import_row items command (λ line. import_of line command))
-    (λ no. absurd (never command no))))))))))))))) says
+of_their_rows wall word words command is = found_said wall word words command commands all_lawful is

@@ -7,7 +7,7 @@ use Rattle.clap.specs.Takes.{is_given}
 use Rattle.clap.specs.Walk.{Text, first_of}
 use Rattle.command_words.specs.private.Clapped.{app_by, clap_rows, given_in, line_in, names_in}
 use Rattle.command_words.specs.Items.{Item, File, Given, Bare, dashed, files_of, items_of, values_of}
-use Rattle.command_words.specs.Lines.{Line, comes_once, fit, given_by, have_only, is_cut, line_by, line_of, outputs_differ}
+use Rattle.command_words.specs.Lines.{Line, comes_once, fit, given_by, have_only, row_allows, is_cut, line_by, line_of}
 use Rattle.command_words.specs.Rows.{CommandRow, FileRow, is_optional, option_names}
 use Rattle.command_words.specs.private.Allowed.{are_distinct, is_row, labels_of}
 use Rattle.command_words.proofs.Arguments.{Each, run}
@@ -225,19 +225,19 @@ cut_is row is words texts = ap (option_map (line_in row)) (rows_are row is words
 
 -- if clap takes no words, they say no line
 pub refused : (row : CommandRow) (items : List Item) → None ≡ (if is_cut row items then Some (line_by row items) else None) → None ≡ line_of row items
-refused row items none = go (is_cut row items) (outputs_differ row.files (files_of items)) none
+refused row items none = go (is_cut row items) (row_allows row (line_by row items)) none
   where
     go : (b d : Bool) → None ≡ (if b then Some (line_by row items) else None) → None ≡ (if b && d then Some (line_by row items) else None)
     go true d h = cc
     go false d h = refl
 
--- if it does, they say one, unless an output has the name of another file
-pub answered : (row : CommandRow) (items : List Item) (line : Line) (differ : Bool) → Some line ≡ (if is_cut row items then Some (line_by row items) else None)
-    → differ ≡ outputs_differ row.files line.files → (if differ then Some line else None) ≡ line_of row items
-answered row items line differ some is = rw is (go (is_cut row items) some)
+-- if it does, they say one, if the row allows it
+pub answered : (row : CommandRow) (items : List Item) (line : Line) → Some line ≡ (if is_cut row items then Some (line_by row items) else None)
+    → (if row_allows row line then Some line else None) ≡ line_of row items
+answered row items line some = go (is_cut row items) some
   where
     go : (b : Bool) → Some line ≡ (if b then Some (line_by row items) else None)
-        → (if outputs_differ row.files line.files then Some line else None) ≡ (if b && outputs_differ row.files (files_of items) then Some (line_by row items) else None)
+        → (if row_allows row line then Some line else None) ≡ (if b && row_allows row (line_by row items) then Some (line_by row items) else None)
     go true h =
         let same : line ≡ line_by row items = cc in
         rw same refl

@@ -2,6 +2,7 @@ pub mod Files
 pub mod Items
 pub mod Limits
 pub mod Lines
+pub mod Made
 pub mod Numbers
 pub mod Ranges
 pub mod Reports

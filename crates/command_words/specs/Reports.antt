@@ -1,10 +1,9 @@
 -- The files and options of the commands that report on a trace.
-use Rattle.std.specs.Prelude.{ℕ, List, [], ◌∷◌, Option, Some, None, option_and_then, option_map, slice_get}
-use Rattle.std.specs.Option.{option_map_or}
-use Rattle.command_words.specs.Lines.{Line, number_given, value_in}
-use Rattle.command_words.specs.Numbers.{number_meant}
+use Rattle.std.specs.Prelude.{ℕ, List, [], ◌∷◌, Option, Some, None, option_and_then, slice_get}
+use Rattle.command_words.specs.Lines.{Line, number_given, number_if_given, value_in}
+use Rattle.command_words.specs.Made.{◌⊛◌, line_says, no_options}
 use Rattle.command_words.specs.Rows.{OptionRow}
-use Rattle.command_words.specs.Tables.{account_format_option, convert_format_option, input_option, map_option, sort_option, sort_order_option, top_option}
+use Rattle.command_words.specs.Tables.{account_format_option, convert_format_option, input_option, map_option, report_files, sort_option, sort_order_option, top_option}
 use Rattle.command_words.specs.declared.report_options.AccountFormat.{AccountFormat}
 use Rattle.command_words.specs.declared.report_options.AccountFormat.TheVariants.{Text, Csv}
 use Rattle.command_words.specs.declared.report_options.AccountOptions.{AccountOptions}
@@ -13,6 +12,8 @@ use Rattle.command_words.specs.declared.report_options.ConvertFormat.TheVariants
 use Rattle.command_words.specs.declared.report_options.ConvertOptions.{ConvertOptions}
 use Rattle.command_words.specs.declared.report_options.InputForm.{InputForm}
 use Rattle.command_words.specs.declared.report_options.InputForm.TheVariants as inputs
+use Rattle.command_words.specs.declared.report_options.NameSource as source
+use Rattle.command_words.specs.declared.report_options.NameSource.TheVariants as source_of
 use Rattle.command_words.specs.declared.report_options.SortColumn.{SortColumn}
 use Rattle.command_words.specs.declared.report_options.SortColumn.TheVariants.{FuncId, Count, Min, Med}
 use Rattle.command_words.specs.declared.report_options.SortColumn.TheVariants.{P90, P99, Max, Sum}
@@ -27,15 +28,32 @@ pub data NameSource : Type 0 where
   ByImage : (name : List ℕ) → NameSource
   ByMap : (name : List ℕ) → NameSource
 
--- A trace, and what names its functions: the image after it, or the sled map of the option. A line that has both says
--- nothing.
+-- that of the code, as that of the definitions
+abbrev pub source_view : source.NameSource → NameSource
+source_view source_of.Ids = ByIds
+source_view (source_of.Image name) = ByImage name.now
+source_view (source_of.Map name) = ByMap name.now
+
+-- the image that names functions, and the sled map that does, if there is one
+abbrev pub image_named : NameSource → List (List ℕ)
+image_named ByIds = []
+image_named (ByImage name) = name ∷ []
+image_named (ByMap name) = []
+
+abbrev pub map_named : NameSource → List (List ℕ)
+map_named ByIds = []
+map_named (ByImage name) = []
+map_named (ByMap name) = name ∷ []
+
+-- what names functions: the image, if there is one, or the sled map
+abbrev pub named_by : (image map : Option (List ℕ)) → NameSource
+named_by (Some image) map = ByImage image
+named_by None (Some map) = ByMap map
+named_by None None = ByIds
+
+-- a trace, and what names its functions: the image after it, or the sled map of the option
 abbrev pub report_files_in : Line → Option (List ℕ × NameSource)
-report_files_in line = of_parts line.files (value_in map_option.name line)
-  where
-    of_parts : (files : List (List ℕ)) → (map : Option (List ℕ)) → Option (List ℕ × NameSource)
-    of_parts (trace ∷ []) map = Some (trace, option_map_or ByMap map ByIds)
-    of_parts (trace ∷ image ∷ []) None = Some (trace, ByImage image)
-    of_parts _ _ = None
+report_files_in line = line_says report_files (λ trace image none. (trace, named_by image (value_in map_option.name line))) no_options line
 
 -- one of these choices: the one at the place of the word that is given, or of the default
 abbrev pub choice_in : {X : Type 0} → OptionRow → (choices : List X) → Line → Option X
@@ -64,24 +82,15 @@ input_forms = inputs.Fdr ∷ inputs.Basic ∷ []
 
 -- all options of a conversion
 abbrev pub convert_options_in : Line → Option ConvertOptions
-convert_options_in line =
-    of_parts (choice_in convert_format_option convert_formats line) (choice_in input_option input_forms line)
-  where
-    of_parts : Option ConvertFormat → Option InputForm → Option ConvertOptions
-    of_parts (Some format) (Some input) = Some (record { format = format; input = input })
-    of_parts _ _ = None
+convert_options_in line = Some (λ format input. record { format = format; input = input })
+    ⊛ choice_in convert_format_option convert_formats line ⊛ choice_in input_option input_forms line
 
 -- the most rows that are printed: the number that is given, or none for all rows
 abbrev pub top_in : Line → Option (Option ℕ)
-top_in line = option_map_or (λ value. option_map (λ top. Some top) (number_meant top_option.values value))
-    (value_in top_option.name line) (Some None)
+top_in line = number_if_given top_option line
 
 -- all options of an account
 abbrev pub account_options_in : Line → Option AccountOptions
-account_options_in line = of_parts (choice_in sort_option columns line) (choice_in sort_order_option orders line)
-    (top_in line) (choice_in account_format_option account_formats line)
-  where
-    of_parts : Option SortColumn → Option SortOrder → Option (Option ℕ) → Option AccountFormat → Option AccountOptions
-    of_parts (Some sort) (Some order) (Some top) (Some format) =
-        Some (record { sort = sort; order = order; top = top; format = format })
-    of_parts _ _ _ _ = None
+account_options_in line = Some (λ sort order top format. record { sort = sort; order = order; top = top; format = format })
+    ⊛ choice_in sort_option columns line ⊛ choice_in sort_order_option orders line ⊛ top_in line
+    ⊛ choice_in account_format_option account_formats line

@@ -1,11 +1,10 @@
--- The one table of options and the one of commands.
+-- The table of options, and what the rows of commands have in common.
 use Rattle.std.specs.Prelude.{ℕ, List, [], ◌∷◌, Some, None, codes}
 use Rattle.fdr_buffer.specs.declared.buffer.TheConstants.{LARGEST_SIZE, LEAST_SIZE, MOST_BUFFERS}
 use Rattle.command_words.specs.Limits.{most_cpus, most_fuel, most_nodes, most_passings, most_pid, most_stay, most_threads}
-use Rattle.command_words.specs.Numbers.{Values, Number, OneOf, Listed, FileName}
-use Rattle.command_words.specs.Rows.{CommandRow, FileRow, OptionRow}
-use Rattle.command_words.specs.declared.rows.Role.TheVariants.{Input, OptionalInput, Output}
-use Rattle.command_words.specs.declared.rows.Role.TheVariants as roles
+use Rattle.command_words.specs.Numbers.{Number, OneOf, Listed, FileName}
+use Rattle.command_words.specs.Rows.{CommandRow, FileRow, NeverWith, OptionRow, file_maybe_read, file_read}
+use Rattle.command_words.specs.declared.tables.Verb.{Verb}
 
 -- ---- the options
 
@@ -116,7 +115,7 @@ nodes_option = record { name = codes "nodes"; values = Number 1 most_nodes; defa
 abbrev pub map_option : OptionRow
 map_option = record { name = codes "map"; values = FileName; default = None }
 
--- ---- the commands
+-- ---- what commands have in common
 
 -- the options of a plain run
 abbrev pub bounds_options : List OptionRow
@@ -132,101 +131,20 @@ abbrev pub profile_options : List OptionRow
 profile_options = threads_option ∷ fuel_option ∷ passings_option ∷ tick_option ∷ tsc_option ∷ cpus_option
     ∷ migrate_option ∷ nodes_option ∷ stack_format_option ∷ []
 
-abbrev pub asm_row : CommandRow
-asm_row = record {
-  word = codes "asm";
-  files = record { label = codes "text"; role = Input } ∷ record { label = codes "image"; role = Output } ∷ [];
-  options = threshold_option ∷ map_version_option ∷ [];
-}
-
-abbrev pub plain_row : CommandRow
-plain_row = record {
-  word = codes "plain";
-  files = record { label = codes "image"; role = Input } ∷ [];
-  options = bounds_options;
-}
-
-abbrev pub extract_row : CommandRow
-extract_row = record {
-  word = codes "extract";
-  files = record { label = codes "image"; role = Input } ∷ [];
-  options = [];
-}
-
-abbrev pub sim_row : CommandRow
-sim_row = record {
-  word = codes "sim";
-  files = record { label = codes "image"; role = Input } ∷ record { label = codes "script"; role = Input }
-      ∷ record { label = codes "schedule"; role = Input } ∷ record { label = codes "trace"; role = Output }
-      ∷ record { label = codes "audit"; role = Output } ∷ [];
-  options = run_options;
-}
-
-abbrev pub run_row : CommandRow
-run_row = record {
-  word = codes "run";
-  files = record { label = codes "image"; role = Input } ∷ record { label = codes "script"; role = Input }
-      ∷ record { label = codes "trace"; role = Output } ∷ record { label = codes "audit"; role = Output } ∷ [];
-  options = run_options;
-}
-
 -- the files of the commands that report on a trace
 abbrev pub report_files : List FileRow
-report_files =
-    record { label = codes "trace"; role = Input } ∷ record { label = codes "image"; role = OptionalInput } ∷ []
+report_files = file_read (codes "trace") ∷ file_maybe_read (codes "image") ∷ []
 
-abbrev pub account_row : CommandRow
-account_row = record {
-  word = codes "account";
+-- a command whose files and options may all stand beside each other
+abbrev pub command_row : (word : List ℕ) → Verb → (files : List FileRow) → (options : List OptionRow) → CommandRow
+command_row word verb files options = record { word = word; verb = verb; files = files; options = options; beside = [] }
+
+-- a command that reports on a trace: a sled map never names functions beside an image
+abbrev pub report_row : (word : List ℕ) → Verb → (options : List OptionRow) → CommandRow
+report_row word verb options = record {
+  word = word;
+  verb = verb;
   files = report_files;
-  options = sort_option ∷ sort_order_option ∷ top_option ∷ account_format_option ∷ map_option ∷ [];
+  options = map_option ∷ options;
+  beside = NeverWith (codes "map") (codes "image") ∷ [];
 }
-
-abbrev pub stack_row : CommandRow
-stack_row = record { word = codes "stack"; files = report_files; options = stack_format_option ∷ map_option ∷ [] }
-
-abbrev pub convert_row : CommandRow
-convert_row = record { word = codes "convert"; files = report_files; options = convert_format_option ∷ input_option ∷ map_option ∷ [] }
-
-abbrev pub dump_row : CommandRow
-dump_row = record { word = codes "fdr-dump"; files = record { label = codes "trace"; role = Input } ∷ []; options = [] }
-
-abbrev pub check_row : CommandRow
-check_row = record {
-  word = codes "check";
-  files = record { label = codes "image"; role = Input } ∷ record { label = codes "script"; role = Input }
-      ∷ record { label = codes "trace"; role = Input } ∷ record { label = codes "audit"; role = Input } ∷ [];
-  options = [];
-}
-
-abbrev pub order_row : CommandRow
-order_row = record {
-  word = codes "order";
-  files = record { label = codes "image"; role = Input } ∷ record { label = codes "script"; role = Input }
-      ∷ record { label = codes "audit"; role = Input } ∷ record { label = codes "free"; role = Output }
-      ∷ record { label = codes "schedule"; role = Output } ∷ [];
-  options = [];
-}
-
-abbrev pub profile_row : CommandRow
-profile_row = record {
-  word = codes "profile";
-  files = record { label = codes "image"; role = Input } ∷ record { label = codes "script"; role = Input } ∷ [];
-  options = profile_options;
-}
-
-abbrev pub import_row : CommandRow
-import_row = record {
-  word = codes "import";
-  files = record { label = codes "log"; role = Input } ∷ record { label = codes "trace"; role = Output } ∷ [];
-  options = [];
-}
-
--- ---- the number that inputs are drawn from
-
--- it may be any of 64 bits
-abbrev pub seeds : Values
-seeds = Number 0 18446744073709551615
-
-abbrev pub soak_row : CommandRow
-soak_row = record { word = codes "soak"; files = record { label = codes "seed"; role = roles.Number } ∷ []; options = [] }

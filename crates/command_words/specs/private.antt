@@ -2,4 +2,3 @@
 pub mod Allowed
 pub mod Clapped
 pub mod CodeViews
-pub mod Verbs

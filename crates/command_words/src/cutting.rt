@@ -1,14 +1,15 @@
 //! Cutting words into a line with `clap`, by the row of a command.
-ghost use Rattle.std.specs.Prelude.{◌≡◌, IfOk, count_by, fold, map, option_map, true};
-ghost use Rattle.std.specs.Str.{bytes_eq};
+ghost use Rattle.std.specs.Prelude.{◌≡◌, ◌==◌, ◌||◌, IfOk, if◌then◌else◌, count_by, fold, map, not, option_map, take, true};
+ghost use Rattle.std.specs.{List.{list_all, list_any, zip}, Str.{bytes_eq}};
 ghost use Rattle.clap.specs.Simple.{app_of, with_rule};
 ghost use Rattle.command_words.specs.private.Clapped.{app_by, bare_app, clap_rows, file_rule, given_in, line_in, names_in, option_rule, rows_in};
-ghost use Rattle.command_words.specs.{Items.{items_of, texts}, Lines.{line_of, outputs_differ}};
+ghost use Rattle.command_words.specs.{Items.{items_of, texts}, Lines.{keeps, line_of, row_allows, stands_in}};
+ghost use Rattle.command_words.specs.Rows.{is_output};
 ghost use Rattle.command_words.specs.private.Allowed.{is_row};
-ghost use Rattle.command_words.specs.private.CodeViews.{file_view, line_view, option_view, row_view};
+ghost use Rattle.command_words.specs.private.CodeViews.{beside_view, file_view, line_view, option_view, row_view};
 
 use crate::line::Line;
-use crate::rows::{CommandRow, FileRow, OptionRow};
+use crate::rows::{Beside, CommandRow, FileRow, OptionRow};
 use clap::error::ErrorKind;
 use clap::{Arg, ArgAction, ArgMatches};
 use std::alloc::{AllocError, Global};
@@ -27,10 +28,18 @@ pub(crate) fn cut_line<'a>(
         return Ok(None);
     };
     let line = line_in(alloc, row, &matches)?;
-    if outputs_differ(row.files, &line.files) {
-        Ok(Some(line))
+    Ok(if_allowed(row, line))
+}
+
+/// The line, if its row allows it.
+fn if_allowed<'a>(row: &CommandRow, line: Line<'a>) -> Option<Line<'a>>
+    ensures { option_map line_view result
+        ≡ (if row_allows (row_view row.now) (line_view line.entry) then Some (line_view line.entry) else None) }
+{
+    if row_allows(row, &line) {
+        Some(line)
     } else {
-        Ok(None)
+        None
     }
 }
 
@@ -53,8 +62,8 @@ fn with_file<'a>(
 ) -> Result<clap::Command<'a>, AllocError>
     ensures { IfOk result (λ c. app_of c ≡ with_rule (app_of command.entry) (file_rule (file_view file.now))) }
 {
-    let positional = Arg::new(alloc, file.label)
-        .required(!file.role.may_be_absent())
+    let positional = Arg::new(alloc, file.label())
+        .required(!file.may_be_absent())
         .action(ArgAction::Set);
     command.arg(positional)
 }
@@ -138,7 +147,7 @@ fn files_in<'a>(
 {
     let mut names = Vec::new(alloc);
     for file in files {
-        if let Some(name) = matches.get_str(file.label) {
+        if let Some(name) = matches.get_str(file.label()) {
             names.push(name)?;
         }
     }
@@ -163,19 +172,54 @@ fn given_in<'a>(
     Ok(given)
 }
 
-/// Whether no output has the name of another file.
-fn outputs_differ(files: &[FileRow], names: &[&str]) -> bool
-    ensures { result ≡ outputs_differ (map file_view files.now) (map (λ name. name.now) names.now) }
+/// Whether no output has the name of another file, and what stands in the line may stand together.
+#[tactic(auto, using(crate::proofs::ClapMatches::all_mapped, crate::proofs::ClapMatches::outputs_zipped))]
+fn row_allows(row: &CommandRow, line: &Line<'_>) -> bool
+    ensures { result ≡ row_allows (row_view row.now) (line_view line.now) }
 {
-    for (place, file) in files.iter().enumerate() {
-        let Some(name) = names.get(place) else {
-            return true;
-        };
-        if file.role.is_written() && count_of(name, names) != 1 {
-            return false;
+    outputs_differ(row.files, &line.files) && keep_all(row, line, row.beside)
+}
+
+/// Whether what stands in a line may stand together, by each of these rules.
+fn keep_all(row: &CommandRow, line: &Line<'_>, rules: &[Beside]) -> bool
+    ensures { result ≡ list_all (λ rule. keeps (row_view row.now) (line_view line.now) (beside_view rule)) rules.now }
+{
+    rules.iter().all(|rule| keeps(row, line, rule))
+}
+
+/// Whether what stands in a line may stand together, by a rule.
+fn keeps(row: &CommandRow, line: &Line<'_>, rule: &Beside) -> bool
+    ensures { result ≡ keeps (row_view row.now) (line_view line.now) (beside_view rule.now) }
+{
+    match rule {
+        Beside::OnlyWith(one, other) => !stands_in(row, line, one) || stands_in(row, line, other),
+        Beside::NeverWith(one, other) => {
+            !(stands_in(row, line, one) && stands_in(row, line, other))
         }
     }
-    true
+}
+
+/// Whether an option of this name is given, or a file of this name has a word.
+#[tactic(auto, using(crate::proofs::ClapMatches::named_mapped))]
+fn stands_in(row: &CommandRow, line: &Line<'_>, name: &str) -> bool
+    ensures { result ≡ stands_in (row_view row.now) (line_view line.now) name.now }
+{
+    line.value(name).is_some() || has_file(row.files, line.files.len(), name)
+}
+
+/// Whether a file of this name is among so many first ones.
+fn has_file(files: &[FileRow], count: usize, name: &str) -> bool
+    ensures { result ≡ list_any (λ file. bytes_eq (file_view file).label name.now) (take count files.now) }
+{
+    files.iter().take(count).any(|file| file.label() == name)
+}
+
+/// Whether no output has the name of another file.
+fn outputs_differ(files: &[FileRow], names: &[&str]) -> bool
+    ensures { result ≡ list_all (λ pair. not (is_output (file_view pair.0))
+        || count_by (bytes_eq pair.1.now) (map (λ other. other.now) names.now) == 1) (zip files.now names.now) }
+{
+    files.iter().zip(names).all(|(file, name)| !file.is_written() || count_of(name, names) == 1)
 }
 
 /// How many of the names are this one.

@@ -1,8 +1,9 @@
 //! A line: the words after a command, cut into the names of its files and the values of its options.
 ghost use Rattle.std.specs.Prelude.{◌≡◌, ◌<◌, ◌≤◌, IfSome, length, option_copied, true};
 ghost use Rattle.std.specs.{List.{position_from}, Str.{bytes_eq}};
-ghost use Rattle.command_words.specs.Lines.{number_given, value_in};
+ghost use Rattle.command_words.specs.Lines.{number_given, number_if_given, value_in};
 ghost use Rattle.command_words.specs.Numbers.{has_number, number_among, number_meant, number_within};
+ghost use Rattle.command_words.specs.Reports.{choice_in};
 ghost use Rattle.command_words.specs.private.Allowed.{IsAmongValues};
 ghost use Rattle.command_words.specs.private.Allowed.{has_default_in_range};
 ghost use Rattle.command_words.specs.private.CodeViews.{line_view, option_view, values_view};
@@ -44,6 +45,28 @@ impl OptionRow {
             Some(value) => self.values.number_meant(value),
             None => self.default,
         }
+    }
+
+    /// The number that a line gives an option that may go without one. `None` if the line gives it a
+    /// value that isn't allowed.
+    pub(crate) fn number_if_given(&self, line: &Line<'_>) -> Option<Option<u64>>
+        ensures number { result ≡ number_if_given (option_view self.now) (line_view line.now) }
+        ensures within { IfSome result (λ given. IfSome given (IsAmongValues (values_view self.now.values))) }
+    {
+        match line.value(self.name) {
+            Some(value) => Some(Some(self.values.number_meant(value)?)),
+            None => Some(None),
+        }
+    }
+
+    /// The choice at the place of the word that a line gives the option, or of its default. `None` if
+    /// the word isn't listed.
+    pub(crate) fn choice<T: Copy>(&self, choices: &[T], line: &Line<'_>) -> Option<T>
+        requires { has_default_in_range (option_view self.now) ≡ true }
+        ensures { result ≡ choice_in (option_view self.now) choices.now (line_view line.now) }
+    {
+        let place = self.number_given(line)?;
+        choices.get(place as usize).copied()
     }
 }
 

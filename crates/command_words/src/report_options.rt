@@ -1,10 +1,8 @@
 //! The files and options of the commands that report on a trace.
-ghost use Rattle.std.specs.{Prelude.{◌≡◌, ◌≤◌, IfSome, option_map}, Option.{option_map_or}};
-ghost use Rattle.command_words.specs.Reports.{account_formats, choice_in, columns, convert_formats, input_forms, orders, stack_formats};
-ghost use Rattle.command_words.specs.Reports.{ByIds, ByMap, account_options_in, convert_options_in, report_files_in, top_in};
-ghost use Rattle.command_words.specs.Tables.{account_format_option, sort_option, sort_order_option};
-ghost use Rattle.command_words.specs.Tables.{convert_format_option, input_option, stack_format_option};
-ghost use Rattle.command_words.specs.Views.{source_view};
+ghost use Rattle.std.specs.Prelude.{◌≡◌, ◌≤◌, IfSome, option_map};
+ghost use Rattle.command_words.specs.Reports.{choice_in, stack_formats};
+ghost use Rattle.command_words.specs.Reports.{account_options_in, convert_options_in, named_by, report_files_in, source_view, top_in};
+ghost use Rattle.command_words.specs.Tables.{stack_format_option};
 ghost use Rattle.command_words.specs.private.CodeViews.{files_view, line_view};
 
 use crate::line::Line;
@@ -126,7 +124,7 @@ pub struct ConvertOptions {
 
 /// What names functions if no image does: the sled map of this name, if there is one.
 fn names_by(map: Option<&str>) -> NameSource<'_>
-    ensures { source_view result ≡ option_map_or ByMap (option_map (λ m. m.now) map.entry) ByIds }
+    ensures { source_view result ≡ named_by None (option_map (λ m. m.now) map.entry) }
 {
     match map {
         Some(map) => NameSource::Map(map),
@@ -134,85 +132,66 @@ fn names_by(map: Option<&str>) -> NameSource<'_>
     }
 }
 
-/// The files of a report. `None` unless there are a trace and at most one file that names its
-/// functions.
+/// The files of a report. `None` unless there are a trace and at most one image.
 pub(crate) fn report_files_in<'a>(line: &Line<'a>) -> Option<ReportFiles<'a>>
     ensures { option_map files_view result ≡ report_files_in (line_view line.now) }
 {
-    let map = line.value(MAP.name);
     match line.files.as_slice() {
         [trace] => Some(ReportFiles {
             trace,
-            names: names_by(map),
+            names: names_by(line.value(MAP.name)),
         }),
-        [trace, image] => match map {
-            None => Some(ReportFiles {
-                trace,
-                names: NameSource::Image(image),
-            }),
-            Some(_) => None,
-        },
+        [trace, image] => Some(ReportFiles {
+            trace,
+            names: NameSource::Image(image),
+        }),
         _ => None,
     }
 }
 
-/// The column that a line names. `None` if its word isn't a column.
-fn column_in(line: &Line<'_>) -> Option<SortColumn>
-    ensures { result ≡ choice_in sort_option columns (line_view line.now) }
-{
-    match SORT.number_given(line)? {
-        0 => Some(SortColumn::FuncId),
-        1 => Some(SortColumn::Count),
-        2 => Some(SortColumn::Min),
-        3 => Some(SortColumn::Med),
-        4 => Some(SortColumn::P90),
-        5 => Some(SortColumn::P99),
-        6 => Some(SortColumn::Max),
-        _ => Some(SortColumn::Sum),
-    }
-}
+/// The columns, the orders and the formats of accounts, in the order of their words.
+const COLUMNS: &[SortColumn] = &[
+    SortColumn::FuncId,
+    SortColumn::Count,
+    SortColumn::Min,
+    SortColumn::Med,
+    SortColumn::P90,
+    SortColumn::P99,
+    SortColumn::Max,
+    SortColumn::Sum,
+];
 
-/// The order that a line names. `None` if its word isn't an order.
-fn order_in(line: &Line<'_>) -> Option<SortOrder>
-    ensures { result ≡ choice_in sort_order_option orders (line_view line.now) }
-{
-    match SORT_ORDER.number_given(line)? {
-        0 => Some(SortOrder::Ascending),
-        _ => Some(SortOrder::Descending),
-    }
-}
+const ORDERS: &[SortOrder] = &[SortOrder::Ascending, SortOrder::Descending];
 
-/// The format that a line names. `None` if its word isn't a format.
-fn account_format_in(line: &Line<'_>) -> Option<AccountFormat>
-    ensures { result ≡ choice_in account_format_option account_formats (line_view line.now) }
-{
-    match ACCOUNT_FORMAT.number_given(line)? {
-        0 => Some(AccountFormat::Text),
-        _ => Some(AccountFormat::Csv),
-    }
-}
+const ACCOUNT_FORMATS: &[AccountFormat] = &[AccountFormat::Text, AccountFormat::Csv];
+
+/// The formats of stacks, in the order of their words.
+const STACK_FORMATS: &[StackFormat] = &[StackFormat::Human, StackFormat::Flame, StackFormat::Svg];
+
+/// The forms that a trace is converted to, and those that it may have, in the order of their words.
+const CONVERT_FORMATS: &[ConvertFormat] = &[
+    ConvertFormat::Yaml,
+    ConvertFormat::TraceEvents,
+    ConvertFormat::Basic,
+];
+
+const INPUT_FORMS: &[InputForm] = &[InputForm::Fdr, InputForm::Basic];
 
 /// The format of stacks that a line names. `None` if its word isn't a format.
 pub(crate) fn stack_format_in(line: &Line<'_>) -> Option<StackFormat>
     ensures { result ≡ choice_in stack_format_option stack_formats (line_view line.now) }
 {
-    match STACK_FORMAT.number_given(line)? {
-        0 => Some(StackFormat::Human),
-        1 => Some(StackFormat::Flame),
-        _ => Some(StackFormat::Svg),
-    }
+    STACK_FORMAT.choice(STACK_FORMATS, line)
 }
 
 /// The most rows that are printed: the number that is given, or none for all rows. `None` if the
 /// value isn't such a number.
 fn top_in(line: &Line<'_>) -> Option<Option<u32>>
     ensures reads { result ≡ top_in (line_view line.now) }
+    ensures ranges { IfSome result (λ top. IfSome top (λ top. top ≤ 4294967295)) }
 {
-    match line.value(TOP.name) {
-        Some(value) => {
-            let top = TOP.values.number_meant(value)?;
-            Some(Some(top as u32))
-        }
+    match TOP.number_if_given(line)? {
+        Some(top) => Some(Some(top as u32)),
         None => Some(None),
     }
 }
@@ -222,10 +201,10 @@ pub(crate) fn account_options_in(line: &Line<'_>) -> Option<AccountOptions>
     ensures reads { result ≡ account_options_in (line_view line.now) }
     ensures ranges { IfSome result (λ options. IfSome options.top (λ top. top ≤ 4294967295)) }
 {
-    let sort = column_in(line)?;
-    let order = order_in(line)?;
+    let sort = SORT.choice(COLUMNS, line)?;
+    let order = SORT_ORDER.choice(ORDERS, line)?;
     let top = top_in(line)?;
-    let format = account_format_in(line)?;
+    let format = ACCOUNT_FORMAT.choice(ACCOUNT_FORMATS, line)?;
     Some(AccountOptions {
         sort,
         order,
@@ -234,32 +213,11 @@ pub(crate) fn account_options_in(line: &Line<'_>) -> Option<AccountOptions>
     })
 }
 
-/// The form that a line asks for. `None` if its word isn't a form.
-fn convert_format_in(line: &Line<'_>) -> Option<ConvertFormat>
-    ensures { result ≡ choice_in convert_format_option convert_formats (line_view line.now) }
-{
-    match CONVERT_FORMAT.number_given(line)? {
-        0 => Some(ConvertFormat::Yaml),
-        1 => Some(ConvertFormat::TraceEvents),
-        _ => Some(ConvertFormat::Basic),
-    }
-}
-
-/// The form of the input that a line names. `None` if its word isn't a form.
-fn input_form_in(line: &Line<'_>) -> Option<InputForm>
-    ensures { result ≡ choice_in input_option input_forms (line_view line.now) }
-{
-    match INPUT.number_given(line)? {
-        0 => Some(InputForm::Fdr),
-        _ => Some(InputForm::Basic),
-    }
-}
-
 /// The options of a conversion. `None` if a value isn't allowed.
 pub(crate) fn convert_options_in(line: &Line<'_>) -> Option<ConvertOptions>
     ensures { result ≡ convert_options_in (line_view line.now) }
 {
-    let format = convert_format_in(line)?;
-    let input = input_form_in(line)?;
+    let format = CONVERT_FORMAT.choice(CONVERT_FORMATS, line)?;
+    let input = INPUT.choice(INPUT_FORMS, line)?;
     Some(ConvertOptions { format, input })
 }

@@ -1,6 +1,9 @@
-//! The rows of the tables: an option, a file of a command, and a command.
+//! The rows of the tables: an option, a place of a command line, and a command.
 ghost use Rattle.std.specs.Prelude.{◌≡◌};
-ghost use Rattle.command_words.specs.Rows.{is_written, may_be_absent};
+ghost use Rattle.command_words.specs.Rows.{is_optional, is_output};
+ghost use Rattle.command_words.specs.private.CodeViews.{file_view};
+
+use crate::tables::Verb;
 
 /// What the value of an option may be.
 #[derive(Clone, Copy)]
@@ -31,48 +34,60 @@ pub(crate) struct OptionRow {
     pub(crate) default: Option<u64>,
 }
 
-/// What a command does with a file.
+/// A place of a command line: its name, and what stands in it.
 #[derive(Clone, Copy)]
-pub(crate) enum Role {
-    /// It reads the file.
-    Input,
-    /// It reads the file, which may be absent.
-    OptionalInput,
-    /// It writes the file. No other file of the command may have its name.
-    Output,
-    /// No file is named: the word in its place is a number.
-    Number,
+pub(crate) enum FileRow {
+    /// The name of a file that is read.
+    Read(&'static str),
+    /// The name of a file that is read. The file may be absent.
+    MaybeRead(&'static str),
+    /// The name of a file that is written. No other file of the command may have its name.
+    Written(&'static str),
+    /// A number, and no file.
+    Numeral(&'static str, Values),
 }
 
-impl Role {
-    /// Whether a file of this role may be absent.
-    pub(crate) fn may_be_absent(self) -> bool
-        ensures { result ≡ may_be_absent self }
+impl FileRow {
+    /// The name of the place.
+    pub(crate) fn label(&self) -> &'static str
+        ensures { result.now ≡ (file_view self.now).label }
     {
         match self {
-            Role::OptionalInput => true,
-            Role::Input | Role::Output | Role::Number => false,
+            FileRow::Read(label)
+            | FileRow::MaybeRead(label)
+            | FileRow::Written(label)
+            | FileRow::Numeral(label, _) => label,
         }
     }
 
-    /// Whether a file of this role is written.
-    pub(crate) fn is_written(self) -> bool
-        ensures { result ≡ is_written self }
+    /// Whether the place may be empty.
+    pub(crate) fn may_be_absent(&self) -> bool
+        ensures { result ≡ is_optional (file_view self.now) }
     {
         match self {
-            Role::Output => true,
-            Role::Input | Role::OptionalInput | Role::Number => false,
+            FileRow::MaybeRead(_) => true,
+            FileRow::Read(_) | FileRow::Written(_) | FileRow::Numeral(..) => false,
+        }
+    }
+
+    /// Whether its file is written.
+    pub(crate) fn is_written(&self) -> bool
+        ensures { result ≡ is_output (file_view self.now) }
+    {
+        match self {
+            FileRow::Written(_) => true,
+            FileRow::Read(_) | FileRow::MaybeRead(_) | FileRow::Numeral(..) => false,
         }
     }
 }
 
-/// A file of a command.
+/// Which files and options, by their names, may stand beside each other.
 #[derive(Clone, Copy)]
-pub(crate) struct FileRow {
-    /// The name of its place in the command line.
-    pub(crate) label: &'static str,
-    /// What the command does with it.
-    pub(crate) role: Role,
+pub(crate) enum Beside {
+    /// The first stands only where the second does.
+    OnlyWith(&'static str, &'static str),
+    /// The two never stand together.
+    NeverWith(&'static str, &'static str),
 }
 
 /// A command.
@@ -80,8 +95,12 @@ pub(crate) struct FileRow {
 pub(crate) struct CommandRow {
     /// Its word.
     pub(crate) word: &'static str,
-    /// Its files, in the order of their names. Files that may be absent come last.
+    /// What it does.
+    pub(crate) verb: Verb,
+    /// Its places, in order. Those that may be empty come last.
     pub(crate) files: &'static [FileRow],
     /// Its options.
     pub(crate) options: &'static [OptionRow],
+    /// What may stand beside what.
+    pub(crate) beside: &'static [Beside],
 }

@@ -127,11 +127,8 @@ fn wall_in(wall: Wall, line: &Line<'_>) -> Option<Wall>
     ensures reads { result ≡ wall_in wall (line_view line.now) }
     ensures time { IfSome result IsTime }
 {
-    match line.value(WALL.name) {
-        Some(value) => {
-            let secs = WALL.values.number_meant(value)?;
-            Some(Wall { secs, micros: 0 })
-        }
+    match WALL.number_if_given(line)? {
+        Some(secs) => Some(Wall { secs, micros: 0 }),
         None => Some(wall),
     }
 }

@@ -1,6 +1,8 @@
 //! The one table of options and the one of commands.
 
-use crate::rows::{CommandRow, FileRow, OptionRow, Role, Values};
+use crate::rows::Beside::NeverWith;
+use crate::rows::FileRow::{MaybeRead, Numeral, Read, Written};
+use crate::rows::{Beside, CommandRow, FileRow, OptionRow, Values};
 use fdr_buffer::{LARGEST_SIZE, LEAST_SIZE, MOST_BUFFERS};
 
 /// How many threads there are.
@@ -250,197 +252,189 @@ const PROFILE_OPTIONS: &[OptionRow] = &[
     STACK_FORMAT,
 ];
 
-/// An image that is read.
-const IMAGE: FileRow = FileRow {
-    label: "image",
-    role: Role::Input,
-};
+/// The places of the commands that report on a trace. An image names the functions of the trace.
+const REPORT_FILES: &[FileRow] = &[Read("trace"), MaybeRead("image")];
 
-/// An image that is written.
-const MADE_IMAGE: FileRow = FileRow {
-    label: "image",
-    role: Role::Output,
-};
+/// A sled map never names functions beside an image.
+const ONE_SOURCE: &[Beside] = &[NeverWith("map", "image")];
 
-/// An assembler text.
-const TEXT: FileRow = FileRow {
-    label: "text",
-    role: Role::Input,
-};
-
-/// A script of the patcher.
-const SCRIPT: FileRow = FileRow {
-    label: "script",
-    role: Role::Input,
-};
-
-/// A schedule: the order of the turns.
-const SCHEDULE: FileRow = FileRow {
-    label: "schedule",
-    role: Role::Input,
-};
-
-/// A trace that is written.
-const MADE_TRACE: FileRow = FileRow {
-    label: "trace",
-    role: Role::Output,
-};
-
-/// An audit that is written.
-const MADE_AUDIT: FileRow = FileRow {
-    label: "audit",
-    role: Role::Output,
-};
-
-/// An audit that is read.
-const AUDIT: FileRow = FileRow {
-    label: "audit",
-    role: Role::Input,
-};
-
-/// A trace that is read.
-const TRACE: FileRow = FileRow {
-    label: "trace",
-    role: Role::Input,
-};
-
-/// An image that names the functions of a trace.
-const NAMING_IMAGE: FileRow = FileRow {
-    label: "image",
-    role: Role::OptionalInput,
-};
-
-/// The number that inputs are drawn from.
-const SEED: FileRow = FileRow {
-    label: "seed",
-    role: Role::Number,
-};
-
-/// What this number may be: any of 64 bits.
+/// The number that inputs are drawn from: any of 64 bits.
 pub(crate) const SEEDS: Values = Values::Number {
     least: 0,
     most: u64::MAX,
 };
 
-/// `account TRACE [IMAGE]`: prints how often the functions of a trace were called, and for how
-/// long.
-pub(crate) const ACCOUNT: CommandRow = CommandRow {
-    word: "account",
-    files: &[TRACE, NAMING_IMAGE],
-    options: &[SORT, SORT_ORDER, TOP, ACCOUNT_FORMAT, MAP],
-};
-
-/// `stack TRACE [IMAGE]`: prints how often each stack of a trace occurred, and for how long.
-pub(crate) const STACK: CommandRow = CommandRow {
-    word: "stack",
-    files: &[TRACE, NAMING_IMAGE],
-    options: &[STACK_FORMAT, MAP],
-};
-
-/// `convert TRACE [IMAGE]`: prints a trace in another form.
-pub(crate) const CONVERT: CommandRow = CommandRow {
-    word: "convert",
-    files: &[TRACE, NAMING_IMAGE],
-    options: &[CONVERT_FORMAT, INPUT, MAP],
-};
-
-/// `fdr-dump TRACE`: prints the records of a trace.
-pub(crate) const DUMP: CommandRow = CommandRow {
-    word: "fdr-dump",
-    files: &[TRACE],
-    options: &[],
-};
-
-/// `check IMAGE SCRIPT TRACE AUDIT`: says whether a trace and an audit can be those of a run of this image and
-/// this script.
-pub(crate) const CHECK: CommandRow = CommandRow {
-    word: "check",
-    files: &[IMAGE, SCRIPT, TRACE, AUDIT],
-    options: &[],
-};
-
-/// A script that is written: one without its waits.
-const FREE_SCRIPT: FileRow = FileRow {
-    label: "free",
-    role: Role::Output,
-};
-
-/// A schedule that is written.
-const MADE_SCHEDULE: FileRow = FileRow {
-    label: "schedule",
-    role: Role::Output,
-};
-
-/// `order IMAGE SCRIPT AUDIT FREE SCHEDULE`: writes the order of a finished run as a schedule, and its script
-/// without its waits.
-pub(crate) const ORDER: CommandRow = CommandRow {
-    word: "order",
-    files: &[IMAGE, SCRIPT, AUDIT, FREE_SCRIPT, MADE_SCHEDULE],
-    options: &[],
-};
-
-/// `profile IMAGE SCRIPT`: runs threads over an image while a script patches it, and prints how often each stack
-/// occurred, and for how long.
-pub(crate) const PROFILE: CommandRow = CommandRow {
-    word: "profile",
-    files: &[IMAGE, SCRIPT],
-    options: PROFILE_OPTIONS,
-};
-
-/// `asm TEXT IMAGE`: assembles an image.
-pub(crate) const ASM: CommandRow = CommandRow {
-    word: "asm",
-    files: &[TEXT, MADE_IMAGE],
-    options: &[THRESHOLD, MAP_VERSION],
-};
+/// What a command does.
+#[derive(Clone, Copy)]
+pub(crate) enum Verb {
+    Plain,
+    Extract,
+    Sim,
+    Run,
+    Asm,
+    Account,
+    Stack,
+    Convert,
+    Dump,
+    Check,
+    Order,
+    Profile,
+    Soak,
+    Import,
+}
 
 /// `plain IMAGE`: runs an image on each thread, with its sleds only counted.
-pub(crate) const PLAIN: CommandRow = CommandRow {
+const PLAIN: CommandRow = CommandRow {
     word: "plain",
-    files: &[IMAGE],
+    verb: Verb::Plain,
+    files: &[Read("image")],
     options: BOUNDS_OPTIONS,
+    beside: &[],
 };
 
 /// `extract IMAGE`: prints the sled map of an image.
-pub(crate) const EXTRACT: CommandRow = CommandRow {
+const EXTRACT: CommandRow = CommandRow {
     word: "extract",
-    files: &[IMAGE],
+    verb: Verb::Extract,
+    files: &[Read("image")],
     options: &[],
+    beside: &[],
 };
 
 /// `sim IMAGE SCRIPT SCHEDULE TRACE AUDIT`: replays a schedule over an image and a script, and writes the
 /// trace and the audit of the run.
-pub(crate) const SIM: CommandRow = CommandRow {
+const SIM: CommandRow = CommandRow {
     word: "sim",
-    files: &[IMAGE, SCRIPT, SCHEDULE, MADE_TRACE, MADE_AUDIT],
+    verb: Verb::Sim,
+    files: &[
+        Read("image"),
+        Read("script"),
+        Read("schedule"),
+        Written("trace"),
+        Written("audit"),
+    ],
     options: RUN_OPTIONS,
+    beside: &[],
 };
 
 /// `run IMAGE SCRIPT TRACE AUDIT`: runs threads over an image while a script patches it, and writes the trace
 /// and the audit of the run.
-pub(crate) const RUN: CommandRow = CommandRow {
+const RUN: CommandRow = CommandRow {
     word: "run",
-    files: &[IMAGE, SCRIPT, MADE_TRACE, MADE_AUDIT],
+    verb: Verb::Run,
+    files: &[
+        Read("image"),
+        Read("script"),
+        Written("trace"),
+        Written("audit"),
+    ],
     options: RUN_OPTIONS,
+    beside: &[],
 };
 
-/// A log of LLVM's runtime.
-const LOG: FileRow = FileRow {
-    label: "log",
-    role: Role::Input,
+/// `asm TEXT IMAGE`: assembles an image.
+const ASM: CommandRow = CommandRow {
+    word: "asm",
+    verb: Verb::Asm,
+    files: &[Read("text"), Written("image")],
+    options: &[THRESHOLD, MAP_VERSION],
+    beside: &[],
 };
 
-/// `import LOG TRACE`: writes a log of LLVM's runtime as a trace, and prints what was taken.
-pub(crate) const IMPORT: CommandRow = CommandRow {
-    word: "import",
-    files: &[LOG, MADE_TRACE],
+/// `account TRACE [IMAGE]`: prints how often the functions of a trace were called, and for how
+/// long.
+const ACCOUNT: CommandRow = CommandRow {
+    word: "account",
+    verb: Verb::Account,
+    files: REPORT_FILES,
+    options: &[MAP, SORT, SORT_ORDER, TOP, ACCOUNT_FORMAT],
+    beside: ONE_SOURCE,
+};
+
+/// `stack TRACE [IMAGE]`: prints how often each stack of a trace occurred, and for how long.
+const STACK: CommandRow = CommandRow {
+    word: "stack",
+    verb: Verb::Stack,
+    files: REPORT_FILES,
+    options: &[MAP, STACK_FORMAT],
+    beside: ONE_SOURCE,
+};
+
+/// `convert TRACE [IMAGE]`: prints a trace in another form.
+const CONVERT: CommandRow = CommandRow {
+    word: "convert",
+    verb: Verb::Convert,
+    files: REPORT_FILES,
+    options: &[MAP, CONVERT_FORMAT, INPUT],
+    beside: ONE_SOURCE,
+};
+
+/// `fdr-dump TRACE`: prints the records of a trace.
+const DUMP: CommandRow = CommandRow {
+    word: "fdr-dump",
+    verb: Verb::Dump,
+    files: &[Read("trace")],
     options: &[],
+    beside: &[],
+};
+
+/// `check IMAGE SCRIPT TRACE AUDIT`: says whether a trace and an audit can be those of a run of this image and
+/// this script.
+const CHECK: CommandRow = CommandRow {
+    word: "check",
+    verb: Verb::Check,
+    files: &[Read("image"), Read("script"), Read("trace"), Read("audit")],
+    options: &[],
+    beside: &[],
+};
+
+/// `order IMAGE SCRIPT AUDIT FREE SCHEDULE`: writes the order of a finished run as a schedule, and its script
+/// without its waits.
+const ORDER: CommandRow = CommandRow {
+    word: "order",
+    verb: Verb::Order,
+    files: &[
+        Read("image"),
+        Read("script"),
+        Read("audit"),
+        Written("free"),
+        Written("schedule"),
+    ],
+    options: &[],
+    beside: &[],
+};
+
+/// `profile IMAGE SCRIPT`: runs threads over an image while a script patches it, and prints how often each stack
+/// occurred, and for how long.
+const PROFILE: CommandRow = CommandRow {
+    word: "profile",
+    verb: Verb::Profile,
+    files: &[Read("image"), Read("script")],
+    options: PROFILE_OPTIONS,
+    beside: &[],
 };
 
 /// `soak SEED`: replays a schedule over a large image and a script, all drawn from a number, and
 /// prints a summary.
-pub(crate) const SOAK: CommandRow = CommandRow {
+const SOAK: CommandRow = CommandRow {
     word: "soak",
-    files: &[SEED],
+    verb: Verb::Soak,
+    files: &[Numeral("seed", SEEDS)],
     options: &[],
+    beside: &[],
 };
+
+/// `import LOG TRACE`: writes a log of LLVM's runtime as a trace, and prints what was taken.
+const IMPORT: CommandRow = CommandRow {
+    word: "import",
+    verb: Verb::Import,
+    files: &[Read("log"), Written("trace")],
+    options: &[],
+    beside: &[],
+};
+
+/// All commands.
+pub(crate) const COMMANDS: &[CommandRow] = &[
+    PLAIN, EXTRACT, SIM, RUN, ASM, ACCOUNT, STACK, CONVERT, DUMP, CHECK, ORDER, PROFILE, SOAK,
+    IMPORT,
+];

@@ -1,10 +1,11 @@
 //! The command that a command line says.
-ghost use Rattle.std.specs.Prelude.{◌≡◌, IfOk, IfSome, find, option_map, true};
+ghost use Rattle.std.specs.Prelude.{◌≡◌, IfOk, IfSome, find, map, option_map, true};
+ghost use Rattle.std.specs.{List.{list_all}, Str.{bytes_eq}};
 ghost use Rattle.fdr_buffer.specs.Times.{IsTime};
-ghost use Rattle.command_words.specs.{Items.{texts}, Lines.{outputs_differ}, Ranges.{HasRanges}};
-ghost use Rattle.command_words.specs.{Tables.{order_row, run_row, sim_row}, Views.{command_view}, Words.{asm_in, check_in, dump_in, extract_in, import_in, order_in, plain_in, profile_in, reading, run_in, sim_in, soak_in}};
+ghost use Rattle.command_words.specs.{Items.{texts}, Ranges.{HasRanges, InRange}};
+ghost use Rattle.command_words.specs.{Views.{command_view}, Words.{account_in, asm_in, command_by, convert_in, plain_in, profile_in, reading, row_with, run_in, sim_in, stack_in}};
+ghost use Rattle.command_words.specs.private.Allowed.{is_row};
 ghost use Rattle.command_words.specs.private.CodeViews.{line_view, row_view};
-ghost use Rattle.command_words.specs.private.Verbs.{command_by, is_word_of, report_said, row_by, verb_of};
 
 use crate::cutting::cut_line;
 use crate::line::Line;
@@ -15,10 +16,7 @@ use crate::report_options::{
 };
 use crate::rows::CommandRow;
 use crate::run_options::{Bounds, RunOptions, bounds_in, run_options_in};
-use crate::tables::{
-    ACCOUNT, ASM, CHECK, CONVERT, DUMP, EXTRACT, IMPORT, MAP_VERSION, ORDER, PLAIN, PROFILE,
-    RELATIVE_MAP, RUN, SEEDS, SIM, SOAK, STACK, THRESHOLD,
-};
+use crate::tables::{COMMANDS, MAP_VERSION, RELATIVE_MAP, SEEDS, THRESHOLD, Verb};
 use std::alloc::{AllocError, Global};
 use xray_io::Wall;
 
@@ -176,145 +174,92 @@ pub fn read_words<'a>(
     let Some((word, rest)) = words.split_first() else {
         return Ok(None);
     };
-    let Some(verb) = Verb::of(word.as_str()) else {
+    let Some(row) = row_with(word.as_str()) else {
         return Ok(None);
     };
-    match cut_line(alloc, &verb.row(), rest)? {
-        Some(line) => Ok(command_in(verb, wall, &line)),
+    match cut_line(alloc, &row, rest)? {
+        Some(line) => Ok(command_in(row.verb, wall, &line)),
         None => Ok(None),
     }
 }
 
-/// What a command does, as its first word says.
-#[derive(Clone, Copy)]
-enum Verb {
-    /// `plain IMAGE`.
-    Plain,
-    /// `extract IMAGE`.
-    Extract,
-    /// `sim IMAGE SCRIPT SCHEDULE TRACE AUDIT`.
-    Sim,
-    /// `run IMAGE SCRIPT TRACE AUDIT`.
-    Run,
-    /// `asm TEXT IMAGE`.
-    Asm,
-    /// A report on a trace.
-    Report(Report),
-    /// `fdr-dump TRACE`.
-    Dump,
-    /// `check IMAGE SCRIPT TRACE AUDIT`.
-    Check,
-    /// `order IMAGE SCRIPT AUDIT FREE SCHEDULE`.
-    Order,
-    /// `profile IMAGE SCRIPT`.
-    Profile,
-    /// `soak SEED`.
-    Soak,
-    /// `import LOG TRACE`.
-    Import,
-}
-
-/// A report on a trace.
-#[derive(Clone, Copy)]
-enum Report {
-    /// `account TRACE [IMAGE]`.
-    Account,
-    /// `stack TRACE [IMAGE]`.
-    Stack,
-    /// `convert TRACE [IMAGE]`.
-    Convert,
-}
-
-/// All verbs.
-const VERBS: [Verb; 14] = [
-    Verb::Plain,
-    Verb::Extract,
-    Verb::Sim,
-    Verb::Run,
-    Verb::Asm,
-    Verb::Report(Report::Account),
-    Verb::Report(Report::Stack),
-    Verb::Report(Report::Convert),
-    Verb::Dump,
-    Verb::Check,
-    Verb::Order,
-    Verb::Profile,
-    Verb::Soak,
-    Verb::Import,
-];
-
-impl Verb {
-    /// The verb of a word. `None` if no command has the word.
-    fn of(word: &str) -> Option<Verb>
-        ensures { result ≡ verb_of word.now }
-    {
-        verb_in(&VERBS, word)
-    }
-
-    /// Whether its command has this word.
-    fn has_word(self, word: &str) -> bool
-        ensures { result ≡ is_word_of word.now self }
-    {
-        word == self.row().word
-    }
-
-    /// Its row in the table.
-    fn row(self) -> CommandRow
-        ensures { row_view result ≡ row_by self }
-    {
-        match self {
-            Verb::Plain => PLAIN,
-            Verb::Extract => EXTRACT,
-            Verb::Sim => SIM,
-            Verb::Run => RUN,
-            Verb::Asm => ASM,
-            Verb::Report(Report::Account) => ACCOUNT,
-            Verb::Report(Report::Stack) => STACK,
-            Verb::Report(Report::Convert) => CONVERT,
-            Verb::Dump => DUMP,
-            Verb::Check => CHECK,
-            Verb::Order => ORDER,
-            Verb::Profile => PROFILE,
-            Verb::Soak => SOAK,
-            Verb::Import => IMPORT,
-        }
-    }
-}
-
-/// The first of these verbs whose command has a word. `None` if no command of them has it.
-fn verb_in(verbs: &[Verb], word: &str) -> Option<Verb>
-    ensures { result ≡ find (is_word_of word.now) verbs.now }
+/// The row of the command that has a word. `None` if no command has it.
+fn row_with(word: &str) -> Option<CommandRow>
+    ensures row { option_map row_view result ≡ row_with word.now }
+    ensures allowed { IfSome result (λ row. is_row (row_view row) ≡ true) }
 {
-    verbs.iter().find(|verb| verb.has_word(word)).copied()
+    row_in(COMMANDS, word)
 }
 
-/// The command that a line of the verb says. `None` if it lacks a file, or if a value isn't allowed.
+/// The first of these rows that has a word. `None` if none has it.
+fn row_in(rows: &[CommandRow], word: &str) -> Option<CommandRow>
+    ensures found { option_map row_view result ≡ find (λ row. bytes_eq word.now row.word) (map row_view rows.now) }
+    ensures allowed { list_all is_row (map row_view rows.now) ≡ true → IfSome result (λ row. is_row (row_view row) ≡ true) }
+{
+    rows.iter().find(|row| word == row.word).copied()
+}
+
+/// The command that a line of the verb's row says. `None` if it lacks a file, or if a value isn't
+/// allowed.
 fn command_in<'a>(verb: Verb, wall: Wall, line: &Line<'a>) -> Option<Command<'a>>
-    requires outputs { outputs_differ (row_by verb).files (line_view line.now).files ≡ true }
-    requires wall { IsTime wall }
+    requires { IsTime wall }
     ensures reads { option_map command_view result ≡ command_by verb wall (line_view line.now) }
-    ensures ranges { IfSome (option_map command_view result) HasRanges }
+    ensures ranges { IfSome (option_map command_view result) InRange }
 {
+    let files = line.files.as_slice();
     match verb {
         Verb::Plain => plain_in(line),
-        Verb::Extract => extract_in(line),
+        Verb::Extract => match files {
+            [image] => Some(Command::Extract { image }),
+            _ => None,
+        },
         Verb::Sim => sim_in(wall, line),
         Verb::Run => run_in(wall, line),
         Verb::Asm => asm_in(line),
-        Verb::Report(report) => report_in(report, line),
-        Verb::Dump => dump_in(line),
-        Verb::Check => check_in(line),
-        Verb::Order => order_in(line),
+        Verb::Account => account_in(line),
+        Verb::Stack => stack_in(line),
+        Verb::Convert => convert_in(line),
+        Verb::Dump => match files {
+            [trace] => Some(Command::Dump { trace }),
+            _ => None,
+        },
+        Verb::Check => match files {
+            [image, script, trace, audit] => Some(Command::Check {
+                image,
+                script,
+                trace,
+                audit,
+            }),
+            _ => None,
+        },
+        Verb::Order => match files {
+            [image, script, audit, free, schedule] => Some(Command::Order {
+                image,
+                script,
+                audit,
+                free,
+                schedule,
+            }),
+            _ => None,
+        },
         Verb::Profile => profile_in(line),
-        Verb::Soak => soak_in(line),
-        Verb::Import => import_in(line),
+        Verb::Soak => match files {
+            [seed] => Some(Command::Soak {
+                number: SEEDS.number_meant(seed)?,
+            }),
+            _ => None,
+        },
+        Verb::Import => match files {
+            [log, trace] => Some(Command::Import { log, trace }),
+            _ => None,
+        },
     }
 }
 
 /// The plain run that a line asks for. `None` if it lacks the image, or if a value isn't allowed.
 fn plain_in<'a>(line: &Line<'a>) -> Option<Command<'a>>
     ensures reads { option_map command_view result ≡ plain_in (line_view line.now) }
-    ensures ranges { IfSome (option_map command_view result) HasRanges }
+    ensures ranges { IfSome (option_map command_view result) InRange }
 {
     match line.files.as_slice() {
         [image] => Some(Command::Plain {
@@ -325,39 +270,11 @@ fn plain_in<'a>(line: &Line<'a>) -> Option<Command<'a>>
     }
 }
 
-/// The extraction that a line asks for. `None` if it lacks the image.
-fn extract_in<'a>(line: &Line<'a>) -> Option<Command<'a>>
-    ensures reads { option_map command_view result ≡ extract_in (line_view line.now) }
-    ensures ranges { IfSome (option_map command_view result) HasRanges }
-{
-    match line.files.as_slice() {
-        [image] => Some(Command::Extract { image }),
-        _ => None,
-    }
-}
-
-/// The assembling that a line asks for. `None` if it lacks a file, or if a value isn't allowed.
-fn asm_in<'a>(line: &Line<'a>) -> Option<Command<'a>>
-    ensures reads { option_map command_view result ≡ asm_in (line_view line.now) }
-    ensures ranges { IfSome (option_map command_view result) HasRanges }
-{
-    match line.files.as_slice() {
-        [text, image] => Some(Command::Asm {
-            text,
-            image,
-            threshold: THRESHOLD.number_given(line)? as u32,
-            relative: MAP_VERSION.number_given(line)? == RELATIVE_MAP,
-        }),
-        _ => None,
-    }
-}
-
 /// The replay that a line asks for. `None` if it lacks a file, or if a value isn't allowed.
 fn sim_in<'a>(wall: Wall, line: &Line<'a>) -> Option<Command<'a>>
-    requires outputs { outputs_differ sim_row.files (line_view line.now).files ≡ true }
-    requires wall { IsTime wall }
+    requires { IsTime wall }
     ensures reads { option_map command_view result ≡ sim_in wall (line_view line.now) }
-    ensures ranges { IfSome (option_map command_view result) HasRanges }
+    ensures ranges { IfSome (option_map command_view result) InRange }
 {
     match line.files.as_slice() {
         [image, script, schedule, trace, audit] => Some(Command::Sim {
@@ -374,10 +291,9 @@ fn sim_in<'a>(wall: Wall, line: &Line<'a>) -> Option<Command<'a>>
 
 /// The run that a line asks for. `None` if it lacks a file, or if a value isn't allowed.
 fn run_in<'a>(wall: Wall, line: &Line<'a>) -> Option<Command<'a>>
-    requires outputs { outputs_differ run_row.files (line_view line.now).files ≡ true }
-    requires wall { IsTime wall }
+    requires { IsTime wall }
     ensures reads { option_map command_view result ≡ run_in wall (line_view line.now) }
-    ensures ranges { IfSome (option_map command_view result) HasRanges }
+    ensures ranges { IfSome (option_map command_view result) InRange }
 {
     match line.files.as_slice() {
         [image, script, trace, audit] => Some(Command::Run {
@@ -391,44 +307,68 @@ fn run_in<'a>(wall: Wall, line: &Line<'a>) -> Option<Command<'a>>
     }
 }
 
-/// The judgement that a line asks for. `None` if it lacks a file.
-fn check_in<'a>(line: &Line<'a>) -> Option<Command<'a>>
-    ensures reads { option_map command_view result ≡ check_in (line_view line.now) }
-    ensures ranges { IfSome (option_map command_view result) HasRanges }
+/// The assembling that a line asks for. `None` if it lacks a file, or if a value isn't allowed.
+fn asm_in<'a>(line: &Line<'a>) -> Option<Command<'a>>
+    ensures reads { option_map command_view result ≡ asm_in (line_view line.now) }
+    ensures ranges { IfSome (option_map command_view result) InRange }
 {
     match line.files.as_slice() {
-        [image, script, trace, audit] => Some(Command::Check {
+        [text, image] => Some(Command::Asm {
+            text,
             image,
-            script,
-            trace,
-            audit,
+            threshold: THRESHOLD.number_given(line)? as u32,
+            relative: MAP_VERSION.number_given(line)? == RELATIVE_MAP,
         }),
         _ => None,
     }
 }
 
-/// The ordering that a line asks for. `None` if it lacks a file.
-fn order_in<'a>(line: &Line<'a>) -> Option<Command<'a>>
-    requires outputs { outputs_differ order_row.files (line_view line.now).files ≡ true }
-    ensures reads { option_map command_view result ≡ order_in (line_view line.now) }
-    ensures ranges { IfSome (option_map command_view result) HasRanges }
+/// The account that a line asks for. `None` if it lacks the trace, or if a value isn't allowed.
+fn account_in<'a>(line: &Line<'a>) -> Option<Command<'a>>
+    ensures reads { option_map command_view result ≡ account_in (line_view line.now) }
+    ensures ranges { IfSome (option_map command_view result) InRange }
 {
-    match line.files.as_slice() {
-        [image, script, audit, free, schedule] => Some(Command::Order {
-            image,
-            script,
-            audit,
-            free,
-            schedule,
-        }),
-        _ => None,
-    }
+    let ReportFiles { trace, names } = report_files_in(line)?;
+    let options = account_options_in(line)?;
+    Some(Command::Account {
+        trace,
+        names,
+        options,
+    })
+}
+
+/// The stacks that a line asks for. `None` if it lacks the trace, or if a value isn't allowed.
+fn stack_in<'a>(line: &Line<'a>) -> Option<Command<'a>>
+    ensures reads { option_map command_view result ≡ stack_in (line_view line.now) }
+    ensures ranges { IfSome (option_map command_view result) InRange }
+{
+    let ReportFiles { trace, names } = report_files_in(line)?;
+    let format = stack_format_in(line)?;
+    Some(Command::Stack {
+        trace,
+        names,
+        format,
+    })
+}
+
+/// The conversion that a line asks for. `None` if it lacks the trace, or if a value isn't allowed.
+fn convert_in<'a>(line: &Line<'a>) -> Option<Command<'a>>
+    ensures reads { option_map command_view result ≡ convert_in (line_view line.now) }
+    ensures ranges { IfSome (option_map command_view result) InRange }
+{
+    let ReportFiles { trace, names } = report_files_in(line)?;
+    let options = convert_options_in(line)?;
+    Some(Command::Convert {
+        trace,
+        names,
+        options,
+    })
 }
 
 /// The profile that a line asks for. `None` if it lacks a file, or if a value isn't allowed.
 fn profile_in<'a>(line: &Line<'a>) -> Option<Command<'a>>
     ensures reads { option_map command_view result ≡ profile_in (line_view line.now) }
-    ensures ranges { IfSome (option_map command_view result) HasRanges }
+    ensures ranges { IfSome (option_map command_view result) InRange }
 {
     match line.files.as_slice() {
         [image, script] => Some(Command::Profile {
@@ -436,66 +376,6 @@ fn profile_in<'a>(line: &Line<'a>) -> Option<Command<'a>>
             script,
             options: profile_options_in(line)?,
         }),
-        _ => None,
-    }
-}
-
-/// The report that a line asks for. `None` if it lacks the trace, or if a value isn't allowed.
-fn report_in<'a>(report: Report, line: &Line<'a>) -> Option<Command<'a>>
-    ensures reads { option_map command_view result ≡ report_said report (line_view line.now) }
-    ensures ranges { IfSome (option_map command_view result) HasRanges }
-{
-    let ReportFiles { trace, names } = report_files_in(line)?;
-    match report {
-        Report::Account => Some(Command::Account {
-            trace,
-            names,
-            options: account_options_in(line)?,
-        }),
-        Report::Stack => Some(Command::Stack {
-            trace,
-            names,
-            format: stack_format_in(line)?,
-        }),
-        Report::Convert => Some(Command::Convert {
-            trace,
-            names,
-            options: convert_options_in(line)?,
-        }),
-    }
-}
-
-/// The dump that a line asks for. `None` if it lacks the trace.
-fn dump_in<'a>(line: &Line<'a>) -> Option<Command<'a>>
-    ensures reads { option_map command_view result ≡ dump_in (line_view line.now) }
-    ensures ranges { IfSome (option_map command_view result) HasRanges }
-{
-    match line.files.as_slice() {
-        [trace] => Some(Command::Dump { trace }),
-        _ => None,
-    }
-}
-
-/// The soak that a line asks for. `None` if it lacks the number, or if its word isn't one.
-fn soak_in<'a>(line: &Line<'a>) -> Option<Command<'a>>
-    ensures reads { option_map command_view result ≡ soak_in (line_view line.now) }
-    ensures ranges { IfSome (option_map command_view result) HasRanges }
-{
-    match line.files.as_slice() {
-        [seed] => Some(Command::Soak {
-            number: SEEDS.number_meant(seed)?,
-        }),
-        _ => None,
-    }
-}
-
-/// The import that a line asks for. `None` if it lacks a file.
-fn import_in<'a>(line: &Line<'a>) -> Option<Command<'a>>
-    ensures reads { option_map command_view result ≡ import_in (line_view line.now) }
-    ensures ranges { IfSome (option_map command_view result) HasRanges }
-{
-    match line.files.as_slice() {
-        [log, trace] => Some(Command::Import { log, trace }),
         _ => None,
     }
 }

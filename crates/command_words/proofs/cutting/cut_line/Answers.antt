@@ -1,10 +1,10 @@
-use Rattle.std.proofs.Common.{◌≡◌, ◌∙◌, ap, sym, List, map, option_map, Option, Some, None, true, false, Bor, ℕ}
+use Rattle.std.proofs.Common.{◌≡◌, ◌∙◌, ap, sym, List, option_map, Option, Some, None, true}
 use Rattle.std.specs.Prelude.{String, if◌then◌else◌}
 use Rattle.std.specs.declared.alloc.Global.{Global}
 use Rattle.clap.specs.declared.parser.matches.ArgMatches.{ArgMatches}
 use Rattle.command_words.specs.private.Clapped.{app_by, clap_rows, line_in, rows_in}
 use Rattle.command_words.specs.Items.{items_of, texts}
-use Rattle.command_words.specs.Lines.{is_cut, line_by, outputs_differ}
+use Rattle.command_words.specs.Lines.{is_cut, line_by}
 use Rattle.command_words.specs.Rows.{CommandRow}
 use Rattle.command_words.specs.private.Allowed.{is_row}
 use Rattle.command_words.specs.private.CodeViews.{line_view, row_view}
@@ -12,7 +12,7 @@ use Rattle.command_words.proofs.ReadWords.{answered, cut_is, refused}
 use Rattle.command_words.proofs.ClapMatches.{words_are_text}
 use Rattle.command_words.proofs.cutting.cut_line.Goals as goal
 
--- what is found is the line of the definition, except for the names of outputs
+-- what is found is the line of the definition, except for what the row allows
 found_is : (row : CommandRow) → is_row row ≡ true → (words : List (String Global)) → (found now : Option ArgMatches)
     → option_map rows_in found ≡ clap_rows (app_by row) (texts words) → found ≡ now
     → option_map (line_in row) (option_map rows_in now) ≡ (if is_cut row (items_of (texts words)) then Some (line_by row (items_of (texts words))) else None)
@@ -25,16 +25,8 @@ returns-in_default c =
     refused (row_view c.args.row.now) (items_of (texts c.args.words.now))
     (found_is (row_view c.args.row.now) c.requires c.args.words.now _ None c.in_ok-matches.ensures c.in_default.is)
 
-pub returns-then-outputs_differ : goal.returns-then-outputs_differ
-returns-then-outputs_differ c =
-    let row = row_view c.args.row.now in
-    let found = found_is row c.requires c.args.words.now _ (Some c.in-Some.matches) c.in_ok-matches.ensures c.in-Some.is in
-    answered row (items_of (texts c.args.words.now)) (line_view c.in_ok-line.line) true (ap (λ line. Some line) c.in_ok-line.ensures ∙ found)
-    (sym c.if-outputs_differ.true ∙ c.outputs_differ.ensures ∙ ap (λ (names : List (Bor (List ℕ))). outputs_differ row.files (map (λ name. name.now) names)) c.deref.ensures.value)
-
 pub returns : goal.returns
 returns c =
     let row = row_view c.args.row.now in
     let found = found_is row c.requires c.args.words.now _ (Some c.in-Some.matches) c.in_ok-matches.ensures c.in-Some.is in
-    answered row (items_of (texts c.args.words.now)) (line_view c.in_ok-line.line) false (ap (λ line. Some line) c.in_ok-line.ensures ∙ found)
-    (sym c.if-outputs_differ.false ∙ c.outputs_differ.ensures ∙ ap (λ (names : List (Bor (List ℕ))). outputs_differ row.files (map (λ name. name.now) names)) c.deref.ensures.value)
+    c.if_allowed.ensures ∙ answered row (items_of (texts c.args.words.now)) (line_view c.in_ok-line.line) (ap (λ line. Some line) c.in_ok-line.ensures ∙ found)
