@@ -1,11 +1,10 @@
 -- The laws of all commands, each by one induction over what a command takes and leaves.
-use Rattle.std.specs.Prelude.{⊤}
-use Rattle.std.proofs.Common.{◌≡◌, ◌≢◌, ◌⊎◌, ◌∙◌, ◌≤◌, ◌<◌, ℕ, List, length, Option, Some, None, inl, inr, refl, sym, ap, subst, arith}
+use Rattle.std.proofs.Common.{◌≡◌, ◌≢◌, ◌⊎◌, ◌∙◌, ℕ, List, length, Some, None, inl, inr, refl, sym, ap, subst, arith}
 use Rattle.xray_io.specs.Desk.{Entry, Untold, Absent, Holds}
 use Rattle.xray_program.specs.Doings.{AllHeld, Chooses, Comes, Doing, Finds, Gives, HoldsInput, IsDetermined, IsUnrefused, IsWriting, Leaves, LeadsTo, Leaving, MayLeave, RefusesIf, Takes, Taking}
 use Rattle.xray_program.specs.Outcomes.{Outcome, BadLine, Unread, TooLong, Refused, Done, Fell, status_of, written_by}
-use Rattle.xray_program.specs.Taking.{Form, RefuseIf, Take}
-use Rattle.xray_program.specs.private.Lawful.{AreKinds, IsKind, IsLawful, IsLawfulDoing, IsUnique, LeavesWriting}
+use Rattle.xray_program.specs.Taking.{Form, Take}
+use Rattle.xray_program.specs.private.Lawful.{AreKinds, IsLawful, IsLawfulDoing, IsUnique, LeavesWriting}
 use Rattle.xray_program.proofs.InputMeanings.{AnyOutcome, HoldsBytes, IsAlone, IsRefusal, SomeOutcome, refuse_alone, some_refuse, some_take, take_alone}
 
 -- ---- something comes

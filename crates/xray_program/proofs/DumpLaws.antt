@@ -1,5 +1,5 @@
 -- Files of which some prefix is a trace, as a kind of input.
-use Rattle.std.proofs.Common.{◌≡◌, ◌⊎◌, ◌<◌, ◌≤◌, ◌∙◌, ℕ, zero, suc, List, [], length, take, Result, Ok, Err, inl, inr, ap, ap₂, arith, le_refl, refl, subst, sym}
+use Rattle.std.proofs.Common.{◌≡◌, ◌⊎◌, ◌<◌, ◌≤◌, ◌∙◌, ℕ, zero, suc, List, length, take, Result, Ok, Err, inl, inr, ap, ap₂, arith, le_refl, refl, subst, sym}
 use Rattle.std.specs.Prelude.{IfOk}
 use Rattle.std.proofs.Math.Seq.{take-length}
 use Rattle.std.proofs.lemmas.Bool.{cases_lt}

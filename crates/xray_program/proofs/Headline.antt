@@ -14,7 +14,7 @@ use Rattle.xray_io.specs.Desk.{Entry, Holds}
 use Rattle.xray_program.specs.Answers.{MakesSetup}
 use Rattle.xray_program.specs.Commands.{Means, doing_of}
 use Rattle.xray_program.specs.Doings.{Comes, MayLeave}
-use Rattle.xray_program.specs.Headline.{FollowsSchedule, IsHeadline, ProfileIsTraced, RanBySchedule, RunIsTraced, SimIsTraced}
+use Rattle.xray_program.specs.Headline.{IsHeadline, ProfileIsTraced, RanBySchedule, RunIsTraced, SimIsTraced}
 use Rattle.xray_program.specs.Inputs.{image_form, script_form, schedule_form}
 use Rattle.xray_program.specs.Outcomes.{Done, Outcome, written_by}
 use Rattle.xray_program.specs.Profile.{AreProfiled, profile_of}
@@ -23,7 +23,7 @@ use Rattle.xray_program.specs.Sim.{RanReplayed, left_of_replay}
 use Rattle.xray_program.specs.Setups.{setup_of}
 use Rattle.xray_program.specs.Spoken.{commands_said, turns_given}
 use Rattle.xray_program.specs.Taking.{Form, RefuseIf, Take}
-use Rattle.xray_program.specs.Traced.{IsTraced, RanLawfully}
+use Rattle.xray_program.specs.Traced.{IsTraced}
 use Rattle.command_words.specs.Words.{Command, Profile, Run, Sim}
 use Rattle.command_words.specs.declared.run_options.RunOptions.{RunOptions}
 use Rattle.xray_program.specs.private.CallLaws.{MovesAlike}

@@ -1,5 +1,5 @@
 -- `plain`: the texts of threads are there, and are only one thing.
-use Rattle.std.proofs.Common.{◌≡◌, ◌+◌, ◌∙◌, ℕ, List, [], refl, sym, ap}
+use Rattle.std.proofs.Common.{◌≡◌, ◌+◌, ◌∙◌, ℕ, List, refl, sym, ap}
 use Rattle.std.specs.List.{flat_map}
 use Rattle.machine_step.specs.declared.end.End.{End}
 use Rattle.machine_step.specs.declared.limits.Limits.{Limits}

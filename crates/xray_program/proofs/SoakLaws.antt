@@ -1,5 +1,5 @@
 -- `soak`: the summary of a number is there, and is only one thing.
-use Rattle.std.proofs.Common.{◌≡◌, ◌≤◌, ◌∙◌, ℕ, false, List, [], Ok, Result, refl, sym, ap, subst, arith}
+use Rattle.std.proofs.Common.{◌≡◌, ◌≤◌, ◌∙◌, ℕ, false, List, Ok, Result, refl, sym, ap, subst, arith}
 use Rattle.asm_text.specs.Assembling.{assembled, image_of, statements_said}
 use Rattle.asm_text.specs.Layout.{StatementLines}
 use Rattle.asm_text.specs.Programs.{program_said}

@@ -1,5 +1,5 @@
 -- Inputs that are taken one after another.
-use Rattle.std.specs.Prelude.{IfOk, IsErrAnd, OnOk}
+use Rattle.std.specs.Prelude.{IfOk, IsErrAnd}
 use Rattle.std.proofs.Common.{◌≡◌, ◌++◌, ◌∙◌, ◌≤◌, ℕ, List, [], Result, Ok, Err, inl, inr, refl, sym, ap, subst, le_refl, append_assoc}
 use Rattle.std.proofs.lemmas.List.{append-nil}
 use Rattle.xray_io.specs.Calls.{CallMade, Composes, HoldsOfNone, Went}
@@ -9,9 +9,9 @@ use Rattle.command_words.specs.Reports.{NameSource, ByIds, ByImage, ByMap}
 use Rattle.map_names.specs.Naming.{Naming}
 use Rattle.xray_program.specs.Commands.{takes_report}
 use Rattle.xray_program.specs.Doings.{Gives, Takes, Taking}
-use Rattle.xray_program.specs.Order.{AreAllTaken, Reaches}
+use Rattle.xray_program.specs.Order.{AreAllTaken, ReadsInputs}
 use Rattle.xray_program.specs.Taking.{Form, IsAcceptedAs}
-use Rattle.xray_program.specs.private.Takes.{IsTaken, IsTakenAs, IsTaking, StopsTaking, TakesInput}
+use Rattle.xray_program.specs.private.Takes.{IsTaken, IsTaking, StopsTaking, TakesInput}
 use Rattle.xray_program.specs.private.Turns.{StopsHere, Turns}
 use Rattle.xray_program.specs.declared.stop.Stop.{Stop}
 
@@ -27,8 +27,8 @@ pub record HasPassed {S Y : Type 0} (along : S → S → List CallMade → Type 
   pub calls : List CallMade
   pub way : along first now calls
   pub same : desk now ≡ desk first
-  pub on : (At : (left : List (List ℕ)) → Taking Y left → List CallMade → Type 0) (more : List CallMade) → Reaches others (desk first).held At more
-      → Reaches inputs (desk first).held At (calls ++ more)
+  pub on : (At : (left : List (List ℕ)) → Taking Y left → List CallMade → Type 0) (more : List CallMade) → ReadsInputs others (desk first).held At more
+      → ReadsInputs inputs (desk first).held At (calls ++ more)
 
 -- none yet
 pub at_first : {S Y : Type 0} {names : List (List ℕ)} {along : S → S → List CallMade → Type 0} (desk : S → DeskView) → HoldsOfNone along
@@ -46,7 +46,7 @@ passed {Y = Y} {desk = desk} {inputs = inputs} {first = first} {now = now} {afte
   way = both _ _ _ _ _ so_far.way turn.calls.way;
   same = same_desk (desk now) (desk after) turn.held turn.calm turn.writes ∙ so_far.same;
   on = λ At more reaches.
-      subst (Reaches inputs (desk first).held At) (sym (append_assoc so_far.calls turn.calls.calls more))
+      subst (ReadsInputs inputs (desk first).held At) (sym (append_assoc so_far.calls turn.calls.calls more))
       (so_far.on At (turn.calls.calls ++ more) (inr (
         turn.calls.calls,
         more,
@@ -77,7 +77,7 @@ stopped {along = along} {desk = desk} {first = first} {now = now} {after = after
   calm = tt;
 }
   where
-    here : Reaches (Takes form name next) (desk first).held (StopsHere (desk first) (desk after) s) turn.calls.calls
+    here : ReadsInputs (Takes form name next) (desk first).held (StopsHere (desk first) (desk after) s) turn.calls.calls
     here = inl (
       subst (λ (r : Stop). IsTaken form name (desk first) (desk after) (Err r)) (sym is)
           (subst (λ (d : DeskView). IsTaken form name d (desk after) (Err stop)) so_far.same turn.taken),
@@ -104,7 +104,7 @@ given {desk = desk} {inputs = inputs} {first = first} means value y so_far is = 
   calls = record {
     calls = so_far.calls;
     way = so_far.way;
-    are = subst (Reaches inputs (desk first).held (AreAllTaken (λ y calls. (calls ≡ []) × means value y))) (append-nil so_far.calls)
+    are = subst (ReadsInputs inputs (desk first).held (AreAllTaken (λ y calls. (calls ≡ []) × means value y))) (append-nil so_far.calls)
         (so_far.on _ [] (refl, is));
   };
   held = ap (λ (d : DeskView). d.held) so_far.same;
@@ -155,7 +155,7 @@ only_input form name before after (Err stop) turn = record {
 
 -- what follows from each reading of which something is known
 known_of : {Y V : Type 0} {names : List (List ℕ)} (inputs : Taking Y names) (held : List ℕ → Entry) (means : V → Y → Type 0) (value : V) (calls : List CallMade)
-    (Known : Type 0) → ((y : Y) → means value y → Known) → Reaches inputs held (AreAllTaken (λ y later. (later ≡ []) × means value y)) calls → Known
+    (Known : Type 0) → ((y : Y) → means value y → Known) → ReadsInputs inputs held (AreAllTaken (λ y later. (later ≡ []) × means value y)) calls → Known
 known_of (Takes form name next) held means value calls Known follows (inl at) = absurd at
 known_of (Takes form name next) held means value calls Known follows (inr (mine, rest, v, split, whole, accepted, reaches)) =
     known_of (next v) held means value rest Known follows reaches

@@ -1,5 +1,4 @@
 -- Inputs in their turn, and what comes of these by the turns.
-use Rattle.std.specs.Prelude.{OnOk}
 use Rattle.std.proofs.Common.{◌≡◌, ◌≢◌, ◌⊎◌, ◌<◌, ◌≤◌, ◌+◌, ◌++◌, ◌∙◌, ℕ, List, [], length, replicate, Option, Some, Result, Ok, Err, inl, inr, refl, sym, ap, arith, subst, append_assoc}
 use Rattle.std.proofs.lemmas.List.{length-replicate}
 use Rattle.fault_words.specs.Words.{words_text}
@@ -9,7 +8,7 @@ use Rattle.xray_io.specs.Faults.{Rose}
 use Rattle.xray_io.specs.declared.faults.ReadError.{ReadError}
 use Rattle.xray_io.specs.declared.faults.ReadError.TheVariants as errors
 use Rattle.xray_program.specs.Doings.{Gives, LeadsTo, ReachesInput, Takes, Taking}
-use Rattle.xray_program.specs.Order.{AreAllTaken, IsNext, Reaches, ReadsWhole}
+use Rattle.xray_program.specs.Order.{AreAllTaken, IsNext, ReadsInputs}
 use Rattle.xray_program.specs.Outcomes.{Outcome, Unread, TooLong, Refused}
 use Rattle.xray_program.specs.private.Takes.{IsFaultStop, IsLost, IsReadStop, IsStopAtInput, IsTaken, IsTakenAs, IsTooLong, StopsTaking}
 use Rattle.xray_program.specs.private.Turns.{StopsHere}
@@ -120,7 +119,7 @@ stops_later before after stops.NoMemory on turn stands = tt
 
 -- what comes of it
 pub stop_stands : {Y : Type 0} {names : List (List ℕ)} (inputs : Taking Y names) (Follows : Y → Outcome → Type 0) (before after : DeskView) (stop : Stop)
-    (calls : List CallMade) → Reaches inputs before.held (StopsHere before after stop) calls
+    (calls : List CallMade) → ReadsInputs inputs before.held (StopsHere before after stop) calls
     → IsStopAtInput (LeadsTo inputs before.held Follows) (ReachesInput inputs before.held) before after stop
 stop_stands (Takes form name next) Follows before after stop calls (inl (taken, stops)) = stops_first form name next Follows before after stop taken
 stop_stands (Takes form name next) Follows before after stop calls (inr (mine, rest, value, split, whole, accepted, reaches)) =
@@ -135,7 +134,7 @@ pub stop_calls : {Y : Type 0} {names : List (List ℕ)} (inputs : Taking Y names
     (Last : (limit : ℕ) → List CallMade → Type 0)
     → ((X : Type 0) (form : Form X) (name : List ℕ) (calls : List CallMade) → IsTaken form name before after (Err stop) → StopsTaking name form.limit stop calls
     → (wanted ≡ name) × Last form.limit calls)
-    → (calls : List CallMade) → Reaches inputs before.held (StopsHere before after stop) calls → Reaches inputs before.held (IsNext wanted Last) calls
+    → (calls : List CallMade) → ReadsInputs inputs before.held (StopsHere before after stop) calls → ReadsInputs inputs before.held (IsNext wanted Last) calls
 stop_calls (Takes {X} form name next) before after stop wanted Last says calls (inl (taken, stops)) = inl (says X form name calls taken stops)
 stop_calls (Takes form name next) before after stop wanted Last says calls (inr (mine, rest, value, split, whole, accepted, reaches)) =
     inr (mine, rest, value, split, whole, accepted, stop_calls (next value) before after stop wanted Last says rest reaches)
@@ -143,8 +142,8 @@ stop_calls (Gives y) before after stop wanted Last says calls here = absurd here
 
 -- if memory ran out, at one of the inputs
 pub memory_calls : {Y : Type 0} {names : List (List ℕ)} (inputs : Taking Y names) (before after : DeskView) (calls : List CallMade)
-    → Reaches inputs before.held (StopsHere before after stops.NoMemory) calls
-    → (name : List ℕ) × Reaches inputs before.held (IsNext name (λ limit. StopsTaking name limit stops.NoMemory)) calls
+    → ReadsInputs inputs before.held (StopsHere before after stops.NoMemory) calls
+    → (name : List ℕ) × ReadsInputs inputs before.held (IsNext name (λ limit. StopsTaking name limit stops.NoMemory)) calls
 memory_calls (Takes form name next) before after calls (inl (taken, stops)) = (name, inl (refl, stops))
 memory_calls (Takes form name next) before after calls (inr (mine, rest, value, split, whole, accepted, reaches)) =
     let at = memory_calls (next value) before after rest reaches in
@@ -155,7 +154,7 @@ memory_calls (Gives y) before after calls here = absurd here
 
 -- what comes of all values of which this is known comes of the inputs
 pub all_come : {Y V : Type 0} {names : List (List ℕ)} (inputs : Taking Y names) (Follows : Y → Outcome → Type 0) (held : List ℕ → Entry) (means : V → Y → Type 0)
-    (value : V) (calls : List CallMade) → Reaches inputs held (AreAllTaken (λ y later. (later ≡ []) × means value y)) calls → (outcome : Outcome)
+    (value : V) (calls : List CallMade) → ReadsInputs inputs held (AreAllTaken (λ y later. (later ≡ []) × means value y)) calls → (outcome : Outcome)
     → ((y : Y) → means value y → Follows y outcome) → LeadsTo inputs held Follows outcome
 all_come (Takes form name next) Follows held means value calls (inl at) outcome follows = absurd at
 all_come (Takes form name next) Follows held means value calls (inr (mine, rest, v, split, whole, accepted, reaches)) outcome follows =
@@ -164,8 +163,8 @@ all_come (Gives y) Follows held means value calls (none, is) outcome follows = f
 
 -- the calls of all inputs, and those after them
 pub all_calls : {Y V : Type 0} {names : List (List ℕ)} (inputs : Taking Y names) (held : List ℕ → Entry) (means : V → Y → Type 0) (value : V)
-    (Then : Y → List CallMade → Type 0) (calls later : List CallMade) → Reaches inputs held (AreAllTaken (λ y last. (last ≡ []) × means value y)) calls
-    → ((y : Y) → means value y → Then y later) → Reaches inputs held (AreAllTaken Then) (calls ++ later)
+    (Then : Y → List CallMade → Type 0) (calls later : List CallMade) → ReadsInputs inputs held (AreAllTaken (λ y last. (last ≡ []) × means value y)) calls
+    → ((y : Y) → means value y → Then y later) → ReadsInputs inputs held (AreAllTaken Then) (calls ++ later)
 all_calls (Takes form name next) held means value Then calls later (inl at) follows = absurd at
 all_calls (Takes form name next) held means value Then calls later (inr (mine, rest, v, split, whole, accepted, reaches)) follows = inr (
   mine,

@@ -9,7 +9,7 @@ use Rattle.xray_io.specs.Outputs.{IsMaking}
 use Rattle.xray_io.specs.Reads.{Reads, ReadsUpToFault}
 use Rattle.xray_program.specs.Commands.{doing_of}
 use Rattle.xray_program.specs.Doings.{Comes, Leaving, MayLeave, ReachesInput}
-use Rattle.xray_program.specs.Order.{AreAllTaken, FailsAtOutput, InOrder, IsNoCall, IsUnmade, MakesAll, Reaches, ReadsWhole}
+use Rattle.xray_program.specs.Order.{AreAllTaken, FailsAtOutput, InOrder, IsNoCall, IsUnmade, MakesAll, ReadsInputs, ReadsWhole}
 use Rattle.xray_program.specs.Outcomes.{Outcome, BadLine, Unread, TooLong, Refused, Done, Fell, Ending, With, Unwritten, NoMemory, status_at, err_line_at, written_by}
 use Rattle.xray_program.specs.Outputs.{OutputsAreWhole, AreUntouched, FailsAt, FailsAtOut, FailsWriting, HoldsPrefix, WritesNothing}
 use Rattle.xray_program.specs.private.Stops.{IsUnsaid, answer_of, stop_line, stop_status, told_of}
@@ -256,11 +256,11 @@ ends_after_turns {V = V} along both seen command means inputs first second third
     -- the calls of the inputs, and then these
     then_called : (Q R : List CallMade → Type 0) (Then : (doing_of command).Values → List CallMade → Type 0)
         → ((y : (doing_of command).Values) (later : List CallMade) → means inputs y → Q later → Then y later)
-        → ((calls : List CallMade) → Reaches (doing_of command).takes (seen first).held (AreAllTaken Then) calls → R calls)
+        → ((calls : List CallMade) → ReadsInputs (doing_of command).takes (seen first).held (AreAllTaken Then) calls → R calls)
         → Went (along second third) Q → Went (along first third) R
     then_called Q R Then said is went =
         went_on along both first second third
-        (Reaches (doing_of command).takes (seen first).held (AreAllTaken (λ y calls. (calls ≡ []) × means inputs y))) Q R turns.calls went
+        (ReadsInputs (doing_of command).takes (seen first).held (AreAllTaken (λ y calls. (calls ≡ []) × means inputs y))) Q R turns.calls went
         (λ calls later reads q. is (calls ++ later)
         (all_calls (doing_of command).takes (seen first).held means inputs Then calls later reads (λ y of_y. said y later of_y q)))
 

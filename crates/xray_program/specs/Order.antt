@@ -21,12 +21,12 @@ ReadsWhole name limit calls = (to : ℕ) × ReadsUpTo name (limit + 1) to (Ok 0)
 
 -- The first inputs were read whole, one after another, and each is accepted as the value for which the next was taken.
 -- This holds of what was still to be taken, and of the calls from then on.
-abbrev pub Reaches : {Y : Type 0} {names : List (List ℕ)} → Taking Y names → (List ℕ → Entry) → (At : (left : List (List ℕ)) → Taking Y left → List CallMade → Type 0) → List CallMade → Type 0
-Reaches (Takes {X} form name next) held At calls =
+abbrev pub ReadsInputs : {Y : Type 0} {names : List (List ℕ)} → Taking Y names → (List ℕ → Entry) → (At : (left : List (List ℕ)) → Taking Y left → List CallMade → Type 0) → List CallMade → Type 0
+ReadsInputs (Takes {X} form name next) held At calls =
     At _ (Takes form name next) calls
     ⊎ ((mine : List CallMade) × (later : List CallMade) × (value : X) × (calls ≡ mine ++ later) × ReadsWhole name form.limit mine
-    × IsAcceptedAs form (held name) value × Reaches (next value) held At later)
-Reaches (Gives y) held At calls = At _ (Gives y) calls
+    × IsAcceptedAs form (held name) value × ReadsInputs (next value) held At later)
+ReadsInputs (Gives y) held At calls = At _ (Gives y) calls
 
 -- the input of this name is next, and this holds of its limit and the calls
 abbrev pub IsNext : {Y : Type 0} → (name : List ℕ) → (Last : (limit : ℕ) → List CallMade → Type 0) → (left : List (List ℕ)) → Taking Y left → List CallMade → Type 0
@@ -72,13 +72,13 @@ IsNoCall calls = calls ≡ []
 
 -- the calls for the inputs that were said, before the one of this name, and then these calls for it
 abbrev pub StopsAtInput : Option Command → (List ℕ → Entry) → (name : List ℕ) → (Last : (limit : ℕ) → List CallMade → Type 0) → List CallMade → Type 0
-StopsAtInput said held name Last calls = MatchOption said ⊥ (λ command. Reaches (doing_of command).takes held (IsNext name Last) calls)
+StopsAtInput said held name Last calls = MatchOption said ⊥ (λ command. ReadsInputs (doing_of command).takes held (IsNext name Last) calls)
 
 -- the calls for all inputs that were said, and then these calls, if this may be left of what the inputs give
 abbrev pub ReadsThen : Option Command → (List ℕ → Entry) → (Left : Leaving → Type 0) → (Then : List CallMade → Type 0) → List CallMade → Type 0
 ReadsThen said held Left Then calls =
     MatchOption said ⊥ (λ command.
-    Reaches (doing_of command).takes held (AreAllTaken (λ y last. Left ((doing_of command).leaves y) × Then last)) calls)
+    ReadsInputs (doing_of command).takes held (AreAllTaken (λ y last. Left ((doing_of command).leaves y) × Then last)) calls)
 
 -- The calls of a call that ended in this way. If the words say no command, there are none. The inputs are read in their
 -- order, each whole before the next one, and each is accepted. A refusal is of the last input that was read, or it is

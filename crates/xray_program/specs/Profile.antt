@@ -1,5 +1,5 @@
 -- `profile`: threads that run over an image while a script patches their sleds, and the stacks of what they recorded.
-use Rattle.std.specs.Prelude.{◌≡◌, ◌+◌, ◌++◌, ℕ, List, [], ◌∷◌, map, codes, decimal, Option, Some, None}
+use Rattle.std.specs.Prelude.{◌+◌, ◌++◌, ℕ, List, [], ◌∷◌, map, codes, decimal, Option, Some, None}
 use Rattle.call_trie.specs.declared.state.TrieState.{TrieState}
 use Rattle.call_trie.specs.declared.state.TrieState.TheVariants.{Live, Full, Deep}
 use Rattle.call_trie.specs.Tries.{state_after}

@@ -3,7 +3,7 @@ use Rattle.std.specs.Prelude.{◌≡◌, ◌≤◌, ℕ, List, [], OnOk, Result,
 use Rattle.xray_io.specs.Calls.{CallMade, Went}
 use Rattle.xray_io.specs.World.{DeskView}
 use Rattle.xray_program.specs.Doings.{Gives, Leaving, MayLeave, Takes, Taking}
-use Rattle.xray_program.specs.Order.{AreAllTaken, Reaches}
+use Rattle.xray_program.specs.Order.{AreAllTaken, ReadsInputs}
 use Rattle.xray_program.specs.Outcomes.{Outcome}
 use Rattle.xray_program.specs.private.Takes.{IsTaken, StopsTaking}
 use Rattle.xray_program.specs.declared.stop.Stop.{Stop}
@@ -15,8 +15,8 @@ StopsHere before after stop _ (Gives y) calls = ⊥
 
 -- all inputs gave values, of which this is known; or one was a stop
 abbrev pub AreTurns : {Y V : Type 0} {names : List (List ℕ)} → Taking Y names → (means : V → Y → Type 0) → (before after : DeskView) → Result V Stop → List CallMade → Type 0
-AreTurns inputs means before after (Ok value) = Reaches inputs before.held (AreAllTaken (λ y calls. (calls ≡ []) × means value y))
-AreTurns inputs means before after (Err stop) = Reaches inputs before.held (StopsHere before after stop)
+AreTurns inputs means before after (Ok value) = ReadsInputs inputs before.held (AreAllTaken (λ y calls. (calls ≡ []) × means value y))
+AreTurns inputs means before after (Err stop) = ReadsInputs inputs before.held (StopsHere before after stop)
 
 -- The turns ended in this way. The desk holds what it held. Only faults of reading were added, and none if the turns gave
 -- values.

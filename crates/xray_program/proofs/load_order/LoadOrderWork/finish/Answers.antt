@@ -1,4 +1,4 @@
-use Rattle.std.proofs.Common.{◌≡◌, ℕ, List, [], ◌∷◌, None, Ok, Err, refl, ap, subst}
+use Rattle.std.proofs.Common.{ℕ, List, [], ◌∷◌, None, Ok, Err, refl, ap, subst}
 use Rattle.audit_check.specs.Statements.{AuditStatement, statement_of}
 use Rattle.patch_script.specs.Plans.{Plan}
 use Rattle.patch_script.specs.Refusals.{commands_of}

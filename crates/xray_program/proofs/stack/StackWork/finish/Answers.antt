@@ -8,7 +8,6 @@ use Rattle.map_names.specs.Naming.{Naming}
 use Rattle.xray_io.specs.World.{desk_view, sink_view}
 use Rattle.xray_program.specs.Outcomes.{Done}
 use Rattle.xray_program.specs.Stack.{rows_text, stacks_text}
-use Rattle.xray_program.specs.private.Meant.{StacksMean}
 use Rattle.xray_program.specs.private.NamesTaken.{named_by}
 use Rattle.command_words.specs.Views.{source_view}
 use Rattle.command_words.specs.Words as words
