@@ -5,7 +5,7 @@ use Rattle.audit_check.specs.Reading.{ReadsAsAudit}
 use Rattle.audit_check.specs.Statements.{AuditStatement}
 use Rattle.audit_check.specs.Texts.{audit_words}
 use Rattle.xray_program.specs.Inputs.{audit_form, refused_for}
-use Rattle.xray_program.proofs.InputMeanings.{IsDecided, IsJudged}
+use Rattle.xray_program.specs.private.Lawful.{IsJudged, IsUnique}
 
 -- what the reader of audits says: any bytes read as one statement, or are refused at one line
 abbrev pub OneReading : Type 0
@@ -14,8 +14,8 @@ OneReading = (bytes : List ℕ) (reading other : Result AuditStatement AuditFaul
 abbrev pub SomeReading : Type 0
 SomeReading = (bytes : List ℕ) → (reading : Result AuditStatement AuditFault) × ReadsAsAudit bytes reading
 
-pub audit_decided : OneReading → IsDecided audit_form
-audit_decided one = record {
+pub audit_unique : OneReading → IsUnique audit_form
+audit_unique one = record {
   one = λ bytes a b x y. same_statement a b (one bytes (Ok a) (Ok b) x y);
   why = λ bytes r s x y. same_reason r s x.0 y.0 (one bytes (Err x.0) (Err y.0) x.1 y.1) x.2 y.2;
   not_both = λ bytes a r x y. never a y.0 (one bytes (Ok a) (Err y.0) x y.1);

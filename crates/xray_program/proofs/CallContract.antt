@@ -1,5 +1,5 @@
 -- The contract of a call, from how it ends.
-use Rattle.std.proofs.Common.{◌≡◌, ◌≢◌, ◌⊎◌, ◌∙◌, ◌++◌, ℕ, List, [], ◌∷◌, Option, Some, None, Result, Ok, Err, inl, inr, refl, sym, ap, subst}
+use Rattle.std.proofs.Common.{◌≡◌, ◌≢◌, ◌⊎◌, ◌∙◌, ℕ, List, Option, Some, None, Result, Ok, Err, inl, inr, refl, sym, ap, subst}
 use Rattle.std.specs.Prelude.{OnOk}
 use Rattle.xray_io.specs.Calls.{CallMade, Went}
 use Rattle.xray_io.specs.Desk.{Entry, Absent}
@@ -44,7 +44,7 @@ read_it None held outcome meant not e = not meant
 read_it (Some command) held outcome meant not e = cc
 
 had_turn : (said : Option Command) (held : List ℕ → Entry) (name : List ℕ) → HadItsTurn said held name → said ≢ None
-had_turn None held name turn e = cc
+had_turn None held name turn e = turn
 had_turn (Some command) held name turn e = cc
 
 means_bad : (said : Option Command) (held : List ℕ → Entry) → said ≡ None → Means said held BadLine
@@ -57,16 +57,12 @@ not_bad outcome of writes e = none (rw e at writes)
     none : written_by BadLine ≡ Some of → ⊥
     none e = cc
 
--- no input's turn comes if there are none, so that nothing is called
-no_turn : (earlier later : List (List ℕ × ℕ)) (input : List ℕ × ℕ) → [] ≡ earlier ++ input ∷ later → ⊥
-no_turn [] later input e = cc
-no_turn (first ∷ earlier) later input e = cc
-
+-- nothing is called if the words say no command
 none_called : (said : Option Command) (desk desk_now : DeskView) → said ≡ None → (calls : List CallMade)
     → InOrder said desk desk_now NoMemory calls → IsNoCall calls
 none_called None desk desk_now e calls (inl none) = none
-none_called None desk desk_now e calls (inr (inl (name, at))) = absurd (no_turn at.earlier at.later (name, at.limit) at.turn)
-none_called None desk desk_now e calls (inr (inr (accepted, none))) = none
+none_called None desk desk_now e calls (inr (inl (name, at))) = absurd at
+none_called None desk desk_now e calls (inr (inr at)) = absurd at
 none_called (Some command) desk desk_now e calls order = absurd cc
 
 -- an outcome that is meant and writes leaves all that it writes

@@ -22,16 +22,21 @@ use Rattle.traced_run.specs.Losses.{AreLost}
 use Rattle.traced_run.specs.Runs.{IsRun, ThreadRun}
 use Rattle.xray_image.specs.Program.{IsAccepted, Program}
 use Rattle.xray_io.specs.Desk.{Entry, Holds}
-use Rattle.xray_program.specs.Check.{CheckComes, Judges}
+use Rattle.command_words.specs.Words.{Check, Run, Sim}
+use Rattle.command_words.specs.declared.run_options.RunOptions.{RunOptions}
+use Rattle.xray_program.specs.Commands.{doing_of}
+use Rattle.xray_program.specs.Doings.{Comes, MayLeave}
 use Rattle.xray_program.specs.Inputs.{audit_form, audit_limit, image_form, schedule_form, script_form, unread_trace_form}
 use Rattle.xray_program.specs.Outcomes.{Outcome, Done, Refused, TooLong, Unread}
-use Rattle.xray_program.specs.Run.{LoadsFollowPlan, RanBeside, RunComes, RunsBeside}
-use Rattle.xray_program.specs.Sim.{RanReplayed, Replays, SimComes}
-use Rattle.xray_program.specs.Taking.{Form, IsAcceptedAs, Leaves, MayHold, RefuseIf, Sound, Take}
+use Rattle.xray_program.specs.Run.{LoadsFollowPlan, RanBeside, left_of_runs}
+use Rattle.xray_program.specs.Setups.{setup_of}
+use Rattle.xray_program.specs.Sim.{RanReplayed, left_of_replay}
+use Rattle.xray_program.specs.Taking.{Form, IsAcceptedAs, MayHold, RefuseIf, Take}
 use Rattle.xray_program.specs.Traced.{IsTraced, written_of}
 use Rattle.xray_program.proofs.AuditLengths.{statement_short}
-use Rattle.xray_program.proofs.CheckLaws.{AfterAudit, AfterImage, AfterScript}
 use Rattle.xray_program.proofs.LawfulRuns.{is_run, marks_follow}
+use Rattle.xray_program.proofs.SimLaws.{AfterReplayScript}
+use Rattle.xray_program.proofs.Turns.{again}
 
 -- what the crates below say
 pub record YesLaws : Type 0 where
@@ -53,7 +58,7 @@ ReplaysFollow = (program : Program) (lines : Lines) (text : List ℕ) (schedule 
 
 -- an input that led to outputs and a text was accepted
 pub taken : {X : Type 0} (form : Form X) (held : List ℕ → Entry) (name : List ℕ) (next : X → Outcome → Type 0) (outputs : List (List ℕ × List ℕ))
-    (text : List ℕ) → Take form Sound held name next (Done outputs text)
+    (text : List ℕ) → Take form held name next (Done outputs text)
     → (value : X) × IsAcceptedAs form (held name) value × next value (Done outputs text)
 taken form held name next outputs text (inl (gone, is)) = absurd (never is)
   where
@@ -81,10 +86,6 @@ unrefused (Some line) name kind next outputs text is = absurd (never is)
 
 -- ---- what is taken again
 
-pub again : {X : Type 0} (form : Form X) (held : List ℕ → Entry) (name : List ℕ) (next : X → Outcome → Type 0) (value : X) (outcome : Outcome)
-    → IsAcceptedAs form (held name) value → next value outcome → Take form Sound held name next outcome
-again form held name next value outcome given comes = inr (given.bytes, given.held, inr (given.within, inr (value, given.reads, comes)))
-
 -- bytes that a name holds
 pub holding : {X : Type 0} (form : Form X) (entry : Entry) (bytes : List ℕ) (value : X) → entry ≡ Holds bytes → length bytes ≤ form.limit → form.Reads bytes value
     → IsAcceptedAs form entry value
@@ -104,86 +105,92 @@ outputs_same t a x y p q e =
 
 -- ---- lawful runs
 
+-- what comes of a script, of an audit, and of an image
+abbrev AfterScript : (held : List ℕ → Entry) (i s t a : List ℕ) → Program → AuditStatement → Plan → Outcome → Type 0
+AfterScript held i s t a program statement plan =
+    Take unread_trace_form held t (λ bytes. MayLeave ((doing_of (Check i s t a)).leaves (program, statement, plan, bytes)))
+
+abbrev AfterAudit : (held : List ℕ → Entry) (i s t a : List ℕ) → Program → AuditStatement → Outcome → Type 0
+AfterAudit held i s t a program statement = Take (script_form program statement.setup.threads) held s (AfterScript held i s t a program statement)
+
+abbrev AfterImage : (held : List ℕ → Entry) (i s t a : List ℕ) → Program → Outcome → Type 0
+AfterImage held i s t a program = Take audit_form held a (AfterAudit held i s t a program)
+
 module _ (laws : YesLaws) (held : List ℕ → Entry) (i s t a : List ℕ) (setup : Setup) (is_setup : IsSetup setup) where
   -- the desk holds what the runs were made from, and what they left
   pub judged_yes : (program : Program) (plan : Plan) (runs : List ThreadRun) → IsAcceptedAs image_form (held i) program
       → IsAcceptedAs (script_form program setup.threads) (held s) plan → IsRun program setup runs
       → AllMarksFollow program setup.threads (commands_of plan.lines) runs → AreLost setup.size (spare_of setup) runs
       → held t ≡ Holds (trace_bytes setup runs) → held a ≡ Holds (audit_of_run setup runs)
-      → CheckComes Sound held i s t a (Done [] (verdict_text Yes))
+      → Comes (doing_of (Check i s t a)) held (Done [] (verdict_text Yes))
   judged_yes program plan runs image script run follow lost trace audit =
       let read = laws.read program (commands_of plan.lines) setup runs is_setup run follow lost in
       let few : length (audit_of_run setup runs) ≤ audit_limit =
       subst (λ (b : List ℕ). length b ≤ audit_limit) (sym read.1) (statement_short (run_statement setup runs) read.0) in
-      let judges : Judges program plan (run_statement setup runs) (trace_bytes setup runs) (Done [] (verdict_text Yes)) =
-      record { verdict = Yes; judged = laws.yes program (commands_of plan.lines) setup runs run follow lost; outcome_is = refl } in
       let yes : Outcome = Done [] (verdict_text Yes) in
       let statement : AuditStatement = run_statement setup runs in
-      again image_form held i (AfterImage held s t a) program yes image
-      (again audit_form held a (AfterAudit held s t program) statement yes (holding audit_form (held a) (audit_of_run setup runs) statement audit few read)
-      (again (script_form program setup.threads) held s (AfterScript held t program statement) plan yes script
-      (again unread_trace_form held t (λ bytes. Judges program plan statement bytes) (trace_bytes setup runs) yes
+      let judged = laws.yes program (commands_of plan.lines) setup runs run follow lost in
+      again image_form held i (AfterImage held i s t a) program yes image
+      (again audit_form held a (AfterAudit held i s t a program) statement yes (holding audit_form (held a) (audit_of_run setup runs) statement audit few read)
+      (again (script_form program setup.threads) held s (AfterScript held i s t a program statement) plan yes script
+      (again unread_trace_form held t (λ bytes. MayLeave ((doing_of (Check i s t a)).leaves (program, statement, plan, bytes))) (trace_bytes setup runs) yes
       (holding unread_trace_form (held t) (trace_bytes setup runs) (trace_bytes setup runs) trace
-      (laws.short image.bytes program setup runs image.reads is_setup run lost) refl) judges)))
+      (laws.short image.bytes program setup runs image.reads is_setup run lost) refl) (Yes, judged, refl))))
 
 -- ---- of a command
 
-module _ (laws : YesLaws) (held after : List ℕ → Entry) (i s t a : List ℕ) (setup : Setup) (is_setup : IsSetup setup) (trace audit text : List ℕ)
+module _ (laws : YesLaws) (held after : List ℕ → Entry) (i s t a : List ℕ) (options : RunOptions) (is_setup : IsSetup (setup_of options)) (trace audit text : List ℕ)
     (image_held : after i ≡ held i) (script_held : after s ≡ held s) (trace_held : after t ≡ Holds trace) (audit_held : after a ≡ Holds audit) where
+  abbrev setup : Setup
+  setup = setup_of options
+
   abbrev left : List (List ℕ × List ℕ)
   left = (t, trace) ∷ (a, audit) ∷ []
 
   pub yes_of_runs : (program : Program) (plan : Plan) (runs : List ThreadRun) → IsAcceptedAs image_form (held i) program
       → IsAcceptedAs (script_form program setup.threads) (held s) plan → IsRun program setup runs
       → AllMarksFollow program setup.threads (commands_of plan.lines) runs → AreLost setup.size (spare_of setup) runs
-      → left ≡ written_of t a setup runs → CheckComes Sound after i s t a (Done [] (verdict_text Yes))
+      → left ≡ written_of t a setup runs → Comes (doing_of (Check i s t a)) after (Done [] (verdict_text Yes))
   yes_of_runs program plan runs image script run follow lost is =
       let same = outputs_same t a trace audit (trace_bytes setup runs) (audit_of_run setup runs) is in
       judged_yes laws after i s t a setup is_setup program plan runs (subst (λ (e : Entry). IsAcceptedAs image_form e program) (sym image_held) image)
       (subst (λ (e : Entry). IsAcceptedAs (script_form program setup.threads) e plan) (sym script_held) script) run follow lost
       (trace_held ∙ ap Holds same.0) (audit_held ∙ ap Holds same.1)
 
-  pub yes_of_run : RunComes Sound held i s t a setup (Done left text) → CheckComes Sound after i s t a (Done [] (verdict_text Yes))
+  pub yes_of_run : Comes (doing_of (Run i s t a options)) held (Done left text) → Comes (doing_of (Check i s t a)) after (Done [] (verdict_text Yes))
   yes_of_run comes =
-      let one = taken image_form held i
-      (λ program. Take (script_form program setup.threads) Sound held s (λ plan. RunsBeside t a setup program plan)) left text comes in
+      let one = taken image_form held i (λ p. Take (script_form p setup.threads) held s (λ plan. MayLeave (left_of_runs t a setup p plan))) left text comes in
       let program : Program = one.0 in
-      let image = one.1 in
-      let two = taken (script_form program setup.threads) held s (λ plan. RunsBeside t a setup program plan) left text one.2 in
+      let two = taken (script_form program setup.threads) held s (λ plan. MayLeave (left_of_runs t a setup program plan)) left text one.2 in
       let plan : Plan = two.0 in
-      let script = two.1 in
       let Ran : List ThreadRun → Type 0 = RanBeside program (commands_of plan.lines) setup.threads setup.limits in
-      let traced : IsTraced Ran setup t a two.2.0 two.2.1 = two.2.2 in
+      let written = two.2.0 in
+      let traced : IsTraced Ran setup t a written.0 written.1 = two.2.1 in
       let script_is = commands_of plan.lines in
-      yes_of_runs program plan traced.runs image script
+      yes_of_runs program plan traced.runs one.1 two.1
       (is_run (LoadsFollowPlan program setup.threads script_is) program script_is setup traced.runs traced.ran)
       (marks_follow program script_is setup.threads setup.limits traced.runs traced.ran) traced.losses
-      (same_outputs left two.2.0 text two.2.1 two.2.3 ∙ traced.outputs_are)
+      (same_outputs left written.0 text written.1 two.2.2 ∙ traced.outputs_are)
     where
       same_outputs : (x y : List (List ℕ × List ℕ)) (u v : List ℕ) → Done x u ≡ Done y v → x ≡ y
       same_outputs x y u v e = cc
 
-  pub yes_of_sim : ReplaysFollow → (c : List ℕ) → SimComes Sound held i s c t a setup (Done left text) → CheckComes Sound after i s t a (Done [] (verdict_text Yes))
+  pub yes_of_sim : ReplaysFollow → (c : List ℕ) → Comes (doing_of (Sim i s c t a options)) held (Done left text)
+      → Comes (doing_of (Check i s t a)) after (Done [] (verdict_text Yes))
   yes_of_sim follow c comes =
-      let one = taken image_form held i
-      (λ program. Take (script_form program setup.threads) Sound held s
-      (λ plan. Take (schedule_form setup.threads) Sound held c (λ turns. Replays s t a setup program plan turns))) left text comes in
+      let one = taken image_form held i (λ p. Take (script_form p setup.threads) held s (AfterReplayScript held s c t a setup p)) left text comes in
       let program : Program = one.0 in
-      let image = one.1 in
-      let two = taken (script_form program setup.threads) held s
-      (λ plan. Take (schedule_form setup.threads) Sound held c (λ turns. Replays s t a setup program plan turns)) left text one.2 in
+      let two = taken (script_form program setup.threads) held s (AfterReplayScript held s c t a setup program) left text one.2 in
       let plan : Plan = two.0 in
-      let script = two.1 in
-      let three = taken (schedule_form setup.threads) held c (λ turns. Replays s t a setup program plan turns) left text two.2 in
+      let three = taken (schedule_form setup.threads) held c (λ turns. MayLeave (left_of_replay s t a setup program plan turns)) left text two.2 in
       let turns : List Turns = three.0 in
       let schedule = three.1 in
-      let four = unrefused (waiting_line plan.lines) s (codes "script") (Leaves (IsTraced (RanReplayed program plan turns setup) setup t a)) left text
-      three.2 in
-      let still = four.0 in
-      let traced : IsTraced (RanReplayed program plan turns setup) setup t a four.1.0 four.1.1 = four.1.2 in
-      yes_of_runs program plan traced.runs image script traced.ran.lawful.replay.run
-      (follow program plan.lines schedule.bytes turns setup traced.runs schedule.reads still traced.ran.lawful.replay) traced.losses
-      (same_outputs left four.1.0 text four.1.1 four.1.3 ∙ traced.outputs_are)
+      let four = unrefused (waiting_line plan.lines) s (codes "script") _ left text three.2 in
+      let written = four.1.0 in
+      let traced : IsTraced (RanReplayed program plan turns setup) setup t a written.0 written.1 = four.1.1 in
+      yes_of_runs program plan traced.runs one.1 two.1 traced.ran.lawful.replay.run
+      (follow program plan.lines schedule.bytes turns setup traced.runs schedule.reads four.0 traced.ran.lawful.replay) traced.losses
+      (same_outputs left written.0 text written.1 four.1.2 ∙ traced.outputs_are)
     where
       same_outputs : (x y : List (List ℕ × List ℕ)) (u v : List ℕ) → Done x u ≡ Done y v → x ≡ y
       same_outputs x y u v e = cc

@@ -1,5 +1,5 @@
--- `fdr-dump`: one thing comes of it, and something in any case.
-use Rattle.std.proofs.Common.{◌≡◌, ◌⊎◌, ◌<◌, ◌≤◌, ◌∙◌, ℕ, zero, suc, List, [], length, take, Result, Ok, Err, inl, inr, ap, ap₂, arith, le_refl, refl, subst, sym}
+-- Files of which some prefix is a trace, as a kind of input.
+use Rattle.std.proofs.Common.{◌≡◌, ◌⊎◌, ◌<◌, ◌≤◌, ◌∙◌, ℕ, zero, suc, List, length, take, Result, Ok, Err, inl, inr, ap, ap₂, arith, le_refl, refl, subst, sym}
 use Rattle.std.specs.Prelude.{IfOk}
 use Rattle.std.proofs.Math.Seq.{take-length}
 use Rattle.std.proofs.lemmas.Bool.{cases_lt}
@@ -7,18 +7,12 @@ use Rattle.fdr_file.specs.declared.fault.TraceFault.{TraceFault}
 use Rattle.fdr_file.specs.declared.trace.Trace.{Trace}
 use Rattle.fdr_file.specs.Prefixes.{IsReadable, ReadsAsTrace}
 use Rattle.fdr_file.specs.Traces.{trace_of}
-use Rattle.trace_forms.specs.Dumps.{dump_text}
 use Rattle.trace_words.specs.TraceWords.{trace_words}
-use Rattle.xray_io.specs.Desk.{Entry}
 use Rattle.xray_io.specs.World.{DeskView}
-use Rattle.xray_program.specs.Commands.{TellsAll}
-use Rattle.xray_program.specs.Dump.{DumpComes}
 use Rattle.xray_program.specs.Inputs.{Readable, ReadsNowhere, readable_form, refused_for}
-use Rattle.xray_program.specs.Outcomes.{Outcome, Done}
-use Rattle.xray_program.specs.Taking.{Sound}
 use Rattle.xray_program.specs.declared.stop.Stop.{Stop}
 use Rattle.xray_program.specs.private.Takes.{IsTaken}
-use Rattle.xray_program.proofs.InputMeanings.{AnyOutcome, HoldsBytes, IsAlone, IsDecided, IsJudged, SomeOutcome, some_take, take_alone}
+use Rattle.xray_program.specs.private.Lawful.{IsJudged, IsUnique}
 
 -- ---- the longest prefix
 
@@ -38,8 +32,8 @@ one_file bytes s t (of_s, x) (of_t, y) = alike s t (of_s ∙ sym of_t) (one_end 
 same_fault : (f g : TraceFault) → (let v : Result Trace TraceFault = Err f in let w : Result Trace TraceFault = Err g in v ≡ w) → f ≡ g
 same_fault f g e = cc
 
-pub readable_decided : IsDecided readable_form
-readable_decided = record {
+pub readable_unique : IsUnique readable_form
+readable_unique = record {
   one = one_file;
   why = λ bytes r s x y. x.3 ∙ ap (λ f. refused_for (trace_words f)) (same_fault x.0 y.0 (sym x.2 ∙ y.2)) ∙ sym y.3;
   not_both = λ bytes t r x y. y.1 t.len x.1.within x.1.reads;
@@ -102,16 +96,3 @@ pub file_fits : (name : List ℕ) (before after : DeskView) (result : Result Rea
     → IfOk result (λ t. IsReadable t.bytes t.len)
 file_fits name before after (Ok t) taken = subst (λ (bytes : List ℕ). IsReadable bytes t.len) (sym taken.reads.0) taken.reads.1
 file_fits name before after (Err stop) taken = tt
-
--- ---- the command
-
-abbrev pub dumped : Readable → Outcome → Type 0
-dumped t outcome = outcome ≡ Done [] (dump_text t.bytes t.len)
-
-pub dump_alone : (held : List ℕ → Entry) (trace : List ℕ) → TellsAll held → IsAlone AnyOutcome (DumpComes Sound held trace)
-dump_alone held trace told =
-    take_alone readable_form readable_decided AnyOutcome held trace dumped (told trace) (λ bytes t reads a b sort x y. y ∙ sym x)
-
-pub dump_some : (held : List ℕ → Entry) (trace : List ℕ) → TellsAll held → HoldsBytes held → SomeOutcome (DumpComes Sound held trace)
-dump_some held trace told holds =
-    some_take readable_form readable_judged held trace dumped (told trace) holds (λ bytes t reads. (Done [] (dump_text t.bytes t.len), refl))

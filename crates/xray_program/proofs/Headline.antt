@@ -12,20 +12,23 @@ use Rattle.traced_run.specs.Runs.{ThreadRun}
 use Rattle.xray_image.specs.Program.{Program, IsAccepted}
 use Rattle.xray_io.specs.Desk.{Entry, Holds}
 use Rattle.xray_program.specs.Answers.{MakesSetup}
-use Rattle.xray_program.specs.Commands.{Means}
-use Rattle.xray_program.specs.Headline.{FollowsSchedule, IsHeadline, ProfileIsTraced, RanBySchedule, RunIsTraced, SimIsTraced}
+use Rattle.xray_program.specs.Commands.{Means, doing_of}
+use Rattle.xray_program.specs.Doings.{Comes, MayLeave}
+use Rattle.xray_program.specs.Headline.{IsHeadline, ProfileIsTraced, RanBySchedule, RunIsTraced, SimIsTraced}
 use Rattle.xray_program.specs.Inputs.{image_form, script_form, schedule_form}
-use Rattle.xray_program.specs.Outcomes.{Outcome, written_by}
-use Rattle.xray_program.specs.Profile.{AreProfiled, ProfileComes, Profiles, profile_of}
-use Rattle.xray_program.specs.Run.{RanBeside, RunComes, RunsBeside}
-use Rattle.xray_program.specs.Sim.{RanReplayed, Replays, SimComes}
+use Rattle.xray_program.specs.Outcomes.{Done, Outcome, written_by}
+use Rattle.xray_program.specs.Profile.{AreProfiled, profile_of}
+use Rattle.xray_program.specs.Run.{RanBeside, left_of_runs}
+use Rattle.xray_program.specs.Sim.{RanReplayed, left_of_replay}
 use Rattle.xray_program.specs.Setups.{setup_of}
 use Rattle.xray_program.specs.Spoken.{commands_said, turns_given}
-use Rattle.xray_program.specs.Taking.{Form, Leaves, RefuseIf, Sound, Take}
-use Rattle.xray_program.specs.Traced.{IsTraced, RanLawfully}
-use Rattle.command_words.specs.Words.{Command}
+use Rattle.xray_program.specs.Taking.{Form, RefuseIf, Take}
+use Rattle.xray_program.specs.Traced.{IsTraced}
+use Rattle.command_words.specs.Words.{Command, Profile, Run, Sim}
+use Rattle.command_words.specs.declared.run_options.RunOptions.{RunOptions}
 use Rattle.xray_program.specs.private.CallLaws.{MovesAlike}
 use Rattle.xray_program.specs.private.Works.{SaidHasRanges}
+use Rattle.xray_program.proofs.SimLaws.{AfterReplayScript}
 use Rattle.xray_program.proofs.RunSetups.{options_make_a_setup}
 use Rattle.xray_program.proofs.SpokenLines.{schedule_gives, script_says}
 
@@ -41,7 +44,7 @@ record Read {X : Type 0} (Reads : List ℕ → X → Type 0) (bytes : List ℕ) 
 
 read_on : {X : Type 0} (form : Form X) (held : List ℕ → Entry) (name : List ℕ) (next : X → Outcome → Type 0)
     (outcome : Outcome) (content : List ℕ) → Writes outcome → held name ≡ Holds content
-    → Take form Sound held name next outcome → Read form.Reads content (λ value. next value outcome)
+    → Take form held name next outcome → Read form.Reads content (λ value. next value outcome)
 read_on form held name next outcome content writes holds (inl (failed, is)) = absurd (let never = rw is at writes.2 in cc)
 read_on form held name next outcome content writes holds (inr (bytes, may, inl (long, is))) = absurd (let never = rw is at writes.2 in cc)
 read_on form held name next outcome content writes holds (inr (bytes, may, inr (within, inl (refusal, refuses, is)))) =
@@ -58,8 +61,8 @@ unrefused (Some n) name kind next outcome writes is = absurd (let never = rw is 
 
 -- what is left is what is written
 left_alike : (Are : List (List ℕ × List ℕ) → List ℕ → Type 0) (outcome : Outcome) (writes : Writes outcome)
-    → Leaves Are outcome → Are writes.0 writes.1
-left_alike Are outcome (outputs, text, writes) (o, t, are, is) =
+    → (written : List (List ℕ × List ℕ) × List ℕ) × Are written.0 written.1 × (outcome ≡ Done written.0 written.1) → Are writes.0 writes.1
+left_alike Are outcome (outputs, text, writes) ((o, t), are, is) =
     let both = same_pair (o, t) (outputs, text) (ap written_by (sym is) ∙ writes) in
     let same_o = ap (λ (p : List (List ℕ × List ℕ) × List ℕ). p.0) both in
     let same_t = ap (λ (p : List (List ℕ × List ℕ) × List ℕ). p.1) both in
@@ -97,22 +100,23 @@ by_schedule moves program plan turns setup script schedule said given runs ran =
     subst (λ (cs : List PatchCommand). RanBySchedule (turns_given schedule) program cs setup runs) said
     (subst (λ (ts : List Turns). RanBySchedule ts program commands setup runs) given own)
 
-simulated_by : MovesAlike → (held : List ℕ → Entry) (i s c t a image script schedule : List ℕ) (setup : Setup) (outcome : Outcome) (writes : Writes outcome)
-    → held i ≡ Holds image → held s ≡ Holds script → held c ≡ Holds schedule → SimComes Sound held i s c t a setup outcome
+simulated_by : MovesAlike → (held : List ℕ → Entry) (i s c t a image script schedule : List ℕ) (options : RunOptions) (outcome : Outcome)
+    (writes : Writes outcome) → held i ≡ Holds image → held s ≡ Holds script → held c ≡ Holds schedule
+    → Comes (doing_of (Sim i s c t a options)) held outcome
     → (program : Program) × IsAccepted image program
-    × IsTraced (RanBySchedule (turns_given schedule) program (commands_said script) setup) setup t a writes.0 writes.1
-simulated_by moves held i s c t a image script schedule setup outcome writes image_held script_held schedule_held comes =
-    let first = read_on image_form held i
-    (λ program. Take (script_form program setup.threads) Sound held s (λ plan. Take (schedule_form setup.threads) Sound held c (Replays s t a setup program plan)))
-    outcome image writes image_held comes in
+    × IsTraced (RanBySchedule (turns_given schedule) program (commands_said script) (setup_of options)) (setup_of options) t a writes.0 writes.1
+simulated_by moves held i s c t a image script schedule options outcome writes image_held script_held schedule_held comes =
+    let setup : Setup = setup_of options in
+    let first = read_on image_form held i (λ p. Take (script_form p setup.threads) held s (AfterReplayScript held s c t a setup p)) outcome image writes image_held
+    comes in
     let program : Program = first.value in
-    let second = read_on (script_form program setup.threads) held s
-    (λ plan. Take (schedule_form setup.threads) Sound held c (Replays s t a setup program plan)) outcome script writes script_held first.next in
+    let second = read_on (script_form program setup.threads) held s (AfterReplayScript held s c t a setup program) outcome script writes script_held first.next in
     let plan : Plan = second.value in
-    let third = read_on (schedule_form setup.threads) held c (Replays s t a setup program plan) outcome schedule writes schedule_held second.next in
+    let third = read_on (schedule_form setup.threads) held c (λ turns. MayLeave (left_of_replay s t a setup program plan turns)) outcome schedule writes
+    schedule_held second.next in
     let turns : List Turns = third.value in
     let Are = IsTraced (RanReplayed program plan turns setup) setup t a in
-    let traced = left_alike Are outcome writes (unrefused (waiting_line plan.lines) s (codes "script") (Leaves Are) outcome writes third.next) in (
+    let traced = left_alike Are outcome writes (unrefused (waiting_line plan.lines) s (codes "script") _ outcome writes third.next) in (
       program,
       first.reads,
       traced_as (RanReplayed program plan turns setup) (RanBySchedule (turns_given schedule) program (commands_said script) setup) setup t a writes.0 writes.1
@@ -124,19 +128,21 @@ simulated_by moves held i s c t a image script schedule setup outcome writes ima
 sim_is_traced : MovesAlike → (said : Option Command) (held : List ℕ → Entry) (outcome : Outcome) (writes : Writes outcome)
     → Means said held outcome → SimIsTraced said held writes.0 writes.1
 sim_is_traced moves said held outcome writes meant i s c t a image script schedule options says image_held script_held schedule_held =
-    simulated_by moves held i s c t a image script schedule (setup_of options) outcome writes image_held script_held schedule_held (rw says at meant)
+    simulated_by moves held i s c t a image script schedule options outcome writes image_held script_held schedule_held (rw says at meant)
 
 -- ---- `run`
 
-beside_by : (held : List ℕ → Entry) (i s t a image script : List ℕ) (setup : Setup) (outcome : Outcome) (writes : Writes outcome)
-    → held i ≡ Holds image → held s ≡ Holds script → RunComes Sound held i s t a setup outcome
+beside_by : (held : List ℕ → Entry) (i s t a image script : List ℕ) (options : RunOptions) (outcome : Outcome) (writes : Writes outcome)
+    → held i ≡ Holds image → held s ≡ Holds script → Comes (doing_of (Run i s t a options)) held outcome
     → (program : Program) × IsAccepted image program
-    × IsTraced (RanBeside program (commands_said script) setup.threads setup.limits) setup t a writes.0 writes.1
-beside_by held i s t a image script setup outcome writes image_held script_held comes =
-    let first = read_on image_form held i
-    (λ program. Take (script_form program setup.threads) Sound held s (λ plan. RunsBeside t a setup program plan)) outcome image writes image_held comes in
+    × IsTraced (RanBeside program (commands_said script) (setup_of options).threads (setup_of options).limits) (setup_of options) t a writes.0 writes.1
+beside_by held i s t a image script options outcome writes image_held script_held comes =
+    let setup : Setup = setup_of options in
+    let first = read_on image_form held i (λ p. Take (script_form p setup.threads) held s (λ plan. MayLeave (left_of_runs t a setup p plan))) outcome image writes
+    image_held comes in
     let program : Program = first.value in
-    let second = read_on (script_form program setup.threads) held s (λ plan. RunsBeside t a setup program plan) outcome script writes script_held first.next in
+    let second = read_on (script_form program setup.threads) held s (λ plan. MayLeave (left_of_runs t a setup program plan)) outcome script writes script_held
+    first.next in
     let plan : Plan = second.value in
     let Ran : List PatchCommand → List ThreadRun → Type 0 = λ cs. RanBeside program cs setup.threads setup.limits in (
       program,
@@ -148,19 +154,21 @@ beside_by held i s t a image script setup outcome writes image_held script_held 
 run_is_traced : (said : Option Command) (held : List ℕ → Entry) (outcome : Outcome) (writes : Writes outcome)
     → Means said held outcome → RunIsTraced said held writes.0 writes.1
 run_is_traced said held outcome writes meant i s t a image script options says image_held script_held =
-    beside_by held i s t a image script (setup_of options) outcome writes image_held script_held (rw says at meant)
+    beside_by held i s t a image script options outcome writes image_held script_held (rw says at meant)
 
 -- ---- `profile`
 
 profiled_by : (held : List ℕ → Entry) (i s image script : List ℕ) (options : ProfileOptions) (outcome : Outcome) → Writes outcome
-    → held i ≡ Holds image → held s ≡ Holds script → ProfileComes Sound held i s options outcome
+    → held i ≡ Holds image → held s ≡ Holds script → Comes (doing_of (Profile i s options)) held outcome
     → (program : Program) × IsAccepted image program
     × (runs : List ThreadRun) × AreProfiled options program (commands_said script) runs × (outcome ≡ profile_of options program runs)
 profiled_by held i s image script options outcome writes image_held script_held comes =
     let threads : ℕ = options.bounds.threads in
-    let first = read_on image_form held i (λ program. Take (script_form program threads) Sound held s (Profiles options program)) outcome image writes image_held comes in
+    let first = read_on image_form held i (λ p. Take (script_form p threads) held s (λ plan. MayLeave ((doing_of (Profile i s options)).leaves (p, plan)))) outcome
+    image writes image_held comes in
     let program : Program = first.value in
-    let second = read_on (script_form program threads) held s (Profiles options program) outcome script writes script_held first.next in
+    let second = read_on (script_form program threads) held s (λ plan. MayLeave ((doing_of (Profile i s options)).leaves (program, plan))) outcome script writes
+    script_held first.next in
     let plan : Plan = second.value in
     let runs : List ThreadRun = second.next.0 in (
       program,

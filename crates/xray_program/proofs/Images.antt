@@ -4,7 +4,7 @@ use Rattle.xray_image.specs.FaultWords.{image_words}
 use Rattle.xray_image.specs.Program.{Program, IsAccepted}
 use Rattle.xray_image.specs.Table.{ImageReading, ReadsAs}
 use Rattle.xray_program.specs.Inputs.{image_form, refused_for}
-use Rattle.xray_program.proofs.InputMeanings.{AreBytes, IsDecided, IsJudged}
+use Rattle.xray_program.specs.private.Lawful.{AreBytes, IsJudged, IsUnique}
 
 -- what the reader of images says: each file has only one verdict, and is accepted exactly when that is a program
 abbrev pub OneVerdict : Type 0
@@ -16,8 +16,8 @@ SomeVerdict = (bytes : List ℕ) → AreBytes bytes → (verdict : ImageReading)
 abbrev pub Accepts : Type 0
 Accepts = (bytes : List ℕ) (program : Program) → IsAccepted bytes program ↔ ReadsAs bytes (Ok program)
 
-pub image_decided : OneVerdict → Accepts → IsDecided image_form
-image_decided one accepts = record {
+pub image_unique : OneVerdict → Accepts → IsUnique image_form
+image_unique one accepts = record {
   one = λ bytes a b x y. same_program a b (one bytes (Ok a) (Ok b) ((accepts bytes a).0 x) ((accepts bytes b).0 y));
   why = λ bytes r s x y. same_reason r s x.0 y.0 (one bytes (Err x.0) (Err y.0) x.1 y.1) x.2 y.2;
   not_both = λ bytes a r x y. never a y.0 (one bytes (Ok a) (Err y.0) ((accepts bytes a).0 x) y.1);

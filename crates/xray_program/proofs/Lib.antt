@@ -1,9 +1,10 @@
 -- The call: what words mean, and how a call ends (src/call.rt, src/work.rt, src/laws.rt)
 pub mod CommandLaws
+pub mod CommandRows
+pub mod DoingLaws
 pub mod CallContract
 pub mod WorkEndings
 pub mod ErrLines
-pub mod AcceptedInputs
 -- Lawful runs, and the headline of `sim`, `run` and `profile` (src/laws.rt)
 pub mod LawfulRuns
 pub mod Headline
@@ -37,11 +38,9 @@ pub mod Audits
 pub mod Logs
 pub mod LogForms
 pub mod NamesTaken
-pub mod Reports
-pub mod Scripts
-pub mod CheckTurns
-pub mod SimTurns
-pub mod OrderTurns
+pub mod WholeScripts
+pub mod SimEndings
+pub mod OrderEndings
 -- Outputs and texts (src/delivery.rt, src/traced.rt, src/summary.rt)
 pub mod MadeOutputs
 pub mod TextLists
@@ -55,16 +54,9 @@ pub mod StartedThreads
 pub mod ProfiledThreads
 pub mod SoakReads
 -- Each command: something comes of it, and one thing only if it is deterministic (src/laws.rt)
-pub mod AccountLaws
-pub mod AsmLaws
-pub mod CheckLaws
 pub mod ConvertLaws
 pub mod DumpLaws
-pub mod ExtractLaws
-pub mod ImportLaws
-pub mod OrderLaws
 pub mod PlainLaws
-pub mod ProfileLaws
 pub mod RunLaws
 pub mod SimLaws
 pub mod SoakLaws

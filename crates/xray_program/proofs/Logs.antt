@@ -7,7 +7,7 @@ use Rattle.runtime_log.specs.Imports.{IsImport}
 use Rattle.runtime_log.specs.Laws.{OneImport, SomeImport}
 use Rattle.runtime_log.specs.Logs.{Log, logged}
 use Rattle.xray_program.specs.Inputs.{imported_form, refused_for}
-use Rattle.xray_program.proofs.InputMeanings.{IsDecided, IsJudged}
+use Rattle.xray_program.specs.private.Lawful.{IsJudged, IsUnique}
 
 never : (log : Log) (fault : LogFault) → (let v : Result Log LogFault = Ok log in let w : Result Log LogFault = Err fault in v ≡ w) → ⊥
 never log fault e = cc
@@ -15,8 +15,8 @@ never log fault e = cc
 same_fault : (f g : LogFault) → (let v : Result Log LogFault = Err f in let w : Result Log LogFault = Err g in v ≡ w) → f ≡ g
 same_fault f g e = cc
 
-pub imported_decided : OneImport → IsDecided imported_form
-imported_decided one = record {
+pub imported_unique : OneImport → IsUnique imported_form
+imported_unique one = record {
   one = λ bytes a b x y. same a b (one bytes b.0 a.0 b.1 a.1 y x);
   why = λ bytes r s x y. x.2 ∙ ap (λ (f : LogFault). refused_for (log_words f)) (same_fault x.0 y.0 (sym x.1 ∙ y.1)) ∙ sym y.2;
   not_both = λ bytes a r x y. never x.log y.0 (sym x.says ∙ y.1);

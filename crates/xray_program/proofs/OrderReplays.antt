@@ -27,18 +27,25 @@ use Rattle.traced_run.specs.Runs.{IsRun, ThreadRun}
 use Rattle.xray_image.specs.Program.{IsAccepted, Program}
 use Rattle.xray_io.specs.Desk.{Entry, Holds}
 use Rattle.xray_program.specs.Inputs.{WholeScript, audit_form, image_form, image_limit, schedule_form, script_form, whole_script_form}
-use Rattle.xray_program.specs.LoadOrder.{OrderComes, Orders, order_outcome}
+use Rattle.command_words.specs.Words.{Order, Sim}
+use Rattle.command_words.specs.declared.run_options.RunOptions.{RunOptions}
+use Rattle.xray_program.specs.Commands.{doing_of}
+use Rattle.xray_program.specs.Doings.{Comes, MayLeave}
+use Rattle.xray_program.specs.LoadOrder.{order_outcome}
 use Rattle.xray_program.specs.OrderReplays.{HaveSameThreads, LeavesRunsOf}
 use Rattle.xray_program.specs.Outcomes.{Outcome, Done}
-use Rattle.xray_program.specs.Sim.{RanReplayed, Replayed, Replays, SimComes}
-use Rattle.xray_program.specs.Taking.{IsAcceptedAs, Leaves, MayHold, RefuseIf, Sound, Take}
+use Rattle.xray_program.specs.Setups.{setup_of}
+use Rattle.xray_program.specs.Sim.{RanReplayed, Replayed, left_of_replay}
+use Rattle.xray_program.specs.Taking.{IsAcceptedAs, MayHold, RefuseIf, Take}
 use Rattle.xray_program.specs.Traced.{IsTraced, state_texts, written_of}
 use Rattle.xray_program.specs.private.CallLaws.{CallLaws}
 use Rattle.xray_program.proofs.Audits.{OneReading}
-use Rattle.xray_program.proofs.CheckYes.{again, holding, outputs_same, taken}
+use Rattle.xray_program.proofs.CheckYes.{holding, outputs_same, taken}
 use Rattle.xray_program.proofs.LawfulRuns.{ran_replayed}
-use Rattle.xray_program.proofs.OrderLaws.{AfterAudit, AfterImage}
+use Rattle.xray_program.proofs.OrderEndings.{AfterAudit, AfterImage, Ordered}
 use Rattle.xray_program.proofs.OtherLosses.{nothing_lost, stated_same, texts_same}
+use Rattle.xray_program.proofs.SimLaws.{AfterReplayScript, Written}
+use Rattle.xray_program.proofs.Turns.{again}
 
 -- what the crates below say
 pub record ReplayedOrders : Type 0 where
@@ -95,14 +102,17 @@ said_at program script statement runs count ends marks i said run at at' =
     let here' : slice_get runs (i + 1 - 1) ≡ Some run = ap (slice_get runs) back ∙ at' in
     ((ends (i + 1) low high said run here here').end, (marks (i + 1) low high said run here here').each)
 
-module _ (laws : ReplayedOrders) (after : List ℕ → Entry) (i f o t b : List ℕ) (setup : Setup) where
+module _ (laws : ReplayedOrders) (after : List ℕ → Entry) (i f o t b : List ℕ) (options : RunOptions) where
+  abbrev setup : Setup
+  setup = setup_of options
+
   -- the script without waits and the schedule are taken again
   sim_again : (image : List ℕ) (program : Program) (statement : AuditStatement) (text : List ℕ) (plan : Plan) (turns : List Turns)
       → HaveSameThreads setup statement.setup → after i ≡ Holds image → length image ≤ image_limit → IsAccepted image program
       → MayState statement → length text ≤ 1048576
       → plan_of program statement.setup.threads text ≡ Ok plan → IsOrdered program (commands_of plan.lines) statement (Ok turns)
       → after f ≡ Holds (free_text text) → after o ≡ Holds (schedule_text turns)
-      → LeavesRunsOf (SimComes Sound after i f o t b setup) image t b setup statement
+      → LeavesRunsOf (Comes (doing_of (Sim i f o t b options)) after) image t b setup statement
   sim_again image program statement text plan turns alike image_held image_short accepted may within e ordered free_held schedule_held =
       let runs = ordered.runs in
       let run : IsRun program setup runs = record {
@@ -133,18 +143,18 @@ module _ (laws : ReplayedOrders) (after : List ℕ → Entry) (i f o t b : List 
         text_is = texts_same 1 runs replayed (sym replay.2);
       } in
       let done : Outcome = Done (written_of t b setup replayed) (state_texts 1 runs) in
-      let leaves : Leaves Are done = (written_of t b setup replayed, state_texts 1 runs, traces, refl) in
+      let leaves : (written : Written) × Are written.0 written.1 × (done ≡ Done written.0 written.1) =
+      ((written_of t b setup replayed, state_texts 1 runs), traces, refl) in
       let short = laws.short text in
-      let comes : SimComes Sound after i f o t b setup done =
-      again image_form after i
-      (λ p. Take (script_form p setup.threads) Sound after f (λ l. Take (schedule_form setup.threads) Sound after o (λ ts. Replays f t b setup p l ts))) program done
+      let comes : Comes (doing_of (Sim i f o t b options)) after done =
+      again image_form after i (λ p. Take (script_form p setup.threads) after f (AfterReplayScript after f o t b setup p)) program done
       (holding image_form (after i) image program image_held image_short accepted)
-      (again (script_form program setup.threads) after f (λ l. Take (schedule_form setup.threads) Sound after o (λ ts. Replays f t b setup program l ts)) free.0 done
+      (again (script_form program setup.threads) after f (AfterReplayScript after f o t b setup program) free.0 done
       (holding (script_form program setup.threads) (after f) (free_text text) free.0 free_held (omega (arith, short, within)) free.1)
-      (again (schedule_form setup.threads) after o (λ ts. Replays f t b setup program free.0 ts) turns done
+      (again (schedule_form setup.threads) after o (λ ts. MayLeave (left_of_replay f t b setup program free.0 ts)) turns done
       (holding (schedule_form setup.threads) (after o) (schedule_text turns) turns schedule_held
       (laws.few image program text plan statement turns accepted may e ordered) turns_read)
-      (goes_on (waiting_line free.0.lines) f (Leaves Are) done free.3 leaves))) in
+      (goes_on (waiting_line free.0.lines) f _ done free.3 leaves))) in
       record {
         program = program;
         accepted = accepted;
@@ -160,21 +170,21 @@ module _ (laws : ReplayedOrders) (after : List ℕ → Entry) (i f o t b : List 
       }
 
   pub order_replays : (held : List ℕ → Entry) (s a image audit free schedule : List ℕ) (statement : AuditStatement) → held i ≡ Holds image → held a ≡ Holds audit
-      → ReadsAsAudit audit (Ok statement) → HaveSameThreads setup statement.setup → OrderComes Sound held i s a f o (Done ((f, free) ∷ (o, schedule) ∷ []) [])
+      → ReadsAsAudit audit (Ok statement) → HaveSameThreads setup statement.setup → Comes (doing_of (Order i s a f o)) held (Done ((f, free) ∷ (o, schedule) ∷ []) [])
       → after i ≡ held i → after f ≡ Holds free → after o ≡ Holds schedule
-      → LeavesRunsOf (SimComes Sound after i f o t b setup) image t b setup statement
+      → LeavesRunsOf (Comes (doing_of (Sim i f o t b options)) after) image t b setup statement
   order_replays held s a image audit free schedule statement image_is audit_held audit_reads alike comes image_held free_held schedule_held =
       let left : List (List ℕ × List ℕ) = (f, free) ∷ (o, schedule) ∷ [] in
       let one = taken image_form held i (AfterImage held s a f o) left [] comes in
       let program : Program = one.0 in
       let two = taken audit_form held a (AfterAudit held s a f o program) left [] one.2 in
-      let three = taken (whole_script_form program two.0.setup.threads) held s (λ whole. Orders a f o program two.0 whole) left [] two.2 in
+      let three = taken (whole_script_form program two.0.setup.threads) held s (λ whole. Ordered a f o program two.0 whole) left [] two.2 in
       by_statement program one.1 two.0 two.1 three.0 three.1 three.2
     where
       by_statement : (program : Program) → IsAcceptedAs image_form (held i) program → (said : AuditStatement) → IsAcceptedAs audit_form (held a) said
           → (whole : WholeScript) → IsAcceptedAs (whole_script_form program said.setup.threads) (held s) whole
-          → Orders a f o program said whole (Done ((f, free) ∷ (o, schedule) ∷ []) [])
-          → LeavesRunsOf (SimComes Sound after i f o t b setup) image t b setup statement
+          → Ordered a f o program said whole (Done ((f, free) ∷ (o, schedule) ∷ []) [])
+          → LeavesRunsOf (Comes (doing_of (Sim i f o t b options)) after) image t b setup statement
       by_statement program of_image said of_audit whole of_script orders =
           let same_image : of_image.bytes ≡ image = subst (λ (entry : Entry). MayHold entry of_image.bytes) image_is of_image.held in
           let accepted : IsAccepted image program = subst (λ (bytes : List ℕ). IsAccepted bytes program) same_image of_image.reads in
@@ -182,16 +192,16 @@ module _ (laws : ReplayedOrders) (after : List ℕ → Entry) (i f o t b : List 
           let same_bytes : of_audit.bytes ≡ audit = subst (λ (entry : Entry). MayHold entry of_audit.bytes) audit_held of_audit.held in
           let read : ReadsAsAudit audit (Ok said) = subst (λ (bytes : List ℕ). ReadsAsAudit bytes (Ok said)) same_bytes of_audit.reads in
           let same : said ≡ statement = same_statement said statement (laws.reading audit (Ok said) (Ok statement) read audit_reads) in
-          let written = is_written a f o free schedule whole.text orders.answer orders.outcome_is in
+          let written = is_written a f o free schedule whole.text orders.0 orders.2 in
           let ordered : IsOrdered program (commands_of whole.plan.lines) said (Ok written.turns) =
-          subst (λ (answer : Result (List Turns) OrderFault). IsOrdered program (commands_of whole.plan.lines) said answer) written.answer_is orders.ordered in
+          subst (λ (answer : Result (List Turns) OrderFault). IsOrdered program (commands_of whole.plan.lines) said answer) written.answer_is orders.1 in
           let reads : plan_of program said.setup.threads whole.text ≡ Ok whole.plan =
           subst (λ (bytes : List ℕ). plan_of program said.setup.threads bytes ≡ Ok whole.plan) (sym of_script.reads.0) of_script.reads.1 in
           let within : length whole.text ≤ 1048576 = subst (λ (bytes : List ℕ). length bytes ≤ 1048576) (sym of_script.reads.0) of_script.within in
           let alike_said : HaveSameThreads setup said.setup = subst (λ (st : AuditStatement). HaveSameThreads setup st.setup) (sym same) alike in
           let leaves = sim_again image program said whole.text whole.plan written.turns alike_said (image_held ∙ image_is) image_short accepted of_audit.reads.0
           within reads ordered (free_held ∙ ap Holds written.free_is) (schedule_held ∙ ap Holds written.schedule_is) in
-          subst (λ (st : AuditStatement). LeavesRunsOf (SimComes Sound after i f o t b setup) image t b setup st) same leaves
+          subst (λ (st : AuditStatement). LeavesRunsOf (Comes (doing_of (Sim i f o t b options)) after) image t b setup st) same leaves
         where
           same_statement : (x y : AuditStatement) → (let v : Result AuditStatement AuditFault = Ok x in let w : Result AuditStatement AuditFault = Ok y in v ≡ w) → x ≡ y
           same_statement x y e = cc

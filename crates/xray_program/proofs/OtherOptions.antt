@@ -1,5 +1,5 @@
 -- What the stamps of passings and the buffers don't change: the text that is printed, and the ends and marks of an audit.
-use Rattle.std.proofs.Common.{◌≡◌, ◌∙◌, ℕ, zero, suc, ◌+◌, List, [], ◌∷◌, ◌++◌, length, Option, Some, map, refl, sym, ap, subst, arith, codes}
+use Rattle.std.proofs.Common.{◌≡◌, ◌∙◌, ℕ, zero, suc, ◌+◌, List, [], ◌∷◌, ◌++◌, length, Option, Some, None, Ok, map, refl, sym, ap, subst, arith, codes}
 use Rattle.std.specs.Prelude.{option_map, slice_get}
 use Rattle.std.specs.List.{enumerate_from}
 use Rattle.std.proofs.lemmas.List.{length-map}
@@ -21,7 +21,7 @@ use Rattle.step_sim.specs.Replay.{Cast, Replay, marks_at}
 use Rattle.step_sim.specs.Replayed.{IsReplayOf, cast_of, cast_with, passed_of, pooling_with}
 use Rattle.trace_flush.specs.Lines.{audit_of, audits_of}
 use Rattle.traced_run.specs.Following.{AllMarksFollow, MarksFollowScript}
-use Rattle.traced_run.specs.Losses.{without_loss, without_losses}
+use Rattle.traced_run.specs.Losses.{AreLost, without_loss, without_losses}
 use Rattle.traced_run.specs.Runs.{EachThread, ThreadRun}
 use Rattle.xray_image.specs.Program.{IsAccepted, Program}
 use Rattle.xray_io.specs.Desk.{Entry}
@@ -29,9 +29,10 @@ use Rattle.xray_program.specs.Inputs.{image_form, schedule_form, script_form}
 use Rattle.xray_program.specs.OrderReplays.{stated_of}
 use Rattle.xray_program.specs.OtherOptions.{LeavesAlike}
 use Rattle.xray_program.specs.Outcomes.{Outcome, Done}
-use Rattle.xray_program.specs.Run.{RanBeside, RunComes, RunsBeside}
-use Rattle.xray_program.specs.Sim.{RanReplayed, Replays, SimComes}
-use Rattle.xray_program.specs.Taking.{IsAcceptedAs, Leaves, RefuseIf, Sound, Take}
+use Rattle.xray_program.specs.Run.{RanBeside, left_of_runs}
+use Rattle.xray_program.specs.Sim.{RanReplayed, left_of_replay}
+use Rattle.xray_program.specs.Doings.{Finds, Leaves, Leaving, MayLeave}
+use Rattle.xray_program.specs.Taking.{IsAcceptedAs, RefuseIf, Take}
 use Rattle.xray_program.specs.Traced.{IsTraced, state_texts, written_of}
 use Rattle.xray_program.specs.private.CallLaws.{CallLaws}
 use Rattle.xray_program.proofs.CheckYes.{again, taken, unrefused}
@@ -208,19 +209,19 @@ done_same x y u v e =
 -- ---- `run`
 
 abbrev RunAfterImage : (List ℕ → Entry) → (s t a : List ℕ) → Setup → Program → Outcome → Type 0
-RunAfterImage held s t a setup program = Take (script_form program setup.threads) Sound held s (λ plan. RunsBeside t a setup program plan)
+RunAfterImage held s t a setup program = Take (script_form program setup.threads) held s (λ plan. MayLeave (left_of_runs t a setup program plan))
 
 pub run_alike : CallLaws → SomeEnd → StampsChangeNone → SomeLosses → (held : List ℕ → Entry) (i s t a u b : List ℕ) (setup other : Setup)
-    → GoAlike setup other → (outputs : List (List ℕ × List ℕ)) (text : List ℕ) → RunComes Sound held i s t a setup (Done outputs text)
-    → LeavesAlike setup other t a u b outputs text (RunComes Sound held i s u b other)
+    → GoAlike setup other → (outputs : List (List ℕ × List ℕ)) (text : List ℕ) → Take image_form held i (RunAfterImage held s t a setup) (Done outputs text)
+    → LeavesAlike setup other t a u b outputs text (Take image_form held i (RunAfterImage held s u b other))
 run_alike laws ends stamps losses held i s t a u b setup other same outputs text comes =
     let one = taken image_form held i (RunAfterImage held s t a setup) outputs text comes in
     let program : Program = one.0 in
-    let two = taken (script_form program setup.threads) held s (λ plan. RunsBeside t a setup program plan) outputs text one.2 in
+    let two = taken (script_form program setup.threads) held s (λ plan. MayLeave (left_of_runs t a setup program plan)) outputs text one.2 in
     let plan : Plan = two.0 in
     let script : List PatchCommand = commands_of plan.lines in
-    let traced : IsTraced (RanBeside program script setup.threads setup.limits) setup t a two.2.0 two.2.1 = two.2.2 in
-    let both = done_same outputs two.2.0 text two.2.1 two.2.3 in
+    let traced : IsTraced (RanBeside program script setup.threads setup.limits) setup t a two.2.0.0 two.2.0.1 = two.2.1 in
+    let both = done_same outputs two.2.0.0 text two.2.0.1 two.2.2 in
     let bytes : List ℕ = one.1.bytes in
     let runs : List ThreadRun = traced.runs in
     let follow = marks_follow program script setup.threads setup.limits runs traced.ran in
@@ -245,10 +246,9 @@ run_alike laws ends stamps losses held i s t a u b setup other same outputs text
       text_is = both.1 ∙ traced.text_is;
       others = others;
       also = again image_form held i (RunAfterImage held s u b other) program (Done left text) one.1
-          (again (script_form program other.threads) held s (λ p. RunsBeside u b other program p) plan (Done left text)
+          (again (script_form program other.threads) held s (λ p. MayLeave (left_of_runs u b other program p)) plan (Done left text)
           (subst (λ (n : ℕ). IsAcceptedAs (script_form program n) (held s) plan) same.threads two.1) (
-            left,
-            text,
+            (left, text),
             record {
               runs = others;
               ran = ran_beside laws bytes program script other.threads other.limits others one.1.reads count (λ k run at. (each k run at).0) marks;
@@ -303,27 +303,33 @@ replays_alike stamps buffers one bytes program script turns setup other same run
     (one (cast_with program script runs) turns (map marks_in runs) (map marks_in others) mine
     (subst (λ (c : Cast). Replay c turns (map marks_in others)) (sym casts) theirs))
 
+-- what is left of a replay that isn't refused
+abbrev left_replayed : (trace audit : List ℕ) → Setup → Program → Plan → List Turns → Leaving
+left_replayed trace audit setup program plan turns =
+    Finds (λ (written : List (List ℕ × List ℕ) × List ℕ). IsTraced (RanReplayed program plan turns setup) setup trace audit written.0 written.1)
+    (λ (outputs, text). Leaves (Done outputs text))
+
 abbrev SimAfterScript : (List ℕ → Entry) → (s c t a : List ℕ) → Setup → Program → Plan → Outcome → Type 0
-SimAfterScript held s c t a setup program plan = Take (schedule_form setup.threads) Sound held c (λ turns. Replays s t a setup program plan turns)
+SimAfterScript held s c t a setup program plan = Take (schedule_form setup.threads) held c (λ turns. MayLeave (left_of_replay s t a setup program plan turns))
 
 abbrev SimAfterImage : (List ℕ → Entry) → (s c t a : List ℕ) → Setup → Program → Outcome → Type 0
-SimAfterImage held s c t a setup program = Take (script_form program setup.threads) Sound held s (λ plan. SimAfterScript held s c t a setup program plan)
+SimAfterImage held s c t a setup program = Take (script_form program setup.threads) held s (λ plan. SimAfterScript held s c t a setup program plan)
 
 pub sim_alike : CallLaws → StillRun → StampsChangeNone → BuffersChangeNone → OneReplay → (held : List ℕ → Entry) (i s c t a u b : List ℕ) (setup other : Setup)
-    → GoAlike setup other → (outputs : List (List ℕ × List ℕ)) (text : List ℕ) → SimComes Sound held i s c t a setup (Done outputs text)
-    → LeavesAlike setup other t a u b outputs text (SimComes Sound held i s c u b other)
+    → GoAlike setup other → (outputs : List (List ℕ × List ℕ)) (text : List ℕ) → Take image_form held i (SimAfterImage held s c t a setup) (Done outputs text)
+    → LeavesAlike setup other t a u b outputs text (Take image_form held i (SimAfterImage held s c u b other))
 sim_alike laws some stamps buffers one_replay held i s c t a u b setup other same outputs text comes =
     let one = taken image_form held i (SimAfterImage held s c t a setup) outputs text comes in
     let program : Program = one.0 in
     let two = taken (script_form program setup.threads) held s (λ plan. SimAfterScript held s c t a setup program plan) outputs text one.2 in
     let plan : Plan = two.0 in
     let script : List PatchCommand = commands_of plan.lines in
-    let three = taken (schedule_form setup.threads) held c (λ turns. Replays s t a setup program plan turns) outputs text two.2 in
+    let three = taken (schedule_form setup.threads) held c (λ turns. MayLeave (left_of_replay s t a setup program plan turns)) outputs text two.2 in
     let turns : List Turns = three.0 in
-    let unrefused_ = unrefused (waiting_line plan.lines) s (codes "script") (Leaves (IsTraced (RanReplayed program plan turns setup) setup t a)) outputs text three.2 in
+    let unrefused_ = unrefused (waiting_line plan.lines) s (codes "script") (MayLeave (left_replayed t a setup program plan turns)) outputs text three.2 in
     let left_ = unrefused_.1 in
-    let traced : IsTraced (RanReplayed program plan turns setup) setup t a left_.0 left_.1 = left_.2 in
-    let both = done_same outputs left_.0 text left_.1 left_.3 in
+    let traced : IsTraced (RanReplayed program plan turns setup) setup t a left_.0.0 left_.0.1 = left_.1 in
+    let both = done_same outputs left_.0.0 text left_.0.1 left_.2 in
     let bytes : List ℕ = one.1.bytes in
     let runs : List ThreadRun = traced.runs in
     let made = some bytes program script turns other plan.lines one.1.reads refl unrefused_.0 in
@@ -333,9 +339,8 @@ sim_alike laws some stamps buffers one_replay held i s c t a u b setup other sam
     subst (λ (n : ℕ). IsAcceptedAs (schedule_form n) (held c) turns) same.threads three.1 in
     let printed : text ≡ state_texts 1 others = both.1 ∙ (traced.text_is ∙ texts_shown 1 runs others (sym alike)) in
     let left : List (List ℕ × List ℕ) = written_of u b other others in
-    let leaves : Leaves (IsTraced (RanReplayed program plan turns other) other u b) (Done left text) = (
-      left,
-      text,
+    let leaves : MayLeave (left_replayed u b other program plan turns) (Done left text) = (
+      (left, text),
       record {
         runs = others;
         ran = ran_replayed laws bytes program plan schedule.bytes turns other others one.1.reads schedule.reads made.1;
@@ -353,8 +358,8 @@ sim_alike laws some stamps buffers one_replay held i s c t a u b setup other sam
       also = again image_form held i (SimAfterImage held s c u b other) program (Done left text) one.1
           (again (script_form program other.threads) held s (λ p. SimAfterScript held s c u b other program p) plan (Done left text)
           (subst (λ (n : ℕ). IsAcceptedAs (script_form program n) (held s) plan) same.threads two.1)
-          (again (schedule_form other.threads) held c (λ ts. Replays s u b other program plan ts) turns (Done left text) schedule
-          (subst (λ (o : Option ℕ). RefuseIf (option_map waits_words o) s (codes "script") (Leaves (IsTraced (RanReplayed program plan turns other) other u b)) (Done left text))
+          (again (schedule_form other.threads) held c (λ ts. MayLeave (left_of_replay s u b other program plan ts)) turns (Done left text) schedule
+          (subst (λ (o : Option ℕ). RefuseIf (option_map waits_words o) s (codes "script") (MayLeave (left_replayed u b other program plan turns)) (Done left text))
           (sym unrefused_.0) leaves)));
       stated = stated_alike setup other runs others alike;
     }

@@ -1,19 +1,14 @@
--- `plain`: one thing comes of it, and something in any case.
-use Rattle.std.proofs.Common.{◌≡◌, ◌+◌, ◌∙◌, ℕ, List, [], refl, sym, ap}
+-- `plain`: the texts of threads are there, and are only one thing.
+use Rattle.std.proofs.Common.{◌≡◌, ◌+◌, ◌∙◌, ℕ, List, refl, sym, ap}
 use Rattle.std.specs.List.{flat_map}
 use Rattle.machine_step.specs.declared.end.End.{End}
 use Rattle.machine_step.specs.declared.limits.Limits.{Limits}
 use Rattle.machine_step.specs.PlainStep.{Passing, PlainRun, State}
 use Rattle.machine_step.specs.Texts.{plain_text}
 use Rattle.xray_image.specs.Program.{Program, IsAccepted}
-use Rattle.xray_io.specs.Desk.{Entry}
-use Rattle.xray_program.specs.Commands.{TellsAll}
-use Rattle.xray_program.specs.Inputs.{image_form}
-use Rattle.xray_program.specs.Plain.{IsPlainText, PlainComes, PlainPrints}
+use Rattle.xray_program.specs.Plain.{IsPlainText, PlainPrints}
 use Rattle.xray_program.specs.Setups.{plain_limits}
-use Rattle.xray_program.specs.Taking.{Sound, Prints}
 use Rattle.command_words.specs.declared.run_options.Bounds.{Bounds}
-use Rattle.xray_program.proofs.InputMeanings.{AnyOutcome, HoldsBytes, IsAlone, IsDecided, IsJudged, SomeOutcome, leaves_alone, some_leaves, some_take, take_alone}
 use Rattle.xray_program.proofs.TextLists.{made, made_first, made_length, same_list}
 
 -- what the machine says: the plain run of a thread of an accepted image has one end, and has an end
@@ -46,7 +41,7 @@ some_core some bytes program limits accepted i =
     let run = some bytes program limits (i + 1) accepted in
     ((run.0, run.1, run.2), run.3)
 
-one_plain : OneEnd → (bytes : List ℕ) (program : Program) (bounds : Bounds) (x y : List ℕ)
+pub one_plain : OneEnd → (bytes : List ℕ) (program : Program) (bounds : Bounds) (x y : List ℕ)
     → IsAccepted bytes program → PlainPrints program bounds x → PlainPrints program bounds y → x ≡ y
 one_plain one_end bytes program bounds x y accepted p q =
     p.joined ∙ ap (flat_map (λ t. t)) (same_list (λ i. IsPlainText program (plain_limits bounds) (i + 1)) one_text p.texts q.texts p.each q.each (p.count ∙ sym q.count))
@@ -57,7 +52,7 @@ one_plain one_end bytes program bounds x y accepted p q =
         let same = one_end bytes program (plain_limits bounds) (i + 1) a.passed b.passed a.end b.end a.last b.last accepted a.run b.run in
         a.prints ∙ rw (same.1, same.2) refl ∙ sym b.prints
 
-some_plain : SomeEnd → (bytes : List ℕ) (program : Program) (bounds : Bounds) → IsAccepted bytes program
+pub some_plain : SomeEnd → (bytes : List ℕ) (program : Program) (bounds : Bounds) → IsAccepted bytes program
     → (text : List ℕ) × PlainPrints program bounds text
 some_plain some bytes program bounds accepted =
     let limits : Limits = plain_limits bounds in
@@ -78,17 +73,3 @@ some_plain some bytes program bounds accepted =
         joined = refl;
       },
     )
-
-pub plain_alone : IsDecided image_form → OneEnd → (held : List ℕ → Entry) (image : List ℕ) (bounds : Bounds) → TellsAll held
-    → IsAlone AnyOutcome (PlainComes Sound held image bounds)
-plain_alone is one_end held image bounds told =
-    take_alone image_form is AnyOutcome held image (λ program. Prints (PlainPrints program bounds)) (told image)
-    (λ bytes program reads. leaves_alone (λ outputs text. (outputs ≡ []) × PlainPrints program bounds text)
-    (λ o p t u x y. (y.0 ∙ sym x.0, one_plain one_end bytes program bounds u t reads y.1 x.1)))
-
-pub plain_some : IsJudged image_form → SomeEnd → (held : List ℕ → Entry) (image : List ℕ) (bounds : Bounds) → TellsAll held
-    → HoldsBytes held → SomeOutcome (PlainComes Sound held image bounds)
-plain_some is some held image bounds told holds =
-    some_take image_form is held image (λ program. Prints (PlainPrints program bounds)) (told image) holds
-    (λ bytes program reads. let text = some_plain some bytes program bounds reads in
-    some_leaves (λ outputs t. (outputs ≡ []) × PlainPrints program bounds t) [] text.0 (refl, text.1))

@@ -1,16 +1,15 @@
 -- A profile whose threads make the marks of a run has the stacks of the run's trace.
-use Rattle.std.proofs.Common.{◌≡◌, ◌+◌, ◌++◌, ◌<◌, ◌≤◌, ◌∙◌, ℕ, zero, suc, Bool, true, false, cond, eqb, nat_eq, List, [], ◌∷◌, Option, Some, None, Result, Ok, length, map, filter, sum_by, refl, sym, ap, subst, arith}
+use Rattle.std.proofs.Common.{◌≡◌, ◌+◌, ◌++◌, ◌<◌, ◌∙◌, ℕ, zero, suc, Bool, true, false, eqb, nat_eq, List, [], ◌∷◌, Option, Some, None, Result, Ok, length, map, filter, refl, sym, ap, subst, arith}
 use Rattle.std.specs.Prelude.{All, Contains, slice_get}
 use Rattle.std.specs.List.{AllByRecursion, IsDistinct, enumerate_from, flat_map, range_with_len}
 use Rattle.std.proofs.lemmas.Bool.Decides.{nat_tests}
 use Rattle.std.proofs.lemmas.List.Concat.{flat_map-cons}
-use Rattle.std.proofs.lemmas.List.Elements.{All-append, All-cons, All-map, All-nil, All-weaker, Contains-append_left, Contains-append_right}
+use Rattle.std.proofs.lemmas.List.Elements.{All-append, All-cons, All-nil, All-weaker, Contains-append_right}
 use Rattle.std.proofs.lemmas.List.Sums.{sum_by-cons}
 use Rattle.std.proofs.lemmas.Map.Keys.{IsDistinct-cons}
 use Rattle.call_trie.specs.Tries.{state_after}
 use Rattle.command_words.specs.declared.profile_options.ProfileOptions.{ProfileOptions}
 use Rattle.fdr_record.specs.declared.event.Event.{Event}
-use Rattle.fdr_file.specs.Traces.{trace_of}
 use Rattle.fdr_file.specs.declared.fault.TraceFault.{TraceFault}
 use Rattle.fdr_file.specs.declared.trace.Block.{Block}
 use Rattle.fdr_file.specs.declared.trace.Trace.{Trace}
@@ -22,7 +21,7 @@ use Rattle.machine_step.specs.declared.setup.Setup.{Setup}
 use Rattle.machine_step.specs.PlainStep.{PlainRun}
 use Rattle.stack_rebuild.specs.Histories.{events_of_thread}
 use Rattle.stack_rebuild.specs.Stacks.{AreThreadsOf, PathRow, stack_of, stack_of_threads}
-use Rattle.trace_flush.specs.Flush.{blocks_of, is_of, segment_block, thread_blocks, trace_bytes}
+use Rattle.trace_flush.specs.Flush.{is_of, segment_block, thread_blocks}
 use Rattle.traced_run.specs.Kept.{kept_of}
 use Rattle.traced_run.specs.Losses.{recycled_of}
 use Rattle.traced_run.specs.Runs.{ThreadRun, events_of}

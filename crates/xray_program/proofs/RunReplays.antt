@@ -27,20 +27,23 @@ use Rattle.traced_run.specs.Runs.{IsRun, ThreadRun}
 use Rattle.xray_image.specs.Program.{IsAccepted, Program}
 use Rattle.xray_io.specs.Desk.{Entry, Holds}
 use Rattle.xray_program.specs.Inputs.{WholeScript, audit_form, audit_limit, image_form, image_limit, script_form, whole_script_form}
-use Rattle.xray_program.specs.LoadOrder.{OrderComes, Orders, order_outcome}
+use Rattle.command_words.specs.Words.{Order, Run, Sim}
+use Rattle.xray_program.specs.Commands.{doing_of}
+use Rattle.xray_program.specs.Doings.{Comes, MayLeave}
+use Rattle.xray_program.specs.LoadOrder.{order_outcome}
 use Rattle.xray_program.specs.OrderReplays.{HaveSameThreads, IsLeftByOrder, IsLeftByRun, IsOrderedOrLong, LeavesRunsOf}
 use Rattle.xray_program.specs.Outcomes.{Outcome, Done}
-use Rattle.xray_program.specs.Run.{LoadsFollowPlan, RanBeside, RunComes, RunsBeside}
+use Rattle.xray_program.specs.Run.{LoadsFollowPlan, RanBeside, left_of_runs}
 use Rattle.xray_program.specs.Setups.{setup_of}
-use Rattle.xray_program.specs.Sim.{SimComes}
-use Rattle.xray_program.specs.Taking.{IsAcceptedAs, MayHold, Sound, Take}
+use Rattle.xray_program.specs.Taking.{IsAcceptedAs, MayHold, Take}
 use Rattle.xray_program.specs.Traced.{IsTraced, state_texts, written_of}
 use Rattle.xray_program.proofs.AuditLengths.{statement_short}
-use Rattle.xray_program.proofs.CheckYes.{again, holding, outputs_same, taken}
+use Rattle.xray_program.proofs.CheckYes.{holding, outputs_same, taken}
 use Rattle.xray_program.proofs.LawfulRuns.{is_run, marks_follow}
-use Rattle.xray_program.proofs.OrderLaws.{AfterAudit, AfterImage}
+use Rattle.xray_program.proofs.OrderEndings.{AfterAudit, AfterImage, Ordered}
 use Rattle.xray_program.proofs.OrderReplays.{ReplayedOrders, order_replays}
 use Rattle.xray_program.proofs.RunSetups.{options_make_a_setup}
+use Rattle.xray_program.proofs.Turns.{again}
 
 -- what the crates below say
 pub record RunReplays : Type 0 where
@@ -69,20 +72,20 @@ pub record RunOf (held : List ℕ → Entry) (s : List ℕ) (setup : Setup) (ima
   pub audit_is : audit ≡ audit_of_run setup runs
   pub text_is : text ≡ state_texts 1 runs
 
-pub run_of : (held : List ℕ → Entry) (i s t a : List ℕ) (setup : Setup) (image trace audit text : List ℕ) → held i ≡ Holds image
-    → RunComes Sound held i s t a setup (Done ((t, trace) ∷ (a, audit) ∷ []) text) → RunOf held s setup image trace audit text
-run_of held i s t a setup image trace audit text image_is comes =
+pub run_of : (held : List ℕ → Entry) (i s t a : List ℕ) (options : RunOptions) (image trace audit text : List ℕ) → held i ≡ Holds image
+    → Comes (doing_of (Run i s t a options)) held (Done ((t, trace) ∷ (a, audit) ∷ []) text) → RunOf held s (setup_of options) image trace audit text
+run_of held i s t a options image trace audit text image_is comes =
+    let setup : Setup = setup_of options in
     let left : List (List ℕ × List ℕ) = (t, trace) ∷ (a, audit) ∷ [] in
-    let one = taken image_form held i
-    (λ program. Take (script_form program setup.threads) Sound held s (λ plan. RunsBeside t a setup program plan)) left text comes in
+    let one = taken image_form held i (λ p. Take (script_form p setup.threads) held s (λ plan. MayLeave (left_of_runs t a setup p plan))) left text comes in
     let program : Program = one.0 in
     let of_image = one.1 in
-    let two = taken (script_form program setup.threads) held s (λ plan. RunsBeside t a setup program plan) left text one.2 in
+    let two = taken (script_form program setup.threads) held s (λ plan. MayLeave (left_of_runs t a setup program plan)) left text one.2 in
     let plan : Plan = two.0 in
     let script : List PatchCommand = commands_of plan.lines in
-    let traces : IsTraced (RanBeside program script setup.threads setup.limits) setup t a two.2.0 two.2.1 = two.2.2 in
+    let traces : IsTraced (RanBeside program script setup.threads setup.limits) setup t a two.2.0.0 two.2.0.1 = two.2.1 in
     let same_image : of_image.bytes ≡ image = subst (λ (entry : Entry). MayHold entry of_image.bytes) image_is of_image.held in
-    let both = done_same left two.2.0 text two.2.1 two.2.3 in
+    let both = done_same left two.2.0.0 text two.2.0.1 two.2.2 in
     let same = outputs_same t a trace audit (trace_bytes setup traces.runs) (audit_of_run setup traces.runs) (both.0 ∙ traces.outputs_are) in
     record {
       program = program;
@@ -111,7 +114,7 @@ module _ (laws : RunReplays) (held after : List ℕ → Entry) (i s t a : List �
   setup = setup_of options
 
   its : RunOf held s setup image trace audit text
-  its = run_of held i s t a setup image trace audit text left.image_held left.meant
+  its = run_of held i s t a options image trace audit text left.image_held left.meant
 
   -- what its audit reads as
   stated : MayState (run_statement setup its.runs) × (audit ≡ text_of (run_statement setup its.runs))
@@ -122,14 +125,14 @@ module _ (laws : RunReplays) (held after : List ℕ → Entry) (i s t a : List �
   -- ---- it is ordered, or the order is too long
 
   by_answer : (f o script : List ℕ) (answer : Result (List Turns) OrderFault) → IsOrderOrLong answer
-      → OrderComes Sound after i s a f o (order_outcome a f o script answer) → IsOrderedOrLong (OrderComes Sound after i s a f o) a f o
+      → Comes (doing_of (Order i s a f o)) after (order_outcome a f o script answer) → IsOrderedOrLong (Comes (doing_of (Order i s a f o)) after) a f o
   by_answer f o script (Ok turns) is comes = inl (free_text script, schedule_text turns, comes)
   by_answer f o script (Err Long) is comes = inr comes
   by_answer f o script (Err (Ends n)) is comes = absurd is
   by_answer f o script (Err (Marks n)) is comes = absurd is
   by_answer f o script (Err NoMemory) is comes = absurd is
 
-  pub ordered_or_long : (f o : List ℕ) → IsOrderedOrLong (OrderComes Sound after i s a f o) a f o
+  pub ordered_or_long : (f o : List ℕ) → IsOrderedOrLong (Comes (doing_of (Order i s a f o)) after) a f o
   ordered_or_long f o =
       let program : Program = its.program in
       let statement : AuditStatement = run_statement setup its.runs in
@@ -148,15 +151,18 @@ module _ (laws : RunReplays) (held after : List ℕ → Entry) (i s t a : List �
       (again image_form after i (AfterImage after s a f o) program outcome
       (holding image_form (after i) image program (left.image_stays ∙ left.image_held) its.image_short its.accepted)
       (again audit_form after a (AfterAudit after s a f o program) statement outcome (holding audit_form (after a) audit statement left.audit_held short stated)
-      (again (whole_script_form program setup.threads) after s (λ w. Orders a f o program statement w) whole outcome of_script
-      (record { answer = answer.0; ordered = answer.1; outcome_is = refl }))))
+      (again (whole_script_form program setup.threads) after s (λ w. Ordered a f o program statement w) whole outcome of_script
+      (answer.0, answer.1, refl))))
 
   -- ---- the replay of the order
 
-  module _ (last : List ℕ → Entry) (f o free schedule : List ℕ) (order : IsLeftByOrder after last i s a f o free schedule) (u b : List ℕ) (other : Setup) where
-    leaves : HaveSameThreads other setup → LeavesRunsOf (SimComes Sound last i f o u b other) image u b other (run_statement setup its.runs)
+  module _ (last : List ℕ → Entry) (f o free schedule : List ℕ) (order : IsLeftByOrder after last i s a f o free schedule) (u b : List ℕ) (options_again : RunOptions) where
+    abbrev other : Setup
+    other = setup_of options_again
+
+    leaves : HaveSameThreads other setup → LeavesRunsOf (Comes (doing_of (Sim i f o u b options_again)) last) image u b other (run_statement setup its.runs)
     leaves alike =
-        order_replays laws.orders last i f o u b other after s a image audit free schedule (run_statement setup its.runs)
+        order_replays laws.orders last i f o u b options_again after s a image audit free schedule (run_statement setup its.runs)
         (left.image_stays ∙ left.image_held) left.audit_held stated alike order.meant order.image_stays order.free_held order.schedule_held
 
     -- the runs are those of the run
@@ -169,15 +175,15 @@ module _ (laws : RunReplays) (held after : List ℕ → Entry) (i s t a : List �
         runs_same its.program (laws.end image its.program its.accepted) (run_statement setup its.runs) made.runs its.runs are
         (runs_stated its.program setup its.runs its.run)
 
-    pub text_again : HaveSameThreads other setup → (outputs : List (List ℕ × List ℕ)) × SimComes Sound last i f o u b other (Done outputs text)
+    pub text_again : HaveSameThreads other setup → (outputs : List (List ℕ × List ℕ)) × Comes (doing_of (Sim i f o u b options_again)) last (Done outputs text)
     text_again alike =
         let made = leaves alike in
         let same : state_texts 1 made.runs ≡ text = ap (state_texts 1) (runs_are alike) ∙ sym its.text_is in
         let outputs : List (List ℕ × List ℕ) = written_of u b other made.replayed in
-        (outputs, subst (λ (x : List ℕ). SimComes Sound last i f o u b other (Done outputs x)) same made.left)
+        (outputs, subst (λ (x : List ℕ). Comes (doing_of (Sim i f o u b options_again)) last (Done outputs x)) same made.left)
 
     pub whole_again : other ≡ setup → (statement : AuditStatement) → ReadsAsAudit audit (Ok statement) → statement.recycled ≡ 0
-        → SimComes Sound last i f o u b other (Done ((u, trace) ∷ (b, audit) ∷ []) text)
+        → Comes (doing_of (Sim i f o u b options_again)) last (Done ((u, trace) ∷ (b, audit) ∷ []) text)
     whole_again equal statement reads none =
         let alike : HaveSameThreads other setup = record { threads = ap (λ (x : Setup). x.threads) equal; limits = ap (λ (x : Setup). x.limits) equal } in
         let made = leaves alike in
@@ -195,8 +201,8 @@ module _ (laws : RunReplays) (held after : List ℕ → Entry) (i s t a : List �
         ∙ ap (λ (x : List ℕ). (u, x) ∷ (b, audit_of_run setup its.runs) ∷ []) (sym its.trace_is)
         ∙ ap (λ (x : List ℕ). (u, trace) ∷ (b, x) ∷ []) (sym its.audit_is) in
         let same_text : state_texts 1 made.runs ≡ text = ap (state_texts 1) same ∙ sym its.text_is in
-        subst (λ (x : List ℕ). SimComes Sound last i f o u b other (Done ((u, trace) ∷ (b, audit) ∷ []) x)) same_text
-        (subst (λ (os : List (List ℕ × List ℕ)). SimComes Sound last i f o u b other (Done os (state_texts 1 made.runs))) outputs made.left)
+        subst (λ (x : List ℕ). Comes (doing_of (Sim i f o u b options_again)) last (Done ((u, trace) ∷ (b, audit) ∷ []) x)) same_text
+        (subst (λ (os : List (List ℕ × List ℕ)). Comes (doing_of (Sim i f o u b options_again)) last (Done os (state_texts 1 made.runs))) outputs made.left)
       where
         same_statement : (x y : AuditStatement) → (let v : Result AuditStatement AuditFault = Ok x in let w : Result AuditStatement AuditFault = Ok y in v ≡ w) → x ≡ y
         same_statement x y e = cc

@@ -55,7 +55,7 @@ module _ (laws : SameRuns) (held : List ℕ → Entry) (i s t a : List ℕ) (opt
 
   whole_run : (trace audit text : List ℕ) → MayLeaveWhole held i s t a options trace audit text → WholeRun trace audit text
   whole_run trace audit text left =
-      let its : RunOf held s setup image trace audit text = run_of held i s t a setup image trace audit text image_held left.meant in
+      let its : RunOf held s setup image trace audit text = run_of held i s t a options image trace audit text image_held left.meant in
       let same : its.program ≡ program = laws.image image its.program program its.accepted accepted in
       let bytes : its.script.bytes ≡ script = subst (λ (entry : Entry). MayHold entry its.script.bytes) script_held its.script.held in
       let says : commands_of its.plan.lines ≡ commands_said script =

@@ -1,5 +1,5 @@
--- `soak`: one thing comes of it, and something in any case.
-use Rattle.std.proofs.Common.{◌≡◌, ◌≤◌, ◌∙◌, ℕ, false, List, [], Ok, Result, refl, sym, ap, subst, arith}
+-- `soak`: the summary of a number is there, and is only one thing.
+use Rattle.std.proofs.Common.{◌≡◌, ◌≤◌, ◌∙◌, ℕ, false, List, Ok, Result, refl, sym, ap, subst, arith}
 use Rattle.asm_text.specs.Assembling.{assembled, image_of, statements_said}
 use Rattle.asm_text.specs.Layout.{StatementLines}
 use Rattle.asm_text.specs.Programs.{program_said}
@@ -20,9 +20,9 @@ use Rattle.traced_run.specs.Runs.{IsRun, ThreadRun}
 use Rattle.xray_image.specs.Ids.{id_count}
 use Rattle.xray_image.specs.Program.{IsAccepted, Program}
 use Rattle.xray_program.specs.Inputs.{image_form}
-use Rattle.xray_program.specs.Soak.{AreInputs, IsSummary, SoakComes, soak_setup, soak_summary}
+use Rattle.xray_program.specs.Soak.{AreInputs, IsSummary, soak_setup, soak_summary}
 use Rattle.xray_program.specs.private.Drawn.{InputLaws}
-use Rattle.xray_program.proofs.InputMeanings.{AnyOutcome, IsAlone, IsDecided, SomeOutcome, leaves_alone, some_leaves}
+use Rattle.xray_program.specs.private.Lawful.{IsUnique}
 use Rattle.xray_program.proofs.RunSetups.{soak_is_setup}
 use Rattle.xray_program.proofs.SimLaws.{OneRun, StillRun}
 
@@ -63,19 +63,19 @@ inputs_read laws number = record {
   schedule_reads = laws.schedule number;
 }
 
--- ---- one thing
+-- ---- one summary
 
 pub same_value : {X F : Type 0} (a b : X) → ◌≡◌ {A = Result X F} (Ok a) (Ok b) → a ≡ b
 same_value a b e = cc
 
 -- the inputs of a number are read in only one way
-one_program : IsDecided image_form → (number : ℕ) (program other : Program) (plan plan' : Plan) (turns turns' : List Turns)
+one_program : IsUnique image_form → (number : ℕ) (program other : Program) (plan plan' : Plan) (turns turns' : List Turns)
     → AreInputs number program plan turns → AreInputs number other plan' turns' → program ≡ other
 one_program is number program other plan plan' turns turns' x y =
     let image = same_value x.image y.image (sym x.assembles ∙ y.assembles) in
     is.one y.image program other (subst (λ (bytes : List ℕ). IsAccepted bytes program) image x.accepted) y.accepted
 
-one_plan : IsDecided image_form → (number : ℕ) (program other : Program) (plan plan' : Plan) (turns turns' : List Turns)
+one_plan : IsUnique image_form → (number : ℕ) (program other : Program) (plan plan' : Plan) (turns turns' : List Turns)
     → AreInputs number program plan turns → AreInputs number other plan' turns' → plan ≡ plan'
 one_plan is number program other plan plan' turns turns' x y =
     let same = one_program is number program other plan plan' turns turns' x y in
@@ -85,7 +85,7 @@ one_turns : (number : ℕ) (program other : Program) (plan plan' : Plan) (turns 
     → AreInputs number program plan turns → AreInputs number other plan' turns' → turns ≡ turns'
 one_turns number program other plan plan' turns turns' x y = same_value turns turns' (sym x.schedule_reads ∙ y.schedule_reads)
 
-one_summary : IsDecided image_form → OneRun → (number : ℕ) (t u : List ℕ) → IsSummary number t → IsSummary number u → u ≡ t
+pub one_summary : IsUnique image_form → OneRun → (number : ℕ) (t u : List ℕ) → IsSummary number t → IsSummary number u → u ≡ t
 one_summary is one number t u x y =
     let program = one_program is number x.program y.program x.plan y.plan x.turns y.turns x.inputs y.inputs in
     let plan = one_plan is number x.program y.program x.plan y.plan x.turns y.turns x.inputs y.inputs in
@@ -97,14 +97,9 @@ one_summary is one number t u x y =
     same_value x.trace y.trace (sym x.reads_back ∙ ap (λ rs. trace_of (trace_bytes soak_setup rs)) runs ∙ y.reads_back) in
     y.is ∙ rw (sym runs, sym trace) refl ∙ sym x.is
 
-pub soak_alone : IsDecided image_form → OneRun → (number : ℕ) → IsAlone AnyOutcome (SoakComes number)
-soak_alone is one number =
-    leaves_alone (λ outputs text. (outputs ≡ []) × IsSummary number text)
-    (λ o p t u x y. (y.0 ∙ sym x.0, one_summary is one number t u x.1 y.1))
+-- ---- some summary
 
--- ---- something in any case
-
-some_summary : StillRun → DrawnLaws → (number : ℕ) → (text : List ℕ) × IsSummary number text
+pub some_summary : StillRun → DrawnLaws → (number : ℕ) → (text : List ℕ) × IsSummary number text
 some_summary some laws number =
     let inputs = inputs_read laws.inputs number in
     let program = soak_program number in
@@ -124,8 +119,3 @@ some_summary some laws number =
         is = refl;
       },
     )
-
-pub soak_some : StillRun → DrawnLaws → (number : ℕ) → SomeOutcome (SoakComes number)
-soak_some some laws number =
-    let summary = some_summary some laws number in
-    some_leaves (λ outputs text. (outputs ≡ []) × IsSummary number text) [] summary.0 (refl, summary.1)

@@ -8,14 +8,15 @@ use Rattle.command_words.specs.declared.run_options.RunOptions.{RunOptions}
 use Rattle.xray_io.specs.Calls.{CallMade}
 use Rattle.xray_io.specs.World.{DeskView, SinkView}
 use Rattle.xray_program.specs.Answers.{IsUnwriting}
-use Rattle.xray_program.specs.Inputs.{image_form, script_form}
+use Rattle.xray_program.specs.Doings.{Gives, Takes, Taking}
+use Rattle.xray_program.specs.Order.{Reaches}
 use Rattle.xray_program.specs.Started.{CameToOutputs, StartsLate}
 use Rattle.xray_program.specs.Taking.{Form}
 use Rattle.xray_program.specs.declared.stop.Stop.{Stop}
 use Rattle.xray_program.specs.declared.stop.Stop.TheVariants as stops
-use Rattle.xray_program.specs.private.ScriptTakes.{IsScriptTaken}
 use Rattle.xray_program.specs.private.Stops.{IsUnsaid, answer_of, stop_status}
 use Rattle.xray_program.specs.private.Takes.{IsTaken}
+use Rattle.xray_program.specs.private.Turns.{StopsHere, Turns}
 use Rattle.xray_program.specs.private.Works.{Delivers}
 
 writes_something : (n : ℕ) → (n ≡ 1 → ⊥) → (n ≡ 2 → ⊥) → (n ≡ 3 → ⊥) → (n ≡ 5 → ⊥) → (n ≡ 6 → ⊥) → IsUnwriting n → ⊥
@@ -85,11 +86,15 @@ none_taken form name before after (stops.Refused n kind words) is = no_output 2 
 none_taken form name before after (stops.Unwritten n) is = absurd is
 none_taken form name before after (stops.Fell words) is = absurd is
 
-pub none_scripts : (image script : List ℕ) (threads : ℕ) (before after : DeskView) (stop : Stop) → IsScriptTaken image script threads before after (Err stop)
-    → CameToOutputs (stop_status stop) → ⊥
-none_scripts image script threads before after stop (inl taken) = none_taken image_form image before after stop taken
-none_scripts image script threads before after stop (inr (program, accepted, turn)) =
-    none_taken (script_form program threads) script turn.mid after stop turn.taken
+pub none_turns : {Y V : Type 0} {names : List (List ℕ)} (inputs : Taking Y names) (means : V → Y → Type 0) (before after : DeskView)
+    (Way : List CallMade → Type 0) (stop : Stop) → Turns inputs means before after Way (Err stop) → CameToOutputs (stop_status stop) → ⊥
+none_turns {Y = Y} inputs means before after Way stop turns = none_reached inputs turns.calls.calls turns.calls.are
+  where
+    none_reached : {names : List (List ℕ)} (left : Taking Y names) (calls : List CallMade)
+        → Reaches left before.held (StopsHere before after stop) calls → CameToOutputs (stop_status stop) → ⊥
+    none_reached (Takes form name next) calls (inl here) = none_taken form name before after stop here.0
+    none_reached (Takes form name next) calls (inr (mine, later, value, all, reads, accepted, on)) = none_reached (next value) later on
+    none_reached (Gives y) calls here = absurd here
 
 -- nothing was started
 pub unstarted : (said : Option Command) (status : ℕ) (has : Bool) → (CameToOutputs status → ⊥) → StartsLate said status has has

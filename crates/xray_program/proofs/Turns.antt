@@ -1,15 +1,18 @@
--- Inputs in their turn, and what comes of a command by these.
-use Rattle.std.specs.Prelude.{IsErrAnd}
-use Rattle.std.proofs.Common.{◌≡◌, ◌≢◌, ◌⊎◌, ◌<◌, ◌≤◌, ◌+◌, ◌∙◌, ℕ, List, length, replicate, Option, Some, Result, Ok, Err, inl, inr, refl, sym, ap, arith, le_refl, subst}
+-- Inputs in their turn, and what comes of these by the turns.
+use Rattle.std.proofs.Common.{◌≡◌, ◌≢◌, ◌⊎◌, ◌<◌, ◌≤◌, ◌+◌, ◌++◌, ◌∙◌, ℕ, List, [], length, replicate, Option, Some, Result, Ok, Err, inl, inr, refl, sym, ap, arith, subst, append_assoc}
 use Rattle.std.proofs.lemmas.List.{length-replicate}
 use Rattle.fault_words.specs.Words.{words_text}
+use Rattle.xray_io.specs.Calls.{CallMade}
 use Rattle.xray_io.specs.Desk.{Entry, Untold, Absent, Holds}
 use Rattle.xray_io.specs.Faults.{Rose}
 use Rattle.xray_io.specs.declared.faults.ReadError.{ReadError}
 use Rattle.xray_io.specs.declared.faults.ReadError.TheVariants as errors
+use Rattle.xray_program.specs.Doings.{Gives, LeadsTo, ReachesInput, Takes, Taking}
+use Rattle.xray_program.specs.Order.{AreAllTaken, IsNext, ReadsInputs}
 use Rattle.xray_program.specs.Outcomes.{Outcome, Unread, TooLong, Refused}
-use Rattle.xray_program.specs.private.Takes.{AreTaken, IsFaultStop, IsLost, IsReadStop, IsStopAtInput, IsTaken, IsTakenAs, IsTooLong}
-use Rattle.xray_program.specs.Taking.{DeskReads, Sound, Faulty, Form, MayHold, Take, IsAcceptedAs}
+use Rattle.xray_program.specs.private.Takes.{IsFaultStop, IsLost, IsReadStop, IsStopAtInput, IsTaken, IsTakenAs, IsTooLong, StopsTaking}
+use Rattle.xray_program.specs.private.Turns.{StopsHere}
+use Rattle.xray_program.specs.Taking.{Form, MayHold, Take, IsAcceptedAs}
 use Rattle.xray_io.specs.World.{DeskView}
 use Rattle.xray_program.specs.declared.stop.Stop.{Stop}
 use Rattle.xray_program.specs.declared.stop.Stop.TheVariants as stops
@@ -63,82 +66,113 @@ unread form name before after error (stops.Fell trouble) there long lost is = is
 unread form name before after error (stops.Unwritten n) there long lost is = is
 unread form name before after error stops.NoMemory there long lost is = tt
 
--- ---- the inputs of a command, one after another
-
--- what comes of the values so far comes of the command
-abbrev pub Leads : (comes next : DeskReads → Outcome → Type 0) → Type 0
-Leads comes next = (reads : DeskReads) (outcome : Outcome) → next reads outcome → comes reads outcome
-
--- at first
-pub leads : (comes : DeskReads → Outcome → Type 0) → Leads comes comes
-leads comes reads outcome is = is
-
--- an input that gave a value
-pub leads_on : {X : Type 0} (form : Form X) (comes : DeskReads → Outcome → Type 0) (held : List ℕ → Entry) (name : List ℕ)
-    (next : DeskReads → X → Outcome → Type 0) (value : X) → Leads comes (λ reads. Take form reads held name (next reads))
-    → IsAcceptedAs form (held name) value → Leads comes (λ reads. next reads value)
-leads_on form comes held name next value leads given reads outcome later =
-    leads reads outcome (inr (given.bytes, given.held, inr (given.within, inr (value, given.reads, later))))
-
--- a count that rose has risen since an earlier moment
-rose_since : (first before now : ℕ) → first ≤ before → Rose before now → Rose first now
-rose_since first before now up rose = omega arith
-
--- an input that was a stop
-pub stops_at : {X : Type 0} (form : Form X) (comes : DeskReads → Outcome → Type 0) (before mid after : DeskView) (name : List ℕ)
-    (next : DeskReads → X → Outcome → Type 0) (stop : Stop) → Leads comes (λ reads. Take form reads before.held name (next reads))
-    → mid.held ≡ before.held → before.read_faults ≤ mid.read_faults → IsTaken form name mid after (Err stop)
-    → IsStopAtInput comes before after stop
-stops_at form comes before mid after name next stops.BadLine leads same up taken = taken
-stops_at {X} form comes before mid after name next (stops.Unread n) leads same up (is, lost) =
-    (leads Faulty (Unread n.now) (inl (tt, ap Unread is)), cause lost)
-  where
-    cause : IsLost mid after name → Rose before.read_faults after.read_faults ⊎ ((before.held n.now ≡ Absent) × comes Sound (Unread n.now))
-    cause (inl rose) = inl (rose_since before.read_faults mid.read_faults after.read_faults up rose)
-    cause (inr absent) =
-        let gone : before.held name ≡ Absent = ap (λ (h : List ℕ → Entry). h name) (sym same) ∙ absent in
-        inr (ap before.held is ∙ gone, leads Sound (Unread n.now) (inl (gone, ap Unread is)))
-stops_at form comes before mid after name next (stops.TooLong n) leads same up (is, long) =
-    let may = subst (λ (h : List ℕ → Entry). MayHold (h name) long.bytes) same long.held in
-    leads Sound (TooLong n.now) (inr (long.bytes, may, inl (long.long, ap TooLong is)))
-stops_at form comes before mid after name next (stops.Refused n kind words) leads same up (is, of_kind, rejects) =
-    let may = subst (λ (h : List ℕ → Entry). MayHold (h name) rejects.bytes) same rejects.held in
-    leads Sound (Refused n.now kind.now (words_text words))
-    (inr (rejects.bytes, may, inr (rejects.within, inl (words_text words, rejects.refused, refused))))
-  where
-    refused : Refused n.now kind.now (words_text words) ≡ Refused name form.kind (words_text words)
-    refused = rw (is, of_kind) refl
-stops_at form comes before mid after name next (stops.Fell trouble) leads same up taken = taken
-stops_at form comes before mid after name next (stops.Unwritten n) leads same up taken = taken
-stops_at form comes before mid after name next stops.NoMemory leads same up taken = tt
-
--- the stop that a `?` passes on
-pub handed_on : {X : Type 0} (comes : DeskReads → Outcome → Type 0) (yields : X → Outcome → Type 0) (before after : DeskView) (result : Result X Stop)
-    (stop : Stop) → IsErrAnd result (λ s. s ≡ stop) → IsStopAtInput comes before after stop → AreTaken comes yields before after result
-handed_on comes yields before after (Ok inputs) stop is stands = absurd is
-handed_on comes yields before after (Err s) stop is stands = rw is stands
-
--- so an input after these that was a stop
-pub later_stop : {X Y : Type 0} (form : Form X) (comes : DeskReads → Outcome → Type 0) (yields : Y → Outcome → Type 0)
-    (before mid after : DeskView) (name : List ℕ) (next : DeskReads → X → Outcome → Type 0) (result : Result Y Stop) (stop : Stop)
-    → IsErrAnd result (λ s. s ≡ stop) → Leads comes (λ reads. Take form reads before.held name (next reads))
-    → mid.held ≡ before.held → before.read_faults ≤ mid.read_faults → IsTaken form name mid after (Err stop)
-    → AreTaken comes yields before after result
-later_stop form comes yields before mid after name next result stop is leads same up taken =
-    handed_on comes yields before after result stop is (stops_at form comes before mid after name next stop leads same up taken)
-
 -- an input whose value is what it reads as
 pub taken_as : {X : Type 0} (form : Form X) (name : List ℕ) (before after : DeskView) (result : Result X Stop)
     → IsTakenAs form (λ value meant. value ≡ meant) name before after result → IsTaken form name before after result
 taken_as {X} form name before after (Ok value) (meant, same, given) = subst (λ (v : X). IsAcceptedAs form (before.held name) v) (sym same) given
 taken_as form name before after (Err stop) taken = taken
 
--- the only input decides
-pub only_taken : {X : Type 0} (form : Form X) (name : List ℕ) (next : X → Outcome → Type 0) (before after : DeskView) (result : Result X Stop)
-    → IsTaken form name before after result → AreTaken (λ reads. Take form reads before.held name next) next before after result
-only_taken form name next before after (Ok value) taken =
-    leads_on form (λ reads. Take form reads before.held name next) before.held name (λ reads. next) value
-    (leads (λ reads. Take form reads before.held name next)) taken
-only_taken form name next before after (Err stop) taken =
-    stops_at form (λ reads. Take form reads before.held name next) before before after name (λ reads. next) stop
-    (leads (λ reads. Take form reads before.held name next)) refl (le_refl _) taken
+-- what follows an input that is accepted comes of it
+pub again : {X : Type 0} (form : Form X) (held : List ℕ → Entry) (name : List ℕ) (next : X → Outcome → Type 0) (value : X) (outcome : Outcome)
+    → IsAcceptedAs form (held name) value → next value outcome → Take form held name next outcome
+again form held name next value outcome given comes = inr (given.bytes, given.held, inr (given.within, inr (value, given.reads, comes)))
+
+-- ---- a stop at one of the inputs of a command
+
+-- at the first of these
+stops_first : {X Y : Type 0} {later : List (List ℕ)} (form : Form X) (name : List ℕ) (next : X → Taking Y later) (Follows : Y → Outcome → Type 0)
+    (before after : DeskView) (stop : Stop) → IsTaken form name before after (Err stop)
+    → IsStopAtInput (LeadsTo (Takes form name next) before.held Follows) (ReachesInput (Takes form name next) before.held) before after stop
+stops_first form name next Follows before after stops.BadLine taken = taken
+stops_first form name next Follows before after (stops.Unread n) (is, lost) = (inl is, cause lost)
+  where
+    cause : IsLost before after name
+        → Rose before.read_faults after.read_faults ⊎ ((before.held n.now ≡ Absent) × LeadsTo (Takes form name next) before.held Follows (Unread n.now))
+    cause (inl rose) = inl rose
+    cause (inr absent) = inr (ap before.held is ∙ absent, inl (absent, ap Unread is))
+stops_first form name next Follows before after (stops.TooLong n) (is, long) = inr (long.bytes, long.held, inl (long.long, ap TooLong is))
+stops_first form name next Follows before after (stops.Refused n kind words) (is, of_kind, rejects) =
+    inr (rejects.bytes, rejects.held, inr (rejects.within, inl (words_text words, rejects.refused, refused)))
+  where
+    refused : Refused n.now kind.now (words_text words) ≡ Refused name form.kind (words_text words)
+    refused = rw (is, of_kind) refl
+stops_first form name next Follows before after (stops.Fell trouble) taken = taken
+stops_first form name next Follows before after (stops.Unwritten n) taken = taken
+stops_first form name next Follows before after stops.NoMemory taken = tt
+
+-- at a later one
+stops_later : {comes more : Outcome → Type 0} {reached further : List ℕ → Type 0} (before after : DeskView) (stop : Stop)
+    → ((outcome : Outcome) → more outcome → comes outcome) → ((name : List ℕ) → further name → reached name)
+    → IsStopAtInput more further before after stop → IsStopAtInput comes reached before after stop
+stops_later before after stops.BadLine on turn stands = stands
+stops_later {comes} {more} before after (stops.Unread n) on turn (reached, why) = (turn n.now reached, cause why)
+  where
+    cause : Rose before.read_faults after.read_faults ⊎ ((before.held n.now ≡ Absent) × more (Unread n.now))
+        → Rose before.read_faults after.read_faults ⊎ ((before.held n.now ≡ Absent) × comes (Unread n.now))
+    cause (inl rose) = inl rose
+    cause (inr (absent, is)) = inr (absent, on (Unread n.now) is)
+stops_later before after (stops.TooLong n) on turn stands = on (TooLong n.now) stands
+stops_later before after (stops.Refused n kind words) on turn stands = on (Refused n.now kind.now (words_text words)) stands
+stops_later before after (stops.Fell trouble) on turn stands = stands
+stops_later before after (stops.Unwritten n) on turn stands = stands
+stops_later before after stops.NoMemory on turn stands = tt
+
+-- what comes of it
+pub stop_stands : {Y : Type 0} {names : List (List ℕ)} (inputs : Taking Y names) (Follows : Y → Outcome → Type 0) (before after : DeskView) (stop : Stop)
+    (calls : List CallMade) → ReadsInputs inputs before.held (StopsHere before after stop) calls
+    → IsStopAtInput (LeadsTo inputs before.held Follows) (ReachesInput inputs before.held) before after stop
+stop_stands (Takes form name next) Follows before after stop calls (inl (taken, stops)) = stops_first form name next Follows before after stop taken
+stop_stands (Takes form name next) Follows before after stop calls (inr (mine, rest, value, split, whole, accepted, reaches)) =
+    stops_later before after stop
+    (λ outcome more. again form before.held name (λ v. LeadsTo (next v) before.held Follows) value outcome accepted more)
+    (λ n further. inr (value, accepted, further))
+    (stop_stands (next value) Follows before after stop rest reaches)
+stop_stands (Gives y) Follows before after stop calls here = absurd here
+
+-- its calls
+pub stop_calls : {Y : Type 0} {names : List (List ℕ)} (inputs : Taking Y names) (before after : DeskView) (stop : Stop) (wanted : List ℕ)
+    (Last : (limit : ℕ) → List CallMade → Type 0)
+    → ((X : Type 0) (form : Form X) (name : List ℕ) (calls : List CallMade) → IsTaken form name before after (Err stop) → StopsTaking name form.limit stop calls
+    → (wanted ≡ name) × Last form.limit calls)
+    → (calls : List CallMade) → ReadsInputs inputs before.held (StopsHere before after stop) calls → ReadsInputs inputs before.held (IsNext wanted Last) calls
+stop_calls (Takes {X} form name next) before after stop wanted Last says calls (inl (taken, stops)) = inl (says X form name calls taken stops)
+stop_calls (Takes form name next) before after stop wanted Last says calls (inr (mine, rest, value, split, whole, accepted, reaches)) =
+    inr (mine, rest, value, split, whole, accepted, stop_calls (next value) before after stop wanted Last says rest reaches)
+stop_calls (Gives y) before after stop wanted Last says calls here = absurd here
+
+-- if memory ran out, at one of the inputs
+pub memory_calls : {Y : Type 0} {names : List (List ℕ)} (inputs : Taking Y names) (before after : DeskView) (calls : List CallMade)
+    → ReadsInputs inputs before.held (StopsHere before after stops.NoMemory) calls
+    → (name : List ℕ) × ReadsInputs inputs before.held (IsNext name (λ limit. StopsTaking name limit stops.NoMemory)) calls
+memory_calls (Takes form name next) before after calls (inl (taken, stops)) = (name, inl (refl, stops))
+memory_calls (Takes form name next) before after calls (inr (mine, rest, value, split, whole, accepted, reaches)) =
+    let at = memory_calls (next value) before after rest reaches in
+    (at.0, inr (mine, rest, value, split, whole, accepted, at.1))
+memory_calls (Gives y) before after calls here = absurd here
+
+-- ---- all inputs gave values
+
+-- what comes of all values of which this is known comes of the inputs
+pub all_come : {Y V : Type 0} {names : List (List ℕ)} (inputs : Taking Y names) (Follows : Y → Outcome → Type 0) (held : List ℕ → Entry) (means : V → Y → Type 0)
+    (value : V) (calls : List CallMade) → ReadsInputs inputs held (AreAllTaken (λ y later. (later ≡ []) × means value y)) calls → (outcome : Outcome)
+    → ((y : Y) → means value y → Follows y outcome) → LeadsTo inputs held Follows outcome
+all_come (Takes form name next) Follows held means value calls (inl at) outcome follows = absurd at
+all_come (Takes form name next) Follows held means value calls (inr (mine, rest, v, split, whole, accepted, reaches)) outcome follows =
+    again form held name (λ u. LeadsTo (next u) held Follows) v outcome accepted (all_come (next v) Follows held means value rest reaches outcome follows)
+all_come (Gives y) Follows held means value calls (none, is) outcome follows = follows y is
+
+-- the calls of all inputs, and those after them
+pub all_calls : {Y V : Type 0} {names : List (List ℕ)} (inputs : Taking Y names) (held : List ℕ → Entry) (means : V → Y → Type 0) (value : V)
+    (Then : Y → List CallMade → Type 0) (calls later : List CallMade) → ReadsInputs inputs held (AreAllTaken (λ y last. (last ≡ []) × means value y)) calls
+    → ((y : Y) → means value y → Then y later) → ReadsInputs inputs held (AreAllTaken Then) (calls ++ later)
+all_calls (Takes form name next) held means value Then calls later (inl at) follows = absurd at
+all_calls (Takes form name next) held means value Then calls later (inr (mine, rest, v, split, whole, accepted, reaches)) follows = inr (
+  mine,
+  rest ++ later,
+  v,
+  ap (λ (c : List CallMade). c ++ later) split ∙ append_assoc mine rest later,
+  whole,
+  accepted,
+  all_calls (next v) held means value Then rest later reaches follows,
+)
+all_calls (Gives y) held means value Then calls later (none, is) follows = subst (λ (c : List CallMade). Then y (c ++ later)) (sym none) (follows y is)

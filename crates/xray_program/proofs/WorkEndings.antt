@@ -1,25 +1,26 @@
 -- How the work of a command ends, and how a call does.
 use Rattle.std.specs.Prelude.{IsErrAnd}
-use Rattle.std.proofs.Common.{◌≡◌, ◌+◌, ◌++◌, ◌∙◌, ℕ, List, length, Option, Some, None, Result, Ok, Err, inl, inr, refl, sym, ap, subst}
-use Rattle.std.proofs.lemmas.List.{append-nil}
+use Rattle.std.proofs.Common.{◌≡◌, ◌+◌, ◌++◌, ◌∙◌, ℕ, List, [], Option, Some, None, Result, Ok, Err, inl, inr, refl, sym, ap, subst}
 use Rattle.fault_words.specs.Words.{words_text}
 use Rattle.xray_io.specs.Calls.{CallMade, Composes, Went, went_on}
 use Rattle.xray_io.specs.Desk.{Entry}
 use Rattle.xray_io.specs.Faults.{Rose}
-use Rattle.xray_program.specs.Commands.{Comes, inputs_of}
 use Rattle.xray_io.specs.Outputs.{IsMaking}
 use Rattle.xray_io.specs.Reads.{Reads, ReadsUpToFault}
-use Rattle.xray_program.specs.Order.{FailsAtOutput, InOrder, IsNoCall, IsUnmade, MakesAll, ReadsAll, ReadsWhole, StopsAtInput}
+use Rattle.xray_program.specs.Commands.{doing_of}
+use Rattle.xray_program.specs.Doings.{Comes, Leaving, MayLeave, ReachesInput}
+use Rattle.xray_program.specs.Order.{AreAllTaken, FailsAtOutput, InOrder, IsNoCall, IsUnmade, MakesAll, ReadsInputs, ReadsWhole}
 use Rattle.xray_program.specs.Outcomes.{Outcome, BadLine, Unread, TooLong, Refused, Done, Fell, Ending, With, Unwritten, NoMemory, status_at, err_line_at, written_by}
 use Rattle.xray_program.specs.Outputs.{OutputsAreWhole, AreUntouched, FailsAt, FailsAtOut, FailsWriting, HoldsPrefix, WritesNothing}
 use Rattle.xray_program.specs.private.Stops.{IsUnsaid, answer_of, stop_line, stop_status, told_of}
-use Rattle.xray_program.specs.private.Takes.{IsStopAtInput, StopsTakings, TakesAll}
-use Rattle.xray_program.specs.Accepted.{AcceptsInputs}
-use Rattle.xray_program.specs.Taking.{DeskReads, Sound, AllAccepted, ended_by}
+use Rattle.xray_program.specs.private.Takes.{IsStopAtInput}
+use Rattle.xray_program.specs.private.Turns.{ComesOfAll, Turns}
+use Rattle.xray_program.specs.Taking.{RefuseIf, ended_by}
 use Rattle.command_words.specs.Words.{Command, outputs_of}
 use Rattle.xray_program.specs.private.Works.{AreMakings, Delivers, Ends, Finishes, KeepsOthers, StandsAfter, StopsOutputs, Writes}
 use Rattle.xray_io.specs.World.{DeskView, SinkView}
 use Rattle.xray_program.proofs.CallOrder.{went_as}
+use Rattle.xray_program.proofs.Turns.{all_calls, all_come, memory_calls, stop_calls, stop_stands}
 use Rattle.xray_program.specs.declared.stop.Stop.{Stop}
 use Rattle.xray_program.specs.declared.stop.Stop.TheVariants as stops
 
@@ -69,6 +70,29 @@ pub refuses : (comes : Outcome → Type 0) (desk : DeskView) (out : SinkView) (W
     → IsErrAnd result (λ s. s ≡ stop) → Finishes comes desk desk out out Way (Err stop) → Finishes comes desk desk out out Way result
 refuses comes desk out Way stop (Ok done) is stands = absurd is
 refuses comes desk out Way stop (Err s) is stands = rw is stands
+
+-- what comes of one thing comes of another
+finishes_as : (comes also : Outcome → Type 0) (desk desk_now : DeskView) (out out_now : SinkView) (Way : List CallMade → Type 0) (result : Result (Unit {0}) Stop)
+    → ((outcome : Outcome) → comes outcome → also outcome) → Finishes comes desk desk_now out out_now Way result
+    → Finishes also desk desk_now out out_now Way result
+finishes_as comes also desk desk_now out out_now Way (Ok done) says left =
+    record { outputs = left.outputs; text = left.text; comes = says _ left.comes; writes = left.writes; then_so = left.then_so }
+finishes_as comes also desk desk_now out out_now Way (Err stops.BadLine) says left = left
+finishes_as comes also desk desk_now out out_now Way (Err (stops.Unread n)) says left = left
+finishes_as comes also desk desk_now out out_now Way (Err (stops.TooLong n)) says left = left
+finishes_as comes also desk desk_now out out_now Way (Err (stops.Refused n kind words)) says (left, none, silent) = (says _ left, none, silent)
+finishes_as comes also desk desk_now out out_now Way (Err (stops.Fell words)) says left =
+    record { outputs = left.outputs; text = left.text; comes = says _ left.comes; writes = left.writes; then_so = left.then_so }
+finishes_as comes also desk desk_now out out_now Way (Err (stops.Unwritten n)) says left = record {
+  outcome = left.outcome;
+  comes = says left.outcome left.comes;
+  outputs = left.outputs;
+  text = left.text;
+  writes = left.writes;
+  failed = left.failed;
+  then_so = left.then_so;
+}
+finishes_as comes also desk desk_now out out_now Way (Err stops.NoMemory) says left = left
 
 -- ---- from the inputs on
 
@@ -128,104 +152,150 @@ unmade_over outputs desk mid desk_now name calls same (inl fails) = inl at
     }
 unmade_over outputs desk mid desk_now name calls same (inr made) = inr made
 
--- all inputs were read, and then nothing was called
-read_only : (inputs : List (List ℕ × ℕ)) (calls later : List CallMade) → ReadsAll inputs calls → IsNoCall later → ReadsAll inputs (calls ++ later)
-read_only inputs calls later reads none = subst (ReadsAll inputs) (sym (ap (λ (l : List CallMade). calls ++ l) none ∙ append-nil calls)) reads
+-- what is left of the values of a command comes of it, as what is left of all values of which its inputs say this
+pub finishes_of : {Y : Type 0} (leaves : Y → Leaving) (y : Y) (desk desk_now : DeskView) (out out_now : SinkView) (Way : List CallMade → Type 0)
+    (result : Result (Unit {0}) Stop) → Finishes (MayLeave (leaves y)) desk desk_now out out_now Way result
+    → Finishes (ComesOfAll (λ (v : Y). y ≡ v) leaves) desk desk_now out out_now Way result
+finishes_of leaves y desk desk_now out out_now Way result done =
+    finishes_as (MayLeave (leaves y)) (ComesOfAll (λ v. y ≡ v) leaves) desk desk_now out out_now Way result
+    (λ outcome left v same. subst (λ u. MayLeave (leaves u) outcome) same left) done
 
--- a call that ended at an input
-pub ends_at_input : (command : Command) (desk desk_now : DeskView) (out : SinkView) (Way : List CallMade → Type 0) (result : Result (Unit {0}) Stop) (stop : Stop)
-    → IsErrAnd result (λ s. s ≡ stop) → IsStopAtInput (λ reads. Comes reads desk.held command) desk desk_now stop → desk_now.held ≡ desk.held
-    → Went Way (StopsTakings (AcceptsInputs desk.held command) (inputs_of command) stop) → Ends (Some command) desk desk_now out out Way (answer_of result) (told_of result)
-ends_at_input command desk desk_now out Way (Ok done) stop is stands same went = absurd is
-ends_at_input command desk desk_now out Way (Err s) stop is stands same went = rw is (following stop stands went)
+-- so if outputs and a text are delivered
+pub finishes_with : {Y : Type 0} (leaves : Y → Leaving) (y : Y) (outputs : List (List ℕ × List ℕ)) (text : List ℕ) (trouble : Option (List ℕ))
+    (desk desk_now : DeskView) (out out_now : SinkView) (Way : List CallMade → Type 0) (result : Result (Unit {0}) Stop)
+    → MayLeave (leaves y) (ended_by outputs text trouble) → Delivers outputs text trouble desk desk_now out out_now Way result
+    → Finishes (ComesOfAll (λ (v : Y). y ≡ v) leaves) desk desk_now out out_now Way result
+finishes_with leaves y outputs text trouble desk desk_now out out_now Way result left delivers =
+    finishes_of leaves y desk desk_now out out_now Way result
+    (finishes (MayLeave (leaves y)) outputs text trouble desk desk_now out out_now Way result left delivers)
+
+-- the work goes on if there is no reason to refuse
+pub goes_on : (reason : Option (List ℕ)) (name kind : List ℕ) (next : Outcome → Type 0) (outcome : Outcome) → reason ≡ None → next outcome
+    → RefuseIf reason name kind next outcome
+goes_on reason name kind next outcome none is = rw none is
+
+-- ---- a command
+
+-- it stopped at one of its inputs
+pub ends_at_turns : {V : Type 0} (command : Command) (means : V → (doing_of command).Values → Type 0) (desk desk_now : DeskView) (out : SinkView)
+    (Way : List CallMade → Type 0) (result : Result (Unit {0}) Stop) (stop : Stop) → IsErrAnd result (λ s. s ≡ stop)
+    → (let turns : Result V Stop = Err stop in Turns (doing_of command).takes means desk desk_now Way turns)
+    → Ends (Some command) desk desk_now out out Way (answer_of result) (told_of result)
+ends_at_turns command means desk desk_now out Way (Ok done) stop is turns = absurd is
+ends_at_turns {V} command means desk desk_now out Way (Err s) stop is turns = rw is (following stop turns)
   where
-    kept : KeepsOthers (outputs_of command) desk desk_now
-    kept name not = ap (λ (h : List ℕ → Entry). h name) same
-
     -- with this ending, whose status and line are those of the stop
     ended : (ending : Ending) (stop : Stop) → status_at ending ≡ stop_status stop → err_line_at ending ≡ stop_line stop
-        → StandsAfter (Some command) desk desk_now out out ending → Went Way (InOrder (Some command) desk desk_now ending)
+        → desk_now.held ≡ desk.held → StandsAfter (Some command) desk desk_now out out ending → Went Way (InOrder (Some command) desk desk_now ending)
         → Ends (Some command) desk desk_now out out Way (stop_status stop) (stop_line stop)
-    ended ending stop status told stands order =
-        record { ending = ending; status = status; told = told; stands = stands; names = kept; order = order }
+    ended ending stop status told same stands order =
+        record { ending = ending; status = status; told = told; stands = stands; names = λ name not. ap (λ (h : List ℕ → Entry). h name) same; order = order }
 
-    following : (stop : Stop) → IsStopAtInput (λ reads. Comes reads desk.held command) desk desk_now stop
-        → Went Way (StopsTakings (AcceptsInputs desk.held command) (inputs_of command) stop) → Ends (Some command) desk desk_now out out Way (stop_status stop) (stop_line stop)
-    following stops.BadLine stands went = absurd stands
-    following (stops.Unread n) stands went =
-        ended (With (Unread n.now)) (stops.Unread n) refl refl (stands, (same, refl))
-        (went_as Way _ (InOrder (Some command) desk desk_now (With (Unread n.now))) went (λ calls p.
-        let P : List ℕ → Type 0 = λ m. StopsAtInput (AcceptsInputs desk.held command) (inputs_of command) m (λ limit. ReadsUpToFault m (limit + 1)) calls in subst P (sym p.1) p.2))
-    following (stops.TooLong n) stands went =
-        ended (With (TooLong n.now)) (stops.TooLong n) refl refl (stands, (same, refl))
-        (went_as Way _ (InOrder (Some command) desk desk_now (With (TooLong n.now))) went (λ calls p.
-        let P : List ℕ → Type 0 = λ m. StopsAtInput (AcceptsInputs desk.held command) (inputs_of command) m (λ limit. Reads m (limit + 1) 0 (limit + 1)) calls in subst P (sym p.1) p.2))
-    following (stops.Refused n kind words) stands went =
-        ended (With (Refused n.now kind.now (words_text words))) (stops.Refused n kind words) refl refl (stands, (same, refl))
-        (went_as Way _ (InOrder (Some command) desk desk_now (With (Refused n.now kind.now (words_text words)))) went (λ calls p.
-        let P : List ℕ → Type 0 = λ m. StopsAtInput (AcceptsInputs desk.held command) (inputs_of command) m (λ limit. ReadsWhole m limit) calls in inl (subst P (sym p.1) p.2)))
-    following (stops.Fell words) stands went = absurd stands
-    following (stops.Unwritten n) stands went = absurd stands
-    following stops.NoMemory stands went =
-        ended NoMemory stops.NoMemory refl refl (same, refl)
-        (went_as Way _ (InOrder (Some command) desk desk_now NoMemory) went (λ calls p. inr (inl (p.0, p.2))))
+    stands_at : (stop : Stop) → (let turns : Result V Stop = Err stop in Turns (doing_of command).takes means desk desk_now Way turns)
+        → IsStopAtInput (Comes (doing_of command) desk.held) (ReachesInput (doing_of command).takes desk.held) desk desk_now stop
+    stands_at stop turns =
+        stop_stands (doing_of command).takes (λ y. MayLeave ((doing_of command).leaves y)) desk desk_now stop turns.calls.calls turns.calls.are
 
--- a call that ended with its work
-pub ends_with_work : {S : Type 0} (along : S → S → List CallMade → Type 0) → Composes along → (first second third : S) (command : Command) (yields : Outcome → Type 0) (desk mid desk_now : DeskView) (out out_now : SinkView)
-    (result : Result (Unit {0}) Stop) → ((reads : DeskReads) (outcome : Outcome) → yields outcome → Comes reads desk.held command outcome)
-    → mid.held ≡ desk.held → mid.read_faults ≡ desk.read_faults → mid.write_faults ≡ desk.write_faults → Finishes yields mid desk_now out out_now (along second third) result
-    → KeepsOthers (outputs_of command) mid desk_now
-    → Went (along first second) (λ calls. AcceptsInputs desk.held command (length (inputs_of command)) × ReadsAll (inputs_of command) calls)
-    → Ends (Some command) desk desk_now out out_now (along first third) (answer_of result) (told_of result)
-ends_with_work along both first second third command yields desk mid desk_now out out_now result comes same calm counted done others taken = by_result result done
+    following : (stop : Stop) → (let turns : Result V Stop = Err stop in Turns (doing_of command).takes means desk desk_now Way turns)
+        → Ends (Some command) desk desk_now out out Way (stop_status stop) (stop_line stop)
+    following stops.BadLine turns = absurd (stands_at stops.BadLine turns)
+    following (stops.Unread n) turns =
+        let P : List ℕ → ℕ → List CallMade → Type 0 = λ m limit. ReadsUpToFault m (limit + 1) in
+        ended (With (Unread n.now)) (stops.Unread n) refl refl turns.held (stands_at (stops.Unread n) turns, (turns.held, refl))
+        (went_as Way _ (InOrder (Some command) desk desk_now (With (Unread n.now))) turns.calls
+        (stop_calls (doing_of command).takes desk desk_now (stops.Unread n) n.now (P n.now)
+        (λ X form name calls taken stops. (taken.0, subst (λ (m : List ℕ). P m form.limit calls) (sym taken.0) stops))))
+    following (stops.TooLong n) turns =
+        let P : List ℕ → ℕ → List CallMade → Type 0 = λ m limit. Reads m (limit + 1) 0 (limit + 1) in
+        ended (With (TooLong n.now)) (stops.TooLong n) refl refl turns.held (stands_at (stops.TooLong n) turns, (turns.held, refl))
+        (went_as Way _ (InOrder (Some command) desk desk_now (With (TooLong n.now))) turns.calls
+        (stop_calls (doing_of command).takes desk desk_now (stops.TooLong n) n.now (P n.now)
+        (λ X form name calls taken stops. (taken.0, subst (λ (m : List ℕ). P m form.limit calls) (sym taken.0) stops))))
+    following (stops.Refused n kind words) turns =
+        let P : List ℕ → ℕ → List CallMade → Type 0 = λ m limit. ReadsWhole m limit in
+        let outcome : Outcome = Refused n.now kind.now (words_text words) in
+        ended (With outcome) (stops.Refused n kind words) refl refl turns.held (stands_at (stops.Refused n kind words) turns, (turns.held, refl))
+        (went_as Way _ (InOrder (Some command) desk desk_now (With outcome)) turns.calls
+        (λ calls are. inl (stop_calls (doing_of command).takes desk desk_now (stops.Refused n kind words) n.now (P n.now)
+        (λ X form name calls taken stops. (taken.0, subst (λ (m : List ℕ). P m form.limit calls) (sym taken.0) stops)) calls are)))
+    following (stops.Fell words) turns = absurd (stands_at (stops.Fell words) turns)
+    following (stops.Unwritten n) turns = absurd (stands_at (stops.Unwritten n) turns)
+    following stops.NoMemory turns =
+        ended NoMemory stops.NoMemory refl refl turns.held (turns.held, refl)
+        (went_as Way _ (InOrder (Some command) desk desk_now NoMemory) turns.calls
+        (λ calls are. inr (inl (memory_calls (doing_of command).takes desk desk_now calls are))))
+
+-- it took all of them, and did its work
+pub ends_after_turns : {S V : Type 0} (along : S → S → List CallMade → Type 0) → Composes along → (seen : S → DeskView) (command : Command)
+    (means : V → (doing_of command).Values → Type 0) (inputs : V) (first second third : S) (out out_now : SinkView) (result : Result (Unit {0}) Stop)
+    → (let turns : Result V Stop = Ok inputs in Turns (doing_of command).takes means (seen first) (seen second) (along first second) turns)
+    → Finishes (ComesOfAll (means inputs) (doing_of command).leaves) (seen second) (seen third) out out_now (along second third) result
+    → KeepsOthers (outputs_of command) (seen second) (seen third)
+    → Ends (Some command) (seen first) (seen third) out out_now (along first third) (answer_of result) (told_of result)
+ends_after_turns {V = V} along both seen command means inputs first second third out out_now result turns done others = by_result result done
   where
-    read : Went (along first second) (ReadsAll (inputs_of command))
-    read = record { calls = taken.calls; way = taken.way; are = taken.are.1 }
+    desk : DeskView
+    desk = seen first
 
-    kept : KeepsOthers (outputs_of command) desk desk_now
-    kept name not = others name not ∙ ap (λ (h : List ℕ → Entry). h name) same
+    mid : DeskView
+    mid = seen second
 
-    nothing : WritesNothing mid desk_now out out_now → WritesNothing desk desk_now out out_now
-    nothing (held, written) = (held ∙ same, written)
+    desk_now : DeskView
+    desk_now = seen third
 
-    then_made : (outputs : List (List ℕ × List ℕ)) (ending : Ending) → ((calls later : List CallMade) → ReadsAll (inputs_of command) calls → MakesAll outputs later
-        → InOrder (Some command) desk desk_now ending (calls ++ later)) → Went (along second third) (MakesAll outputs)
-        → Went (along first third) (InOrder (Some command) desk desk_now ending)
-    then_made outputs ending joined made =
-        went_on along both first second third (ReadsAll (inputs_of command)) (MakesAll outputs) (InOrder (Some command) desk desk_now ending) read made joined
+    comes : (outcome : Outcome) → ComesOfAll (means inputs) (doing_of command).leaves outcome → Comes (doing_of command) (seen first).held outcome
+    comes outcome left =
+        all_come (doing_of command).takes (λ y. MayLeave ((doing_of command).leaves y)) (seen first).held means inputs turns.calls.calls turns.calls.are outcome left
 
-    by_result : (result : Result (Unit {0}) Stop) → Finishes yields mid desk_now out out_now (along second third) result
-        → Ends (Some command) desk desk_now out out_now (along first third) (answer_of result) (told_of result)
+    kept : KeepsOthers (outputs_of command) (seen first) (seen third)
+    kept name not = others name not ∙ ap (λ (h : List ℕ → Entry). h name) turns.held
+
+    nothing : WritesNothing (seen second) (seen third) out out_now → WritesNothing (seen first) (seen third) out out_now
+    nothing (held, written) = (held ∙ turns.held, written)
+
+    -- the calls of the inputs, and then these
+    then_called : (Q R : List CallMade → Type 0) (Then : (doing_of command).Values → List CallMade → Type 0)
+        → ((y : (doing_of command).Values) (later : List CallMade) → means inputs y → Q later → Then y later)
+        → ((calls : List CallMade) → ReadsInputs (doing_of command).takes (seen first).held (AreAllTaken Then) calls → R calls)
+        → Went (along second third) Q → Went (along first third) R
+    then_called Q R Then said is went =
+        went_on along both first second third
+        (ReadsInputs (doing_of command).takes (seen first).held (AreAllTaken (λ y calls. (calls ≡ []) × means inputs y))) Q R turns.calls went
+        (λ calls later reads q. is (calls ++ later)
+        (all_calls (doing_of command).takes (seen first).held means inputs Then calls later reads (λ y of_y. said y later of_y q)))
+
+    by_result : (result : Result (Unit {0}) Stop)
+        → Finishes (ComesOfAll (means inputs) (doing_of command).leaves) (seen second) (seen third) out out_now (along second third) result
+        → Ends (Some command) (seen first) (seen third) out out_now (along first third) (answer_of result) (told_of result)
     by_result (Ok done) left = record {
       ending = With (Done left.outputs left.text);
       status = refl;
       told = refl;
-      stands = (comes Sound _ left.comes, writes_over left.outputs left.text desk mid desk_now out out_now same calm counted left.writes);
+      stands = (comes _ left.comes, writes_over left.outputs left.text desk mid desk_now out out_now turns.held turns.calm turns.writes left.writes);
       names = kept;
-      order = then_made left.outputs (With (Done left.outputs left.text))
-          (λ calls later p q. record { before = calls; last = later; order = refl; reads = p; goes_on = q }) left.then_so;
+      order = then_called (MakesAll left.outputs) (InOrder (Some command) desk desk_now (With (Done left.outputs left.text))) _
+          (λ y later of_y made. (left.comes y of_y, made)) (λ calls are. are) left.then_so;
     }
     by_result (Err stops.BadLine) left = absurd left
     by_result (Err (stops.Unread n)) left = absurd left
     by_result (Err (stops.TooLong n)) left = absurd left
-    by_result (Err (stops.Refused n kind words)) (yielded, none, silent) = record {
+    by_result (Err (stops.Refused n kind words)) (left, none, silent) = record {
       ending = With (Refused n.now kind.now (words_text words));
       status = refl;
       told = refl;
-      stands = (comes Sound _ yielded, nothing none);
+      stands = (comes _ left, nothing none);
       names = kept;
-      order = went_on along both first second third (ReadsAll (inputs_of command)) IsNoCall
-          (InOrder (Some command) desk desk_now (With (Refused n.now kind.now (words_text words)))) read silent
-          (λ calls later p q. inr (comes AllAccepted _ yielded, read_only (inputs_of command) calls later p q));
+      order = then_called IsNoCall (InOrder (Some command) desk desk_now (With (Refused n.now kind.now (words_text words)))) _
+          (λ y later of_y silent. (left y of_y, silent)) (λ calls are. inr are) silent;
     }
     by_result (Err (stops.Fell words)) left = record {
       ending = With (Fell left.outputs left.text (words_text words));
       status = refl;
       told = refl;
-      stands = (comes Sound _ left.comes, writes_over left.outputs left.text desk mid desk_now out out_now same calm counted left.writes);
+      stands = (comes _ left.comes, writes_over left.outputs left.text desk mid desk_now out out_now turns.held turns.calm turns.writes left.writes);
       names = kept;
-      order = then_made left.outputs (With (Fell left.outputs left.text (words_text words)))
-          (λ calls later p q. record { before = calls; last = later; order = refl; reads = p; goes_on = q }) left.then_so;
+      order = then_called (MakesAll left.outputs) (InOrder (Some command) desk desk_now (With (Fell left.outputs left.text (words_text words)))) _
+          (λ y later of_y made. (left.comes y of_y, made)) (λ calls are. are) left.then_so;
     }
     by_result (Err (stops.Unwritten n)) left = record {
       ending = Unwritten n.now left.outputs;
@@ -233,17 +303,16 @@ ends_with_work along both first second third command yields desk mid desk_now ou
       told = refl;
       stands = record {
         outcome = left.outcome;
-        comes = comes Sound left.outcome left.comes;
+        comes = comes left.outcome left.comes;
         outputs = left.outputs;
         text = left.text;
         writes = left.writes;
-        failed = fails_over left.outputs left.text desk mid desk_now out out_now n.now same counted left.failed;
+        failed = fails_over left.outputs left.text desk mid desk_now out out_now n.now turns.held turns.writes left.failed;
         then_so = refl;
       };
       names = kept;
-      order = went_on along both first second third (ReadsAll (inputs_of command)) (IsUnmade left.outputs mid desk_now n.now)
-          (InOrder (Some command) desk desk_now (Unwritten n.now left.outputs)) read left.then_so (λ calls later p q.
-          record { before = calls; last = later; order = refl; reads = p; goes_on = unmade_over left.outputs desk mid desk_now n.now later same q });
+      order = then_called (IsUnmade left.outputs mid desk_now n.now) (InOrder (Some command) desk desk_now (Unwritten n.now left.outputs)) _
+          (λ y later of_y made. (tt, unmade_over left.outputs desk mid desk_now n.now later turns.held made)) (λ calls are. are) left.then_so;
     }
     by_result (Err stops.NoMemory) left = record {
       ending = NoMemory;
@@ -251,28 +320,10 @@ ends_with_work along both first second third command yields desk mid desk_now ou
       told = refl;
       stands = nothing left.0;
       names = kept;
-      order = went_on along both first second third (ReadsAll (inputs_of command)) IsNoCall (InOrder (Some command) desk desk_now NoMemory) read left.1
-          (λ calls later p q. inr (inr (taken.are.0, read_only (inputs_of command) calls later p q)));
+      order = then_called IsNoCall (InOrder (Some command) desk desk_now NoMemory) _ (λ y later of_y silent. (tt, silent)) (λ calls are. inr (inr are)) left.1;
     }
 
--- a command that took its inputs, or stopped at one of them
-pub ends_at_turns : {X : Type 0} (command : Command) (yields : X → Outcome → Type 0) (desk desk_now : DeskView) (out : SinkView) (Way : List CallMade → Type 0)
-    (result : Result (Unit {0}) Stop) (stop : Stop) → IsErrAnd result (λ s. s ≡ stop)
-    → (let turns : Result X Stop = Err stop in TakesAll (λ reads. Comes reads desk.held command) yields (AcceptsInputs desk.held command) (inputs_of command)
-    desk desk_now Way turns)
-    → Ends (Some command) desk desk_now out out Way (answer_of result) (told_of result)
-ends_at_turns command yields desk desk_now out Way result stop is turns =
-    ends_at_input command desk desk_now out Way result stop is turns.taken turns.held turns.calls
-
-pub ends_after_turns : {S X : Type 0} (along : S → S → List CallMade → Type 0) → Composes along → (desk : S → DeskView) (command : Command)
-    (yields : X → Outcome → Type 0) (inputs : X) (first second third : S) (out out_now : SinkView) (result : Result (Unit {0}) Stop)
-    → TakesAll (λ reads. Comes reads (desk first).held command) yields (AcceptsInputs (desk first).held command) (inputs_of command) (desk first) (desk second)
-    (along first second) (Ok inputs)
-    → Finishes (yields inputs) (desk second) (desk third) out out_now (along second third) result → KeepsOthers (outputs_of command) (desk second) (desk third)
-    → Ends (Some command) (desk first) (desk third) out out_now (along first third) (answer_of result) (told_of result)
-ends_after_turns along both desk command yields inputs first second third out out_now result turns done others =
-    ends_with_work along both first second third command (yields inputs) (desk first) (desk second) (desk third) out out_now result turns.taken turns.held
-    turns.calm turns.writes done others turns.calls
+-- ---- no command
 
 -- words that say no command
 bad_line : (said : Option Command) (desk : DeskView) (out : SinkView) (Way : List CallMade → Type 0) → said ≡ None → Went Way IsNoCall

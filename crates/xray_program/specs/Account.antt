@@ -1,5 +1,5 @@
 -- `account`: how often the functions of a trace were called, and for how long.
-use Rattle.std.specs.Prelude.{◌≡◌, ℕ, List, [], Bool, true, false}
+use Rattle.std.specs.Prelude.{ℕ, List, Bool, true, false}
 use Rattle.account_report.specs.Account.{account_of}
 use Rattle.account_report.specs.AccountText.{account_text, latencies_of}
 use Rattle.account_report.specs.Ordered.{arranged}
@@ -14,14 +14,8 @@ use Rattle.command_words.specs.declared.report_options.SortColumn.{SortColumn}
 use Rattle.command_words.specs.declared.report_options.SortColumn.TheVariants.{FuncId, Count, Min, Med, P90, P99, Max, Sum}
 use Rattle.command_words.specs.declared.report_options.SortOrder.{SortOrder}
 use Rattle.command_words.specs.declared.report_options.SortOrder.TheVariants.{Ascending, Descending}
-use Rattle.command_words.specs.Reports.{NameSource}
 use Rattle.fdr_file.specs.declared.trace.Trace.{Trace}
 use Rattle.map_names.specs.Naming.{Naming}
-use Rattle.xray_io.specs.Desk.{Entry}
-use Rattle.xray_program.specs.Inputs.{trace_form}
-use Rattle.xray_program.specs.Outcomes.{Outcome, Done}
-use Rattle.xray_program.specs.Reports.{TakeReport}
-use Rattle.xray_program.specs.Taking.{DeskReads}
 
 -- ---- what the words ask for, as the report has it
 
@@ -52,8 +46,3 @@ account_report options trace names =
     let rows = account_of trace.blocks in
     account_text (format_of options.format) (latencies_of rows) names
     (arranged (key_of options.sort) (is_descending options.order) options.top rows)
-
--- what comes of the command
-abbrev pub AccountComes : DeskReads → (List ℕ → Entry) → (trace : List ℕ) → NameSource → AccountOptions → Outcome → Type 0
-AccountComes reads held trace source options =
-    TakeReport trace_form reads held trace source (λ t names outcome. outcome ≡ Done [] (account_report options t names))

@@ -1,9 +1,7 @@
 -- `convert`: a trace or a basic log in another form.
-use Rattle.std.specs.Prelude.{◌≡◌, ◌++◌, ℕ, List, [], Option, Some, None, codes, decimal, if◌then◌else◌, length, nat_lt, option_map}
-use Rattle.command_words.specs.Reports.{NameSource}
+use Rattle.std.specs.Prelude.{◌++◌, ℕ, List, Option, Some, None, codes, decimal, if◌then◌else◌, length, nat_lt, option_map}
 use Rattle.command_words.specs.declared.report_options.ConvertFormat.{ConvertFormat}
 use Rattle.command_words.specs.declared.report_options.ConvertFormat.TheVariants as formats
-use Rattle.command_words.specs.declared.report_options.ConvertOptions.{ConvertOptions}
 use Rattle.command_words.specs.declared.report_options.InputForm.{InputForm}
 use Rattle.command_words.specs.declared.report_options.InputForm.TheVariants as inputs
 use Rattle.fdr_file.specs.declared.trace.Trace.{Trace}
@@ -11,11 +9,8 @@ use Rattle.fdr_file.specs.ThreadEvents.{ThreadEvent, thread_events}
 use Rattle.trace_forms.specs.BasicLogs.{basic_bytes, wide_cpu}
 use Rattle.trace_forms.specs.TraceEvents.{most_events, trace_events_text}
 use Rattle.map_names.specs.Naming.{Naming}
-use Rattle.xray_io.specs.Desk.{Entry}
 use Rattle.xray_program.specs.Inputs.{basic_form, trace_form}
-use Rattle.xray_program.specs.Outcomes.{Outcome, Done}
-use Rattle.xray_program.specs.Reports.{TakeReport}
-use Rattle.xray_program.specs.Taking.{DeskReads, Form, RefuseIf}
+use Rattle.xray_program.specs.Taking.{Form}
 use Rattle.yaml_convert.specs.Yaml.{yaml_text}
 
 -- the kind of input, by the form that the trace has
@@ -42,13 +37,3 @@ abbrev pub converted : ConvertFormat → Naming → Trace → List ℕ
 converted formats.Yaml names t = yaml_text names t
 converted formats.TraceEvents names t = trace_events_text names t
 converted formats.Basic names t = basic_bytes t
-
--- what comes of the judged inputs: the trace is refused if it can't be converted, and printed in its new form otherwise
-abbrev pub ConvertsTo : (trace : List ℕ) → ConvertFormat → Trace → Naming → Outcome → Type 0
-ConvertsTo trace format t names =
-    RefuseIf (no_text_for format t) trace (codes "trace") (λ outcome. outcome ≡ Done [] (converted format names t))
-
--- what comes of the command
-abbrev pub ConvertComes : DeskReads → (List ℕ → Entry) → (trace : List ℕ) → NameSource → ConvertOptions → Outcome → Type 0
-ConvertComes reads held trace source options =
-    TakeReport (log_form options.input) reads held trace source (λ t names. ConvertsTo trace options.format t names)

@@ -1,15 +1,15 @@
 -- The order in which a call asks its desk.
 use Rattle.std.specs.Prelude.{◌≡◌, ◌⊎◌, ℕ, ◌+◌, List, [], ◌∷◌, ◌++◌, length, codes, MatchOption, Option, Ok, Err, ⊤}
-use Rattle.std.specs.Option.{option_map_or}
 use Rattle.xray_io.specs.Calls.{CallMade}
+use Rattle.xray_io.specs.Desk.{Entry}
 use Rattle.xray_io.specs.Outputs.{IsMaking, Makes}
 use Rattle.xray_io.specs.Reads.{Reads, ReadsSome, ReadsUpTo, ReadsUpToFault}
 use Rattle.xray_io.specs.World.{DeskView}
 use Rattle.xray_io.specs.declared.faults.WriteFault.{WriteFault}
-use Rattle.xray_program.specs.Accepted.{AcceptsInputs}
-use Rattle.xray_program.specs.Commands.{ComesOf, inputs_of}
-use Rattle.xray_program.specs.Taking.{AllAccepted}
+use Rattle.xray_program.specs.Commands.{doing_of}
+use Rattle.xray_program.specs.Doings.{Gives, Leaving, MayLeave, Takes, Taking}
 use Rattle.xray_program.specs.Outcomes.{BadLine, Unread, TooLong, Refused, Done, Fell, Ending, With, Unwritten, NoMemory}
+use Rattle.xray_program.specs.Taking.{IsAcceptedAs}
 use Rattle.command_words.specs.Words.{Command}
 
 -- ---- inputs
@@ -19,25 +19,24 @@ use Rattle.command_words.specs.Words.{Command}
 abbrev pub ReadsWhole : List ℕ → (limit : ℕ) → List CallMade → Type 0
 ReadsWhole name limit calls = (to : ℕ) × ReadsUpTo name (limit + 1) to (Ok 0) calls
 
--- inputs were read whole, one after another
-abbrev pub ReadsAll : List (List ℕ × ℕ) → List CallMade → Type 0
-ReadsAll [] calls = calls ≡ []
-ReadsAll (input ∷ inputs) calls =
-    (mine : List CallMade) × (later : List CallMade) × (calls ≡ mine ++ later) × ReadsWhole input.0 input.1 mine × ReadsAll inputs later
+-- The first inputs were read whole, one after another, and each is accepted as the value for which the next was taken.
+-- This holds of what was still to be taken, and of the calls from then on.
+abbrev pub ReadsInputs : {Y : Type 0} {names : List (List ℕ)} → Taking Y names → (List ℕ → Entry) → (At : (left : List (List ℕ)) → Taking Y left → List CallMade → Type 0) → List CallMade → Type 0
+ReadsInputs (Takes {X} form name next) held At calls =
+    At _ (Takes form name next) calls
+    ⊎ ((mine : List CallMade) × (later : List CallMade) × (value : X) × (calls ≡ mine ++ later) × ReadsWhole name form.limit mine
+    × IsAcceptedAs form (held name) value × ReadsInputs (next value) held At later)
+ReadsInputs (Gives y) held At calls = At _ (Gives y) calls
 
--- The inputs before one of them were read whole, and each was accepted, as `Accepts` says of their number. `Last` holds
--- of the calls for that one, and no later input was asked for.
-pub record StopsAtInput (Accepts : (count : ℕ) → Type 0) (inputs : List (List ℕ × ℕ)) (name : List ℕ) (Last : (limit : ℕ) → List CallMade → Type 0) (calls : List CallMade) : Type 0 where
-  pub earlier : List (List ℕ × ℕ)
-  pub limit : ℕ
-  pub later : List (List ℕ × ℕ)
-  pub turn : inputs ≡ earlier ++ (name, limit) ∷ later
-  pub accepted : Accepts (length earlier)
-  pub before : List CallMade
-  pub last : List CallMade
-  pub order : calls ≡ before ++ last
-  pub reads : ReadsAll earlier before
-  pub stops : Last limit last
+-- the input of this name is next, and this holds of its limit and the calls
+abbrev pub IsNext : {Y : Type 0} → (name : List ℕ) → (Last : (limit : ℕ) → List CallMade → Type 0) → (left : List (List ℕ)) → Taking Y left → List CallMade → Type 0
+IsNext wanted Last _ (Takes form name next) calls = (wanted ≡ name) × Last form.limit calls
+IsNext wanted Last _ (Gives y) calls = ⊥
+
+-- all inputs were taken, and this holds of what they give and of the calls
+abbrev pub AreAllTaken : {Y : Type 0} → (Then : Y → List CallMade → Type 0) → (left : List (List ℕ)) → Taking Y left → List CallMade → Type 0
+AreAllTaken Then _ (Takes form name next) calls = ⊥
+AreAllTaken Then _ (Gives y) calls = Then y calls
 
 -- ---- outputs
 
@@ -71,40 +70,32 @@ IsNoCall calls = calls ≡ []
 
 -- ---- all of a call
 
--- all inputs were read whole, and then this was done
-pub record ReadsThen (inputs : List (List ℕ × ℕ)) (Then : List CallMade → Type 0) (calls : List CallMade) : Type 0 where
-  pub before : List CallMade
-  pub last : List CallMade
-  pub order : calls ≡ before ++ last
-  pub reads : ReadsAll inputs before
-  pub goes_on : Then last
+-- the calls for the inputs that were said, before the one of this name, and then these calls for it
+abbrev pub StopsAtInput : Option Command → (List ℕ → Entry) → (name : List ℕ) → (Last : (limit : ℕ) → List CallMade → Type 0) → List CallMade → Type 0
+StopsAtInput said held name Last calls = MatchOption said ⊥ (λ command. ReadsInputs (doing_of command).takes held (IsNext name Last) calls)
 
--- the first inputs that were said are accepted, as many as `count` says; if the words say no command, there are none
-abbrev pub AcceptsSaid : Option Command → DeskView → (count : ℕ) → Type 0
-AcceptsSaid said desk count = MatchOption said ⊤ (λ command. AcceptsInputs desk.held command count)
+-- the calls for all inputs that were said, and then these calls, if this may be left of what the inputs give
+abbrev pub ReadsThen : Option Command → (List ℕ → Entry) → (Left : Leaving → Type 0) → (Then : List CallMade → Type 0) → List CallMade → Type 0
+ReadsThen said held Left Then calls =
+    MatchOption said ⊥ (λ command.
+    ReadsInputs (doing_of command).takes held (AreAllTaken (λ y last. Left ((doing_of command).leaves y) × Then last)) calls)
 
--- the inputs that were said
-abbrev pub inputs_said : Option Command → List (List ℕ × ℕ)
-inputs_said said = option_map_or inputs_of said []
-
--- The calls of a call that ended in this way. If the words say no command, there are none. A refusal is of the last
--- input that was read, or it is late, though each input was accepted. Memory runs out before any call; or at an input,
--- and those before it were accepted; or later, and all were accepted.
+-- The calls of a call that ended in this way. If the words say no command, there are none. The inputs are read in their
+-- order, each whole before the next one, and each is accepted. A refusal is of the last input that was read, or it is
+-- late, though each input is accepted. Memory runs out before any call, or at an input, or after all inputs.
 abbrev pub InOrder : Option Command → (desk desk_now : DeskView) → Ending → List CallMade → Type 0
 InOrder said desk desk_now (With BadLine) calls = calls ≡ []
-InOrder said desk desk_now (With (Unread name)) calls =
-    StopsAtInput (AcceptsSaid said desk) (inputs_said said) name (λ limit. ReadsUpToFault name (limit + 1)) calls
-InOrder said desk desk_now (With (TooLong name)) calls =
-    StopsAtInput (AcceptsSaid said desk) (inputs_said said) name (λ limit. Reads name (limit + 1) 0 (limit + 1)) calls
+InOrder said desk desk_now (With (Unread name)) calls = StopsAtInput said desk.held name (λ limit. ReadsUpToFault name (limit + 1)) calls
+InOrder said desk desk_now (With (TooLong name)) calls = StopsAtInput said desk.held name (λ limit. Reads name (limit + 1) 0 (limit + 1)) calls
 InOrder said desk desk_now (With (Refused name kind refusal)) calls =
-    StopsAtInput (AcceptsSaid said desk) (inputs_said said) name (λ limit. ReadsWhole name limit) calls
-    ⊎ (ComesOf AllAccepted said desk.held (Refused name kind refusal) × ReadsAll (inputs_said said) calls)
-InOrder said desk desk_now (With (Done outputs text)) calls = ReadsThen (inputs_said said) (MakesAll outputs) calls
-InOrder said desk desk_now (With (Fell outputs text trouble)) calls = ReadsThen (inputs_said said) (MakesAll outputs) calls
-InOrder said desk desk_now (Unwritten name outputs) calls =
-    ReadsThen (inputs_said said) (IsUnmade outputs desk desk_now name) calls
+    StopsAtInput said desk.held name (λ limit. ReadsWhole name limit) calls
+    ⊎ ReadsThen said desk.held (λ left. MayLeave left (Refused name kind refusal)) IsNoCall calls
+InOrder said desk desk_now (With (Done outputs text)) calls =
+    ReadsThen said desk.held (λ left. MayLeave left (Done outputs text)) (MakesAll outputs) calls
+InOrder said desk desk_now (With (Fell outputs text trouble)) calls =
+    ReadsThen said desk.held (λ left. MayLeave left (Fell outputs text trouble)) (MakesAll outputs) calls
+InOrder said desk desk_now (Unwritten name outputs) calls = ReadsThen said desk.held (λ left. ⊤) (IsUnmade outputs desk desk_now name) calls
 InOrder said desk desk_now NoMemory calls =
     (calls ≡ [])
-    ⊎ ((name : List ℕ) × StopsAtInput (AcceptsSaid said desk) (inputs_said said) name
-    (λ limit last. ReadsSome name (limit + 1) last ⊎ ReadsWhole name limit last) calls)
-    ⊎ (AcceptsSaid said desk (length (inputs_said said)) × ReadsAll (inputs_said said) calls)
+    ⊎ ((name : List ℕ) × StopsAtInput said desk.held name (λ limit last. ReadsSome name (limit + 1) last ⊎ ReadsWhole name limit last) calls)
+    ⊎ ReadsThen said desk.held (λ left. ⊤) IsNoCall calls

@@ -1,16 +1,12 @@
 -- `plain`: the plain texts of the threads.
 use Rattle.std.specs.Prelude.{◌≡◌, ◌+◌, ℕ, List, length, Some, slice_get}
 use Rattle.std.specs.List.{flat_map}
-use Rattle.xray_io.specs.Desk.{Entry}
 use Rattle.xray_image.specs.Program.{Program}
 use Rattle.machine_step.specs.declared.end.End.{End}
 use Rattle.machine_step.specs.declared.limits.Limits.{Limits}
 use Rattle.machine_step.specs.PlainStep.{State, Passing, PlainRun}
 use Rattle.machine_step.specs.Texts.{plain_text}
-use Rattle.xray_program.specs.Inputs.{image_form}
-use Rattle.xray_program.specs.Outcomes.{Outcome}
 use Rattle.xray_program.specs.Setups.{plain_limits}
-use Rattle.xray_program.specs.Taking.{DeskReads, Take, Prints}
 use Rattle.command_words.specs.declared.run_options.Bounds.{Bounds}
 
 -- the text of a thread, with the end, the counts, the registers and the output of its plain run
@@ -28,7 +24,3 @@ pub record PlainPrints (program : Program) (bounds : Bounds) (text : List ℕ) :
   pub each : (k : ℕ) (t : List ℕ) → slice_get texts k ≡ Some t
       → IsPlainText program (plain_limits bounds) (k + 1) t
   pub joined : text ≡ flat_map (λ t. t) texts
-
--- what comes of the command
-abbrev pub PlainComes : DeskReads → (List ℕ → Entry) → (image : List ℕ) → Bounds → Outcome → Type 0
-PlainComes reads held image bounds = Take image_form reads held image (λ program. Prints (PlainPrints program bounds))

@@ -1,5 +1,5 @@
 -- `profile`: threads that run over an image while a script patches their sleds, and the stacks of what they recorded.
-use Rattle.std.specs.Prelude.{◌≡◌, ◌+◌, ◌++◌, ℕ, List, [], ◌∷◌, map, codes, decimal, Option, Some, None}
+use Rattle.std.specs.Prelude.{◌+◌, ◌++◌, ℕ, List, [], ◌∷◌, map, codes, decimal, Option, Some, None}
 use Rattle.call_trie.specs.declared.state.TrieState.{TrieState}
 use Rattle.call_trie.specs.declared.state.TrieState.TheVariants.{Live, Full, Deep}
 use Rattle.call_trie.specs.Tries.{state_after}
@@ -9,18 +9,14 @@ use Rattle.command_words.specs.declared.report_options.StackFormat.TheVariants.{
 use Rattle.function_names.specs.Name.{program_names}
 use Rattle.fdr_record.specs.declared.event.Event.{Event}
 use Rattle.patch_script.specs.declared.command.PatchCommand.{PatchCommand}
-use Rattle.patch_script.specs.Plans.{Plan}
-use Rattle.patch_script.specs.Refusals.{commands_of}
 use Rattle.stack_rebuild.specs.Stacks.{stack_of_threads}
 use Rattle.traced_run.specs.Runs.{ThreadRun, events_of}
 use Rattle.xray_image.specs.Program.{Program}
-use Rattle.xray_io.specs.Desk.{Entry}
 use Rattle.xray_program.specs.Outcomes.{Outcome}
 use Rattle.xray_program.specs.Run.{RanBeside}
-use Rattle.xray_program.specs.Scripts.{TakeScript}
 use Rattle.xray_program.specs.Setups.{limits_of}
 use Rattle.xray_program.specs.Stack.{rows_text}
-use Rattle.xray_program.specs.Taking.{DeskReads, ended_by}
+use Rattle.xray_program.specs.Taking.{ended_by}
 use Rattle.xray_program.specs.Traced.{state_texts}
 
 -- what went wrong with the recorder of a thread, if it has stopped
@@ -64,12 +60,3 @@ profile_of options program runs =
 -- the threads have run beside a script, by the law of `run`
 abbrev pub AreProfiled : ProfileOptions → Program → List PatchCommand → List ThreadRun → Type 0
 AreProfiled options program script = RanBeside program script options.bounds.threads (limits_of options.bounds options.stamps)
-
--- what comes of the judged inputs: what comes of some such runs
-abbrev pub Profiles : ProfileOptions → Program → Plan → Outcome → Type 0
-Profiles options program plan outcome =
-    (runs : List ThreadRun) × AreProfiled options program (commands_of plan.lines) runs × (outcome ≡ profile_of options program runs)
-
--- what comes of the command
-abbrev pub ProfileComes : DeskReads → (List ℕ → Entry) → (image script : List ℕ) → ProfileOptions → Outcome → Type 0
-ProfileComes reads held image script options = TakeScript reads held image script options.bounds.threads (Profiles options)

@@ -1,6 +1,5 @@
 -- `run`: threads that run over an image while a script patches their sleds.
 use Rattle.std.specs.Prelude.{◌≡◌, ◌≢◌, ℕ, List, All}
-use Rattle.xray_io.specs.Desk.{Entry}
 use Rattle.xray_image.specs.Program.{Program}
 use Rattle.sled_words.specs.Words.{release_word}
 use Rattle.patch_script.specs.Micros.{total_of}
@@ -13,9 +12,8 @@ use Rattle.machine_step.specs.Loads.{Load}
 use Rattle.machine_step.specs.Traced.{sleds_passed}
 use Rattle.traced_run.specs.Following.{LoadsFollow}
 use Rattle.traced_run.specs.Runs.{EachThread, ThreadRun}
-use Rattle.xray_program.specs.Outcomes.{Outcome}
-use Rattle.xray_program.specs.Scripts.{TakeScript}
-use Rattle.xray_program.specs.Taking.{DeskReads, Leaves}
+use Rattle.xray_program.specs.Doings.{Chooses, Leaves, Leaving}
+use Rattle.xray_program.specs.Outcomes.{Done}
 use Rattle.xray_program.specs.Traced.{IsTraced, RanLawfully}
 
 -- The law of threads that run beside a script. The loads of each thread follow the script to its end, and none of them is
@@ -29,11 +27,9 @@ pub record LoadsFollowPlan (program : Program) (threads : ℕ) (script : List Pa
 abbrev pub RanBeside : Program → List PatchCommand → (threads : ℕ) → Limits → List ThreadRun → Type 0
 RanBeside program script threads limits = RanLawfully (LoadsFollowPlan program threads script) program script threads limits
 
--- What comes of the judged inputs: what is left of some runs of these threads. Whose segments are lost isn't fixed.
-abbrev pub RunsBeside : (trace audit : List ℕ) → Setup → Program → Plan → Outcome → Type 0
-RunsBeside trace audit setup program plan =
-    Leaves (IsTraced (RanBeside program (commands_of plan.lines) setup.threads setup.limits) setup trace audit)
-
--- what comes of the command
-abbrev pub RunComes : DeskReads → (List ℕ → Entry) → (image script trace audit : List ℕ) → Setup → Outcome → Type 0
-RunComes reads held image script trace audit setup = TakeScript reads held image script setup.threads (RunsBeside trace audit setup)
+-- What is left of the judged inputs: what is left of some runs of these threads. Whose segments are lost isn't fixed.
+abbrev pub left_of_runs : (trace audit : List ℕ) → Setup → Program → Plan → Leaving
+left_of_runs trace audit setup program plan =
+    Chooses (λ (written : List (List ℕ × List ℕ) × List ℕ).
+    IsTraced (RanBeside program (commands_of plan.lines) setup.threads setup.limits) setup trace audit written.0 written.1)
+    (λ (outputs, text). Leaves (Done outputs text))

@@ -1,6 +1,5 @@
 -- `sim`: the replay of a schedule over an image and a script.
 use Rattle.std.specs.Prelude.{◌≡◌, ℕ, List, codes, option_map}
-use Rattle.xray_io.specs.Desk.{Entry}
 use Rattle.xray_image.specs.Program.{Program}
 use Rattle.patch_script.specs.Plans.{Plan, waiting_line}
 use Rattle.patch_script.specs.Refusals.{commands_of}
@@ -11,9 +10,8 @@ use Rattle.step_sim.specs.FaultWords.{waits_words}
 use Rattle.step_sim.specs.Replay.{of_thread}
 use Rattle.step_sim.specs.Replayed.{IsReplayOf}
 use Rattle.traced_run.specs.Runs.{ThreadRun}
-use Rattle.xray_program.specs.Inputs.{image_form, script_form, schedule_form}
-use Rattle.xray_program.specs.Outcomes.{Outcome}
-use Rattle.xray_program.specs.Taking.{DeskReads, Take, RefuseIf, Leaves}
+use Rattle.xray_program.specs.Doings.{Finds, Leaves, Leaving, RefusesIf}
+use Rattle.xray_program.specs.Outcomes.{Done}
 use Rattle.xray_program.specs.Traced.{IsTraced, RanLawfully}
 
 -- runs are lawful if a replay of these turns leaves them
@@ -32,17 +30,10 @@ abbrev pub RanReplayed : Program → Plan → List Turns → Setup → List Thre
 RanReplayed program plan turns setup =
     RanLawfully (LoadsAreReplayed program plan turns setup) program (commands_of plan.lines) setup.threads setup.limits
 
--- What comes of the judged inputs. If a thread or the patcher may wait in the script, it is refused for the first such
+-- What is left of the judged inputs. If a thread or the patcher may wait in the script, it is refused for the first such
 -- line. Otherwise the turns are replayed, and what is left of their runs is written.
-abbrev pub Replays : (script trace audit : List ℕ) → Setup → Program → Plan → List Turns → Outcome → Type 0
-Replays script trace audit setup program plan turns =
-    RefuseIf (option_map waits_words (waiting_line plan.lines)) script (codes "script")
-    (Leaves (IsTraced (RanReplayed program plan turns setup) setup trace audit))
-
--- what comes of the command
-abbrev pub SimComes : DeskReads → (List ℕ → Entry) → (image script schedule trace audit : List ℕ) → Setup → Outcome → Type 0
-SimComes reads held image script schedule trace audit setup =
-    Take image_form reads held image (λ program.
-    Take (script_form program setup.threads) reads held script (λ plan.
-    Take (schedule_form setup.threads) reads held schedule (λ turns.
-    Replays script trace audit setup program plan turns)))
+abbrev pub left_of_replay : (script trace audit : List ℕ) → Setup → Program → Plan → List Turns → Leaving
+left_of_replay script trace audit setup program plan turns =
+    RefusesIf (option_map waits_words (waiting_line plan.lines)) script (codes "script")
+    (Finds (λ (written : List (List ℕ × List ℕ) × List ℕ). IsTraced (RanReplayed program plan turns setup) setup trace audit written.0 written.1)
+    (λ (outputs, text). Leaves (Done outputs text)))

@@ -17,9 +17,7 @@ use Rattle.trace_flush.specs.Summary.{summary_text}
 use Rattle.traced_run.specs.Losses.{recycled_of}
 use Rattle.traced_run.specs.Runs.{ThreadRun}
 use Rattle.xray_image.specs.Program.{Program, IsAccepted}
-use Rattle.xray_program.specs.Outcomes.{Outcome}
 use Rattle.xray_program.specs.Sim.{Replayed}
-use Rattle.xray_program.specs.Taking.{Prints}
 
 -- what each replay is made with
 abbrev pub soak_setup : Setup
@@ -69,7 +67,3 @@ pub record IsSummary (number : ℕ) (text : List ℕ) : Type 0 where
   pub trace : Trace
   pub reads_back : trace_of (trace_bytes soak_setup runs) ≡ Ok trace
   pub is : text ≡ soak_summary number runs trace
-
--- what comes of the command
-abbrev pub SoakComes : (number : ℕ) → Outcome → Type 0
-SoakComes number = Prints (IsSummary number)

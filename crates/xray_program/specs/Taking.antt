@@ -1,5 +1,5 @@
--- Inputs in their turn: what comes of them, one inside the other, in the order in which they are taken.
-use Rattle.std.specs.Prelude.{◌≡◌, ◌⊎◌, ◌<◌, ◌≤◌, ℕ, List, [], length, Option, Some, None, ⊤}
+-- An input in its turn: how it is judged, and what comes of it.
+use Rattle.std.specs.Prelude.{◌≡◌, ◌⊎◌, ◌<◌, ◌≤◌, ℕ, List, length, Option, Some, None, ⊤}
 use Rattle.xray_io.specs.Desk.{Entry, Untold, Absent, Holds}
 use Rattle.xray_program.specs.Outcomes.{Outcome, Unread, TooLong, Refused, Done, Fell}
 
@@ -14,25 +14,6 @@ pub record Form (X : Type 0) : Type 1 where
 -- a kind of input that is never refused: any bytes are its value
 abbrev pub any_bytes : (kind : List ℕ) → (limit : ℕ) → Form (List ℕ)
 any_bytes kind limit = record { kind = kind; limit = limit; Reads = λ bytes value. value ≡ bytes; Refuses = λ _ _. ⊥ }
-
--- How inputs are taken: no read of a name that the desk holds fails; or any read may fail; or each input is accepted,
--- so no turn fails.
-pub data DeskReads : Type 0 where
-  Sound : DeskReads
-  Faulty : DeskReads
-  AllAccepted : DeskReads
-
--- a name can't be read, if this is what the desk reports of it
-abbrev pub IsUnreadable : DeskReads → Entry → Type 0
-IsUnreadable Sound entry = entry ≡ Absent
-IsUnreadable Faulty entry = ⊤
-IsUnreadable AllAccepted entry = ⊥
-
--- bytes aren't an input, for this reason; if each input is accepted, this can't be
-abbrev pub IsNoInput : DeskReads → Type 0 → Type 0
-IsNoInput Sound Reason = Reason
-IsNoInput Faulty Reason = Reason
-IsNoInput AllAccepted Reason = ⊥
 
 -- the bytes that a name may hold, by what the desk reports of it
 abbrev pub MayHold : Entry → List ℕ → Type 0
@@ -49,32 +30,24 @@ pub record IsAcceptedAs {X : Type 0} (form : Form X) (entry : Entry) (value : X)
   pub reads : form.Reads bytes value
 
 -- Bytes are judged: they are too many, or they are refused, or they read as a value, and what follows is that value's.
-abbrev pub Judge : {X : Type 0} → Form X → DeskReads → (name bytes : List ℕ) → (X → Outcome → Type 0) → Outcome → Type 0
-Judge {X} form reads name bytes next outcome =
-    IsNoInput reads ((form.limit < length bytes) × (outcome ≡ TooLong name))
+abbrev pub Judge : {X : Type 0} → Form X → (name bytes : List ℕ) → (X → Outcome → Type 0) → Outcome → Type 0
+Judge {X} form name bytes next outcome =
+    ((form.limit < length bytes) × (outcome ≡ TooLong name))
     ⊎ ((length bytes ≤ form.limit)
-    × (IsNoInput reads ((refusal : List ℕ) × form.Refuses bytes refusal × (outcome ≡ Refused name form.kind refusal))
+    × (((refusal : List ℕ) × form.Refuses bytes refusal × (outcome ≡ Refused name form.kind refusal))
     ⊎ ((value : X) × form.Reads bytes value × next value outcome)))
 
--- An input is taken in its turn. It can't be read; or the bytes that it holds are judged, and then it is
--- the turn of what follows.
-abbrev pub Take : {X : Type 0} → Form X → DeskReads → (List ℕ → Entry) → List ℕ → (X → Outcome → Type 0) → Outcome → Type 0
-Take form reads held name next outcome =
-    (IsUnreadable reads (held name) × (outcome ≡ Unread name))
-    ⊎ ((bytes : List ℕ) × MayHold (held name) bytes × Judge form reads name bytes next outcome)
+-- An input is taken in its turn. The desk doesn't hold it; or the bytes that it holds are judged, and then it is the turn
+-- of what follows.
+abbrev pub Take : {X : Type 0} → Form X → (List ℕ → Entry) → List ℕ → (X → Outcome → Type 0) → Outcome → Type 0
+Take form held name next outcome =
+    ((held name ≡ Absent) × (outcome ≡ Unread name))
+    ⊎ ((bytes : List ℕ) × MayHold (held name) bytes × Judge form name bytes next outcome)
 
 -- after all inputs: the one of this name is refused if there is a reason; otherwise the work goes on
 abbrev pub RefuseIf : Option (List ℕ) → (name kind : List ℕ) → (Outcome → Type 0) → Outcome → Type 0
 RefuseIf None name kind next outcome = next outcome
 RefuseIf (Some refusal) name kind next outcome = outcome ≡ Refused name kind refusal
-
--- all is done, with outputs and a text of which this holds
-abbrev pub Leaves : (List (List ℕ × List ℕ) → List ℕ → Type 0) → Outcome → Type 0
-Leaves Are outcome = (outputs : List (List ℕ × List ℕ)) × (text : List ℕ) × Are outputs text × (outcome ≡ Done outputs text)
-
--- all is done, with no outputs, and a text of which this holds
-abbrev pub Prints : (List ℕ → Type 0) → Outcome → Type 0
-Prints Is = Leaves (λ outputs text. (outputs ≡ []) × Is text)
 
 -- outputs and a text are left; all is well, unless something is found to be wrong
 abbrev pub ended_by : List (List ℕ × List ℕ) → (text : List ℕ) → (trouble : Option (List ℕ)) → Outcome

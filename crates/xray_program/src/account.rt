@@ -108,9 +108,8 @@ pub(crate) struct Account<'a> {
 }
 
 impl<'a> Work<'a> for Account<'a> {
-    ghost use Rattle.std.specs.Prelude.{[], ⊤};
-    ghost use Rattle.xray_program.specs.{Account.{account_report}, Outcomes.{Done}};
-    ghost use Rattle.xray_program.specs.private.ReportTakes.{ComesOfMeant};
+    ghost use Rattle.std.specs.Prelude.{⊤};
+    ghost use Rattle.xray_program.specs.private.ReportTakes.{AreOfReport};
     ghost use Rattle.command_words.specs.Views.{source_view};
     ghost use Rattle.command_words.specs.Words as words;
 
@@ -118,8 +117,7 @@ impl<'a> Work<'a> for Account<'a> {
 
     ghost says = { λ a. words.Account a.trace.now (source_view a.names) a.options };
 
-    ghost yields = { λ a. ComesOfMeant (AccountMeans a.options)
-        (λ trace names outcome. outcome ≡ Done [] (account_report a.options trace names)) };
+    ghost means = { λ a. AreOfReport (AccountMeans a.options) };
 
     ghost fits = { λ _ _. ⊤ };
 

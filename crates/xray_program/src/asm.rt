@@ -1,6 +1,4 @@
 //! `asm`: an assembler text as an image file.
-ghost use Rattle.std.specs.Prelude.{◌≡◌};
-
 use crate::delivery::{Output, deliver};
 use crate::file_bytes::FileBytes;
 use crate::input::take;
@@ -24,15 +22,14 @@ pub(crate) struct Asm<'a> {
 }
 
 impl<'a> Work<'a> for Asm<'a> {
-    ghost use Rattle.std.specs.Prelude.{[], ◌∷◌, ⊤};
-    ghost use Rattle.xray_program.specs.Outcomes.{Done};
+    ghost use Rattle.std.specs.Prelude.{◌≡◌, ⊤};
     ghost use Rattle.command_words.specs.Words as words;
 
     type Inputs = FileBytes;
 
     ghost says = { λ a. words.Asm a.text.now a.image.now a.threshold a.relative };
 
-    ghost yields = { λ a file outcome. outcome ≡ Done ((a.image.now, file) ∷ []) [] };
+    ghost means = { λ _ made file. made ≡ file };
 
     ghost fits = { λ _ _. ⊤ };
 

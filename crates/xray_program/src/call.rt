@@ -5,9 +5,9 @@ ghost use Rattle.command_words.specs.{Items.{texts}, Ranges.{HasRanges}, Views.{
 ghost use Rattle.command_words.specs.Words.{reading};
 ghost use Rattle.xray_io.specs.World.{desk_view, sink_view};
 ghost use Rattle.thread_run.specs.Starters.{has_started};
-ghost use Rattle.xray_program.specs.{Answers.{Answered, Says}, Commands.{IsStill, is_report}, Outcomes.{NoMemory, err_line_at}, Started.{StartsLate}};
+ghost use Rattle.xray_program.specs.{Answers.{Answered, Says}, Commands.{IsStill}, Outcomes.{NoMemory, err_line_at}, Started.{StartsLate}};
 ghost use Rattle.xray_program.specs.private.Stops.{answer_of, told_of, IsUnsaid};
-ghost use Rattle.xray_program.specs.private.Works.{Ends, IsOther, SaidHasRanges};
+ghost use Rattle.xray_program.specs.private.Works.{Ends, SaidHasRanges};
 
 use crate::account::Account;
 use crate::asm::Asm;
@@ -334,28 +334,6 @@ fn perform_command<'a, D: Desk, O: Sink>(
             perform(alloc, &order, desk, out)
         }
         Command::Run { .. } | Command::Profile { .. } => unreachable!(),
-        other => perform_other(alloc, other, desk, out),
-    }
-}
-
-/// Does what a command says that waits for nobody and has at most one output.
-fn perform_other<'a, D: Desk, O: Sink>(
-    alloc: Global,
-    command: Command<'a>,
-    desk: &mut D,
-    out: &mut O,
-) -> Result<(), Stop<'a>>
-    requires other { IsOther (command_view command) }
-    ensures ends { let seen = desk_view D.held D.read_faults D.write_faults in
-        let got = sink_view O.written O.faults in
-        Ends (Some (command_view command.entry)) (seen desk.old) (seen desk.new) (got out.old) (got out.new)
-        (D.along desk.old desk.new) (answer_of result) (told_of result) }
-{
-    match command {
-        Command::Sim { .. }
-        | Command::Run { .. }
-        | Command::Order { .. }
-        | Command::Profile { .. } => unreachable!(),
         Command::Plain { image, bounds } => perform(alloc, &Plain { image, bounds }, desk, out),
         Command::Extract { image } => perform(alloc, &Extract { image }, desk, out),
         Command::Asm {
@@ -389,24 +367,6 @@ fn perform_other<'a, D: Desk, O: Sink>(
         }
         Command::Soak { number } => perform(alloc, &Soak { number }, desk, out),
         Command::Import { log, trace } => perform(alloc, &Import { log, trace }, desk, out),
-        report => perform_report(alloc, report, desk, out),
-    }
-}
-
-/// Makes the report on a trace that a command says.
-fn perform_report<'a, D: Desk, O: Sink>(
-    alloc: Global,
-    command: Command<'a>,
-    desk: &mut D,
-    out: &mut O,
-) -> Result<(), Stop<'a>>
-    requires report { is_report (command_view command) ≡ true }
-    ensures ends { let seen = desk_view D.held D.read_faults D.write_faults in
-        let got = sink_view O.written O.faults in
-        Ends (Some (command_view command.entry)) (seen desk.old) (seen desk.new) (got out.old) (got out.new)
-        (D.along desk.old desk.new) (answer_of result) (told_of result) }
-{
-    match command {
         Command::Account {
             trace,
             names,
@@ -443,6 +403,5 @@ fn perform_report<'a, D: Desk, O: Sink>(
             };
             perform(alloc, &convert, desk, out)
         }
-        _ => unreachable!(),
     }
 }

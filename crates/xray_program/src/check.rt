@@ -25,15 +25,14 @@ pub(crate) struct Check<'a> {
 }
 
 impl<'a> Work<'a> for Check<'a> {
-    ghost use Rattle.xray_program.specs.Check.{Judges};
-    ghost use Rattle.xray_program.specs.private.CheckInputs.{AreReadFor};
+    ghost use Rattle.xray_program.specs.private.CheckInputs.{AreReadFor, AreValues};
     ghost use Rattle.command_words.specs.Words as words;
 
     type Inputs = CheckInputs;
 
     ghost says = { λ c. words.Check c.image.now c.script.now c.trace.now c.audit.now };
 
-    ghost yields = { λ _ inputs. Judges inputs.image inputs.script inputs.audit inputs.trace };
+    ghost means = { λ _. AreValues };
 
     ghost fits = { λ _. AreReadFor };
 

@@ -39,14 +39,13 @@ pub(crate) struct Convert<'a> {
 impl<'a> Work<'a> for Convert<'a> {
     ghost use Rattle.command_words.specs.Views.{source_view};
     ghost use Rattle.command_words.specs.Words as words;
-    ghost use Rattle.xray_program.specs.Convert.{ConvertsTo};
-    ghost use Rattle.xray_program.specs.private.ReportTakes.{ComesOfMeant};
+    ghost use Rattle.xray_program.specs.private.ReportTakes.{AreOfReport};
 
     type Inputs = ReportInputs<Log>;
 
     ghost says = { λ c. words.Convert c.trace.now (source_view c.names) c.options };
 
-    ghost yields = { λ c. ComesOfMeant LogMeans (ConvertsTo c.trace.now c.options.format) };
+    ghost means = { λ _. AreOfReport LogMeans };
 
     ghost fits = { λ _ inputs. (trace : Trace) × LogMeans inputs.log trace };
 

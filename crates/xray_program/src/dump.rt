@@ -60,17 +60,14 @@ pub(crate) struct Dump<'a> {
 }
 
 impl<'a> Work<'a> for Dump<'a> {
-    ghost use Rattle.std.specs.Prelude.{[]};
     ghost use Rattle.command_words.specs.Words as words;
     ghost use Rattle.fdr_file.specs.Prefixes.{IsReadable};
-    ghost use Rattle.trace_forms.specs.Dumps.{dump_text};
-    ghost use Rattle.xray_program.specs.Outcomes.{Done};
 
     type Inputs = ReadableFile;
 
     ghost says = { λ d. words.Dump d.trace.now };
 
-    ghost yields = { λ _ t outcome. outcome ≡ Done [] (dump_text t.bytes t.len) };
+    ghost means = { λ _ file read. file ≡ read };
 
     ghost fits = { λ _ t. IsReadable t.bytes t.len };
 

@@ -1,6 +1,4 @@
 //! `extract`: the text of an image's sled map.
-ghost use Rattle.std.specs.Prelude.{◌≡◌};
-
 use crate::delivery::{NoOutputs, deliver};
 use crate::input::take;
 use crate::inputs::ImageKind;
@@ -18,16 +16,14 @@ pub(crate) struct Extract<'a> {
 }
 
 impl<'a> Work<'a> for Extract<'a> {
-    ghost use Rattle.std.specs.Prelude.{[], ⊤};
-    ghost use Rattle.xray_image.specs.Extract.{extract_text};
-    ghost use Rattle.xray_program.specs.Outcomes.{Done};
+    ghost use Rattle.std.specs.Prelude.{◌≡◌, ⊤};
     ghost use Rattle.command_words.specs.Words as words;
 
     type Inputs = Image;
 
     ghost says = { λ e. words.Extract e.image.now };
 
-    ghost yields = { λ _ program outcome. outcome ≡ Done [] (extract_text program) };
+    ghost means = { λ _ image program. image ≡ program };
 
     ghost fits = { λ _ _. ⊤ };
 

@@ -1,6 +1,4 @@
 //! `import`: a log of LLVM's runtime as a trace.
-ghost use Rattle.std.specs.Prelude.{◌≡◌};
-
 use crate::delivery::{Output, deliver};
 use crate::input::take;
 use crate::inputs::RuntimeLogKind;
@@ -20,16 +18,14 @@ pub(crate) struct Import<'a> {
 }
 
 impl<'a> Work<'a> for Import<'a> {
-    ghost use Rattle.std.specs.Prelude.{[], ◌∷◌, ⊤};
-    ghost use Rattle.xray_program.specs.Outcomes.{Done};
+    ghost use Rattle.std.specs.Prelude.{◌≡◌, ⊤};
     ghost use Rattle.command_words.specs.Words as words;
-    ghost use Rattle.runtime_log.specs.Facts.{facts_text};
 
     type Inputs = ImportedLog;
 
     ghost says = { λ i. words.Import i.log.now i.trace.now };
 
-    ghost yields = { λ i made outcome. outcome ≡ Done ((i.trace.now, made.0) ∷ []) (facts_text made.1) };
+    ghost means = { λ _ made imported. made ≡ imported };
 
     ghost fits = { λ _ _. ⊤ };
 

@@ -1,5 +1,5 @@
 //! Laws of what the program means. Each law is the contract of a function that does nothing.
-ghost use Rattle.std.specs.Prelude.{◌≡◌, ◌≢◌, ◌<◌, ◌⊎◌, ◌∷◌, ◌++◌, [], ℕ, List, Option, None, Some, Ok, All, IsPermutation, map};
+ghost use Rattle.std.specs.Prelude.{◌≡◌, ◌≢◌, ◌<◌, ◌⊎◌, ◌↔◌, ◌∷◌, ◌++◌, [], ℕ, List, Option, None, Some, Ok, All, IsPermutation, map};
 ghost use Rattle.audit_check.specs.{Reading.{ReadsAsAudit}, Statements.{AuditStatement}};
 ghost use Rattle.audit_check.specs.Texts.{verdict_text};
 ghost use Rattle.audit_check.specs.declared.verdict.Verdict.TheVariants.{Yes};
@@ -13,8 +13,8 @@ ghost use Rattle.traced_run.specs.{Following.{AllMarksFollow}, Losses.{AreLost},
 ghost use Rattle.xray_image.specs.Program.{IsAccepted, Program};
 ghost use Rattle.xray_io.specs.Desk.{Entry, Holds};
 ghost use Rattle.xray_io.specs.World.{World};
-ghost use Rattle.xray_program.specs.{Accepted.{AreAccepted, CountsNoFault}, Answers.{IsAnswer}};
-ghost use Rattle.xray_program.specs.Commands.{IsDecided, IsProfile, Means, TellsAll, inputs_of};
+ghost use Rattle.xray_program.specs.{Accepted.{AreAccepted, CountsNoFault, HasAnOrder}, Answers.{IsAnswer}};
+ghost use Rattle.xray_program.specs.Commands.{IsDecided, IsProfile, Means, TellsAll, doing_of};
 ghost use Rattle.xray_program.specs.{
   Headline.{HaveHeadline},
   Import.{RunsImportThemselves},
@@ -28,7 +28,7 @@ ghost use Rattle.xray_program.specs.{
 };
 ghost use Rattle.xray_program.specs.Outcomes.{Done, Outcome, status_of, written_by};
 ghost use Rattle.xray_program.specs.private.CallLaws.{CallLaws};
-ghost use Rattle.xray_program.specs.private.Meanings.{OneMeaning, RefusalIsAlone};
+ghost use Rattle.xray_program.specs.private.Lawful.{IsLawfulDoing};
 ghost use Rattle.machine_step.specs.Setups.{IsSetup};
 ghost use Rattle.xray_program.specs.{Stack.{rows_text}, Traced.{IsReported, state_texts}};
 ghost use Rattle.call_trie.specs.Tries.{state_after};
@@ -79,13 +79,40 @@ pub(crate) fn what_runs_leave()
     a_whole_run_executes_to_its_end();
 }
 
-/// If a command decides its outcome, its words mean only one thing over a desk that reports every
+/// A law. Each command is lawful: its inputs are read in one way or are refused for one reason, what it
+/// finds is there and is only one thing, and there is something to choose where it chooses.
+fn each_command_is_lawful()
+    ensures { (command : Command) → IsLawfulDoing (doing_of command) }
+{
+    one_verdict();
+    some_verdict();
+    one_end();
+    some_end();
+    one_run();
+    some_run();
+    each_script_lets_threads_end();
+    some_marks_follow();
+    some_losses_are_of_a_queue();
+    each_input_is_read();
+    a_run_is_traced();
+    a_trace_is_read();
+    one_reading();
+    some_reading();
+    audit_check::one_verdict();
+    audit_check::some_verdict();
+    one_order_of_an_audit();
+    one_import();
+    some_import();
+    what_runs_leave();
+}
+
+/// If a command leaves nothing to choice, its words mean only one thing over a desk that reports every
 /// name: one status and one line on err, or the same outputs and the same text.
 pub fn one_meaning()
     ensures { (said : Option Command) (held : List ℕ → Entry) (one other : Outcome)
         → TellsAll held → IsDecided said → Means said held one → Means said held other → one ≡ other }
 {
-    meanings_are_unique();
+    each_command_is_lawful();
 }
 
 /// If words mean an outcome that writes nothing, they mean nothing else, over a desk that reports
@@ -95,20 +122,7 @@ pub fn refusal_is_the_only_meaning()
         → TellsAll held → written_by refusal ≡ None → Means said held refusal → Means said held other
         → other ≡ refusal }
 {
-    meanings_are_unique();
-}
-
-/// A law: the two laws above.
-fn meanings_are_unique()
-    ensures { OneMeaning × RefusalIsAlone }
-{
-    one_verdict();
-    one_end();
-    one_run();
-    one_reading();
-    audit_check::one_verdict();
-    one_order_of_an_audit();
-    one_import();
+    each_command_is_lawful();
 }
 
 /// Words mean something over a desk that reports every name, whatever bytes the names hold. For
@@ -121,21 +135,7 @@ pub fn some_meaning()
         → ((name bytes : List ℕ) → held name ≡ Holds bytes → All (λ b. b < 256) bytes)
         → (outcome : Outcome) × Means said held outcome }
 {
-    one_verdict();
-    some_verdict();
-    some_end();
-    some_run();
-    each_script_lets_threads_end();
-    some_marks_follow();
-    some_losses_are_of_a_queue();
-    each_input_is_read();
-    a_run_is_traced();
-    a_trace_is_read();
-    some_reading();
-    audit_check::some_verdict();
-    one_order_of_an_audit();
-    some_import();
-    what_runs_leave();
+    each_command_is_lawful();
 }
 
 /// The inputs of a command, whose turns come one after another, are the files that are read by its
@@ -144,7 +144,7 @@ pub fn some_meaning()
 pub fn inputs_follow_the_rows()
     ensures { (command : Command)
         → IsPermutation (inputs_in (row_of command).files (names_of command) ++ names_given command)
-        (map (λ input. input.0) (inputs_of command)) }
+        (doing_of command).names }
 {}
 
 /// If words say a command, each of its inputs is held, within its limit and accepted, nothing else is
@@ -157,10 +157,16 @@ pub fn accepted_inputs_mean_done()
         → IsAnswer (Some command) before after status
         → (status ≡ 0) ⊎ (status ≡ 5) ⊎ ((status ≡ 7) × IsProfile command) }
 {
-    one_verdict();
-    one_reading();
+    each_command_is_lawful();
+}
+
+/// The inputs of an `order` are accepted (`AreAccepted`) exactly if the run that the audit states has an
+/// order. `AreAccepted` says that each answer to the audit is written. There is exactly one answer.
+pub fn accepted_orders_are_written()
+    ensures { (held : List ℕ → Entry) (i s a f o : List ℕ)
+        → AreAccepted held (Order i s a f o) ↔ HasAnOrder held i s a }
+{
     one_order_of_an_audit();
-    one_import();
 }
 
 /// Only the words of a `profile` mean an outcome with status 7, whatever the desk holds.

@@ -62,8 +62,8 @@ pub use drawn::soak_inputs;
 pub use laws::{
     a_lawful_run_has_small_numbers, a_profile_prints_the_stacks_of_a_run,
     a_run_is_imported_as_itself, a_run_is_replayed, a_script_that_records_all_leaves_one_outcome,
-    accepted_inputs_mean_done, inputs_follow_the_rows, one_meaning, only_profiles_mean_7,
-    pictures_add_up, refusal_is_the_only_meaning, reports_take_a_run, some_meaning,
-    stamps_and_buffers_change_no_text, what_is_done_is_traced, what_is_left_is_accepted,
-    what_is_ordered_is_replayed,
+    accepted_inputs_mean_done, accepted_orders_are_written, inputs_follow_the_rows, one_meaning,
+    only_profiles_mean_7, pictures_add_up, refusal_is_the_only_meaning, reports_take_a_run,
+    some_meaning, stamps_and_buffers_change_no_text, what_is_done_is_traced,
+    what_is_left_is_accepted, what_is_ordered_is_replayed,
 };

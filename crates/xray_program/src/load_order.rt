@@ -28,15 +28,14 @@ pub(crate) struct LoadOrder<'a> {
 }
 
 impl<'a> Work<'a> for LoadOrder<'a> {
-    ghost use Rattle.xray_program.specs.LoadOrder.{Orders};
-    ghost use Rattle.xray_program.specs.private.OrderInputs.{AreReadFor};
+    ghost use Rattle.xray_program.specs.private.OrderInputs.{AreReadFor, AreValues};
     ghost use Rattle.command_words.specs.Words as words;
 
     type Inputs = OrderInputs;
 
     ghost says = { λ o. words.Order o.image.now o.script.now o.audit.now o.free.now o.schedule.now };
 
-    ghost yields = { λ o inputs. Orders o.audit.now o.free.now o.schedule.now inputs.image inputs.audit inputs.script };
+    ghost means = { λ _. AreValues };
 
     ghost fits = { λ _. AreReadFor };
 

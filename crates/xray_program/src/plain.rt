@@ -24,15 +24,14 @@ pub(crate) struct Plain<'a> {
 }
 
 impl<'a> Work<'a> for Plain<'a> {
-    ghost use Rattle.std.specs.Prelude.{⊤};
-    ghost use Rattle.xray_program.specs.{Plain.{PlainPrints}, Taking.{Prints}};
+    ghost use Rattle.std.specs.Prelude.{◌≡◌, ⊤};
     ghost use Rattle.command_words.specs.Words as words;
 
     type Inputs = Image;
 
     ghost says = { λ p. words.Plain p.image.now p.bounds };
 
-    ghost yields = { λ p program. Prints (PlainPrints program p.bounds) };
+    ghost means = { λ _ image program. image ≡ program };
 
     ghost fits = { λ _ _. ⊤ };
 

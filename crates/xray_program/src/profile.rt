@@ -14,10 +14,12 @@ ghost use Rattle.thread_run.specs.Starters.{has_started};
 ghost use Rattle.xray_io.specs.World.{desk_view, sink_view};
 ghost use Rattle.xray_program.specs.{Answers.{IsUnwriting}, Started.{CameToOutputs, StartsLate}};
 ghost use Rattle.xray_program.specs.Profile.{states_before, trouble_in, trouble_of};
-ghost use Rattle.xray_program.specs.private.Profiled.{comes_of, said_by, HaveProfiled};
-ghost use Rattle.xray_program.specs.private.RunInputs.{IsReadFor};
+ghost use Rattle.xray_program.specs.Commands.{doing_of};
+ghost use Rattle.xray_program.specs.private.Profiled.{said_by, HaveProfiled};
+ghost use Rattle.xray_program.specs.private.RunInputs.{AreValues, IsReadFor};
 ghost use Rattle.xray_program.specs.private.Stops.{answer_of, told_of};
 ghost use Rattle.xray_program.specs.Stack.{rows_text};
+ghost use Rattle.xray_program.specs.private.Turns.{ComesOfAll};
 ghost use Rattle.xray_program.specs.private.Works.{Delivers, Ends, Finishes, KeepsOthers};
 
 use crate::delivery::{Both, NoOutputs, deliver};
@@ -79,7 +81,8 @@ fn finish<'a, T: Threads + Wait + Sync, D: Desk, O: Sink, G: Gate + Sync>(
     requires { IsReadFor command.now.options.bounds.threads inputs }
     ensures finishes { let seen = desk_view D.held D.read_faults D.write_faults in
         let got = sink_view O.written O.faults in
-        Finishes (comes_of command.now inputs) (seen desk.old) (seen desk.new) (got out.old) (got out.new)
+        Finishes (ComesOfAll (AreValues inputs) (doing_of (said_by command.now)).leaves)
+        (seen desk.old) (seen desk.new) (got out.old) (got out.new)
         (D.along desk.old desk.new) result }
     ensures others { let seen = desk_view D.held D.read_faults D.write_faults in
         KeepsOthers (outputs_of (said_by command.now)) (seen desk.old) (seen desk.new) }

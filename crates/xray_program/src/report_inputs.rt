@@ -1,11 +1,12 @@
 //! The inputs of a report on a log, which is a trace.
 ghost use Rattle.command_words.specs.Views.{source_view};
 ghost use Rattle.xray_io.specs.World.{desk_view};
-ghost use Rattle.xray_program.specs.{Accepted.{AcceptsReport}, Reports.{report_inputs}};
-ghost use Rattle.xray_program.specs.private.ReportTakes.{IsReportTaken};
-ghost use Rattle.xray_program.specs.private.Takes.{AreTakings, TakesInputs};
+ghost use Rattle.xray_program.specs.Commands.{takes_report};
+ghost use Rattle.xray_program.specs.private.{ReportTakes.{AreOfReport}, Turns.{Turns}};
 
-use crate::names::{TakenNames, take_names};
+use crate::input::take;
+use crate::inputs::{ImageKind, MapKind};
+use crate::names::TakenNames;
 use crate::stop::Stop;
 use crate::stream::{StreamKind, take_stream};
 use command_words::NameSource;
@@ -21,7 +22,8 @@ pub(crate) struct ReportInputs<L> {
     pub(crate) names: TakenNames,
 }
 
-/// Takes the log piece by piece, as an input of this kind, and then what names its functions.
+/// Takes the log piece by piece, as an input of this kind, and then what names its functions, if the
+/// words name a file for that.
 pub(crate) fn take_report<'a, K: StreamKind, D: Desk>(
     alloc: Global,
     desk: &mut D,
@@ -30,14 +32,24 @@ pub(crate) fn take_report<'a, K: StreamKind, D: Desk>(
     names: NameSource<'a>,
 ) -> Result<ReportInputs<K::Value>, Stop<'a>>
     ensures { let seen = desk_view D.held D.read_faults D.write_faults in
-        let source = source_view names.entry in
-        TakesInputs
-        (IsReportTaken (K.form kind.now) (K.means kind.now) log.now source (seen desk.old) (seen desk.new) result)
-        (AreTakings (AcceptsReport (K.form kind.now) (D.held desk.old) log.now source)
-        (report_inputs log.now (K.form kind.now).limit source) result)
+        Turns (takes_report (K.form kind.now) log.now (source_view names.entry)) (AreOfReport (K.means kind.now))
         (seen desk.old) (seen desk.new) (D.along desk.old desk.new) result }
 {
     let log = take_stream(alloc, desk, log, kind)?;
-    let names = take_names(alloc, desk, names)?;
-    Ok(ReportInputs { log, names })
+    match names {
+        NameSource::Ids => {
+            let names = TakenNames::Ids;
+            Ok(ReportInputs { log, names })
+        }
+        NameSource::Image(name) => {
+            let image = take(alloc, desk, name, &ImageKind)?;
+            let names = TakenNames::Image(image);
+            Ok(ReportInputs { log, names })
+        }
+        NameSource::Map(name) => {
+            let map = take(alloc, desk, name, &MapKind)?;
+            let names = TakenNames::Map(map);
+            Ok(ReportInputs { log, names })
+        }
+    }
 }

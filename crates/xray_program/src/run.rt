@@ -8,8 +8,10 @@ ghost use Rattle.sled_rule.specs.Seats.{work_view};
 ghost use Rattle.thread_run.specs.{Runs.{HaveRunBeside}, Starters.{has_started}};
 ghost use Rattle.xray_io.specs.World.{desk_view, sink_view};
 ghost use Rattle.xray_program.specs.{Answers.{IsUnwriting}, Started.{CameToOutputs, StartsLate}};
-ghost use Rattle.xray_program.specs.private.RunInputs.{comes_of, said_by, IsReadFor};
+ghost use Rattle.xray_program.specs.Commands.{doing_of};
+ghost use Rattle.xray_program.specs.private.RunInputs.{said_by, AreValues, IsReadFor};
 ghost use Rattle.xray_program.specs.private.Stops.{answer_of, told_of};
+ghost use Rattle.xray_program.specs.private.Turns.{ComesOfAll};
 ghost use Rattle.xray_program.specs.private.Works.{Ends, Finishes, KeepsOthers};
 
 use crate::laws::what_runs_leave;
@@ -61,7 +63,8 @@ fn finish<'a, T: Threads + Wait + Sync, D: Desk, O: Sink, G: Gate + Sync>(
     requires { IsReadFor command.now.options.bounds.threads inputs }
     ensures finishes { let seen = desk_view D.held D.read_faults D.write_faults in
         let got = sink_view O.written O.faults in
-        Finishes (comes_of command.now inputs) (seen desk.old) (seen desk.new) (got out.old) (got out.new)
+        Finishes (ComesOfAll (AreValues inputs) (doing_of (said_by command.now)).leaves)
+        (seen desk.old) (seen desk.new) (got out.old) (got out.new)
         (D.along desk.old desk.new) result }
     ensures others { let seen = desk_view D.held D.read_faults D.write_faults in
         KeepsOthers (outputs_of (said_by command.now)) (seen desk.old) (seen desk.new) }

@@ -1,11 +1,9 @@
 //! The inputs of a command that runs threads beside a script.
-ghost use Rattle.std.specs.Prelude.{◌≡◌, ◌≤◌, IfOk, OnOk};
+ghost use Rattle.std.specs.Prelude.{IfOk};
 ghost use Rattle.command_words.specs.Ranges.{IsThreadCount};
-ghost use Rattle.xray_io.specs.{Calls.{Went}, World.{desk_view}};
-ghost use Rattle.xray_program.specs.{Accepted.{AcceptsScript}, Scripts.{script_inputs}};
-ghost use Rattle.xray_program.specs.private.RunInputs.{IsReadFor};
-ghost use Rattle.xray_program.specs.private.ScriptTakes.{IsScriptTaken};
-ghost use Rattle.xray_program.specs.private.Takes.{AreTakings};
+ghost use Rattle.xray_io.specs.World.{desk_view};
+ghost use Rattle.xray_program.specs.Commands.{takes_script};
+ghost use Rattle.xray_program.specs.private.{RunInputs.{AreValues, IsReadFor}, Turns.{Turns}};
 
 use crate::input::take;
 use crate::inputs::{ImageKind, ScriptKind};
@@ -24,16 +22,10 @@ pub(crate) fn take_script<'a, D: Desk>(
     threads: u32,
 ) -> Result<RunInputs, Stop<'a>>
     requires few { IsThreadCount threads }
-    ensures taken { let seen = desk_view D.held D.read_faults D.write_faults in
-        IsScriptTaken image.now script.now threads (seen desk.old) (seen desk.new) result }
+    ensures turns { let seen = desk_view D.held D.read_faults D.write_faults in
+        Turns (takes_script image.now script.now threads) AreValues
+        (seen desk.old) (seen desk.new) (D.along desk.old desk.new) result }
     ensures fits { IfOk result (IsReadFor threads) }
-    ensures held { D.held desk.new ≡ D.held desk.old }
-    ensures later { D.read_faults desk.old ≤ D.read_faults desk.new }
-    ensures writes { D.write_faults desk.new ≡ D.write_faults desk.old }
-    ensures calm { OnOk result (D.read_faults desk.new ≡ D.read_faults desk.old) }
-    ensures calls { Went (D.along desk.old desk.new)
-        (AreTakings (AcceptsScript (D.held desk.old) image.now script.now threads)
-        (script_inputs image.now script.now) result) }
 {
     let program = take(alloc, desk, image, &ImageKind)?;
     let kind = ScriptKind {

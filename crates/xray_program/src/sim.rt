@@ -33,8 +33,7 @@ pub(crate) struct Sim<'a> {
 }
 
 impl<'a> Work<'a> for Sim<'a> {
-    ghost use Rattle.xray_program.specs.{Setups.{setup_of}, Sim.{Replays}};
-    ghost use Rattle.xray_program.specs.private.SimInputs.{AreReadFor};
+    ghost use Rattle.xray_program.specs.private.SimInputs.{AreReadFor, AreValues};
     ghost use Rattle.command_words.specs.Words as words;
 
     type Inputs = SimInputs;
@@ -42,8 +41,7 @@ impl<'a> Work<'a> for Sim<'a> {
     ghost says = { λ s. words.Sim s.image.now s.script.now s.schedule.now
         s.files.trace.now s.files.audit.now s.options };
 
-    ghost yields = { λ s inputs. Replays s.script.now s.files.trace.now s.files.audit.now (setup_of s.options)
-        inputs.image inputs.script inputs.schedule };
+    ghost means = { λ _. AreValues };
 
     ghost fits = { λ s inputs. AreReadFor s.options.bounds.threads inputs };
 

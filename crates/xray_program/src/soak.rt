@@ -16,14 +16,13 @@ pub(crate) struct Soak {
 
 impl<'a> Work<'a> for Soak {
     ghost use Rattle.std.specs.Prelude.{⊤};
-    ghost use Rattle.xray_program.specs.Soak.{SoakComes};
     ghost use Rattle.command_words.specs.Words as words;
 
     type Inputs = ();
 
     ghost says = { λ s. words.Soak s.number };
 
-    ghost yields = { λ s _. SoakComes s.number };
+    ghost means = { λ _ _ _. ⊤ };
 
     ghost fits = { λ _ _. ⊤ };
 

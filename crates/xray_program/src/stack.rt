@@ -91,14 +91,13 @@ pub(crate) struct Stack<'a> {
 impl<'a> Work<'a> for Stack<'a> {
     ghost use Rattle.command_words.specs.Views.{source_view};
     ghost use Rattle.command_words.specs.Words as words;
-    ghost use Rattle.xray_program.specs.Stack.{StacksCome};
-    ghost use Rattle.xray_program.specs.private.ReportTakes.{ComesOfMeant};
+    ghost use Rattle.xray_program.specs.private.ReportTakes.{AreOfReport};
 
     type Inputs = ReportInputs<TraceStacks>;
 
     ghost says = { λ s. words.Stack s.trace.now (source_view s.names) s.format };
 
-    ghost yields = { λ s. ComesOfMeant StacksMean (StacksCome s.trace.now s.format) };
+    ghost means = { λ _. AreOfReport StacksMean };
 
     ghost fits = { λ _ inputs. (trace : Trace) × StacksMean inputs.log trace };
 

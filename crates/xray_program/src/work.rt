@@ -2,9 +2,9 @@
 ghost use Rattle.std.specs.Prelude.{ℕ, List, Some, IfOk};
 ghost use Rattle.command_words.specs.Words.{Command, outputs_of};
 ghost use Rattle.xray_io.specs.World.{desk_view, sink_view};
-ghost use Rattle.xray_program.specs.{Accepted.{AcceptsInputs}, Commands.{Comes, inputs_of}, Outcomes.{Outcome}};
+ghost use Rattle.xray_program.specs.Commands.{doing_of};
 ghost use Rattle.xray_program.specs.private.Stops.{answer_of, told_of};
-ghost use Rattle.xray_program.specs.private.Takes.{TakesAll};
+ghost use Rattle.xray_program.specs.private.Turns.{ComesOfAll, Turns};
 ghost use Rattle.xray_program.specs.private.Works.{Ends, Finishes, KeepsOthers};
 
 use crate::stop::Stop;
@@ -23,17 +23,16 @@ pub(crate) trait Work<'a> {
     /// What the words say.
     ghost says: { Self → Command };
 
-    /// What comes of the inputs.
-    ghost yields: { Self → Self.Inputs → Outcome → Type 0 };
+    /// What the inputs say of the values that the names read as.
+    ghost means: { (self : Self) → Self.Inputs → (doing_of (says self)).Values → Type 0 };
 
     /// What has to be true between the inputs.
     ghost fits: { Self → Self.Inputs → Type 0 };
 
-    /// Takes the inputs in their order (`inputs_of`). The first that fails decides.
+    /// Takes the inputs in their order (`doing_of`). The first that fails decides.
     fn take<D: Desk>(&self, alloc: Global, desk: &mut D) -> Result<Self::Inputs, Stop<'a>>
         ensures turns { let seen = desk_view D.held D.read_faults D.write_faults in
-            TakesAll (λ reads. Comes reads (D.held desk.old) (says self.now)) (yields self.now)
-            (AcceptsInputs (D.held desk.old) (says self.now)) (inputs_of (says self.now))
+            Turns (doing_of (says self.now)).takes (means self.now)
             (seen desk.old) (seen desk.new) (D.along desk.old desk.new) result }
         ensures fits { IfOk result (fits self.now) };
 
@@ -48,7 +47,8 @@ pub(crate) trait Work<'a> {
         requires { fits self.now inputs.now }
         ensures finishes { let seen = desk_view D.held D.read_faults D.write_faults in
             let got = sink_view O.written O.faults in
-            Finishes (yields self.now inputs.now) (seen desk.old) (seen desk.new) (got out.old) (got out.new)
+            Finishes (ComesOfAll (means self.now inputs.now) (doing_of (says self.now)).leaves)
+            (seen desk.old) (seen desk.new) (got out.old) (got out.new)
             (D.along desk.old desk.new) result }
         ensures others { let seen = desk_view D.held D.read_faults D.write_faults in
             KeepsOthers (outputs_of (says self.now)) (seen desk.old) (seen desk.new) };

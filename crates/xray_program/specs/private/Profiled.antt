@@ -13,19 +13,12 @@ use Rattle.traced_run.specs.Following.{AllMarksFollow}
 use Rattle.traced_run.specs.Left.{HasRun}
 use Rattle.traced_run.specs.Runs.{EachThread, ThreadRun, events_of}
 use Rattle.xray_image.specs.Program.{Program}
-use Rattle.xray_program.specs.Outcomes.{Outcome}
-use Rattle.xray_program.specs.Profile.{Profiles}
 use Rattle.xray_program.specs.Setups.{limits_of}
 use Rattle.xray_program.specs.declared.run_inputs.Profile.{Profile}
-use Rattle.xray_program.specs.declared.run_inputs.RunInputs.{RunInputs}
 
 -- what the words say
 abbrev pub said_by : Profile → Command
 said_by profile = words.Profile profile.image.now profile.script.now profile.options
-
--- what comes of the inputs
-abbrev pub comes_of : Profile → RunInputs → Outcome → Type 0
-comes_of profile inputs = Profiles profile.options inputs.image inputs.script
 
 -- There are runs such that these are their threads at their ends, and these recorders stand for the events of the
 -- threads. So they have the states that these events determine. Each thread has run as its plain run does, and its marks

@@ -1,5 +1,5 @@
 -- How the turns of inputs end: with values, or with a stop.
-use Rattle.std.specs.Prelude.{◌≡◌, ◌⊎◌, ◌<◌, ◌≤◌, ◌+◌, ℕ, List, [], length, Option, Some, None, OnOk, Result, Ok, Err, ⊤}
+use Rattle.std.specs.Prelude.{◌≡◌, ◌⊎◌, ◌<◌, ◌≤◌, ◌+◌, ℕ, List, length, Option, Some, None, OnOk, Result, Ok, Err, ⊤}
 use Rattle.xray_io.specs.Calls.{CallMade, Went}
 use Rattle.xray_io.specs.Desk.{Entry, Absent}
 use Rattle.xray_io.specs.Reads.{Reads, ReadsSome, ReadsUpToFault}
@@ -7,9 +7,9 @@ use Rattle.xray_io.specs.Faults.{Rose}
 use Rattle.xray_io.specs.declared.faults.ReadError.{ReadError}
 use Rattle.xray_io.specs.declared.faults.ReadError.TheVariants as errors
 use Rattle.fault_words.specs.Words.{words_text}
-use Rattle.xray_program.specs.Order.{ReadsAll, ReadsWhole, StopsAtInput}
+use Rattle.xray_program.specs.Order.{ReadsWhole}
 use Rattle.xray_program.specs.Outcomes.{Outcome, Unread, TooLong, Refused}
-use Rattle.xray_program.specs.Taking.{Form, IsAcceptedAs, MayHold, DeskReads, Sound, Faulty}
+use Rattle.xray_program.specs.Taking.{Form, IsAcceptedAs, MayHold}
 use Rattle.xray_io.specs.World.{DeskView}
 use Rattle.xray_program.specs.declared.stop.Stop.{Stop}
 use Rattle.xray_program.specs.declared.stop.Stop.TheVariants as stops
@@ -46,23 +46,15 @@ abbrev pub IsTakenAs : {V X : Type 0} → Form X → (means : V → X → Type 0
 IsTakenAs {V} {X} form means name before after (Ok value) = (meant : X) × means value meant × IsAcceptedAs form (before.held name) meant
 IsTakenAs form means name before after (Err stop) = IsTaken form name before after (Err stop)
 
--- A stop at one of the inputs of which this comes: an outcome that comes. If the input can't be read, reads failed or
--- that is meant too.
-abbrev pub IsStopAtInput : (DeskReads → Outcome → Type 0) → (before after : DeskView) → Stop → Type 0
-IsStopAtInput comes before after (stops.Unread n) =
-    comes Faulty (Unread n.now)
-    × (Rose before.read_faults after.read_faults ⊎ ((before.held n.now ≡ Absent) × comes Sound (Unread n.now)))
-IsStopAtInput comes before after (stops.TooLong n) = comes Sound (TooLong n.now)
-IsStopAtInput comes before after (stops.Refused n kind words) = comes Sound (Refused n.now kind.now (words_text words))
-IsStopAtInput comes before after stops.NoMemory = ⊤
-IsStopAtInput comes before after stop = ⊥
-
--- The inputs of which this comes were taken one after another, and each was accepted, so that what comes of their
--- values comes of them. Or one of them was a stop.
-abbrev pub AreTaken : {X : Type 0} → (comes : DeskReads → Outcome → Type 0) → (yields : X → Outcome → Type 0) → (before after : DeskView)
-    → Result X Stop → Type 0
-AreTaken comes yields before after (Ok inputs) = (reads : DeskReads) (outcome : Outcome) → yields inputs outcome → comes reads outcome
-AreTaken comes yields before after (Err stop) = IsStopAtInput comes before after stop
+-- A stop at one of the inputs of which this comes: an outcome that comes. If an input can't be read, its turn had come,
+-- and reads failed or that is meant too.
+abbrev pub IsStopAtInput : (comes : Outcome → Type 0) → (reached : List ℕ → Type 0) → (before after : DeskView) → Stop → Type 0
+IsStopAtInput comes reached before after (stops.Unread n) =
+    reached n.now × (Rose before.read_faults after.read_faults ⊎ ((before.held n.now ≡ Absent) × comes (Unread n.now)))
+IsStopAtInput comes reached before after (stops.TooLong n) = comes (TooLong n.now)
+IsStopAtInput comes reached before after (stops.Refused n kind words) = comes (Refused n.now kind.now (words_text words))
+IsStopAtInput comes reached before after stops.NoMemory = ⊤
+IsStopAtInput comes reached before after stop = ⊥
 
 -- what an error of reading comes to: an input that can't be read or is too long, or out of memory
 abbrev pub IsReadStop : List ℕ → ReadError → Stop → Type 0
@@ -92,44 +84,14 @@ abbrev pub IsTaking : {X : Type 0} → List ℕ → (limit : ℕ) → Result X S
 IsTaking name limit (Ok value) calls = ReadsWhole name limit calls
 IsTaking name limit (Err stop) calls = StopsTaking name limit stop calls
 
--- a stop names this input, unless memory ran out
-abbrev pub IsNamed : List ℕ → Stop → Type 0
-IsNamed name (stops.Unread n) = n.now ≡ name
-IsNamed name (stops.TooLong n) = n.now ≡ name
-IsNamed name (stops.Refused n kind words) = n.now ≡ name
-IsNamed name stop = ⊤
+-- ---- all that the turn of an input does
 
--- The calls of the turns of inputs, the last of which was a stop. Those before it were accepted, as `Accepts` says of
--- their number, and no other input was asked for after it.
-abbrev pub StopsTakings : (Accepts : (count : ℕ) → Type 0) → List (List ℕ × ℕ) → Stop → List CallMade → Type 0
-StopsTakings Accepts inputs stop calls =
-    (name : List ℕ) × IsNamed name stop × StopsAtInput Accepts inputs name (λ limit. StopsTaking name limit stop) calls
-
--- the calls of the turns of inputs; if each gave a value, each was accepted
-abbrev pub AreTakings : {X : Type 0} → (Accepts : (count : ℕ) → Type 0) → List (List ℕ × ℕ) → Result X Stop → List CallMade → Type 0
-AreTakings Accepts inputs (Ok value) calls = Accepts (length inputs) × ReadsAll inputs calls
-AreTakings Accepts inputs (Err stop) calls = StopsTakings Accepts inputs stop calls
-
--- ---- all that the turns of inputs do
-
--- The turns ended in this way, and these were their calls. The desk holds what it held. Only faults of reading were added,
--- and none if the turns gave a value.
-pub record TakesInputs {X : Type 0} (Taken : Type 0) (Calls : List CallMade → Type 0) (before after : DeskView) (Way : List CallMade → Type 0)
-    (result : Result X Stop) : Type 0 where
-  pub taken : Taken
-  pub calls : Went Way Calls
+-- The turn of an input of this name and this form ended in this way, with its calls. The desk holds what it held. Only
+-- faults of reading were added, and none if the turn gave a value.
+pub record TakesInput {X : Type 0} (form : Form X) (name : List ℕ) (before after : DeskView) (Way : List CallMade → Type 0) (result : Result X Stop) : Type 0 where
+  pub taken : IsTaken form name before after result
+  pub calls : Went Way (IsTaking name form.limit result)
   pub held : after.held ≡ before.held
   pub later : before.read_faults ≤ after.read_faults
   pub writes : after.write_faults ≡ before.write_faults
   pub calm : OnOk result (after.read_faults ≡ before.read_faults)
-
--- so an input of this name and this form
-abbrev pub TakesInput : {X : Type 0} → Form X → List ℕ → (before after : DeskView) → (Way : List CallMade → Type 0) → Result X Stop → Type 0
-TakesInput form name before after Way result =
-    TakesInputs (IsTaken form name before after result) (IsTaking name form.limit result) before after Way result
-
--- so all inputs of a command, of which this comes
-abbrev pub TakesAll : {X : Type 0} → (comes : DeskReads → Outcome → Type 0) → (yields : X → Outcome → Type 0) → (Accepts : (count : ℕ) → Type 0)
-    → List (List ℕ × ℕ) → (before after : DeskView) → (Way : List CallMade → Type 0) → Result X Stop → Type 0
-TakesAll comes yields Accepts inputs before after Way result =
-    TakesInputs (AreTaken comes yields before after result) (AreTakings Accepts inputs result) before after Way result

@@ -10,7 +10,7 @@ use Rattle.xray_program.specs.Order.{FailsAtOutput, InOrder, IsNoCall, IsUnmade,
 use Rattle.xray_program.specs.Outcomes.{Outcome, BadLine, Unread, Refused, Done, Fell, Ending, With, Unwritten, NoMemory, status_at, err_line_at, written_by}
 use Rattle.xray_program.specs.Outputs.{OutputsAreWhole, FailsAt, FailsWriting, NoFault, WritesNothing}
 use Rattle.command_words.specs.Ranges.{HasRanges}
-use Rattle.command_words.specs.Words.{Command, Sim, Run, Plain, Extract, Asm, Account, Stack, Convert, Dump, Check, Order, Profile, Soak, Import}
+use Rattle.command_words.specs.Words.{Command}
 use Rattle.xray_io.specs.World.{DeskView, SinkView}
 use Rattle.xray_program.specs.declared.stop.Stop.{Stop}
 use Rattle.xray_program.specs.declared.stop.Stop.TheVariants as stops
@@ -114,23 +114,6 @@ StandsAfter said desk desk_now out out_now (With outcome) =
 StandsAfter said desk desk_now out out_now (Unwritten name outputs) =
     FailsToLeave (Means said desk.held) desk desk_now out out_now name (λ left. left ≡ outputs)
 StandsAfter said desk desk_now out out_now NoMemory = WritesNothing desk desk_now out out_now
-
--- a command that waits for nobody and has at most one output
-abbrev pub IsOther : Command → Type 0
-IsOther (Sim image script schedule trace audit options) = ⊥
-IsOther (Run image script trace audit options) = ⊥
-IsOther (Plain image bounds) = Unit {0}
-IsOther (Extract image) = Unit {0}
-IsOther (Asm text image threshold relative) = Unit {0}
-IsOther (Account trace names options) = Unit {0}
-IsOther (Stack trace names format) = Unit {0}
-IsOther (Convert trace names options) = Unit {0}
-IsOther (Dump trace) = Unit {0}
-IsOther (Check image script trace audit) = Unit {0}
-IsOther (Order image script audit free schedule) = ⊥
-IsOther (Profile image script options) = ⊥
-IsOther (Soak number) = Unit {0}
-IsOther (Import log trace) = Unit {0}
 
 -- what words say is in its ranges
 abbrev pub SaidHasRanges : Option Command → Type 0

@@ -2,7 +2,7 @@ use Rattle.std.proofs.Common.{rules, ◌≡◌, ◌∷◌, ◌∙◌, true, fals
 use Rattle.command_words.specs.Items.{texts}
 use Rattle.command_words.specs.Words.{reading}
 use Rattle.xray_program.specs.Commands.{IsStill}
-use Rattle.xray_program.proofs.CommandLaws.{still_by_word}
+use Rattle.xray_program.proofs.CommandRows.{still_by_word}
 use Rattle.xray_program.proofs.call.may_wait.Goals as goal
 
 pub returns-in-Some-clause-still : goal.returns-in-Some-clause-still

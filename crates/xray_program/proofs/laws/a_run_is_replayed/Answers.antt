@@ -1,4 +1,3 @@
-use Rattle.xray_program.specs.Setups.{setup_of}
 use Rattle.xray_program.proofs.OrderReplays.{ReplayedOrders}
 use Rattle.xray_program.proofs.RunReplays.{RunReplays, ordered_or_long, text_again, whole_again}
 use Rattle.xray_program.proofs.laws.a_run_is_replayed.Goals as goal
@@ -43,7 +42,7 @@ returns-clause-replayed c = λ held after last i s t a f o u b options other ima
       end = λ bytes program accepted limits thread passed passed' end end' last last'.
           c.one_end.ensures bytes program limits thread passed passed' end end' last last' accepted;
     } in
-    text_again laws held after i s t a options image trace audit text left last f o free schedule order u b (setup_of other) alike
+    text_again laws held after i s t a options image trace audit text left last f o free schedule order u b other alike
 
 pub returns-clause-whole : goal.returns-clause-whole
 returns-clause-whole c = λ held after last i s t a f o u b options other image trace audit text free schedule statement left order equal reads none.
@@ -64,4 +63,4 @@ returns-clause-whole c = λ held after last i s t a f o u b options other image 
       end = λ bytes program accepted limits thread passed passed' end end' last last'.
           c.one_end.ensures bytes program limits thread passed passed' end end' last last' accepted;
     } in
-    whole_again laws held after i s t a options image trace audit text left last f o free schedule order u b (setup_of other) equal statement reads none
+    whole_again laws held after i s t a options image trace audit text left last f o free schedule order u b other equal statement reads none

@@ -1,5 +1,4 @@
 use Rattle.std.proofs.Common.{arith}
-use Rattle.xray_program.specs.Setups.{setup_of}
 use Rattle.xray_program.proofs.CheckYes.{yes_of_run, yes_of_sim}
 use Rattle.xray_program.proofs.RunSetups.{options_make_a_setup}
 use Rattle.xray_program.proofs.laws.what_is_left_is_accepted.Goals as goal
@@ -13,7 +12,7 @@ returns-clause-sim c = λ held after i s c' t a options trace audit text ranges 
       read = c.a_lawful_run_is_accepted.ensures.read;
       yes = c.a_lawful_run_is_accepted.ensures.yes;
     })
-    held after i s t a (setup_of options) (options_make_a_setup options ranges) trace audit text image script trace_held audit_held
+    held after i s t a options (options_make_a_setup options ranges) trace audit text image script trace_held audit_held
     c.marks_of_a_replay_follow.ensures c' comes
 
 pub returns-clause-run : goal.returns-clause-run
@@ -25,4 +24,4 @@ returns-clause-run c = λ held after i s t a options trace audit text ranges com
       read = c.a_lawful_run_is_accepted.ensures.read;
       yes = c.a_lawful_run_is_accepted.ensures.yes;
     })
-    held after i s t a (setup_of options) (options_make_a_setup options ranges) trace audit text image script trace_held audit_held comes
+    held after i s t a options (options_make_a_setup options ranges) trace audit text image script trace_held audit_held comes

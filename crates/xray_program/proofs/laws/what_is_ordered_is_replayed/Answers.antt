@@ -1,4 +1,3 @@
-use Rattle.xray_program.specs.Setups.{setup_of}
 use Rattle.xray_program.proofs.OrderReplays.{order_replays}
 use Rattle.xray_program.proofs.laws.what_is_ordered_is_replayed.Goals as goal
 
@@ -14,5 +13,5 @@ returns c = λ held after i s a f o t b options image audit free schedule statem
       reads = c.an_order_is_a_schedule.ensures.reads;
       few = c.an_order_is_a_schedule.ensures.short;
     })
-    after i f o t b (setup_of options) held s a image audit free schedule statement image_held audit_held reads alike order.meant order.image_stays
+    after i f o t b options held s a image audit free schedule statement image_held audit_held reads alike order.meant order.image_stays
     order.free_held order.schedule_held

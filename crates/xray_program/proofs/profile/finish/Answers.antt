@@ -11,12 +11,13 @@ use Rattle.stack_rebuild.specs.Stacks.{PathRow, stack_of_threads, told}
 use Rattle.traced_run.specs.Runs.{events_of}
 use Rattle.xray_image.specs.Program.{Program}
 use Rattle.xray_io.specs.World.{desk_view, sink_view}
-use Rattle.xray_program.specs.private.Profiled.{HaveProfiled, comes_of}
+use Rattle.xray_program.specs.Commands.{doing_of}
+use Rattle.xray_program.specs.private.Profiled.{HaveProfiled, said_by}
 use Rattle.xray_program.specs.Profile.{states_before, trouble_of}
 use Rattle.xray_program.specs.Stack.{rows_text}
 use Rattle.xray_program.specs.Traced.{state_texts}
 use Rattle.xray_program.specs.declared.stop.Stop.TheVariants as stops
-use Rattle.xray_program.proofs.WorkEndings.{finishes, refuses}
+use Rattle.xray_program.proofs.WorkEndings.{finishes_with, refuses}
 use Rattle.xray_program.proofs.ProfiledThreads.{all_live, profile_done, profile_fell, were_profiled}
 use Rattle.xray_program.proofs.RunWritten.{threads_ended, threads_printed}
 use Rattle.xray_program.proofs.StartedThreads.{delivers_something, none_at_memory, ran_out}
@@ -24,19 +25,19 @@ use Rattle.xray_program.proofs.profile.finish.Goals as goal
 
 pub returns-in_err-steps-clause-finishes : goal.returns-in_err-steps-clause-finishes
 returns-in_err-steps-clause-finishes g c =
-    refuses (comes_of c.args.command.now c.args.inputs) (desk_view g.D.Desk.held g.D.Desk.read_faults g.D.Desk.write_faults c.args.desk.now)
+    refuses _ (desk_view g.D.Desk.held g.D.Desk.read_faults g.D.Desk.write_faults c.args.desk.now)
     (sink_view g.O.Sink.written g.O.Sink.faults c.args.out.now) (g.D.Desk.along c.args.desk.now c.args.desk.now) stops.NoMemory c.from_residual.result c.from_residual.ensures.1
     ((refl, refl), record { calls = []; way = g.met.D.Desk.along_none c.args.desk.now; are = refl })
 
 pub returns-in_err-end-clause-finishes : goal.returns-in_err-end-clause-finishes
 returns-in_err-end-clause-finishes g c =
-    refuses (comes_of c.args.command.now c.args.inputs) (desk_view g.D.Desk.held g.D.Desk.read_faults g.D.Desk.write_faults c.args.desk.now)
+    refuses _ (desk_view g.D.Desk.held g.D.Desk.read_faults g.D.Desk.write_faults c.args.desk.now)
     (sink_view g.O.Sink.written g.O.Sink.faults c.args.out.now) (g.D.Desk.along c.args.desk.now c.args.desk.now) stops.NoMemory c.from_residual-in_err-end.result c.from_residual-in_err-end.ensures.1
     ((refl, refl), record { calls = []; way = g.met.D.Desk.along_none c.args.desk.now; are = refl })
 
 pub returns-in_err-rows-in-None-clause-finishes : goal.returns-in_err-rows-in-None-clause-finishes
 returns-in_err-rows-in-None-clause-finishes g c =
-    refuses (comes_of c.args.command.now c.args.inputs) (desk_view g.D.Desk.held g.D.Desk.read_faults g.D.Desk.write_faults c.args.desk.now)
+    refuses _ (desk_view g.D.Desk.held g.D.Desk.read_faults g.D.Desk.write_faults c.args.desk.now)
     (sink_view g.O.Sink.written g.O.Sink.faults c.args.out.now) (g.D.Desk.along c.args.desk.now c.args.desk.now) stops.NoMemory c.from_residual-in_err-rows-in-None.result c.from_residual-in_err-rows-in-None.ensures.1
     ((refl, refl), record { calls = []; way = g.met.D.Desk.along_none c.args.desk.now; are = refl })
 
@@ -63,7 +64,7 @@ returns-in-Some-clause-finishes g c =
     let text = flat_map thread_text c.deref-in-Some.result.now in
     let is : text ≡ _ = ap (λ (ts : List Traced). flat_map thread_text ts) c.deref-in-Some.ensures.value ∙ threads_printed have.runs c.in_ok-end.end.cpus.items have.count have.cpus_are in
     let wrong : Some trouble ≡ trouble_of 1 (map (λ (t : Trie). t.state) c.deref.result.now) = ap (option_map words_text) (sym c.in-Some.is) ∙ c.trouble_of.ensures in
-    finishes (comes_of s c.args.inputs) [] text (Some trouble) (seen c.args.desk.now) (seen c.deliver_states.new.desk) (got c.args.out.now)
+    finishes_with (doing_of (said_by s)).leaves (c.args.inputs.image, c.args.inputs.script) [] text (Some trouble) (seen c.args.desk.now) (seen c.deliver_states.new.desk) (got c.args.out.now)
     (got c.deliver_states.new.out) (g.D.Desk.along c.args.desk.now c.deliver_states.new.desk) c.deliver_states.result (
       have.runs,
       were_profiled c.what_runs_leave.ensures c.each_was_accepted.ensures.0 s.options program c.args.inputs.script c.in_ok-end.end.cpus.items
@@ -117,7 +118,7 @@ returns-clause-finishes g c =
     ap (λ (t : List ℕ). before t ++ shown (map told c.deref-in-None-3.result.now)) printed
     ∙ ap (λ (rs : List PathRow). before (state_texts 1 have.runs) ++ shown rs) rows in
     let none : None ≡ trouble_of 1 (map (λ (t : Trie). t.state) c.deref.result.now) = ap (option_map words_text) (sym c.in-None.is) ∙ c.trouble_of.ensures in
-    finishes (comes_of s c.args.inputs) [] text None (seen c.args.desk.now) (seen c.deliver_report.new.desk) (got c.args.out.now)
+    finishes_with (doing_of (said_by s)).leaves (c.args.inputs.image, c.args.inputs.script) [] text None (seen c.args.desk.now) (seen c.deliver_report.new.desk) (got c.args.out.now)
     (got c.deliver_report.new.out) (g.D.Desk.along c.args.desk.now c.deliver_report.new.desk) c.deliver_report.result (
       have.runs,
       were_profiled c.what_runs_leave.ensures c.each_was_accepted.ensures.0 s.options program c.args.inputs.script c.in_ok-end.end.cpus.items

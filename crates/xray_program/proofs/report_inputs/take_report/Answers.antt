@@ -1,75 +1,82 @@
-use Rattle.std.proofs.Common.{◌∙◌, arith, refl}
+use Rattle.std.proofs.Common.{refl}
+use Rattle.command_words.specs.Reports.{ByIds, ByImage, ByMap}
 use Rattle.command_words.specs.Views.{source_view}
 use Rattle.xray_io.specs.World.{desk_view}
-use Rattle.xray_program.specs.Reports.{names_inputs, report_inputs}
-use Rattle.xray_program.specs.Accepted.{AcceptsReport}
-use Rattle.xray_program.proofs.CallOrder.{first_handed, read_first}
-use Rattle.xray_program.proofs.Reports.{both_read, names_stopped, stop_of_log, stop_of_names}
-use Rattle.xray_program.proofs.TakenInputs.{no_value}
+use Rattle.xray_program.specs.Commands.{takes_report}
+use Rattle.xray_program.specs.private.ReportTakes.{AreOfReport}
+use Rattle.xray_program.proofs.NamesTaken.{kept_stopped, kept_turn}
+use Rattle.xray_program.proofs.TakenInputs.{at_first, given, passed, report_stopped, stopped, turn_as}
 use Rattle.xray_program.proofs.report_inputs.take_report.Goals as goal
 
 pub returns-in_err-log : goal.returns-in_err-log
 returns-in_err-log g c =
+    let desk = desk_view g.D.Desk.held g.D.Desk.read_faults g.D.Desk.write_faults in
     let form = g.K.StreamKind.form c.args.kind.now in
-    let seen = desk_view g.D.Desk.held g.D.Desk.read_faults g.D.Desk.write_faults in
-    let names = source_view c.args.names in
-    let result = c.from_residual.result in
-    let stopped = c.from_residual.ensures.1 in
+    let means = g.K.StreamKind.means c.args.kind.now in
+    let both = g.met.D.Desk.along_both in
     let took = c.in_err-log.ensures in
-    record {
-      taken = stop_of_log form (g.K.StreamKind.means c.args.kind.now) c.args.log.now names (seen c.args.desk.now) (seen c.take_stream.new.desk) result _ stopped
-          took.taken;
-      calls = first_handed g.D.Desk.along g.met.D.Desk.along_both g.met.D.Desk.along_none c.args.desk.now c.take_stream.new.desk form
-          (seen c.args.desk.now) (seen c.take_stream.new.desk) (report_inputs c.args.log.now form.limit names) (names_inputs names) c.args.log.now result _
-          (AcceptsReport form (g.D.Desk.held c.args.desk.now) c.args.log.now names) tt stopped refl took.taken took.calls;
-      held = c.take_stream.ensures.held;
-      later = c.take_stream.ensures.later;
-      writes = c.take_stream.ensures.writes;
-      calm = no_value _ result _ stopped;
-    }
+    report_stopped desk both g.met.D.Desk.along_none form c.args.log.now (source_view c.args.names) (AreOfReport means) _ _ c.from_residual.ensures.1
+    (record { taken = took.taken; calls = took.calls; held = took.held; later = took.later; writes = took.writes; calm = tt })
 
-pub returns-in_err-names : goal.returns-in_err-names
-returns-in_err-names g c =
+pub returns-in-Ids : goal.returns-in-Ids
+returns-in-Ids g c =
+    let desk = desk_view g.D.Desk.held g.D.Desk.read_faults g.D.Desk.write_faults in
     let form = g.K.StreamKind.form c.args.kind.now in
-    let seen = desk_view g.D.Desk.held g.D.Desk.read_faults g.D.Desk.write_faults in
-    let names = source_view c.args.names in
-    let result = c.from_residual-in_err-names.result in
-    let stopped = c.from_residual-in_err-names.ensures.1 in
-    let log = c.in_ok-log.ensures in
-    let took = c.in_err-names.ensures in
-    let one = read_first g.D.Desk.along g.met.D.Desk.along_both g.met.D.Desk.along_none c.args.desk.now c.take_stream.new.desk c.args.log.now form.limit log.calls in
-    record {
-      taken = stop_of_names form (g.K.StreamKind.means c.args.kind.now) c.args.log.now names (seen c.args.desk.now) (seen c.take_stream.new.desk)
-          (seen c.take_names.new.desk) log.taken.0 result _ stopped c.take_stream.ensures.held c.take_stream.ensures.later log.taken.2 took.taken;
-      calls = names_stopped form g.D.Desk.along g.met.D.Desk.along_both c.args.desk.now c.take_stream.new.desk c.take_names.new.desk
-          (seen c.take_stream.new.desk) (seen c.take_names.new.desk) (g.D.Desk.held c.args.desk.now) c.args.log.now names log.taken.0 log.taken.2 result _
-          stopped took.taken one took.calls;
-      held = c.take_names.ensures.held ∙ c.take_stream.ensures.held;
-      later = omega (arith, c.take_stream.ensures.later, c.take_names.ensures.later);
-      writes = c.take_names.ensures.writes ∙ c.take_stream.ensures.writes;
-      calm = no_value _ result _ stopped;
-    }
+    let means = g.K.StreamKind.means c.args.kind.now in
+    let both = g.met.D.Desk.along_both in
+    let took = c.in_ok-log.ensures in
+    let start = at_first desk g.met.D.Desk.along_none (takes_report form c.args.log.now ByIds) c.args.desk.now in
+    let log = passed both _ _ _ _ start
+    (turn_as form c.args.log.now took.taken.0 took.taken.2 took.held took.later took.writes took.calm took.calls) in
+    rw c.in-Ids.is (given (AreOfReport means) _ _ log (took.taken.1, refl))
 
-pub returns : goal.returns
-returns g c =
+pub returns-in_err-image-in-Image : goal.returns-in_err-image-in-Image
+returns-in_err-image-in-Image g c =
+    let desk = desk_view g.D.Desk.held g.D.Desk.read_faults g.D.Desk.write_faults in
     let form = g.K.StreamKind.form c.args.kind.now in
-    let seen = desk_view g.D.Desk.held g.D.Desk.read_faults g.D.Desk.write_faults in
-    let names = source_view c.args.names in
-    let log = c.in_ok-log.ensures in
-    let took = c.in_ok-names.ensures in
-    let one = read_first g.D.Desk.along g.met.D.Desk.along_both g.met.D.Desk.along_none c.args.desk.now c.take_stream.new.desk c.args.log.now form.limit log.calls in
-    record {
-      taken = (
-        log.taken.0,
-        log.taken.1,
-        log.taken.2,
-        record { mid = seen c.take_stream.new.desk; same = c.take_stream.ensures.held; later = c.take_stream.ensures.later; taken = took.taken },
-      );
-      calls = both_read form g.D.Desk.along g.met.D.Desk.along_both c.args.desk.now c.take_stream.new.desk c.take_names.new.desk (seen c.args.desk.now)
-          (seen c.take_stream.new.desk) (seen c.take_names.new.desk) c.args.log.now names log.taken.0 c.in_ok-names.names c.take_stream.ensures.held
-          log.taken.2 took.taken one took.calls;
-      held = c.take_names.ensures.held ∙ c.take_stream.ensures.held;
-      later = omega (arith, c.take_stream.ensures.later, c.take_names.ensures.later);
-      writes = c.take_names.ensures.writes ∙ c.take_stream.ensures.writes;
-      calm = took.calm ∙ log.calm;
-    }
+    let means = g.K.StreamKind.means c.args.kind.now in
+    let both = g.met.D.Desk.along_both in
+    let took = c.in_ok-log.ensures in
+    let start = at_first desk g.met.D.Desk.along_none (takes_report form c.args.log.now (ByImage c.in-Image.name.now)) c.args.desk.now in
+    let log = passed both _ _ _ _ start
+    (turn_as form c.args.log.now took.taken.0 took.taken.2 took.held took.later took.writes took.calm took.calls) in
+    rw c.in-Image.is (stopped both _ _ _ (AreOfReport means) _ _ c.from_residual-in_err-image-in-Image.ensures.1 log c.in_err-image-in-Image.ensures.turn)
+
+pub returns-in_ok-image-in-Image : goal.returns-in_ok-image-in-Image
+returns-in_ok-image-in-Image g c =
+    let desk = desk_view g.D.Desk.held g.D.Desk.read_faults g.D.Desk.write_faults in
+    let form = g.K.StreamKind.form c.args.kind.now in
+    let means = g.K.StreamKind.means c.args.kind.now in
+    let both = g.met.D.Desk.along_both in
+    let took = c.in_ok-log.ensures in
+    let start = at_first desk g.met.D.Desk.along_none (takes_report form c.args.log.now (ByImage c.in-Image.name.now)) c.args.desk.now in
+    let log = passed both _ _ _ _ start
+    (turn_as form c.args.log.now took.taken.0 took.taken.2 took.held took.later took.writes took.calm took.calls) in
+    let image = passed both _ _ _ _ log c.in_ok-image-in-Image.ensures.turn in
+    rw c.in-Image.is (given (AreOfReport means) _ _ image (took.taken.1, refl))
+
+pub returns-in_err-map-in-Map : goal.returns-in_err-map-in-Map
+returns-in_err-map-in-Map g c =
+    let desk = desk_view g.D.Desk.held g.D.Desk.read_faults g.D.Desk.write_faults in
+    let form = g.K.StreamKind.form c.args.kind.now in
+    let means = g.K.StreamKind.means c.args.kind.now in
+    let both = g.met.D.Desk.along_both in
+    let took = c.in_ok-log.ensures in
+    let start = at_first desk g.met.D.Desk.along_none (takes_report form c.args.log.now (ByMap c.in-Map.name.now)) c.args.desk.now in
+    let log = passed both _ _ _ _ start
+    (turn_as form c.args.log.now took.taken.0 took.taken.2 took.held took.later took.writes took.calm took.calls) in
+    rw c.in-Map.is (stopped both _ _ _ (AreOfReport means) _ _ c.from_residual-in_err-map-in-Map.ensures.1 log
+    (kept_stopped c.in-Map.name.now _ _ _ c.in_err-map-in-Map.ensures.turn))
+
+pub returns-in_ok-map-in-Map : goal.returns-in_ok-map-in-Map
+returns-in_ok-map-in-Map g c =
+    let desk = desk_view g.D.Desk.held g.D.Desk.read_faults g.D.Desk.write_faults in
+    let form = g.K.StreamKind.form c.args.kind.now in
+    let means = g.K.StreamKind.means c.args.kind.now in
+    let both = g.met.D.Desk.along_both in
+    let took = c.in_ok-log.ensures in
+    let start = at_first desk g.met.D.Desk.along_none (takes_report form c.args.log.now (ByMap c.in-Map.name.now)) c.args.desk.now in
+    let log = passed both _ _ _ _ start
+    (turn_as form c.args.log.now took.taken.0 took.taken.2 took.held took.later took.writes took.calm took.calls) in
+    let map = passed both _ _ _ _ log (kept_turn c.in-Map.name.now _ _ _ c.in_ok-map-in-Map.ensures.turn) in
+    rw c.in-Map.is (given (AreOfReport means) _ _ map (took.taken.1, refl))

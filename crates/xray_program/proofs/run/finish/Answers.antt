@@ -5,13 +5,15 @@ use Rattle.sled_rule.specs.Seats.{work_view}
 use Rattle.thread_run.specs.Runs.{HaveRunBeside}
 use Rattle.xray_image.specs.Program.{Program}
 use Rattle.xray_io.specs.World.{desk_view, sink_view}
-use Rattle.xray_program.specs.Run.{RanBeside, RunsBeside}
-use Rattle.xray_program.specs.private.RunInputs.{comes_of}
+use Rattle.xray_program.specs.Commands.{doing_of}
+use Rattle.xray_program.specs.Doings.{MayLeave}
+use Rattle.xray_program.specs.Run.{RanBeside, left_of_runs}
+use Rattle.xray_program.specs.private.RunInputs.{said_by}
 use Rattle.xray_program.specs.Traced.{IsTraced, state_texts, written_of}
 use Rattle.xray_program.specs.private.Works.{Finishes}
 use Rattle.xray_program.specs.declared.stop.Stop.TheVariants as stops
 use Rattle.xray_program.proofs.LawfulRuns.{ran_beside}
-use Rattle.xray_program.proofs.WorkEndings.{finishes, refuses}
+use Rattle.xray_program.proofs.WorkEndings.{finishes, finishes_of, refuses}
 use Rattle.xray_program.proofs.RunWritten.{leaves_same}
 use Rattle.xray_program.proofs.StartedThreads.{delivers_something, none_at_memory}
 use Rattle.xray_program.proofs.run.finish.Goals as goal
@@ -54,30 +56,31 @@ returns-clause-finishes g c =
       text_is = refl;
     } in
     let Done : Setup → Type 0 = λ with_it.
-    Finishes (RunsBeside trace audit with_it inputs.image inputs.script) (seen c.args.desk.now)
+    Finishes (MayLeave (left_of_runs trace audit with_it inputs.image inputs.script)) (seen c.args.desk.now)
     (seen c.deliver_run.new.desk) (got c.args.out.now) (got c.deliver_run.new.out) (g.D.Desk.along c.args.desk.now c.deliver_run.new.desk) c.deliver_run.result in
-    subst Done c.setup_of-setup.ensures.options
-    (finishes (RunsBeside trace audit setup inputs.image inputs.script) outputs text None
+    finishes_of (doing_of (said_by s)).leaves (inputs.image, inputs.script) _ _ _ _ _ c.deliver_run.result
+    (subst Done c.setup_of-setup.ensures.options
+    (finishes (MayLeave (left_of_runs trace audit setup inputs.image inputs.script)) outputs text None
     (seen c.args.desk.now) (seen c.deliver_run.new.desk) (got c.args.out.now) (got c.deliver_run.new.out)
     (g.D.Desk.along c.args.desk.now c.deliver_run.new.desk) c.deliver_run.result
-    (outputs, text, traced, refl)
-    (c.deliver_run.ensures.delivers is.runs (leaves_same setup is.runs end.cpus left.cpus end.segments left.segments end.first left.first end.buffers left.buffers c.from.ensures is.leaves)))
+    ((outputs, text), traced, refl)
+    (c.deliver_run.ensures.delivers is.runs (leaves_same setup is.runs end.cpus left.cpus end.segments left.segments end.first left.first end.buffers left.buffers c.from.ensures is.leaves))))
 
 pub returns-in_err-lines-clause-finishes : goal.returns-in_err-lines-clause-finishes
 returns-in_err-lines-clause-finishes g c =
-    refuses (comes_of c.args.command.now c.args.inputs) (desk_view g.D.Desk.held g.D.Desk.read_faults g.D.Desk.write_faults c.args.desk.now)
+    refuses _ (desk_view g.D.Desk.held g.D.Desk.read_faults g.D.Desk.write_faults c.args.desk.now)
     (sink_view g.O.Sink.written g.O.Sink.faults c.args.out.now) (g.D.Desk.along c.args.desk.now c.args.desk.now) stops.NoMemory c.from_residual.result c.from_residual.ensures.1
     ((refl, refl), record { calls = []; way = g.met.D.Desk.along_none c.args.desk.now; are = refl })
 
 pub returns-in_err-steps-clause-finishes : goal.returns-in_err-steps-clause-finishes
 returns-in_err-steps-clause-finishes g c =
-    refuses (comes_of c.args.command.now c.args.inputs) (desk_view g.D.Desk.held g.D.Desk.read_faults g.D.Desk.write_faults c.args.desk.now)
+    refuses _ (desk_view g.D.Desk.held g.D.Desk.read_faults g.D.Desk.write_faults c.args.desk.now)
     (sink_view g.O.Sink.written g.O.Sink.faults c.args.out.now) (g.D.Desk.along c.args.desk.now c.args.desk.now) stops.NoMemory c.from_residual-in_err-steps.result c.from_residual-in_err-steps.ensures.1
     ((refl, refl), record { calls = []; way = g.met.D.Desk.along_none c.args.desk.now; are = refl })
 
 pub returns-in_err-end-clause-finishes : goal.returns-in_err-end-clause-finishes
 returns-in_err-end-clause-finishes g c =
-    refuses (comes_of c.args.command.now c.args.inputs) (desk_view g.D.Desk.held g.D.Desk.read_faults g.D.Desk.write_faults c.args.desk.now)
+    refuses _ (desk_view g.D.Desk.held g.D.Desk.read_faults g.D.Desk.write_faults c.args.desk.now)
     (sink_view g.O.Sink.written g.O.Sink.faults c.args.out.now) (g.D.Desk.along c.args.desk.now c.args.desk.now) stops.NoMemory c.from_residual-in_err-end.result c.from_residual-in_err-end.ensures.1
     ((refl, refl), record { calls = []; way = g.met.D.Desk.along_none c.args.desk.now; are = refl })
 

@@ -1,4 +1,4 @@
-use Rattle.std.proofs.Common.{◌≡◌, ◌∙◌, ℕ, List, [], None, ap}
+use Rattle.std.proofs.Common.{◌≡◌, ◌∙◌, ℕ, List, [], None, ap, subst}
 use Rattle.account_report.specs.Account.{account_of}
 use Rattle.account_report.specs.AccountText.{account_text}
 use Rattle.account_report.specs.Ordered.{arranged}
@@ -12,7 +12,6 @@ use Rattle.xray_program.specs.Account.{account_report, format_of, is_descending,
 use Rattle.xray_program.specs.Outcomes.{Done}
 use Rattle.xray_program.specs.private.Meant.{AccountMeans}
 use Rattle.xray_program.specs.private.NamesTaken.{named_by}
-use Rattle.xray_program.specs.private.ReportTakes.{ComesOfMeant}
 use Rattle.xray_program.proofs.WorkEndings.{finishes}
 use Rattle.xray_program.proofs.account.AccountWork.finish.Goals as goal
 
@@ -32,6 +31,6 @@ returns-clause-finishes g c =
     ∙ (ap (λ (given : Naming). account_text (format_of options.format) number given c.deref.result.now) c.as_names.ensures
     ∙ (ap (λ (rows : List AccountRow). account_text (format_of options.format) number names rows) (c.deref.ensures.value ∙ means.rows)
     ∙ ap (λ (n : ℕ). account_text (format_of options.format) n names (arranged (key_of options.sort) (is_descending options.order) options.top (account_of trace.blocks))) means.latencies)) in
-    finishes (ComesOfMeant (AccountMeans options) (λ trace given outcome. outcome ≡ Done [] (account_report options trace given)) inputs) [] text None
+    finishes _ [] text None
     (seen c.args.desk.now) (seen c.deliver.new.desk) (got c.args.out.now) (got c.deliver.new.out) (g.D.Desk.along c.args.desk.now c.deliver.new.desk) c.deliver.result
-    (λ trace means. ap (Done []) (same trace means)) c.deliver.ensures.delivers
+    (λ read says. subst (λ given. Done [] text ≡ Done [] (account_report options read.0 given)) says.1 (ap (Done []) (same read.0 says.0))) c.deliver.ensures.delivers

@@ -1,13 +1,8 @@
-use Rattle.std.proofs.Common.{◌≡◌, [], ◌∷◌}
-use Rattle.xray_io.specs.World.{desk_view}
 use Rattle.xray_program.specs.Inputs.{text_form}
-use Rattle.xray_program.specs.Outcomes.{Done}
 use Rattle.xray_program.proofs.TakenInputs.{only_input}
 use Rattle.xray_program.proofs.asm.AsmWork.take.Goals as goal
 
 pub returns-clause-turns : goal.returns-clause-turns
 returns-clause-turns g c =
-    let seen = desk_view g.D.Desk.held g.D.Desk.read_faults g.D.Desk.write_faults in
     let s = c.args.self.now in
-    only_input (text_form s.threshold s.relative) s.text.now (λ file outcome. outcome ≡ Done ((s.image.now, file) ∷ []) [])
-    (seen c.args.desk.now) (seen c.take.new.desk) c.take.result c.take.ensures.turn
+    only_input (text_form s.threshold s.relative) s.text.now _ _ c.take.result c.take.ensures.turn

@@ -1,45 +1,46 @@
-use Rattle.std.proofs.Common.{[], ◌∷◌, refl}
+use Rattle.std.proofs.Common.{refl}
+use Rattle.command_words.specs.Words as words
 use Rattle.xray_io.specs.World.{desk_view}
-use Rattle.xray_program.specs.Inputs.{audit_form, audit_limit, image_form, script_limit, whole_script_form}
-use Rattle.xray_program.proofs.OrderTurns.{AfterAudit, AfterImage, AfterScript, after_audit, after_image, after_script, at_first, comes_of}
-use Rattle.xray_program.proofs.TakenInputs.{all_given, one_stopped, turn_of}
+use Rattle.xray_program.specs.Commands.{doing_of}
+use Rattle.xray_program.specs.Inputs.{whole_script_form}
+use Rattle.xray_program.specs.private.OrderInputs.{AreValues}
+use Rattle.xray_program.proofs.TakenInputs.{at_first, given, passed, stopped, turn_of}
 use Rattle.xray_program.proofs.load_order.LoadOrderWork.take.Goals as goal
 
 pub returns-in_err-image-clause-turns : goal.returns-in_err-image-clause-turns
 returns-in_err-image-clause-turns g c =
     let desk = desk_view g.D.Desk.held g.D.Desk.read_faults g.D.Desk.write_faults in
     let s = c.args.self.now in
-    one_stopped g.met.D.Desk.along_both image_form s.image.now (AfterImage (g.D.Desk.held c.args.desk.now) s) (comes_of s) _
-    ((s.audit.now, audit_limit) ∷ (s.script.now, script_limit) ∷ []) c.from_residual.result _ c.from_residual.ensures.1
-    (at_first g.met.D.Desk.along_both g.met.D.Desk.along_none desk s c.args.desk.now) refl c.in_err-image.ensures.turn
+    let both = g.met.D.Desk.along_both in
+    let start = at_first desk g.met.D.Desk.along_none (doing_of (words.Order s.image.now s.script.now s.audit.now s.free.now s.schedule.now)).takes c.args.desk.now in
+    stopped both _ _ _ AreValues _ _ c.from_residual.ensures.1 start c.in_err-image.ensures.turn
 
 pub returns-in_err-audit-clause-turns : goal.returns-in_err-audit-clause-turns
 returns-in_err-audit-clause-turns g c =
     let desk = desk_view g.D.Desk.held g.D.Desk.read_faults g.D.Desk.write_faults in
     let s = c.args.self.now in
-    let program = c.in_ok-image.image in
-    one_stopped g.met.D.Desk.along_both audit_form s.audit.now (AfterAudit (g.D.Desk.held c.args.desk.now) s program) (comes_of s) _
-    ((s.script.now, script_limit) ∷ []) c.from_residual-in_err-audit.result _ c.from_residual-in_err-audit.ensures.1
-    (after_image g.met.D.Desk.along_both g.met.D.Desk.along_none desk s c.args.desk.now program c.in_ok-image.ensures.turn) refl c.in_err-audit.ensures.turn
+    let both = g.met.D.Desk.along_both in
+    let start = at_first desk g.met.D.Desk.along_none (doing_of (words.Order s.image.now s.script.now s.audit.now s.free.now s.schedule.now)).takes c.args.desk.now in
+    let image = passed both _ _ _ _ start c.in_ok-image.ensures.turn in
+    stopped both _ _ _ AreValues _ _ c.from_residual-in_err-audit.ensures.1 image c.in_err-audit.ensures.turn
 
 pub returns-in_err-script-clause-turns : goal.returns-in_err-script-clause-turns
 returns-in_err-script-clause-turns g c =
     let desk = desk_view g.D.Desk.held g.D.Desk.read_faults g.D.Desk.write_faults in
     let s = c.args.self.now in
-    let program = c.in_ok-image.image in
-    let statement = c.in_ok-audit.audit in
-    one_stopped g.met.D.Desk.along_both (whole_script_form program statement.setup.threads) s.script.now (AfterScript s program statement) (comes_of s) _ []
-    c.from_residual-in_err-script.result _ c.from_residual-in_err-script.ensures.1
-    (after_audit g.met.D.Desk.along_both g.met.D.Desk.along_none desk s c.args.desk.now program statement
-    c.in_ok-image.ensures.turn c.in_ok-audit.ensures.turn) refl (turn_of (whole_script_form program) s.script.now c.threads-threads.ensures c.in_err-script.ensures.turn)
+    let both = g.met.D.Desk.along_both in
+    let start = at_first desk g.met.D.Desk.along_none (doing_of (words.Order s.image.now s.script.now s.audit.now s.free.now s.schedule.now)).takes c.args.desk.now in
+    let image = passed both _ _ _ _ start c.in_ok-image.ensures.turn in
+    let audit = passed both _ _ _ _ image c.in_ok-audit.ensures.turn in
+    stopped both _ _ _ AreValues _ _ c.from_residual-in_err-script.ensures.1 audit (turn_of (whole_script_form c.in_ok-image.image) s.script.now c.threads-threads.ensures c.in_err-script.ensures.turn)
 
 pub returns-clause-turns : goal.returns-clause-turns
 returns-clause-turns g c =
     let desk = desk_view g.D.Desk.held g.D.Desk.read_faults g.D.Desk.write_faults in
     let s = c.args.self.now in
-    let program = c.in_ok-image.image in
-    let statement = c.in_ok-audit.audit in
-    let whole = c.in_ok-script.script in
-    all_given (comes_of s) (record { image = program; audit = statement; script = whole })
-    (after_script g.met.D.Desk.along_both g.met.D.Desk.along_none desk s c.args.desk.now program statement whole c.threads-threads.ensures
-    c.in_ok-image.ensures.turn c.in_ok-audit.ensures.turn c.in_ok-script.ensures.turn) (λ _ _ yields. yields)
+    let both = g.met.D.Desk.along_both in
+    let start = at_first desk g.met.D.Desk.along_none (doing_of (words.Order s.image.now s.script.now s.audit.now s.free.now s.schedule.now)).takes c.args.desk.now in
+    let image = passed both _ _ _ _ start c.in_ok-image.ensures.turn in
+    let audit = passed both _ _ _ _ image c.in_ok-audit.ensures.turn in
+    let script = passed both _ _ _ _ audit (turn_of (whole_script_form c.in_ok-image.image) s.script.now c.threads-threads.ensures c.in_ok-script.ensures.turn) in
+    given AreValues _ _ script refl

@@ -1,4 +1,4 @@
-use Rattle.std.proofs.Common.{◌≡◌, ℕ, [], None, Ok, refl, sym, ap, subst}
+use Rattle.std.proofs.Common.{◌≡◌, ℕ, [], None, Ok, Err, refl, sym, ap, subst}
 use Rattle.std.specs.Prelude.{All}
 use Rattle.patch_script.specs.Plans.{waiting_line}
 use Rattle.patch_script.specs.Refusals.{commands_of}
@@ -9,14 +9,16 @@ use Rattle.machine_step.specs.declared.setup.Setup.{Setup}
 use Rattle.xray_image.specs.Program.{Program}
 use Rattle.xray_io.specs.World.{desk_view, sink_view}
 use Rattle.xray_program.specs.Setups.{setup_of}
-use Rattle.xray_program.specs.Sim.{RanReplayed, Replays}
-use Rattle.xray_program.specs.Taking.{Leaves}
+use Rattle.command_words.specs.Words as words
+use Rattle.xray_program.specs.Commands.{doing_of}
+use Rattle.xray_program.specs.Doings.{MayLeave}
+use Rattle.xray_program.specs.Sim.{RanReplayed, left_of_replay}
 use Rattle.xray_program.specs.Traced.{IsTraced, state_texts, written_of}
 use Rattle.xray_program.specs.private.Works.{Finishes}
 use Rattle.xray_program.proofs.LawfulRuns.{ran_replayed}
-use Rattle.xray_program.proofs.WorkEndings.{finishes}
+use Rattle.xray_program.proofs.WorkEndings.{finishes, finishes_of}
 use Rattle.xray_program.proofs.RunWritten.{leaves_same}
-use Rattle.xray_program.proofs.SimTurns.{sim_leaves, sim_refuses}
+use Rattle.xray_program.proofs.SimEndings.{sim_leaves, sim_refuses}
 use Rattle.xray_program.proofs.sim.SimWork.finish.Goals as goal
 
 pub play-requires : goal.play-requires
@@ -71,15 +73,18 @@ returns-in-Ok-clause-finishes g c =
       text_is = refl;
     } in
     let Done : Setup → Type 0 = λ with_it.
-    Finishes (Replays s.script.now s.files.trace.now s.files.audit.now with_it inputs.image inputs.script inputs.schedule) (seen c.args.desk.now)
+    Finishes (MayLeave (left_of_replay s.script.now s.files.trace.now s.files.audit.now with_it inputs.image inputs.script inputs.schedule)) (seen c.args.desk.now)
     (seen c.deliver_run.new.desk) (got c.args.out.now) (got c.deliver_run.new.out) (g.D.Desk.along c.args.desk.now c.deliver_run.new.desk) c.deliver_run.result in
-    subst Done c.setup_of-setup.ensures.options
-    (finishes (Replays s.script.now s.files.trace.now s.files.audit.now setup inputs.image inputs.script inputs.schedule) outputs text None
+    finishes_of (doing_of (words.Sim s.image.now s.script.now s.schedule.now s.files.trace.now s.files.audit.now s.options)).leaves
+    (inputs.image, inputs.script, inputs.schedule) (seen c.args.desk.now) (seen c.deliver_run.new.desk) (got c.args.out.now) (got c.deliver_run.new.out)
+    (g.D.Desk.along c.args.desk.now c.deliver_run.new.desk) c.deliver_run.result
+    (subst Done c.setup_of-setup.ensures.options
+    (finishes (MayLeave (left_of_replay s.script.now s.files.trace.now s.files.audit.now setup inputs.image inputs.script inputs.schedule)) outputs text None
     (seen c.args.desk.now) (seen c.deliver_run.new.desk) (got c.args.out.now) (got c.deliver_run.new.out)
     (g.D.Desk.along c.args.desk.now c.deliver_run.new.desk) c.deliver_run.result
-    (sim_leaves s.script.now (waiting_line inputs.script.lines) (Leaves Are) _
-    (λ line waits. let told = (c.new-2.ensures.waits line).1 waits in cc) (outputs, text, traced, refl))
-    (c.deliver_run.ensures.delivers is.runs leaves))
+    (sim_leaves s.script.now (waiting_line inputs.script.lines) _ _
+    (λ line waits. let told = (c.new-2.ensures.waits line).1 waits in cc) ((outputs, text), traced, refl))
+    (c.deliver_run.ensures.delivers is.runs leaves)))
 
 pub returns-clause-finishes : goal.returns-clause-finishes
 returns-clause-finishes g c =
@@ -87,6 +92,9 @@ returns-clause-finishes g c =
     let got = sink_view g.O.Sink.written g.O.Sink.faults in
     let s = c.args.self.now in
     let inputs = c.args.inputs.now in
-    sim_refuses s.script.now s.files.trace.now s.files.audit.now (setup_of s.options) inputs.image inputs.script inputs.schedule (seen c.args.desk.now) (got c.args.out.now)
+    finishes_of (doing_of (words.Sim s.image.now s.script.now s.schedule.now s.files.trace.now s.files.audit.now s.options)).leaves
+    (inputs.image, inputs.script, inputs.schedule) (seen c.args.desk.now) (seen c.args.desk.now) (got c.args.out.now) (got c.args.out.now)
+    (g.D.Desk.along c.args.desk.now c.args.desk.now) (Err c.fault_stop.result)
+    (sim_refuses s.script.now s.files.trace.now s.files.audit.now (setup_of s.options) inputs.image inputs.script inputs.schedule (seen c.args.desk.now) (got c.args.out.now)
     (g.D.Desk.along c.args.desk.now c.args.desk.now) (record { calls = []; way = g.met.D.Desk.along_none c.args.desk.now; are = refl })
-    c.in-Err.fault c.fault_stop.result (λ line is. (c.new-2.ensures.waits line).0 (cc)) c.fault_stop.ensures
+    c.in-Err.fault c.fault_stop.result (λ line is. (c.new-2.ensures.waits line).0 (cc)) c.fault_stop.ensures)

@@ -1,48 +1,48 @@
-use Rattle.std.proofs.Common.{[], ◌∷◌, refl}
+use Rattle.std.proofs.Common.{refl}
+use Rattle.command_words.specs.Words as words
 use Rattle.xray_io.specs.World.{desk_view}
-use Rattle.xray_program.specs.Inputs.{image_form, schedule_form, schedule_limit, script_form, script_limit}
-use Rattle.xray_program.proofs.SimTurns.{AfterImage, AfterSchedule, AfterScript, after_image, after_schedule, after_script, at_first, comes_of}
-use Rattle.xray_program.proofs.TakenInputs.{all_given, one_stopped}
+use Rattle.xray_program.specs.Commands.{doing_of}
+use Rattle.xray_program.specs.private.SimInputs.{AreValues}
+use Rattle.xray_program.proofs.TakenInputs.{at_first, given, passed, stopped}
 use Rattle.xray_program.proofs.sim.SimWork.take.Goals as goal
 
 pub returns-in_err-image-clause-turns : goal.returns-in_err-image-clause-turns
 returns-in_err-image-clause-turns g c =
     let desk = desk_view g.D.Desk.held g.D.Desk.read_faults g.D.Desk.write_faults in
     let s = c.args.self.now in
-    one_stopped g.met.D.Desk.along_both image_form s.image.now (AfterImage (g.D.Desk.held c.args.desk.now) s) (comes_of s) _
-    ((s.script.now, script_limit) ∷ (s.schedule.now, schedule_limit) ∷ []) c.from_residual.result _ c.from_residual.ensures.1
-    (at_first g.met.D.Desk.along_both g.met.D.Desk.along_none desk s c.args.desk.now) refl c.in_err-image.ensures.turn
+    let both = g.met.D.Desk.along_both in
+    let start = at_first desk g.met.D.Desk.along_none (doing_of (words.Sim s.image.now s.script.now s.schedule.now s.files.trace.now s.files.audit.now s.options)).takes c.args.desk.now in
+    stopped both _ _ _ AreValues _ _ c.from_residual.ensures.1 start c.in_err-image.ensures.turn
 
 pub returns-in_err-script-clause-turns : goal.returns-in_err-script-clause-turns
 returns-in_err-script-clause-turns g c =
     let desk = desk_view g.D.Desk.held g.D.Desk.read_faults g.D.Desk.write_faults in
     let s = c.args.self.now in
-    let program = c.in_ok-image.image in
-    one_stopped g.met.D.Desk.along_both (script_form program s.options.bounds.threads) s.script.now
-    (AfterScript (g.D.Desk.held c.args.desk.now) s program) (comes_of s) _ ((s.schedule.now, schedule_limit) ∷ [])
-    c.from_residual-in_err-script.result _ c.from_residual-in_err-script.ensures.1
-    (after_image g.met.D.Desk.along_both g.met.D.Desk.along_none desk s c.args.desk.now program c.in_ok-image.ensures.turn) refl c.in_err-script.ensures.turn
+    let both = g.met.D.Desk.along_both in
+    let start = at_first desk g.met.D.Desk.along_none (doing_of (words.Sim s.image.now s.script.now s.schedule.now s.files.trace.now s.files.audit.now s.options)).takes c.args.desk.now in
+    let image = passed both _ _ _ _ start c.in_ok-image.ensures.turn in
+    stopped both _ _ _ AreValues _ _ c.from_residual-in_err-script.ensures.1 image c.in_err-script.ensures.turn
 
 pub returns-in_err-schedule-clause-turns : goal.returns-in_err-schedule-clause-turns
 returns-in_err-schedule-clause-turns g c =
     let desk = desk_view g.D.Desk.held g.D.Desk.read_faults g.D.Desk.write_faults in
     let s = c.args.self.now in
-    one_stopped g.met.D.Desk.along_both (schedule_form s.options.bounds.threads) s.schedule.now
-    (AfterSchedule s c.in_ok-image.image c.in_ok-script.script) (comes_of s) _ [] c.from_residual-in_err-schedule.result _
-    c.from_residual-in_err-schedule.ensures.1
-    (after_script g.met.D.Desk.along_both g.met.D.Desk.along_none desk s c.args.desk.now c.in_ok-image.image c.in_ok-script.script
-    c.in_ok-image.ensures.turn c.in_ok-script.ensures.turn) refl c.in_err-schedule.ensures.turn
+    let both = g.met.D.Desk.along_both in
+    let start = at_first desk g.met.D.Desk.along_none (doing_of (words.Sim s.image.now s.script.now s.schedule.now s.files.trace.now s.files.audit.now s.options)).takes c.args.desk.now in
+    let image = passed both _ _ _ _ start c.in_ok-image.ensures.turn in
+    let script = passed both _ _ _ _ image c.in_ok-script.ensures.turn in
+    stopped both _ _ _ AreValues _ _ c.from_residual-in_err-schedule.ensures.1 script c.in_err-schedule.ensures.turn
 
 pub returns-clause-turns : goal.returns-clause-turns
 returns-clause-turns g c =
     let desk = desk_view g.D.Desk.held g.D.Desk.read_faults g.D.Desk.write_faults in
     let s = c.args.self.now in
-    let program = c.in_ok-image.image in
-    let plan = c.in_ok-script.script in
-    let turns = c.in_ok-schedule.schedule in
-    all_given (comes_of s) (record { image = program; script = plan; schedule = turns })
-    (after_schedule g.met.D.Desk.along_both g.met.D.Desk.along_none desk s c.args.desk.now program plan turns
-    c.in_ok-image.ensures.turn c.in_ok-script.ensures.turn c.in_ok-schedule.ensures.turn) (λ _ _ yields. yields)
+    let both = g.met.D.Desk.along_both in
+    let start = at_first desk g.met.D.Desk.along_none (doing_of (words.Sim s.image.now s.script.now s.schedule.now s.files.trace.now s.files.audit.now s.options)).takes c.args.desk.now in
+    let image = passed both _ _ _ _ start c.in_ok-image.ensures.turn in
+    let script = passed both _ _ _ _ image c.in_ok-script.ensures.turn in
+    let schedule = passed both _ _ _ _ script c.in_ok-schedule.ensures.turn in
+    given AreValues _ _ schedule refl
 
 pub returns-clause-fits : goal.returns-clause-fits
 returns-clause-fits g c =

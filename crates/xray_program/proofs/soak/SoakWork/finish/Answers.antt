@@ -1,6 +1,6 @@
 use Rattle.std.proofs.Common.{[], None, refl, subst, sym}
 use Rattle.xray_io.specs.World.{desk_view, sink_view}
-use Rattle.xray_program.specs.Soak.{IsSummary, SoakComes}
+use Rattle.xray_program.specs.Soak.{IsSummary}
 use Rattle.xray_program.proofs.WorkEndings.{finishes}
 use Rattle.xray_program.proofs.soak.SoakWork.finish.Goals as goal
 
@@ -11,5 +11,5 @@ returns-clause-finishes g c =
     let number = c.args.self.now.number in
     let text = c.bytes.result.now in
     let summary : IsSummary number text = subst (IsSummary number) (sym c.bytes.ensures) c.in_ok-summary.ensures in
-    finishes (SoakComes number) [] text None (seen c.args.desk.now) (seen c.deliver.new.desk) (got c.args.out.now) (got c.deliver.new.out)
-    (g.D.Desk.along c.args.desk.now c.deliver.new.desk) c.deliver.result ([], text, (refl, summary), refl) c.deliver.ensures.delivers
+    finishes _ [] text None (seen c.args.desk.now) (seen c.deliver.new.desk) (got c.args.out.now) (got c.deliver.new.out)
+    (g.D.Desk.along c.args.desk.now c.deliver.new.desk) c.deliver.result (λ none any. (text, summary, refl)) c.deliver.ensures.delivers

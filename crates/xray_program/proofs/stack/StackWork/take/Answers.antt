@@ -1,16 +1,14 @@
 use Rattle.command_words.specs.Views.{source_view}
-use Rattle.xray_io.specs.World.{desk_view}
-use Rattle.xray_program.specs.Stack.{StacksCome}
+use Rattle.fdr_file.specs.declared.trace.Trace.{Trace}
+use Rattle.xray_program.specs.Commands.{takes_report}
 use Rattle.xray_program.specs.Inputs.{trace_form}
 use Rattle.xray_program.specs.private.Meant.{StacksMean}
-use Rattle.xray_program.proofs.Reports.{report_taken}
-use Rattle.xray_program.proofs.TakenInputs.{turns_as}
+use Rattle.xray_program.specs.private.ReportTakes.{AreOfReport}
+use Rattle.xray_program.proofs.TakenInputs.{taken_known}
 use Rattle.xray_program.proofs.stack.StackWork.take.Goals as goal
 
-pub returns-clause-turns : goal.returns-clause-turns
-returns-clause-turns g c =
-    let seen = desk_view g.D.Desk.held g.D.Desk.read_faults g.D.Desk.write_faults in
+pub returns-clause-fits : goal.returns-clause-fits
+returns-clause-fits g c =
     let s = c.args.self.now in
-    turns_as c.take_report.ensures
-    (report_taken trace_form StacksMean s.trace.now (source_view s.names) (λ t names. StacksCome s.trace.now s.format t names) (seen c.args.desk.now)
-    (seen c.take_report.new.desk) c.take_report.result)
+    taken_known (takes_report trace_form s.trace.now (source_view s.names)) (AreOfReport StacksMean) (λ inputs. (trace : Trace) × StacksMean inputs.log trace) _ _ _
+    c.take_report.result (λ inputs y says. (y.0, says.0)) c.take_report.ensures

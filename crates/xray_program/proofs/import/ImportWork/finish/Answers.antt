@@ -1,0 +1,19 @@
+use Rattle.std.proofs.Common.{ℕ, List, [], ◌∷◌, None, ap₂}
+use Rattle.command_words.specs.Words as words
+use Rattle.runtime_log.specs.Facts.{facts_text}
+use Rattle.runtime_log.specs.declared.facts.Facts.{Facts}
+use Rattle.xray_io.specs.World.{desk_view, sink_view}
+use Rattle.xray_program.specs.Commands.{doing_of}
+use Rattle.xray_program.specs.Outcomes.{Done}
+use Rattle.xray_program.proofs.WorkEndings.{finishes_with}
+use Rattle.xray_program.proofs.import.ImportWork.finish.Goals as goal
+
+pub returns-clause-finishes : goal.returns-clause-finishes
+returns-clause-finishes g c =
+    let seen = desk_view g.D.Desk.held g.D.Desk.read_faults g.D.Desk.write_faults in
+    let got = sink_view g.O.Sink.written g.O.Sink.faults in
+    let s = c.args.self.now in
+    finishes_with (doing_of (words.Import s.log.now s.trace.now)).leaves c.args.made.now
+    ((s.trace.now, c.file.result.now) ∷ []) (facts_text c.facts.result.now) None (seen c.args.desk.now) (seen c.deliver.new.desk)
+    (got c.args.out.now) (got c.deliver.new.out) (g.D.Desk.along c.args.desk.now c.deliver.new.desk) c.deliver.result
+    (ap₂ (λ (bytes : List ℕ) (facts : Facts). Done ((s.trace.now, bytes) ∷ []) (facts_text facts)) c.file.ensures c.facts.ensures) c.deliver.ensures.delivers
