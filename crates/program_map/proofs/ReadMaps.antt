@@ -1,12 +1,15 @@
 -- The text of a map is read as the ids and names of its sleds.
-use Rattle.std.proofs.Common.{◌≡◌, ◌==◌, ◌||◌, ◌≤◌, ℕ, zero, suc, Bool, true, false, not, inl, inr, List, [], ◌∷◌, ◌++◌, map, refl, sym, ap, subst, ◌∙◌, arith, append_assoc, if◌then◌else◌}
-use Rattle.std.specs.Prelude.{codes, decimal}
+use Rattle.std.proofs.Common.{Some, None, length, drop, ◌≡◌, ◌==◌, ◌||◌, ◌≤◌, ℕ, zero, suc, Bool, true, false, not, inl, inr, List, [], ◌∷◌, ◌++◌, map, refl, sym, ap, subst, ◌∙◌, arith, append_assoc, if◌then◌else◌}
+use Rattle.std.specs.Prelude.{codes, decimal, filter}
 use Rattle.std.specs.Fmt.{digits}
 use Rattle.std.specs.List.{flat_map, list_any}
 use Rattle.std.specs.Str.Lines.{lines, strip_carriage_return}
-use Rattle.std.proofs.lemmas.Bool.{and_from, not_from_false}
+use Rattle.std.specs.Option.{option_map_or}
+use Rattle.std.specs.Prelude.{slice_index_or}
+use Rattle.std.proofs.lemmas.Bool.{and_from, lt-ltb, not_from_false}
 use Rattle.std.proofs.lemmas.Grind.{flat_map-append}
 use Rattle.map_names.specs.Entries.{is_entry, is_event, is_exit, is_kind, is_truth}
+use Rattle.map_names.specs.Maps.{is_comment}
 use Rattle.map_names.specs.Spelling.{IsEnding, SpellEach, SpellsEntry, SpellsMap, single_byte, single_quoted}
 use Rattle.elf_file.specs.Symbols.{SymbolNames, function_name_at}
 use Rattle.program_map.specs.declared.numbering.NumberedSled.{NumberedSled}
@@ -77,9 +80,12 @@ ending_of version = codes ", version: " ++ decimal version ++ codes " }"
 
 ending_reads : (version : ℕ) → version ≤ 2 → IsEnding (ending_of version)
 unfolding digits
-ending_reads zero small = inr (inl refl)
-ending_reads (suc zero) small = inr (inr (inl refl))
-ending_reads (suc (suc zero)) small = inr (inr (inr refl))
+ending_reads zero small =
+    record { version = codes ", version: 0"; brace = codes " }"; version_is = inr (inl refl); brace_is = inl refl; joined = refl }
+ending_reads (suc zero) small =
+    record { version = codes ", version: 1"; brace = codes " }"; version_is = inr (inr (inl refl)); brace_is = inl refl; joined = refl }
+ending_reads (suc (suc zero)) small =
+    record { version = codes ", version: 2"; brace = codes " }"; version_is = inr (inr (inr refl)); brace_is = inl refl; joined = refl }
 ending_reads (suc (suc (suc n))) small = absurd (omega arith)
 
 -- ---- a line
@@ -156,6 +162,11 @@ line_kept names numbered =
     let P : List ℕ → Type 0 = λ line. strip_carriage_return line ≡ line in
     subst P (sym is) (end_kept (line_start names numbered ++ (codes ", version: " ++ decimal numbered.sled.version ++ 32 ∷ [])) 125 refl)
 
+-- the label of a name and the name, as one part of a line
+named_as_one : (a id b x c y d k e t f q g : List ℕ)
+    → a ++ id ++ b ++ x ++ c ++ y ++ d ++ k ++ e ++ t ++ f ++ q ++ g ≡ a ++ id ++ b ++ x ++ c ++ y ++ d ++ k ++ e ++ t ++ (f ++ q) ++ g
+named_as_one a id b x c y d k e t f q g = ap (λ (l : List ℕ). l ++ g) (append_assoc (a ++ id ++ b ++ x ++ c ++ y ++ d ++ k ++ e ++ t) f q)
+
 line_reads : (names : SymbolNames) (numbered : NumberedSled) → IsInRange numbered → SpellsEntry (bare_line names numbered) (named_sled names numbered)
 line_reads names numbered range = record {
   id = decimal numbered.id;
@@ -163,16 +174,24 @@ line_reads names numbered range = record {
   function = map_address numbered.sled.function;
   kind = map_kind_word numbered.sled.kind;
   always = map_truth_word numbered.sled.always;
-  written = single_quoted (sled_name names numbered);
+  named = codes ", function-name: " ++ single_quoted (sled_name names numbered);
   ending = ending_of numbered.sled.version;
   id_is = id_reads numbered.id range.id;
   address_is = address_reads numbered.sled.address range.address;
   function_is = address_reads numbered.sled.function range.function;
   kind_is = kind_reads numbered.sled.kind;
   always_is = truth_reads numbered.sled.always;
-  name_is = inl refl;
+  name_is = inl (record {
+    written = single_quoted (sled_name names numbered);
+    spelled = inl refl;
+    labelled = refl;
+    direct = λ same. absurd cc;
+  });
   ending_is = ending_reads numbered.sled.version range.version;
-  joined = refl;
+  joined =
+      named_as_one (codes "- { id: ") (decimal numbered.id) (codes ", address: ") (map_address numbered.sled.address) (codes ", function: ")
+      (map_address numbered.sled.function) (codes ", kind: ") (map_kind_word numbered.sled.kind) (codes ", always-instrument: ") (map_truth_word numbered.sled.always)
+      (codes ", function-name: ") (single_quoted (sled_name names numbered)) (ending_of numbered.sled.version);
 }
 
 -- ---- a text
@@ -185,6 +204,19 @@ lines_and_end : (names : SymbolNames) (sleds : List NumberedSled) → AreInRange
 lines_and_end names [] range = (record { within = refl; kept = refl }, tt)
 lines_and_end names (sled ∷ sleds) range =
     (record { within = line_within names sled range.0; kept = line_kept names sled }, lines_and_end names sleds range.1)
+
+-- no line that begins so is a comment
+begins_so : (rest : List ℕ) → is_comment (45 ∷ rest) ≡ false
+begins_so rest =
+    ap (λ (t : Bool). option_map_or (λ (n : ℕ). slice_index_or (45 ∷ rest) n 0 == 35) (if t then Some 0 else None) false) (lt-ltb 0 (length (45 ∷ rest)) (omega arith))
+
+no_comments : (names : SymbolNames) (sleds : List NumberedSled)
+    → filter (λ line. not (is_comment line)) (map (bare_line names) sleds ++ codes "..." ∷ []) ≡ map (bare_line names) sleds ++ codes "..." ∷ []
+no_comments names [] = refl
+no_comments names (sled ∷ sleds) =
+    let line : List ℕ = bare_line names sled in
+    let rest : List (List ℕ) = filter (λ l. not (is_comment l)) (map (bare_line names) sleds ++ codes "..." ∷ []) in
+    ap (λ (t : Bool). if not t then line ∷ rest else rest) (begins_so (drop 1 line)) ∙ ap (λ (l : List (List ℕ)). line ∷ l) (no_comments names sleds)
 
 bare_text : (names : SymbolNames) (sleds : List NumberedSled) → flat_map (map_line names) sleds ≡ text_of_lines (map (bare_line names) sleds)
 bare_text names [] = refl
@@ -204,6 +236,8 @@ map_read program range =
       said = bare;
       each = lines_read names sleds range;
       whole =
-          ap lines (ap (λ (t : List ℕ). codes "---\n" ++ t) text)
-          ∙ text_lines (codes "---" ∷ bare ++ codes "..." ∷ []) (record { within = refl; kept = refl }, lines_and_end names sleds range);
+          ap (filter (λ line. not (is_comment line)))
+          (ap lines (ap (λ (t : List ℕ). codes "---\n" ++ t) text)
+          ∙ text_lines (codes "---" ∷ bare ++ codes "..." ∷ []) (record { within = refl; kept = refl }, lines_and_end names sleds range))
+          ∙ ap (λ (l : List (List ℕ)). codes "---" ∷ l) (no_comments names sleds);
     }
