@@ -1,6 +1,6 @@
 //! Calls in the order of a column.
 
-ghost use Rattle.std.specs.Prelude.{◌≡◌, ◌≤◌, ◌+◌, ◌++◌, ℕ, [], ◌∷◌, List, OnOk, length, map, nat_eq};
+ghost use Rattle.std.specs.Prelude.{◌≡◌, ◌↔◌, ◌≤◌, ◌+◌, ◌++◌, ℕ, [], ◌∷◌, List, IsTrue, OnOk, length, map, nat_eq};
 ghost use Rattle.std.specs.{List.{IsDistinct}, Option.{option_to_list}};
 ghost use Rattle.std.specs.Ordering.{is_lt};
 ghost use Rattle.fdr_file.specs.ThreadEvents.{ThreadEvent};
@@ -9,7 +9,7 @@ ghost use Rattle.call_rows.specs.CallOrders.{arranged_calls, call_before, call_c
 ghost use Rattle.call_rows.specs.CallRows.{EndsAt, rows_after};
 ghost use Rattle.call_rows.specs.private.FirstRows.{Collects, IsBoundOf, KeepsFirst, comes_past};
 
-use crate::filter::CallFilter;
+use crate::filter::{CallFilter, same_number};
 use crate::row::{CallKey, CallRow};
 use std::alloc::Global;
 use std::cmp::Ordering;
@@ -25,6 +25,17 @@ pub struct CallOrder {
     pub descending: bool,
     /// How many of the first calls are listed. Without it all are.
     pub top: Option<u32>,
+}
+
+impl CallOrder {
+    /// Whether it is the same order.
+    pub(crate) fn is_same(&self, other: &CallOrder) -> bool
+        ensures { IsTrue result ↔ self.now ≡ other.now }
+    {
+        self.key == other.key
+            && self.descending == other.descending
+            && same_number(self.top, other.top)
+    }
 }
 
 /// Orders rows, and keeps the first ones. No two of them may have the same exit.
