@@ -5,8 +5,7 @@ use Rattle.xray_io.specs.Desk.{Entry, Untold}
 use Rattle.audit_check.specs.Statements.{AuditStatement}
 use Rattle.audit_check.specs.Texts.{verdict_text}
 use Rattle.audit_check.specs.Verdicts.{IsJudged}
-use Rattle.command_words.specs.Files.{image_named, map_named}
-use Rattle.command_words.specs.Reports.{NameSource, ByIds, ByImage, ByMap}
+use Rattle.command_words.specs.Reports.{NameSource, ByIds, ByImage, ByMap, image_named, map_named}
 use Rattle.command_words.specs.Words.{Command, Sim, Run, Plain, Extract, Asm, Account, Stack, Convert, Dump, Check, Order, Profile, Soak, Import, outputs_of}
 use Rattle.command_words.specs.declared.profile_options.ProfileOptions.{ProfileOptions}
 use Rattle.fdr_file.specs.declared.trace.Trace.{Trace}
