@@ -40,6 +40,7 @@ still first wanted history e same keeps =
     subst P (sym same)
     (record {
       same = keeps.same;
+      bounded = keeps.bounded;
       apart = keeps.apart;
       ended = ended-later (length history) (suc (length history)) first.rows.items (omega arith) keeps.ended;
       all_apart = keeps.all_apart;

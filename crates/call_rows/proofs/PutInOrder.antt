@@ -1,8 +1,8 @@
 -- Rows that are put in order one after the other.
-use Rattle.std.proofs.Common.{◌≡◌, ◌<◌, ◌≤◌, ◌+◌, ◌++◌, ◌∙◌, ℕ, zero, suc, Bool, true, false, cond, List, [], ◌∷◌, take, refl, ap, sym, arith}
+use Rattle.std.proofs.Common.{Bool, List, [], ap, arith, cond, false, get_or, length, refl, subst, suc, sym, take, true, zero, ℕ, ◌++◌, ◌+◌, ◌-◌, ◌<◌, ◌∙◌, ◌∷◌, ◌≡◌, ◌≤◌}
 use Rattle.account_report.specs.Ascending.{ordered_by, put_in}
 use Rattle.call_rows.specs.declared.row.CallRow.{CallRow}
-use Rattle.call_rows.specs.private.FirstRows.{AllApart, AllEnded, ApartFrom}
+use Rattle.call_rows.specs.private.FirstRows.{AllApart, AllEnded, ApartFrom, FirstUpTo}
 
 -- an order in which of two rows with different exits one comes first
 pub record IsLine (before : CallRow → CallRow → Bool) : Type 0 where
@@ -171,6 +171,40 @@ take-put before (suc n) x (y ∷ ys) = by_first (before x y) (take-put before n 
     by_first true later = ap (λ (l : List CallRow). x ∷ l) (take_second n y ys)
     by_first false later = ap (λ (l : List CallRow). y ∷ l) later
 
+-- ---- rows up to a last one
+
+-- one more row leaves as many that don't come after the last one
+pub up_to-put : (before : CallRow → CallRow → Bool) → IsLine before → (n : ℕ) (last x : CallRow) (ys : List CallRow) → FirstUpTo before n last ys
+    → FirstUpTo before n last (put_in before x ys)
+up_to-put before line zero last x ys up = tt
+up_to-put before line (suc n) last x [] up = absurd up
+up_to-put before line (suc n) last x (y ∷ ys) up = by_first (before x y) refl (up_to-put before line n last x ys up.1)
+  where
+    earlier : before x y ≡ true → (b : Bool) → before last x ≡ b → b ≡ false
+    earlier is true later = let never : before last y ≡ true = line.further last x y later is in let other : before last y ≡ false = up.0 in cc
+    earlier is false later = refl
+
+    shorter : (m : ℕ) (row : CallRow) (rows : List CallRow) → FirstUpTo before (suc m) last (row ∷ rows) → FirstUpTo before m last (row ∷ rows)
+    shorter zero row rows first = tt
+    shorter (suc m) row [] first = absurd first.1
+    shorter (suc m) row (r ∷ rows) first = (first.0, shorter m r rows first.1)
+
+    by_first : (b : Bool) → before x y ≡ b → FirstUpTo before n last (put_in before x ys) → FirstUpTo before (suc n) last (cond b (x ∷ y ∷ ys) (y ∷ put_in before x ys))
+    by_first true is later = (let e = earlier is (before last x) refl in e, shorter n y ys up)
+    by_first false is later = (up.0, later)
+
+-- a row after the last one isn't among the first
+pub up_to-past : (before : CallRow → CallRow → Bool) → IsLine before → (n : ℕ) (last x : CallRow) (ys : List CallRow) → before last x ≡ true
+    → FirstUpTo before n last ys → take n (put_in before x ys) ≡ take n ys
+up_to-past before line zero last x ys past up = refl
+up_to-past before line (suc n) last x [] past up = absurd up
+up_to-past before line (suc n) last x (y ∷ ys) past up =
+    ap (take (suc n)) (put-later before x y ys (not_first (before x y) refl)) ∙ ap (λ (l : List CallRow). y ∷ l) (up_to-past before line n last x ys past up.1)
+  where
+    not_first : (b : Bool) → before x y ≡ b → b ≡ false
+    not_first true is = let never : before last y ≡ true = line.further last x y past is in let other : before last y ≡ false = up.0 in cc
+    not_first false is = refl
+
 -- ---- rows in order
 
 abbrev pub AllAfter : (CallRow → CallRow → Bool) → CallRow → List CallRow → Type 0
@@ -224,3 +258,48 @@ ordered_already before (x ∷ xs) all = ap (put_in before x) (ordered_already be
     first : (ys : List CallRow) → AllAfter before x ys → put_in before x ys ≡ x ∷ ys
     first [] after = refl
     first (y ∷ ys) after = put-first before x y ys after.0
+
+-- ---- the last of rows in order
+
+abbrev IsLast : CallRow → List CallRow → Type 0
+IsLast last [] = ⊥
+IsLast last (row ∷ []) = last ≡ row
+IsLast last (row ∷ r ∷ rows) = IsLast last (r ∷ rows)
+
+last_from : (rows : List CallRow) (last : CallRow) → 0 < length rows → last ≡ get_or rows (length rows - 1) last → IsLast last rows
+last_from [] last some is = absurd (omega (arith, some))
+last_from (row ∷ []) last some is = is
+last_from (row ∷ r ∷ rows) last some is =
+    let place : length (row ∷ r ∷ rows) - 1 ≡ suc (length (r ∷ rows) - 1) = omega arith in
+    last_from (r ∷ rows) last (omega arith) (is ∙ ap (λ (k : ℕ). get_or (row ∷ r ∷ rows) k last) place)
+
+last_after : (before : CallRow → CallRow → Bool) (x : CallRow) (rows : List CallRow) (last : CallRow) → AllAfter before x rows → IsLast last rows → before x last ≡ true
+last_after before x [] last all is = absurd is
+last_after before x (row ∷ []) last all is = subst (λ (w : CallRow). before x w ≡ true) (sym is) all.0
+last_after before x (row ∷ r ∷ rows) last all is = last_after before x (r ∷ rows) last all.1 is
+
+never_itself : (before : CallRow → CallRow → Bool) → IsLine before → (x : CallRow) (b : Bool) → before x x ≡ b → b ≡ false
+never_itself before line x true is = let other : before x x ≡ false = line.one_way x x is in cc
+never_itself before line x false is = refl
+
+-- none of so many rows in order comes after the last of them
+up_to_is_last : (before : CallRow → CallRow → Bool) → IsLine before → (n : ℕ) (rows : List CallRow) (last : CallRow) → n ≤ length rows → InOrder before rows
+    → IsLast last rows → FirstUpTo before n last rows
+up_to_is_last before line zero rows last many ordered is = tt
+up_to_is_last before line (suc n) [] last many ordered is = absurd (omega (arith, many))
+up_to_is_last before line (suc zero) (row ∷ []) last many ordered is =
+    (ap (λ (r : CallRow). before r row) is ∙ never_itself before line row (before row row) refl, tt)
+up_to_is_last before line (suc (suc n)) (row ∷ []) last many ordered is = absurd (omega (arith, many))
+up_to_is_last before line (suc n) (row ∷ r ∷ rows) last many ordered is = (
+  line.one_way row last (last_after before row (r ∷ rows) last ordered.0 is),
+  up_to_is_last before line n (r ∷ rows) last (omega (arith, many)) ordered.1 is,
+)
+
+pub up_to_last : (before : CallRow → CallRow → Bool) → IsLine before → (n : ℕ) (rows : List CallRow) (last : CallRow) → n ≤ length rows → InOrder before rows
+    → 0 < length rows → last ≡ get_or rows (length rows - 1) last → FirstUpTo before n last rows
+up_to_last before line n rows last many ordered some is = up_to_is_last before line n rows last many ordered (last_from rows last some is)
+
+pub up_to-take : (before : CallRow → CallRow → Bool) (n : ℕ) (last : CallRow) (rows : List CallRow) → FirstUpTo before n last rows → FirstUpTo before n last (take n rows)
+up_to-take before zero last rows up = tt
+up_to-take before (suc n) last [] up = up
+up_to-take before (suc n) last (row ∷ rows) up = (up.0, up_to-take before n last rows up.1)

@@ -1,6 +1,6 @@
 //! Which calls are wanted.
 
-ghost use Rattle.std.specs.Prelude.{◌≡◌};
+ghost use Rattle.std.specs.Prelude.{◌≡◌, ◌↔◌, IsTrue};
 ghost use Rattle.call_rows.specs.CallRows.{is_wanted, passes};
 
 use crate::row::CallRow;
@@ -17,6 +17,15 @@ pub struct CallFilter {
 }
 
 impl CallFilter {
+    /// Whether the same calls are wanted, in the same words.
+    pub(crate) fn is_same(&self, other: &CallFilter) -> bool
+        ensures { IsTrue result ↔ self.now ≡ other.now }
+    {
+        same_number(self.function, other.function)
+            && same_number(self.thread, other.thread)
+            && self.least == other.least
+    }
+
     /// Whether a call is wanted.
     pub fn wants(&self, row: &CallRow) -> bool
         ensures { result ≡ passes self.now row.now }
@@ -24,6 +33,19 @@ impl CallFilter {
         is_one(self.function, row.func)
             && is_one(self.thread, row.thread)
             && self.least <= row.duration
+    }
+}
+
+/// Whether two numbers are the same, or both are missing.
+pub(crate) fn same_number(one: Option<u32>, other: Option<u32>) -> bool
+    ensures { IsTrue result ↔ one ≡ other }
+{
+    match one {
+        None => other.is_none(),
+        Some(one) => match other {
+            None => false,
+            Some(other) => one == other,
+        },
     }
 }
 

@@ -1,6 +1,6 @@
 //! The calls of a trace in an order.
 
-ghost use Rattle.std.specs.Prelude.{◌≡◌, ◌≤◌, ◌++◌, [], ◌∷◌, List, Ok, length, reverse, IfOk, OnOk, OnErr};
+ghost use Rattle.std.specs.Prelude.{◌≡◌, ◌≤◌, ◌++◌, [], ◌∷◌, List, Ok, length, reverse, IfOk, IfSome, IsSome, OnOk, OnErr};
 ghost use Rattle.xray_io.specs.Faults.{Rose};
 ghost use Rattle.fdr_file.specs.declared.trace.{Block.{Block}, Trace.{Trace}};
 ghost use Rattle.fdr_file.specs.Scanning.{empty_block, longer_block};
@@ -70,6 +70,20 @@ impl KeptCalls {
             ≡ arranged_calls (order_by self) (wanted_rows (kept_filter self) (call_rows_of blocks)) }
     {
         self.first.into_rows()
+    }
+
+    /// The rows of the calls that are wanted, in this order, of the blocks that were taken. `None` if
+    /// others were kept, or in another order.
+    pub fn rows_for(self, wanted: &CallFilter, order: &CallOrder) -> Option<Vec<CallRow>>
+        ensures rows { IfSome result (λ rows. (blocks : List Block)
+            → ⟦<KeptCalls as Taker>⟧.took self blocks
+            → rows.items ≡ arranged_calls order.now (wanted_rows wanted.now (call_rows_of blocks))) }
+        ensures some { kept_filter self ≡ wanted.now → order_by self ≡ order.now → IsSome result }
+    {
+        if self.wanted.is_same(wanted) && self.first.order().is_same(order) {
+            return Some(self.rows());
+        }
+        None
     }
 
     /// Takes an event of the last block.

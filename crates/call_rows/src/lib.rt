@@ -6,6 +6,7 @@ mod fold;
 mod frames;
 mod kept;
 mod laws;
+mod line;
 mod order;
 mod printing;
 mod row;

@@ -1,15 +1,15 @@
 //! Calls in the order of a column.
 
-ghost use Rattle.std.specs.Prelude.{◌≡◌, ◌≤◌, ◌+◌, ◌++◌, ℕ, [], ◌∷◌, List, OnOk, length, map, nat_eq};
+ghost use Rattle.std.specs.Prelude.{◌≡◌, ◌↔◌, ◌≤◌, ◌+◌, ◌++◌, ℕ, [], ◌∷◌, List, IsTrue, OnOk, length, map, nat_eq};
 ghost use Rattle.std.specs.{List.{IsDistinct}, Option.{option_to_list}};
 ghost use Rattle.std.specs.Ordering.{is_lt};
 ghost use Rattle.fdr_file.specs.ThreadEvents.{ThreadEvent};
 ghost use Rattle.call_rows.specs.declared.row.CallRow.{CallRow};
 ghost use Rattle.call_rows.specs.CallOrders.{arranged_calls, call_before, call_column};
 ghost use Rattle.call_rows.specs.CallRows.{EndsAt, rows_after};
-ghost use Rattle.call_rows.specs.private.FirstRows.{Collects, KeepsFirst};
+ghost use Rattle.call_rows.specs.private.FirstRows.{Collects, IsBoundOf, KeepsFirst, comes_past};
 
-use crate::filter::CallFilter;
+use crate::filter::{CallFilter, same_number};
 use crate::row::{CallKey, CallRow};
 use std::alloc::Global;
 use std::cmp::Ordering;
@@ -25,6 +25,17 @@ pub struct CallOrder {
     pub descending: bool,
     /// How many of the first calls are listed. Without it all are.
     pub top: Option<u32>,
+}
+
+impl CallOrder {
+    /// Whether it is the same order.
+    pub(crate) fn is_same(&self, other: &CallOrder) -> bool
+        ensures { IsTrue result ↔ self.now ≡ other.now }
+    {
+        self.key == other.key
+            && self.descending == other.descending
+            && same_number(self.top, other.top)
+    }
 }
 
 /// Orders rows, and keeps the first ones. No two of them may have the same exit.
@@ -71,12 +82,30 @@ fn number_in(key: CallKey, row: &CallRow) -> u64
     }
 }
 
+/// The last of rows in order, if as many are wanted; otherwise the one before.
+fn bound_of(rows: &[CallRow], top: Option<u32>, last: Option<CallRow>) -> Option<CallRow>
+    ensures { IsBoundOf rows.now top last result }
+{
+    match top {
+        Some(top) => {
+            if rows.len() >= top as usize {
+                rows.last().copied()
+            } else {
+                last
+            }
+        }
+        None => last,
+    }
+}
+
 /// Rows of which the first ones in an order are wanted. If so many are wanted, at most twice as many
 /// are kept.
 #[derive(Drop)]
 pub(crate) struct FirstRows {
     order: CallOrder,
     rows: Vec<CallRow>,
+    /// A row that at least `top` of the kept ones don't come after. No row after it is kept.
+    last: Option<CallRow>,
 }
 
 impl FirstRows {
@@ -88,6 +117,7 @@ impl FirstRows {
         FirstRows {
             order,
             rows: Vec::new(alloc),
+            last: None,
         }
     }
 
@@ -105,11 +135,27 @@ impl FirstRows {
             → KeepsFirst self.new (row.now.end + 1) (rows ++ row.now ∷ [])) }
         ensures order { self.new.order ≡ self.old.order }
     {
+        if self.is_past(row) {
+            return Ok(());
+        }
         self.rows.push(*row)?;
         if self.is_full() {
             self.cut();
         }
         Ok(())
+    }
+
+    /// Whether a row comes after the last one that may be listed.
+    #[inline(always)]
+    fn is_past(&self, row: &CallRow) -> bool
+        ensures { result ≡ comes_past self.now row.now }
+    {
+        match &self.last {
+            Some(last) => {
+                compare(self.order.key, self.order.descending, last, row) == Ordering::Less
+            }
+            None => false,
+        }
     }
 
     /// Takes the call that an event ends, if there is one and it is wanted.
@@ -151,6 +197,7 @@ impl FirstRows {
     {
         let order = self.order;
         order_calls(&mut self.rows, &order);
+        self.last = bound_of(&self.rows, order.top, self.last);
     }
 
     /// The first rows in order.

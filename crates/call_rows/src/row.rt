@@ -34,7 +34,7 @@ pub struct CallRow {
 }
 
 /// What calls are ordered by.
-#[derive(Clone, Copy)]
+#[derive(Clone, Copy, PartialEq, Eq)]
 pub enum CallKey {
     /// The order in which they end in the file.
     End,

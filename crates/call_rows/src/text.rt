@@ -5,8 +5,10 @@ ghost use Rattle.std.specs.List.{flat_map};
 ghost use Rattle.function_names.specs.Name.{name_text, naming};
 ghost use Rattle.xray_io.specs.{Piece.{piece_text}, Text.{AddsText}};
 ghost use Rattle.account_report.specs.AccountText.{column_text, in_column, name_form, separator_text};
+ghost use Rattle.account_report.specs.declared.text.AccountLayout.TheVariants.{Text as aligned};
 ghost use Rattle.call_rows.specs.CallText.{call_head, call_line, call_list_text, call_words, no_number, number_if_any};
 
+use crate::line::Line;
 use crate::row::CallRow;
 use account_report::AccountLayout;
 use function_names::{NameForm, Names, add_name};
@@ -116,6 +118,18 @@ fn add_columns<S: Sink>(
     ensures { AddsText S.written S.faults S.along text.old text.new
         (flat_map (column_text format) (call_words format row.now)) result }
 {
+    match format {
+        AccountLayout::Text => add_aligned(text, row),
+        AccountLayout::Csv => text.bytes(Line::of_columns(row).as_slice()),
+    }
+}
+
+/// Adds the columns of a row at their places, each with a blank behind it.
+fn add_aligned<S: Sink>(text: &mut Text<S>, row: &CallRow) -> Result<(), WriteFault>
+    ensures { AddsText S.written S.faults S.along text.old text.new
+        (flat_map (column_text aligned) (call_words aligned row.now)) result }
+{
+    let format = AccountLayout::Text;
     let gap = Piece::Bytes(separator(format));
     text.pieces(&[
         number(row.call, format),

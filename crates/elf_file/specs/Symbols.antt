@@ -12,8 +12,8 @@ use Rattle.elf_file.specs.Sections.{section_content, section_typed}
 
 -- ---- a symbol of 24 bytes at a place of its table (`Elf64_Sym`)
 
--- the section that it lies in is none (0), or a number that is reserved (from 0xFF00 on, but for 0xFFFF, behind which a number stands
--- elsewhere)
+-- It lies in a section, by the number that it has for this: 0 means none, and numbers from 0xFF00 on have other meanings, but 0xFFFF
+-- means that the number stands elsewhere.
 abbrev pub has_section : ℕ → Bool
 has_section number = not (number == 0) && (nat_lt number 0xFF00 || number == 0xFFFF)
 

@@ -12,6 +12,7 @@ pub record IsInRange (numbered : NumberedSled) : Type 0 where
   pub function : numbered.sled.function ≤ 18446744073709551615
   pub version : numbered.sled.version ≤ 2
 
+-- each of some sleds is so
 abbrev pub AreInRange : List NumberedSled → Type 0
 AreInRange [] = Unit {0}
 AreInRange (numbered ∷ sleds) = IsInRange numbered × AreInRange sleds

@@ -19,6 +19,7 @@ use Rattle.program_map.specs.Programs.{MappedProgram}
 abbrev pub map_address : ℕ → List ℕ
 map_address address = codes "0x" ++ digits 16 true address
 
+-- the words for the kinds, as LLVM has them
 abbrev pub map_kind_word : MapSledKind → List ℕ
 map_kind_word FunctionEnter = codes "function-enter"
 map_kind_word FunctionExit = codes "function-exit"
@@ -27,6 +28,7 @@ map_kind_word LogArgsEnter = codes "log-args-enter"
 map_kind_word CustomEvent = codes "custom-event"
 map_kind_word TypedEvent = codes "typed-event"
 
+-- the words for yes and no
 abbrev pub map_truth_word : Bool → List ℕ
 map_truth_word true = codes "true"
 map_truth_word false = codes "false"
@@ -54,6 +56,7 @@ named_line name numbered =
     ++ codes ", function-name: " ++ single_quoted name
     ++ codes ", version: " ++ decimal numbered.sled.version ++ codes " }\n"
 
+-- the line of a sled
 abbrev pub map_line : SymbolNames → NumberedSled → List ℕ
 map_line names numbered = named_line (sled_name names numbered) numbered
 
@@ -79,6 +82,7 @@ named_ids names sleds = map (λ numbered. numbered.id) (filter (has_name names) 
 abbrev pub functions_named : SymbolNames → List NumberedSled → ℕ
 functions_named names sleds = groups_in (named_ids names sleds)
 
+-- how many sleds and functions have an id, how many of these functions have no name, and how many sleds have no id
 abbrev pub map_facts : MappedProgram → MapFacts
 map_facts program = record {
   sleds = length program.numbering.sleds;
@@ -91,6 +95,7 @@ map_facts program = record {
 unfoldable pub map_fact_line : ℕ → List ℕ → List ℕ
 map_fact_line number what = right_aligned number 20 ++ codes " " ++ what ++ codes "\n"
 
+-- four lines
 abbrev pub map_facts_text : MapFacts → List ℕ
 map_facts_text facts =
     map_fact_line facts.sleds (codes "sleds") ++ map_fact_line facts.functions (codes "functions")

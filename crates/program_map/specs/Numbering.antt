@@ -21,6 +21,7 @@ pub record Numbering : Type 0 where
   pub functions : ℕ
   pub left_out : ℕ
 
+-- a sled with an id
 abbrev pub with_id : ℕ → MapSled → NumberedSled
 with_id id sled = record { id = id; sled = sled }
 
@@ -41,6 +42,7 @@ abbrev pub numbered_after : (before : List MapSled) → List MapSled → List Nu
 numbered_after before [] = []
 numbered_after before (sled ∷ sleds) = with_id (functions_among (before ++ sled ∷ [])) sled ∷ numbered_after (before ++ sled ∷ []) sleds
 
+-- the ids go up with each change of the function's address, and each sled has one
 abbrev pub by_function : List MapSled → Numbering
 by_function sleds = record { sleds = numbered_after [] sleds; functions = functions_among sleds; left_out = 0 }
 
@@ -78,6 +80,7 @@ is_absolute parts index table =
     let first = word_there parts.settings (address_in index 0) (first_index_word table 0) in
     nat_le parts.section.address first && nat_lt first (parts.section.address + length parts.table)
 
+-- the span that the entry of a number says, in one form or the other
 abbrev pub span_by : (absolute : Bool) → MapParts → (index : Section) → List ℕ → (number : ℕ) → AddressSpan
 span_by absolute parts index table number =
     if absolute then span_absolute parts.settings index table number else span_relative index table number
@@ -106,6 +109,7 @@ index_rows parts index table sleds before number =
 abbrev pub index_sleds : MapParts → (index : Section) → List ℕ → List MapSled → Result (List NumberedSled) ProgramFault
 index_sleds parts index table sleds = InTurn (index_rows parts index table sleds) [] (range_with_len 0 (length table / 16))
 
+-- each entry of the index is a function; the sleds that no entry has are left out
 abbrev pub by_index : List ℕ → MapParts → List MapSled → Section → Result Numbering ProgramFault
 by_index file parts sleds index =
     of_elf (section_content file index) >>= λ table.

@@ -10,6 +10,7 @@ use Rattle.program_map.specs.Readings.{of_elf}
 use Rattle.program_map.specs.Sleds.{map_sleds}
 use Rattle.elf_file.specs.Views.{names_held}
 
+-- sleds with their ids, and the names of functions
 pub record MappedProgram : Type 0 where
   pub numbering : Numbering
   pub names : SymbolNames

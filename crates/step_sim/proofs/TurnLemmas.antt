@@ -6,7 +6,7 @@ use Rattle.patch_script.specs.Micros.{total_of}
 use Rattle.step_sim.specs.Plays.{turns}
 use Rattle.step_sim.specs.Replay.{Cast, Moment, of_thread, patcher_turn, thread_turn, wanted_by, thread_count}
 use Rattle.step_sim.proofs.PlayLemmas.{turns_add, turns_still}
-use Rattle.step_sim.proofs.ReplayAlong.{set_other, set_same, turn_with, turn_without}
+use Rattle.step_sim.proofs.ReplayAlong.{set_other, set_same, thread_stays, turn_with, turn_without}
 
 abbrev pub Turn : Type 0
 Turn = Moment → Moment
@@ -54,6 +54,10 @@ turn_length cast thread m = by_wanted (wanted_by cast thread m) refl
     by_wanted (Some word) e =
         ap (λ (n : Moment). length n.loads) (turn_with cast thread m word e)
         ∙ length-set m.loads (thread - 1) (of_thread m.loads thread ++ record { word = word; value = code_at cast.program (thread_count cast) cast.script m.place word } ∷ [])
+
+pub turns_place : (cast : Cast) (thread n : ℕ) (m : Moment) → (turns n (thread_turn cast thread) m).place ≡ m.place
+turns_place cast thread n m =
+    turns_hold (λ (x : Moment). x.place ≡ m.place) (thread_turn cast thread) (λ x e. thread_stays cast thread x ∙ e) n m refl
 
 pub turns_length : (cast : Cast) (thread n : ℕ) (m : Moment) → length (turns n (thread_turn cast thread) m).loads ≡ length m.loads
 turns_length cast thread n m =

@@ -1,4 +1,4 @@
--- The call: what words mean, and how a call ends (src/call.rt, src/work.rt, src/laws.rt)
+-- The call: the laws of all commands, and how a call ends (src/call.rt, src/work.rt, src/laws.rt)
 pub mod CommandLaws
 pub mod CommandRows
 pub mod DoingLaws
@@ -39,8 +39,6 @@ pub mod Logs
 pub mod LogForms
 pub mod NamesTaken
 pub mod WholeScripts
-pub mod SimEndings
-pub mod OrderEndings
 -- Outputs and texts (src/delivery.rt, src/traced.rt, src/summary.rt)
 pub mod MadeOutputs
 pub mod TextLists
@@ -53,7 +51,7 @@ pub mod RunExists
 pub mod StartedThreads
 pub mod ProfiledThreads
 pub mod SoakReads
--- Each command: something comes of it, and one thing only if it is deterministic (src/laws.rt)
+-- Each command: what it finds is there, and is only one thing; and how its work ends (src/laws.rt, src/sim.rt, src/load_order.rt)
 pub mod ConvertLaws
 pub mod DumpLaws
 pub mod PlainLaws
@@ -61,3 +59,5 @@ pub mod RunLaws
 pub mod SimLaws
 pub mod SoakLaws
 pub mod StackLaws
+pub mod SimEndings
+pub mod OrderEndings

@@ -35,7 +35,8 @@ use Rattle.xray_program.specs.Doings.{Finds, Leaves, Leaving, MayLeave}
 use Rattle.xray_program.specs.Taking.{IsAcceptedAs, RefuseIf, Take}
 use Rattle.xray_program.specs.Traced.{IsTraced, state_texts, written_of}
 use Rattle.xray_program.specs.private.CallLaws.{CallLaws}
-use Rattle.xray_program.proofs.CheckYes.{again, taken, unrefused}
+use Rattle.xray_program.proofs.CheckYes.{taken, unrefused}
+use Rattle.xray_program.proofs.Turns.{again}
 use Rattle.xray_program.proofs.LawfulRuns.{marks_follow, ran_beside, ran_replayed}
 use Rattle.xray_program.proofs.PlainLaws.{SomeEnd}
 use Rattle.xray_program.proofs.RunExists.{SomeLosses}

@@ -9,7 +9,7 @@ use Rattle.xray_io.specs.Calls.{CallMade}
 use Rattle.xray_io.specs.World.{DeskView, SinkView}
 use Rattle.xray_program.specs.Answers.{IsUnwriting}
 use Rattle.xray_program.specs.Doings.{Gives, Takes, Taking}
-use Rattle.xray_program.specs.Order.{Reaches}
+use Rattle.xray_program.specs.Order.{ReadsInputs}
 use Rattle.xray_program.specs.Started.{CameToOutputs, StartsLate}
 use Rattle.xray_program.specs.Taking.{Form}
 use Rattle.xray_program.specs.declared.stop.Stop.{Stop}
@@ -91,7 +91,7 @@ pub none_turns : {Y V : Type 0} {names : List (List ℕ)} (inputs : Taking Y nam
 none_turns {Y = Y} inputs means before after Way stop turns = none_reached inputs turns.calls.calls turns.calls.are
   where
     none_reached : {names : List (List ℕ)} (left : Taking Y names) (calls : List CallMade)
-        → Reaches left before.held (StopsHere before after stop) calls → CameToOutputs (stop_status stop) → ⊥
+        → ReadsInputs left before.held (StopsHere before after stop) calls → CameToOutputs (stop_status stop) → ⊥
     none_reached (Takes form name next) calls (inl here) = none_taken form name before after stop here.0
     none_reached (Takes form name next) calls (inr (mine, later, value, all, reads, accepted, on)) = none_reached (next value) later on
     none_reached (Gives y) calls here = absurd here
