@@ -1,7 +1,6 @@
 //! `calls`: the calls of a trace, one by one.
-ghost use Rattle.std.specs.Prelude.{◌≡◌, ◌⊎◌, Ok, Err, IfErr, IfOk};
+ghost use Rattle.std.specs.Prelude.{◌≡◌, IfSome};
 ghost use Rattle.fdr_file.specs.declared.trace.Trace.{Trace};
-ghost use Rattle.fdr_file.specs.Traces.{trace_of};
 ghost use Rattle.xray_program.specs.Calls.{listed_calls};
 ghost use Rattle.xray_program.specs.private.Meant.{CallsMean};
 
@@ -9,14 +8,14 @@ use crate::account_options::format_of;
 use crate::calls_options::{call_filter_of, call_order_of};
 use crate::delivery::{NoOutputs, deliver};
 use crate::inputs::TRACE;
-use crate::log::scan;
 use crate::report_inputs::{ReportInputs, take_report};
 use crate::stop::Stop;
 use crate::stream::StreamKind;
+use crate::trace_feed::TraceFeed;
 use crate::work::Work;
-use call_rows::{CallRow, CallsText, calls_in_order};
+use call_rows::{CallRow, CallsText, KeptCalls};
 use command_words::{CallsOptions, NameSource, TRACE_LIMIT};
-use fdr_file::{Trace, TraceFault};
+use fdr_file::{Taker, Trace, TraceFault};
 use std::alloc::Global;
 use trace_words::TraceRefusal;
 use xray_io::{Desk, Sink};
@@ -33,7 +32,7 @@ impl StreamKind for CallsKind {
 
     type Meaning = Trace;
 
-    type Pieces = Vec<u8>;
+    type Pieces = TraceFeed<KeptCalls>;
 
     type Value = Vec<CallRow>;
 
@@ -51,32 +50,34 @@ impl StreamKind for CallsKind {
         TRACE_LIMIT
     }
 
-    fn begin(&self, alloc: Global) -> Vec<u8> {
-        Vec::new(alloc)
+    fn begin(&self, alloc: Global) -> TraceFeed<KeptCalls> {
+        let wanted = call_filter_of(&self.options);
+        TraceFeed::new(KeptCalls::new(alloc, wanted, call_order_of(&self.options)))
     }
 
-    fn judge(&self, alloc: Global, bytes: Vec<u8>) -> Result<Vec<CallRow>, TraceRefusal> {
-        match calls_of(alloc, &bytes, &self.options) {
-            Ok(rows) => Ok(rows),
+    fn judge(
+        &self,
+        _alloc: Global,
+        feed: TraceFeed<KeptCalls>,
+    ) -> Result<Vec<CallRow>, TraceRefusal> {
+        match feed.finish() {
+            Ok(kept) => match rows_of(kept, &self.options) {
+                Some(rows) => Ok(rows),
+                None => Err(TraceRefusal {
+                    fault: TraceFault::NoMemory,
+                }),
+            },
             Err(fault) => Err(TraceRefusal { fault }),
         }
     }
 }
 
-/// The calls of the trace that bytes read as, as the options ask for them. The answer is an error if
-/// they aren't a trace, or if memory runs out.
-fn calls_of(alloc: Global, bytes: &[u8], options: &CallsOptions) -> Result<Vec<CallRow>, TraceFault>
-    ensures reads { IfOk result (λ rows. (trace : Trace) × CallsMean options.now rows trace
-        × (trace_of bytes.now ≡ Ok trace)) }
-    ensures faults { IfErr result (λ fault. (trace_of bytes.now ≡ Err fault) ⊎ (fault ≡ TraceFault.NoMemory)) }
+/// The calls of the blocks that were taken, as the options ask for them. `None` if others were kept.
+fn rows_of(kept: KeptCalls, options: &CallsOptions) -> Option<Vec<CallRow>>
+    ensures { IfSome result (λ rows. (trace : Trace) →
+        ⟦<KeptCalls as Taker>⟧.took kept trace.blocks → CallsMean options.now rows trace) }
 {
-    scan(bytes)?;
-    let wanted = call_filter_of(options);
-    let order = call_order_of(options);
-    match calls_in_order(alloc, bytes, &wanted, &order) {
-        Ok(rows) => Ok(rows),
-        Err(_) => Err(TraceFault::NoMemory),
-    }
+    kept.rows_for(&call_filter_of(options), &call_order_of(options))
 }
 
 /// `calls TRACE [IMAGE]`.

@@ -104,7 +104,7 @@ fn judge_trace(bytes: Vec<u8>) -> Result<Log, LogFault>
 }
 
 /// Whether bytes are a trace. The answer is an error if they aren't. No list of events is made.
-pub(crate) fn scan(bytes: &[u8]) -> Result<(), TraceFault>
+fn scan(bytes: &[u8]) -> Result<(), TraceFault>
     ensures reads { OnOk result ((trace : Trace) × (trace_of bytes.now ≡ Ok trace)) }
     ensures faults { IfErr result (λ fault. (trace_of bytes.now ≡ Err fault) ⊎ (fault ≡ TraceFault.NoMemory)) }
 {
