@@ -203,8 +203,8 @@ stack_in line = report_by Stack (choice_in stack_format_option stack_formats lin
 abbrev pub convert_in : Line → Option Command
 convert_in line = report_by Convert (convert_options_in line) line
 
-abbrev pub calls_in : Line → Option Command
-calls_in line = report_by Calls (calls_options_in line) line
+abbrev pub calls_asked_in : Line → Option Command
+calls_asked_in line = report_by Calls (calls_options_in line) line
 
 -- the command that a line of the verb's row says at a wall time, if it says one
 abbrev pub command_by : Verb → Wall → Line → Option Command
@@ -225,7 +225,7 @@ command_by verbs.Profile wall line = profile_in line
 command_by verbs.Soak wall line = line_says soak_row.files (λ number none. Soak number) no_options line
 command_by verbs.Import wall line = line_says import_row.files (λ log trace none. Import log trace) no_options line
 command_by verbs.Map wall line = line_says map_row.files (λ program map none. Map program map) no_options line
-command_by verbs.Calls wall line = calls_in line
+command_by verbs.Calls wall line = calls_asked_in line
 
 -- the row of the command that has this word
 abbrev pub row_with : List ℕ → Option CommandRow

@@ -3,7 +3,7 @@ ghost use Rattle.std.specs.Prelude.{◌≡◌, IfOk, IfSome, find, map, option_m
 ghost use Rattle.std.specs.{List.{list_all}, Str.{bytes_eq}};
 ghost use Rattle.fdr_buffer.specs.Times.{IsTime};
 ghost use Rattle.command_words.specs.{Items.{texts}, Ranges.{HasRanges, InRange}};
-ghost use Rattle.command_words.specs.{Views.{command_view}, Words.{account_in, asm_in, calls_in, command_by, convert_in, plain_in, profile_in, reading, row_with, run_in, sim_in, stack_in}};
+ghost use Rattle.command_words.specs.{Views.{command_view}, Words.{account_in, asm_in, calls_asked_in, command_by, convert_in, plain_in, profile_in, reading, row_with, run_in, sim_in, stack_in}};
 ghost use Rattle.command_words.specs.private.Allowed.{is_row};
 ghost use Rattle.command_words.specs.private.CodeViews.{line_view, row_view};
 
@@ -273,7 +273,7 @@ fn command_in<'a>(verb: Verb, wall: Wall, line: &Line<'a>) -> Option<Command<'a>
             [program, map] => Some(Command::Map { program, map }),
             _ => None,
         },
-        Verb::Calls => calls_in(line),
+        Verb::Calls => calls_asked_in(line),
     }
 }
 
@@ -359,8 +359,8 @@ fn account_in<'a>(line: &Line<'a>) -> Option<Command<'a>>
 }
 
 /// The calls that a line asks for. `None` if it lacks the trace, or if a value isn't allowed.
-fn calls_in<'a>(line: &Line<'a>) -> Option<Command<'a>>
-    ensures reads { option_map command_view result ≡ calls_in (line_view line.now) }
+fn calls_asked_in<'a>(line: &Line<'a>) -> Option<Command<'a>>
+    ensures reads { option_map command_view result ≡ calls_asked_in (line_view line.now) }
     ensures ranges { IfSome (option_map command_view result) InRange }
 {
     let ReportFiles { trace, names } = report_files_in(line)?;

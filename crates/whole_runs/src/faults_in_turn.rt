@@ -50,7 +50,7 @@ const M: File = (
 );
 
 /// The commands. Another command is another row.
-const COMMANDS: [Command; 18] = [
+const COMMANDS: [Command; 19] = [
     Command {
         words: "asm x o",
         inputs: &[X],
@@ -88,6 +88,11 @@ const COMMANDS: [Command; 18] = [
     },
     Command {
         words: "account t i --format csv --sort sum",
+        inputs: &[("t", &RECURSION), I],
+        outputs: &[],
+    },
+    Command {
+        words: "calls t i --sort duration --top 1",
         inputs: &[("t", &RECURSION), I],
         outputs: &[],
     },

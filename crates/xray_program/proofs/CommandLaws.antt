@@ -7,7 +7,7 @@ use Rattle.audit_check.specs.Statements.{AuditStatement, MayState}
 use Rattle.audit_check.specs.Verdicts.{IsJudged}
 use Rattle.command_words.specs.Limits.{trace_limit}
 use Rattle.command_words.specs.Reports.{NameSource, ByIds, ByImage, ByMap}
-use Rattle.command_words.specs.Words.{Command, Sim, Run, Plain, Extract, Asm, Account, Stack, Convert, Dump, Check, Order, Profile, Soak, Import, Map}
+use Rattle.command_words.specs.Words.{Command, Sim, Run, Plain, Extract, Asm, Account, Calls, Stack, Convert, Dump, Check, Order, Profile, Soak, Import, Map}
 use Rattle.fdr_file.specs.Traces.{trace_of}
 use Rattle.function_names.specs.Name.{program_names}
 use Rattle.map_names.specs.FaultWords.{map_words}
@@ -187,6 +187,7 @@ command_is_lawful below (Plain i bounds) = (
 command_is_lawful below (Extract i) = (image_is below, λ file program accepted. tt)
 command_is_lawful below (Asm t i threshold relative) = (text_is threshold relative, λ bytes file reads. tt)
 command_is_lawful below (Account t names options) = report_is below trace_form trace_is t names _ (λ trace naming. tt)
+command_is_lawful below (Calls t names options) = report_is below trace_form trace_is t names _ (λ trace naming. tt)
 command_is_lawful below (Stack t names format) = report_is below trace_form trace_is t names _ (λ trace naming none. tt)
 command_is_lawful below (Convert t names options) =
     report_is below (log_form options.input) (log_is_kind options.input) t names _ (λ trace naming none. tt)
@@ -281,6 +282,7 @@ sound_or_profile (Plain i bounds) = inl (λ y text. not_7)
 sound_or_profile (Extract i) = inl (λ y. not_7)
 sound_or_profile (Asm t i threshold relative) = inl (λ y. not_7)
 sound_or_profile (Account t names options) = inl (λ y. not_7)
+sound_or_profile (Calls t names options) = inl (λ y. not_7)
 sound_or_profile (Stack t names format) = inl (λ y. not_7)
 sound_or_profile (Convert t names options) = inl (λ y. not_7)
 sound_or_profile (Dump t) = inl (λ y. not_7)

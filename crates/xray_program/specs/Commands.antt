@@ -6,7 +6,7 @@ use Rattle.audit_check.specs.Statements.{AuditStatement}
 use Rattle.audit_check.specs.Texts.{verdict_text}
 use Rattle.audit_check.specs.Verdicts.{IsJudged}
 use Rattle.command_words.specs.Reports.{NameSource, ByIds, ByImage, ByMap, image_named, map_named}
-use Rattle.command_words.specs.Words.{Command, Sim, Run, Plain, Extract, Asm, Account, Stack, Convert, Dump, Check, Order, Profile, Soak, Import, Map, outputs_of}
+use Rattle.command_words.specs.Words.{Command, Sim, Run, Plain, Extract, Asm, Account, Calls, Stack, Convert, Dump, Check, Order, Profile, Soak, Import, Map, outputs_of}
 use Rattle.command_words.specs.declared.profile_options.ProfileOptions.{ProfileOptions}
 use Rattle.fdr_file.specs.declared.trace.Trace.{Trace}
 use Rattle.function_names.specs.Name.{program_names}
@@ -25,6 +25,7 @@ use Rattle.trace_forms.specs.Dumps.{dump_text}
 use Rattle.xray_image.specs.Extract.{extract_text}
 use Rattle.xray_image.specs.Program.{Program}
 use Rattle.xray_program.specs.Account.{account_report}
+use Rattle.xray_program.specs.Calls.{calls_report}
 use Rattle.xray_program.specs.Convert.{converted, log_form, no_text_for}
 use Rattle.xray_program.specs.Doings.{Chooses, Comes, Doing, Finds, Gives, IsDetermined, Leaves, ReachesInput, RefusesIf, Takes, Taking}
 use Rattle.xray_program.specs.Inputs.{Readable, WholeScript, audit_form, image_form, imported_form, map_form, program_form, readable_form, schedule_form, script_form, text_form, trace_form, unread_trace_form, whole_script_form}
@@ -98,6 +99,12 @@ doing_of (Account trace names options) = record {
   names = _;
   takes = takes_report trace_form trace names;
   leaves = λ (t, naming). Leaves (Done [] (account_report options t naming));
+}
+doing_of (Calls trace names options) = record {
+  Values = Trace × Naming;
+  names = _;
+  takes = takes_report trace_form trace names;
+  leaves = λ (t, naming). Leaves (Done [] (calls_report options t naming));
 }
 doing_of (Stack trace names format) = record {
   Values = Trace × Naming;

@@ -11,6 +11,7 @@ ghost use Rattle.xray_program.specs.private.Works.{Ends, SaidHasRanges};
 
 use crate::account::Account;
 use crate::asm::Asm;
+use crate::calls::Calls;
 use crate::check::Check;
 use crate::convert::Convert;
 use crate::dump::Dump;
@@ -380,6 +381,18 @@ fn perform_command<'a, D: Desk, O: Sink>(
                 options,
             };
             perform(alloc, &account, desk, out)
+        }
+        Command::Calls {
+            trace,
+            names,
+            options,
+        } => {
+            let calls = Calls {
+                trace,
+                names,
+                options,
+            };
+            perform(alloc, &calls, desk, out)
         }
         Command::Stack {
             trace,
