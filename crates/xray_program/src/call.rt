@@ -19,6 +19,7 @@ use crate::extract::Extract;
 use crate::import::Import;
 use crate::laws::what_is_done_is_traced;
 use crate::load_order::LoadOrder;
+use crate::map_program::MapProgram;
 use crate::plain::Plain;
 use crate::profile::perform_profile;
 use crate::run::perform_run;
@@ -368,6 +369,7 @@ fn perform_command<'a, D: Desk, O: Sink>(
         }
         Command::Soak { number } => perform(alloc, &Soak { number }, desk, out),
         Command::Import { log, trace } => perform(alloc, &Import { log, trace }, desk, out),
+        Command::Map { program, map } => perform(alloc, &MapProgram { program, map }, desk, out),
         Command::Account {
             trace,
             names,
