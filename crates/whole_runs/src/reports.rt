@@ -36,8 +36,7 @@ const CSV_OF_THE_SLOWEST: &str = "funcid,count,min,med,90p,99p,max,sum,entries,e
 const SLOWEST: &str = "account t --top 1 --sort=99p --sortorder=desc --format=csv";
 
 /// Calls as `tools/model/calls_model.py` has them.
-const CALLS_OF_THREE: &str =
-    "      call     parent     thread    process        cpu      start   \
+const CALLS_OF_THREE: &str = "      call     parent     thread    process        cpu      start   \
     duration       self      depth        arg     funcid function\n         \
     2          1          1          1          0          2          4          \
     4          2          -          3 #3\n         \
@@ -163,9 +162,17 @@ const PRINTED: [Printed; 40] = [
     (&TWO_FUNCTIONS, "account t i --top 0", TEXT_OF_NO_ROWS),
     // `calls`.
     (&NESTED, "calls t i", CALLS_OF_THREE),
-    (&RECURSION, "calls t --format csv --sort=call", CALLS_OF_RECURSION),
+    (
+        &RECURSION,
+        "calls t --format csv --sort=call",
+        CALLS_OF_RECURSION,
+    ),
     (&NESTED, LONG, LONG_CALLS),
-    (&NESTED, "calls t --function 2 --thread=1 --format csv", CALLS_OF_2),
+    (
+        &NESTED,
+        "calls t --function 2 --thread=1 --format csv",
+        CALLS_OF_2,
+    ),
     (&ONE_EXIT, "calls t --format csv", NO_CALLS),
     // `stack` and `convert`.
     (&ONE_CALL, "stack t i", STACKS_OF_ONE_CALL),
