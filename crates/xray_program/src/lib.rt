@@ -2,8 +2,8 @@
 //!
 //! The words are read first, together with the wall time (`command_words`). A command is one module
 //! (`sim`, `plain`, `extract`, `asm`, `account`, `calls`, `stack`, `convert`, `dump`, `check`, `soak`,
-//! `import`, `load_order` of `order`, `map_program` of `map`), which implements `Work`, or starts threads
-//! (`run`, `profile`).
+//! `import`, `load_order` of `order`, `map_program` of `map`), which implements `Work`, or starts
+//! threads (`run`, `profile`).
 //! It takes its inputs in their order (`inputs_of`, `input`). Each is read, measured and judged before
 //! the next is opened, so the first that fails decides. Then it does its work, and writes its outputs
 //! and its text (`delivery`). What is written of traced threads is in `traced`.
